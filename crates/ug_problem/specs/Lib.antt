@@ -1,0 +1,4 @@
+pub mod Instances
+pub mod Feasible
+pub mod Limits
+pub mod Right

@@ -1,13 +1,14 @@
-// A library with one function.
+//! The problem: columns with whole bounds, rows with sides, and an objective that is minimised.
+//! It stands on ug_rows.
+//! `Problem::new` makes one exactly where every count and number is within its limit, and names what is not;
+//! `first_broken` is `None` exactly where a point is feasible, `value` is the value of a point, and
+//! `print_value` spells a value as the user reads it. specs/ says what a right answer is.
 #![tactic(auto)]
 
-ghost use Rattle.std.specs.Prelude.{◌≡◌};
-ghost use Rattle.ug_problem.specs.Echo.{echo_of};
+mod answer;
+mod column;
+mod problem;
 
-// The `ensures` clause is the contract: what `echo` returns is `echo_of` of its argument, a definition
-// in `specs/Echo.antt`, which a caller's clause can cite too.
-pub fn echo(x: usize) -> usize
-    ensures { result ≡ echo_of x }
-{
-    x
-}
+pub use answer::{Answer, Broken};
+pub use column::{Column, Columns, NamedRow, NamedRows};
+pub use problem::Problem;

@@ -1,0 +1,21 @@
+use ug_rows::Point;
+
+/// What is said of a problem in the end.
+#[derive(Debug, Drop)]
+pub enum Answer {
+    /// This point is feasible, and no feasible point has a lesser value.
+    Optimal(Point),
+    /// No point is feasible.
+    Infeasible,
+}
+
+/// The first way in which a point is not feasible.
+#[derive(Clone, Copy, Debug, PartialEq, Eq)]
+pub enum Broken {
+    /// It has this many values, and not one per column.
+    Length(usize),
+    /// The value of this column is outside its bounds.
+    Column(u32),
+    /// The sum of this row is outside its sides.
+    Row(u32),
+}
