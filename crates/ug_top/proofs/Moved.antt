@@ -1,0 +1,65 @@
+-- Bytes that went to a sink or came from a source, in two calls.
+use Rattle.std.proofs.Common.{◌≡◌, ℕ, List, [], ◌∷◌, ◌++◌, Option, Some, None, length, take, drop, refl, ap, sym, ◌∙◌, append_assoc, append-nil, take-append-drop}
+use Rattle.std.specs.Option.{option_map}
+use Rattle.std.proofs.Common.{◌+◌, IfSome, subst, inl, inr, arith}
+use Rattle.std.proofs.lemmas.List.{take_more, length-take-le}
+use Rattle.ug_top.specs.Outside.{Gives, Takes, IsAtEnd, IsEnough, IsLineBehind, IsLineFeedBehind}
+
+-- a front of the bytes went there, and these are left
+pub record Went (old new : Option (List ℕ)) (bytes rest : List ℕ) : Type 0 where
+  pub front : List ℕ
+  pub parts : bytes ≡ front ++ rest
+  pub taken : Takes old new front
+
+-- first some bytes, then more
+pub taken_more : (a b c : Option (List ℕ)) (xs ys : List ℕ) → Takes a b xs → Takes b c ys → Takes a c (xs ++ ys)
+taken_more None b c xs ys p q = q ∙ ap (λ o. option_map (λ written. written ++ ys) o) p
+taken_more (Some w) b c xs ys p q =
+    q ∙ ap (λ o. option_map (λ written. written ++ ys) o) p ∙ ap (λ t. Some t) (append_assoc w xs ys)
+
+-- nothing went there yet
+pub went_none : (a : Option (List ℕ)) (bytes : List ℕ) → Went a a bytes bytes
+went_none None bytes = record { front = []; parts = refl; taken = refl }
+went_none (Some w) bytes = record { front = []; parts = refl; taken = ap (λ t. Some t) (sym (append-nil w)) }
+
+-- n bytes more went there
+pub went_more : (a b c : Option (List ℕ)) (bytes rest : List ℕ) (n : ℕ) → Went a b bytes rest → Takes b c (take n rest) → Went a c bytes (drop n rest)
+went_more a b c bytes rest n h q = record {
+  front = h.front ++ take n rest;
+  parts = h.parts ∙ ap (λ t. h.front ++ t) (sym (take-append-drop n rest)) ∙ sym (append_assoc h.front (take n rest) (drop n rest));
+  taken = taken_more a b c h.front (take n rest) h.taken q;
+}
+
+-- first some bytes came, then more
+pub gives_more : (a b c : Option (List ℕ)) (xs ys : List ℕ) → Gives a b xs → Gives b c ys → Gives a c (xs ++ ys)
+gives_more a b None xs ys p q = p ∙ ap (λ o. option_map (λ rest. xs ++ rest) o) q
+gives_more a b (Some r) xs ys p q =
+    p ∙ ap (λ o. option_map (λ rest. xs ++ rest) o) q ∙ ap (λ t. Some t) (sym (append_assoc xs ys r))
+
+-- the bytes up to a line feed behind the limit
+pub line_behind : (bytes : List ℕ) (i : ℕ) → IsLineFeedBehind bytes i → IsLineBehind bytes (take (i + 1) bytes)
+line_behind bytes i h = record {
+  front = take i bytes;
+  rest = drop (i + 1) bytes;
+  parts = sym (take-append-drop (i + 1) bytes);
+  line = take_more bytes i 0 h.there ∙ ap (λ b. take i bytes ++ b ∷ []) h.feed;
+  long = let e = length-take-le (i + 1) bytes (omega (arith, h.there)) in omega (arith, h.behind, e);
+}
+
+-- all came
+pub enough_at_end : (a b : Option (List ℕ)) (xs : List ℕ) → Gives a b xs → IsAtEnd b → IfSome a (λ whole. IsEnough whole xs)
+enough_at_end a None xs p q = subst (λ o. IfSome o (λ whole. IsEnough whole xs)) (sym p) tt
+enough_at_end a (Some r) xs p q =
+    subst (λ o. IfSome o (λ whole. IsEnough whole xs)) (sym p) (inl (ap (λ t. xs ++ t) q ∙ append-nil xs))
+
+-- a front that ends with a line came, behind the limit
+pub enough_behind : (a b : Option (List ℕ)) (xs text : List ℕ) → Gives a b xs → IsLineBehind xs text → IfSome a (λ whole. IsEnough whole text)
+enough_behind a None xs text p q = subst (λ o. IfSome o (λ whole. IsEnough whole text)) (sym p) tt
+enough_behind a (Some r) xs text p q = subst (λ o. IfSome o (λ whole. IsEnough whole text)) (sym p)
+    (inr (record {
+      front = q.front;
+      rest = q.rest ++ r;
+      parts = ap (λ t. t ++ r) q.parts ∙ append_assoc text q.rest r;
+      line = q.line;
+      long = q.long;
+    }))

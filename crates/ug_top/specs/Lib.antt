@@ -1,0 +1,4 @@
+pub mod Outside
+pub mod Printed
+pub mod Scripted
+pub mod Ran

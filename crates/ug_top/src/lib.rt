@@ -1,0 +1,16 @@
+//! The top call: a text in, an answer out.
+//! It stands on ug_mps and ug_problem.
+//! `run` does all that the program does: it reads the source, solves the problem that the bytes state and
+//! writes the lines of the answer to the sink. Its contract says what was written for each status, and when
+//! each status comes.
+#![tactic(auto)]
+
+mod gather;
+mod memory;
+mod outside;
+mod status;
+mod write;
+
+pub use memory::{MemorySink, MemorySource, Script, ScriptedSource};
+pub use outside::{Failed, Sink, Source};
+pub use status::Status;
