@@ -1,3 +1,4 @@
+pub mod Command
 pub mod Outside
 pub mod Printed
 pub mod Scripted

@@ -1,5 +1,12 @@
 -- What a run did, by its status.
-use Rattle.std.specs.Prelude.{ℕ}
+use Rattle.std.specs.Prelude.{◌≡◌, ◌≢◌, ℕ, List, [], ◌∷◌, ◌++◌, Option, IfSome, codes}
+use Rattle.ug_problem.specs.Instances.{Instance}
+use Rattle.ug_problem.specs.Right.{Right}
+use Rattle.ug_problem.specs.declared.answer.Answer.{Answer}
+use Rattle.ug_mps.specs.declared.fault.MpsFault.{MpsFault}
+use Rattle.ug_mps.specs.Reads.{Reads, FirstFault}
+use Rattle.ug_top.specs.Outside.{Takes, TakesFront}
+use Rattle.ug_top.specs.Printed.{line, AreAnswerLines, refused_line}
 use Rattle.ug_top.specs.declared.status.Status.{Status}
 use Rattle.ug_top.specs.declared.status.Status.TheVariants.{Answered, Usage, Refused, ReadFault, WriteFault, Memory}
 
@@ -11,3 +18,31 @@ code_of Refused = 3
 code_of ReadFault = 4
 code_of WriteFault = 5
 code_of Memory = 9
+
+-- the lines of a right answer to the problem that the bytes state, where they are told
+pub record AreRightLines (told : Option (List ℕ)) (text : List ℕ) : Type 0 where
+  pub problem : Instance
+  pub answer : Answer
+  pub reads : IfSome told (λ bytes. Reads bytes problem)
+  pub right : Right problem answer
+  pub lines : AreAnswerLines problem answer text
+
+-- the line of the first fault of the bytes, where they are told
+pub record IsRefusedLine (told : Option (List ℕ)) (text : List ℕ) : Type 0 where
+  pub fault : MpsFault
+  pub first : IfSome told (λ bytes. FirstFault bytes fault)
+  pub is : text ≡ refused_line fault
+
+-- the lines of a status
+abbrev pub AreLines : Option (List ℕ) → Status → List ℕ → Type 0
+AreLines told Answered text = AreRightLines told text
+AreLines told Usage text = text ≡ []
+AreLines told Refused text = IsRefusedLine told text
+AreLines told ReadFault text = text ≡ line (codes "read fault")
+AreLines told WriteFault text = ⊥
+AreLines told Memory text = text ≡ line (codes "memory")
+
+-- the lines of the status were written; where the sink failed, a front of another status's
+abbrev pub Wrote : Option (List ℕ) → Option (List ℕ) → Option (List ℕ) → Status → Type 0
+Wrote told old new WriteFault = (status : Status) × (text : List ℕ) × AreLines told status text × TakesFront old new text
+Wrote told old new status = (text : List ℕ) × AreLines told status text × Takes old new text

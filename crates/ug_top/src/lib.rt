@@ -5,12 +5,15 @@
 //! each status comes.
 #![tactic(auto)]
 
+mod command;
 mod gather;
+mod lines;
 mod memory;
 mod outside;
 mod status;
 mod write;
 
+pub use command::file_of;
 pub use memory::{MemorySink, MemorySource, Script, ScriptedSource};
 pub use outside::{Failed, Sink, Source};
 pub use status::Status;

@@ -1,0 +1,71 @@
+ghost use Rattle.std.specs.Prelude.{◌≡◌, ◌++◌, length, IfOk, OnOk};
+ghost use Rattle.ug_top.specs.Printed.{refused_line, kind_name, value_part, value_lines};
+
+use std::alloc::{AllocError, Global};
+use ug_mps::{Kind, MpsFault};
+use ug_problem::Column;
+
+/// The line of a refusal: the line of the fault, its kind and its word.
+pub fn refusal(alloc: Global, fault: &MpsFault) -> Result<Vec<u8>, AllocError>
+    ensures { IfOk result (λ text. text.items ≡ refused_line fault.now) }
+{
+    let mut text = Vec::from_slice(alloc, b"refused ")?;
+    let line = fault.line.to_string(alloc)?;
+    text.extend_from_slice(line.as_bytes())?;
+    text.push(b' ')?;
+    text.extend_from_slice(name_of(fault.kind))?;
+    if let Some(word) = &fault.word {
+        text.push(b' ')?;
+        text.extend_from_slice(word.as_slice())?;
+    }
+    text.push(b'\n')?;
+    Ok(text)
+}
+
+// The name of a kind of fault, as it is printed.
+fn name_of(kind: Kind) -> &'static [u8]
+    ensures { result.now ≡ kind_name kind }
+{
+    match kind {
+        Kind::NotYet => b"NotYet",
+        Kind::NoEnd => b"NoEnd",
+        Kind::Unbounded => b"Unbounded",
+    }
+}
+
+#[tactic(auto, using(crate::proofs::ValueLines::value_lines_more))]
+/// Adds a line for each column whose value is not 0.
+pub fn push_value_lines(
+    text: &mut Vec<u8>,
+    alloc: Global,
+    columns: &[Column],
+    values: &[i32],
+) -> Result<(), AllocError>
+    requires { length values.now ≡ length columns.now }
+    ensures { OnOk result (text.new.items ≡ text.old.items ++ value_lines columns.now values.now) }
+{
+    for i in 0..columns.len() {
+        push_value_line(text, alloc, &columns[i], values[i])?;
+    }
+    Ok(())
+}
+
+// Adds the line of a column, if its value is not 0.
+fn push_value_line(
+    text: &mut Vec<u8>,
+    alloc: Global,
+    column: &Column,
+    value: i32,
+) -> Result<(), AllocError>
+    ensures { OnOk result (text.new.items ≡ text.old.items ++ value_part column.now value) }
+{
+    if value == 0 {
+        return Ok(());
+    }
+    text.extend_from_slice(column.name.as_slice())?;
+    text.push(b' ')?;
+    let number = value.to_string(alloc)?;
+    text.extend_from_slice(number.as_bytes())?;
+    text.push(b'\n')?;
+    Ok(())
+}
