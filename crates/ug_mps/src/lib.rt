@@ -6,8 +6,10 @@
 #![tactic(auto)]
 
 mod fault;
+mod laws;
 mod said;
 mod section;
 
 pub use fault::{Kind, MpsError, MpsFault};
+pub use laws::{long_texts_are_decided, one_outcome};
 pub use section::{RowKind, Section};

@@ -2,3 +2,4 @@ pub mod Instances
 pub mod Feasible
 pub mod Limits
 pub mod Right
+pub mod Printed

@@ -1,2 +1,5 @@
 mod Moved
 mod ValueLines
+mod Boxes
+mod Weights
+mod Looks

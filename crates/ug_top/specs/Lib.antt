@@ -2,4 +2,5 @@ pub mod Command
 pub mod Outside
 pub mod Printed
 pub mod Scripted
+pub mod Search
 pub mod Ran

@@ -10,6 +10,7 @@ mod gather;
 mod lines;
 mod memory;
 mod outside;
+mod search;
 mod status;
 mod write;
 

@@ -1,0 +1,2 @@
+mod Outcome
+mod LongTexts
