@@ -1,4 +1,5 @@
 pub mod Instances
 pub mod Feasible
 pub mod Limits
+pub mod Printed
 pub mod Right
