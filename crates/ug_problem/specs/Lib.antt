@@ -1,5 +1,6 @@
 pub mod Instances
 pub mod Feasible
 pub mod Limits
+pub mod Printed
 pub mod Right
 pub mod Printed

@@ -9,6 +9,7 @@ mod answer;
 mod column;
 mod error;
 mod limits;
+mod print;
 mod problem;
 
 pub use answer::{Answer, Broken};

@@ -1,12 +1,15 @@
-ghost use Rattle.std.specs.Prelude.{◌≡◌, map, IfOk, OnOk, IfErr};
+ghost use Rattle.std.specs.Prelude.{◌≡◌, ◌*◌, ◌^◌, ◌≤◌, map, IfOk, OnOk, IfErr, unsigned_abs};
 ghost use Rattle.ug_problem.specs.Instances.{IsFormed, bounds_of, instance_of, root_of};
 ghost use Rattle.ug_problem.specs.Limits.{IsProblem, IsRefused};
+ghost use Rattle.ug_problem.specs.Printed.{IsPrinted};
 
 use crate::column::{Column, Columns, NamedRow, NamedRows};
 use crate::error::ProblemError;
 use crate::limits::check_limits;
+use crate::print::{shown, spell};
 use std::alloc::{AllocError, Global};
 use std::marker::Model;
+use ug_lists::Text;
 use ug_rows::{IntBox, Interval, Objective};
 
 /// A bounded integer program: columns, rows and an objective, all within the limits.
@@ -97,5 +100,15 @@ impl Problem {
         ensures problem { IsProblem self.now }
     {
         &self.root
+    }
+
+    /// The text of a value, as the user reads it: such as 2.25 for 225 hundredths.
+    pub fn print_value(&self, alloc: Global, value: i128) -> Result<Text, AllocError>
+        requires { unsigned_abs value ≤ 2 * 10 ^ 37 }
+        ensures { IfOk result (IsPrinted self.now.objective value) }
+    {
+        let shown = shown(&self.objective, value);
+        let text = spell(alloc, shown, self.objective.scale)?;
+        Ok(Text::from_vec(text))
     }
 }
