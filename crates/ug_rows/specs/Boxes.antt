@@ -28,6 +28,12 @@ pub record IsInside (area : List Interval) (x : List ℤ) : Type 0 where
 abbrev pub IsNonEmpty : List Interval → Type 0
 IsNonEmpty area = (j : ℕ) → j < length area → (interval_at area j).low ≤ℤ (interval_at area j).high
 
+-- the inner interval is within the outer, and has its low at most its high
+pub record IsClosedWithin (inner outer : Interval) : Type 0 where
+  pub low : outer.low ≤ℤ inner.low
+  pub high : inner.high ≤ℤ outer.high
+  pub some : inner.low ≤ℤ inner.high
+
 -- the inner interval is within the outer, and has its low at most its high unless it is the outer
 pub record IsNarrower (inner outer : Interval) : Type 0 where
   pub low : outer.low ≤ℤ inner.low

@@ -1,4 +1,5 @@
-ghost use Rattle.std.specs.Prelude.{◌≡◌};
+ghost use Rattle.std.specs.Prelude.{◌≡◌, ◌↔◌, IsTrue};
+ghost use Rattle.ug_rows.specs.Boxes.{IsBelow, IsNarrower, IsClosedWithin};
 
 use std::marker::Model;
 
@@ -37,4 +38,39 @@ impl IntBox {
     {
         self.sides.as_slice()
     }
+}
+
+/// Whether each interval of the inner box is within the one of the outer.
+pub fn below(inner: &IntBox, outer: &IntBox) -> bool
+    ensures { IsTrue result ↔ IsBelow inner.now outer.now }
+{
+    all_narrower(inner.as_slice(), outer.as_slice())
+}
+
+fn all_narrower(inner: &[Interval], outer: &[Interval]) -> bool
+    ensures { IsTrue result ↔ IsBelow inner.now outer.now }
+{
+    if inner.len() != outer.len() {
+        return false;
+    }
+    for j in 0..outer.len() {
+        if !is_narrower(inner[j], outer[j]) {
+            return false;
+        }
+    }
+    true
+}
+
+// Whether an interval is within another, and has its low at most its high unless it is the other.
+fn is_narrower(inner: Interval, outer: Interval) -> bool
+    ensures { IsTrue result ↔ IsNarrower inner outer }
+{
+    inner == outer || is_within(inner, outer)
+}
+
+// Whether an interval is within another, and has its low at most its high.
+fn is_within(inner: Interval, outer: Interval) -> bool
+    ensures { IsTrue result ↔ IsClosedWithin inner outer }
+{
+    outer.low <= inner.low && inner.high <= outer.high && inner.low <= inner.high
 }

@@ -8,7 +8,9 @@
 mod area;
 mod point;
 mod row;
+mod sums;
 
-pub use area::{IntBox, Interval};
-pub use point::Point;
-pub use row::{Objective, Row, Term, Terms};
+pub use area::{IntBox, Interval, below};
+pub use point::{Point, inside};
+pub use row::{Objective, Row, Term, Terms, holds, value};
+pub use sums::{Extreme, add_product, floor, greatest, least, sum};

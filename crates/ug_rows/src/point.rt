@@ -1,5 +1,7 @@
-ghost use Rattle.std.specs.Prelude.{◌≡◌};
+ghost use Rattle.std.specs.Prelude.{◌≡◌, ◌↔◌, IsTrue};
+ghost use Rattle.ug_rows.specs.Boxes.{IsInside, IsWithin};
 
+use crate::area::{IntBox, Interval};
 use std::marker::Model;
 
 /// A point: one value per column, in the order of the columns.
@@ -29,4 +31,31 @@ impl Point {
     {
         self.values.as_slice()
     }
+}
+
+/// Whether a point lies in a box.
+pub fn inside(area: &IntBox, point: &Point) -> bool
+    ensures { IsTrue result ↔ IsInside area.now point.now }
+{
+    all_within(area.as_slice(), point.as_slice())
+}
+
+fn all_within(sides: &[Interval], values: &[i32]) -> bool
+    ensures { IsTrue result ↔ IsInside sides.now values.now }
+{
+    if values.len() != sides.len() {
+        return false;
+    }
+    for j in 0..sides.len() {
+        if !is_within(sides[j], values[j]) {
+            return false;
+        }
+    }
+    true
+}
+
+fn is_within(side: Interval, value: i32) -> bool
+    ensures { IsTrue result ↔ IsWithin side value }
+{
+    side.low <= value && value <= side.high
 }

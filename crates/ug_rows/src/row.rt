@@ -1,3 +1,8 @@
+ghost use Rattle.std.specs.Prelude.{◌≡◌, ◌≤◌, ◌^◌, ◌↔◌, IsTrue, length, unsigned_abs};
+ghost use Rattle.ug_rows.specs.Rows.{IsLinear, Keeps, value_of};
+
+use crate::point::Point;
+use crate::sums::sum;
 use ug_lists::Items;
 
 /// A factor of a column, in a sum.
@@ -28,4 +33,24 @@ pub struct Objective {
     pub maximise: bool,
     /// The power of ten by which values are divided when printed.
     pub scale: u8,
+}
+
+/// Whether a point keeps to a row.
+pub fn holds(row: &Row, point: &Point) -> bool
+    requires { IsLinear (length point.now) row.now.terms }
+    ensures { IsTrue result ↔ Keeps row.now point.now }
+{
+    let sum = sum(row.terms.as_slice(), point.as_slice());
+    row.low.is_none_or(|low| low <= sum) && row.high.is_none_or(|high| sum <= high)
+}
+
+/// The value of an objective at a point.
+pub fn value(objective: &Objective, point: &Point) -> i128
+    requires terms { IsLinear (length point.now) objective.now.terms }
+    requires constant { unsigned_abs objective.now.constant ≤ 10 ^ 37 }
+    ensures value { result ≡ value_of objective.now point.now }
+    ensures small { unsigned_abs result ≤ 10 ^ 38 }
+{
+    let sum = sum(objective.terms.as_slice(), point.as_slice());
+    sum + objective.constant
 }

@@ -1,0 +1,5 @@
+pub mod Products
+pub mod SumLemmas
+pub mod EndLemmas
+pub mod AreaLemmas
+pub mod EndBounds
