@@ -6,8 +6,10 @@
 #![tactic(auto)]
 
 mod fault;
+mod lines;
 mod said;
 mod section;
+mod words;
 
 pub use fault::{Kind, MpsError, MpsFault};
 pub use section::{RowKind, Section};
