@@ -1,2 +1,3 @@
-pub mod Pieces
 pub mod Contents
+pub mod Digits
+pub mod Pieces

@@ -5,8 +5,10 @@
 //! Memory grows only with bytes that are there.
 #![tactic(auto)]
 
+mod entry;
 mod fault;
 mod lines;
+mod numbers;
 mod said;
 mod section;
 mod words;
