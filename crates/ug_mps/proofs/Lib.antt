@@ -1,2 +1,5 @@
 mod Outcome
 mod LongTexts
+pub mod Contents
+pub mod Digits
+pub mod Pieces

@@ -5,10 +5,14 @@
 //! Memory grows only with bytes that are there.
 #![tactic(auto)]
 
+mod entry;
 mod fault;
 mod laws;
+mod lines;
+mod numbers;
 mod said;
 mod section;
+mod words;
 
 pub use fault::{Kind, MpsError, MpsFault};
 pub use laws::{long_texts_are_decided, one_outcome};
