@@ -8,7 +8,7 @@ use Rattle.ug_rows.specs.Rows.{value_of}
 use Rattle.ug_problem.specs.Instances.{Instance}
 use Rattle.ug_problem.specs.Feasible.{Feasible, Better}
 use Rattle.ug_problem.specs.Right.{IsOptimal}
-use Rattle.ug_top.specs.Search.{IsInOne, AreWide, Covered, lows_of, IsClosed, IsOpen, span_of, weight_of, IsHalved, IsLookedAt}
+use Rattle.ug_top.specs.Search.{IsInOne, AreWide, Covered, lows_of, IsClosed, IsOpen, AreHalves, span_of, weight_of, IsHalved, IsLookedAt}
 use Rattle.ug_top.proofs.Boxes.{in_one_front, in_one_push, in_one_split, wide_push, wide_split, in_a_half, closed_point}
 use Rattle.ug_top.proofs.Weights.{lower_half, upper_half, weight_halves, weight_dropped, weight_push}
 
@@ -29,6 +29,15 @@ halved area c m left o low high =
       wide = λ w. wide_push _ (left ++ upper ∷ []) lower (wide_push _ left upper w (length-set area c _)) (length-set area c _);
       falls = weight_halves left area c _ _ o.there (lower_half _ _ m low high) (upper_half _ _ m low high);
     }
+
+-- the halves of column c, pushed
+pub halves_pushed : (area : List Interval) (c : ℕ) (lower upper : Interval) (left left' : List (List Interval)) → IsOpen area c
+    → AreHalves (interval_at area c) lower upper → left' ≡ (left ++ set area c upper ∷ []) ++ set area c lower ∷ [] → IsHalved area left left'
+halves_pushed area c lower upper left left' o h e =
+    let lower_is = h.lower_is in
+    let upper_is = h.upper_is in
+    subst (λ l. IsHalved area left l) (sym e) (subst (λ u. IsHalved area left ((left ++ set area c u ∷ []) ++ set area c lower ∷ [])) (sym upper_is)
+    (subst (λ w. IsHalved area left ((left ++ set area c _ ∷ []) ++ set area c w ∷ [])) (sym lower_is) (halved area c h.at left o h.low h.high)))
 
 -- a box without a better point, dropped
 pub dropped : (p : Instance) (area : List Interval) (best : Option (List ℤ)) (left : List (List Interval)) → IfSome best (Feasible p)

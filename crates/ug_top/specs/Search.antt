@@ -1,5 +1,5 @@
 -- The plain search: boxes that are left, and what they cover.
-use Rattle.std.specs.Prelude.{◌≡◌, ℕ, ℤ, pos, negsuc, ◌-ℤ◌, ◌+◌, ◌^◌, ◌<◌, ◌≤ℤ◌, ◌<ℤ◌, ◌⊎◌, List, [], ◌∷◌, length, map, sum_by, Option, IfSome}
+use Rattle.std.specs.Prelude.{◌≡◌, ℕ, ℤ, pos, negsuc, ◌-ℤ◌, ◌+ℤ◌, ◌+◌, ◌^◌, ◌<◌, ◌≤ℤ◌, ◌<ℤ◌, ◌⊎◌, List, [], ◌∷◌, length, map, sum_by, Option, IfSome}
 use Rattle.ug_rows.specs.declared.area.Interval.{Interval}
 use Rattle.ug_rows.specs.Boxes.{IsInside, interval_at}
 use Rattle.ug_problem.specs.Instances.{Instance}
@@ -49,6 +49,14 @@ IsClosed area = (j : ℕ) → j < length area → (interval_at area j).high ≤�
 pub record IsOpen (area : List Interval) (c : ℕ) : Type 0 where
   pub there : c < length area
   pub open_ : (interval_at area c).low <ℤ (interval_at area c).high
+
+-- the halves of an interval: up to a value of it, and from the next
+pub record AreHalves (side lower upper : Interval) : Type 0 where
+  pub at : ℤ
+  pub low : side.low ≤ℤ at
+  pub high : at <ℤ side.high
+  pub lower_is : lower ≡ record { low = side.low; high = at }
+  pub upper_is : upper ≡ record { low = at +ℤ pos 1; high = side.high }
 
 -- two boxes more are left, which have each point of the box between them
 pub record IsHalved (area : List Interval) (left left' : List (List Interval)) : Type 0 where
