@@ -3,4 +3,3 @@ pub mod Feasible
 pub mod Limits
 pub mod Printed
 pub mod Right
-pub mod Printed
