@@ -1,1 +1,3 @@
+pub mod Linear
+pub mod OneText
 pub mod Printing

@@ -3,9 +3,9 @@ use Rattle.std.proofs.Common.{◌≡◌, ◌∙◌, sym, ap, subst, add-one, zer
 use Rattle.std.proofs.Math.Nat.{pow-suc, mul_assoc, mul_comm, div-div-eq-div-mul, one-le-pow}
 use Rattle.std.proofs.Math.Arith.{mod-mul}
 use Rattle.std.proofs.lemmas.Str.{digit_value_digit}
-use Rattle.std.proofs.lemmas.List.{reverse-append, length-reverse}
+use Rattle.std.proofs.lemmas.List.{reverse-append}
 use Rattle.std.specs.Char.{digit_value}
-use Rattle.std.specs.Str.Parse.{AllDigits, digits_value, digits_value_after}
+use Rattle.std.specs.Str.Parse.{digits_value, digits_value_after}
 use Rattle.ug_problem.specs.Printed.{AreDigitsOf}
 
 -- number / 10^scale is still digits / 10^places
@@ -61,6 +61,13 @@ digits_after n (d ∷ ds) =
     ∙ regroup n (digit_value d) (10 ^ length ds) (digits_value_after 10 0 ds)
     ∙ (cc)
 
+-- what the first digit adds
+pub digits_cons : (d : ℕ) (ds : List ℕ)
+    → digits_value 10 (d ∷ ds) ≡ digit_value d * 10 ^ length ds + digits_value 10 ds
+digits_cons d ds =
+    digits_after (0 + digit_value d) ds
+    ∙ ap (λ (x : ℕ). x * 10 ^ length ds + digits_value 10 ds) (zero-add (digit_value d))
+
 digit_below : (k : ℕ) → k < 10 → digit_value (48 + k) ≡ k
 digit_below k small =
     let e : digit_value (48 + k) + 48 ≡ 48 + k = digit_value_digit (48 + k) (omega arith, omega arith) in
@@ -78,10 +85,8 @@ digit_before number count ds h =
     let some : 0 < 10 ^ count = one-le-pow count 10 (omega arith) in
     let parts : number % 10 ^ (count + 1) ≡ d * 10 ^ count + number % 10 ^ count =
     ap (λ (p : ℕ). number % p) power ∙ mod-mul number {m = 10} {c = 10 ^ count} (omega arith) some in
-    let first : digits_value_after 10 (0 + digit_value (48 + d)) ds
-    ≡ d * 10 ^ length ds + digits_value_after 10 0 ds =
-    digits_after (0 + digit_value (48 + d)) ds
-    ∙ ap (λ (x : ℕ). x * 10 ^ length ds + digits_value_after 10 0 ds) (zero-add (digit_value (48 + d)) ∙ value) in
+    let first : digits_value 10 ((48 + d) ∷ ds) ≡ d * 10 ^ length ds + digits_value 10 ds =
+    digits_cons (48 + d) ds ∙ ap (λ (x : ℕ). x * 10 ^ length ds + digits_value 10 ds) value in
     let shorter : d * 10 ^ length ds + digits_value_after 10 0 ds ≡ d * 10 ^ count + number % 10 ^ count =
     ap (λ (k : ℕ). d * 10 ^ k + digits_value_after 10 0 ds) h.count_is
     ∙ ap (λ (v : ℕ). d * 10 ^ count + v) h.reads in

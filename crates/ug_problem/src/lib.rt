@@ -8,11 +8,15 @@
 mod answer;
 mod column;
 mod error;
+mod feasible;
 mod limits;
 mod print;
 mod problem;
+#[cfg(test)]
+mod tests;
 
 pub use answer::{Answer, Broken};
 pub use column::{Column, Columns, NamedRow, NamedRows};
 pub use error::ProblemError;
+pub use print::prints_one_text;
 pub use problem::Problem;

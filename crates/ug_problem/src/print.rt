@@ -1,6 +1,7 @@
-ghost use Rattle.std.specs.Prelude.{◌≡◌, ◌*◌, ◌≤◌, ◌++◌, ◌/◌, ◌%◌, ◌^◌, IfOk, unsigned_abs};
+ghost use Rattle.std.specs.Prelude.{List, ℕ, ℤ, ◌≡◌, ◌*◌, ◌≤◌, ◌++◌, ◌/◌, ◌%◌, ◌^◌, IfOk, unsigned_abs};
 ghost use Rattle.std.specs.Fmt.{decimal};
-ghost use Rattle.ug_problem.specs.Printed.{AreDigitsOf, IsLowest, IsSpelled, fraction_of, shown_of, sign_of};
+ghost use Rattle.ug_rows.specs.declared.row.Objective.{Objective};
+ghost use Rattle.ug_problem.specs.Printed.{AreDigitsOf, IsLowest, IsSpelled, IsPrinted, fraction_of, shown_of, sign_of};
 
 use std::alloc::{AllocError, Global};
 use ug_rows::Objective;
@@ -77,3 +78,8 @@ pub fn spell(alloc: Global, z: i128, scale: u8) -> Result<Vec<u8>, AllocError>
     let parts = split(alloc, in_lowest_terms(z.unsigned_abs(), scale))?;
     join(alloc, z, &parts)
 }
+
+/// A value is printed in one way: two texts of one value are the same.
+pub fn prints_one_text()
+    ensures { (objective : Objective) (value : ℤ) (s t : List ℕ) → IsPrinted objective value s → IsPrinted objective value t → s ≡ t }
+{}

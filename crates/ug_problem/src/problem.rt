@@ -1,16 +1,20 @@
-ghost use Rattle.std.specs.Prelude.{◌≡◌, ◌*◌, ◌^◌, ◌≤◌, map, IfOk, OnOk, IfErr, unsigned_abs};
+ghost use Rattle.std.specs.Prelude.{◌≡◌, ◌*◌, ◌^◌, ◌≤◌, ◌↔◌, length, map, IsNone, IfSome, IfOk, OnOk, IfErr, unsigned_abs};
+ghost use Rattle.ug_rows.specs.Rows.{value_of};
+ghost use Rattle.ug_problem.specs.Feasible.{Feasible, IsFirstBroken};
 ghost use Rattle.ug_problem.specs.Instances.{IsFormed, bounds_of, instance_of, root_of};
 ghost use Rattle.ug_problem.specs.Limits.{IsProblem, IsRefused};
 ghost use Rattle.ug_problem.specs.Printed.{IsPrinted};
 
+use crate::answer::Broken;
 use crate::column::{Column, Columns, NamedRow, NamedRows};
 use crate::error::ProblemError;
+use crate::feasible::find_broken;
 use crate::limits::check_limits;
 use crate::print::{shown, spell};
 use std::alloc::{AllocError, Global};
 use std::marker::Model;
 use ug_lists::Text;
-use ug_rows::{IntBox, Interval, Objective};
+use ug_rows::{IntBox, Interval, Objective, Point, value};
 
 /// A bounded integer program: columns, rows and an objective, all within the limits.
 #[derive(Debug, Drop)]
@@ -100,6 +104,24 @@ impl Problem {
         ensures problem { IsProblem self.now }
     {
         &self.root
+    }
+
+    /// The first way in which a point is not feasible. It takes no memory.
+    pub fn first_broken(&self, point: &Point) -> Option<Broken>
+        ensures feasible { IsNone result ↔ Feasible self.now point.now }
+        ensures first { IfSome result (IsFirstBroken self.now point.now) }
+    {
+        find_broken(self, point)
+    }
+
+    /// The value of a point. It takes no memory.
+    #[tactic(auto, using(crate::proofs::Linear::linear_objective))]
+    pub fn value(&self, point: &Point) -> i128
+        requires { length point.now ≡ length self.now.columns }
+        ensures value { result ≡ value_of self.now.objective point.now }
+        ensures small { unsigned_abs result ≤ 10 ^ 38 }
+    {
+        value(self.objective(), point)
     }
 
     /// The text of a value, as the user reads it: such as 2.25 for 225 hundredths.
