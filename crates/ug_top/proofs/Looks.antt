@@ -1,14 +1,16 @@
 -- A look at a box, and the search as a whole.
-use Rattle.std.proofs.Common.{◌≡◌, ◌≢◌, ℕ, ℤ, pos, ◌-ℤ◌, ◌+ℤ◌, ◌+◌, ◌^◌, ◌<◌, ◌≤ℤ◌, ◌<ℤ◌, ◌⊎◌, inl, inr, List, [], ◌∷◌, ◌++◌, length, set, Option, Some, None, IfSome, subst, sym, ◌∙◌, arith}
-use Rattle.std.proofs.lemmas.List.{length-set}
+use Rattle.std.proofs.Common.{◌≡◌, ◌≢◌, ℕ, ℤ, pos, ◌-ℤ◌, ◌+ℤ◌, ◌+◌, ◌^◌, ◌<◌, ◌≤ℤ◌, ◌<ℤ◌, ◌⊎◌, inl, inr, List, [], ◌∷◌, ◌++◌, length, set, Option, Some, None, IfSome, subst, sym, ap, ◌∙◌, arith}
+use Rattle.std.proofs.lemmas.List.{length-set, length-map}
 use Rattle.std.proofs.lemmas.Int.{ints, by_lt_z}
 use Rattle.ug_rows.specs.declared.area.Interval.{Interval}
 use Rattle.ug_rows.specs.Boxes.{IsInside, interval_at}
-use Rattle.ug_rows.specs.Rows.{value_of}
-use Rattle.ug_problem.specs.Instances.{Instance}
+use Rattle.ug_rows.specs.Rows.{value_of, IsLinear}
+use Rattle.ug_problem.specs.Instances.{Instance, row_at, bounds_of}
+use Rattle.ug_problem.specs.Limits.{IsProblem}
+use Rattle.ug_problem.proofs.Linear.{linear_row, linear_objective}
 use Rattle.ug_problem.specs.Feasible.{Feasible, Better}
 use Rattle.ug_problem.specs.Right.{IsOptimal}
-use Rattle.ug_top.specs.Search.{IsInOne, AreWide, Covered, lows_of, IsClosed, IsOpen, AreHalves, span_of, weight_of, IsHalved, IsLookedAt}
+use Rattle.ug_top.specs.Search.{IsInOne, AreWide, Covered, lows_of, IsClosed, IsOpen, AreHalves, span_of, weight_of, IsHalved, IsLess, IsConsidered, IsLookedAt}
 use Rattle.ug_top.proofs.Boxes.{in_one_front, in_one_push, in_one_split, wide_push, wide_split, in_a_half, closed_point}
 use Rattle.ug_top.proofs.Weights.{lower_half, upper_half, weight_halves, weight_dropped, weight_push}
 
@@ -34,10 +36,11 @@ halved area c m left o low high =
 pub halves_pushed : (area : List Interval) (c : ℕ) (lower upper : Interval) (left left' : List (List Interval)) → IsOpen area c
     → AreHalves (interval_at area c) lower upper → left' ≡ (left ++ set area c upper ∷ []) ++ set area c lower ∷ [] → IsHalved area left left'
 halves_pushed area c lower upper left left' o h e =
-    let lower_is = h.lower_is in
-    let upper_is = h.upper_is in
-    subst (λ l. IsHalved area left l) (sym e) (subst (λ u. IsHalved area left ((left ++ set area c u ∷ []) ++ set area c lower ∷ [])) (sym upper_is)
-    (subst (λ w. IsHalved area left ((left ++ set area c _ ∷ []) ++ set area c w ∷ [])) (sym lower_is) (halved area c h.at left o h.low h.high)))
+    let first : Interval = record { low = h.at +ℤ pos 1; high = (interval_at area c).high } in
+    let pushed : Interval → Interval → List (List Interval) = λ u l. (left ++ set area c u ∷ []) ++ set area c l ∷ [] in
+    subst (λ b. IsHalved area left b) (sym e)
+    (subst (λ u. IsHalved area left (pushed u lower)) (sym h.upper_is)
+    (subst (λ l. IsHalved area left (pushed first l)) (sym h.lower_is) (halved area c h.at left o h.low h.high)))
 
 -- a box without a better point, dropped
 pub dropped : (p : Instance) (area : List Interval) (best : Option (List ℤ)) (left : List (List Interval)) → IfSome best (Feasible p)
@@ -51,13 +54,37 @@ dropped p area best left i h = record {
   falls = weight_dropped left area;
 }
 
--- a closed box, whose one point was considered
-pub tried : (p : Instance) (area : List Interval) (best best' : Option (List ℤ)) (left : List (List Interval)) → IsClosed area → IfSome best' (Feasible p)
-    → ((x : List ℤ) → Better p best' x → Better p best x) → ((x : List ℤ) → Better p best' x → x ≢ lows_of area) → IsLookedAt p area best best' left left
-tried p area best best' left c i b o = record {
+-- less than a point that is less
+still_less : (p : Instance) (y x : List ℤ) (best : Option (List ℤ)) → IsLess p best y → value_of p.objective x <ℤ value_of p.objective y → IsLess p best x
+still_less p y x None h k = tt
+still_less p y x (Some z) h k = omega (arith, ints)
+
+less_than_itself : (p : Instance) (x y : List ℤ) → x ≡ y → value_of p.objective x <ℤ value_of p.objective y → ⊥
+less_than_itself p x y e h = let same = ap (value_of p.objective) e in absurd (omega (arith, ints))
+
+-- a better point took the incumbent's place
+pub took : (p : Instance) (point : List ℤ) (best : Option (List ℤ)) → Better p best point → IsConsidered p point best (Some point)
+took p point best b = record {
+  incumbent = b.feasible;
+  better = λ x h. record { feasible = h.feasible; less = still_less p point x best b.less h.less };
+  others = λ x h same. absurd (less_than_itself p x point same h.less);
+}
+
+-- a point that is not better left it
+pub left_out : (p : Instance) (point : List ℤ) (best : Option (List ℤ)) → IfSome best (Feasible p) → (Better p best point → ⊥) → IsConsidered p point best best
+left_out p point best i n = record {
   incumbent = i;
-  better = b;
-  found = λ x h a. absurd (o x h (closed_point area x c a));
+  better = λ x h. h;
+  others = λ x h same. n (subst (Better p best) same h);
+}
+
+-- a closed box, whose one point was considered
+pub tried : (p : Instance) (area : List Interval) (best best' : Option (List ℤ)) (left : List (List Interval)) → IsClosed area
+    → IsConsidered p (lows_of area) best best' → IsLookedAt p area best best' left left
+tried p area best best' left c t = record {
+  incumbent = t.incumbent;
+  better = t.better;
+  found = λ x h a. absurd (t.others x h (closed_point area x c a));
   kept = λ x k. k;
   wide = λ w. w;
   falls = weight_dropped left area;
@@ -95,3 +122,25 @@ optimal p x c = record {
 -- with no box left and no incumbent no point is feasible
 pub infeasible : (p : Instance) → Covered p None [] → (x : List ℤ) → Feasible p x → ⊥
 infeasible p c x f = c.better x (record { feasible = f; less = tt })
+
+-- a row of a problem is linear over a box as wide
+pub row_is_linear : (p : Instance) (area : List Interval) (r : ℕ) → IsProblem p → r < length p.rows → length area ≡ length p.columns
+    → IsLinear (length area) (row_at p r).terms
+row_is_linear p area r problem there wide = subst (λ n. IsLinear n (row_at p r).terms) (sym wide) (linear_row p r problem there)
+
+-- the objective of a problem is linear over a box as wide
+pub objective_is_linear : (p : Instance) (area : List Interval) → IsProblem p → length area ≡ length p.columns
+    → IsLinear (length area) p.objective.terms
+objective_is_linear p area problem wide = subst (λ n. IsLinear n p.objective.terms) (sym wide) (linear_objective p problem)
+
+-- a feasible point has a value for each column
+pub feasible_width : (p : Instance) (x : List ℤ) → Feasible p x → length x ≡ length p.columns
+feasible_width p x f = f.inside.width ∙ length-map p.columns bounds_of
+
+-- where no point of the box is less than the incumbent none is better
+pub not_less : (p : Instance) (best : Option (List ℤ)) (y : List ℤ) (area : List Interval) → best ≡ Some y
+    → ((x : List ℤ) → IsInside area x → value_of p.objective y ≤ℤ value_of p.objective x) → (x : List ℤ) → IsInside area x → Better p best x → ⊥
+not_less p best y area e h x i b =
+    let less : value_of p.objective x <ℤ value_of p.objective y = subst (λ o. IfSome o (λ z. value_of p.objective x <ℤ value_of p.objective z)) e b.less in
+    let more = h x i in
+    absurd (omega (arith, ints))

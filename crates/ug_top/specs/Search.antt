@@ -1,7 +1,8 @@
 -- The plain search: boxes that are left, and what they cover.
-use Rattle.std.specs.Prelude.{◌≡◌, ℕ, ℤ, pos, negsuc, ◌-ℤ◌, ◌+ℤ◌, ◌+◌, ◌^◌, ◌<◌, ◌≤ℤ◌, ◌<ℤ◌, ◌⊎◌, List, [], ◌∷◌, length, map, sum_by, Option, IfSome}
+use Rattle.std.specs.Prelude.{◌≡◌, ◌≢◌, ℕ, ℤ, pos, negsuc, ◌-ℤ◌, ◌+ℤ◌, ◌+◌, ◌^◌, ◌<◌, ◌≤ℤ◌, ◌<ℤ◌, ◌⊎◌, List, [], ◌∷◌, length, map, sum_by, Option, IfSome}
 use Rattle.ug_rows.specs.declared.area.Interval.{Interval}
 use Rattle.ug_rows.specs.Boxes.{IsInside, interval_at}
+use Rattle.ug_rows.specs.Rows.{value_of}
 use Rattle.ug_problem.specs.Instances.{Instance}
 use Rattle.ug_problem.specs.Feasible.{Feasible, Better}
 
@@ -64,6 +65,16 @@ pub record IsHalved (area : List Interval) (left left' : List (List Interval)) :
   pub halves : (x : List ℤ) → IsInside area x → IsInOne left' x
   pub wide : AreWide (length area) left → AreWide (length area) left'
   pub falls : weight_of left' < weight_of left + 3 ^ span_of area
+
+-- there is no incumbent, or the point has a lesser value
+abbrev pub IsLess : Instance → Option (List ℤ) → List ℤ → Type 0
+IsLess p best x = IfSome best (λ y. value_of p.objective x <ℤ value_of p.objective y)
+
+-- the point was considered: what is better now was better before, and is not the point
+pub record IsConsidered (p : Instance) (point : List ℤ) (best best' : Option (List ℤ)) : Type 0 where
+  pub incumbent : IfSome best' (Feasible p)
+  pub better : (x : List ℤ) → Better p best' x → Better p best x
+  pub others : (x : List ℤ) → Better p best' x → x ≢ point
 
 -- the box was looked at: what is better now was better before, and each such point of the box is in one that is left
 pub record IsLookedAt (p : Instance) (area : List Interval) (best best' : Option (List ℤ)) (left left' : List (List Interval)) : Type 0 where
