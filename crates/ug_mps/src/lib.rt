@@ -10,10 +10,12 @@ mod fault;
 mod laws;
 mod lines;
 mod numbers;
+mod reading;
 mod said;
 mod section;
 mod words;
 
 pub use fault::{Kind, MpsError, MpsFault};
 pub use laws::{long_texts_are_decided, one_outcome};
+pub use reading::read;
 pub use section::{RowKind, Section};

@@ -65,7 +65,7 @@ fn join(alloc: Global, z: i128, parts: &Parts) -> Result<Vec<u8>, AllocError>
 
 // The value as the user reads it.
 pub fn shown(objective: &Objective, value: i128) -> i128
-    requires { unsigned_abs value ≤ 2 * 10 ^ 37 }
+    requires { unsigned_abs value ≤ 10 ^ 38 }
     ensures { result ≡ shown_of objective.now value }
 {
     if objective.maximise { -value } else { value }

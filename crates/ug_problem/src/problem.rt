@@ -126,7 +126,7 @@ impl Problem {
 
     /// The text of a value, as the user reads it: such as 2.25 for 225 hundredths.
     pub fn print_value(&self, alloc: Global, value: i128) -> Result<Text, AllocError>
-        requires { unsigned_abs value ≤ 2 * 10 ^ 37 }
+        requires { unsigned_abs value ≤ 10 ^ 38 }
         ensures { IfOk result (IsPrinted self.now.objective value) }
     {
         let shown = shown(&self.objective, value);

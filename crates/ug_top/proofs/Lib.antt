@@ -3,3 +3,4 @@ mod ValueLines
 mod Boxes
 mod Weights
 mod Looks
+mod EndLemmas

@@ -1,4 +1,5 @@
 pub mod Command
+pub mod Ends
 pub mod Outside
 pub mod Printed
 pub mod Scripted

@@ -34,10 +34,14 @@ value_lines (column ∷ columns) (value ∷ x) = value_part column value ++ valu
 abbrev pub optimal_line : List ℕ → List ℕ
 optimal_line value = line (codes "optimal " ++ value)
 
--- the lines of an answer to p: its value and the columns that are not 0, or `infeasible`
-abbrev pub AreAnswerLines : Instance → Answer → List ℕ → Type 0
-AreAnswerLines p (Optimal x) text = (value : List ℕ) × IsPrinted p.objective (value_of p.objective x) value
+-- the lines of the point x as an optimum: its value, and the columns that are not 0
+abbrev pub AreOptimalLines : Instance → List ℤ → List ℕ → Type 0
+AreOptimalLines p x text = (value : List ℕ) × IsPrinted p.objective (value_of p.objective x) value
     × (text ≡ optimal_line value ++ value_lines p.columns x)
+
+-- the lines of an answer to p
+abbrev pub AreAnswerLines : Instance → Answer → List ℕ → Type 0
+AreAnswerLines p (Optimal x) text = AreOptimalLines p x text
 AreAnswerLines p Infeasible text = text ≡ line (codes "infeasible")
 
 -- the name of a kind of fault

@@ -1,9 +1,11 @@
 ghost use Rattle.std.specs.Prelude.{◌≡◌, ◌++◌, length, IfOk, OnOk};
-ghost use Rattle.ug_top.specs.Printed.{refused_line, kind_name, value_part, value_lines};
+ghost use Rattle.ug_problem.specs.Right.{Right};
+ghost use Rattle.ug_top.specs.Printed.{refused_line, kind_name, value_part, value_lines, AreAnswerLines, AreOptimalLines};
 
 use std::alloc::{AllocError, Global};
 use ug_mps::{Kind, MpsFault};
-use ug_problem::Column;
+use ug_problem::{Answer, Column, Problem};
+use ug_rows::Point;
 
 /// The line of a refusal: the line of the fault, its kind and its word.
 pub fn refusal(alloc: Global, fault: &MpsFault) -> Result<Vec<u8>, AllocError>
@@ -68,4 +70,32 @@ fn push_value_line(
     text.extend_from_slice(number.as_bytes())?;
     text.push(b'\n')?;
     Ok(())
+}
+
+/// The lines of an answer: its value and the columns that are not 0, or `infeasible`.
+pub fn answer_lines(
+    alloc: Global,
+    problem: &Problem,
+    answer: &Answer,
+) -> Result<Vec<u8>, AllocError>
+    requires { Right problem.now answer.now }
+    ensures { IfOk result (λ text. AreAnswerLines problem.now answer.now text.items) }
+{
+    match answer {
+        Answer::Optimal(point) => optimal_lines(alloc, problem, point),
+        Answer::Infeasible => Vec::from_slice(alloc, b"infeasible\n"),
+    }
+}
+
+// The lines of an optimum.
+fn optimal_lines(alloc: Global, problem: &Problem, point: &Point) -> Result<Vec<u8>, AllocError>
+    requires { length point.now ≡ length problem.now.columns }
+    ensures { IfOk result (λ text. AreOptimalLines problem.now point.now text.items) }
+{
+    let value = problem.print_value(alloc, problem.value(point))?;
+    let mut text = Vec::from_slice(alloc, b"optimal ")?;
+    text.extend_from_slice(value.as_slice())?;
+    text.push(b'\n')?;
+    push_value_lines(&mut text, alloc, problem.columns(), point.as_slice())?;
+    Ok(text)
 }
