@@ -5,3 +5,4 @@ pub mod History
 pub mod Stated
 pub mod Reads
 pub mod Said
+pub mod Names

@@ -6,6 +6,7 @@
 #![tactic(auto)]
 
 mod fault;
+mod names;
 mod said;
 mod section;
 
