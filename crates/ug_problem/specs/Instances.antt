@@ -14,6 +14,10 @@ pub record Instance : Type 0 where
   pub rows : List NamedRow
   pub objective : Objective
 
+-- these columns, rows and objective
+abbrev pub instance_of : List Column → List NamedRow → Objective → Instance
+instance_of columns rows objective = record { columns = columns; rows = rows; objective = objective }
+
 -- a row that stands for one that is not there
 abbrev pub no_row : NamedRow
 no_row = record { name = []; row = record { terms = []; low = None; high = None } }

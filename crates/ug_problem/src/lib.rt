@@ -7,8 +7,11 @@
 
 mod answer;
 mod column;
+mod error;
+mod limits;
 mod problem;
 
 pub use answer::{Answer, Broken};
 pub use column::{Column, Columns, NamedRow, NamedRows};
+pub use error::ProblemError;
 pub use problem::Problem;

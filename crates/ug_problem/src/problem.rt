@@ -1,10 +1,13 @@
-ghost use Rattle.std.specs.Prelude.{◌≡◌};
-ghost use Rattle.ug_problem.specs.Instances.{root_of};
-ghost use Rattle.ug_problem.specs.Limits.{IsProblem};
+ghost use Rattle.std.specs.Prelude.{◌≡◌, map, IfOk, OnOk, IfErr};
+ghost use Rattle.ug_problem.specs.Instances.{IsFormed, bounds_of, instance_of, root_of};
+ghost use Rattle.ug_problem.specs.Limits.{IsProblem, IsRefused};
 
 use crate::column::{Column, Columns, NamedRow, NamedRows};
+use crate::error::ProblemError;
+use crate::limits::check_limits;
+use std::alloc::{AllocError, Global};
 use std::marker::Model;
-use ug_rows::{IntBox, Objective};
+use ug_rows::{IntBox, Interval, Objective};
 
 /// A bounded integer program: columns, rows and an objective, all within the limits.
 #[derive(Debug, Drop)]
@@ -28,7 +31,42 @@ impl Model for Problem {
         × (p.root ≡ root_of (record { columns = p.columns; rows = p.rows; objective = p.objective })) };
 }
 
+// The bounds of each column.
+fn bounds(alloc: Global, columns: &[Column]) -> Result<Vec<Interval>, AllocError>
+    ensures { IfOk result (λ sides. sides.items ≡ map bounds_of columns.now) }
+{
+    columns
+        .iter()
+        .map(|column| Interval {
+            low: column.low,
+            high: column.high,
+        })
+        .collect(alloc)
+}
+
 impl Problem {
+    /// The problem of these parts. It takes memory for the box of all bounds alone.
+    pub fn new(
+        alloc: Global,
+        columns: Columns,
+        rows: NamedRows,
+        objective: Objective,
+    ) -> Result<Problem, ProblemError>
+        requires { IsFormed (instance_of columns rows objective) }
+        ensures made { IfOk result (λ p. p ≡ instance_of columns rows objective) }
+        ensures kept { OnOk result (IsProblem (instance_of columns rows objective)) }
+        ensures refused { IfErr result (IsRefused (instance_of columns rows objective)) }
+    {
+        check_limits(columns.as_slice(), rows.as_slice(), &objective)?;
+        let root = IntBox::from_vec(bounds(alloc, columns.as_slice())?);
+        Ok(Problem {
+            columns,
+            rows,
+            objective,
+            root,
+        })
+    }
+
     /// The columns, in the order of the file.
     pub fn columns(&self) -> &[Column]
         ensures value { result.now ≡ self.now.columns }
