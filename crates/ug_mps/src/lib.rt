@@ -5,6 +5,7 @@
 //! Memory grows only with bytes that are there.
 #![tactic(auto)]
 
+mod draft;
 mod fault;
 mod names;
 mod said;

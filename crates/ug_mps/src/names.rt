@@ -52,10 +52,11 @@ impl Names {
     }
 
     /// The place of a name.
-    #[tactic(auto, using(crate::proofs::NamesLemmas::no_place))]
+    #[tactic(auto, using(crate::proofs::NamesLemmas::no_place, crate::proofs::NamesLemmas::places_distinct))]
     pub fn find(&self, name: &[u8]) -> Option<u32>
         ensures found { IfSome result (StandsAt self.now name.now) }
         ensures none { IsNone result ↔ ¬ Contains self.now name.now }
+        ensures distinct { AreDistinct self.now }
     {
         self.places.get(name).copied()
     }

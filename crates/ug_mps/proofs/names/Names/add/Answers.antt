@@ -1,6 +1,5 @@
-use Rattle.std.proofs.Common.{◌≡◌, ℕ, ◌↔◌, List, IsNone, Contains, subst, length, take, ap, sym, ◌∙◌, arith}
+use Rattle.std.proofs.Common.{Contains, arith}
 use Rattle.std.proofs.lemmas.List.{take_at}
-use Rattle.ug_mps.specs.Names.{place_in, ArePlaces}
 use Rattle.ug_mps.proofs.NamesLemmas.{places_add, places_same}
 use Rattle.ug_mps.proofs.names.Names.add.Goals as goal
 

@@ -1,0 +1,128 @@
+ghost use Rattle.std.specs.Prelude.{◌≡◌, ◌+◌, ◌<◌, ◌^◌, pos, [], ◌∷◌, ◌++◌, ◌↔◌, length, Contains, slice_get, slice_set, Some, None, IsNone, IfSome, IfOk, OnOk, if◌then◌else◌};
+ghost use Rattle.std.specs.Ordering.{int_eq};
+ghost use Rattle.ug_mps.specs.Names.{StandsAt, AreDistinct};
+ghost use Rattle.ug_mps.specs.RowSteps.{new_row, with_coefficient, with_side, row_at};
+
+use crate::names::Names;
+use crate::section::RowKind;
+use std::alloc::{AllocError, Global};
+use std::marker::Model;
+use ug_lists::Text;
+use ug_rows::{Term, Terms};
+
+/// What a row has so far.
+#[derive(Debug, Drop)]
+pub struct RowDraft {
+    pub kind: RowKind,
+    /// The terms whose factor is not 0.
+    pub terms: Terms,
+    /// The right-hand side, if it was given.
+    pub side: Option<i64>,
+    /// The place of the last column that has a coefficient of the row, 0 or not.
+    pub last: Option<u32>,
+}
+
+/// The rows so far, with their names.
+#[derive(Drop)]
+pub struct Rows {
+    names: Names,
+    drafts: Vec<RowDraft>,
+}
+
+impl Model for Rows {
+    ghost use Rattle.std.specs.Prelude.{◌≡◌, length};
+    ghost use Rattle.ug_mps.specs.Rows.{NamedRows};
+
+    ghost Value = { NamedRows };
+
+    ghost view = { λ rows. record { names = rows.names; drafts = rows.drafts.items } };
+
+    ghost invariant = { λ rows. length rows.drafts.items ≡ length rows.names };
+}
+
+impl Rows {
+    pub fn new(alloc: Global) -> Rows
+        ensures { result ≡ record { names = []; drafts = [] } }
+    {
+        Rows {
+            names: Names::new(alloc),
+            drafts: Vec::new(alloc),
+        }
+    }
+
+    pub fn len(&self) -> usize
+        ensures names { result ≡ length self.now.names }
+        ensures drafts { result ≡ length self.now.drafts }
+    {
+        self.drafts.len()
+    }
+
+    /// The place of a row.
+    pub fn find(&self, name: &[u8]) -> Option<u32>
+        ensures found { IfSome result (StandsAt self.now.names name.now) }
+        ensures none { IsNone result ↔ ¬ Contains self.now.names name.now }
+        ensures distinct { AreDistinct self.now.names }
+        ensures same { length self.now.drafts ≡ length self.now.names }
+    {
+        let _ = &self.drafts;
+        self.names.find(name)
+    }
+
+    /// What a row has so far.
+    pub fn get(&self, at: u32) -> &RowDraft
+        requires { at < length self.now.drafts }
+        ensures { result.now ≡ row_at self.now.drafts at }
+    {
+        &self.drafts[at as usize]
+    }
+
+    /// Adds a row.
+    pub fn add(&mut self, alloc: Global, kind: RowKind, name: &[u8]) -> Result<(), AllocError>
+        requires new { ¬ Contains self.old.names name.now }
+        requires room { length self.old.names + 1 < 2 ^ 32 }
+        ensures { OnOk result (self.new ≡ record {
+          names = self.old.names ++ name.now ∷ [];
+          drafts = self.old.drafts ++ new_row kind ∷ [];
+        }) }
+    {
+        let draft = RowDraft {
+            kind,
+            terms: Terms::new(alloc),
+            side: None,
+            last: None,
+        };
+        self.drafts.push(draft)?;
+        if self.names.add(alloc, name).is_err() {
+            self.drafts.pop();
+            return Err(AllocError);
+        }
+        Ok(())
+    }
+
+    /// Adds a coefficient of a row in the column at a place.
+    pub fn add_coefficient(&mut self, at: u32, column: u32, number: i64) -> Result<(), AllocError>
+        requires { at < length self.old.drafts }
+        ensures { OnOk result (self.new ≡ record self.old {
+          drafts = slice_set self.old.drafts at (with_coefficient column number (row_at self.old.drafts at));
+        }) }
+    {
+        let row = &mut self.drafts[at as usize];
+        row.last = Some(column);
+        if number != 0 {
+            let factor = i128::from(number);
+            row.terms.push(Term { column, factor })?;
+        }
+        Ok(())
+    }
+
+    /// Gives a row its right-hand side.
+    pub fn set_side(&mut self, at: u32, number: i64)
+        requires { at < length self.old.drafts }
+        ensures { self.new ≡ record self.old {
+          drafts = slice_set self.old.drafts at (with_side number (row_at self.old.drafts at));
+        } }
+    {
+        let row = &mut self.drafts[at as usize];
+        row.side = Some(number);
+    }
+}
