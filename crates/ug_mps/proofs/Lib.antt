@@ -1,1 +1,3 @@
 pub mod NamesLemmas
+pub mod Bytes
+pub mod RowsLemmas

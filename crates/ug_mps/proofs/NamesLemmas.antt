@@ -49,10 +49,10 @@ some_more : (names : List (List ℕ)) (new name : List ℕ) (o : Option ℕ) →
 some_more names new name None h = h
 some_more names new name (Some j) h = stands_more names new name j h
 
-contains_at : (names : List (List ℕ)) (name : List ℕ) (j : ℕ) → StandsAt names name j → Contains names name
+pub contains_at : (names : List (List ℕ)) (name : List ℕ) (j : ℕ) → StandsAt names name j → Contains names name
 contains_at names name j h = (j, h.there, get_or_default names j name [] h.there ∙ h.same)
 
-at_contains : (names : List (List ℕ)) (name : List ℕ) → (h : Contains names name) → StandsAt names name h.0
+pub at_contains : (names : List (List ℕ)) (name : List ℕ) → (h : Contains names name) → StandsAt names name h.0
 at_contains names name h = record { there = h.1; same = get_or_default names h.0 [] name h.1 ∙ h.2 }
 
 module _ {A : Type 0} (key : Vec ℕ A) (m n : BTreeMap (Vec ℕ A) ℕ) (names : List (List ℕ)) (old : ArePlaces m names) (fresh : ¬ Contains names key.items)
