@@ -1,3 +1,4 @@
 pub mod NamesLemmas
 pub mod Bytes
 pub mod RowsLemmas
+pub mod DraftLemmas

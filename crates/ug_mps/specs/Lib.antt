@@ -11,3 +11,4 @@ pub mod Latest
 pub mod Rows
 pub mod RowSteps
 pub mod Columns
+pub mod Drafts

@@ -1,9 +1,12 @@
 -- What a line does to one row's draft.
-use Rattle.std.specs.Prelude.{ℕ, ℤ, pos, List, [], ◌∷◌, ◌++◌, Some, None, if◌then◌else◌, slice_index_or}
+use Rattle.std.specs.Prelude.{◌≡◌, ℕ, ℤ, pos, ◌==◌, ◌&&◌, not, Bool, true, false, List, [], ◌∷◌, ◌++◌, Option, Some, None, MatchBool, if◌then◌else◌, slice_index_or}
 use Rattle.std.specs.Ordering.{int_eq}
 use Rattle.ug_mps.specs.declared.section.RowKind.{RowKind}
 use Rattle.ug_mps.specs.declared.section.RowKind.TheVariants.{Objective}
 use Rattle.ug_mps.specs.declared.draft.rows.RowDraft.{RowDraft}
+use Rattle.ug_mps.specs.Entries.{Pair}
+use Rattle.ug_mps.specs.History.{NamedKind, Coefficient, names_row}
+use Rattle.ug_mps.specs.Rows.{NamedRows, Lists, is_named, has, AreRows, AreOrdered, AreWithin}
 
 -- a row of a kind that has nothing
 abbrev pub new_row : RowKind → RowDraft
@@ -25,3 +28,42 @@ with_coefficient j n draft = record {
 -- the row with its right-hand side
 abbrev pub with_side : ℤ → RowDraft → RowDraft
 with_side n draft = record { kind = draft.kind; terms = draft.terms; side = Some n; last = draft.last }
+
+-- the place is this one
+abbrev pub is_place : Option ℕ → ℕ → Bool
+is_place None j = false
+is_place (Some i) j = i == j
+
+-- the pair as a coefficient of the column at a place
+abbrev pub placed_at : ℕ → Pair → Coefficient
+placed_at j p = record { place = j; row = p.row; number = p.number }
+
+-- the lists with a coefficient more
+abbrev pub and_coefficient : ℕ → Pair → Lists → Lists
+and_coefficient j p l = record { named = l.named; coefficients = l.coefficients ++ placed_at j p ∷ []; sides = l.sides }
+
+-- the lists with a right-hand side more
+abbrev pub and_side : Pair → Lists → Lists
+and_side p l = record { named = l.named; coefficients = l.coefficients; sides = l.sides ++ p ∷ [] }
+
+-- the lists with a row more
+abbrev pub and_row : RowKind → List ℕ → Lists → Lists
+and_row k name l = record { named = l.named ++ record { kind = k; name = name } ∷ []; coefficients = l.coefficients; sides = l.sides }
+
+-- the row is there, and has no coefficient in the column at the place
+abbrev pub fits_column : Lists → ℕ → Pair → Bool
+fits_column l j p = is_named l.named p.row && not (has l.coefficients j p.row)
+
+-- the row is there, and has no right-hand side
+abbrev pub fits_sides : Lists → Pair → Bool
+fits_sides l p = is_named l.named p.row && not (names_row l.sides p.row)
+
+-- the pair was taken as a coefficient of the column at the place exactly where it fits
+abbrev pub PutsCoefficient : ℕ → Pair → NamedRows → NamedRows → Bool → Type 0
+PutsCoefficient j p old new taken = (l : Lists) → AreRows l old → AreOrdered l.coefficients → AreWithin j l.coefficients
+    → MatchBool taken ((fits_column l j p ≡ true) × AreRows (and_coefficient j p l) new) (fits_column l j p ≡ false)
+
+-- the pair was taken as a right-hand side exactly where it fits
+abbrev pub PutsSide : Pair → NamedRows → NamedRows → Bool → Type 0
+PutsSide p old new taken = (l : Lists) → AreRows l old
+    → MatchBool taken ((fits_sides l p ≡ true) × AreRows (and_side p l) new) (fits_sides l p ≡ false)

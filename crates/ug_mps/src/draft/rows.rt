@@ -1,7 +1,7 @@
 ghost use Rattle.std.specs.Prelude.{◌≡◌, ◌+◌, ◌<◌, ◌^◌, pos, [], ◌∷◌, ◌++◌, ◌↔◌, length, Contains, slice_get, slice_set, Some, None, IsNone, IfSome, IfOk, OnOk, if◌then◌else◌};
 ghost use Rattle.std.specs.Ordering.{int_eq};
 ghost use Rattle.ug_mps.specs.Names.{StandsAt, AreDistinct};
-ghost use Rattle.ug_mps.specs.RowSteps.{new_row, with_coefficient, with_side, row_at};
+ghost use Rattle.ug_mps.specs.RowSteps.{new_row, with_coefficient, with_side, row_at, is_place, PutsCoefficient, PutsSide};
 
 use crate::names::Names;
 use crate::section::RowKind;
@@ -20,6 +20,18 @@ pub struct RowDraft {
     pub side: Option<i64>,
     /// The place of the last column that has a coefficient of the row, 0 or not.
     pub last: Option<u32>,
+}
+
+impl RowDraft {
+    /// Whether the row has a coefficient in the column at a place, which no later column follows.
+    pub fn is_in(&self, column: u32) -> bool
+        ensures { result ≡ is_place self.now.last column }
+    {
+        match self.last {
+            Some(last) => last == column,
+            None => false,
+        }
+    }
 }
 
 /// The rows so far, with their names.
@@ -124,5 +136,38 @@ impl Rows {
     {
         let row = &mut self.drafts[at as usize];
         row.side = Some(number);
+    }
+
+    /// Takes a number as a coefficient of a row in the column at a place, if the row is there and has none in it.
+    pub fn put_coefficient(
+        &mut self,
+        column: u32,
+        name: &[u8],
+        number: i64,
+    ) -> Result<bool, AllocError>
+        ensures { IfOk result (PutsCoefficient column (record { row = name.now; number = number }) self.old self.new) }
+    {
+        let Some(at) = self.find(name) else {
+            return Ok(false);
+        };
+        if self.get(at).is_in(column) {
+            return Ok(false);
+        }
+        self.add_coefficient(at, column, number)?;
+        Ok(true)
+    }
+
+    /// Takes a number as the right-hand side of a row, if the row is there and has none.
+    pub fn put_side(&mut self, name: &[u8], number: i64) -> bool
+        ensures { PutsSide (record { row = name.now; number = number }) self.old self.new result }
+    {
+        let Some(at) = self.find(name) else {
+            return false;
+        };
+        if self.get(at).side.is_some() {
+            return false;
+        }
+        self.set_side(at, number);
+        true
     }
 }
