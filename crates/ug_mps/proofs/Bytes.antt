@@ -1,10 +1,10 @@
 -- Tests on names and on lists of names.
-use Rattle.std.proofs.Common.{◌≡◌, ℕ, zero, suc, ◌+◌, ◌<◌, ◌&&◌, ◌||◌, not, Bool, true, false, List, [], ◌∷◌, ◌++◌, length, map, Contains, sym, refl, ap, subst, ◌∙◌, arith, ⊎_elim}
+use Rattle.std.proofs.Common.{◌≡◌, ℕ, zero, suc, ◌&&◌, ◌||◌, not, Bool, true, false, List, [], ◌∷◌, ◌++◌, map, Contains, sym, refl, ap, ◌∙◌, arith, ⊎_elim}
 use Rattle.std.specs.Cmp.Lexicographic.{bytes_decides}
-use Rattle.std.specs.List.{list_any, list_all}
+use Rattle.std.specs.List.{list_any}
 use Rattle.std.specs.Str.{bytes_eq}
 use Rattle.std.proofs.lemmas.Bool.{cases_Bool, false≢true}
-use Rattle.ug_mps.specs.Names.{name_at, StandsAt, AreDistinct}
+use Rattle.ug_mps.specs.Names.{StandsAt}
 use Rattle.ug_mps.specs.History.{NamedKind}
 use Rattle.ug_mps.specs.Rows.{is_named}
 use Rattle.ug_mps.proofs.NamesLemmas.{contains_at, at_contains}
@@ -88,3 +88,7 @@ none_any names name e h = false≢true (sym e ∙ any_true names name h.0 (at_co
 pub named_any : (rows : List NamedKind) (name : List ℕ) → list_any (λ n. bytes_eq name n) (map (λ (r : NamedKind). r.name) rows) ≡ is_named rows name
 named_any [] name = refl
 named_any (r ∷ rows) name = ap (λ b. bytes_eq name r.name || b) (named_any rows name)
+
+pub not_false : (a : Bool) → not a ≡ false → a ≡ true
+not_false true e = refl
+not_false false e = absurd (false≢true (sym e))

@@ -1,22 +1,17 @@
 -- What each entry does to the draft.
-use Rattle.std.proofs.Common.{◌≡◌, ℕ, ℤ, zero, suc, ◌+◌, ◌-◌, ◌<◌, ◌≤◌, ◌&&◌, ◌||◌, not, cond, Bool, true, false, List, [], ◌∷◌, ◌++◌, length, get_or, map, All, Option, Some, None, MatchBool, sym, refl, ap, subst, ◌∙◌, arith, ⊎_elim}
-use Rattle.std.specs.List.{list_any}
+use Rattle.std.proofs.Common.{◌≡◌, ℕ, ℤ, suc, ◌+◌, ◌<◌, ◌||◌, not, Bool, true, false, List, [], ◌∷◌, length, get_or, map, Option, sym, refl, ap, subst, ◌∙◌, arith}
 use Rattle.std.specs.Str.{bytes_eq}
-use Rattle.std.proofs.lemmas.Bool.{cases_Bool, false≢true}
-use Rattle.std.proofs.lemmas.List.{same_lists, length-map, get_or-map, get_or_default, map_push}
 use Rattle.ug_mps.specs.declared.section.Section.{Section}
 use Rattle.ug_mps.specs.declared.section.Section.TheVariants as sections
-use Rattle.ug_mps.specs.declared.draft.latest.Latest.{Latest}
-use Rattle.ug_mps.specs.declared.draft.latest.Latest.TheVariants.{Nothing, Header, Sense, Row, IntegersOn, Column, IntegersOff, Sides, Upper}
+use Rattle.ug_mps.specs.declared.draft.latest.Latest.TheVariants.{Header, Sense, IntegersOn, IntegersOff}
 use Rattle.ug_mps.specs.declared.draft.columns.ColumnDraft.{ColumnDraft}
 use Rattle.ug_mps.specs.declared.draft.Draft.{Draft}
 use Rattle.ug_mps.specs.Entries.{Entry, header, sense, row, integers_on, column, integers_off, sides, upper}
 use Rattle.ug_mps.specs.History.{section_of, is_later, is_integer, is_after_columns, is_after_column, same_set, columns_of, is_column, fits}
 use Rattle.ug_mps.specs.Stated.{upper_bound}
 use Rattle.ug_mps.specs.Reads.{begins_at}
-use Rattle.ug_mps.specs.Plain.{IsPlainEntry, IsPlainAfter, Plain}
-use Rattle.ug_mps.specs.Names.{name_at, StandsAt}
-use Rattle.ug_mps.specs.Latest.{latest_entry, latest_of, section_after, is_section_later, is_integer_after, is_columns_header, is_column_line, has_set}
+use Rattle.ug_mps.specs.Names.{name_at}
+use Rattle.ug_mps.specs.Latest.{latest_of, section_after, is_section_later, is_integer_after, is_columns_header, is_column_line, has_set}
 use Rattle.ug_mps.specs.Columns.{NamedColumns, column_so_far, AreColumns}
 use Rattle.ug_mps.specs.Drafts.{set_of, Drafts, Takes}
 use Rattle.ug_mps.proofs.Bytes.{any_true}
@@ -106,13 +101,13 @@ begins_same e h j a =
     let there : is_column h (name_at (columns_of h) j) ≡ true = any_true (columns_of h) (name_at (columns_of h) j) j (record { there = a; same = refl }) in
     rw there refl
 
-map_same : {X Y : Type 0} (d : X) (f g : X → Y) (xs : List X) → ((j : ℕ) → j < length xs → f (get_or xs j d) ≡ g (get_or xs j d)) → map f xs ≡ map g xs
+pub map_same : {X Y : Type 0} (d : X) (f g : X → Y) (xs : List X) → ((j : ℕ) → j < length xs → f (get_or xs j d) ≡ g (get_or xs j d)) → map f xs ≡ map g xs
 map_same d f g [] h = refl
 map_same d f g (x ∷ xs) h =
     let first : f x ≡ g x = h 0 (omega arith) in
     rw (first, map_same d f g xs (λ j a. h (suc j) (omega arith))) refl
 
-column_same : (l l' : ℕ) (u u' : Option ℤ) → l ≡ l' → u ≡ u' → (let a : ColumnDraft = record { line = l; upper = u } in let b : ColumnDraft = record { line = l'; upper = u' } in a ≡ b)
+pub column_same : (l l' : ℕ) (u u' : Option ℤ) → l ≡ l' → u ≡ u' → (let a : ColumnDraft = record { line = l; upper = u } in let b : ColumnDraft = record { line = l'; upper = u' } in a ≡ b)
 column_same l l' u u' p q = cc
 
 -- an entry of no column and no bound keeps the columns as they are
@@ -125,73 +120,81 @@ columns_kept e h c same uppers old = record {
       ∙ ap (map (column_so_far (e ∷ h))) (sym same);
 }
 
-more_lines : (n m : ℕ) → n ≡ m → n + 1 ≡ suc m
+pub more_lines : (n m : ℕ) → n ≡ m → n + 1 ≡ suc m
 more_lines n m e = omega arith
 
 pub header_takes : (s : Section) (d new : Draft) → new ≡ record d { lines = d.lines + 1; latest = Header s } → is_section_later (section_after d.latest) s ≡ true → Takes (header s) d new true
 header_takes s d new is ok h old =
-    let may : fits h (header s) ≡ true = later_is h s ∙ ap (λ l. is_section_later (section_after l) s) (sym old.latest) ∙ ok in
-    (may, subst (λ x. Drafts (header s ∷ h) x) (sym is) (record {
-      plain = (record { fits = may; entry = tt }, old.plain);
-      rows = old.rows;
-      columns = columns_kept (header s) h d.columns refl (λ name. refl) old.columns;
-      count = old.count;
-      maximise = old.maximise;
-      lines = more_lines d.lines (length h) old.lines;
-      set = old.set;
-      latest = refl;
-    }))
+    let may : fits h (header s) ≡ true = later_is h s ∙ ap (λ l. is_section_later (section_after l) s) (sym old.latest) ∙ ok in (
+      may,
+      subst (λ x. Drafts (header s ∷ h) x) (sym is) (record {
+        plain = (record { fits = may; entry = tt }, old.plain);
+        rows = old.rows;
+        columns = columns_kept (header s) h d.columns refl (λ name. refl) old.columns;
+        count = old.count;
+        maximise = old.maximise;
+        lines = more_lines d.lines (length h) old.lines;
+        set = old.set;
+        latest = refl;
+      }),
+    )
 
 pub header_refused : (s : Section) (d new : Draft) → is_section_later (section_after d.latest) s ≡ false → Takes (header s) d new false
 header_refused s d new no-t h old = later_is h s ∙ ap (λ l. is_section_later (section_after l) s) (sym old.latest) ∙ no-t
 
 pub sense_takes : (b : Bool) (d new : Draft) → new ≡ record d { maximise = b; lines = d.lines + 1; latest = Sense } → is_section_later (section_after d.latest) sections.Objsense ≡ true → Takes (sense b) d new true
 sense_takes b d new is ok h old =
-    let may : fits h (sense b) ≡ true = later_is h sections.Objsense ∙ ap (λ l. is_section_later (section_after l) sections.Objsense) (sym old.latest) ∙ ok in
-    (may, subst (λ x. Drafts (sense b ∷ h) x) (sym is) (record {
-      plain = (record { fits = may; entry = tt }, old.plain);
-      rows = old.rows;
-      columns = columns_kept (sense b) h d.columns refl (λ name. refl) old.columns;
-      count = old.count;
-      maximise = refl;
-      lines = more_lines d.lines (length h) old.lines;
-      set = old.set;
-      latest = refl;
-    }))
+    let may : fits h (sense b) ≡ true = later_is h sections.Objsense ∙ ap (λ l. is_section_later (section_after l) sections.Objsense) (sym old.latest) ∙ ok in (
+      may,
+      subst (λ x. Drafts (sense b ∷ h) x) (sym is) (record {
+        plain = (record { fits = may; entry = tt }, old.plain);
+        rows = old.rows;
+        columns = columns_kept (sense b) h d.columns refl (λ name. refl) old.columns;
+        count = old.count;
+        maximise = refl;
+        lines = more_lines d.lines (length h) old.lines;
+        set = old.set;
+        latest = refl;
+      }),
+    )
 
 pub sense_refused : (b : Bool) (d new : Draft) → is_section_later (section_after d.latest) sections.Objsense ≡ false → Takes (sense b) d new false
 sense_refused b d new no-t h old = later_is h sections.Objsense ∙ ap (λ l. is_section_later (section_after l) sections.Objsense) (sym old.latest) ∙ no-t
 
 pub on_takes : (d new : Draft) → new ≡ record d { lines = d.lines + 1; latest = IntegersOn } → is_columns_header d.latest ≡ true → Takes integers_on d new true
 on_takes d new is ok h old =
-    let may : fits h integers_on ≡ true = after_columns_is h ∙ ap is_columns_header (sym old.latest) ∙ ok in
-    (may, subst (λ x. Drafts (integers_on ∷ h) x) (sym is) (record {
-      plain = (record { fits = may; entry = tt }, old.plain);
-      rows = old.rows;
-      columns = columns_kept integers_on h d.columns refl (λ name. refl) old.columns;
-      count = old.count;
-      maximise = old.maximise;
-      lines = more_lines d.lines (length h) old.lines;
-      set = old.set;
-      latest = refl;
-    }))
+    let may : fits h integers_on ≡ true = after_columns_is h ∙ ap is_columns_header (sym old.latest) ∙ ok in (
+      may,
+      subst (λ x. Drafts (integers_on ∷ h) x) (sym is) (record {
+        plain = (record { fits = may; entry = tt }, old.plain);
+        rows = old.rows;
+        columns = columns_kept integers_on h d.columns refl (λ name. refl) old.columns;
+        count = old.count;
+        maximise = old.maximise;
+        lines = more_lines d.lines (length h) old.lines;
+        set = old.set;
+        latest = refl;
+      }),
+    )
 
 pub on_refused : (d new : Draft) → is_columns_header d.latest ≡ false → Takes integers_on d new false
 on_refused d new no-t h old = after_columns_is h ∙ ap is_columns_header (sym old.latest) ∙ no-t
 
 pub off_takes : (d new : Draft) → new ≡ record d { lines = d.lines + 1; latest = IntegersOff } → is_column_line d.latest ≡ true → Takes integers_off d new true
 off_takes d new is ok h old =
-    let may : fits h integers_off ≡ true = after_column_is h ∙ ap is_column_line (sym old.latest) ∙ ok in
-    (may, subst (λ x. Drafts (integers_off ∷ h) x) (sym is) (record {
-      plain = (record { fits = may; entry = tt }, old.plain);
-      rows = old.rows;
-      columns = columns_kept integers_off h d.columns refl (λ name. refl) old.columns;
-      count = old.count;
-      maximise = old.maximise;
-      lines = more_lines d.lines (length h) old.lines;
-      set = old.set;
-      latest = refl;
-    }))
+    let may : fits h integers_off ≡ true = after_column_is h ∙ ap is_column_line (sym old.latest) ∙ ok in (
+      may,
+      subst (λ x. Drafts (integers_off ∷ h) x) (sym is) (record {
+        plain = (record { fits = may; entry = tt }, old.plain);
+        rows = old.rows;
+        columns = columns_kept integers_off h d.columns refl (λ name. refl) old.columns;
+        count = old.count;
+        maximise = old.maximise;
+        lines = more_lines d.lines (length h) old.lines;
+        set = old.set;
+        latest = refl;
+      }),
+    )
 
 pub off_refused : (d new : Draft) → is_column_line d.latest ≡ false → Takes integers_off d new false
 off_refused d new no-t h old = after_column_is h ∙ ap is_column_line (sym old.latest) ∙ no-t

@@ -1,21 +1,21 @@
 -- What a coefficient, a right-hand side or a row more does to what the rows have.
-use Rattle.std.proofs.Common.{◌≡◌, ℕ, zero, suc, ℤ, pos, ◌+◌, ◌<◌, ◌≤◌, ◌==◌, ◌&&◌, ◌||◌, not, cond, Bool, true, false, List, [], ◌∷◌, ◌++◌, length, get_or, set, map, filter, All, Contains, IsNone, Option, Some, None, is_some, ◌≢◌, sym, refl, ap, subst, ◌∙◌, arith, ⊎_elim}
-use Rattle.std.specs.List.{list_any}
+use Rattle.std.proofs.Common.{◌≡◌, ℕ, ℤ, pos, ◌<◌, ◌≤◌, ◌==◌, ◌&&◌, ◌||◌, not, cond, Bool, true, false, List, [], ◌∷◌, ◌++◌, length, get_or, set, map, filter, All, Contains, IfSome, nat_lt, Option, Some, None, is_some, ◌≢◌, sym, refl, ap, subst, ◌∙◌, arith, ⊎_elim}
+use Rattle.std.specs.List.{list_any, list_all}
 use Rattle.std.specs.Ordering.{int_eq}
 use Rattle.std.specs.Str.{bytes_eq}
-use Rattle.std.proofs.lemmas.Bool.{cases_Bool, cases_eq, eqb-true, eq-eqb, cond-true, cond-false, false≢true}
-use Rattle.std.proofs.lemmas.List.{same_lists, length-set, length-map, get_or-map, get_or-set_same, get_or-set_other, get_or_default, map-append, map_push}
+use Rattle.std.proofs.lemmas.Bool.{cases_Bool, cases_eq, eqb-true, eq-eqb, lt-ltb, false≢true}
+use Rattle.std.proofs.lemmas.List.{append_assoc, same_lists, length-set, length-map, get_or-map, get_or-set_same, get_or-set_other, get_or_default, map-append, map_push}
 use Rattle.std.proofs.lemmas.List.Elements.{filter-append, All-head, All-tail, All-cons, All-push, All-nil, All-weaker}
 use Rattle.ug_rows.specs.declared.row.Term.{Term}
 use Rattle.ug_mps.specs.declared.section.RowKind.{RowKind}
 use Rattle.ug_mps.specs.declared.draft.rows.RowDraft.{RowDraft}
 use Rattle.ug_mps.specs.Entries.{Pair}
-use Rattle.ug_mps.specs.History.{NamedKind, Coefficient, names_row}
+use Rattle.ug_mps.specs.History.{NamedKind, Coefficient, names_row, are_apart, is_objective}
 use Rattle.ug_mps.specs.Stated.{number_given}
 use Rattle.ug_mps.specs.Names.{name_at, StandsAt, AreDistinct}
 use Rattle.ug_mps.specs.Rows.{NamedRows, Lists, term_of, is_term, terms_in, or_place, last_place, is_named, has, row_so_far, AreRows, IsBefore, AreOrdered, AreWithin}
-use Rattle.ug_mps.specs.RowSteps.{new_row, row_at, with_coefficient, with_side, placed_at, and_coefficient, and_side, and_row, is_place, fits_column, fits_sides, PutsCoefficient, PutsSide}
-use Rattle.ug_mps.proofs.Bytes.{or_true, or_left, both, any_true, any_none, named_any, same_bytes, bytes_same, bytes_apart, apart_bytes, or_false, false_from, not_first, not_second, and_true, any_append}
+use Rattle.ug_mps.specs.RowSteps.{new_row, row_at, with_coefficient, with_side, placed_at, and_coefficient, and_side, and_row, is_place, fits_column, fits_sides, PutsCoefficient, PutsSide, all_fit_column, all_fit_sides, fits_rows, PutsCoefficients, PutsSides}
+use Rattle.ug_mps.proofs.Bytes.{or_true, or_left, both, any_true, any_none, named_any, same_bytes, bytes_same, bytes_apart, apart_bytes, or_false, false_from, not_first, not_second, not_true, and_true, bytes_turn, any_append}
 
 -- a row without a coefficient has no terms and no last column
 pub no_terms : (cs : List Coefficient) (name : List ℕ) → list_any (λ (c : Coefficient). bytes_eq name c.row) cs ≡ false → terms_in cs name ≡ []
@@ -52,7 +52,7 @@ last_push (d ∷ cs) c name = rw (last_push cs c name)
 pub terms_push : (cs : List Coefficient) (c : Coefficient) (name : List ℕ) → terms_in (cs ++ c ∷ []) name ≡ terms_in cs name ++ map term_of (filter (is_term name) (c ∷ []))
 terms_push cs c name = rw (filter-append (is_term name) cs (c ∷ [])) (map-append term_of (filter (is_term name) cs) (filter (is_term name) (c ∷ [])))
 
-append_none : {X : Type 0} (xs : List X) → xs ++ [] ≡ xs
+pub append_none : {X : Type 0} (xs : List X) → xs ++ [] ≡ xs
 append_none [] = refl
 append_none (x ∷ xs) = ap (λ ys. x ∷ ys) (append_none xs)
 
@@ -140,9 +140,11 @@ module _ (l : Lists) (rows : NamedRows) (old : AreRows l rows) (at : ℕ) (p : P
       let dr : NamedKind = record { kind = (row_at rows.drafts at).kind; name = [] } in
       let x = get_or l.named at dr in
       let inside : at < length l.named = omega (arith, length-map l.named (λ (r : NamedKind). r.name), here_named.there) in
-      let in_f : at < length (map (row_so_far l) l.named) = omega (arith, length-map l.named (row_so_far l)) in
-      (x, f x (sym (get_or-map (λ (r : NamedKind). r.name) l.named at dr [] inside) ∙ here_named.same)
-      (sym (get_or-map (row_so_far l) l.named at dr (new_row dr.kind) inside) ∙ get_or_default (map (row_so_far l) l.named) at (new_row dr.kind) _ in_f ∙ ap (λ ds. row_at ds at) (sym old.drafts)))
+      let in_f : at < length (map (row_so_far l) l.named) = omega (arith, length-map l.named (row_so_far l)) in (
+        x,
+        f x (sym (get_or-map (λ (r : NamedKind). r.name) l.named at dr [] inside) ∙ here_named.same)
+            (sym (get_or-map (row_so_far l) l.named at dr (new_row dr.kind) inside) ∙ get_or_default (map (row_so_far l) l.named) at (new_row dr.kind) _ in_f ∙ ap (λ ds. row_at ds at) (sym old.drafts)),
+      )
 
   pub named_true : is_named l.named p.row ≡ true
   named_true = sym (named_any l.named p.row) ∙ any_true (map (λ (r : NamedKind). r.name) l.named) p.row at here_named
@@ -244,7 +246,7 @@ pub put_new : (j : ℕ) (p : Pair) (old new : NamedRows) (at : ℕ) → AreDisti
     → new ≡ record { names = old.names; drafts = set old.drafts at (with_coefficient j p.number (row_at old.drafts at)) } → PutsCoefficient j p old new true
 put_new j p old new at apart here e is l are o w = (
   both (is_named l.named p.row) (not (has l.coefficients j p.row)) (named_true l old are at p apart here)
-  (ap not (has_last l.coefficients j p.row o w ∙ ap (λ q. is_place q j) (last_there l old are at p apart here) ∙ e)),
+      (ap not (has_last l.coefficients j p.row o w ∙ ap (λ q. is_place q j) (last_there l old are at p apart here) ∙ e)),
   subst (λ rows. AreRows (and_coefficient j p l) rows) (sym is) (rows_and_coefficient l old are at p apart here j),
 )
 
@@ -275,3 +277,77 @@ side_new p old new at apart here e is l are =
       both (is_named l.named p.row) (not (names_row l.sides p.row)) (named_true l old are at p apart here) (ap not none),
       subst (λ rows. AreRows (and_side p l) rows) (sym is) (rows_and_side l old are at p apart here none),
     )
+
+-- one or two pairs, one after the other
+pub put_first_not : (j : ℕ) (p : Pair) (more : List Pair) (old mid new : NamedRows) → PutsCoefficient j p old mid false → PutsCoefficients j (p ∷ more) old new false
+put_first_not j p more old mid new put l are o w =
+    not_first (list_all (λ q. fits_column l j q) (p ∷ more)) (are_apart (p ∷ more)) (not_first (fits_column l j p) (list_all (λ q. fits_column l j q) more) (put l are o w))
+
+pub put_one : (j : ℕ) (p : Pair) (old new : NamedRows) → PutsCoefficient j p old new true → PutsCoefficients j (p ∷ []) old new true
+put_one j p old new put l are o w = let h = put l are o w in (rw h.0 refl, h.1)
+
+second_cases : (a hq b : Bool) → ((true && ((a && not hq) && true)) && (not (b || false) && (not false && true))) ≡ (a && not (hq || ((true && b) || false)))
+second_cases true true true = refl
+second_cases true true false = refl
+second_cases true false true = refl
+second_cases true false false = refl
+second_cases false true true = refl
+second_cases false true false = refl
+second_cases false false true = refl
+second_cases false false false = refl
+
+second_fits : (f a hq b b' : Bool) → f ≡ true → b' ≡ b → ((f && ((a && not hq) && true)) && (not (b' || false) && (not false && true))) ≡ (a && not (hq || ((true && b) || false)))
+second_fits f a hq b b' e s = rw (e, s) (second_cases a hq b)
+
+bytes_swap : (a b : List ℕ) → bytes_eq a b ≡ bytes_eq b a
+bytes_swap a b = ⊎_elim
+    (λ t. t ∙ sym (bytes_same b a (sym (same_bytes a b t))))
+    (λ f. f ∙ sym (bytes_turn a b f))
+    (cases_Bool (bytes_eq a b))
+
+both_fit : (l : Lists) (j : ℕ) (p q : Pair) → fits_column l j p ≡ true → all_fit_column l j (p ∷ q ∷ []) ≡ fits_column (and_coefficient j p l) j q
+both_fit l j p q e =
+    second_fits (fits_column l j p) (is_named l.named q.row) (has l.coefficients j q.row) (bytes_eq q.row p.row) (bytes_eq p.row q.row) e (bytes_swap p.row q.row)
+    ∙ ap (λ t. is_named l.named q.row && not (has l.coefficients j q.row || ((t && bytes_eq q.row p.row) || false))) (sym (eq-eqb j j refl))
+    ∙ ap (λ t. is_named l.named q.row && not t) (sym (any_append (λ (c : Coefficient). (c.place == j) && bytes_eq q.row c.row) l.coefficients (placed_at j p ∷ [])))
+
+pub put_two : (j : ℕ) (p q : Pair) (old mid new : NamedRows) (b : Bool) → PutsCoefficient j p old mid true → PutsCoefficient j q mid new b → PutsCoefficients j (p ∷ q ∷ []) old new b
+put_two j p q old mid new true put puts l are o w =
+    let h = put l are o w in
+    let free : has l.coefficients j p.row ≡ false = not_true (has l.coefficients j p.row) (and_true (is_named l.named p.row) (not (has l.coefficients j p.row)) h.0).1 in
+    let g = puts (and_coefficient j p l) h.1 (ordered_push l.coefficients (placed_at j p) o w free) (within_push l.coefficients (placed_at j p) w) in
+    (both_fit l j p q h.0 ∙ g.0, subst (λ cs. AreRows (record { named = l.named; coefficients = cs; sides = l.sides }) new) (append_assoc l.coefficients (placed_at j p ∷ []) (placed_at j q ∷ [])) g.1)
+put_two j p q old mid new false put puts l are o w =
+    let h = put l are o w in
+    let free : has l.coefficients j p.row ≡ false = not_true (has l.coefficients j p.row) (and_true (is_named l.named p.row) (not (has l.coefficients j p.row)) h.0).1 in
+    both_fit l j p q h.0 ∙ puts (and_coefficient j p l) h.1 (ordered_push l.coefficients (placed_at j p) o w free) (within_push l.coefficients (placed_at j p) w)
+
+pub side_first_not : (p : Pair) (more : List Pair) (old mid new : NamedRows) → PutsSide p old mid false → PutsSides (p ∷ more) old new false
+side_first_not p more old mid new put l are =
+    not_first (list_all (λ q. fits_sides l q) (p ∷ more)) (are_apart (p ∷ more)) (not_first (fits_sides l p) (list_all (λ q. fits_sides l q) more) (put l are))
+
+pub side_one : (p : Pair) (old new : NamedRows) → PutsSide p old new true → PutsSides (p ∷ []) old new true
+side_one p old new put l are = let h = put l are in (rw h.0 refl, h.1)
+
+both_sides : (l : Lists) (p q : Pair) → fits_sides l p ≡ true → all_fit_sides l (p ∷ q ∷ []) ≡ fits_sides (and_side p l) q
+both_sides l p q e =
+    second_fits (fits_sides l p) (is_named l.named q.row) (names_row l.sides q.row) (bytes_eq q.row p.row) (bytes_eq p.row q.row) e (bytes_swap p.row q.row)
+    ∙ ap (λ t. is_named l.named q.row && not t) (sym (any_append (λ (r : Pair). bytes_eq q.row r.row) l.sides (p ∷ [])))
+
+pub side_two : (p q : Pair) (old mid new : NamedRows) (b : Bool) → PutsSide p old mid true → PutsSide q mid new b → PutsSides (p ∷ q ∷ []) old new b
+side_two p q old mid new true put puts l are =
+    let h = put l are in
+    let g = puts (and_side p l) h.1 in
+    (both_sides l p q h.0 ∙ g.0, subst (λ ps. AreRows (record { named = l.named; coefficients = l.coefficients; sides = ps }) new) (append_assoc l.sides (p ∷ []) (q ∷ [])) g.1)
+side_two p q old mid new false put puts l are = let h = put l are in both_sides l p q h.0 ∙ puts (and_side p l) h.1
+
+-- whether a row may be added
+pub may_not_twice : (names : List (List ℕ)) (k : RowKind) (name : List ℕ) (o : Option ℕ) → is_some o ≡ true → IfSome o (StandsAt names name) → false ≡ fits_rows names k name
+may_not_twice names k name None e h = absurd (false≢true e)
+may_not_twice names k name (Some at) e h =
+    sym (not_first _ (not (is_objective k) || (length names == 0)) (not_first (not (list_any (λ n. bytes_eq name n) names)) (nat_lt (length names) 10000) (ap not (any_true names name at h))))
+
+pub may_with_rows : (names : List (List ℕ)) (k : RowKind) (name : List ℕ) → ¬ Contains names name → length names < 10000 → length names ≢ 0 → not (is_objective k) ≡ fits_rows names k name
+may_with_rows names k name gone room some =
+    let other : (length names == 0) ≡ false = false_from (length names == 0) (λ t. some (eqb-true (length names) 0 t)) in
+    rw (any_none names name gone, lt-ltb (length names) 10000 room, other) (elim (is_objective k) as (λ b. not b ≡ (not b || false)) [ true ↦ refl | false ↦ refl ])

@@ -1,13 +1,12 @@
 -- What the columns have so far.
-use Rattle.std.specs.Prelude.{◌≡◌, ℕ, ◌-◌, ◌&&◌, not, Bool, false, List, [], ◌∷◌, length, map, None, nat_lt, slice_index_or}
-use Rattle.std.specs.List.{list_any}
-use Rattle.std.specs.Str.{bytes_eq}
+use Rattle.std.specs.Prelude.{◌≡◌, ℕ, ◌+◌, ◌-◌, Bool, true, false, List, ◌∷◌, length, map, Option, None, MatchOption, slice_index_or}
 use Rattle.ug_mps.specs.declared.draft.columns.ColumnDraft.{ColumnDraft}
-use Rattle.ug_mps.specs.Entries.{Entry}
-use Rattle.ug_mps.specs.History.{columns_of}
+use Rattle.ug_mps.specs.Entries.{Pair, Entry, column}
+use Rattle.ug_mps.specs.History.{columns_of, name_fits}
 use Rattle.ug_mps.specs.Stated.{upper_bound}
 use Rattle.ug_mps.specs.Reads.{begins_at}
-use Rattle.ug_mps.specs.Names.{name_at}
+use Rattle.ug_mps.specs.Plain.{Plain}
+use Rattle.ug_mps.specs.Latest.{latest_of, is_column_line}
 
 -- the columns with their names
 pub record NamedColumns : Type 0 where
@@ -31,11 +30,9 @@ new_column line = record { line = line; upper = None }
 abbrev pub column_at : List ColumnDraft → ℕ → ColumnDraft
 column_at drafts at = slice_index_or drafts at (new_column 0)
 
--- the last of the names is this one
-abbrev pub is_last : List (List ℕ) → List ℕ → Bool
-is_last [] name = false
-is_last (n ∷ names) name = bytes_eq name (name_at (n ∷ names) (length (n ∷ names) - 1))
-
--- the name is new, and there is room for it
-abbrev pub has_room_for : List (List ℕ) → List ℕ → Bool
-has_room_for names name = not (list_any (λ name'. bytes_eq name name') names) && nat_lt (length names) 10000
+-- where a line of the column stands: at its place if it goes on or is new, and nowhere if it may not follow
+abbrev pub PlacesColumn : List ℕ → Bool → ℕ → NamedColumns → NamedColumns → Option ℕ → Type 0
+PlacesColumn name after line old new place = (h : List Entry) (pairs : List Pair) → Plain h → AreColumns h old
+    → after ≡ is_column_line (latest_of h) → line ≡ length h + 1
+    → MatchOption place (name_fits h name ≡ false)
+    (λ j. (name_fits h name ≡ true) × (j ≡ length (columns_of (column name pairs ∷ h)) - 1) × AreColumns (column name pairs ∷ h) new)

@@ -2,11 +2,14 @@ mod columns;
 mod latest;
 mod rows;
 
-ghost use Rattle.std.specs.Prelude.{◌≡◌, ◌+◌, ◌<◌, ◌≤◌, ◌^◌, [], ◌∷◌, List, All, IfOk, unsigned_abs};
+ghost use Rattle.std.specs.Prelude.{◌≡◌, ◌+◌, ◌<◌, ◌≤◌, ◌^◌, ◌||◌, not, [], ◌∷◌, List, length, All, IsTrue, IfOk};
+ghost use Rattle.std.specs.Str.{bytes_eq};
+ghost use Rattle.ug_problem.specs.Instances.{IsName};
 ghost use Rattle.ug_mps.specs.Entries.{Entry, header, sense, row, integers_on, column, integers_off, sides, upper};
 ghost use Rattle.ug_mps.specs.History.{section_of};
 ghost use Rattle.ug_mps.specs.Said.{entry_said, pairs_said};
-ghost use Rattle.ug_mps.specs.Plain.{IsPlainEntry};
+ghost use Rattle.ug_mps.specs.Latest.{has_set};
+ghost use Rattle.ug_mps.specs.Plain.{IsPlainEntry, IsSmallPair, IsBound, IsColumnEntry};
 ghost use Rattle.ug_mps.specs.Drafts.{Drafts, Takes};
 
 use crate::draft::columns::Columns;
@@ -31,6 +34,17 @@ pub struct Draft {
     /// The set's name of the latest line of RHS or BOUNDS.
     set: Text,
     latest: Latest,
+}
+
+// How many pairs there are.
+fn count_of(pairs: &NamedNumbers<'_>) -> u32
+    ensures value { result ≡ length (pairs_said pairs.now) }
+    ensures few { result ≤ 2 }
+{
+    match pairs.second {
+        Some(_) => 2,
+        None => 1,
+    }
 }
 
 impl Draft {
@@ -114,5 +128,110 @@ impl Draft {
         }
         self.enter(Latest::IntegersOff);
         true
+    }
+
+    fn row(&mut self, kind: RowKind, name: &[u8]) -> Result<bool, AllocError>
+        requires room { self.old.lines + 1 < 2 ^ 64 }
+        requires plain { IsName name.now }
+        ensures { IfOk result (Takes (row kind name.now) self.old self.new) }
+    {
+        if !self.rows.may_add(kind, name) {
+            return Ok(false);
+        }
+        self.rows.add(self.alloc, kind, name)?;
+        self.enter(Latest::Row);
+        Ok(true)
+    }
+
+    fn column(&mut self, name: &[u8], pairs: &NamedNumbers<'_>) -> Result<bool, AllocError>
+        requires room { self.old.lines + 1 < 2 ^ 64 }
+        requires plain { IsColumnEntry name.now (pairs_said pairs.now) }
+        ensures { IfOk result (Takes (column name.now (pairs_said pairs.now)) self.old self.new) }
+    {
+        let count = count_of(pairs);
+        if !self.latest.is_integer() {
+            return Ok(false);
+        }
+        if self.count > 1_000_000 - count {
+            return Ok(false);
+        }
+        let after_column = self.latest.is_column();
+        let Some(place) = self
+            .columns
+            .go_on(self.alloc, name, after_column, self.lines + 1)?
+        else {
+            return Ok(false);
+        };
+        if !self.rows.put_coefficients(place, pairs)? {
+            return Ok(false);
+        }
+        self.count += count;
+        self.enter(Latest::Column);
+        Ok(true)
+    }
+
+    // Whether a line with this set's name may follow; the name is kept then.
+    fn keep_set(&mut self, set: &[u8]) -> Result<bool, AllocError>
+        ensures value { IfOk result (λ kept. kept ≡ (not (has_set self.old.latest) || bytes_eq set.now self.old.set)) }
+        ensures kept { IfOk result (λ kept. IsTrue kept → self.new ≡ record self.old { set = set.now }) }
+    {
+        if self.set.as_slice() == set {
+            return Ok(true);
+        }
+        if self.latest.has_set() {
+            return Ok(false);
+        }
+        self.set = Text::from_slice(self.alloc, set)?;
+        Ok(true)
+    }
+
+    fn sides(&mut self, set: &[u8], pairs: &NamedNumbers<'_>) -> Result<bool, AllocError>
+        requires room { self.old.lines + 1 < 2 ^ 64 }
+        requires plain { All IsSmallPair (pairs_said pairs.now) }
+        ensures { IfOk result (Takes (sides set.now (pairs_said pairs.now)) self.old self.new) }
+    {
+        if !self.keep_set(set)? {
+            return Ok(false);
+        }
+        if !self.rows.put_sides(pairs) {
+            return Ok(false);
+        }
+        self.enter(Latest::Sides);
+        Ok(true)
+    }
+
+    fn upper(&mut self, set: &[u8], name: &[u8], bound: i32) -> Result<bool, AllocError>
+        requires room { self.old.lines + 1 < 2 ^ 64 }
+        requires plain { IsBound bound }
+        ensures { IfOk result (Takes (upper set.now name.now bound) self.old self.new) }
+    {
+        if !self.keep_set(set)? {
+            return Ok(false);
+        }
+        let Some(at) = self.columns.find(name) else {
+            return Ok(false);
+        };
+        self.columns.set_upper(at, bound);
+        self.enter(Latest::Upper);
+        Ok(true)
+    }
+
+    /// Takes the next line, if it may follow those before it. It says whether it may. After an error, or where the
+    /// line may not follow, the draft is of no more use.
+    pub fn take(&mut self, said: &Said<'_>) -> Result<bool, AllocError>
+        requires room { self.old.lines + 1 < 2 ^ 64 }
+        requires plain { IsPlainEntry (entry_said said.now) }
+        ensures { IfOk result (Takes (entry_said said.now) self.old self.new) }
+    {
+        match said {
+            Said::Header(section) => Ok(self.header(*section)),
+            Said::Sense(maximise) => Ok(self.sense(*maximise)),
+            Said::Row(kind, name) => self.row(*kind, name),
+            Said::IntegersOn => Ok(self.integers_on()),
+            Said::Column(name, pairs) => self.column(name, pairs),
+            Said::IntegersOff => Ok(self.integers_off()),
+            Said::Sides(set, pairs) => self.sides(set, pairs),
+            Said::Upper(set, name, bound) => self.upper(set, name, *bound),
+        }
     }
 }

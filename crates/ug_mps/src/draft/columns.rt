@@ -1,6 +1,6 @@
-ghost use Rattle.std.specs.Prelude.{◌≡◌, ◌+◌, ◌<◌, ◌^◌, [], ◌∷◌, ◌++◌, ◌↔◌, length, Contains, slice_set, Some, IsNone, IfSome, OnOk};
+ghost use Rattle.std.specs.Prelude.{◌≡◌, ◌+◌, ◌<◌, ◌^◌, [], ◌∷◌, ◌++◌, ◌↔◌, length, Contains, slice_set, Some, IsNone, IfSome, IfOk, OnOk};
 ghost use Rattle.ug_mps.specs.Names.{StandsAt, AreDistinct};
-ghost use Rattle.ug_mps.specs.Columns.{new_column, column_at, is_last};
+ghost use Rattle.ug_mps.specs.Columns.{new_column, column_at, PlacesColumn};
 
 use crate::names::Names;
 use std::alloc::{AllocError, Global};
@@ -62,16 +62,6 @@ impl Columns {
         self.names.find(name)
     }
 
-    /// Whether the last column has this name.
-    pub fn is_last(&self, name: &[u8]) -> bool
-        ensures { result ≡ is_last self.now.names name.now }
-    {
-        match self.names.as_slice() {
-            [.., last] => last.as_slice() == name,
-            [] => false,
-        }
-    }
-
     /// Adds a column that begins in a line.
     pub fn add(&mut self, alloc: Global, name: &[u8], line: u64) -> Result<(), AllocError>
         requires new { ¬ Contains self.old.names name.now }
@@ -97,5 +87,35 @@ impl Columns {
         } }
     {
         self.drafts[at as usize].upper = Some(upper);
+    }
+
+    /// The place of a column for one more line of it: the last column goes on behind a line of it, and a new one is
+    /// added. It is `None` where the line may not follow.
+    pub fn go_on(
+        &mut self,
+        alloc: Global,
+        name: &[u8],
+        after_column: bool,
+        line: u64,
+    ) -> Result<Option<u32>, AllocError>
+        ensures { IfOk result (PlacesColumn name.now after_column line self.old self.new) }
+    {
+        let count = self.len();
+        match self.find(name) {
+            Some(at) => {
+                if after_column && at as usize + 1 == count {
+                    Ok(Some(at))
+                } else {
+                    Ok(None)
+                }
+            }
+            None => {
+                if count >= 10_000 {
+                    return Ok(None);
+                }
+                self.add(alloc, name, line)?;
+                Ok(Some(count as u32))
+            }
+        }
     }
 }

@@ -1,14 +1,34 @@
-ghost use Rattle.std.specs.Prelude.{◌≡◌, ◌+◌, ◌<◌, ◌^◌, pos, [], ◌∷◌, ◌++◌, ◌↔◌, length, Contains, slice_get, slice_set, Some, None, IsNone, IfSome, IfOk, OnOk, if◌then◌else◌};
+ghost use Rattle.std.specs.Prelude.{◌≡◌, ◌+◌, ◌<◌, ◌^◌, pos, [], ◌∷◌, ◌++◌, ◌↔◌, length, Contains, slice_get, slice_set, Some, None, IsNone, IsTrue, IfSome, IfOk, OnOk, if◌then◌else◌};
 ghost use Rattle.std.specs.Ordering.{int_eq};
 ghost use Rattle.ug_mps.specs.Names.{StandsAt, AreDistinct};
-ghost use Rattle.ug_mps.specs.RowSteps.{new_row, with_coefficient, with_side, row_at, is_place, PutsCoefficient, PutsSide};
+ghost use Rattle.ug_mps.specs.History.{is_objective};
+ghost use Rattle.ug_mps.specs.RowSteps.{new_row, with_coefficient, with_side, row_at, is_place, fits_rows, PutsCoefficient, PutsSide, PutsCoefficients, PutsSides};
+ghost use Rattle.ug_mps.specs.Said.{pairs_said};
 
 use crate::names::Names;
+use crate::said::{NamedNumber, NamedNumbers};
 use crate::section::RowKind;
 use std::alloc::{AllocError, Global};
 use std::marker::Model;
 use ug_lists::Text;
 use ug_rows::{Term, Terms};
+
+// The number of a pair.
+fn number_of(pair: &NamedNumber<'_>) -> i64
+    ensures { result ≡ pair.now.number }
+{
+    pair.number
+}
+
+// Whether a row of this kind is the objective.
+fn is_objective(kind: RowKind) -> bool
+    ensures { result ≡ is_objective kind }
+{
+    match kind {
+        RowKind::Objective => true,
+        _ => false,
+    }
+}
 
 /// What a row has so far.
 #[derive(Debug, Drop)]
@@ -169,5 +189,64 @@ impl Rows {
         }
         self.set_side(at, number);
         true
+    }
+
+    /// Takes one or two coefficients of the column at a place, if they fit.
+    pub fn put_coefficients(
+        &mut self,
+        column: u32,
+        pairs: &NamedNumbers<'_>,
+    ) -> Result<bool, AllocError>
+        ensures { IfOk result (PutsCoefficients column (pairs_said pairs.now) self.old self.new) }
+    {
+        let number = number_of(&pairs.first);
+        if !self.put_coefficient(column, pairs.first.row, number)? {
+            return Ok(false);
+        }
+        let Some(second) = &pairs.second else {
+            return Ok(true);
+        };
+        let number = number_of(second);
+        self.put_coefficient(column, second.row, number)
+    }
+
+    /// Takes one or two right-hand sides, if they fit.
+    pub fn put_sides(&mut self, pairs: &NamedNumbers<'_>) -> bool
+        ensures { PutsSides (pairs_said pairs.now) self.old self.new result }
+    {
+        let number = number_of(&pairs.first);
+        if !self.put_side(pairs.first.row, number) {
+            return false;
+        }
+        let Some(second) = &pairs.second else {
+            return true;
+        };
+        let number = number_of(second);
+        self.put_side(second.row, number)
+    }
+
+    /// The number of a pair.
+    fn number_of(pair: &NamedNumber<'_>) -> i64
+        ensures { result ≡ pair.now.number }
+    {
+        pair.number
+    }
+
+    // Whether a row of this kind and name may be added.
+    pub fn may_add(&self, kind: RowKind, name: &[u8]) -> bool
+        ensures value { result ≡ fits_rows self.now.names kind name.now }
+        ensures new { IsTrue result → ¬ Contains self.now.names name.now }
+    {
+        if self.find(name).is_some() {
+            return false;
+        }
+        let count = self.len();
+        if count >= 10_000 {
+            return false;
+        }
+        if count == 0 {
+            return true;
+        }
+        !is_objective(kind)
     }
 }
