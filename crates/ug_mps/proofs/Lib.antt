@@ -3,3 +3,10 @@ mod LongTexts
 pub mod Contents
 pub mod Digits
 pub mod Pieces
+pub mod NamesLemmas
+pub mod Bytes
+pub mod RowsLemmas
+pub mod DraftLemmas
+pub mod HistoryLemmas
+pub mod ColumnsLemmas
+pub mod EntryLemmas

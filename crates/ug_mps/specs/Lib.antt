@@ -6,3 +6,10 @@ pub mod Stated
 pub mod Reads
 pub mod Said
 pub mod Laws
+pub mod Names
+pub mod Plain
+pub mod Latest
+pub mod Rows
+pub mod RowSteps
+pub mod Columns
+pub mod Drafts

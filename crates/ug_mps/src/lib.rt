@@ -5,10 +5,12 @@
 //! Memory grows only with bytes that are there.
 #![tactic(auto)]
 
+mod draft;
 mod entry;
 mod fault;
 mod laws;
 mod lines;
+mod names;
 mod numbers;
 mod reading;
 mod said;
