@@ -7,7 +7,8 @@ use Rattle.std.proofs.lemmas.List.Folds.{list_all-append}
 use Rattle.std.proofs.Math.Nat.{pow-succ', pow-le-pow_right, mul-le-mul_right}
 use Rattle.ug_mps.specs.Words.{is_digit, digits_value}
 
-both : (a b : Bool) → (a && b) ≡ true → (a ≡ true) × (b ≡ true)
+-- both of two tests
+pub both : (a b : Bool) → (a && b) ≡ true → (a ≡ true) × (b ≡ true)
 both true b h = (refl, h)
 both false b h = cc
 
@@ -23,7 +24,8 @@ digits-below n (x ∷ xs) h =
     let power = pow-succ' 10 (length xs) in
     rw power (omega arith)
 
-value-small : (xs : List ℕ) → list_all is_digit xs ≡ true → length xs ≤ 18 → digits_value xs < 10 ^ 18
+-- up to 18 digits
+pub value-small : (xs : List ℕ) → list_all is_digit xs ≡ true → length xs ≤ 18 → digits_value xs < 10 ^ 18
 value-small xs h few =
     let low = digits-below 0 xs h in
     let high : 10 ^ length xs ≤ 10 ^ 18 = pow-le-pow_right (omega arith) few in

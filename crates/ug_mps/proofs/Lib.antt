@@ -10,3 +10,5 @@ pub mod DraftLemmas
 pub mod HistoryLemmas
 pub mod ColumnsLemmas
 pub mod EntryLemmas
+pub mod PlainWords
+pub mod ReadLemmas

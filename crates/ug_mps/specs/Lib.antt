@@ -13,3 +13,4 @@ pub mod Rows
 pub mod RowSteps
 pub mod Columns
 pub mod Drafts
+pub mod Reading
