@@ -5,3 +5,4 @@ pub mod DraftLemmas
 pub mod HistoryLemmas
 pub mod ColumnsLemmas
 pub mod EntryLemmas
+pub mod FinishLemmas

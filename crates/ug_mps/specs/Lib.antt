@@ -12,3 +12,4 @@ pub mod Rows
 pub mod RowSteps
 pub mod Columns
 pub mod Drafts
+pub mod Finish

@@ -1,4 +1,7 @@
-ghost use Rattle.std.specs.Prelude.{◌≡◌, ◌+◌, ◌<◌, ◌^◌, [], ◌∷◌, ◌++◌, ◌↔◌, length, Contains, slice_set, Some, IsNone, IfSome, IfOk, OnOk};
+ghost use Rattle.std.specs.Prelude.{◌≡◌, ◌+◌, ◌<◌, ◌^◌, [], ◌∷◌, ◌++◌, ◌↔◌, length, Contains, slice_set, map, not, is_some, Some, IsNone, IfSome, IfOk, OnOk};
+ghost use Rattle.std.specs.List.{position, zip};
+ghost use Rattle.ug_mps.specs.declared.draft.columns.ColumnDraft.{ColumnDraft};
+ghost use Rattle.ug_mps.specs.Finish.{made_column};
 ghost use Rattle.ug_mps.specs.Names.{StandsAt, AreDistinct};
 ghost use Rattle.ug_mps.specs.Columns.{new_column, column_at, PlacesColumn};
 
@@ -6,6 +9,7 @@ use crate::names::Names;
 use std::alloc::{AllocError, Global};
 use std::marker::Model;
 use ug_lists::Text;
+use ug_problem::Column;
 
 /// What a column has so far.
 #[derive(Clone, Copy, Debug)]
@@ -14,6 +18,17 @@ pub struct ColumnDraft {
     pub line: u64,
     /// The upper bound, if it was set.
     pub upper: Option<i32>,
+}
+
+// A column of the problem.
+fn column_of(name: Text, draft: ColumnDraft) -> Column
+    ensures { result ≡ made_column (name, draft) }
+{
+    Column {
+        name,
+        low: 0,
+        high: draft.upper.unwrap_or(0),
+    }
 }
 
 /// The columns so far, with their names.
@@ -117,5 +132,25 @@ impl Columns {
                 Ok(Some(count as u32))
             }
         }
+    }
+
+    // The place of the first column without an upper bound.
+    fn first_unbounded(&self) -> Option<usize>
+        ensures { result ≡ position (λ (draft : ColumnDraft). not (is_some draft.upper)) self.now.drafts }
+    {
+        self.drafts.iter().position(|draft| draft.upper.is_none())
+    }
+
+    /// The columns of the problem.
+    pub fn into_columns(self, alloc: Global) -> Result<Vec<Column>, AllocError>
+        ensures { IfOk result (λ v. v.items ≡ map made_column (zip self.names self.drafts)) }
+    {
+        let Columns { names, drafts } = self;
+        names
+            .into_vec()
+            .into_iter()
+            .zip(drafts)
+            .map(|(name, draft)| column_of(name, draft))
+            .collect(alloc)
     }
 }
