@@ -6,3 +6,4 @@ pub mod HistoryLemmas
 pub mod ColumnsLemmas
 pub mod EntryLemmas
 pub mod FinishLemmas
+pub mod StatedLemmas
