@@ -7,3 +7,4 @@ pub mod ColumnsLemmas
 pub mod EntryLemmas
 pub mod FinishLemmas
 pub mod StatedLemmas
+pub mod ProblemLemmas

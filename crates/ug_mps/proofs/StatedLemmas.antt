@@ -41,12 +41,12 @@ columns_named [] p = All-nil IsName
 columns_named (column n pairs ∷ h) p = names_by (goes_on h n) (columns_of h) n (columns_named h p.1) p.0.entry.named
 columns_named (_ ∷ h) p = columns_named h p.1
 
-rows_named : (h : List Entry) → Plain h → All (λ (r : NamedKind). IsName r.name) (rows_of h)
+pub rows_named : (h : List Entry) → Plain h → All (λ (r : NamedKind). IsName r.name) (rows_of h)
 rows_named [] p = All-nil (λ (r : NamedKind). IsName r.name)
 rows_named (row k n ∷ h) p = All-push (λ (r : NamedKind). IsName r.name) (rows_of h) (record { kind = k; name = n }) (rows_named h p.1) p.0.entry
 rows_named (_ ∷ h) p = rows_named h p.1
 
-bounds_small : (h : List Entry) → Plain h → (name : List ℕ) → IfSome (upper_bound h name) IsBound
+pub bounds_small : (h : List Entry) → Plain h → (name : List ℕ) → IfSome (upper_bound h name) IsBound
 bounds_small [] p name = tt
 bounds_small (upper set n bound ∷ h) p name = ⊎_elim
     (λ t. subst (λ b. IfSome (cond b (Some bound) (upper_bound h name)) IsBound) (sym t) p.0.entry)
@@ -54,7 +54,7 @@ bounds_small (upper set n bound ∷ h) p name = ⊎_elim
     (cases_Bool (bytes_eq name n))
 bounds_small (_ ∷ h) p name = bounds_small h p.1 name
 
-high_small : (o : Option ℤ) → IfSome o IsBound → unsigned_abs (unwrap_or o (pos 0)) ≤ 10 ^ 9
+pub high_small : (o : Option ℤ) → IfSome o IsBound → unsigned_abs (unwrap_or o (pos 0)) ≤ 10 ^ 9
 high_small None h = omega arith
 high_small (Some (pos n)) h = let high = h.high in omega (arith, ints)
 high_small (Some (negsuc n)) h = let low = h.low in absurd (omega (arith, ints))
@@ -67,12 +67,12 @@ coefficients_small (column n pairs ∷ h) p =
     (All-map (λ (c : Coefficient). unsigned_abs c.number ≤ 10 ^ 18) (λ (p : Pair). let c : Coefficient = record { place = j; row = p.row; number = p.number } in c) pairs p.0.entry.numbers)
 coefficients_small (_ ∷ h) p = coefficients_small h p.1
 
-sides_small : (h : List Entry) → Plain h → All IsSmallPair (sides_given h)
+pub sides_small : (h : List Entry) → Plain h → All IsSmallPair (sides_given h)
 sides_small [] p = All-nil IsSmallPair
 sides_small (sides set pairs ∷ h) p = All-append IsSmallPair (sides_given h) pairs (sides_small h p.1) p.0.entry
 sides_small (_ ∷ h) p = sides_small h p.1
 
-given_small : (pairs : List Pair) (name : List ℕ) → All IsSmallPair pairs → unsigned_abs (unwrap_or (number_given pairs name) (pos 0)) ≤ 10 ^ 18
+pub given_small : (pairs : List Pair) (name : List ℕ) → All IsSmallPair pairs → unsigned_abs (unwrap_or (number_given pairs name) (pos 0)) ≤ 10 ^ 18
 given_small [] name h = omega arith
 given_small (p ∷ pairs) name h = ⊎_elim
     (λ t. rw t (All-head IsSmallPair p pairs h))
@@ -139,7 +139,7 @@ not_zero z e same = false≢true (sym (not_true (int_eq z (pos 0)) e) ∙ (Decid
 below_of : (h : List Entry) → Plain h → All (λ (c : Coefficient). c.place < length (columns_of h)) (coefficients h)
 below_of h p = below_by (length (columns_of h)) (coefficients h) (ordered_of h p).1 (some_columns h p)
 
-terms_formed : (h : List Entry) → Plain h → (name : List ℕ) → AreTerms (length (columns_of h)) (terms_of h name)
+pub terms_formed : (h : List Entry) → Plain h → (name : List ℕ) → AreTerms (length (columns_of h)) (terms_of h name)
 terms_formed h p name =
     let width = length (columns_of h) in
     let below : All (λ (t : Term). t.column < width) (terms_in (coefficients h) name) =
@@ -153,11 +153,11 @@ terms_formed h p name =
       nonzero = λ k a. nonzero k no_term a;
     }
 
-terms_small : (h : List Entry) → Plain h → (name : List ℕ) → All (λ (t : Term). unsigned_abs t.factor ≤ 10 ^ 18) (terms_of h name)
+pub terms_small : (h : List Entry) → Plain h → (name : List ℕ) → All (λ (t : Term). unsigned_abs t.factor ≤ 10 ^ 18) (terms_of h name)
 terms_small h p name =
     All-map (λ (t : Term). unsigned_abs t.factor ≤ 10 ^ 18) term_of (filter (is_term name) (coefficients h)) (All-filter (is_term name) (λ (c : Coefficient). unsigned_abs c.number ≤ 10 ^ 18) (coefficients h) (coefficients_small h p))
 
-wide_enough : (terms : List Term) → All (λ (t : Term). unsigned_abs t.factor ≤ 10 ^ 18) terms → AreSmall terms
+pub wide_enough : (terms : List Term) → All (λ (t : Term). unsigned_abs t.factor ≤ 10 ^ 18) terms → AreSmall terms
 wide_enough terms s = All-weaker (λ (t : Term). unsigned_abs t.factor ≤ 10 ^ 18) (λ (t : Term). unsigned_abs t.factor ≤ 10 ^ 24) (λ t e. omega (arith, e)) terms s
 
 -- ---- the signed terms of the objective
@@ -172,7 +172,7 @@ abs_neg (pos zero) = refl
 abs_neg (pos (suc n)) = refl
 abs_neg (negsuc n) = refl
 
-signed_small : (m : Bool) (z : ℤ) (b : ℕ) → unsigned_abs z ≤ b → unsigned_abs (signed m z) ≤ b
+pub signed_small : (m : Bool) (z : ℤ) (b : ℕ) → unsigned_abs z ≤ b → unsigned_abs (signed m z) ≤ b
 signed_small true z b h = omega (arith, abs_neg z)
 signed_small false z b h = h
 
@@ -180,7 +180,7 @@ signed_nonzero : (m : Bool) (z : ℤ) → z ≢ pos 0 → signed m z ≢ pos 0
 signed_nonzero true z h e = h (neg_zero z e)
 signed_nonzero false z h e = h e
 
-signed_formed : (m : Bool) (width : ℕ) (terms : List Term) → AreTerms width terms → AreTerms width (signed_terms m terms)
+pub signed_formed : (m : Bool) (width : ℕ) (terms : List Term) → AreTerms width terms → AreTerms width (signed_terms m terms)
 signed_formed m width terms f =
     let turn : Term → Term = λ t. record { column = t.column; factor = signed m t.factor } in
     let len : length (signed_terms m terms) ≡ length terms = length-map terms turn in
@@ -195,7 +195,7 @@ signed_formed m width terms f =
       nonzero = λ k a. let k-in : k < length terms = omega (arith, a, len) in rw (at k k-in) (signed_nonzero m (term_at terms k).factor (f.nonzero k k-in));
     }
 
-signed_all_small : (m : Bool) (terms : List Term) → All (λ (t : Term). unsigned_abs t.factor ≤ 10 ^ 18) terms → All (λ (t : Term). unsigned_abs t.factor ≤ 10 ^ 18) (signed_terms m terms)
+pub signed_all_small : (m : Bool) (terms : List Term) → All (λ (t : Term). unsigned_abs t.factor ≤ 10 ^ 18) terms → All (λ (t : Term). unsigned_abs t.factor ≤ 10 ^ 18) (signed_terms m terms)
 signed_all_small m terms s =
     All-map (λ (t : Term). unsigned_abs t.factor ≤ 10 ^ 18) (λ (t : Term). let u : Term = record { column = t.column; factor = signed m t.factor } in u) terms
     (All-weaker (λ (t : Term). unsigned_abs t.factor ≤ 10 ^ 18) (λ (t : Term). unsigned_abs (signed m t.factor) ≤ 10 ^ 18) (λ t e. signed_small m t.factor (10 ^ 18) e) terms s)

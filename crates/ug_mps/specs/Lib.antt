@@ -13,3 +13,4 @@ pub mod RowSteps
 pub mod Columns
 pub mod Drafts
 pub mod Finish
+pub mod Unbounded

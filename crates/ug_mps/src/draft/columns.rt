@@ -1,10 +1,11 @@
-ghost use Rattle.std.specs.Prelude.{◌≡◌, ◌+◌, ◌<◌, ◌^◌, [], ◌∷◌, ◌++◌, ◌↔◌, length, Contains, slice_set, map, not, is_some, Some, IsNone, IfSome, IfOk, OnOk};
-ghost use Rattle.std.specs.List.{position, zip};
-ghost use Rattle.ug_mps.specs.declared.draft.columns.ColumnDraft.{ColumnDraft};
+ghost use Rattle.std.specs.Prelude.{◌≡◌, ◌+◌, ◌<◌, ◌^◌, [], ◌∷◌, ◌++◌, ◌↔◌, length, Contains, slice_set, map, MatchOption, Some, IsNone, IfSome, IfOk, OnOk};
+ghost use Rattle.std.specs.List.{zip};
 ghost use Rattle.ug_mps.specs.Finish.{made_column};
+ghost use Rattle.ug_mps.specs.Unbounded.{AllHave, IsFirstWithout, FindsUnbounded};
 ghost use Rattle.ug_mps.specs.Names.{StandsAt, AreDistinct};
 ghost use Rattle.ug_mps.specs.Columns.{new_column, column_at, PlacesColumn};
 
+use crate::fault::{Kind, MpsFault};
 use crate::names::Names;
 use std::alloc::{AllocError, Global};
 use std::marker::Model;
@@ -18,6 +19,20 @@ pub struct ColumnDraft {
     pub line: u64,
     /// The upper bound, if it was set.
     pub upper: Option<i32>,
+}
+
+// The place of the first column without an upper bound.
+fn first_without(drafts: &[ColumnDraft]) -> Option<usize>
+    ensures { MatchOption result
+        (AllHave drafts.now (length drafts.now))
+        (IsFirstWithout drafts.now) }
+{
+    for (i, draft) in drafts.iter().enumerate() {
+        if draft.upper.is_none() {
+            return Some(i);
+        }
+    }
+    None
 }
 
 // A column of the problem.
@@ -136,9 +151,28 @@ impl Columns {
 
     // The place of the first column without an upper bound.
     fn first_unbounded(&self) -> Option<usize>
-        ensures { result ≡ position (λ (draft : ColumnDraft). not (is_some draft.upper)) self.now.drafts }
+        ensures first { MatchOption result
+            (AllHave self.now.drafts (length self.now.drafts))
+            (IsFirstWithout self.now.drafts) }
+        ensures same { length self.now.drafts ≡ length self.now.names }
     {
-        self.drafts.iter().position(|draft| draft.upper.is_none())
+        let _ = &self.names;
+        first_without(self.drafts.as_slice())
+    }
+
+    /// The fault of the first column without an upper bound, if there is one.
+    pub fn fault(&self, alloc: Global) -> Result<Option<MpsFault>, AllocError>
+        ensures { IfOk result (FindsUnbounded self.now) }
+    {
+        let Some(at) = self.first_unbounded() else {
+            return Ok(None);
+        };
+        let names = self.names.as_slice();
+        Ok(Some(MpsFault {
+            line: self.drafts[at].line,
+            kind: Kind::Unbounded,
+            word: Some(Text::from_slice(alloc, names[at].as_slice())?),
+        }))
     }
 
     /// The columns of the problem.
