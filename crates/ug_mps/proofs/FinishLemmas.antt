@@ -1,19 +1,13 @@
 -- What is kept at the end is what the lines state.
-use Rattle.std.proofs.Common.{◌≡◌, ◌≢◌, ℕ, ℤ, zero, suc, pos, negsuc, neg_ℤ, ◌+◌, ◌-◌, ◌<◌, ◌≤◌, ◌≤ℤ◌, ◌^◌, ◌&&◌, not, cond, unwrap_or, unsigned_abs, Bool, true, false, List, [], ◌∷◌, ◌++◌, length, get_or, set, map, filter, All, IfSome, sum_by, Option, Some, None, sym, refl, ap, subst, ◌∙◌, arith, ⊎_elim}
-use Rattle.std.specs.List.{list_any, list_all, zip}
-use Rattle.std.specs.Ordering.{int_eq}
-use Rattle.std.specs.Str.{bytes_eq}
-use Rattle.std.proofs.lemmas.Bool.{cases_Bool, false≢true}
-use Rattle.std.proofs.lemmas.List.{length-map, get_or-map, get_or_default}
+use Rattle.std.proofs.Common.{◌≡◌, ℕ, not, true, false, List, [], ◌∷◌, get_or, set, map, filter, sym, refl, ap, ◌∙◌, ⊎_elim}
+use Rattle.std.specs.List.{zip}
+use Rattle.std.proofs.lemmas.Bool.{cases_Bool}
 use Rattle.ug_rows.specs.declared.row.Term.{Term}
-use Rattle.ug_problem.specs.declared.column.Column.{Column}
-use Rattle.ug_problem.specs.declared.column.NamedRow.{NamedRow}
-use Rattle.ug_mps.specs.declared.draft.columns.ColumnDraft.{ColumnDraft}
 use Rattle.ug_mps.specs.declared.draft.rows.RowDraft.{RowDraft}
-use Rattle.ug_mps.specs.Entries.{Pair, Entry}
+use Rattle.ug_mps.specs.Entries.{Entry}
 use Rattle.ug_mps.specs.History.{NamedKind, rows_of, columns_of, is_objective}
 use Rattle.ug_mps.specs.Stated.{signed_terms, stated_row, stated_rows, stated_column, objective_from, is_maximised}
-use Rattle.ug_mps.specs.Rows.{NamedRows, Lists, lists_of, row_so_far, AreRows}
+use Rattle.ug_mps.specs.Rows.{NamedRows, lists_of, row_so_far, AreRows}
 use Rattle.ug_mps.specs.Columns.{NamedColumns, column_so_far, AreColumns}
 use Rattle.ug_mps.specs.Finish.{made_column, made_row, is_side_row, made_objective}
 

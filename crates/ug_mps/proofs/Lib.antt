@@ -8,3 +8,4 @@ pub mod EntryLemmas
 pub mod FinishLemmas
 pub mod StatedLemmas
 pub mod ProblemLemmas
+pub mod EndLemmas

@@ -1,28 +1,25 @@
 -- What a plain history states is a problem: its counts, and all together.
-use Rattle.std.proofs.Common.{◌≡◌, ◌≢◌, ℕ, ℤ, zero, suc, pos, neg_ℤ, ◌+◌, ◌-◌, ◌<◌, ◌≤◌, ◌^◌, ◌&&◌, ◌||◌, not, cond, unwrap_or, unsigned_abs, nat_lt, nat_le, Bool, true, false, List, [], ◌∷◌, ◌++◌, length, map, filter, All, IfSome, sum_by, Option, Some, None, sym, refl, ap, subst, ◌∙◌, arith, ⊎_elim}
-use Rattle.std.specs.List.{list_any}
+use Rattle.std.proofs.Common.{◌≡◌, ℕ, ℤ, pos, neg_ℤ, ◌+◌, ◌-◌, ◌<◌, ◌≤◌, ◌^◌, ◌&&◌, ◌||◌, not, cond, unsigned_abs, nat_lt, Bool, true, false, List, [], ◌∷◌, ◌++◌, length, map, filter, All, IfSome, sum_by, Some, None, sym, refl, subst, ◌∙◌, arith, ⊎_elim}
 use Rattle.std.specs.Ordering.{int_eq}
 use Rattle.std.specs.Str.{bytes_eq}
-use Rattle.std.proofs.lemmas.Bool.{cases_Bool, ltb-true, leb-true, false≢true}
-use Rattle.std.proofs.lemmas.List.{length-map, length-append, length_push, get_or-map}
+use Rattle.std.proofs.lemmas.Bool.{cases_Bool, ltb-true, leb-true}
+use Rattle.std.proofs.lemmas.List.{length-map, length-append, length_push}
 use Rattle.std.proofs.lemmas.List.Elements.{All-nil, All-map, All-filter, All-weaker}
 use Rattle.std.proofs.lemmas.List.Sums.{sum_by-cons}
 use Rattle.ug_rows.specs.declared.row.Term.{Term}
-use Rattle.ug_rows.specs.declared.row.Objective as target
-use Rattle.ug_problem.specs.declared.column.Column.{Column}
 use Rattle.ug_problem.specs.declared.column.NamedRow.{NamedRow}
 use Rattle.ug_problem.specs.declared.error.ProblemError.{ProblemError}
 use Rattle.ug_problem.specs.declared.error.ProblemError.TheVariants.{Memory, TooMany, TooWide}
-use Rattle.ug_problem.specs.Instances.{Instance, IsName, IsColumn, IsRow, AreTerms, IsFormed, no_row}
-use Rattle.ug_problem.specs.Limits.{AreSmall, IsNarrow, IsNarrowObjective, FitsCounts, IsProblem, IsRefused}
+use Rattle.ug_problem.specs.Instances.{IsName, IsColumn, IsRow, AreTerms, IsFormed, no_row}
+use Rattle.ug_problem.specs.Limits.{IsNarrow, IsNarrowObjective, FitsCounts, IsRefused}
 use Rattle.ug_mps.specs.declared.section.RowKind.{RowKind}
 use Rattle.ug_mps.specs.declared.section.RowKind.TheVariants.{Objective, AtMost, AtLeast, Equal}
 use Rattle.ug_mps.specs.Entries.{Pair, Entry, row, column}
-use Rattle.ug_mps.specs.History.{NamedKind, Coefficient, rows_of, columns_of, coefficients, sides_given, is_row, is_column, is_integer, goes_on, is_objective, name_fits, pairs_fit, are_apart, placed, fits}
+use Rattle.ug_mps.specs.History.{NamedKind, Coefficient, rows_of, columns_of, coefficients, sides_given, is_row, is_column, is_integer, goes_on, is_objective, name_fits, pairs_fit, are_apart, placed}
 use Rattle.ug_mps.specs.Stated.{is_maximised, signed, signed_terms, terms_of, side_of, low_side, high_side, stated_row, stated_rows, no_objective, objective_from, upper_bound, stated_column, stated}
 use Rattle.ug_mps.specs.Plain.{Plain}
 use Rattle.ug_mps.specs.Rows.{term_of, is_term, terms_in, is_named}
-use Rattle.ug_mps.proofs.Bytes.{and_true, not_true, same_bytes, bytes_same, bytes_apart, bytes_turn, or_false, any_append}
+use Rattle.ug_mps.proofs.Bytes.{and_true, not_true, same_bytes, bytes_turn, or_false, any_append}
 use Rattle.ug_mps.proofs.StatedLemmas.{columns_named, rows_named, bounds_small, high_small, sides_small, given_small, terms_formed, terms_small, wide_enough, signed_formed, signed_small, signed_all_small}
 
 -- ---- how many rows and columns

@@ -1,33 +1,22 @@
 -- What the lines of a plain history state is formed as a problem is, and within its limits.
-use Rattle.std.proofs.Common.{◌≡◌, ◌≢◌, ℕ, ℤ, zero, suc, pos, negsuc, neg_ℤ, ◌+◌, ◌-◌, ◌<◌, ◌≤◌, ◌≤ℤ◌, ◌^◌, ◌&&◌, ◌||◌, not, cond, unwrap_or, unsigned_abs, nat_lt, nat_le, Bool, true, false, List, [], ◌∷◌, ◌++◌, length, get_or, map, filter, All, IfSome, sum_by, Option, Some, None, sym, refl, ap, subst, ◌∙◌, arith, ⊎_elim}
-use Rattle.std.specs.List.{list_any, list_all}
+use Rattle.std.proofs.Common.{◌≡◌, ◌≢◌, ℕ, ℤ, zero, suc, pos, negsuc, neg_ℤ, ◌-◌, ◌<◌, ◌≤◌, ◌^◌, not, cond, unwrap_or, unsigned_abs, Bool, true, false, List, [], ◌∷◌, ◌++◌, length, map, filter, All, IfSome, Option, Some, None, sym, refl, subst, ◌∙◌, arith, ⊎_elim}
 use Rattle.std.specs.Ordering.{int_eq}
 use Rattle.std.specs.Str.{bytes_eq}
 use Rattle.std.proofs.lemmas.Int.{ints}
-use Rattle.std.proofs.lemmas.Bool.{cases_Bool, cases_eq, ltb-true, leb-true, false≢true}
+use Rattle.std.proofs.lemmas.Bool.{cases_Bool, false≢true}
 use Rattle.std.proofs.lemmas.Bool.Decides.{Decides-int_eq}
-use Rattle.std.proofs.lemmas.List.{length-map, length-append, length_push, get_or-map}
+use Rattle.std.proofs.lemmas.List.{length-map, length_push, get_or-map}
 use Rattle.std.proofs.lemmas.List.Elements.{All-nil, All-cons, All-head, All-tail, All-append, All-push, All-map, All-filter, All-weaker, filter_passes}
-use Rattle.std.proofs.lemmas.List.Sums.{sum_by-cons}
 use Rattle.ug_rows.specs.declared.row.Term.{Term}
-use Rattle.ug_rows.specs.declared.row.Row.{Row}
-use Rattle.ug_rows.specs.declared.row.Objective as target
 use Rattle.ug_rows.specs.Rows.{term_at, no_term}
-use Rattle.ug_problem.specs.declared.column.Column.{Column}
-use Rattle.ug_problem.specs.declared.column.NamedRow.{NamedRow}
-use Rattle.ug_problem.specs.declared.error.ProblemError.{ProblemError}
-use Rattle.ug_problem.specs.declared.error.ProblemError.TheVariants.{Memory, TooMany, TooWide}
-use Rattle.ug_problem.specs.Instances.{Instance, IsName, IsColumn, IsRow, AreTerms, IsFormed, no_row}
-use Rattle.ug_problem.specs.Limits.{AreSmall, IsNarrow, IsNarrowObjective, FitsCounts, IsProblem, IsRefused}
-use Rattle.ug_mps.specs.declared.section.RowKind.{RowKind}
-use Rattle.ug_mps.specs.declared.section.RowKind.TheVariants.{Objective, AtMost, AtLeast, Equal}
-use Rattle.ug_mps.specs.Entries.{Pair, Entry, header, sense, row, integers_on, column, integers_off, sides, upper}
-use Rattle.ug_mps.specs.History.{NamedKind, Coefficient, rows_of, columns_of, coefficients, sides_given, is_row, is_column, is_integer, goes_on, is_objective, placed, name_fits, pairs_fit, are_apart, column_fits, fits}
-use Rattle.ug_mps.specs.Stated.{is_maximised, signed, signed_terms, terms_of, number_given, side_of, low_side, high_side, stated_row, stated_rows, objective_from, upper_bound, stated_column, stated}
+use Rattle.ug_problem.specs.Instances.{IsName, AreTerms}
+use Rattle.ug_problem.specs.Limits.{AreSmall}
+use Rattle.ug_mps.specs.Entries.{Pair, Entry, row, column, sides, upper}
+use Rattle.ug_mps.specs.History.{NamedKind, Coefficient, rows_of, columns_of, coefficients, sides_given, goes_on, placed}
+use Rattle.ug_mps.specs.Stated.{signed, signed_terms, terms_of, number_given, upper_bound}
 use Rattle.ug_mps.specs.Plain.{Plain, IsSmallPair, IsBound}
-use Rattle.ug_mps.specs.Rows.{term_of, is_term, terms_in, is_named, IsBefore, AreOrdered, AreWithin}
-use Rattle.ug_mps.proofs.Bytes.{and_true, not_true, same_bytes, bytes_same, bytes_apart, apart_bytes, bytes_turn, or_false, any_append, false_from}
-use Rattle.ug_mps.proofs.FinishLemmas.{signed_not}
+use Rattle.ug_mps.specs.Rows.{term_of, is_term, terms_in, IsBefore, AreOrdered, AreWithin}
+use Rattle.ug_mps.proofs.Bytes.{and_true, not_true, same_bytes}
 use Rattle.ug_mps.proofs.HistoryLemmas.{ordered_of}
 
 -- ---- names and numbers
@@ -143,10 +132,10 @@ pub terms_formed : (h : List Entry) → Plain h → (name : List ℕ) → AreTer
 terms_formed h p name =
     let width = length (columns_of h) in
     let below : All (λ (t : Term). t.column < width) (terms_in (coefficients h) name) =
-        All-map (λ (t : Term). t.column < width) term_of (filter (is_term name) (coefficients h)) (All-filter (is_term name) (λ (c : Coefficient). c.place < width) (coefficients h) (below_of h p)) in
+    All-map (λ (t : Term). t.column < width) term_of (filter (is_term name) (coefficients h)) (All-filter (is_term name) (λ (c : Coefficient). c.place < width) (coefficients h) (below_of h p)) in
     let nonzero : All (λ (t : Term). t.factor ≢ pos 0) (terms_in (coefficients h) name) =
-        All-map (λ (t : Term). t.factor ≢ pos 0) term_of (filter (is_term name) (coefficients h))
-        (All-weaker (λ (c : Coefficient). is_term name c ≡ true) (λ (c : Coefficient). c.number ≢ pos 0) (λ c e. not_zero c.number (and_true (bytes_eq name c.row) (not (int_eq c.number (pos 0))) e).1) (filter (is_term name) (coefficients h)) (filter_passes (is_term name) (coefficients h))) in
+    All-map (λ (t : Term). t.factor ≢ pos 0) term_of (filter (is_term name) (coefficients h))
+    (All-weaker (λ (c : Coefficient). is_term name c ≡ true) (λ (c : Coefficient). c.number ≢ pos 0) (λ c e. not_zero c.number (and_true (bytes_eq name c.row) (not (int_eq c.number (pos 0))) e).1) (filter (is_term name) (coefficients h)) (filter_passes (is_term name) (coefficients h))) in
     record {
       rising = rising_at (terms_in (coefficients h) name) (terms_rising (coefficients h) name (ordered_of h p).0);
       within = λ k a. below k no_term a;

@@ -1,6 +1,5 @@
 -- What the rows and columns kept so far are made into.
-use Rattle.std.specs.Prelude.{ℕ, ℤ, pos, neg_ℤ, ◌≤◌, ◌^◌, All, unsigned_abs, not, Bool, List, [], ◌∷◌, map, filter, unwrap_or, is_some, if◌then◌else◌}
-use Rattle.std.specs.List.{zip}
+use Rattle.std.specs.Prelude.{ℕ, ℤ, pos, neg_ℤ, ◌≤◌, ◌^◌, All, unsigned_abs, not, Bool, List, [], ◌∷◌, unwrap_or, if◌then◌else◌}
 use Rattle.ug_rows.specs.declared.row.Term.{Term}
 use Rattle.ug_rows.specs.declared.row.Objective as target
 use Rattle.ug_problem.specs.declared.column.Column.{Column}
