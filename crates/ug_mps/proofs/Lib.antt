@@ -12,3 +12,7 @@ pub mod ColumnsLemmas
 pub mod EntryLemmas
 pub mod PlainWords
 pub mod ReadLemmas
+pub mod FinishLemmas
+pub mod StatedLemmas
+pub mod ProblemLemmas
+pub mod EndLemmas

@@ -14,3 +14,5 @@ pub mod RowSteps
 pub mod Columns
 pub mod Drafts
 pub mod Reading
+pub mod Finish
+pub mod Unbounded

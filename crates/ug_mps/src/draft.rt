@@ -2,9 +2,13 @@ mod columns;
 mod latest;
 mod rows;
 
-ghost use Rattle.std.specs.Prelude.{◌≡◌, ◌+◌, ◌<◌, ◌≤◌, ◌^◌, ◌||◌, not, [], ◌∷◌, List, length, All, IsTrue, IfOk};
+ghost use Rattle.std.specs.Prelude.{◌≡◌, ◌+◌, ◌<◌, ◌≤◌, ◌^◌, ◌||◌, not, [], ◌∷◌, List, length, All, IsTrue, IfOk, MatchResult};
 ghost use Rattle.std.specs.Str.{bytes_eq};
-ghost use Rattle.ug_problem.specs.Instances.{IsName};
+ghost use Rattle.ug_problem.specs.Instances.{IsName, instance_of};
+ghost use Rattle.ug_mps.specs.declared.section.Section.TheVariants.{Endata};
+ghost use Rattle.ug_mps.specs.Stated.{stated};
+ghost use Rattle.ug_mps.specs.Reads.{IsBounded};
+ghost use Rattle.ug_mps.specs.Unbounded.{IsFinishFault, AreStated};
 ghost use Rattle.ug_mps.specs.Entries.{Entry, header, sense, row, integers_on, column, integers_off, sides, upper};
 ghost use Rattle.ug_mps.specs.History.{section_of};
 ghost use Rattle.ug_mps.specs.Said.{entry_said, pairs_said};
@@ -15,10 +19,13 @@ ghost use Rattle.ug_mps.specs.Drafts.{Drafts, Takes};
 use crate::draft::columns::Columns;
 use crate::draft::latest::Latest;
 use crate::draft::rows::Rows;
+use crate::fault::MpsError;
 use crate::said::{NamedNumbers, Said};
 use crate::section::{RowKind, Section};
 use std::alloc::{AllocError, Global};
-use ug_lists::Text;
+use ug_lists::{Items, Text};
+use ug_problem::{Column, NamedRow, Problem, ProblemError};
+use ug_rows::Objective;
 
 /// What the lines so far say, kept so that the next line can be judged and the problem made.
 #[derive(Drop)]
@@ -44,6 +51,32 @@ fn count_of(pairs: &NamedNumbers<'_>) -> u32
     match pairs.second {
         Some(_) => 2,
         None => 1,
+    }
+}
+
+// The problem of these parts, which a plain history states: so only memory can be wanting.
+fn problem_of(
+    alloc: Global,
+    columns: Vec<Column>,
+    rows: Vec<NamedRow>,
+    objective: Objective,
+) -> Result<Problem, MpsError>
+    requires { AreStated (instance_of columns.items rows.items objective) }
+    ensures { MatchResult result
+        (λ p. p ≡ instance_of columns.items rows.items objective)
+        (λ e. e ≡ MpsError.Memory) }
+{
+    match Problem::new(
+        alloc,
+        Items::from_vec(columns),
+        Items::from_vec(rows),
+        objective,
+    ) {
+        Ok(problem) => Ok(problem),
+        Err(error) => match error {
+            ProblemError::Memory => Err(MpsError::Memory),
+            _ => unreachable!(),
+        },
     }
 }
 
@@ -233,5 +266,28 @@ impl Draft {
             Said::Sides(set, pairs) => self.sides(set, pairs),
             Said::Upper(set, name, bound) => self.upper(set, name, *bound),
         }
+    }
+
+    /// The problem that the lines state once the latest has been ENDATA, or the fault of the first column without an
+    /// upper bound.
+    pub fn finish(self) -> Result<Problem, MpsError>
+        requires { (h : List Entry) × Drafts (header Endata ∷ h) self }
+        ensures { (h : List Entry) → Drafts (header Endata ∷ h) self
+            → MatchResult result (λ p. IsBounded h × (p ≡ stated h)) (IsFinishFault h) }
+    {
+        let Draft {
+            alloc,
+            mut rows,
+            columns,
+            maximise,
+            ..
+        } = self;
+        if let Some(fault) = columns.fault(alloc)? {
+            return Err(MpsError::Fault(fault));
+        }
+        let objective = rows.take_objective(alloc, maximise)?;
+        let rows = rows.into_rows(alloc)?;
+        let columns = columns.into_columns(alloc)?;
+        problem_of(alloc, columns, rows, objective)
     }
 }

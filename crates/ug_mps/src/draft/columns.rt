@@ -1,11 +1,16 @@
-ghost use Rattle.std.specs.Prelude.{◌≡◌, ◌+◌, ◌<◌, ◌^◌, [], ◌∷◌, ◌++◌, ◌↔◌, length, Contains, slice_set, Some, IsNone, IfSome, IfOk, OnOk};
+ghost use Rattle.std.specs.Prelude.{◌≡◌, ◌+◌, ◌<◌, ◌^◌, [], ◌∷◌, ◌++◌, ◌↔◌, length, Contains, slice_set, map, MatchOption, Some, IsNone, IfSome, IfOk, OnOk};
+ghost use Rattle.std.specs.List.{zip};
+ghost use Rattle.ug_mps.specs.Finish.{made_column};
+ghost use Rattle.ug_mps.specs.Unbounded.{AllHave, IsFirstWithout, FindsUnbounded};
 ghost use Rattle.ug_mps.specs.Names.{StandsAt, AreDistinct};
 ghost use Rattle.ug_mps.specs.Columns.{new_column, column_at, PlacesColumn};
 
+use crate::fault::{Kind, MpsFault};
 use crate::names::Names;
 use std::alloc::{AllocError, Global};
 use std::marker::Model;
 use ug_lists::Text;
+use ug_problem::Column;
 
 /// What a column has so far.
 #[derive(Clone, Copy, Debug)]
@@ -14,6 +19,31 @@ pub struct ColumnDraft {
     pub line: u64,
     /// The upper bound, if it was set.
     pub upper: Option<i32>,
+}
+
+// The place of the first column without an upper bound.
+fn first_without(drafts: &[ColumnDraft]) -> Option<usize>
+    ensures { MatchOption result
+        (AllHave drafts.now (length drafts.now))
+        (IsFirstWithout drafts.now) }
+{
+    for (i, draft) in drafts.iter().enumerate() {
+        if draft.upper.is_none() {
+            return Some(i);
+        }
+    }
+    None
+}
+
+// A column of the problem.
+fn column_of(name: Text, draft: ColumnDraft) -> Column
+    ensures { result ≡ made_column (name, draft) }
+{
+    Column {
+        name,
+        low: 0,
+        high: draft.upper.unwrap_or(0),
+    }
 }
 
 /// The columns so far, with their names.
@@ -117,5 +147,44 @@ impl Columns {
                 Ok(Some(count as u32))
             }
         }
+    }
+
+    // The place of the first column without an upper bound.
+    fn first_unbounded(&self) -> Option<usize>
+        ensures first { MatchOption result
+            (AllHave self.now.drafts (length self.now.drafts))
+            (IsFirstWithout self.now.drafts) }
+        ensures same { length self.now.drafts ≡ length self.now.names }
+    {
+        let _ = &self.names;
+        first_without(self.drafts.as_slice())
+    }
+
+    /// The fault of the first column without an upper bound, if there is one.
+    pub fn fault(&self, alloc: Global) -> Result<Option<MpsFault>, AllocError>
+        ensures { IfOk result (FindsUnbounded self.now) }
+    {
+        let Some(at) = self.first_unbounded() else {
+            return Ok(None);
+        };
+        let names = self.names.as_slice();
+        Ok(Some(MpsFault {
+            line: self.drafts[at].line,
+            kind: Kind::Unbounded,
+            word: Some(Text::from_slice(alloc, names[at].as_slice())?),
+        }))
+    }
+
+    /// The columns of the problem.
+    pub fn into_columns(self, alloc: Global) -> Result<Vec<Column>, AllocError>
+        ensures { IfOk result (λ v. v.items ≡ map made_column (zip self.names self.drafts)) }
+    {
+        let Columns { names, drafts } = self;
+        names
+            .into_vec()
+            .into_iter()
+            .zip(drafts)
+            .map(|(name, draft)| column_of(name, draft))
+            .collect(alloc)
     }
 }
