@@ -9,7 +9,18 @@ use Rattle.ug_mps.specs.Entries.{Entry, header, sense, row, integers_on, column,
 use Rattle.ug_mps.specs.History.{section_of, history, entry_after, fits, is_short, is_end}
 use Rattle.ug_mps.specs.Drafts.{Drafts}
 use Rattle.ug_mps.specs.Reading.{HasTaken, IsReading, IsTaken, IsEnded}
-use Rattle.ug_mps.specs.Reads.{no_line, Says, Ends, IsNotYet, IsEndless}
+use Rattle.std.specs.Prelude.{Result, Ok, Err, IfOk, IfErr, MatchResult}
+use Rattle.std.specs.Option.{option_map}
+use Rattle.ug_problem.specs.Instances.{Instance}
+use Rattle.ug_mps.specs.declared.section.Section.{Section}
+use Rattle.ug_mps.specs.declared.said.Said.{Said}
+use Rattle.ug_mps.specs.declared.fault.Kind.TheVariants.{NotYet, NoEnd}
+use Rattle.ug_mps.specs.declared.fault.MpsError.{MpsError}
+use Rattle.ug_mps.specs.declared.fault.MpsError.TheVariants.{Memory, Fault}
+use Rattle.ug_mps.specs.Said.{entry_said}
+use Rattle.ug_mps.specs.Stated.{stated}
+use Rattle.ug_mps.specs.Unbounded.{IsFinishFault}
+use Rattle.ug_mps.specs.Reads.{no_line, Says, Ends, IsNotYet, IsEndless, IsBounded, Reads, IsRefusal, fault_at}
 use Rattle.ug_mps.proofs.Outcome.{line_at}
 
 -- a line that says nothing
@@ -166,3 +177,48 @@ none_taken text = record {
   entries = refl;
   open_ = λ s. cc;
 }
+
+-- what was found of a line, in the section of those before it
+pub said_found : (o : Option Said) (s t : Option Section) (content : List ℕ) (x : Said) → option_map entry_said o ≡ entry_of s content → o ≡ Some x → s ≡ t
+    → entry_of t content ≡ Some (entry_said x)
+said_found o s t content x e p q = ap (λ s. entry_of s content) (sym q) ∙ sym e ∙ ap (option_map entry_said) p
+
+-- a line that was taken and is the end
+pub ended_line : (h : List Entry) (line : Line) (e : Entry) (new : Draft) → entry_of (section_of h) line.content ≡ Some e → fits h e ≡ true → is_short line e ≡ true → is_end e ≡ true
+    → Drafts (e ∷ h) new → IsEnded line h new
+ended_line h line e new p q r t d =
+    let same = end_is e t in
+    record {
+      after = after_plain h line e p q r ∙ ap (λ x. Some x) same;
+      drafts = subst (λ x. Drafts (x ∷ h) new) same d;
+    }
+
+abbrev pub record_line : List ℕ → ℕ → Line
+record_line c t = record { content = c; through = t }
+
+-- a line by its parts
+pub line_is : (c c' : List ℕ) (t t' : ℕ) → c ≡ c' → t ≡ t' → record_line c t ≡ record_line c' t'
+line_is c c' t t' p q = ap (λ x. record_line x t) p ∙ ap (λ y. record_line c' y) q
+
+-- the problem that is made is what the text states
+pub finish_reads : (text : List ℕ) (k : ℕ) (h : List Entry) (r : Result Instance MpsError) → Ends text k h
+    → MatchResult r (λ p. IsBounded h × (p ≡ stated h)) (IsFinishFault h) → IfOk r (Reads text)
+finish_reads text k h (Ok p) e (b, s) = (k, h, e, b, s)
+finish_reads text k h (Err f) e m = tt
+
+-- and the fault is the text's first
+pub finish_refuses : (text : List ℕ) (k : ℕ) (h : List Entry) (r : Result Instance MpsError) → Ends text k h
+    → MatchResult r (λ p. IsBounded h × (p ≡ stated h)) (IsFinishFault h) → IfErr r (IsRefusal text)
+finish_refuses text k h (Ok p) e m = tt
+finish_refuses text k h (Err Memory) e m = tt
+finish_refuses text k h (Err (Fault f)) e (j, u, w) = inr (inr (k, h, j, e, u, w))
+
+-- the line that is refused is the first fault
+pub refused_is : (text : List ℕ) (k : ℕ) (h : List Entry) (e : MpsError) → IsNotYet text k h → e ≡ Fault (fault_at (k + 1) NotYet None) → IsRefusal text e
+refused_is text k h e n w = subst (IsRefusal text) (sym w) (inl (k, h, n, refl))
+
+-- the want of an end is the first fault
+pub endless_is : (text rest : List ℕ) (k : ℕ) (h : List Entry) (e : MpsError) → HasTaken text rest k h → rest ≡ [] → e ≡ Fault (fault_at k NoEnd None) → IsRefusal text e
+endless_is text rest k h e t r w =
+    let n = endless_now text rest k h t r in
+    subst (IsRefusal text) (sym w) (inr (inl (h, n.0, ap (λ m. fault_at m NoEnd None) (sym n.1))))

@@ -47,9 +47,3 @@ abbrev pub Steps : Line → List Entry → Draft → Step → Type 0
 Steps line h new Taken = IsTaken line h new
 Steps line h new Ended = IsEnded line h new
 Steps line h new Refused = entry_after h line ≡ None
-
--- why no problem is made of what the lines say: the first column without an upper bound, or want of memory
-abbrev pub IsUnmade : List Entry → MpsError → Type 0
-IsUnmade h Memory = Unit {0}
-IsUnmade h (Fault f) = (j : ℕ) × IsUnbounded h j
-    × (f ≡ fault_at (begins_at h (slice_index_or (columns_of h) j [])) kinds.Unbounded (Some (slice_index_or (columns_of h) j [])))

@@ -1,12 +1,10 @@
-ghost use Rattle.std.specs.Prelude.{◌≡◌, ◌||◌, nat_le, ◌+◌, ◌<◌, ◌^◌, ◌∷◌, List, length, IsNone, IfOk, IfErr, MatchResult, None};
-ghost use Rattle.ug_mps.specs.declared.section.Section.TheVariants.{Endata};
-ghost use Rattle.ug_mps.specs.Entries.{Entry, header};
+ghost use Rattle.std.specs.Prelude.{◌≡◌, ◌||◌, nat_le, ◌+◌, ◌<◌, ◌^◌, List, IsNone, IfOk, IfErr, None};
+ghost use Rattle.ug_mps.specs.Entries.{Entry};
 ghost use Rattle.ug_mps.specs.History.{is_end};
 ghost use Rattle.ug_mps.specs.Said.{entry_said};
 ghost use Rattle.ug_mps.specs.Drafts.{Drafts};
-ghost use Rattle.ug_mps.specs.Stated.{stated};
-ghost use Rattle.ug_mps.specs.Reading.{Steps, IsUnmade};
-ghost use Rattle.ug_mps.specs.Reads.{Reads, IsRefusal, IsBounded, fault_at};
+ghost use Rattle.ug_mps.specs.Reading.{Steps};
+ghost use Rattle.ug_mps.specs.Reads.{Reads, IsRefusal, fault_at};
 
 use crate::draft::Draft;
 use crate::entry::said;
@@ -95,7 +93,7 @@ pub fn read(alloc: Global, text: &[u8], boxed: Option<u32>) -> Result<Problem, M
         let (piece, after) = cut(rest);
         let through = text.len() - after.len();
         match take_line(alloc, &mut draft, content(piece), through)? {
-            Step::Ended => return finish(draft),
+            Step::Ended => return draft.finish(),
             Step::Refused => return Err(fault(lines + 1, Kind::NotYet)),
             Step::Taken => {}
         }
@@ -103,12 +101,4 @@ pub fn read(alloc: Global, text: &[u8], boxed: Option<u32>) -> Result<Problem, M
         lines += 1;
     }
     Err(fault(lines, Kind::NoEnd))
-}
-
-fn finish(draft: Draft) -> Result<Problem, MpsError>
-    ensures { (h : List Entry) → Drafts (header Endata ∷ h) draft
-        → MatchResult result (λ p. IsBounded h × (p ≡ stated h)) (IsUnmade h) }
-{
-    let _draft = draft;
-    Err(MpsError::Memory)
 }
