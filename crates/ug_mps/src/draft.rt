@@ -1,5 +1,6 @@
 mod columns;
 mod latest;
+mod made;
 mod rows;
 
 ghost use Rattle.std.specs.Prelude.{◌≡◌, ◌+◌, ◌<◌, ◌≤◌, ◌^◌, ◌||◌, not, [], ◌∷◌, List, length, All, IsTrue, IfOk, MatchResult};

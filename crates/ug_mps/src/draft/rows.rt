@@ -1,22 +1,20 @@
-ghost use Rattle.std.specs.Prelude.{◌≡◌, ◌+◌, ◌<◌, ◌^◌, pos, [], ◌∷◌, ◌++◌, ◌↔◌, length, Contains, slice_get, slice_set, Some, None, All, map, filter, neg_ℤ, unwrap_or, unsigned_abs, ◌≤◌, true, IsNone, IsTrue, IfSome, IfOk, OnOk, if◌then◌else◌};
-ghost use Rattle.std.specs.Ordering.{int_eq};
+ghost use Rattle.std.specs.Prelude.{◌≡◌, ◌+◌, ◌<◌, ◌^◌, [], ◌∷◌, ◌++◌, ◌↔◌, length, map, filter, All, Contains, slice_set, IsNone, IsTrue, IfSome, IfOk, OnOk};
 ghost use Rattle.std.specs.List.{zip};
-ghost use Rattle.ug_mps.specs.Stated.{signed, signed_terms};
-ghost use Rattle.ug_mps.specs.Finish.{made_row, is_side_row, made_objective, zero_objective, AreSmallTerms, HasSmallTerms};
+ghost use Rattle.ug_mps.specs.Finish.{made_row, is_side_row, made_objective, HasSmallTerms};
 ghost use Rattle.ug_mps.specs.Names.{StandsAt, AreDistinct};
 ghost use Rattle.ug_mps.specs.History.{is_objective};
 ghost use Rattle.ug_mps.specs.RowSteps.{new_row, with_coefficient, with_side, row_at, is_place, fits_rows, PutsCoefficient, PutsSide, PutsCoefficients, PutsSides};
 ghost use Rattle.ug_mps.specs.Said.{pairs_said};
 
+use crate::draft::made::{constant_of, no_objective, row_of, signed_terms};
 use crate::names::Names;
 use crate::said::{NamedNumber, NamedNumbers};
 use crate::section::RowKind;
 use std::alloc::{AllocError, Global};
 use std::marker::Model;
 use std::mem;
-use ug_lists::Text;
 use ug_problem::NamedRow;
-use ug_rows::{Objective, Row, Term, Terms};
+use ug_rows::{Objective, Term, Terms};
 
 // The number of a pair.
 fn number_of(pair: &NamedNumber<'_>) -> i64
@@ -57,82 +55,6 @@ impl RowDraft {
             None => false,
         }
     }
-}
-
-// A row of the problem, with the sides of its kind.
-fn row_of(name: Text, draft: RowDraft) -> NamedRow
-    ensures { result ≡ made_row (name, draft) }
-{
-    let side = i128::from(draft.side.unwrap_or(0));
-    let (low, high) = match draft.kind {
-        RowKind::Objective => (None, None),
-        RowKind::AtMost => (None, Some(side)),
-        RowKind::AtLeast => (Some(side), None),
-        RowKind::Equal => (Some(side), Some(side)),
-    };
-    NamedRow {
-        name,
-        row: Row {
-            terms: draft.terms,
-            low,
-            high,
-        },
-    }
-}
-
-// The objective that the lines do not state: 0.
-fn no_objective(alloc: Global, maximise: bool) -> Objective
-    ensures { result ≡ zero_objective maximise }
-{
-    Objective {
-        terms: Terms::new(alloc),
-        constant: 0,
-        maximise,
-        scale: 0,
-    }
-}
-
-// The term with its factor negated.
-fn negated(term: Term) -> Term
-    requires { unsigned_abs term.factor ≤ 10 ^ 18 }
-    ensures { result ≡ record { column = term.column; factor = neg_ℤ term.factor } }
-{
-    Term {
-        column: term.column,
-        factor: -term.factor,
-    }
-}
-
-// The terms with their factors negated.
-fn all_negated(alloc: Global, terms: &[Term]) -> Result<Vec<Term>, AllocError>
-    requires { AreSmallTerms terms.now }
-    ensures { IfOk result (λ made. made.items ≡ signed_terms true terms.now) }
-{
-    let mut made = Vec::new(alloc);
-    for term in terms {
-        made.push(negated(*term))?;
-    }
-    Ok(made)
-}
-
-// The terms with the sign that minimising wants.
-#[tactic(auto, using(crate::proofs::FinishLemmas::signed_not))]
-fn signed_terms(alloc: Global, terms: Terms, maximise: bool) -> Result<Terms, AllocError>
-    requires { AreSmallTerms terms }
-    ensures { IfOk result (λ made. made ≡ signed_terms maximise terms) }
-{
-    if !maximise {
-        return Ok(terms);
-    }
-    Ok(Terms::from_vec(all_negated(alloc, terms.as_slice())?))
-}
-
-// The constant that a right-hand side is, with the sign that minimising wants.
-fn constant_of(side: Option<i64>, maximise: bool) -> i128
-    ensures { result ≡ signed maximise (neg_ℤ (unwrap_or side (pos 0))) }
-{
-    let side = i128::from(side.unwrap_or(0));
-    if maximise { side } else { -side }
 }
 
 /// The rows so far, with their names.
