@@ -1,0 +1,53 @@
+//! The program `ug`: solves the bounded integer program of an MPS file.
+//! It stands on ug_top.
+//! `main` makes the real objects, a reader of the file and a writer to standard output, and ends with the
+//! status of `run`, whose contract says what was printed. The two adapters keep the contracts of the traits that
+//! they fill, and tell nothing of the bytes.
+#![tactic(auto)]
+
+mod faults;
+mod reader;
+mod writer;
+
+use reader::Reader;
+use std::process::ExitCode;
+use std::rt::Env;
+use std::{env, io};
+use ug_top::{Status, file_of, run};
+use writer::Writer;
+
+// The words behind the program's own name. A word that is not UTF-8 is no command.
+fn words_of<R: Env + AllocGlobal>(rt: &R) -> Result<Vec<String>, Status> {
+    let words = env::args(rt).map_err(|error| status_of(&error))?;
+    match words.skip(1).collect(rt.alloc()) {
+        Ok(words) => Ok(words),
+        Err(_) => Err(Status::Memory),
+    }
+}
+
+// What an error of reading the words comes to.
+fn status_of(error: &io::Error) -> Status {
+    if error.kind() == io::ErrorKind::OutOfMemory {
+        Status::Memory
+    } else {
+        Status::Usage
+    }
+}
+
+// Runs the command, with the file that it names as the source.
+fn solve(rt: &HostRuntime, words: &[String]) -> Status {
+    let mut input = Reader::new(rt, file_of(words).unwrap_or(""));
+    let mut out = Writer::new(io::writer(rt));
+    run(rt, rt.alloc(), words, &mut input, &mut out)
+}
+
+fn main(rt: HostRuntime) -> ExitCode {
+    let status = match words_of(&rt) {
+        Ok(words) => solve(&rt, &words),
+        Err(status) => status,
+    };
+    if status == Status::Usage {
+        let _ = eprintln!(rt; "usage: ug solve FILE");
+    }
+    ExitCode::from(status.code())
+}
