@@ -1,6 +1,6 @@
 -- A text above the limit that ends with a line is decided.
-use Rattle.std.proofs.Common.{◌≡◌, ◌≢◌, ℕ, ◌+◌, ◌-◌, ◌<◌, ◌≤◌, ◌⊎◌, inl, inr, Bool, true, false, cond, List, [], ◌∷◌, ◌++◌, length, take, get_or, Option, Some, None, refl, sym, ap, ◌∙◌, subst, arith, zero, suc, append_assoc, append-nil, lit<}
-use Rattle.std.specs.Prelude.{reverse, ◌==◌, ◌||◌, ◌&&◌, nat_le, option_and_then, if◌then◌else◌}
+use Rattle.std.proofs.Common.{◌≡◌, ℕ, ◌+◌, ◌<◌, inl, inr, Bool, true, false, List, [], ◌∷◌, ◌++◌, length, take, get_or, Some, None, refl, sym, ap, ◌∙◌, subst, arith, zero, suc, append_assoc, append-nil, lit<}
+use Rattle.std.specs.Prelude.{reverse, ◌==◌, ◌||◌, ◌&&◌, nat_le, if◌then◌else◌}
 use Rattle.std.specs.List.{onto_first, concat}
 use Rattle.std.proofs.lemmas.Option.{option_and_then_some}
 use Rattle.std.proofs.lemmas.List.{take-append-le, get_or_append_left, length-append}
@@ -8,7 +8,7 @@ use Rattle.ug_mps.specs.Lines.{Line, pieces, content_of, lines_after, lines_of}
 use Rattle.ug_mps.specs.declared.section.Section.TheVariants.{Name, Objsense, Rows, Columns, Rhs, Bounds, Endata}
 use Rattle.ug_mps.specs.Entries.{Entry, header, sense, row, integers_on, column, integers_off, sides, upper, entry_of}
 use Rattle.ug_mps.specs.History.{history, entry_after, section_of, fits, is_short, is_end}
-use Rattle.ug_mps.specs.Reads.{no_line, Says, Ends, IsNotYet, IsEndless, Reads, FirstFault}
+use Rattle.ug_mps.specs.Reads.{no_line, Says, Ends, IsNotYet, IsEndless, FirstFault}
 use Rattle.std.proofs.lemmas.Bool.Decides.{nat_tests}
 use Rattle.ug_mps.specs.declared.fault.MpsFault.{MpsFault}
 use Rattle.ug_mps.proofs.Outcome.{line_at, says_parts}

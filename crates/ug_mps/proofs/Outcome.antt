@@ -1,20 +1,20 @@
 -- A text has one outcome.
-use Rattle.std.proofs.Common.{◌≡◌, ◌≢◌, ℕ, ℤ, ◌+◌, ◌-◌, ◌<◌, ◌≤◌, ◌⊎◌, inl, inr, Bool, true, false, cond, List, [], ◌∷◌, ◌++◌, length, take, get_or, Option, Some, None, IsSome, refl, sym, ap, ◌∙◌, subst, arith, zero, suc}
+use Rattle.std.proofs.Common.{◌≡◌, ◌≢◌, ℕ, ℤ, ◌+◌, ◌-◌, ◌<◌, ◌≤◌, inl, inr, Bool, true, false, List, [], ◌∷◌, length, take, get_or, Option, Some, None, IsSome, refl, sym, ap, ◌∙◌, subst, arith, zero, suc}
 use Rattle.std.specs.Prelude.{reverse, option_and_then, ◌&&◌, codes, slice_index_or, if◌then◌else◌}
 use Rattle.std.specs.Str.{bytes_eq}
 use Rattle.std.proofs.lemmas.List.{take_more, reverse-append}
-use Rattle.std.proofs.lemmas.Bool.{cases_lt, cases_order}
+use Rattle.std.proofs.lemmas.Bool.{cases_order}
 use Rattle.ug_problem.specs.Instances.{Instance}
 use Rattle.ug_mps.specs.declared.section.Section.{Section}
 use Rattle.ug_mps.specs.declared.section.Section.TheVariants.{Name, Objsense, Rows, Columns, Rhs, Bounds, Endata}
 use Rattle.ug_mps.specs.declared.fault.MpsFault.{MpsFault}
 use Rattle.ug_mps.specs.Lines.{Line, lines_of}
 use Rattle.ug_mps.specs.Words.{is_legible, words_of, are_short}
-use Rattle.ug_mps.specs.Entries.{Entry, header, sense, row, integers_on, column, integers_off, sides, upper, header_of, lone_section, sense_of_word, entry_of, is_data}
+use Rattle.ug_mps.specs.Entries.{Entry, header, header_of, lone_section, sense_of_word, is_data}
 use Rattle.ug_mps.specs.History.{section_of, history, entry_after, fits, is_short, columns_of}
-use Rattle.ug_mps.specs.Stated.{stated, upper_bound}
+use Rattle.ug_mps.specs.Stated.{stated}
 use Rattle.ug_mps.specs.Reads.{no_line, lines_before, Says, Ends, IsBounded, Reads, IsNotYet, IsEndless, IsUnbounded, FirstFault, fault_at, begins_at}
-use Rattle.ug_mps.specs.declared.fault.Kind.TheVariants.{NotYet, NoEnd, Unbounded}
+use Rattle.ug_mps.specs.declared.fault.Kind.TheVariants.{NotYet, Unbounded}
 use Rattle.ug_mps.specs.Laws.{HasOneOutcome}
 
 -- line k

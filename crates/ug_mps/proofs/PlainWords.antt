@@ -1,5 +1,5 @@
 -- What the words of a line guarantee: names are names, and numbers are small.
-use Rattle.std.proofs.Common.{◌≡◌, ◌≢◌, ℕ, ℤ, pos, neg_ℤ, ◌+◌, ◌<◌, ◌≤◌, ◌^◌, ◌≤ℤ◌, zero, suc, T, ◌⊎◌, inl, inr, Bool, true, false, cond, ◌&&◌, ◌||◌, not, List, [], ◌∷◌, length, filter, Option, Some, None, refl, sym, ap, ◌∙◌, subst, arith, nat_le, unsigned_abs, All}
+use Rattle.std.proofs.Common.{◌≡◌, ℕ, ℤ, pos, neg_ℤ, ◌<◌, ◌≤◌, ◌^◌, zero, suc, T, inl, inr, Bool, true, false, cond, ◌&&◌, ◌||◌, not, List, [], ◌∷◌, length, filter, Option, Some, None, refl, sym, subst, arith, nat_le, unsigned_abs}
 use Rattle.std.specs.Prelude.{◌==◌, option_and_then, codes, int_le, if◌then◌else◌}
 use Rattle.std.specs.Option.{option_map}
 use Rattle.std.specs.List.{AllByRecursion, list_all, slice_split, onto_first}
@@ -13,8 +13,8 @@ use Rattle.ug_mps.specs.declared.section.Section.{Section}
 use Rattle.ug_mps.specs.declared.section.Section.TheVariants.{Name, Objsense, Rows, Columns, Rhs, Bounds, Endata}
 use Rattle.ug_mps.specs.declared.section.RowKind.{RowKind}
 use Rattle.ug_mps.specs.Words.{is_blank, is_word_byte, is_legible, words_of, are_short, is_digit, natural_of, number_of, digits_value}
-use Rattle.ug_mps.specs.Entries.{Pair, Entry, header, sense, row, integers_on, column, integers_off, sides, upper, is_data, lone_section, sense_of_word, header_of, kind_of, row_of, pairs_of, marker_of, coefficients_of, column_of, sides_of, upper_within, upper_of, data_of, entry_of}
-use Rattle.ug_mps.specs.Plain.{IsSmallPair, IsBound, IsColumnEntry, IsPlainEntry}
+use Rattle.ug_mps.specs.Entries.{Pair, Entry, header, row, column, sides, upper, is_data, lone_section, sense_of_word, header_of, kind_of, row_of, pairs_of, marker_of, coefficients_of, column_of, sides_of, upper_within, upper_of, data_of, entry_of}
+use Rattle.ug_mps.specs.Plain.{IsSmallPair, IsPlainEntry}
 use Rattle.ug_mps.proofs.Digits.{both, value-small}
 
 -- what is said of an entry, if there is one

@@ -1,5 +1,5 @@
 -- One line more is read.
-use Rattle.std.proofs.Common.{◌≡◌, ◌≢◌, ℕ, ◌+◌, ◌-◌, ◌<◌, ◌≤◌, ◌⊎◌, inl, inr, Bool, true, false, cond, ◌&&◌, ◌||◌, List, [], ◌∷◌, ◌++◌, length, take, get_or, Option, Some, None, refl, sym, ap, ◌∙◌, subst, arith, nat_le, append_assoc, append-nil}
+use Rattle.std.proofs.Common.{◌≡◌, ◌≢◌, ℕ, ◌+◌, ◌-◌, ◌<◌, inl, inr, Bool, true, false, ◌&&◌, List, [], ◌∷◌, ◌++◌, length, take, get_or, Option, Some, None, refl, sym, ap, ◌∙◌, subst, arith, append_assoc, append-nil}
 use Rattle.std.specs.Prelude.{reverse, option_and_then, if◌then◌else◌}
 use Rattle.std.proofs.lemmas.List.{take_at, get_or_at, reverse-append, length-append}
 use Rattle.ug_mps.specs.declared.section.Section.TheVariants.{Name, Objsense, Rows, Columns, Rhs, Bounds, Endata}
@@ -8,7 +8,7 @@ use Rattle.ug_mps.specs.Lines.{Line, pieces, content_of, lines_after, lines_of}
 use Rattle.ug_mps.specs.Entries.{Entry, header, sense, row, integers_on, column, integers_off, sides, upper, entry_of}
 use Rattle.ug_mps.specs.History.{section_of, history, entry_after, fits, is_short, is_end}
 use Rattle.ug_mps.specs.Drafts.{Drafts}
-use Rattle.ug_mps.specs.Reading.{HasTaken, IsReading, IsTaken, IsEnded}
+use Rattle.ug_mps.specs.Reading.{HasTaken, IsEnded}
 use Rattle.std.specs.Prelude.{Result, Ok, Err, IfOk, IfErr, MatchResult}
 use Rattle.std.specs.Option.{option_map}
 use Rattle.ug_problem.specs.Instances.{Instance}

@@ -1,18 +1,13 @@
 -- How far the reader has come, and what a step of it does.
-use Rattle.std.specs.Prelude.{◌≡◌, ◌≢◌, ℕ, ◌+◌, ◌-◌, ◌≤◌, Bool, true, false, List, [], ◌∷◌, ◌++◌, length, reverse, slice_index_or, Option, Some, None}
-use Rattle.ug_problem.specs.Instances.{Instance}
+use Rattle.std.specs.Prelude.{◌≡◌, ◌≢◌, ℕ, ◌+◌, ◌-◌, ◌≤◌, false, List, ◌∷◌, ◌++◌, length, reverse, Some, None}
 use Rattle.ug_mps.specs.declared.section.Section.TheVariants.{Endata}
-use Rattle.ug_mps.specs.declared.fault.Kind.TheVariants as kinds
-use Rattle.ug_mps.specs.declared.fault.MpsError.{MpsError}
-use Rattle.ug_mps.specs.declared.fault.MpsError.TheVariants.{Memory, Fault}
 use Rattle.ug_mps.specs.declared.draft.Draft.{Draft}
 use Rattle.ug_mps.specs.declared.reading.Step.{Step}
 use Rattle.ug_mps.specs.declared.reading.Step.TheVariants.{Taken, Ended, Refused}
 use Rattle.ug_mps.specs.Lines.{Line, pieces, lines_after, lines_of}
 use Rattle.ug_mps.specs.Entries.{Entry, header}
-use Rattle.ug_mps.specs.History.{section_of, history, entry_after, columns_of, is_end}
+use Rattle.ug_mps.specs.History.{section_of, history, entry_after, is_end}
 use Rattle.ug_mps.specs.Drafts.{Drafts}
-use Rattle.ug_mps.specs.Reads.{IsUnbounded, begins_at, fault_at}
 
 -- k lines of the text were taken and say h, the rest is left, and none of them is ENDATA
 pub record HasTaken (text rest : List ℕ) (k : ℕ) (h : List Entry) : Type 0 where

@@ -1,5 +1,5 @@
 -- The sum of the ends of a box bounds the sum at each point of it, and is reached at one.
-use Rattle.std.proofs.Common.{◌≡◌, ◌≢◌, ℕ, zero, suc, ◌+◌, ◌*◌, ◌<◌, ◌≤◌, ℤ, pos, negsuc, ◌+ℤ◌, ◌*ℤ◌, ◌≤ℤ◌, List, [], ◌∷◌, length, get_or, map, set, refl, sym, ap, ◌∙◌, subst, inl, inr, arith}
+use Rattle.std.proofs.Common.{◌≡◌, ◌≢◌, ℕ, suc, ◌*◌, ◌<◌, ◌≤◌, ℤ, pos, negsuc, ◌+ℤ◌, ◌*ℤ◌, ◌≤ℤ◌, List, [], ◌∷◌, length, map, set, refl, sym, ap, ◌∙◌, subst, inl, inr, arith}
 use Rattle.std.proofs.Math.Nat.{mul-le-mul_left}
 use Rattle.std.proofs.lemmas.Int.{ints}
 use Rattle.std.proofs.lemmas.Bool.{cases_eq}
@@ -9,8 +9,8 @@ use Rattle.ug_rows.specs.declared.row.Term.{Term}
 use Rattle.ug_rows.specs.declared.sums.Extreme.{Extreme}
 use Rattle.ug_rows.specs.declared.sums.Extreme.TheVariants.{Least, Greatest}
 use Rattle.ug_rows.specs.Boxes.{IsInside, IsWithin, IsNonEmpty, interval_at, no_interval, value_at}
-use Rattle.ug_rows.specs.Rows.{IsLinear, no_term, term_at, sum_at}
-use Rattle.ug_rows.specs.Sums.{IsBound, end_of, end_product, end_sum}
+use Rattle.ug_rows.specs.Rows.{IsLinear, term_at, sum_at}
+use Rattle.ug_rows.specs.Sums.{IsBound, end_of, end_sum}
 
 -- a factor of at least 0 keeps an order
 pub mul_pos : (n : ℕ) (a b : ℤ) → a ≤ℤ b → (pos n *ℤ a) ≤ℤ (pos n *ℤ b)

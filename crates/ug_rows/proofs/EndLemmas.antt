@@ -1,14 +1,12 @@
 -- The least and the greatest sum of terms over a box: they bound the sum at each point of it, and are reached.
-use Rattle.std.proofs.Common.{◌≡◌, ◌≢◌, ℕ, zero, suc, ◌+◌, ◌<◌, ◌≤◌, ◌^◌, ◌*◌, ℤ, pos, negsuc, ◌+ℤ◌, ◌*ℤ◌, ◌≤ℤ◌, List, [], ◌∷◌, ◌++◌, length, get_or, take, map, slice_set, refl, sym, ◌∙◌, arith, unsigned_abs}
+use Rattle.std.proofs.Common.{◌≡◌, ℕ, ◌+◌, ◌<◌, ◌+ℤ◌, List, [], ◌∷◌, ◌++◌, length, take, arith}
 use Rattle.std.proofs.lemmas.Int.{ints}
-use Rattle.std.proofs.lemmas.List.{take_more, get_or-set_other, get_or-set_same, length-set}
+use Rattle.std.proofs.lemmas.List.{take_more}
 use Rattle.ug_rows.specs.declared.area.Interval.{Interval}
 use Rattle.ug_rows.specs.declared.row.Term.{Term}
 use Rattle.ug_rows.specs.declared.sums.Extreme.{Extreme}
-use Rattle.ug_rows.specs.declared.sums.Extreme.TheVariants.{Least, Greatest}
-use Rattle.ug_rows.specs.Boxes.{IsInside, IsWithin, IsNonEmpty, interval_at, value_at}
-use Rattle.ug_rows.specs.Rows.{IsLinear, no_term, term_at, sum_at}
-use Rattle.ug_rows.specs.Sums.{IsBound, end_of, end_product, end_sum}
+use Rattle.ug_rows.specs.Rows.{no_term, term_at}
+use Rattle.ug_rows.specs.Sums.{end_product, end_sum}
 
 -- one term more
 end_sum-push : (e : Extreme) (ts : List Term) (t : Term) (area : List Interval)

@@ -1,11 +1,11 @@
 -- How the work ends: what a text comes to, all the bytes come to.
-use Rattle.std.proofs.Common.{◌≡◌, ℕ, ◌+◌, ◌-◌, ◌^◌, ◌<◌, ◌≤◌, ◌⊎◌, inl, inr, List, [], ◌∷◌, ◌++◌, length, Option, Some, None, IfSome, refl, sym, ap, ◌∙◌, subst, arith}
+use Rattle.std.proofs.Common.{◌≡◌, ℕ, ◌<◌, ◌⊎◌, inl, inr, List, length, Option, Some, None, IfSome, refl, sym, ◌∙◌, subst, arith}
 use Rattle.ug_problem.specs.Instances.{Instance}
 use Rattle.ug_mps.specs.declared.fault.MpsFault.{MpsFault}
 use Rattle.ug_mps.specs.Reads.{Reads, FirstFault}
 use Rattle.ug_mps.specs.Laws.{HasOneOutcome, IsDecided, EndsLine}
-use Rattle.ug_top.specs.Outside.{Rose, IsCalm, IsEnough, IsLineBehind}
-use Rattle.ug_top.specs.Ends.{status_of, text_of, AreEndLines, IsEndOf, IsTold, IsSolved}
+use Rattle.ug_top.specs.Outside.{Rose, IsCalm, IsEnough}
+use Rattle.ug_top.specs.Ends.{status_of, AreEndLines, IsEndOf, IsTold, IsSolved}
 use Rattle.ug_top.specs.declared.status.Status.{Status}
 use Rattle.ug_top.specs.declared.status.Status.TheVariants as statuses
 use Rattle.ug_top.specs.declared.running.End.{End}

@@ -1,5 +1,5 @@
 -- A look at a box, and the search as a whole.
-use Rattle.std.proofs.Common.{◌≡◌, ◌≢◌, ℕ, ℤ, pos, ◌-ℤ◌, ◌+ℤ◌, ◌+◌, ◌^◌, ◌<◌, ◌≤ℤ◌, ◌<ℤ◌, ◌⊎◌, inl, inr, List, [], ◌∷◌, ◌++◌, length, set, Option, Some, None, IfSome, subst, sym, ap, ◌∙◌, arith}
+use Rattle.std.proofs.Common.{◌≡◌, ℕ, ℤ, pos, ◌+ℤ◌, ◌<◌, ◌≤ℤ◌, ◌<ℤ◌, inl, inr, List, [], ◌∷◌, ◌++◌, length, set, Option, Some, None, IfSome, subst, sym, ap, ◌∙◌, arith}
 use Rattle.std.proofs.lemmas.List.{length-set, length-map}
 use Rattle.std.proofs.lemmas.Int.{ints, by_lt_z}
 use Rattle.ug_rows.specs.declared.area.Interval.{Interval}
@@ -10,9 +10,9 @@ use Rattle.ug_problem.specs.Limits.{IsProblem}
 use Rattle.ug_problem.proofs.Linear.{linear_row, linear_objective}
 use Rattle.ug_problem.specs.Feasible.{Feasible, Better}
 use Rattle.ug_problem.specs.Right.{IsOptimal}
-use Rattle.ug_top.specs.Search.{IsInOne, AreWide, Covered, lows_of, IsClosed, IsOpen, AreHalves, span_of, weight_of, IsHalved, IsLess, IsConsidered, IsLookedAt}
-use Rattle.ug_top.proofs.Boxes.{in_one_front, in_one_push, in_one_split, wide_push, wide_split, in_a_half, closed_point}
-use Rattle.ug_top.proofs.Weights.{lower_half, upper_half, weight_halves, weight_dropped, weight_push}
+use Rattle.ug_top.specs.Search.{Covered, lows_of, IsClosed, IsOpen, AreHalves, IsHalved, IsLess, IsConsidered, IsLookedAt}
+use Rattle.ug_top.proofs.Boxes.{in_one_front, in_one_push, in_one_split, wide_push, in_a_half, closed_point}
+use Rattle.ug_top.proofs.Weights.{lower_half, upper_half, weight_halves, weight_dropped}
 
 -- the halves of column c at m, pushed
 pub halved : (area : List Interval) (c : ℕ) (m : ℤ) (left : List (List Interval)) → IsOpen area c

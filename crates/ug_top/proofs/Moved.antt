@@ -1,5 +1,5 @@
 -- Bytes that went to a sink or came from a source, in two calls.
-use Rattle.std.proofs.Common.{◌≡◌, ℕ, List, [], ◌∷◌, ◌++◌, Option, Some, None, length, take, drop, refl, ap, sym, ◌∙◌, append_assoc, append-nil, take-append-drop}
+use Rattle.std.proofs.Common.{◌≡◌, ℕ, List, [], ◌∷◌, ◌++◌, Option, Some, None, take, drop, refl, ap, sym, ◌∙◌, append_assoc, append-nil, take-append-drop}
 use Rattle.std.specs.Option.{option_map}
 use Rattle.std.proofs.Common.{◌+◌, IfSome, subst, inl, inr, arith}
 use Rattle.std.proofs.lemmas.List.{take_more, length-take-le}

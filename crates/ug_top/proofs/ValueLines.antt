@@ -1,5 +1,5 @@
 -- The lines of the columns from one on.
-use Rattle.std.proofs.Common.{◌≡◌, ℕ, ℤ, pos, ◌+◌, ◌<◌, List, [], ◌∷◌, ◌++◌, length, get_or, drop, refl, arith}
+use Rattle.std.proofs.Common.{◌≡◌, ℕ, ℤ, pos, ◌+◌, ◌<◌, List, ◌++◌, length, get_or, drop, refl, arith}
 use Rattle.std.proofs.lemmas.List.{drop_more}
 use Rattle.ug_problem.specs.declared.column.Column.{Column}
 use Rattle.ug_top.specs.Printed.{value_part, value_lines}

@@ -1,5 +1,5 @@
 -- What is said of the outside: bytes that come and go, where they are told, and a count of faults.
-use Rattle.std.specs.Prelude.{◌≡◌, ℕ, ◌+◌, ◌-◌, ◌<◌, ◌≤◌, ◌^◌, ◌⊎◌, List, [], ◌∷◌, ◌++◌, length, slice_index, Option, IfSome}
+use Rattle.std.specs.Prelude.{◌≡◌, ℕ, ◌-◌, ◌<◌, ◌≤◌, ◌^◌, ◌⊎◌, List, [], ◌∷◌, ◌++◌, length, slice_index, Option, IfSome}
 use Rattle.std.specs.Option.{option_map}
 
 -- the count of faults rose; one that stands at its greatest value counts as risen

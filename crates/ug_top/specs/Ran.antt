@@ -1,5 +1,5 @@
 -- What a run did, by its status.
-use Rattle.std.specs.Prelude.{◌≡◌, ◌≢◌, ℕ, List, [], ◌∷◌, ◌++◌, Option, IfSome, codes}
+use Rattle.std.specs.Prelude.{◌≡◌, ℕ, List, [], Option, IfSome, codes}
 use Rattle.ug_problem.specs.Instances.{Instance}
 use Rattle.ug_problem.specs.Right.{Right}
 use Rattle.ug_problem.specs.declared.answer.Answer.{Answer}

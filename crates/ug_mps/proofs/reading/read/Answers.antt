@@ -1,9 +1,8 @@
-use Rattle.std.proofs.Common.{◌≡◌, ◌+◌, ◌-◌, None, List, [], ◌∷◌, length, refl, sym, ap, ◌∙◌, subst, arith}
+use Rattle.std.proofs.Common.{◌≡◌, ◌-◌, None, ◌∷◌, length, ap, subst, arith}
 use Rattle.std.proofs.lemmas.List.{nil_from_length}
 use Rattle.std.proofs.lemmas.Bool.Decides.{nat_tests}
-use Rattle.ug_mps.specs.Lines.{Line}
 use Rattle.ug_mps.specs.History.{entry_after}
-use Rattle.ug_mps.specs.Reading.{Steps, IsReading, IsTaken, IsEnded}
+use Rattle.ug_mps.specs.Reading.{Steps, IsTaken, IsEnded}
 use Rattle.ug_mps.proofs.ReadLemmas.{record_line, ended_next, refused_next, taken_more, finish_reads, finish_refuses, refused_is, endless_is}
 use Rattle.ug_mps.proofs.reading.read.Goals as goal
 

@@ -1,6 +1,5 @@
-use Rattle.std.proofs.Common.{◌≡◌, true, false, ◌||◌, nat_le, MatchBool, List, ◌∷◌, refl, sym, ap, ◌∙◌, subst}
+use Rattle.std.proofs.Common.{◌≡◌, true, false, ◌||◌, nat_le, MatchBool, ◌∷◌, refl, sym, ap, ◌∙◌, subst}
 use Rattle.ug_mps.specs.Said.{entry_said}
-use Rattle.ug_mps.specs.Entries.{Entry}
 use Rattle.ug_mps.specs.History.{fits, section_of}
 use Rattle.ug_mps.specs.Drafts.{Drafts}
 use Rattle.ug_mps.proofs.PlainWords.{plain_entry}

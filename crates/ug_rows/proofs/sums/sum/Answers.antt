@@ -1,4 +1,4 @@
-use Rattle.std.proofs.Common.{◌≤◌, ◌^◌, length, arith}
+use Rattle.std.proofs.Common.{length, arith}
 use Rattle.ug_rows.proofs.SumLemmas.{few_terms}
 use Rattle.ug_rows.proofs.sums.sum.Goals as goal
 
