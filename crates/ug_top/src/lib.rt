@@ -20,3 +20,6 @@ pub use memory::{MemorySink, MemorySource, Script, ScriptedSource};
 pub use outside::{Failed, Sink, Source};
 pub use running::run;
 pub use status::Status;
+
+#[cfg(test)]
+mod tests;

@@ -7,6 +7,7 @@ use crate::outside::{Failed, Sink, Source};
 use std::alloc::Global;
 
 /// Bytes in memory as a source. It never fails.
+#[derive(Debug, Drop)]
 pub struct MemorySource<'a> {
     pub rest: &'a [u8],
 }
@@ -90,6 +91,7 @@ impl Script {
 }
 
 /// Bytes in memory as a source, which fails where its script says.
+#[derive(Debug, Drop)]
 pub struct ScriptedSource<'a> {
     pub rest: &'a [u8],
     pub script: Script,
