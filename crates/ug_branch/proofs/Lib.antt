@@ -1,0 +1,4 @@
+pub mod NumberLemmas
+pub mod ChoiceLemmas
+pub mod HalfLemmas
+pub mod MiddleLemmas
