@@ -1,1 +1,3 @@
 pub mod Quotients
+pub mod Parts
+pub mod Terms
