@@ -1,3 +1,5 @@
 pub mod Quotients
 pub mod Parts
 pub mod Terms
+pub mod Looks
+pub mod Sweeps

@@ -1,0 +1,2 @@
+-- What rounds do to a box.
+use Rattle.std.proofs.Common.{◌≡◌}
