@@ -3,3 +3,5 @@ pub mod Parts
 pub mod Terms
 pub mod Looks
 pub mod Sweeps
+pub mod Fixed
+pub mod Answers
