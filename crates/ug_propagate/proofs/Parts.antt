@@ -72,7 +72,7 @@ inside_set area x j side i there w = record {
   ];
 }
 
-if_bool : {A : Type 0} (P : A → Type 0) (v : Bool) (x y : A) → (T v → P x) → (T (not v) → P y) → P (if v then x else y)
+pub if_bool : {A : Type 0} (P : A → Type 0) (v : Bool) (x y : A) → (T v → P x) → (T (not v) → P y) → P (if v then x else y)
 if_bool P true x y f g = f tt
 if_bool P false x y f g = g tt
 
