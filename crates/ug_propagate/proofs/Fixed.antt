@@ -123,7 +123,7 @@ look_same : (name : Option ℕ) (row : Row) (area : List Interval) (o : Tight) �
 look_same name row area (Kept left) fixed h = part_of_fixed left area h fixed
 look_same name row area (Empty reason) fixed h = tt
 
-empty_rows : (r : ℕ) (rest : List NamedRow) (reason : Reason) → over_rows r rest (Empty reason) ≡ Empty reason
+pub empty_rows : (r : ℕ) (rest : List NamedRow) (reason : Reason) → over_rows r rest (Empty reason) ≡ Empty reason
 empty_rows r [] reason = refl
 empty_rows r (named ∷ rest) reason = empty_rows (r + 1) rest reason
 

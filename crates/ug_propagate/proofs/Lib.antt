@@ -5,3 +5,4 @@ pub mod Looks
 pub mod Sweeps
 pub mod Fixed
 pub mod Answers
+pub mod Bodies

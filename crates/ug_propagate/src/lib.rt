@@ -4,7 +4,12 @@
 //! with a value below the cutoff is left, and where nothing is left it names the row that shows it.
 #![tactic(auto)]
 
+mod ends;
+mod propagation;
 mod quotient;
+mod rounds;
+mod step;
 mod tight;
 
 pub use tight::{Reason, Side, Tight};
+pub use propagation::tighten;
