@@ -1,5 +1,5 @@
 -- What bound propagation says of the points of a box, proved of what it makes.
-use Rattle.std.proofs.Common.{◌≡◌, refl, sym, subst, ◌∙◌, ap, ◌⊎◌, inl, inr, ℕ, zero, suc, ◌<◌, ℤ, pos, ◌+ℤ◌, ◌-ℤ◌, ◌≤ℤ◌, ◌<ℤ◌, Bool, true, false, not, T, List, [], ◌∷◌, length, slice_index_or, Option, Some, None, IfSome, if◌then◌else◌, arith}
+use Rattle.std.proofs.Common.{◌≡◌, refl, sym, subst, ◌∙◌, ap, ◌⊎◌, inl, inr, ℕ, zero, suc, ◌<◌, ℤ, pos, ◌+ℤ◌, ◌-ℤ◌, ◌≤ℤ◌, ◌<ℤ◌, Bool, true, false, not, T, List, [], ◌∷◌, length, slice_index_or, Option, Some, None, IfSome, if◌then◌else◌, Result, Ok, Err, IfOk, arith}
 use Rattle.std.proofs.lemmas.Int.{ints}
 use Rattle.std.proofs.lemmas.List.{length-map}
 use Rattle.ug_rows.specs.declared.area.Interval.{Interval}
@@ -221,3 +221,8 @@ rounds_solve p cutoff area problem wide =
     (λ c. crossed_solved p p.rows cutoff area refl)
     (λ n. last_solved p cutoff area (rounds_of 32 p cutoff (Kept area)) problem wide
     (rounds_sweep 32 p cutoff area (Kept area) problem wide (part_same area (nonempty_from area n))))
+
+-- what holds of this value holds of an answer that is this value
+pub told_since : {E : Type 0} (P : Tight → Type 0) (t : Tight) (r : Result Tight E) → P t → IfOk r (λ (o : Tight). o ≡ t) → IfOk r P
+told_since P t (Ok o) h e = subst P (sym e) h
+told_since P t (Err e) h k = k

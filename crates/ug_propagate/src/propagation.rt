@@ -3,7 +3,7 @@ ghost use Rattle.ug_propagate.specs.Claims.{HasReason, IsLeftOf, IsSolved, Keeps
 ghost use Rattle.ug_propagate.specs.Rounds.{crossed, last_round, rounds, rounds_of};
 ghost use Rattle.ug_propagate.specs.declared.tight.Tight.TheVariants.{Kept};
 
-use crate::rounds::{has_point, is_fixed, run_round, run_rounds};
+use crate::rounds::{has_point, run_all};
 use crate::tight::{Reason, Side, Tight};
 use std::alloc::{AllocError, Global};
 use ug_problem::Problem;
@@ -25,23 +25,17 @@ fn told_of_crossed(alloc: Global, problem: &Problem, cutoff: Option<i128>, area:
 }
 
 // The rounds of a box that has a point.
-#[tactic(auto, using(crate::proofs::Bodies::last_fixed, crate::proofs::Bodies::last_open))]
 fn tighten_sides(alloc: Global, problem: &Problem, cutoff: Option<i128>, area: &[Interval]) -> Result<Tight, AllocError>
     requires width { length area.now ≡ length problem.now.columns }
     requires cutoff { IfSome cutoff (λ c. unsigned_abs c ≤ 2 * 10 ^ 37) }
     ensures { IfOk result (λ t. t ≡ last_round problem.now cutoff (rounds_of 32 problem.now cutoff (Kept area.now))) }
 {
     let mut sides = Vec::from_slice(alloc, area)?;
-    if let Some(reason) = run_rounds(alloc, problem, cutoff, sides.as_mut_slice())? {
-        return Ok(Tight::Empty(reason));
+    let told = run_all(alloc, problem, cutoff, sides.as_mut_slice())?;
+    match told {
+        Some(reason) => Ok(Tight::Empty(reason)),
+        None => Ok(Tight::Kept(IntBox::from_vec(sides))),
     }
-    if !is_fixed(sides.as_slice()) {
-        return Ok(Tight::Kept(IntBox::from_vec(sides)));
-    }
-    if let Some(reason) = run_round(problem, cutoff, sides.as_mut_slice()) {
-        return Ok(Tight::Empty(reason));
-    }
-    Ok(Tight::Kept(IntBox::from_vec(sides)))
 }
 
 #[tactic(auto, using(crate::proofs::Bodies::rounds_some, crate::proofs::Bodies::rounds_none))]

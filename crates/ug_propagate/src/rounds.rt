@@ -1,5 +1,5 @@
 ghost use Rattle.std.specs.Prelude.{◌≡◌, ◌≤◌, ◌*◌, ◌^◌, ◌↔◌, length, unsigned_abs, IfSome, IfOk, IsTrue};
-ghost use Rattle.ug_propagate.specs.Rounds.{over_objective, over_rows, round, rounds_of};
+ghost use Rattle.ug_propagate.specs.Rounds.{last_round, over_objective, over_rows, round, rounds_of};
 ghost use Rattle.ug_rows.specs.Boxes.{IsNonEmpty};
 ghost use Rattle.ug_propagate.specs.Claims.{IsFixed};
 ghost use Rattle.ug_propagate.specs.Steps.{outcome_of};
@@ -14,7 +14,7 @@ use ug_rows::Interval;
 const MOST_ROUNDS: u32 = 32;
 
 // The rows in order.
-#[tactic(auto, using(crate::proofs::Bodies::ready_row))]
+#[tactic(auto, using(crate::proofs::Bodies::ready_row, crate::proofs::Fixed::empty_rows))]
 fn tighten_rows(problem: &Problem, area: &mut [Interval]) -> Option<Reason>
     requires { length area.old ≡ length problem.now.columns }
     ensures { outcome_of result area.new ≡ over_rows 0 problem.now.rows (Kept area.old) }
@@ -52,9 +52,9 @@ fn tighten_objective(problem: &Problem, cutoff: Option<i128>, area: &mut [Interv
     tighten_row(look, objective.terms.as_slice(), area)
 }
 
-/// One round: the rows, then the objective.
+// One round: the rows, then the objective.
 #[tactic(auto, using(crate::proofs::Bodies::round_empty, crate::proofs::Bodies::round_kept))]
-pub fn run_round(problem: &Problem, cutoff: Option<i128>, area: &mut [Interval]) -> Option<Reason>
+fn run_round(problem: &Problem, cutoff: Option<i128>, area: &mut [Interval]) -> Option<Reason>
     requires width { length area.old ≡ length problem.now.columns }
     requires cutoff { IfSome cutoff (λ c. unsigned_abs c ≤ 2 * 10 ^ 37) }
     ensures { outcome_of result area.new ≡ round problem.now cutoff (Kept area.old) }
@@ -66,7 +66,6 @@ pub fn run_round(problem: &Problem, cutoff: Option<i128>, area: &mut [Interval])
 }
 
 // Whether two boxes are the same.
-#[tactic(auto, using(std::proofs::lemmas::List::ext_get_or))]
 fn are_same(left: &[Interval], right: &[Interval]) -> bool
     requires { length left.now ≡ length right.now }
     ensures { IsTrue result → left.now ≡ right.now }
@@ -79,8 +78,8 @@ fn are_same(left: &[Interval], right: &[Interval]) -> bool
     true
 }
 
-/// At most 32 rounds, until one changes nothing.
-pub fn run_rounds(
+// At most 32 rounds, until one changes nothing.
+fn run_rounds(
     alloc: Global,
     problem: &Problem,
     cutoff: Option<i128>,
@@ -103,8 +102,8 @@ pub fn run_rounds(
     Ok(None)
 }
 
-/// Whether each column has one value.
-pub fn is_fixed(area: &[Interval]) -> bool
+// Whether each column has one value.
+fn is_fixed(area: &[Interval]) -> bool
     ensures { IsTrue result ↔ IsFixed area.now }
 {
     for j in 0..area.len() {
@@ -113,6 +112,37 @@ pub fn is_fixed(area: &[Interval]) -> bool
         }
     }
     true
+}
+
+// One more round, where all columns are fixed.
+#[tactic(auto, using(crate::proofs::Bodies::last_fixed, crate::proofs::Bodies::last_open))]
+fn run_last(problem: &Problem, cutoff: Option<i128>, area: &mut [Interval]) -> Option<Reason>
+    requires width { length area.old ≡ length problem.now.columns }
+    requires cutoff { IfSome cutoff (λ c. unsigned_abs c ≤ 2 * 10 ^ 37) }
+    ensures { outcome_of result area.new ≡ last_round problem.now cutoff (Kept area.old) }
+{
+    if is_fixed(area) {
+        run_round(problem, cutoff, area)
+    } else {
+        None
+    }
+}
+
+/// At most 32 rounds, and one more where all columns are fixed.
+pub fn run_all(
+    alloc: Global,
+    problem: &Problem,
+    cutoff: Option<i128>,
+    area: &mut [Interval],
+) -> Result<Option<Reason>, AllocError>
+    requires width { length area.old ≡ length problem.now.columns }
+    requires cutoff { IfSome cutoff (λ c. unsigned_abs c ≤ 2 * 10 ^ 37) }
+    ensures { IfOk result (λ told. outcome_of told area.new ≡ last_round problem.now cutoff (rounds_of 32 problem.now cutoff (Kept area.old))) }
+{
+    if let Some(reason) = run_rounds(alloc, problem, cutoff, area)? {
+        return Ok(Some(reason));
+    }
+    Ok(run_last(problem, cutoff, area))
 }
 
 /// Whether no column has its low above its high.
