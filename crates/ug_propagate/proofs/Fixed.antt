@@ -80,9 +80,9 @@ crossed_more side sides h = (suc h.0, omega (arith, h.1), h.2)
 pub crossed_from : (area : List Interval) → T (are_crossed area) → IsCrossed area
 crossed_from [] h = absurd h
 crossed_from (side ∷ sides) h = elim (or_either (int_lt side.high side.low) (are_crossed sides) h) [
-    | inl first ↦ (0, omega arith, lt_z_yes first)
-    | inr later ↦ crossed_more side sides (crossed_from sides later)
-  ]
+  | inl first ↦ (0, omega arith, lt_z_yes first)
+  | inr later ↦ crossed_more side sides (crossed_from sides later)
+]
 
 pub nonempty_from : (area : List Interval) → T (not (are_crossed area)) → IsNonEmpty area
 nonempty_from [] h j there = absurd (omega arith)

@@ -6,3 +6,4 @@ pub mod Sweeps
 pub mod Fixed
 pub mod Answers
 pub mod Bodies
+pub mod Replaced

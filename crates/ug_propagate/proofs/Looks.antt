@@ -38,9 +38,12 @@ of_more width u terms (t ∷ rest) h = (inr h.0, h.1, h.2, of_more width u terms
 of_itself : (width : ℕ) (terms : List Term) → AreThere width terms
     → ((k : ℕ) → k < length terms → (term_at terms k).factor ≢ pos 0) → AreOf width terms terms
 of_itself width [] there nonzero = tt
-of_itself width (t ∷ terms) there nonzero =
-    (inl refl, there.0, nonzero 0 (omega arith),
-    of_more width t terms terms (of_itself width terms there.1 (λ k lt. nonzero (suc k) (omega arith))))
+of_itself width (t ∷ terms) there nonzero = (
+  inl refl,
+  there.0,
+  nonzero 0 (omega arith),
+  of_more width t terms terms (of_itself width terms there.1 (λ k lt. nonzero (suc k) (omega arith))),
+)
 
 pub usable_terms : (width : ℕ) (terms : List Term) → IsLinear width terms
     → ((k : ℕ) → k < length terms → (term_at terms k).factor ≢ pos 0) → IsUsable width terms

@@ -44,13 +44,13 @@ part_set area j side n there closed = record {
   width = length-set area j side;
   each = λ k within. elim (cases_eq k j) [
     | inl e ↦
-      let at : interval_at (set area j side) j ≡ side = get_or-set_same area j side no_interval there in
-      let P : Interval → Type 0 = λ (s : Interval). IsClosedWithin s (interval_at area j) in
-      let Q : ℕ → Type 0 = λ (i : ℕ). IsClosedWithin (interval_at (set area j side) i) (interval_at area i) in
-      subst Q (sym e) (subst P (sym at) closed)
+        let at : interval_at (set area j side) j ≡ side = get_or-set_same area j side no_interval there in
+        let P : Interval → Type 0 = λ (s : Interval). IsClosedWithin s (interval_at area j) in
+        let Q : ℕ → Type 0 = λ (i : ℕ). IsClosedWithin (interval_at (set area j side) i) (interval_at area i) in
+        subst Q (sym e) (subst P (sym at) closed)
     | inr ne ↦
-      let P : Interval → Type 0 = λ (s : Interval). IsClosedWithin s (interval_at area k) in
-      subst P (sym (get_or-set_other area j k side no_interval ne)) (closed_same (interval_at area k) (n k within))
+        let P : Interval → Type 0 = λ (s : Interval). IsClosedWithin s (interval_at area k) in
+        subst P (sym (get_or-set_other area j k side no_interval ne)) (closed_same (interval_at area k) (n k within))
   ];
 }
 
@@ -61,14 +61,14 @@ inside_set area x j side i there w = record {
   width = i.width ∙ sym (length-set area j side);
   each = λ k within. elim (cases_eq k j) [
     | inl e ↦
-      let at : interval_at (set area j side) j ≡ side = get_or-set_same area j side no_interval there in
-      let P : Interval → Type 0 = λ (s : Interval). IsWithin s (value_at x j) in
-      let Q : ℕ → Type 0 = λ (i : ℕ). IsWithin (interval_at (set area j side) i) (value_at x i) in
-      subst Q (sym e) (subst P (sym at) w)
+        let at : interval_at (set area j side) j ≡ side = get_or-set_same area j side no_interval there in
+        let P : Interval → Type 0 = λ (s : Interval). IsWithin s (value_at x j) in
+        let Q : ℕ → Type 0 = λ (i : ℕ). IsWithin (interval_at (set area j side) i) (value_at x i) in
+        subst Q (sym e) (subst P (sym at) w)
     | inr ne ↦
-      let P : Interval → Type 0 = λ (s : Interval). IsWithin s (value_at x k) in
-      subst P (sym (get_or-set_other area j k side no_interval ne))
-      (i.each k (omega (arith, length-set area j side)))
+        let P : Interval → Type 0 = λ (s : Interval). IsWithin s (value_at x k) in
+        subst P (sym (get_or-set_other area j k side no_interval ne))
+        (i.each k (omega (arith, length-set area j side)))
   ];
 }
 

@@ -1,5 +1,5 @@
 -- Quotients of whole numbers, rounded down and up.
-use Rattle.std.proofs.Common.{◌≡◌, ◌≢◌, ◌∙◌, sym, ap, ℕ, zero, suc, ◌+◌, ◌*◌, ◌/◌, ◌%◌, ◌<◌, ◌≤◌, ℤ, pos, negsuc, ◌+ℤ◌, ◌*ℤ◌, ◌≤ℤ◌, ◌<ℤ◌, neg_ℤ, unsigned_abs, arith}
+use Rattle.std.proofs.Common.{◌≡◌, ◌≢◌, ◌∙◌, refl, subst, sym, ap, ℕ, zero, suc, ◌+◌, ◌*◌, ◌/◌, ◌%◌, ◌<◌, ◌≤◌, ℤ, pos, negsuc, ◌+ℤ◌, ◌*ℤ◌, ◌≤ℤ◌, ◌<ℤ◌, neg_ℤ, unsigned_abs, arith}
 use Rattle.std.proofs.Math.Nat.{div-le_self}
 use Rattle.std.proofs.lemmas.Int.{ints, fits_signed_from_abs, by_lt_z}
 use Rattle.std.specs.Int.{int_div_euclid}
@@ -90,3 +90,30 @@ ceiling_least n d x some h =
 pub ceiling_least_neg : (n : ℤ) (d : ℕ) (x : ℤ) → (negsuc d *ℤ x) ≤ℤ n → ceiling_quotient n (negsuc d) ≤ℤ x
 ceiling_least_neg n d x h =
     flip x (floor_quotient (neg_ℤ n) (negsuc d)) (floor_greatest_neg (neg_ℤ n) d (neg_ℤ x) (mirrored_back (negsuc d) x n h))
+
+turned_back : (d : ℕ) (x s : ℤ) → (pos (suc d) *ℤ x) ≤ℤ neg_ℤ s → s ≤ℤ (negsuc d *ℤ x)
+turned_back d (pos x) s h = omega (arith, ints)
+turned_back d (negsuc x) s h = omega (arith, ints)
+
+-- the products with these quotients keep to the number
+pub floor_within_neg : (n : ℤ) (d : ℕ) → n ≤ℤ (negsuc d *ℤ floor_quotient n (negsuc d))
+floor_within_neg n d = turned_back d (floor_quotient n (negsuc d)) n (floor_within (neg_ℤ n) (suc d) (omega arith))
+
+twice : (s : ℤ) → neg_ℤ (neg_ℤ s) ≡ s
+twice (pos zero) = refl
+twice (pos (suc n)) = refl
+twice (negsuc n) = refl
+
+pub ceiling_within : (n : ℤ) (d : ℕ) → 0 < d → n ≤ℤ (pos d *ℤ ceiling_quotient n (pos d))
+ceiling_within n d some =
+    let q : ℤ = floor_quotient (neg_ℤ n) (pos d) in
+    let h : neg_ℤ (neg_ℤ n) ≤ℤ (pos d *ℤ neg_ℤ q) = mirrored_back (pos d) q (neg_ℤ n) (floor_within (neg_ℤ n) d some) in
+    let P : ℤ → Type 0 = λ (m : ℤ). m ≤ℤ (pos d *ℤ neg_ℤ q) in
+    subst P (twice n) h
+
+pub ceiling_within_neg : (n : ℤ) (d : ℕ) → (negsuc d *ℤ ceiling_quotient n (negsuc d)) ≤ℤ n
+ceiling_within_neg n d =
+    let q : ℤ = floor_quotient (neg_ℤ n) (negsuc d) in
+    let h : (negsuc d *ℤ neg_ℤ q) ≤ℤ neg_ℤ (neg_ℤ n) = mirrored (negsuc d) q (neg_ℤ n) (floor_within_neg (neg_ℤ n) d) in
+    let P : ℤ → Type 0 = λ (m : ℤ). (negsuc d *ℤ neg_ℤ q) ≤ℤ m in
+    subst P (twice n) h

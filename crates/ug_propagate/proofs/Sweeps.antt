@@ -27,7 +27,6 @@ abbrev pub AreRowsFrom : Instance → ℕ → List NamedRow → Type 0
 AreRowsFrom p r [] = Unit {0}
 AreRowsFrom p r (named ∷ rows) = (r < length p.rows) × (named.row ≡ row_at p r) × AreRowsFrom p (r + 1) rows
 
-
 pub rows_from : (p : Instance) (r : ℕ) (rest : List NamedRow)
     → ((k : ℕ) → k < length rest → (r + k < length p.rows) × (slice_index_or rest k no_row ≡ slice_index_or p.rows (r + k) no_row))
     → AreRowsFrom p r rest
@@ -36,13 +35,15 @@ rows_from p r (named ∷ rest) h =
     let at : ℕ → NamedRow = λ (i : ℕ). slice_index_or p.rows i no_row in
     let first : (r + 0 < length p.rows) × (named ≡ slice_index_or p.rows (r + 0) no_row) = h 0 (omega arith) in
     let zero_more : r + 0 ≡ r = omega arith in
-    let same : named ≡ slice_index_or p.rows r no_row = first.1 ∙ ap at zero_more in
-    (omega (arith, first.0), ap (λ (n : NamedRow). n.row) same,
-    rows_from p (r + 1) rest (λ k lt.
-    let next : (r + suc k < length p.rows) × (slice_index_or rest k no_row ≡ slice_index_or p.rows (r + suc k) no_row) =
-    h (suc k) (omega arith) in
-    let one_more : r + suc k ≡ r + 1 + k = omega arith in
-    (omega (arith, next.0), next.1 ∙ ap at one_more)))
+    let same : named ≡ slice_index_or p.rows r no_row = first.1 ∙ ap at zero_more in (
+      omega (arith, first.0),
+      ap (λ (n : NamedRow). n.row) same,
+      rows_from p (r + 1) rest (λ k lt.
+          let next : (r + suc k < length p.rows) × (slice_index_or rest k no_row ≡ slice_index_or p.rows (r + suc k) no_row) =
+          h (suc k) (omega arith) in
+          let one_more : r + suc k ≡ r + 1 + k = omega arith in
+          (omega (arith, next.0), next.1 ∙ ap at one_more)),
+    )
 
 pub all_rows_from : (p : Instance) → AreRowsFrom p 0 p.rows
 all_rows_from p =

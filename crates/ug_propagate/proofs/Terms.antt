@@ -154,7 +154,7 @@ pub others_bound : (e : Extreme) (ts : List Term) (t : Term) (area : List Interv
 others_bound e [] t area x there among i = absurd among
 others_bound e (u ∷ us) t area x there (inl same) i =
     let P : Term → Type 0 = λ (v : Term). IsBound e (end_of_others e (u ∷ us) v area)
-        (sum_at (u ∷ us) x -ℤ (v.factor *ℤ value_at x v.column)) in
+    (sum_at (u ∷ us) x -ℤ (v.factor *ℤ value_at x v.column)) in
     subst P (sym same)
     (first_out e (end_product e u area) (end_sum e us area) (u.factor *ℤ value_at x u.column) (sum_at us x)
     (end_bound e us area x there.1 i))

@@ -58,7 +58,13 @@ fn ends_of_others(extreme: Extreme, terms: &[Term], term: Term, sides: &[Interva
 
 /// A side of a row less the least or the greatest sum of the other terms.
 #[tactic(auto, using(crate::proofs::Bodies::others_small))]
-pub fn less_others(extreme: Extreme, side: i128, terms: &[Term], term: Term, sides: &[Interval]) -> i128
+pub fn less_others(
+    extreme: Extreme,
+    side: i128,
+    terms: &[Term],
+    term: Term,
+    sides: &[Interval],
+) -> i128
     requires terms { IsLinear (length sides.now) terms.now }
     requires term { IsTermOf (length sides.now) term }
     requires side { unsigned_abs side ≤ 4 * 10 ^ 37 }

@@ -11,5 +11,5 @@ mod rounds;
 mod step;
 mod tight;
 
-pub use tight::{Reason, Side, Tight};
 pub use propagation::tighten;
+pub use tight::{Reason, Side, Tight};

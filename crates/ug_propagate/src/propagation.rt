@@ -10,7 +10,12 @@ use ug_problem::Problem;
 use ug_rows::{IntBox, Interval};
 
 // What is said of a box without points: the row that is looked at first, if there is one.
-fn told_of_crossed(alloc: Global, problem: &Problem, cutoff: Option<i128>, area: &[Interval]) -> Result<Tight, AllocError>
+fn told_of_crossed(
+    alloc: Global,
+    problem: &Problem,
+    cutoff: Option<i128>,
+    area: &[Interval],
+) -> Result<Tight, AllocError>
     ensures { IfOk result (λ t. t ≡ crossed problem.now.rows cutoff area.now) }
 {
     let row = match (problem.rows().is_empty(), cutoff) {
@@ -25,7 +30,12 @@ fn told_of_crossed(alloc: Global, problem: &Problem, cutoff: Option<i128>, area:
 }
 
 // The rounds of a box that has a point.
-fn tighten_sides(alloc: Global, problem: &Problem, cutoff: Option<i128>, area: &[Interval]) -> Result<Tight, AllocError>
+fn tighten_sides(
+    alloc: Global,
+    problem: &Problem,
+    cutoff: Option<i128>,
+    area: &[Interval],
+) -> Result<Tight, AllocError>
     requires width { length area.now ≡ length problem.now.columns }
     requires cutoff { IfSome cutoff (λ c. unsigned_abs c ≤ 2 * 10 ^ 37) }
     ensures { IfOk result (λ t. t ≡ last_round problem.now cutoff (rounds_of 32 problem.now cutoff (Kept area.now))) }
@@ -39,7 +49,12 @@ fn tighten_sides(alloc: Global, problem: &Problem, cutoff: Option<i128>, area: &
 }
 
 #[tactic(auto, using(crate::proofs::Bodies::rounds_some, crate::proofs::Bodies::rounds_none))]
-fn tighten_area(alloc: Global, problem: &Problem, cutoff: Option<i128>, area: &[Interval]) -> Result<Tight, AllocError>
+fn tighten_area(
+    alloc: Global,
+    problem: &Problem,
+    cutoff: Option<i128>,
+    area: &[Interval],
+) -> Result<Tight, AllocError>
     requires width { length area.now ≡ length problem.now.columns }
     requires cutoff { IfSome cutoff (λ c. unsigned_abs c ≤ 2 * 10 ^ 37) }
     ensures { IfOk result (λ t. t ≡ rounds problem.now cutoff area.now) }

@@ -35,7 +35,11 @@ fn tighten_rows(problem: &Problem, area: &mut [Interval]) -> Option<Reason>
 
 // The objective, where there is a cutoff.
 #[tactic(auto, using(crate::proofs::Bodies::ready_objective))]
-fn tighten_objective(problem: &Problem, cutoff: Option<i128>, area: &mut [Interval]) -> Option<Reason>
+fn tighten_objective(
+    problem: &Problem,
+    cutoff: Option<i128>,
+    area: &mut [Interval],
+) -> Option<Reason>
     requires width { length area.old ≡ length problem.now.columns }
     requires cutoff { IfSome cutoff (λ c. unsigned_abs c ≤ 2 * 10 ^ 37) }
     ensures { outcome_of result area.new ≡ over_objective problem.now.objective cutoff (Kept area.old) }

@@ -84,7 +84,12 @@ fn product_above(reason: Reason, term: Term, least: i128, area: &mut [Interval])
     }
 }
 
-fn tighten_under_high(look: Look, terms: &[Term], term: Term, area: &mut [Interval]) -> Option<Reason>
+fn tighten_under_high(
+    look: Look,
+    terms: &[Term],
+    term: Term,
+    area: &mut [Interval],
+) -> Option<Reason>
     requires row { IsReady (length area.old) look terms.now }
     requires term { IsTermOf (length area.old) term }
     ensures { outcome_of result area.new ≡ under_high look.row terms.now look.high term area.old }
