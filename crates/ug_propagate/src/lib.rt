@@ -9,6 +9,8 @@ mod propagation;
 mod quotient;
 mod rounds;
 mod step;
+#[cfg(test)]
+mod tests;
 mod tight;
 
 pub use propagation::tighten;
