@@ -1,26 +1,21 @@
 -- What bound propagation says of the points of a box, proved of what it makes.
-use Rattle.std.proofs.Common.{◌≡◌, refl, sym, subst, ◌∙◌, ap, ◌⊎◌, inl, inr, ℕ, zero, suc, ◌<◌, ℤ, pos, ◌+ℤ◌, ◌-ℤ◌, ◌≤ℤ◌, ◌<ℤ◌, Bool, true, false, not, T, List, [], ◌∷◌, length, slice_index_or, Option, Some, None, IfSome, if◌then◌else◌, Result, Ok, Err, IfOk, arith}
+use Rattle.std.proofs.Common.{◌≡◌, refl, sym, subst, ◌∙◌, ap, inl, inr, ℕ, zero, suc, ◌<◌, ℤ, pos, ◌+ℤ◌, ◌-ℤ◌, ◌≤ℤ◌, ◌<ℤ◌, Bool, true, false, not, T, List, [], ◌∷◌, length, slice_index_or, Option, Some, None, IfSome, Result, Ok, Err, IfOk, arith}
 use Rattle.std.proofs.lemmas.Int.{ints}
 use Rattle.std.proofs.lemmas.List.{length-map}
 use Rattle.ug_rows.specs.declared.area.Interval.{Interval}
-use Rattle.ug_rows.specs.declared.row.Row.{Row}
-use Rattle.ug_rows.specs.declared.row.Objective.{Objective}
 use Rattle.ug_rows.specs.Boxes.{IsBelow, IsInside, IsNonEmpty, IsNarrower, IsWithin, interval_at, value_at}
 use Rattle.ug_rows.specs.Rows.{Keeps, sum_at, value_of}
 use Rattle.ug_rows.proofs.EndBounds.{AreThere}
 use Rattle.ug_problem.specs.declared.column.NamedRow.{NamedRow}
 use Rattle.ug_problem.specs.Instances.{Instance, bounds_of, no_row, root_of, row_at}
 use Rattle.ug_problem.specs.Limits.{IsProblem}
-use Rattle.ug_problem.specs.Feasible.{Feasible, KeepsBelow}
 use Rattle.ug_propagate.specs.declared.tight.Tight.{Tight}
 use Rattle.ug_propagate.specs.declared.tight.Tight.TheVariants.{Kept, Empty}
-use Rattle.ug_propagate.specs.declared.tight.Reason.{Reason}
-use Rattle.ug_propagate.specs.declared.tight.Side.TheVariants.{Low, High}
-use Rattle.ug_propagate.specs.Rounds.{are_crossed, are_fixed, crossed, cutoff_row, last_round, reason_of, round, rounds, rounds_of}
-use Rattle.ug_propagate.specs.Claims.{Holds, HasReason, IsCrossed, IsFixed, IsGood, IsLeftOf, IsShown, IsSolved, KeepsGood}
-use Rattle.ug_propagate.proofs.Parts.{IsPart, part_below, part_same, if_bool}
-use Rattle.ug_propagate.proofs.Looks.{IsUsable, Passes}
-use Rattle.ug_propagate.proofs.Sweeps.{IsSweepOf, good_width, round_holds, round_sweep, rounds_hold, rounds_sweep, usable_objective, usable_row}
+use Rattle.ug_propagate.specs.Rounds.{are_crossed, are_fixed, crossed, cutoff_row, last_round, round, rounds, rounds_of}
+use Rattle.ug_propagate.specs.Claims.{Holds, HasReason, IsCrossed, IsFixed, IsGood, IsLeftOf, IsSolved, KeepsGood}
+use Rattle.ug_propagate.proofs.Parts.{part_below, part_same, if_bool}
+use Rattle.ug_propagate.proofs.Looks.{Passes}
+use Rattle.ug_propagate.proofs.Sweeps.{IsSweepOf, round_holds, round_sweep, rounds_hold, rounds_sweep, usable_objective, usable_row}
 use Rattle.ug_propagate.proofs.Fixed.{AllPass, ObjectivePasses, crossed_from, fixed_from, fixed_to, nonempty_from, passes_keeps, round_passes}
 
 -- a fact that a box without a low above its high has, and that one round keeps, what is left of it has

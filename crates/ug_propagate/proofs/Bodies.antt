@@ -1,5 +1,5 @@
 -- What the bodies are made of: sizes, cases of signs, and the next row or term.
-use Rattle.std.proofs.Common.{◌≡◌, ◌≢◌, refl, sym, subst, ◌∙◌, ap, ℕ, zero, suc, ◌+◌, ◌-◌, ◌*◌, ◌^◌, ◌<◌, ◌≤◌, ℤ, pos, negsuc, ◌+ℤ◌, ◌-ℤ◌, ◌*ℤ◌, ◌≤ℤ◌, ◌<ℤ◌, unsigned_abs, List, [], ◌∷◌, length, ◌++◌, take, drop, slice_index_or, Option, Some, None, IfSome, arith}
+use Rattle.std.proofs.Common.{◌≡◌, ◌≢◌, refl, sym, subst, ◌∙◌, ap, ℕ, zero, suc, ◌+◌, ◌-◌, ◌*◌, ◌^◌, ◌<◌, ◌≤◌, ℤ, pos, negsuc, ◌-ℤ◌, ◌≤ℤ◌, ◌<ℤ◌, unsigned_abs, List, [], ◌∷◌, length, ◌++◌, take, drop, slice_index_or, Option, Some, None, IfSome, arith}
 use Rattle.std.proofs.lemmas.Int.{ints}
 use Rattle.std.proofs.lemmas.List.Elements.{All-get_or}
 use Rattle.std.proofs.Math.Seq.{drop-cons}
@@ -22,7 +22,7 @@ use Rattle.ug_propagate.specs.declared.step.Look.{Look}
 use Rattle.ug_propagate.specs.declared.tight.Tight.{Tight}
 use Rattle.ug_propagate.specs.declared.tight.Tight.TheVariants.{Kept, Empty}
 use Rattle.ug_propagate.specs.declared.tight.Reason.{Reason}
-use Rattle.ug_propagate.specs.Rounds.{keep_at_least, keep_at_most, lower_high, raise_low, floor_quotient, ceiling_quotient, look_at, over_rows, over_terms, over_objective, row_step, term_step, round, rounds, rounds_of, last_round, crossed, are_crossed, are_fixed}
+use Rattle.ug_propagate.specs.Rounds.{keep_at_least, keep_at_most, lower_high, raise_low, floor_quotient, ceiling_quotient, over_rows, over_terms, over_objective, row_step, term_step, round, rounds, rounds_of, last_round, crossed, are_crossed, are_fixed}
 use Rattle.ug_propagate.specs.Steps.{IsReady, IsTermOf}
 
 -- a difference is no larger than its parts

@@ -1,5 +1,5 @@
 -- Boxes of one point: a round that leaves one shows that its point is good.
-use Rattle.std.proofs.Common.{◌≡◌, ◌≢◌, refl, sym, subst, ◌∙◌, ap, ◌⊎◌, inl, inr, ℕ, zero, suc, ◌+◌, ◌<◌, ℤ, pos, negsuc, ◌+ℤ◌, ◌-ℤ◌, ◌*ℤ◌, ◌≤ℤ◌, ◌<ℤ◌, Bool, true, false, not, T, ◌&&◌, ◌||◌, int_lt, List, [], ◌∷◌, length, Option, Some, None, IfSome, arith}
+use Rattle.std.proofs.Common.{◌≡◌, refl, sym, subst, ◌∙◌, ap, ◌⊎◌, inl, inr, ℕ, zero, suc, ◌+◌, ℤ, pos, negsuc, ◌+ℤ◌, ◌*ℤ◌, ◌≤ℤ◌, Bool, true, false, not, T, ◌&&◌, ◌||◌, int_lt, List, [], ◌∷◌, length, Option, Some, None, IfSome, arith}
 use Rattle.std.proofs.lemmas.Int.{ints}
 use Rattle.std.proofs.lemmas.Bool.Decides.{Decides-int_eq}
 use Rattle.std.proofs.lemmas.List.{ext_get_or}
@@ -11,18 +11,18 @@ use Rattle.ug_rows.specs.declared.row.Row.{Row}
 use Rattle.ug_rows.specs.declared.row.Objective.{Objective}
 use Rattle.ug_rows.specs.declared.sums.Extreme.TheVariants.{Least, Greatest}
 use Rattle.ug_rows.specs.Boxes.{IsInside, IsNonEmpty, IsClosedWithin, interval_at, no_interval}
-use Rattle.ug_rows.specs.Rows.{Keeps, sum_at, value_of}
-use Rattle.ug_rows.specs.Sums.{end_of, end_product, end_sum, least_sum, greatest_sum}
+use Rattle.ug_rows.specs.Rows.{Keeps, sum_at}
+use Rattle.ug_rows.specs.Sums.{end_of, end_product, end_sum}
 use Rattle.ug_rows.proofs.EndBounds.{AreThere, end_bound}
 use Rattle.ug_problem.specs.declared.column.NamedRow.{NamedRow}
-use Rattle.ug_problem.specs.Instances.{Instance, row_at}
+use Rattle.ug_problem.specs.Instances.{Instance}
 use Rattle.ug_problem.specs.Limits.{IsProblem}
 use Rattle.ug_propagate.specs.declared.tight.Tight.{Tight}
 use Rattle.ug_propagate.specs.declared.tight.Tight.TheVariants.{Kept, Empty}
 use Rattle.ug_propagate.specs.declared.tight.Reason.{Reason}
-use Rattle.ug_propagate.specs.Rounds.{are_fixed, are_crossed, cutoff_row, look_at, over_rows, over_objective, round, row_step}
+use Rattle.ug_propagate.specs.Rounds.{are_fixed, are_crossed, cutoff_row, over_rows, over_objective, round, row_step}
 use Rattle.ug_propagate.specs.Claims.{IsFixed, IsCrossed}
-use Rattle.ug_propagate.proofs.Parts.{IsPart, part_same}
+use Rattle.ug_propagate.proofs.Parts.{IsPart}
 use Rattle.ug_propagate.proofs.Looks.{IsLookOf, IsUsable, Passes, IsPassed, row_look, row_passes}
 use Rattle.ug_propagate.proofs.Sweeps.{AreRowsFrom, all_rows_from, usable_named, usable_objective}
 

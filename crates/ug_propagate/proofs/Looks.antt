@@ -1,10 +1,9 @@
 -- What one row does to a box.
-use Rattle.std.proofs.Common.{◌≡◌, ◌≢◌, refl, sym, subst, ◌∙◌, ap, inl, inr, ℕ, zero, suc, ◌<◌, ℤ, pos, ◌≤ℤ◌, ◌<ℤ◌, Bool, true, false, T, List, [], ◌∷◌, length, Option, Some, None, IfSome, MatchOption, if◌then◌else◌, arith}
+use Rattle.std.proofs.Common.{◌≡◌, ◌≢◌, refl, sym, subst, inl, inr, ℕ, suc, ◌<◌, ℤ, pos, ◌≤ℤ◌, ◌<ℤ◌, List, [], ◌∷◌, length, Option, Some, None, IfSome, MatchOption, if◌then◌else◌, arith}
 use Rattle.std.proofs.lemmas.Int.{ints}
 use Rattle.ug_rows.specs.declared.area.Interval.{Interval}
 use Rattle.ug_rows.specs.declared.row.Term.{Term}
 use Rattle.ug_rows.specs.declared.row.Row.{Row}
-use Rattle.ug_rows.specs.declared.sums.Extreme.{Extreme}
 use Rattle.ug_rows.specs.declared.sums.Extreme.TheVariants.{Least, Greatest}
 use Rattle.ug_rows.specs.Boxes.{IsInside, IsNonEmpty}
 use Rattle.ug_rows.specs.Rows.{IsLinear, Keeps, sum_at, term_at}
@@ -15,7 +14,7 @@ use Rattle.ug_propagate.specs.declared.tight.Tight.TheVariants.{Kept, Empty}
 use Rattle.ug_propagate.specs.declared.tight.Reason.{Reason}
 use Rattle.ug_propagate.specs.declared.tight.Side.{Side}
 use Rattle.ug_propagate.specs.declared.tight.Side.TheVariants.{Low, High}
-use Rattle.ug_propagate.specs.Rounds.{reason_of, under_high, over_low, then_low, term_step, over_terms, exceeds, falls_short, row_step, look_at}
+use Rattle.ug_propagate.specs.Rounds.{reason_of, under_high, over_low, then_low, term_step, over_terms, exceeds, falls_short, row_step}
 use Rattle.ug_propagate.specs.Claims.{Holds, IsMissed}
 use Rattle.ug_propagate.proofs.Parts.{IsPart, part_same, part_trans, part_nonempty, if_lt}
 use Rattle.ug_propagate.proofs.Terms.{IsCut, IsAmong, high_cuts, low_cuts, high_holds, low_holds}

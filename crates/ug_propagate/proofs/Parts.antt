@@ -1,11 +1,11 @@
 -- Boxes within boxes, and what a write to one column does.
-use Rattle.std.proofs.Common.{◌≡◌, ◌≢◌, refl, sym, subst, ◌∙◌, inl, inr, ℕ, ◌<◌, ℤ, ◌≤ℤ◌, ◌<ℤ◌, List, length, set, Bool, true, false, not, T, int_lt, if◌then◌else◌, arith}
+use Rattle.std.proofs.Common.{◌≡◌, refl, sym, subst, ◌∙◌, inl, inr, ℕ, ◌<◌, ℤ, ◌≤ℤ◌, ◌<ℤ◌, List, length, set, Bool, true, false, not, T, int_lt, if◌then◌else◌, arith}
 use Rattle.std.proofs.lemmas.Int.{ints}
 use Rattle.std.proofs.lemmas.Bool.{cases_eq}
 use Rattle.std.proofs.lemmas.List.{get_or-set_other, get_or-set_same, length-set}
 use Rattle.std.specs.Int.Signed.{lt_z_yes, lt_z_no}
 use Rattle.ug_rows.specs.declared.area.Interval.{Interval}
-use Rattle.ug_rows.specs.Boxes.{IsBelow, IsClosedWithin, IsInside, IsNarrower, IsNonEmpty, IsWithin, interval_at, no_interval, value_at}
+use Rattle.ug_rows.specs.Boxes.{IsBelow, IsClosedWithin, IsInside, IsNonEmpty, IsWithin, interval_at, no_interval, value_at}
 
 -- the inner box is within the outer, and has a point
 pub record IsPart (inner outer : List Interval) : Type 0 where

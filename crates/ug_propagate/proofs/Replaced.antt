@@ -5,7 +5,7 @@ use Rattle.std.proofs.lemmas.List.{get_or-set_other, get_or-set_same}
 use Rattle.ug_rows.specs.declared.area.Interval.{Interval}
 use Rattle.ug_rows.specs.declared.row.Term.{Term}
 use Rattle.ug_rows.specs.declared.sums.Extreme.{Extreme}
-use Rattle.ug_rows.specs.Boxes.{interval_at, no_interval}
+use Rattle.ug_rows.specs.Boxes.{no_interval}
 use Rattle.ug_rows.specs.Sums.{end_of, end_product, end_sum}
 use Rattle.ug_rows.proofs.EndBounds.{IsFree, AreApart}
 use Rattle.ug_propagate.proofs.Terms.{IsAmong}

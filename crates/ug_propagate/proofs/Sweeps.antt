@@ -1,18 +1,14 @@
 -- What rounds do to a box.
-use Rattle.std.proofs.Common.{◌≡◌, ◌≢◌, refl, sym, subst, ◌∙◌, ap, ℕ, zero, suc, ◌+◌, ◌<◌, ℤ, pos, ◌+ℤ◌, ◌-ℤ◌, ◌≤ℤ◌, ◌<ℤ◌, List, [], ◌∷◌, length, slice_index_or, Option, Some, None, IfSome, arith}
+use Rattle.std.proofs.Common.{◌≡◌, refl, sym, subst, ◌∙◌, ap, ℕ, zero, suc, ◌+◌, ◌<◌, ℤ, pos, ◌+ℤ◌, ◌-ℤ◌, ◌≤ℤ◌, ◌<ℤ◌, List, [], ◌∷◌, length, slice_index_or, Option, Some, None, arith}
 use Rattle.std.proofs.lemmas.Int.{ints}
 use Rattle.std.proofs.lemmas.List.{length-map}
 use Rattle.std.proofs.lemmas.List.Elements.{All-get_or}
 use Rattle.ug_rows.specs.declared.area.Interval.{Interval}
-use Rattle.ug_rows.specs.declared.row.Term.{Term}
 use Rattle.ug_rows.specs.declared.row.Row.{Row}
-use Rattle.ug_rows.specs.declared.row.Objective.{Objective}
-use Rattle.ug_rows.specs.Boxes.{IsInside, IsNonEmpty}
-use Rattle.ug_rows.specs.Rows.{Keeps, sum_at, term_at, value_of}
+use Rattle.ug_rows.specs.Rows.{Keeps, sum_at}
 use Rattle.ug_problem.specs.declared.column.NamedRow.{NamedRow}
-use Rattle.ug_problem.specs.Instances.{Instance, IsRow, bounds_of, no_row, root_of, row_at}
+use Rattle.ug_problem.specs.Instances.{Instance, IsRow, bounds_of, no_row, row_at}
 use Rattle.ug_problem.specs.Limits.{IsProblem}
-use Rattle.ug_problem.specs.Feasible.{Feasible}
 use Rattle.ug_problem.proofs.Linear.{linear_row, linear_objective}
 use Rattle.ug_propagate.specs.declared.tight.Tight.{Tight}
 use Rattle.ug_propagate.specs.declared.tight.Tight.TheVariants.{Kept, Empty}

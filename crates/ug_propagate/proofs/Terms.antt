@@ -1,22 +1,20 @@
 -- What one term of a row does to a box.
-use Rattle.std.proofs.Common.{◌≡◌, ◌≢◌, refl, sym, subst, ◌∙◌, ◌⊎◌, inl, inr, ℕ, zero, suc, ◌<◌, ℤ, pos, negsuc, ◌+ℤ◌, ◌-ℤ◌, ◌*ℤ◌, ◌≤ℤ◌, ◌<ℤ◌, List, [], ◌∷◌, length, Option, Some, None, IfSome, MatchOption, arith}
+use Rattle.std.proofs.Common.{◌≡◌, ◌≢◌, refl, sym, subst, ◌⊎◌, inl, inr, ℕ, zero, suc, ◌<◌, ℤ, pos, negsuc, ◌+ℤ◌, ◌-ℤ◌, ◌*ℤ◌, ◌≤ℤ◌, ◌<ℤ◌, List, [], ◌∷◌, length, Option, Some, None, IfSome, MatchOption, arith}
 use Rattle.std.proofs.lemmas.Int.{ints, by_lt_z}
 use Rattle.ug_rows.specs.declared.area.Interval.{Interval}
 use Rattle.ug_rows.specs.declared.row.Term.{Term}
-use Rattle.ug_rows.specs.declared.row.Row.{Row}
 use Rattle.ug_rows.specs.declared.sums.Extreme.{Extreme}
 use Rattle.ug_rows.specs.declared.sums.Extreme.TheVariants.{Least, Greatest}
 use Rattle.ug_rows.specs.Boxes.{IsInside, IsNonEmpty, IsWithin, interval_at, value_at}
-use Rattle.ug_rows.specs.Rows.{Keeps, sum_at}
+use Rattle.ug_rows.specs.Rows.{sum_at}
 use Rattle.ug_rows.specs.Sums.{IsBound, end_of, end_product, end_sum, least_sum, greatest_sum}
 use Rattle.ug_rows.proofs.EndBounds.{AreThere, end_bound}
 use Rattle.ug_propagate.specs.declared.tight.Tight.{Tight}
 use Rattle.ug_propagate.specs.declared.tight.Tight.TheVariants.{Kept, Empty}
 use Rattle.ug_propagate.specs.declared.tight.Reason.{Reason}
-use Rattle.ug_propagate.specs.declared.tight.Side.{Side}
 use Rattle.ug_propagate.specs.declared.tight.Side.TheVariants.{Low, High}
 use Rattle.ug_propagate.specs.Rounds.{reason_of, lower_high, raise_low, keep_at_most, keep_at_least, end_of_others, under_high, over_low, floor_quotient, ceiling_quotient}
-use Rattle.ug_propagate.specs.Claims.{Holds, IsMissed}
+use Rattle.ug_propagate.specs.Claims.{Holds}
 use Rattle.ug_propagate.proofs.Parts.{IsPart, part_same, part_set, inside_set, if_lt}
 use Rattle.ug_propagate.proofs.Quotients.{floor_greatest, floor_greatest_neg, ceiling_least, ceiling_least_neg}
 

@@ -1,5 +1,5 @@
 -- What the functions for one row, one term and one column are given, and what they answer.
-use Rattle.std.specs.Prelude.{◌≢◌, ℕ, ℤ, pos, ◌<◌, ◌≤◌, ◌*◌, ◌^◌, List, length, Option, Some, None, IfSome, unsigned_abs}
+use Rattle.std.specs.Prelude.{◌≢◌, ℕ, pos, ◌<◌, ◌≤◌, ◌*◌, ◌^◌, List, length, Option, Some, None, IfSome, unsigned_abs}
 use Rattle.ug_rows.specs.declared.area.Interval.{Interval}
 use Rattle.ug_rows.specs.declared.row.Term.{Term}
 use Rattle.ug_rows.specs.declared.row.Row.{Row}

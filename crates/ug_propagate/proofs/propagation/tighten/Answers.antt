@@ -1,6 +1,5 @@
 use Rattle.std.proofs.Common.{◌≡◌, List, IfOk, subst}
 use Rattle.ug_rows.specs.declared.area.Interval.{Interval}
-use Rattle.ug_propagate.specs.declared.tight.Tight.{Tight}
 use Rattle.ug_propagate.specs.Claims.{HasReason, IsLeftOf, IsSolved, KeepsGood}
 use Rattle.ug_propagate.specs.Rounds.{rounds}
 use Rattle.ug_propagate.proofs.Answers.{rounds_below, rounds_keep, rounds_reason, rounds_solve, told_since}

@@ -1,4 +1,4 @@
-use Rattle.std.proofs.Common.{◌≡◌, ◌∙◌, sym, ap, List, length, arith}
+use Rattle.std.proofs.Common.{◌∙◌, sym, ap, List, length, arith}
 use Rattle.ug_rows.specs.declared.area.Interval.{Interval}
 use Rattle.ug_propagate.proofs.Bodies.{copied, rounds_end, rounds_go, rounds_still, rounds_stop}
 use Rattle.ug_propagate.proofs.rounds.run_rounds.Goals as goal
