@@ -1,0 +1,9 @@
+pub mod Quotients
+pub mod Parts
+pub mod Terms
+pub mod Looks
+pub mod Sweeps
+pub mod Fixed
+pub mod Answers
+pub mod Bodies
+pub mod Replaced

@@ -1,0 +1,187 @@
+-- What one row does to a box.
+use Rattle.std.proofs.Common.{◌≡◌, ◌≢◌, refl, sym, subst, inl, inr, ℕ, suc, ◌<◌, ℤ, pos, ◌≤ℤ◌, ◌<ℤ◌, List, [], ◌∷◌, length, Option, Some, None, IfSome, MatchOption, if◌then◌else◌, arith}
+use Rattle.std.proofs.lemmas.Int.{ints}
+use Rattle.ug_rows.specs.declared.area.Interval.{Interval}
+use Rattle.ug_rows.specs.declared.row.Term.{Term}
+use Rattle.ug_rows.specs.declared.row.Row.{Row}
+use Rattle.ug_rows.specs.declared.sums.Extreme.TheVariants.{Least, Greatest}
+use Rattle.ug_rows.specs.Boxes.{IsInside, IsNonEmpty}
+use Rattle.ug_rows.specs.Rows.{IsLinear, Keeps, sum_at, term_at}
+use Rattle.ug_rows.specs.Sums.{least_sum, greatest_sum}
+use Rattle.ug_rows.proofs.EndBounds.{AreThere, there_from_index, end_bound}
+use Rattle.ug_propagate.specs.declared.tight.Tight.{Tight}
+use Rattle.ug_propagate.specs.declared.tight.Tight.TheVariants.{Kept, Empty}
+use Rattle.ug_propagate.specs.declared.tight.Reason.{Reason}
+use Rattle.ug_propagate.specs.declared.tight.Side.{Side}
+use Rattle.ug_propagate.specs.declared.tight.Side.TheVariants.{Low, High}
+use Rattle.ug_propagate.specs.Rounds.{reason_of, under_high, over_low, then_low, term_step, over_terms, exceeds, falls_short, row_step}
+use Rattle.ug_propagate.specs.Claims.{Holds, IsMissed}
+use Rattle.ug_propagate.proofs.Parts.{IsPart, part_same, part_trans, part_nonempty, if_lt}
+use Rattle.ug_propagate.proofs.Terms.{IsCut, IsAmong, high_cuts, low_cuts, high_holds, low_holds}
+
+-- these are terms of the row over `width` columns, with factors that are not 0
+abbrev pub AreOf : ℕ → List Term → List Term → Type 0
+AreOf width terms [] = Unit {0}
+AreOf width terms (t ∷ rest) =
+    IsAmong t terms × (t.column < width) × (t.factor ≢ pos 0) × AreOf width terms rest
+
+-- the terms are over `width` columns, with factors that are not 0
+pub record IsUsable (width : ℕ) (terms : List Term) : Type 0 where
+  pub there : AreThere width terms
+  pub each : AreOf width terms terms
+
+of_more : (width : ℕ) (u : Term) (terms rest : List Term) → AreOf width terms rest → AreOf width (u ∷ terms) rest
+of_more width u terms [] h = tt
+of_more width u terms (t ∷ rest) h = (inr h.0, h.1, h.2, of_more width u terms rest h.3)
+
+of_itself : (width : ℕ) (terms : List Term) → AreThere width terms
+    → ((k : ℕ) → k < length terms → (term_at terms k).factor ≢ pos 0) → AreOf width terms terms
+of_itself width [] there nonzero = tt
+of_itself width (t ∷ terms) there nonzero = (
+  inl refl,
+  there.0,
+  nonzero 0 (omega arith),
+  of_more width t terms terms (of_itself width terms there.1 (λ k lt. nonzero (suc k) (omega arith))),
+)
+
+pub usable_terms : (width : ℕ) (terms : List Term) → IsLinear width terms
+    → ((k : ℕ) → k < length terms → (term_at terms k).factor ≢ pos 0) → IsUsable width terms
+usable_terms width terms linear nonzero =
+    let there : AreThere width terms = there_from_index width terms linear.within in
+    record { there = there; each = of_itself width terms there nonzero }
+
+-- a part of the box, over which no sum of the row keeps to the side of the reason
+pub record IsMissedIn (name : Option ℕ) (row : Row) (area : List Interval) (reason : Reason) : Type 0 where
+  pub named : reason.row ≡ name
+  pub inner : List Interval
+  pub part : IsPart inner area
+  pub missed : IsMissed reason.side row inner
+
+-- a part of the box is left, or the row shows that nothing is
+abbrev pub IsLookOf : Option ℕ → Row → List Interval → Tight → Type 0
+IsLookOf name row area (Kept left) = IsPart left area
+IsLookOf name row area (Empty reason) = IsMissedIn name row area reason
+
+missed_for : (name : Option ℕ) (row : Row) (inner area : List Interval) (side : Side) (reason : Reason)
+    → reason ≡ reason_of name side → IsPart inner area → IsMissed side row inner → IsMissedIn name row area reason
+missed_for name row inner area side reason same part missed =
+    subst (IsMissedIn name row area) (sym same)
+    (record { named = refl; inner = inner; part = part; missed = missed })
+
+cut_look : (name : Option ℕ) (row : Row) (inner area : List Interval) (side : Side) (o : Tight) → IsNonEmpty inner
+    → IsPart inner area → IsCut inner (reason_of name side) (IsMissed side row inner) o → IsLookOf name row area o
+cut_look name row inner area side (Kept left) n part h = part_trans left inner area h part
+cut_look name row inner area side (Empty told) n part h = missed_for name row inner area side told h.0 part h.1
+
+then_low_look : (name : Option ℕ) (row : Row) (t : Term) (area : List Interval) (o : Tight)
+    → t.column < length area → t.factor ≢ pos 0 → IsLookOf name row area o → IsLookOf name row area (then_low name row t o)
+then_low_look name row t area (Empty reason) there ne h = h
+then_low_look name row t area (Kept left) there ne h =
+    let n : IsNonEmpty left = part_nonempty left area h in
+    cut_look name row left area Low (over_low name row.terms row.low t left) n h
+    (low_cuts name row.terms row.low t left n (omega (arith, h.width)) ne)
+
+term_look : (name : Option ℕ) (row : Row) (t : Term) (area : List Interval) (o : Tight)
+    → t.column < length area → t.factor ≢ pos 0 → IsLookOf name row area o → IsLookOf name row area (term_step name row t o)
+term_look name row t area (Empty reason) there ne h = h
+term_look name row t area (Kept left) there ne h =
+    let n : IsNonEmpty left = part_nonempty left area h in
+    then_low_look name row t area (under_high name row.terms row.high t left) there ne
+    (cut_look name row left area High (under_high name row.terms row.high t left) n h
+    (high_cuts name row.terms row.high t left n (omega (arith, h.width)) ne))
+
+terms_look : (name : Option ℕ) (row : Row) (rest : List Term) (area : List Interval) (o : Tight)
+    → AreOf (length area) row.terms rest → IsLookOf name row area o → IsLookOf name row area (over_terms name row rest o)
+terms_look name row [] area o of h = h
+terms_look name row (t ∷ rest) area o of h =
+    terms_look name row rest area (term_step name row t o) of.3 (term_look name row t area o of.1 of.2 h)
+
+-- a choice by whether a sum is above the high side
+if_exceeds : {A : Type 0} (P : A → Type 0) (high : Option ℤ) (sum : ℤ) (x y : A)
+    → (MatchOption high ⊥ (λ h. h <ℤ sum) → P x) → (IfSome high (λ h. sum ≤ℤ h) → P y)
+    → P (if exceeds high sum then x else y)
+if_exceeds P None sum x y f g = g tt
+if_exceeds P (Some high) sum x y f g = if_lt P high sum x y f g
+
+if_falls_short : {A : Type 0} (P : A → Type 0) (low : Option ℤ) (sum : ℤ) (x y : A)
+    → (MatchOption low ⊥ (λ l. sum <ℤ l) → P x) → (IfSome low (λ l. l ≤ℤ sum) → P y)
+    → P (if falls_short low sum then x else y)
+if_falls_short P None sum x y f g = g tt
+if_falls_short P (Some low) sum x y f g = if_lt P sum low x y f g
+
+pub row_look : (name : Option ℕ) (row : Row) (area : List Interval) → IsNonEmpty area → IsUsable (length area) row.terms
+    → IsLookOf name row area (row_step name row area)
+row_look name row area n usable =
+    let P : Tight → Type 0 = IsLookOf name row area in
+    if_exceeds P row.high (least_sum row.terms area) _ _
+    (λ missed. missed_for name row area area High (reason_of name High) refl (part_same area n) missed)
+    (λ within. if_falls_short P row.low (greatest_sum row.terms area) _ _
+    (λ missed. missed_for name row area area Low (reason_of name Low) refl (part_same area n) missed)
+    (λ both. terms_look name row row.terms area (Kept area) usable.each (part_same area n)))
+
+-- points that keep to the row are kept
+then_low_holds : (name : Option ℕ) (row : Row) (t : Term) (area : List Interval) (x : List ℤ) (o : Tight) → IsUsable (length x) row.terms
+    → IsAmong t row.terms → t.column < length x → t.factor ≢ pos 0 → Keeps row x → Holds o x → Holds (then_low name row t o) x
+then_low_holds name row t area x (Empty reason) usable among there ne keeps h = h
+then_low_holds name row t area x (Kept left) usable among there ne keeps h =
+    let P : ℕ → Type 0 = λ (w : ℕ). AreThere w row.terms in
+    low_holds name row.terms row.low t left x h (subst P h.width usable.there) among (omega (arith, h.width)) ne keeps.low
+
+term_holds : (name : Option ℕ) (row : Row) (t : Term) (x : List ℤ) (o : Tight) → IsUsable (length x) row.terms
+    → IsAmong t row.terms → t.column < length x → t.factor ≢ pos 0 → Keeps row x → Holds o x → Holds (term_step name row t o) x
+term_holds name row t x (Empty reason) usable among there ne keeps h = h
+term_holds name row t x (Kept left) usable among there ne keeps h =
+    let P : ℕ → Type 0 = λ (w : ℕ). AreThere w row.terms in
+    then_low_holds name row t left x (under_high name row.terms row.high t left) usable among there ne keeps
+    (high_holds name row.terms row.high t left x h (subst P h.width usable.there) among (omega (arith, h.width)) ne keeps.high)
+
+terms_hold : (name : Option ℕ) (row : Row) (rest : List Term) (x : List ℤ) (o : Tight) → IsUsable (length x) row.terms
+    → AreOf (length x) row.terms rest → Keeps row x → Holds o x → Holds (over_terms name row rest o) x
+terms_hold name row [] x o usable of keeps h = h
+terms_hold name row (t ∷ rest) x o usable of keeps h =
+    terms_hold name row rest x (term_step name row t o) usable of.3 keeps
+    (term_holds name row t x o usable of.0 of.1 of.2 keeps h)
+
+not_exceeded : (high : Option ℤ) (least sum : ℤ) → least ≤ℤ sum → MatchOption high ⊥ (λ h. h <ℤ least) → IfSome high (λ h. sum ≤ℤ h) → ⊥
+not_exceeded None least sum h k m = k
+not_exceeded (Some high) least sum h k m = omega (arith, ints)
+
+not_short : (low : Option ℤ) (greatest sum : ℤ) → sum ≤ℤ greatest → MatchOption low ⊥ (λ l. greatest <ℤ l) → IfSome low (λ l. l ≤ℤ sum) → ⊥
+not_short None greatest sum h k m = k
+not_short (Some low) greatest sum h k m = omega (arith, ints)
+
+pub row_holds : (name : Option ℕ) (row : Row) (area : List Interval) (x : List ℤ) → IsUsable (length x) row.terms
+    → Keeps row x → IsInside area x → Holds (row_step name row area) x
+row_holds name row area x usable keeps i =
+    let P : Tight → Type 0 = λ (o : Tight). Holds o x in
+    let W : ℕ → Type 0 = λ (w : ℕ). AreThere w row.terms in
+    let there : AreThere (length area) row.terms = subst W i.width usable.there in
+    if_exceeds P row.high (least_sum row.terms area) _ _
+    (λ missed. not_exceeded row.high (least_sum row.terms area) (sum_at row.terms x)
+    (end_bound Least row.terms area x there i) missed keeps.high)
+    (λ within. if_falls_short P row.low (greatest_sum row.terms area) _ _
+    (λ missed. not_short row.low (greatest_sum row.terms area) (sum_at row.terms x)
+    (end_bound Greatest row.terms area x there i) missed keeps.low)
+    (λ both. terms_hold name row row.terms x (Kept area) usable usable.each keeps i))
+
+-- where the box is left, the row's least and greatest are within its sides
+pub record Passes (row : Row) (area : List Interval) : Type 0 where
+  pub high : IfSome row.high (λ h. least_sum row.terms area ≤ℤ h)
+  pub low : IfSome row.low (λ l. l ≤ℤ greatest_sum row.terms area)
+
+abbrev pub IsPassed : Row → List Interval → Tight → Type 0
+IsPassed row area (Kept _) = Passes row area
+IsPassed row area (Empty _) = Unit {0}
+
+passed_all : (row : Row) (area : List Interval) (o : Tight) → Passes row area → IsPassed row area o
+passed_all row area (Kept _) h = h
+passed_all row area (Empty _) h = tt
+
+pub row_passes : (name : Option ℕ) (row : Row) (area : List Interval) → IsPassed row area (row_step name row area)
+row_passes name row area =
+    let P : Tight → Type 0 = IsPassed row area in
+    if_exceeds P row.high (least_sum row.terms area) _ _
+    (λ missed. tt)
+    (λ within. if_falls_short P row.low (greatest_sum row.terms area) _ _
+    (λ missed. tt)
+    (λ both. passed_all row area (over_terms name row row.terms (Kept area)) (record { high = within; low = both })))

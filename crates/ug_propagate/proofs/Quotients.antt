@@ -1,0 +1,118 @@
+-- Quotients of whole numbers, rounded down and up.
+use Rattle.std.proofs.Common.{◌≡◌, ◌∙◌, refl, subst, ap, ℕ, zero, suc, ◌+◌, ◌*◌, ◌/◌, ◌%◌, ◌<◌, ◌≤◌, ℤ, pos, negsuc, ◌+ℤ◌, ◌*ℤ◌, ◌≤ℤ◌, ◌<ℤ◌, neg_ℤ, unsigned_abs, arith}
+use Rattle.std.proofs.Math.Nat.{div-le_self}
+use Rattle.std.proofs.lemmas.Int.{ints, fits_signed_from_abs, by_lt_z}
+use Rattle.ug_rows.proofs.EndBounds.{mul_pos}
+use Rattle.ug_propagate.specs.Rounds.{floor_quotient, ceiling_quotient}
+
+-- a quotient is no larger than the number
+pub abs_floor : (n d : ℤ) → unsigned_abs (floor_quotient n d) ≤ unsigned_abs n
+abs_floor (pos n) (pos d) = omega (arith, div-le_self n d)
+abs_floor (pos zero) (negsuc d) = omega (arith, div-le_self 0 (suc d))
+abs_floor (pos (suc n)) (negsuc d) = omega (arith, div-le_self n (suc d))
+abs_floor (negsuc n) (pos d) = omega (arith, div-le_self n d)
+abs_floor (negsuc n) (negsuc d) = omega (arith, div-le_self (suc n) (suc d))
+
+-- for `floor_div`
+pub ruleset quotients = (abs_floor, fits_signed_from_abs)
+
+-- the product with the quotient that is rounded down is at most the number
+pub floor_within : (n : ℤ) (d : ℕ) → 0 < d → (pos d *ℤ floor_quotient n (pos d)) ≤ℤ n
+floor_within (pos n) d some = let e : d * (n / d) + n % d ≡ n = omega arith in omega (arith, ints)
+floor_within (negsuc n) d some =
+    let e : d * (n / d) + n % d ≡ n = omega arith in
+    let k : n % d < d = omega arith in
+    omega (arith, ints)
+
+-- and one divisor more is above it
+pub floor_above : (n : ℤ) (d : ℕ) → 0 < d → n <ℤ ((pos d *ℤ floor_quotient n (pos d)) +ℤ pos d)
+floor_above (pos n) d some =
+    let e : d * (n / d) + n % d ≡ n = omega arith in
+    let k : n % d < d = omega arith in
+    omega (arith, ints)
+floor_above (negsuc n) d some = let e : d * (n / d) + n % d ≡ n = omega arith in omega (arith, ints)
+
+-- one more of a factor
+mul_more : (d : ℕ) (q : ℤ) → (pos d *ℤ (q +ℤ pos 1)) ≡ (pos d *ℤ q) +ℤ pos d
+mul_more d (pos q) = omega (arith, ints)
+mul_more d (negsuc zero) = omega (arith, ints)
+mul_more d (negsuc (suc q)) =
+    let e : negsuc (suc q) +ℤ pos 1 ≡ negsuc q = omega (arith, ints) in
+    let f : pos d *ℤ negsuc q ≡ (pos d *ℤ negsuc (suc q)) +ℤ pos d = omega (arith, ints) in
+    ap (λ (y : ℤ). pos d *ℤ y) e ∙ f
+
+next : (q x : ℤ) → q <ℤ x → (q +ℤ pos 1) ≤ℤ x
+next q x h = omega (arith, ints)
+
+-- it is the greatest whole number whose product with the divisor is at most the number
+pub floor_greatest : (n : ℤ) (d : ℕ) (x : ℤ) → 0 < d → (pos d *ℤ x) ≤ℤ n → x ≤ℤ floor_quotient n (pos d)
+floor_greatest n d x some h =
+    let q : ℤ = floor_quotient n (pos d) in
+    by_lt_z q x
+    (λ above. absurd (let k : (pos d *ℤ (q +ℤ pos 1)) ≤ℤ (pos d *ℤ x) = mul_pos d (q +ℤ pos 1) x (next q x above) in
+    omega (arith, ints, k, mul_more d q, floor_above n d some, h)))
+    (λ within. within)
+
+turned : (d : ℕ) (x s : ℤ) → s ≤ℤ (negsuc d *ℤ x) → (pos (suc d) *ℤ x) ≤ℤ neg_ℤ s
+turned d (pos x) s h = omega (arith, ints)
+turned d (negsuc x) s h = omega (arith, ints)
+
+mirrored : (d x s : ℤ) → s ≤ℤ (d *ℤ x) → (d *ℤ neg_ℤ x) ≤ℤ neg_ℤ s
+mirrored (pos d) (pos zero) s h = omega (arith, ints)
+mirrored (pos d) (pos (suc x)) s h = omega (arith, ints)
+mirrored (pos d) (negsuc x) s h = omega (arith, ints)
+mirrored (negsuc d) (pos zero) s h = omega (arith, ints)
+mirrored (negsuc d) (pos (suc x)) s h = omega (arith, ints)
+mirrored (negsuc d) (negsuc x) s h = omega (arith, ints)
+
+mirrored_back : (d x s : ℤ) → (d *ℤ x) ≤ℤ s → neg_ℤ s ≤ℤ (d *ℤ neg_ℤ x)
+mirrored_back (pos d) (pos zero) s h = omega (arith, ints)
+mirrored_back (pos d) (pos (suc x)) s h = omega (arith, ints)
+mirrored_back (pos d) (negsuc x) s h = omega (arith, ints)
+mirrored_back (negsuc d) (pos zero) s h = omega (arith, ints)
+mirrored_back (negsuc d) (pos (suc x)) s h = omega (arith, ints)
+mirrored_back (negsuc d) (negsuc x) s h = omega (arith, ints)
+
+-- with a divisor below 0 it is the greatest whose product is at least the number
+pub floor_greatest_neg : (n : ℤ) (d : ℕ) (x : ℤ) → n ≤ℤ (negsuc d *ℤ x) → x ≤ℤ floor_quotient n (negsuc d)
+floor_greatest_neg n d x h = floor_greatest (neg_ℤ n) (suc d) x (omega arith) (turned d x n h)
+
+flip : (x q : ℤ) → neg_ℤ x ≤ℤ q → neg_ℤ q ≤ℤ x
+flip x q h = omega (arith, ints)
+
+-- the quotient that is rounded up is the least whose product is at least the number
+pub ceiling_least : (n : ℤ) (d : ℕ) (x : ℤ) → 0 < d → n ≤ℤ (pos d *ℤ x) → ceiling_quotient n (pos d) ≤ℤ x
+ceiling_least n d x some h =
+    flip x (floor_quotient (neg_ℤ n) (pos d)) (floor_greatest (neg_ℤ n) d (neg_ℤ x) some (mirrored (pos d) x n h))
+
+-- with a divisor below 0 it is the least whose product is at most the number
+pub ceiling_least_neg : (n : ℤ) (d : ℕ) (x : ℤ) → (negsuc d *ℤ x) ≤ℤ n → ceiling_quotient n (negsuc d) ≤ℤ x
+ceiling_least_neg n d x h =
+    flip x (floor_quotient (neg_ℤ n) (negsuc d)) (floor_greatest_neg (neg_ℤ n) d (neg_ℤ x) (mirrored_back (negsuc d) x n h))
+
+turned_back : (d : ℕ) (x s : ℤ) → (pos (suc d) *ℤ x) ≤ℤ neg_ℤ s → s ≤ℤ (negsuc d *ℤ x)
+turned_back d (pos x) s h = omega (arith, ints)
+turned_back d (negsuc x) s h = omega (arith, ints)
+
+-- the products with these quotients keep to the number
+pub floor_within_neg : (n : ℤ) (d : ℕ) → n ≤ℤ (negsuc d *ℤ floor_quotient n (negsuc d))
+floor_within_neg n d = turned_back d (floor_quotient n (negsuc d)) n (floor_within (neg_ℤ n) (suc d) (omega arith))
+
+twice : (s : ℤ) → neg_ℤ (neg_ℤ s) ≡ s
+twice (pos zero) = refl
+twice (pos (suc n)) = refl
+twice (negsuc n) = refl
+
+pub ceiling_within : (n : ℤ) (d : ℕ) → 0 < d → n ≤ℤ (pos d *ℤ ceiling_quotient n (pos d))
+ceiling_within n d some =
+    let q : ℤ = floor_quotient (neg_ℤ n) (pos d) in
+    let h : neg_ℤ (neg_ℤ n) ≤ℤ (pos d *ℤ neg_ℤ q) = mirrored_back (pos d) q (neg_ℤ n) (floor_within (neg_ℤ n) d some) in
+    let P : ℤ → Type 0 = λ (m : ℤ). m ≤ℤ (pos d *ℤ neg_ℤ q) in
+    subst P (twice n) h
+
+pub ceiling_within_neg : (n : ℤ) (d : ℕ) → (negsuc d *ℤ ceiling_quotient n (negsuc d)) ≤ℤ n
+ceiling_within_neg n d =
+    let q : ℤ = floor_quotient (neg_ℤ n) (negsuc d) in
+    let h : (negsuc d *ℤ neg_ℤ q) ≤ℤ neg_ℤ (neg_ℤ n) = mirrored (negsuc d) q (neg_ℤ n) (floor_within_neg (neg_ℤ n) d) in
+    let P : ℤ → Type 0 = λ (m : ℤ). (negsuc d *ℤ neg_ℤ q) ≤ℤ m in
+    subst P (twice n) h

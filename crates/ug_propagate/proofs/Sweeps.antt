@@ -1,0 +1,189 @@
+-- What rounds do to a box.
+use Rattle.std.proofs.Common.{◌≡◌, refl, sym, subst, ◌∙◌, ap, ℕ, zero, suc, ◌+◌, ◌<◌, ℤ, pos, ◌+ℤ◌, ◌-ℤ◌, ◌≤ℤ◌, ◌<ℤ◌, List, [], ◌∷◌, length, slice_index_or, Option, Some, None, arith}
+use Rattle.std.proofs.lemmas.Int.{ints}
+use Rattle.std.proofs.lemmas.List.{length-map}
+use Rattle.std.proofs.lemmas.List.Elements.{All-get_or}
+use Rattle.ug_rows.specs.declared.area.Interval.{Interval}
+use Rattle.ug_rows.specs.declared.row.Row.{Row}
+use Rattle.ug_rows.specs.Rows.{Keeps, sum_at}
+use Rattle.ug_problem.specs.declared.column.NamedRow.{NamedRow}
+use Rattle.ug_problem.specs.Instances.{Instance, IsRow, bounds_of, no_row, row_at}
+use Rattle.ug_problem.specs.Limits.{IsProblem}
+use Rattle.ug_problem.proofs.Linear.{linear_row, linear_objective}
+use Rattle.ug_propagate.specs.declared.tight.Tight.{Tight}
+use Rattle.ug_propagate.specs.declared.tight.Tight.TheVariants.{Kept, Empty}
+use Rattle.ug_propagate.specs.declared.tight.Reason.{Reason}
+use Rattle.ug_propagate.specs.Rounds.{cutoff_row, look_at, over_rows, over_objective, round, rounds_of, row_step}
+use Rattle.ug_propagate.specs.Claims.{Holds, IsGood, IsMissed, IsNamed}
+use Rattle.ug_propagate.proofs.Parts.{IsPart, part_trans, part_nonempty}
+use Rattle.ug_propagate.proofs.Looks.{IsLookOf, IsUsable, row_look, row_holds, usable_terms}
+
+-- the rows are those of the problem from row r on
+abbrev pub AreRowsFrom : Instance → ℕ → List NamedRow → Type 0
+AreRowsFrom p r [] = Unit {0}
+AreRowsFrom p r (named ∷ rows) = (r < length p.rows) × (named.row ≡ row_at p r) × AreRowsFrom p (r + 1) rows
+
+pub rows_from : (p : Instance) (r : ℕ) (rest : List NamedRow)
+    → ((k : ℕ) → k < length rest → (r + k < length p.rows) × (slice_index_or rest k no_row ≡ slice_index_or p.rows (r + k) no_row))
+    → AreRowsFrom p r rest
+rows_from p r [] h = tt
+rows_from p r (named ∷ rest) h =
+    let at : ℕ → NamedRow = λ (i : ℕ). slice_index_or p.rows i no_row in
+    let first : (r + 0 < length p.rows) × (named ≡ slice_index_or p.rows (r + 0) no_row) = h 0 (omega arith) in
+    let zero_more : r + 0 ≡ r = omega arith in
+    let same : named ≡ slice_index_or p.rows r no_row = first.1 ∙ ap at zero_more in (
+      omega (arith, first.0),
+      ap (λ (n : NamedRow). n.row) same,
+      rows_from p (r + 1) rest (λ k lt.
+          let next : (r + suc k < length p.rows) × (slice_index_or rest k no_row ≡ slice_index_or p.rows (r + suc k) no_row) =
+          h (suc k) (omega arith) in
+          let one_more : r + suc k ≡ r + 1 + k = omega arith in
+          (omega (arith, next.0), next.1 ∙ ap at one_more)),
+    )
+
+pub all_rows_from : (p : Instance) → AreRowsFrom p 0 p.rows
+all_rows_from p =
+    let at : ℕ → NamedRow = λ (i : ℕ). slice_index_or p.rows i no_row in
+    rows_from p 0 p.rows (λ k lt. let e : k ≡ 0 + k = omega arith in (omega arith, ap at e))
+
+pub usable_row : (p : Instance) (r : ℕ) → IsProblem p → r < length p.rows → IsUsable (length p.columns) (row_at p r).terms
+usable_row p r problem there =
+    let formed : IsRow (length p.columns) (slice_index_or p.rows r no_row) =
+    All-get_or (IsRow (length p.columns)) p.rows r no_row there problem.formed.rows in
+    usable_terms (length p.columns) (row_at p r).terms (linear_row p r problem there) formed.terms.nonzero
+
+pub usable_named : (p : Instance) (r : ℕ) (row : Row) → IsProblem p → r < length p.rows → row ≡ row_at p r
+    → IsUsable (length p.columns) row.terms
+usable_named p r row problem there same =
+    let P : Row → Type 0 = λ (w : Row). IsUsable (length p.columns) w.terms in
+    subst P (sym same) (usable_row p r problem there)
+
+pub usable_objective : (p : Instance) → IsProblem p → IsUsable (length p.columns) p.objective.terms
+usable_objective p problem =
+    usable_terms (length p.columns) p.objective.terms (linear_objective p problem) problem.formed.objective.nonzero
+
+-- a part of the box, over which no sum of the named row keeps to the side of the reason
+pub record IsShownIn (p : Instance) (cutoff : Option ℤ) (area : List Interval) (reason : Reason) : Type 0 where
+  pub row : Row
+  pub named : IsNamed p cutoff reason.row row
+  pub inner : List Interval
+  pub part : IsPart inner area
+  pub missed : IsMissed reason.side row inner
+
+-- a part of the box is left, or a row shows that nothing is
+abbrev pub IsSweepOf : Instance → Option ℤ → List Interval → Tight → Type 0
+IsSweepOf p cutoff area (Kept left) = IsPart left area
+IsSweepOf p cutoff area (Empty reason) = IsShownIn p cutoff area reason
+
+look_sweep : (p : Instance) (cutoff : Option ℤ) (area left : List Interval) (name : Option ℕ) (row : Row) (o : Tight)
+    → IsNamed p cutoff name row → IsPart left area → IsLookOf name row left o → IsSweepOf p cutoff area o
+look_sweep p cutoff area left name row (Kept last) named part h = part_trans last left area h part
+look_sweep p cutoff area left name row (Empty reason) named part h =
+    let P : Option ℕ → Type 0 = λ (n : Option ℕ). IsNamed p cutoff n row in
+    record {
+      row = row;
+      named = subst P (sym h.named) named;
+      inner = h.inner;
+      part = part_trans h.inner left area h.part part;
+      missed = h.missed;
+    }
+
+look_at_sweep : (p : Instance) (cutoff : Option ℤ) (area : List Interval) (name : Option ℕ) (row : Row) (o : Tight)
+    → IsNamed p cutoff name row → IsUsable (length area) row.terms → IsSweepOf p cutoff area o
+    → IsSweepOf p cutoff area (look_at name row o)
+look_at_sweep p cutoff area name row (Empty reason) named usable h = h
+look_at_sweep p cutoff area name row (Kept left) named usable h =
+    let P : ℕ → Type 0 = λ (w : ℕ). IsUsable w row.terms in
+    look_sweep p cutoff area left name row (row_step name row left) named h
+    (row_look name row left (part_nonempty left area h) (subst P (sym h.width) usable))
+
+rows_sweep : (p : Instance) (cutoff : Option ℤ) (area : List Interval) (r : ℕ) (rest : List NamedRow) (o : Tight)
+    → IsProblem p → length area ≡ length p.columns → AreRowsFrom p r rest → IsSweepOf p cutoff area o
+    → IsSweepOf p cutoff area (over_rows r rest o)
+rows_sweep p cutoff area r [] o problem wide from h = h
+rows_sweep p cutoff area r (named ∷ rest) o problem wide from h =
+    let P : ℕ → Type 0 = λ (w : ℕ). IsUsable w named.row.terms in
+    rows_sweep p cutoff area (r + 1) rest (look_at (Some r) named.row o) problem wide from.2
+    (look_at_sweep p cutoff area (Some r) named.row o (from.0, from.1)
+    (subst P (sym wide) (usable_named p r named.row problem from.0 from.1)) h)
+
+objective_sweep : (p : Instance) (cutoff : Option ℤ) (area : List Interval) (o : Tight)
+    → IsProblem p → length area ≡ length p.columns → IsSweepOf p cutoff area o
+    → IsSweepOf p cutoff area (over_objective p.objective cutoff o)
+objective_sweep p None area o problem wide h = h
+objective_sweep p (Some c) area o problem wide h =
+    let P : ℕ → Type 0 = λ (w : ℕ). IsUsable w p.objective.terms in
+    look_at_sweep p (Some c) area None (cutoff_row p.objective c) o refl (subst P (sym wide) (usable_objective p problem)) h
+
+pub round_sweep : (p : Instance) (cutoff : Option ℤ) (area : List Interval) (o : Tight)
+    → IsProblem p → length area ≡ length p.columns → IsSweepOf p cutoff area o → IsSweepOf p cutoff area (round p cutoff o)
+round_sweep p cutoff area o problem wide h =
+    objective_sweep p cutoff area (over_rows 0 p.rows o) problem wide
+    (rows_sweep p cutoff area 0 p.rows o problem wide (all_rows_from p) h)
+
+pub rounds_sweep : (n : ℕ) (p : Instance) (cutoff : Option ℤ) (area : List Interval) (o : Tight)
+    → IsProblem p → length area ≡ length p.columns → IsSweepOf p cutoff area o → IsSweepOf p cutoff area (rounds_of n p cutoff o)
+unfolding rounds_of
+rounds_sweep zero p cutoff area o problem wide h = h
+rounds_sweep (suc n) p cutoff area o problem wide h =
+    rounds_sweep n p cutoff area (round p cutoff o) problem wide (round_sweep p cutoff area o problem wide h)
+
+-- good points are kept
+look_at_holds : (name : Option ℕ) (row : Row) (x : List ℤ) (o : Tight) → IsUsable (length x) row.terms → Keeps row x
+    → Holds o x → Holds (look_at name row o) x
+look_at_holds name row x (Empty reason) usable keeps h = h
+look_at_holds name row x (Kept left) usable keeps h = row_holds name row left x usable keeps h
+
+pub good_width : (p : Instance) (cutoff : Option ℤ) (x : List ℤ) → IsGood p cutoff x → length x ≡ length p.columns
+good_width p cutoff x good = good.feasible.inside.width ∙ length-map p.columns bounds_of
+
+rows_hold : (p : Instance) (cutoff : Option ℤ) (x : List ℤ) (r : ℕ) (rest : List NamedRow) (o : Tight)
+    → IsProblem p → IsGood p cutoff x → AreRowsFrom p r rest → Holds o x → Holds (over_rows r rest o) x
+rows_hold p cutoff x r [] o problem good from h = h
+rows_hold p cutoff x r (named ∷ rest) o problem good from h =
+    let P : ℕ → Type 0 = λ (w : ℕ). IsUsable w named.row.terms in
+    let Q : Row → Type 0 = λ (w : Row). Keeps w x in
+    rows_hold p cutoff x (r + 1) rest (look_at (Some r) named.row o) problem good from.2
+    (look_at_holds (Some r) named.row x o
+    (subst P (sym (good_width p cutoff x good)) (usable_named p r named.row problem from.0 from.1))
+    (subst Q (sym from.1) (good.feasible.rows r from.0)) h)
+
+value_below : (sum constant c : ℤ) → (sum +ℤ constant) <ℤ c → sum ≤ℤ (c -ℤ pos 1 -ℤ constant)
+value_below sum constant c h = omega (arith, ints)
+
+objective_holds : (p : Instance) (cutoff : Option ℤ) (x : List ℤ) (o : Tight)
+    → IsProblem p → IsGood p cutoff x → Holds o x → Holds (over_objective p.objective cutoff o) x
+objective_holds p None x o problem good h = h
+objective_holds p (Some c) x o problem good h =
+    let P : ℕ → Type 0 = λ (w : ℕ). IsUsable w p.objective.terms in
+    look_at_holds None (cutoff_row p.objective c) x o
+    (subst P (sym (good_width p (Some c) x good)) (usable_objective p problem))
+    (record { low = tt; high = value_below (sum_at p.objective.terms x) p.objective.constant c good.less }) h
+
+pub round_holds : (p : Instance) (cutoff : Option ℤ) (x : List ℤ) (o : Tight)
+    → IsProblem p → IsGood p cutoff x → Holds o x → Holds (round p cutoff o) x
+round_holds p cutoff x o problem good h =
+    objective_holds p cutoff x (over_rows 0 p.rows o) problem good
+    (rows_hold p cutoff x 0 p.rows o problem good (all_rows_from p) h)
+
+pub rounds_hold : (n : ℕ) (p : Instance) (cutoff : Option ℤ) (x : List ℤ) (o : Tight)
+    → IsProblem p → IsGood p cutoff x → Holds o x → Holds (rounds_of n p cutoff o) x
+unfolding rounds_of
+rounds_hold zero p cutoff x o problem good h = h
+rounds_hold (suc n) p cutoff x o problem good h =
+    rounds_hold n p cutoff x (round p cutoff o) problem good (round_holds p cutoff x o problem good h)
+
+-- after a round that changes nothing, no other changes anything
+pub rounds_stay : (n : ℕ) (p : Instance) (cutoff : Option ℤ) (o : Tight) → round p cutoff o ≡ o → rounds_of n p cutoff o ≡ o
+unfolding rounds_of
+rounds_stay zero p cutoff o same = refl
+rounds_stay (suc n) p cutoff o same = ap (λ (t : Tight). rounds_of n p cutoff t) same ∙ rounds_stay n p cutoff o same
+
+pub rounds_of_none : (p : Instance) (cutoff : Option ℤ) (o : Tight) → rounds_of 0 p cutoff o ≡ o
+unfolding rounds_of
+rounds_of_none p cutoff o = refl
+
+pub rounds_of_more : (n : ℕ) (p : Instance) (cutoff : Option ℤ) (o : Tight)
+    → rounds_of (suc n) p cutoff o ≡ rounds_of n p cutoff (round p cutoff o)
+unfolding rounds_of
+rounds_of_more n p cutoff o = refl

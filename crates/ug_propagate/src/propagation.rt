@@ -1,0 +1,86 @@
+ghost use Rattle.std.specs.Prelude.{◌≡◌, ◌≤◌, ◌*◌, ◌^◌, length, unsigned_abs, IfSome, IfOk};
+ghost use Rattle.ug_propagate.specs.Claims.{HasReason, IsLeftOf, IsSolved, KeepsGood};
+ghost use Rattle.ug_propagate.specs.Rounds.{crossed, last_round, rounds, rounds_of};
+ghost use Rattle.ug_propagate.specs.declared.tight.Tight.TheVariants.{Kept};
+
+use crate::rounds::{has_point, run_all};
+use crate::tight::{Reason, Side, Tight};
+use std::alloc::{AllocError, Global};
+use ug_problem::Problem;
+use ug_rows::{IntBox, Interval};
+
+// What is said of a box without points: the row that is looked at first, if there is one.
+fn told_of_crossed(
+    alloc: Global,
+    problem: &Problem,
+    cutoff: Option<i128>,
+    area: &[Interval],
+) -> Result<Tight, AllocError>
+    ensures { IfOk result (λ t. t ≡ crossed problem.now.rows cutoff area.now) }
+{
+    let row = match (problem.rows().is_empty(), cutoff) {
+        (true, None) => return Ok(Tight::Kept(IntBox::from_vec(Vec::from_slice(alloc, area)?))),
+        (true, Some(_)) => None,
+        (false, _) => Some(0),
+    };
+    Ok(Tight::Empty(Reason {
+        row,
+        side: Side::High,
+    }))
+}
+
+// The rounds of a box that has a point.
+fn tighten_sides(
+    alloc: Global,
+    problem: &Problem,
+    cutoff: Option<i128>,
+    area: &[Interval],
+) -> Result<Tight, AllocError>
+    requires width { length area.now ≡ length problem.now.columns }
+    requires cutoff { IfSome cutoff (λ c. unsigned_abs c ≤ 2 * 10 ^ 37) }
+    ensures { IfOk result (λ t. t ≡ last_round problem.now cutoff (rounds_of 32 problem.now cutoff (Kept area.now))) }
+{
+    let mut sides = Vec::from_slice(alloc, area)?;
+    let told = run_all(alloc, problem, cutoff, sides.as_mut_slice())?;
+    match told {
+        Some(reason) => Ok(Tight::Empty(reason)),
+        None => Ok(Tight::Kept(IntBox::from_vec(sides))),
+    }
+}
+
+#[tactic(auto, using(crate::proofs::Bodies::rounds_some, crate::proofs::Bodies::rounds_none))]
+fn tighten_area(
+    alloc: Global,
+    problem: &Problem,
+    cutoff: Option<i128>,
+    area: &[Interval],
+) -> Result<Tight, AllocError>
+    requires width { length area.now ≡ length problem.now.columns }
+    requires cutoff { IfSome cutoff (λ c. unsigned_abs c ≤ 2 * 10 ^ 37) }
+    ensures { IfOk result (λ t. t ≡ rounds problem.now cutoff area.now) }
+{
+    if has_point(area) {
+        tighten_sides(alloc, problem, cutoff, area)
+    } else {
+        told_of_crossed(alloc, problem, cutoff, area)
+    }
+}
+
+/// What bound propagation makes of a box, for points with a value below the cutoff.
+pub fn tighten(
+    alloc: Global,
+    problem: &Problem,
+    cutoff: Option<i128>,
+    area: &IntBox,
+) -> Result<Tight, AllocError>
+    requires width { length area.now ≡ length problem.now.columns }
+    requires cutoff { IfSome cutoff (λ c. unsigned_abs c ≤ 2 * 10 ^ 37) }
+    ensures value { IfOk result (λ t. t ≡ rounds problem.now cutoff area.now) }
+    ensures below { IfOk result (λ t. IsLeftOf area.now t) }
+    ensures kept { IfOk result (λ t. KeepsGood problem.now cutoff area.now t) }
+    ensures empty { IfOk result (λ t. HasReason problem.now cutoff area.now t) }
+    ensures fixed { IfOk result (λ t. IsSolved problem.now cutoff t) }
+{
+    let _ = problem.rows();
+    tighten_area(alloc, problem, cutoff, area.as_slice())
+}
