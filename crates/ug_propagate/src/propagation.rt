@@ -1,4 +1,5 @@
 ghost use Rattle.std.specs.Prelude.{◌≡◌, ◌≤◌, ◌*◌, ◌^◌, length, unsigned_abs, IfSome, IfOk};
+ghost use Rattle.ug_problem.specs.Limits.{IsProblem};
 ghost use Rattle.ug_propagate.specs.Claims.{HasReason, IsLeftOf, IsSolved, KeepsGood};
 ghost use Rattle.ug_propagate.specs.Rounds.{crossed, last_round, rounds, rounds_of};
 ghost use Rattle.ug_propagate.specs.declared.tight.Tight.TheVariants.{Kept};
@@ -6,19 +7,19 @@ ghost use Rattle.ug_propagate.specs.declared.tight.Tight.TheVariants.{Kept};
 use crate::rounds::{has_point, run_all};
 use crate::tight::{Reason, Side, Tight};
 use std::alloc::{AllocError, Global};
-use ug_problem::Problem;
+use ug_problem::{NamedRow, Problem};
 use ug_rows::{IntBox, Interval};
 
 // What is said of a box without points: the row that is looked at first, if there is one.
 fn told_of_crossed(
     alloc: Global,
-    problem: &Problem,
+    rows: &[NamedRow],
     cutoff: Option<i128>,
     area: &[Interval],
 ) -> Result<Tight, AllocError>
-    ensures { IfOk result (λ t. t ≡ crossed problem.now.rows cutoff area.now) }
+    ensures { IfOk result (λ t. t ≡ crossed rows.now cutoff area.now) }
 {
-    let row = match (problem.rows().is_empty(), cutoff) {
+    let row = match (rows.is_empty(), cutoff) {
         (true, None) => return Ok(Tight::Kept(IntBox::from_vec(Vec::from_slice(alloc, area)?))),
         (true, Some(_)) => None,
         (false, _) => Some(0),
@@ -57,12 +58,14 @@ fn tighten_area(
 ) -> Result<Tight, AllocError>
     requires width { length area.now ≡ length problem.now.columns }
     requires cutoff { IfSome cutoff (λ c. unsigned_abs c ≤ 2 * 10 ^ 37) }
-    ensures { IfOk result (λ t. t ≡ rounds problem.now cutoff area.now) }
+    ensures problem { IsProblem problem.now }
+    ensures value { IfOk result (λ t. t ≡ rounds problem.now cutoff area.now) }
 {
+    let rows = problem.rows();
     if has_point(area) {
         tighten_sides(alloc, problem, cutoff, area)
     } else {
-        told_of_crossed(alloc, problem, cutoff, area)
+        told_of_crossed(alloc, rows, cutoff, area)
     }
 }
 
@@ -81,6 +84,5 @@ pub fn tighten(
     ensures empty { IfOk result (λ t. HasReason problem.now cutoff area.now t) }
     ensures fixed { IfOk result (λ t. IsSolved problem.now cutoff t) }
 {
-    let _ = problem.rows();
     tighten_area(alloc, problem, cutoff, area.as_slice())
 }
