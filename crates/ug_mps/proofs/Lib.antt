@@ -1,5 +1,7 @@
 mod Outcome
-mod LongTexts
+mod DecidedTexts
+pub mod EndLines
+pub mod Endings
 pub mod Contents
 pub mod Digits
 pub mod Pieces

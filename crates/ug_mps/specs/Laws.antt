@@ -10,7 +10,7 @@ pub record HasOneOutcome (text : List ℕ) : Type 0 where
   pub fault : (f g : MpsFault) → FirstFault text f → FirstFault text g → f ≡ g
   pub apart : (p : Instance) (f : MpsFault) → Reads text p → FirstFault text f → ⊥
 
--- what a text above the limit states that ends with a line, it states whatever follows
+-- what the text states, any text states that begins with it
 pub record IsDecided (text : List ℕ) : Type 0 where
   pub problem : (p : Instance) (more : List ℕ) → Reads text p → Reads (text ++ more) p
   pub fault : (f : MpsFault) (more : List ℕ) → FirstFault text f → FirstFault (text ++ more) f

@@ -6,6 +6,7 @@
 #![tactic(auto)]
 
 mod draft;
+mod ending;
 mod entry;
 mod fault;
 mod laws;
@@ -17,7 +18,8 @@ mod said;
 mod section;
 mod words;
 
+pub use ending::enough;
 pub use fault::{Kind, MpsError, MpsFault};
-pub use laws::{long_texts_are_decided, one_outcome};
+pub use laws::one_outcome;
 pub use reading::read;
 pub use section::{RowKind, Section};

@@ -5,7 +5,7 @@ ghost use Rattle.ug_mps.specs.Entries.{is_data};
 use std::alloc::{AllocError, Global};
 
 /// Space and tab.
-fn is_blank(byte: u8) -> bool
+pub(crate) fn is_blank(byte: u8) -> bool
     ensures { result ≡ is_blank byte }
 {
     byte == b' ' || byte == b'\t'

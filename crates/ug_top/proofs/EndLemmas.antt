@@ -1,9 +1,9 @@
 -- How the work ends: what a text comes to, all the bytes come to.
-use Rattle.std.proofs.Common.{◌≡◌, ℕ, ◌<◌, ◌⊎◌, inl, inr, List, length, Option, Some, None, IfSome, refl, sym, ◌∙◌, subst, arith}
+use Rattle.std.proofs.Common.{◌≡◌, ℕ, ◌⊎◌, inl, inr, List, Option, Some, None, IfSome, refl, sym, ◌∙◌, subst, arith}
 use Rattle.ug_problem.specs.Instances.{Instance}
 use Rattle.ug_mps.specs.declared.fault.MpsFault.{MpsFault}
 use Rattle.ug_mps.specs.Reads.{Reads, FirstFault}
-use Rattle.ug_mps.specs.Laws.{HasOneOutcome, IsDecided, EndsLine}
+use Rattle.ug_mps.specs.Laws.{HasOneOutcome}
 use Rattle.ug_top.specs.Outside.{Rose, IsCalm, IsEnough}
 use Rattle.ug_top.specs.Ends.{status_of, AreEndLines, IsEndOf, IsTold, IsSolved}
 use Rattle.ug_top.specs.declared.status.Status.{Status}
@@ -11,51 +11,45 @@ use Rattle.ug_top.specs.declared.status.Status.TheVariants as statuses
 use Rattle.ug_top.specs.declared.running.End.{End}
 use Rattle.ug_top.specs.declared.running.End.TheVariants.{Answered, Refused, ReadFault, Memory}
 
--- long texts that end with a line are decided
-abbrev pub LongAreDecided : Type 0
-LongAreDecided = (text : List ℕ) → EndsLine text → 268435456 < length text → IsDecided text
-
 -- enough of the bytes state what all of them do
-reads_whole : LongAreDecided → (bytes text : List ℕ) (p : Instance) → IsEnough bytes text → Reads text p → Reads bytes p
-reads_whole law bytes text p (inl e) r = subst (λ t. Reads t p) (sym e) r
-reads_whole law bytes text p (inr cut) r =
-    subst (λ t. Reads t p) (sym cut.parts) ((law text (cut.front, cut.line) cut.long).problem p cut.rest r)
+reads_whole : (bytes text : List ℕ) (p : Instance) → IsEnough bytes text → Reads text p → Reads bytes p
+reads_whole bytes text p (inl e) r = subst (λ t. Reads t p) (sym e) r
+reads_whole bytes text p (inr cut) r = subst (λ t. Reads t p) (sym cut.parts) (cut.decided.problem p cut.rest r)
 
-fault_whole : LongAreDecided → (bytes text : List ℕ) (f : MpsFault) → IsEnough bytes text → FirstFault text f → FirstFault bytes f
-fault_whole law bytes text f (inl e) r = subst (λ t. FirstFault t f) (sym e) r
-fault_whole law bytes text f (inr cut) r =
-    subst (λ t. FirstFault t f) (sym cut.parts) ((law text (cut.front, cut.line) cut.long).fault f cut.rest r)
+fault_whole : (bytes text : List ℕ) (f : MpsFault) → IsEnough bytes text → FirstFault text f → FirstFault bytes f
+fault_whole bytes text f (inl e) r = subst (λ t. FirstFault t f) (sym e) r
+fault_whole bytes text f (inr cut) r = subst (λ t. FirstFault t f) (sym cut.parts) (cut.decided.fault f cut.rest r)
 
 -- what a text comes to, the bytes of the source come to
-pub end_lines : ((text : List ℕ) → HasOneOutcome text) → LongAreDecided → (told : Option (List ℕ)) (text : List ℕ) (end : End)
+pub end_lines : ((text : List ℕ) → HasOneOutcome text) → (told : Option (List ℕ)) (text : List ℕ) (end : End)
     → IfSome told (λ bytes. IsEnough bytes text) → IsEndOf text end → AreEndLines told end
-end_lines one law None text (Answered lines) h (p, r, (a, right, l)) = record {
+end_lines one None text (Answered lines) h (p, r, (a, right, l)) = record {
   lines = record { problem = p; answer = a; reads = tt; right = right; lines = l };
   fault = tt;
   problem = tt;
 }
-end_lines one law (Some bytes) text (Answered lines) h (p, r, (a, right, l)) =
-    let reads = reads_whole law bytes text p h r in
+end_lines one (Some bytes) text (Answered lines) h (p, r, (a, right, l)) =
+    let reads = reads_whole bytes text p h r in
     record {
       lines = record { problem = p; answer = a; reads = reads; right = right; lines = l };
       fault = λ f first. absurd ((one bytes).apart p f reads first);
       problem = λ q s. inl refl;
     }
-end_lines one law None text (Refused lines) h (f, r, e) = record {
+end_lines one None text (Refused lines) h (f, r, e) = record {
   lines = record { fault = f; first = tt; is = e };
   fault = tt;
   problem = tt;
 }
-end_lines one law (Some bytes) text (Refused lines) h (f, r, e) =
-    let first = fault_whole law bytes text f h r in
+end_lines one (Some bytes) text (Refused lines) h (f, r, e) =
+    let first = fault_whole bytes text f h r in
     record {
       lines = record { fault = f; first = first; is = e };
       fault = λ g s. inl refl;
       problem = λ p s. absurd ((one bytes).apart p f s first);
     }
-end_lines one law told text ReadFault h e = absurd e
-end_lines one law None text Memory h e = record { lines = refl; fault = tt; problem = tt }
-end_lines one law (Some bytes) text Memory h e = record { lines = refl; fault = λ f s. inr (inl refl); problem = λ p s. inr (inl refl) }
+end_lines one told text ReadFault h e = absurd e
+end_lines one None text Memory h e = record { lines = refl; fault = tt; problem = tt }
+end_lines one (Some bytes) text Memory h e = record { lines = refl; fault = λ f s. inr (inl refl); problem = λ p s. inr (inl refl) }
 
 -- a fault that rose leaves no calm
 not_calm : (old new : ℕ) → Rose old new → IsCalm old new → ⊥

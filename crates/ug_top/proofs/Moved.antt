@@ -1,9 +1,9 @@
 -- Bytes that went to a sink or came from a source, in two calls.
-use Rattle.std.proofs.Common.{◌≡◌, ℕ, List, [], ◌∷◌, ◌++◌, Option, Some, None, take, drop, refl, ap, sym, ◌∙◌, append_assoc, append-nil, take-append-drop}
+use Rattle.std.proofs.Common.{◌≡◌, ℕ, List, [], ◌++◌, Option, Some, None, take, drop, refl, ap, sym, ◌∙◌, append_assoc, append-nil, take-append-drop}
 use Rattle.std.specs.Option.{option_map}
-use Rattle.std.proofs.Common.{◌+◌, IfSome, subst, inl, inr, arith}
-use Rattle.std.proofs.lemmas.List.{take_more, length-take-le}
-use Rattle.ug_top.specs.Outside.{Gives, Takes, IsAtEnd, IsEnough, IsLineBehind, IsLineFeedBehind}
+use Rattle.std.proofs.Common.{IfSome, subst, inl, inr}
+use Rattle.ug_top.specs.Outside.{Gives, Takes, IsAtEnd, IsEnough}
+use Rattle.ug_mps.specs.Laws.{IsDecided}
 
 -- a front of the bytes went there, and these are left
 pub record Went (old new : Option (List ℕ)) (bytes rest : List ℕ) : Type 0 where
@@ -36,30 +36,18 @@ gives_more a b None xs ys p q = p ∙ ap (λ o. option_map (λ rest. xs ++ rest)
 gives_more a b (Some r) xs ys p q =
     p ∙ ap (λ o. option_map (λ rest. xs ++ rest) o) q ∙ ap (λ t. Some t) (sym (append_assoc xs ys r))
 
--- the bytes up to a line feed behind the limit
-pub line_behind : (bytes : List ℕ) (i : ℕ) → IsLineFeedBehind bytes i → IsLineBehind bytes (take (i + 1) bytes)
-line_behind bytes i h = record {
-  front = take i bytes;
-  rest = drop (i + 1) bytes;
-  parts = sym (take-append-drop (i + 1) bytes);
-  line = take_more bytes i 0 h.there ∙ ap (λ b. take i bytes ++ b ∷ []) h.feed;
-  long = let e = length-take-le (i + 1) bytes (omega (arith, h.there)) in omega (arith, h.behind, e);
-}
-
 -- all came
 pub enough_at_end : (a b : Option (List ℕ)) (xs : List ℕ) → Gives a b xs → IsAtEnd b → IfSome a (λ whole. IsEnough whole xs)
 enough_at_end a None xs p q = subst (λ o. IfSome o (λ whole. IsEnough whole xs)) (sym p) tt
 enough_at_end a (Some r) xs p q =
     subst (λ o. IfSome o (λ whole. IsEnough whole xs)) (sym p) (inl (ap (λ t. xs ++ t) q ∙ append-nil xs))
 
--- a front that ends with a line came, behind the limit
-pub enough_behind : (a b : Option (List ℕ)) (xs text : List ℕ) → Gives a b xs → IsLineBehind xs text → IfSome a (λ whole. IsEnough whole text)
-enough_behind a None xs text p q = subst (λ o. IfSome o (λ whole. IsEnough whole text)) (sym p) tt
-enough_behind a (Some r) xs text p q = subst (λ o. IfSome o (λ whole. IsEnough whole text)) (sym p)
+-- a front that decides came
+pub enough_decided : (a b : Option (List ℕ)) (xs : List ℕ) (n : ℕ) → Gives a b xs → IsDecided (take n xs) → IfSome a (λ whole. IsEnough whole (take n xs))
+enough_decided a None xs n p q = subst (λ o. IfSome o (λ whole. IsEnough whole (take n xs))) (sym p) tt
+enough_decided a (Some r) xs n p q = subst (λ o. IfSome o (λ whole. IsEnough whole (take n xs))) (sym p)
     (inr (record {
-      front = q.front;
-      rest = q.rest ++ r;
-      parts = ap (λ t. t ++ r) q.parts ∙ append_assoc text q.rest r;
-      line = q.line;
-      long = q.long;
+      rest = drop n xs ++ r;
+      parts = ap (λ t. t ++ r) (sym (take-append-drop n xs)) ∙ append_assoc (take n xs) (drop n xs) r;
+      decided = q;
     }))

@@ -1,6 +1,7 @@
 -- What is said of the outside: bytes that come and go, where they are told, and a count of faults.
-use Rattle.std.specs.Prelude.{◌≡◌, ℕ, ◌-◌, ◌<◌, ◌≤◌, ◌^◌, ◌⊎◌, List, [], ◌∷◌, ◌++◌, length, slice_index, Option, IfSome}
+use Rattle.std.specs.Prelude.{◌≡◌, ℕ, ◌-◌, ◌<◌, ◌≤◌, ◌^◌, ◌⊎◌, List, [], ◌++◌, Option, IfSome}
 use Rattle.std.specs.Option.{option_map}
+use Rattle.ug_mps.specs.Laws.{IsDecided}
 
 -- the count of faults rose; one that stands at its greatest value counts as risen
 abbrev pub Rose : ℕ → ℕ → Type 0
@@ -30,20 +31,12 @@ pub record TakesFront (old new : Option (List ℕ)) (bytes : List ℕ) : Type 0 
   pub parts : bytes ≡ front ++ rest
   pub taken : Takes old new front
 
--- the text is a front of the bytes, up to the end of a line behind the limit of a text
-pub record IsLineBehind (bytes text : List ℕ) : Type 0 where
-  pub front : List ℕ
+-- the text is a front of the bytes, and decides what they state
+pub record IsDecidingFront (bytes text : List ℕ) : Type 0 where
   pub rest : List ℕ
   pub parts : bytes ≡ text ++ rest
-  pub line : text ≡ front ++ 10 ∷ []
-  pub long : 268435456 < length text
-
--- a line feed stands at this place, behind the limit of a text
-pub record IsLineFeedBehind (bytes : List ℕ) (at : ℕ) : Type 0 where
-  pub there : at < length bytes
-  pub behind : 268435456 ≤ at
-  pub feed : slice_index bytes at ≡ 10
+  pub decided : IsDecided text
 
 -- the text is all the bytes, or enough of them to decide what they state
 abbrev pub IsEnough : List ℕ → List ℕ → Type 0
-IsEnough bytes text = (bytes ≡ text) ⊎ IsLineBehind bytes text
+IsEnough bytes text = (bytes ≡ text) ⊎ IsDecidingFront bytes text

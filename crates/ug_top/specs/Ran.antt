@@ -1,11 +1,11 @@
 -- What a run did, by its status.
-use Rattle.std.specs.Prelude.{◌≡◌, ℕ, List, [], Option, IfSome, codes}
+use Rattle.std.specs.Prelude.{◌≡◌, ◌≢◌, ℕ, ◌<◌, List, [], Option, IfSome, codes}
 use Rattle.ug_problem.specs.Instances.{Instance}
 use Rattle.ug_problem.specs.Right.{Right}
 use Rattle.ug_problem.specs.declared.answer.Answer.{Answer}
 use Rattle.ug_mps.specs.declared.fault.MpsFault.{MpsFault}
 use Rattle.ug_mps.specs.Reads.{Reads, FirstFault}
-use Rattle.ug_top.specs.Outside.{Takes, TakesFront}
+use Rattle.ug_top.specs.Outside.{Rose, Takes, TakesFront}
 use Rattle.ug_top.specs.Printed.{line, AreAnswerLines, refused_line}
 use Rattle.ug_top.specs.declared.status.Status.{Status}
 use Rattle.ug_top.specs.declared.status.Status.TheVariants.{Answered, Usage, Refused, ReadFault, WriteFault, Memory}
@@ -42,7 +42,14 @@ AreLines told ReadFault text = text ≡ line (codes "read fault")
 AreLines told WriteFault text = ⊥
 AreLines told Memory text = text ≡ line (codes "memory")
 
--- the lines of the status were written; where the sink failed, a front of another status's
-abbrev pub Wrote : Option (List ℕ) → Option (List ℕ) → Option (List ℕ) → Status → Type 0
-Wrote told old new WriteFault = (status : Status) × (text : List ℕ) × AreLines told status text × TakesFront old new text
-Wrote told old new status = (text : List ℕ) × AreLines told status text × Takes old new text
+-- what the work came to before a line was written: the status and its lines, a read fault exactly where the source's faults rose
+pub record IsDue (told : Option (List ℕ)) (faults faults' : ℕ) (status : Status) (text : List ℕ) : Type 0 where
+  pub lines : AreLines told status text
+  pub work : status ≢ Usage
+  pub fault : status ≡ ReadFault → Rose faults faults'
+  pub source : faults < faults' → status ≡ ReadFault
+
+-- the lines of the status were written; where the sink failed, a front of those that were due
+abbrev pub Wrote : Option (List ℕ) → ℕ → ℕ → Option (List ℕ) → Option (List ℕ) → Status → Type 0
+Wrote told faults faults' old new WriteFault = (status : Status) × (text : List ℕ) × IsDue told faults faults' status text × TakesFront old new text
+Wrote told faults faults' old new status = (text : List ℕ) × AreLines told status text × Takes old new text

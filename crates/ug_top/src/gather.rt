@@ -1,12 +1,13 @@
 ghost use Rattle.std.specs.Prelude.{◌≡◌, ◌<◌, ◌≤◌, length, IfOk, OnOk, IfSome, IsErrOf};
-ghost use Rattle.ug_top.specs.Outside.{Rose, IsEnough, IsLineBehind, IsLineFeedBehind};
+ghost use Rattle.ug_top.specs.Outside.{Rose, IsEnough};
 ghost use Rattle.ug_top.specs.declared.gather.GatherError.TheVariants.{Memory, Fault};
 
 use crate::outside::{Failed, Source};
 use std::alloc::{AllocError, Global};
+use ug_mps::enough;
 
-/// The bytes that a text may have before its ENDATA line.
-const LIMIT: usize = 268_435_456;
+/// How many bytes are enough to see that a text is too long: one more than it may have before its ENDATA line.
+const MOST: usize = 268_435_457;
 
 /// How many bytes are asked for at once.
 const PIECE: usize = 65_536;
@@ -34,8 +35,9 @@ impl From<Failed> for GatherError {
     }
 }
 
-/// The bytes that are left, or of a text above the limit enough to decide what it states. A text whose
-/// lines do not end for long behind the limit is refused for want of memory.
+/// The bytes that are left, up to those that decide what they state: the ENDATA line, or the byte with which a line
+/// that is none passes the limit. Bytes beyond the limit are read one by one, while the line that passes it may still
+/// be ENDATA; where that goes on for long, it is refused for want of memory.
 #[tactic(auto, using(crate::proofs::Moved::gives_more))]
 pub fn gather<S: Source>(alloc: Global, input: &mut S) -> Result<Vec<u8>, GatherError>
     ensures enough { IfOk result (λ bytes. IfSome (S.left input.old) (λ whole. IsEnough whole bytes.items)) }
@@ -45,44 +47,28 @@ pub fn gather<S: Source>(alloc: Global, input: &mut S) -> Result<Vec<u8>, Gather
 {
     let mut bytes = Vec::new(alloc);
     let mut buffer = zeros(alloc, PIECE)?;
-    while bytes.len() < LIMIT + PIECE {
+    let mut from = 0;
+    while bytes.len() < MOST + PIECE {
+        if let Some(end) = enough(&bytes, from) {
+            bytes.truncate(end);
+            return Ok(bytes);
+        }
+        buffer.truncate(room(bytes.len()));
         let n = input.read(&mut buffer)?;
         if n == 0 {
             return Ok(bytes);
         }
+        from = bytes.len();
         bytes.extend_from_slice(&buffer[..n])?;
     }
-    up_to_a_line(bytes)
+    Err(GatherError::Memory)
 }
 
-// The bytes up to the end of a line behind the limit.
-#[tactic(auto, using(crate::proofs::Moved::line_behind))]
-fn up_to_a_line(mut bytes: Vec<u8>) -> Result<Vec<u8>, GatherError>
-    requires { 268500992 ≤ length bytes.items }
-    ensures cut { IfOk result (λ text. IsLineBehind bytes.items text.items) }
-    ensures fault { IsErrOf result GatherError.Fault → ⊥ }
+// How many bytes to ask for, where so many are there: no more than up to the limit, and one at a time beyond it.
+fn room(count: usize) -> usize
+    ensures { 0 < result }
 {
-    match line_feed_behind(&bytes) {
-        Some(at) => {
-            bytes.truncate(at + 1);
-            Ok(bytes)
-        }
-        None => Err(GatherError::Memory),
-    }
-}
-
-// The place of a line feed behind the limit.
-fn line_feed_behind(bytes: &[u8]) -> Option<usize>
-    requires { 268435456 ≤ length bytes.now }
-    ensures { IfSome result (IsLineFeedBehind bytes.now) }
-{
-    let (_, behind) = bytes.split_at(LIMIT);
-    for (i, b) in behind.iter().enumerate() {
-        if *b == b'\n' {
-            return Some(LIMIT + i);
-        }
-    }
-    None
+    if count < MOST { MOST - count } else { 1 }
 }
 
 // This many zeros, more than none.

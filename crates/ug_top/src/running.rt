@@ -15,14 +15,15 @@ use crate::search::solve;
 use crate::status::Status;
 use crate::write::write_all;
 use std::alloc::{AllocError, Global};
-use ug_mps::{MpsError, long_texts_are_decided, one_outcome, read};
+use ug_mps::{MpsError, one_outcome, read};
 use ug_problem::Problem;
 
 /// Does all that the program does: reads the source, solves the problem that its bytes state, and writes the
 /// lines of the answer. `words` are those behind the program's own name. What the runtime may do beside is
 /// left open: the plain solver asks nothing of it.
 ///
-/// `Memory` may come in place of any other status but `Usage`; every other status has its cause below.
+/// `Memory` alone has no cause: it may come in place of `Answered` and `Refused`, or before the outside fails. Every
+/// other status has its cause below.
 pub fn run<R, S: Source, K: Sink>(
     _rt: &R,
     alloc: Global,
@@ -31,7 +32,7 @@ pub fn run<R, S: Source, K: Sink>(
     out: &mut K,
 ) -> Status
     // The lines of the status were written; for an answer those of a right one to what the bytes state.
-    ensures lines { Wrote (S.left input.old) (K.written out.old) (K.written out.new) result }
+    ensures lines { Wrote (S.left input.old) (S.faults input.old) (S.faults input.new) (K.written out.old) (K.written out.new) result }
 
     ensures usage { result ≡ Status.Usage → (file : List ℕ) → IsSolve words.now file → ⊥ }
     ensures command { ((file : List ℕ) → IsSolve words.now file → ⊥) → result ≡ Status.Usage }
@@ -102,7 +103,6 @@ fn work<S: Source>(alloc: Global, input: &mut S) -> End
     match gather(alloc, input) {
         Ok(text) => {
             one_outcome();
-            long_texts_are_decided();
             end_of(alloc, &text)
         }
         Err(GatherError::Memory) => End::Memory,

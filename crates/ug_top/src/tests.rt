@@ -3,7 +3,7 @@ use std::alloc::Global;
 use std::test::Fail;
 
 const KNAP_HEAD: &str =
-    "NAME T1\nOBJSENSE MAX\nROWS\n N Z\n L P\n L Q\n L R\nCOLUMNS\n M 'MARKER' 'INTORG'\n A Z 5 P 2\n A Q 4 R 3\n B Z 4 P 3\n B Q 1 R 4\n C Z 3 P 1\n C Q 2 R 2\n M 'MARKER' 'INTEND'\nRHS\n S P 5 Q 11\n";
+    "NAME SMALL\nOBJSENSE MAX\nROWS\n N Z\n L P\n L Q\n L R\nCOLUMNS\n M 'MARKER' 'INTORG'\n A Z 5 P 2\n A Q 4 R 3\n B Z 4 P 3\n B Q 1 R 4\n C Z 3 P 1\n C Q 2 R 2\n M 'MARKER' 'INTEND'\nRHS\n S P 5 Q 11\n";
 
 const KNAP_BOUNDS: &str = "BOUNDS\n UP D A 10\n UP D B 10\n";
 
@@ -80,7 +80,7 @@ fn small_texts(rt: HostRuntime) -> Result<(), Fail> {
     let cases = [
         (NIL, 0, "optimal 0\n"),
         ("", 3, "refused 0 NoEnd\n"),
-        ("NAME T1\nOBJSENSE MAX\n* x\n", 3, "refused 3 NotYet\n"),
+        ("NAME SMALL\nOBJSENSE MAX\n* x\n", 3, "refused 3 NotYet\n"),
         ("ROWS\r\n N Z\r\nENDATA\r\n", 0, "optimal 0\n"),
         (
             "ROWS\n N Z\nCOLUMNS\n M 'MARKER' 'INTORG'\n X Z -3\nBOUNDS\n UP B X 4\nENDATA\n",
@@ -110,6 +110,15 @@ fn faults(rt: HostRuntime) -> Result<(), Fail> {
     let status = run(&rt, alloc, &words(alloc, "f")?, &mut input, &mut out);
     assert_eq!(rt; status.code(), 4);
     assert_eq!(rt; out.bytes(), b"read fault\n".as_slice());
+    // The source would fail behind the ENDATA line, where nothing is read.
+    let mut input = ScriptedSource {
+        rest: b"ROWS\n N Z\nENDATA\nmore\n",
+        script: Script::new([3].to_vec(alloc)?, 9),
+    };
+    let mut out = MemorySink::new(alloc, Script::new(Vec::new(alloc), 7));
+    let status = run(&rt, alloc, &words(alloc, "f")?, &mut input, &mut out);
+    assert_eq!(rt; status.code(), 0);
+    assert_eq!(rt; out.bytes(), b"optimal 0\n".as_slice());
     // The first write fails, or one in mid-stream.
     for (call, written) in [(1, ""), (2, "optima")] {
         let mut input = MemorySource {
