@@ -1,0 +1,5 @@
+pub mod Covers
+pub mod Points
+pub mod Tasks
+pub mod Steps
+pub mod Looks
