@@ -22,10 +22,15 @@ abbrev pub IsHopeless : Tight → Type 0
 IsHopeless (NothingLeft _) = Unit {0}
 IsHopeless (Kept inner) = IsCrossed inner
 
--- the two halves, the one that is looked at first the last
-abbrev pub halves_of : Half → List Interval → Branch → List (List Interval)
-halves_of Lower area branch = upper_half area branch ∷ lower_half area branch ∷ []
-halves_of Upper area branch = lower_half area branch ∷ upper_half area branch ∷ []
+-- the half that is looked at first
+abbrev pub first_half : Half → List Interval → Branch → List Interval
+first_half Lower area branch = lower_half area branch
+first_half Upper area branch = upper_half area branch
+
+-- the half that is looked at after it
+abbrev pub other_half : Half → List Interval → Branch → List Interval
+other_half Lower area branch = upper_half area branch
+other_half Upper area branch = lower_half area branch
 
 -- the last box had no good point, and is dropped
 pub record IsPruned (old new : TaskState) : Type 0 where
@@ -45,7 +50,7 @@ pub record IsFound (old new : TaskState) (x : List ℤ) : Type 0 where
   pub good : IsGood old.problem old.cutoff x
   pub same : new ≡ record old { boxes = new.boxes; cutoff = Some (value_of old.problem.objective x) }
 
--- what was left of the last box has more points than one, and its two halves are in the box's place
+-- what was left of the last box has more points than one, and its two halves are in the box's place, the first the last
 pub record IsSplit (old new : TaskState) : Type 0 where
   pub before : List (List Interval)
   pub last : List Interval
@@ -55,7 +60,7 @@ pub record IsSplit (old new : TaskState) : Type 0 where
   pub some : IsNonEmpty inner
   pub branch : Branch
   pub chosen : IsChosen old.params inner branch
-  pub same : new ≡ record old { boxes = before ++ halves_of old.params.half inner branch }
+  pub same : new ≡ record old { boxes = before ++ other_half old.params.half inner branch ∷ first_half old.params.half inner branch ∷ [] }
 
 -- no box was left, so no point of the whole box is good; nothing changed
 pub record IsEnded (old new : TaskState) : Type 0 where

@@ -8,6 +8,7 @@
 mod halves;
 mod look;
 mod lowest;
+mod lows;
 mod step;
 mod task;
 
