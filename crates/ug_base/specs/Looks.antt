@@ -1,5 +1,5 @@
 -- What a look at a box sees, and what that means for the search.
-use Rattle.std.specs.Prelude.{◌≡◌, ℕ, ℤ, ◌+◌, ◌<◌, ◌⊎◌, List, map, Option}
+use Rattle.std.specs.Prelude.{◌≡◌, ℕ, ℤ, ◌+◌, ◌-◌, ◌<◌, ◌⊎◌, List, length, take, map, Option}
 use Rattle.ug_rows.specs.declared.area.Interval.{Interval}
 use Rattle.ug_rows.specs.Boxes.{IsInside, IsBelow, IsNonEmpty}
 use Rattle.ug_problem.specs.Instances.{Instance, root_of}
@@ -93,3 +93,7 @@ abbrev pub IsSeen : Instance → Option ℤ → Params → List Interval → See
 IsSeen p cutoff params area Hopeless = IsSeenHopeless p cutoff area
 IsSeen p cutoff params area (Solved x) = IsSeenSolved p cutoff area x
 IsSeen p cutoff params area (Halved halves) = IsSeenHalved p cutoff params area halves
+
+-- all boxes but the last
+abbrev pub front_of : List (List Interval) → List (List Interval)
+front_of boxes = take (length boxes - 1) boxes

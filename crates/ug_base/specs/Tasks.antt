@@ -47,12 +47,21 @@ floor_of p area = least_sum p.objective.terms area +ℤ p.objective.constant
 abbrev pub box_at : List (List Interval) → ℕ → List Interval
 box_at boxes k = slice_index_or boxes k []
 
--- the floor of one of the boxes, and none of them has a lesser one
-pub record IsLowest (p : Instance) (boxes : List (List Interval)) (low : ℤ) : Type 0 where
+-- the floor of one of the first n boxes, and none of them has a lesser one
+pub record IsLowestOf (p : Instance) (boxes : List (List Interval)) (n : ℕ) (low : ℤ) : Type 0 where
   pub at : ℕ
-  pub there : at < length boxes
+  pub there : at < n
   pub reached : floor_of p (box_at boxes at) ≡ low
-  pub least : (k : ℕ) → k < length boxes → low ≤ℤ floor_of p (box_at boxes k)
+  pub least : (k : ℕ) → k < n → low ≤ℤ floor_of p (box_at boxes k)
+
+-- the least floor of the boxes
+abbrev pub IsLowest : Instance → List (List Interval) → ℤ → Type 0
+IsLowest p boxes low = IsLowestOf p boxes (length boxes) low
+
+-- the least floor of the first n boxes, or there is none yet
+abbrev pub IsLowestSoFar : Instance → List (List Interval) → ℕ → Option ℤ → Type 0
+IsLowestSoFar p boxes n None = n ≡ 0
+IsLowestSoFar p boxes n (Some low) = IsLowestOf p boxes n low
 
 -- each good point of the whole box has at least this value
 abbrev pub IsBound : TaskState → ℤ → Type 0

@@ -5,6 +5,7 @@
 //! left there is no such point; each step leaves less to search, as specs/Points.antt counts it.
 #![tactic(auto)]
 
+mod boxes;
 mod halves;
 mod look;
 mod lowest;

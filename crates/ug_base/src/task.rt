@@ -1,5 +1,6 @@
 ghost use Rattle.std.specs.Prelude.{◌≡◌, ◌↔◌, ◌≤◌, ◌*◌, ◌^◌, [], ◌∷◌, length, Some, IfOk, OnErr, IfSome, IsNone, unsigned_abs};
 ghost use Rattle.ug_rows.specs.Boxes.{IsBelow};
+ghost use Rattle.ug_rows.specs.Rows.{value_of};
 ghost use Rattle.ug_problem.specs.Instances.{root_of};
 ghost use Rattle.ug_problem.specs.Limits.{IsProblem};
 ghost use Rattle.ug_base.specs.declared.step.Step.TheVariants.{Empty};
@@ -7,14 +8,15 @@ ghost use Rattle.ug_base.specs.Covers.{AreCovered, HasNoGood};
 ghost use Rattle.ug_base.specs.Steps.{LeavesLess, TookStep};
 ghost use Rattle.ug_base.specs.Tasks.{AreBelow, IsBound, IsLowest, IsSmall, lesser_of};
 
+use crate::boxes::{drop_last, last_of, split_last};
 use crate::look::{Seen, look};
-use crate::lowest::lowest_floor;
+use crate::lowest::{lesser, lowest_floor};
 use crate::step::Step;
 use std::alloc::{AllocError, Global};
 use std::marker::Model;
 use ug_branch::Params;
 use ug_problem::Problem;
-use ug_rows::IntBox;
+use ug_rows::{IntBox, Point};
 
 /// The search of one box for feasible points with a value below the cutoff.
 #[derive(Drop)]
@@ -28,35 +30,23 @@ pub struct Task {
 }
 
 impl Model for Task {
-    ghost use Rattle.ug_base.specs.Tasks.{TaskState, IsTask};
+    ghost use Rattle.ug_base.specs.Tasks.{TaskState};
 
     ghost Value = { TaskState };
 
-    ghost view = { λ t. record {
-      problem = t.problem;
-      params = t.params;
-      whole = t.whole;
-      cutoff = t.cutoff;
-      boxes = t.boxes.items;
-    } };
+    ghost use Rattle.ug_base.specs.Views.{state_of, AreOfTask};
 
-    ghost invariant = { λ t. IsTask (record {
-      problem = t.problem;
-      params = t.params;
-      whole = t.whole;
-      cutoff = t.cutoff;
-      boxes = t.boxes.items;
-    }) };
+    ghost view = { state_of };
+
+    ghost invariant = { AreOfTask };
 }
 
-// The lesser of a cutoff, if there is one, and another.
-fn lesser(before: Option<i128>, given: i128) -> i128
-    ensures { result ≡ lesser_of before given }
+// The value of a point, as a cutoff.
+fn cutoff_at(problem: &Problem, point: &Point) -> Option<i128>
+    requires { length point.now ≡ length problem.now.columns }
+    ensures { result ≡ Some (value_of problem.now.objective point.now) }
 {
-    match before {
-        Some(old) if old < given => old,
-        _ => given,
-    }
+    Some(problem.value(point))
 }
 
 impl Task {
@@ -95,6 +85,7 @@ impl Task {
 
     /// Takes the last box left, and drops it, answers its one point, or puts its halves in its place.
     /// After an error the task is as it was.
+    #[tactic(auto, using(crate::proofs::StepLemmas::last_ready, crate::proofs::StepLemmas::dropped_less, crate::proofs::StepLemmas::halved_less))]
     pub fn step(&mut self) -> Result<Step, AllocError>
         ensures took { IfOk result (TookStep self.old self.new) }
         ensures empty { IfOk result (λ step. (step ≡ Empty) ↔ (self.old.boxes ≡ [])) }
@@ -102,21 +93,21 @@ impl Task {
         ensures less { IfOk result (LeavesLess self.old self.new) }
         ensures err { OnErr result (self.new ≡ self.old) }
     {
-        let Some(last) = self.boxes.as_slice().last() else {
+        let Some(last) = last_of(&self.boxes) else {
             return Ok(Step::Empty);
         };
         match look(self.alloc, &self.problem, self.params, self.cutoff, last)? {
             Seen::Hopeless => {
-                self.boxes.pop();
+                drop_last(&mut self.boxes);
                 Ok(Step::Pruned)
             }
             Seen::Solved(point) => {
-                self.cutoff = Some(self.problem.value(&point));
-                self.boxes.pop();
+                self.cutoff = cutoff_at(&self.problem, &point);
+                drop_last(&mut self.boxes);
                 Ok(Step::Found(point))
             }
             Seen::Halved(halves) => {
-                self.boxes.push(halves.first)?;
+                split_last(&mut self.boxes, halves)?;
                 Ok(Step::Split)
             }
         }
@@ -141,6 +132,7 @@ impl Task {
     }
 
     /// The least value that the objective could have in a box left. It takes no memory.
+    #[tactic(auto, using(crate::proofs::Floors::boxes_wide, crate::proofs::Floors::lowest_bounds))]
     pub fn lowest(&self) -> Option<i128>
         ensures none { IsNone result ↔ (self.now.boxes ≡ []) }
         ensures some { IfSome result (IsLowest self.now.problem self.now.boxes) }
