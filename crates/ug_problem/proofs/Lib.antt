@@ -1,3 +1,4 @@
 pub mod Linear
 pub mod OneText
 pub mod Printing
+pub mod Values

@@ -1,4 +1,5 @@
 ghost use Rattle.std.specs.Prelude.{◌≡◌, ◌*◌, ◌^◌, ◌≤◌, ◌↔◌, length, map, IsNone, IfSome, IfOk, OnOk, IfErr, unsigned_abs};
+ghost use Rattle.ug_rows.specs.Boxes.{IsInside};
 ghost use Rattle.ug_rows.specs.Rows.{value_of};
 ghost use Rattle.ug_problem.specs.Feasible.{Feasible, IsFirstBroken};
 ghost use Rattle.ug_problem.specs.Instances.{IsFormed, bounds_of, instance_of, root_of};
@@ -115,11 +116,12 @@ impl Problem {
     }
 
     /// The value of a point. It takes no memory.
-    #[tactic(auto, using(crate::proofs::Linear::linear_objective))]
+    #[tactic(auto, using(crate::proofs::Linear::linear_objective, crate::proofs::Values::value_within))]
     pub fn value(&self, point: &Point) -> i128
         requires { length point.now ≡ length self.now.columns }
         ensures value { result ≡ value_of self.now.objective point.now }
         ensures small { unsigned_abs result ≤ 10 ^ 38 }
+        ensures within { IsInside (root_of self.now) point.now → unsigned_abs result ≤ 2 * 10 ^ 37 }
     {
         value(self.objective(), point)
     }

@@ -1,0 +1,6 @@
+pub mod Below
+pub mod Measures
+pub mod Sight
+pub mod LastBox
+pub mod Floors
+pub mod StepLemmas

@@ -1,0 +1,173 @@
+-- What a look at a box sees.
+use Rattle.std.proofs.Common.{◌≡◌, ℕ, ℤ, pos, ◌+◌, ◌+ℤ◌, ◌*ℤ◌, ◌<◌, ◌≤◌, ◌^◌, ◌≤ℤ◌, ◌<ℤ◌, ◌⊎◌, inl, inr, List, length, map, slice_set, Option, Some, None, sym, ap, subst, ◌∙◌, arith}
+use Rattle.std.proofs.lemmas.Int.{ints}
+use Rattle.std.proofs.lemmas.List.{ext_get_or, get_or-map, length-map}
+use Rattle.ug_rows.specs.declared.area.Interval.{Interval}
+use Rattle.ug_rows.specs.Boxes.{IsBelow, IsInside, IsNonEmpty, IsWithin, interval_at, no_interval, value_at}
+use Rattle.ug_problem.specs.Instances.{Instance, bounds_of, root_of}
+use Rattle.ug_problem.specs.Limits.{IsProblem}
+use Rattle.ug_branch.specs.declared.params.Params.{Params}
+use Rattle.ug_branch.specs.declared.params.Half.{Half}
+use Rattle.ug_branch.specs.declared.params.Half.TheVariants.{Lower, Upper}
+use Rattle.ug_branch.specs.declared.choice.Branch.{Branch}
+use Rattle.ug_branch.specs.Choices.{AreHalves, IsChosen, IsFixed as IsClosed, IsMiddle, lower_half, upper_half}
+use Rattle.ug_propagate.specs.declared.tight.Tight.{Tight}
+use Rattle.ug_propagate.specs.declared.tight.Tight.TheVariants.{Kept, Empty}
+use Rattle.ug_propagate.specs.declared.tight.Reason.{Reason}
+use Rattle.ug_propagate.specs.Claims.{IsCrossed, IsFixed, IsGood}
+use Rattle.ug_propagate.specs.Rounds.{rounds}
+use Rattle.ug_base.specs.declared.halves.Halves.{Halves}
+use Rattle.ug_base.specs.declared.look.Seen.{Seen}
+use Rattle.ug_base.specs.declared.look.Seen.TheVariants.{Hopeless, Solved, Halved}
+use Rattle.ug_base.specs.Points.{points_of, weight_of}
+use Rattle.ug_base.specs.Steps.{IsHopeless, first_half, other_half}
+use Rattle.ug_base.specs.Looks.{AreHalved, AreOrdered, IsInSight, IsOnly, IsReady, IsSeen, IsSeenHalved, IsSeenHopeless, IsSeenSolved, IsTightOf, lows_of}
+use Rattle.ug_base.proofs.Below.{below_trans}
+use Rattle.ug_base.proofs.Measures.{count_halves, points_below, points_halves, points_set_some, weights_fall}
+
+one_value : (low high : ℤ) → low ≤ℤ high → high ≤ℤ low → low ≡ high
+one_value low high a b = omega (arith, ints)
+
+between : (low high v : ℤ) → low ≡ high → low ≤ℤ v → v ≤ℤ high → v ≡ low
+between low high v e a b = omega (arith, ints, e, a, b)
+
+crossed_has_none : (low high v : ℤ) → high <ℤ low → low ≤ℤ v → v ≤ℤ high → ⊥
+crossed_has_none low high v a b c = omega (arith, ints)
+
+-- the low of column j
+low_at : (area : List Interval) (j : ℕ) → j < length area → value_at (lows_of area) j ≡ (interval_at area j).low
+low_at area j there = get_or-map (λ (side : Interval). side.low) area j no_interval (pos 0) there
+
+-- a box with a point and no open column has the point of its lows alone
+pub only_point : (area : List Interval) → IsNonEmpty area → IsClosed area → IsOnly area (lows_of area)
+only_point area some closed = record {
+  fixed = λ j there. one_value _ _ (some j there) (closed j there);
+  point = record {
+    width = length-map area (λ (side : Interval). side.low);
+    each = λ j there. record {
+      low = subst (λ v. (interval_at area j).low ≤ℤ v) (sym (low_at area j there)) (omega (arith, ints));
+      high = subst (λ v. v ≤ℤ (interval_at area j).high) (sym (low_at area j there)) (some j there);
+    };
+  };
+}
+
+-- two points of a box with one are one
+pub same_point : (area : List Interval) (x y : List ℤ) → IsFixed area → IsInside area x → IsInside area y → y ≡ x
+same_point area x y fixed h k = ext_get_or (pos 0) y x (k.width ∙ sym h.width)
+    (λ j lt. let there : j < length area = subst (λ n. j < n) k.width lt in
+    between _ _ (value_at y j) (fixed j there) (k.each j there).low (k.each j there).high
+    ∙ sym (between _ _ (value_at x j) (fixed j there) (h.each j there).low (h.each j there).high))
+
+-- a box with a column that has its low above its high has no point
+pub no_point : (area : List Interval) (x : List ℤ) → IsCrossed area → IsInside area x → ⊥
+no_point area x c h = crossed_has_none _ _ (value_at x c.0) c.2 (h.each c.0 c.1).low (h.each c.0 c.1).high
+
+-- the halves of a box with a point
+pub are_halved : (params : Params) (area : List Interval) (branch : Branch) (halves : Halves) → IsNonEmpty area
+    → IsChosen params area branch → AreHalves area branch → AreOrdered params.half area branch halves → AreHalved params area halves
+are_halved params area branch halves some chosen parts ordered =
+    record { some = some; branch = branch; chosen = chosen; parts = parts; ordered = ordered }
+
+-- nothing is left of the box
+pub nothing_left : (p : Instance) (cutoff : Option ℤ) (area : List Interval) (reason : Reason)
+    → IsTightOf p cutoff area (Empty reason) → IsSeenHopeless p cutoff area
+nothing_left p cutoff area reason t = record { hopeless = subst IsHopeless t.value tt; none = t.kept }
+
+-- what is left has no point
+left_crossed : (p : Instance) (cutoff : Option ℤ) (area inner : List Interval)
+    → IsTightOf p cutoff area (Kept inner) → IsCrossed inner → IsSeenHopeless p cutoff area
+left_crossed p cutoff area inner t c = record {
+  hopeless = subst IsHopeless t.value c;
+  none = λ x h g. no_point inner x c (t.kept x h g);
+}
+
+-- one point is left
+left_one : (p : Instance) (cutoff : Option ℤ) (area inner : List Interval) (x : List ℤ)
+    → IsReady p cutoff area → IsTightOf p cutoff area (Kept inner) → IsOnly inner x → IsSeenSolved p cutoff area x
+left_one p cutoff area inner x r t o = record {
+  inner = inner;
+  left = sym t.value;
+  fixed = o.fixed;
+  point = o.point;
+  good = t.fixed (below_trans _ _ _ t.below r.below) o.fixed x o.point;
+  alone = λ y h g. same_point inner x y o.fixed o.point (t.kept y h g);
+}
+
+-- the middle of an open interval is from its low to below its high
+middle_low : (low high m : ℤ) → low <ℤ high → (low +ℤ high) <ℤ ((pos 2 *ℤ m) +ℤ pos 2) → low ≤ℤ m
+middle_low low high m o h = omega (arith, ints)
+
+pub middle_high : (low high m : ℤ) → low <ℤ high → (pos 2 *ℤ m) ≤ℤ (low +ℤ high) → m <ℤ high
+middle_high low high m o h = omega (arith, ints)
+
+next_within : (m high : ℤ) → m <ℤ high → (m +ℤ pos 1) ≤ℤ high
+next_within m high h = omega (arith, ints)
+
+-- the halves leave less to search than the box
+halves_less : (params : Params) (inner area : List Interval) (branch : Branch) → IsNonEmpty inner → IsChosen params inner branch
+    → IsBelow inner area → weight_of (lower_half inner branch) + weight_of (upper_half inner branch) < weight_of area
+halves_less params inner area branch some chosen below =
+    let side = interval_at inner branch.column in
+    let low : side.low ≤ℤ branch.middle = middle_low side.low side.high branch.middle chosen.open_.open_ chosen.middle.high in
+    let high : branch.middle <ℤ side.high = middle_high side.low side.high branch.middle chosen.open_.open_ chosen.middle.low in
+    weights_fall (points_of (lower_half inner branch)) (points_of (upper_half inner branch)) (points_of inner) (points_of area)
+    (points_halves inner branch.column _ _ chosen.open_.there (count_halves side.low side.high branch.middle low high))
+    (points_set_some inner branch.column _ some low)
+    (points_set_some inner branch.column _ some (next_within branch.middle side.high high))
+    (points_below inner area below)
+
+-- the halves in their order
+ordered_kept : (half : Half) (inner : List Interval) (branch : Branch) (y : List ℤ) → IsInside (lower_half inner branch) y ⊎ IsInside (upper_half inner branch) y
+    → IsInside (first_half half inner branch) y ⊎ IsInside (other_half half inner branch) y
+ordered_kept Lower inner branch y h = h
+ordered_kept Upper inner branch y h = elim h [ inl a ↦ inr a | inr b ↦ inl b ]
+
+ordered_first : (half : Half) (inner : List Interval) (branch : Branch) (P : List Interval → Type 0) → P (lower_half inner branch) → P (upper_half inner branch)
+    → P (first_half half inner branch)
+ordered_first Lower inner branch P l u = l
+ordered_first Upper inner branch P l u = u
+
+ordered_other : (half : Half) (inner : List Interval) (branch : Branch) (P : List Interval → Type 0) → P (lower_half inner branch) → P (upper_half inner branch)
+    → P (other_half half inner branch)
+ordered_other Lower inner branch P l u = u
+ordered_other Upper inner branch P l u = l
+
+ordered_less : (half : Half) (inner : List Interval) (branch : Branch) (n : ℕ) → weight_of (lower_half inner branch) + weight_of (upper_half inner branch) < n
+    → weight_of (other_half half inner branch) + weight_of (first_half half inner branch) < n
+ordered_less Lower inner branch n h = omega (arith, h)
+ordered_less Upper inner branch n h = h
+
+-- halves are left
+left_halves : (p : Instance) (cutoff : Option ℤ) (params : Params) (area inner : List Interval) (halves : Halves)
+    → IsTightOf p cutoff area (Kept inner) → AreHalved params inner halves → IsSeenHalved p cutoff params area halves
+left_halves p cutoff params area inner halves t h =
+    let half = params.half in
+    let lower : IsBelow (lower_half inner h.branch) area = below_trans _ _ _ h.parts.lower t.below in
+    let upper : IsBelow (upper_half inner h.branch) area = below_trans _ _ _ h.parts.upper t.below in
+    record {
+      inner = inner;
+      left = sym t.value;
+      some = h.some;
+      branch = h.branch;
+      chosen = h.chosen;
+      ordered = h.ordered;
+      below_first = subst (λ a. IsBelow a area) (sym h.ordered.first) (ordered_first half inner h.branch (λ a. IsBelow a area) lower upper);
+      below_second = subst (λ a. IsBelow a area) (sym h.ordered.second) (ordered_other half inner h.branch (λ a. IsBelow a area) lower upper);
+      kept = λ y i g. rw (h.ordered.first, h.ordered.second) (ordered_kept half inner h.branch y ((h.parts.halves y).0 (t.kept y i g)));
+      less = subst (λ a. weight_of a + weight_of halves.first < weight_of area) (sym h.ordered.second)
+          (subst (λ b. weight_of (other_half half inner h.branch) + weight_of b < weight_of area) (sym h.ordered.first)
+          (ordered_less half inner h.branch (weight_of area) (halves_less params inner area h.branch h.some h.chosen t.below)));
+    }
+
+-- what is seen in what is left of a box is seen in the box
+pub seen_inside : (p : Instance) (cutoff : Option ℤ) (params : Params) (area inner : List Interval) (seen : Seen)
+    → IsReady p cutoff area → IsTightOf p cutoff area (Kept inner) → IsInSight params inner seen → IsSeen p cutoff params area seen
+seen_inside p cutoff params area inner Hopeless r t s = left_crossed p cutoff area inner t s
+seen_inside p cutoff params area inner (Solved x) r t s = left_one p cutoff area inner x r t s
+seen_inside p cutoff params area inner (Halved halves) r t s = left_halves p cutoff params area inner halves t s
+
+-- a box of a problem has at most 10,000 columns, and what is left of it as many
+pub left_is_short : (p : Instance) (cutoff : Option ℤ) (area inner : List Interval) → IsReady p cutoff area → IsTightOf p cutoff area (Kept inner)
+    → length inner ≤ 10 ^ 4
+left_is_short p cutoff area inner r t =
+    omega (arith, t.below.width, r.below.width, length-map p.columns bounds_of, r.problem.counts.columns)

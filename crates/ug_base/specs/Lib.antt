@@ -1,0 +1,6 @@
+pub mod Covers
+pub mod Points
+pub mod Tasks
+pub mod Views
+pub mod Steps
+pub mod Looks

@@ -1,0 +1,99 @@
+-- What a look at a box sees, and what that means for the search.
+use Rattle.std.specs.Prelude.{◌≡◌, ℕ, ℤ, ◌+◌, ◌-◌, ◌<◌, ◌⊎◌, List, length, take, map, Option}
+use Rattle.ug_rows.specs.declared.area.Interval.{Interval}
+use Rattle.ug_rows.specs.Boxes.{IsInside, IsBelow, IsNonEmpty}
+use Rattle.ug_problem.specs.Instances.{Instance, root_of}
+use Rattle.ug_problem.specs.Limits.{IsProblem}
+use Rattle.ug_branch.specs.declared.params.Params.{Params}
+use Rattle.ug_branch.specs.declared.params.Half.{Half}
+use Rattle.ug_branch.specs.declared.choice.Branch.{Branch}
+use Rattle.ug_branch.specs.Choices.{AreHalves, IsChosen}
+use Rattle.ug_propagate.specs.declared.tight.Tight.{Tight}
+use Rattle.ug_propagate.specs.declared.tight.Tight.TheVariants.{Kept}
+use Rattle.ug_propagate.specs.Claims.{IsCrossed, IsFixed, IsGood, IsLeftOf, IsSolved, KeepsGood}
+use Rattle.ug_propagate.specs.Rounds.{rounds}
+use Rattle.ug_base.specs.declared.halves.Halves.{Halves}
+use Rattle.ug_base.specs.declared.look.Seen.{Seen}
+use Rattle.ug_base.specs.declared.look.Seen.TheVariants.{Hopeless, Solved, Halved}
+use Rattle.ug_base.specs.Covers.{HasNoGood}
+use Rattle.ug_base.specs.Points.{weight_of}
+use Rattle.ug_base.specs.Steps.{IsHopeless, first_half, other_half}
+use Rattle.ug_base.specs.Tasks.{IsSmall}
+
+-- a box of the problem, and a cutoff that is not too large
+pub record IsReady (p : Instance) (cutoff : Option ℤ) (area : List Interval) : Type 0 where
+  pub problem : IsProblem p
+  pub below : IsBelow area (root_of p)
+  pub small : IsSmall cutoff
+
+-- the point with each column at its low
+abbrev pub lows_of : List Interval → List ℤ
+lows_of area = map (λ (side : Interval). side.low) area
+
+-- the halves of the box at the branch, in the order in which they are looked at
+pub record AreOrdered (half : Half) (area : List Interval) (branch : Branch) (halves : Halves) : Type 0 where
+  pub first : halves.first ≡ first_half half area branch
+  pub second : halves.second ≡ other_half half area branch
+
+-- x is the one point of the box
+pub record IsOnly (area : List Interval) (x : List ℤ) : Type 0 where
+  pub fixed : IsFixed area
+  pub point : IsInside area x
+
+-- the box has a point, and these are its halves
+pub record AreHalved (params : Params) (area : List Interval) (halves : Halves) : Type 0 where
+  pub some : IsNonEmpty area
+  pub branch : Branch
+  pub chosen : IsChosen params area branch
+  pub parts : AreHalves area branch
+  pub ordered : AreOrdered params.half area branch halves
+
+-- what is seen in what is left of a box
+abbrev pub IsInSight : Params → List Interval → Seen → Type 0
+IsInSight params area Hopeless = IsCrossed area
+IsInSight params area (Solved x) = IsOnly area x
+IsInSight params area (Halved halves) = AreHalved params area halves
+
+-- what bound propagation says of what it leaves of a box
+pub record IsTightOf (p : Instance) (cutoff : Option ℤ) (area : List Interval) (tight : Tight) : Type 0 where
+  pub value : tight ≡ rounds p cutoff area
+  pub below : IsLeftOf area tight
+  pub kept : KeepsGood p cutoff area tight
+  pub fixed : IsSolved p cutoff tight
+
+-- no point of the box is good
+pub record IsSeenHopeless (p : Instance) (cutoff : Option ℤ) (area : List Interval) : Type 0 where
+  pub hopeless : IsHopeless (rounds p cutoff area)
+  pub none : HasNoGood p cutoff area
+
+-- x is good, and no other point of the box is
+pub record IsSeenSolved (p : Instance) (cutoff : Option ℤ) (area : List Interval) (x : List ℤ) : Type 0 where
+  pub inner : List Interval
+  pub left : rounds p cutoff area ≡ Kept inner
+  pub fixed : IsFixed inner
+  pub point : IsInside inner x
+  pub good : IsGood p cutoff x
+  pub alone : (y : List ℤ) → IsInside area y → IsGood p cutoff y → y ≡ x
+
+-- the halves are below the box, have each good point of it, and leave less to search
+pub record IsSeenHalved (p : Instance) (cutoff : Option ℤ) (params : Params) (area : List Interval) (halves : Halves) : Type 0 where
+  pub inner : List Interval
+  pub left : rounds p cutoff area ≡ Kept inner
+  pub some : IsNonEmpty inner
+  pub branch : Branch
+  pub chosen : IsChosen params inner branch
+  pub ordered : AreOrdered params.half inner branch halves
+  pub below_first : IsBelow halves.first area
+  pub below_second : IsBelow halves.second area
+  pub kept : (y : List ℤ) → IsInside area y → IsGood p cutoff y → IsInside halves.first y ⊎ IsInside halves.second y
+  pub less : weight_of halves.second + weight_of halves.first < weight_of area
+
+-- what this look at a box saw
+abbrev pub IsSeen : Instance → Option ℤ → Params → List Interval → Seen → Type 0
+IsSeen p cutoff params area Hopeless = IsSeenHopeless p cutoff area
+IsSeen p cutoff params area (Solved x) = IsSeenSolved p cutoff area x
+IsSeen p cutoff params area (Halved halves) = IsSeenHalved p cutoff params area halves
+
+-- all boxes but the last
+abbrev pub front_of : List (List Interval) → List (List Interval)
+front_of boxes = take (length boxes - 1) boxes

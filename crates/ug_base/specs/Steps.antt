@@ -1,0 +1,83 @@
+-- What a step does: it takes the last box left, and drops it, finds its one point good, or halves it.
+use Rattle.std.specs.Prelude.{◌≡◌, ℕ, ℤ, ◌<◌, List, [], ◌∷◌, ◌++◌, Option, Some}
+use Rattle.ug_rows.specs.declared.area.Interval.{Interval}
+use Rattle.ug_rows.specs.Boxes.{IsInside, IsNonEmpty}
+use Rattle.ug_rows.specs.Rows.{value_of}
+use Rattle.ug_branch.specs.declared.params.Half.{Half}
+use Rattle.ug_branch.specs.declared.params.Half.TheVariants.{Lower, Upper}
+use Rattle.ug_branch.specs.declared.choice.Branch.{Branch}
+use Rattle.ug_branch.specs.Choices.{IsChosen, lower_half, upper_half}
+use Rattle.ug_propagate.specs.declared.tight.Tight.{Tight}
+use Rattle.ug_propagate.specs.declared.tight.Tight.TheVariants.{Kept, Empty as NothingLeft}
+use Rattle.ug_propagate.specs.Claims.{IsCrossed, IsFixed, IsGood}
+use Rattle.ug_propagate.specs.Rounds.{rounds}
+use Rattle.ug_base.specs.declared.step.Step.{Step}
+use Rattle.ug_base.specs.declared.step.Step.TheVariants.{Pruned, Found, Split, Empty}
+use Rattle.ug_base.specs.Covers.{HasNoGood}
+use Rattle.ug_base.specs.Points.{measure_of}
+use Rattle.ug_base.specs.Tasks.{TaskState}
+
+-- bound propagation left nothing of a box, or a box that has no point
+abbrev pub IsHopeless : Tight → Type 0
+IsHopeless (NothingLeft _) = Unit {0}
+IsHopeless (Kept inner) = IsCrossed inner
+
+-- the half that is looked at first
+abbrev pub first_half : Half → List Interval → Branch → List Interval
+first_half Lower area branch = lower_half area branch
+first_half Upper area branch = upper_half area branch
+
+-- the half that is looked at after it
+abbrev pub other_half : Half → List Interval → Branch → List Interval
+other_half Lower area branch = upper_half area branch
+other_half Upper area branch = lower_half area branch
+
+-- the last box had no good point, and is dropped
+pub record IsPruned (old new : TaskState) : Type 0 where
+  pub last : List Interval
+  pub boxes : old.boxes ≡ new.boxes ++ last ∷ []
+  pub same : new ≡ record old { boxes = new.boxes }
+  pub hopeless : IsHopeless (rounds old.problem old.cutoff last)
+
+-- of the last box the point x was left, which is good; the box is dropped, and the cutoff is now the value of x
+pub record IsFound (old new : TaskState) (x : List ℤ) : Type 0 where
+  pub last : List Interval
+  pub boxes : old.boxes ≡ new.boxes ++ last ∷ []
+  pub inner : List Interval
+  pub left : rounds old.problem old.cutoff last ≡ Kept inner
+  pub fixed : IsFixed inner
+  pub point : IsInside inner x
+  pub good : IsGood old.problem old.cutoff x
+  pub same : new ≡ record old { boxes = new.boxes; cutoff = Some (value_of old.problem.objective x) }
+
+-- what was left of the last box has more points than one, and its two halves are in the box's place, the first the last
+pub record IsSplit (old new : TaskState) : Type 0 where
+  pub before : List (List Interval)
+  pub last : List Interval
+  pub boxes : old.boxes ≡ before ++ last ∷ []
+  pub inner : List Interval
+  pub left : rounds old.problem old.cutoff last ≡ Kept inner
+  pub some : IsNonEmpty inner
+  pub branch : Branch
+  pub chosen : IsChosen old.params inner branch
+  pub same : new ≡ record old { boxes = before ++ other_half old.params.half inner branch ∷ first_half old.params.half inner branch ∷ [] }
+
+-- no box was left, so no point of the whole box is good; nothing changed
+pub record IsEnded (old new : TaskState) : Type 0 where
+  pub none : old.boxes ≡ []
+  pub same : new ≡ old
+  pub searched : HasNoGood new.problem new.cutoff new.whole
+
+-- the step with this answer
+abbrev pub TookStep : TaskState → TaskState → Step → Type 0
+TookStep old new Pruned = IsPruned old new
+TookStep old new (Found x) = IsFound old new x
+TookStep old new Split = IsSplit old new
+TookStep old new Empty = IsEnded old new
+
+-- each step but the last leaves less to search
+abbrev pub LeavesLess : TaskState → TaskState → Step → Type 0
+LeavesLess old new Pruned = measure_of new.boxes < measure_of old.boxes
+LeavesLess old new (Found x) = measure_of new.boxes < measure_of old.boxes
+LeavesLess old new Split = measure_of new.boxes < measure_of old.boxes
+LeavesLess old new Empty = Unit {0}

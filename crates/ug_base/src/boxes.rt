@@ -1,0 +1,36 @@
+ghost use Rattle.std.specs.Prelude.{◌≡◌, ◌<◌, ◌++◌, ◌∷◌, [], length, MatchOption, OnOk, OnErr};
+ghost use Rattle.std.specs.Option.{option_copied};
+ghost use Rattle.ug_base.specs.Looks.{front_of};
+
+use crate::halves::Halves;
+use std::alloc::AllocError;
+use ug_rows::IntBox;
+
+/// The last box.
+#[tactic(auto, using(crate::proofs::LastBox::last_split, crate::proofs::LastBox::none_last))]
+pub fn last_of(boxes: &Vec<IntBox>) -> Option<&IntBox>
+    ensures { MatchOption (option_copied result) (boxes.now.items ≡ []) (λ last. boxes.now.items ≡ front_of boxes.now.items ++ last ∷ []) }
+{
+    boxes.as_slice().last()
+}
+
+/// Drops the last box.
+pub fn drop_last(boxes: &mut Vec<IntBox>)
+    ensures { boxes.new.items ≡ front_of boxes.old.items }
+{
+    boxes.pop();
+}
+
+/// Puts two halves in the last box's place, the first the last. After an error the boxes are as they were.
+#[tactic(auto, using(crate::proofs::LastBox::halves_put))]
+pub fn split_last(boxes: &mut Vec<IntBox>, halves: Halves) -> Result<(), AllocError>
+    requires { 0 < length boxes.old.items }
+    ensures ok { OnOk result (boxes.new.items ≡ front_of boxes.old.items ++ halves.second ∷ halves.first ∷ []) }
+    ensures err { OnErr result (boxes.new.items ≡ boxes.old.items) }
+{
+    let Halves { first, second } = halves;
+    let at = boxes.len() - 1;
+    boxes.push(first)?;
+    boxes[at] = second;
+    Ok(())
+}
