@@ -1,6 +1,4 @@
 mod Moved
 mod ValueLines
-mod Boxes
-mod Weights
-mod Looks
+mod Steps
 mod EndLemmas

@@ -20,7 +20,7 @@ use ug_problem::Problem;
 
 /// Does all that the program does: reads the source, solves the problem that its bytes state, and writes the
 /// lines of the answer. `words` are those behind the program's own name. What the runtime may do beside is
-/// left open: the plain solver asks nothing of it.
+/// left open: one task asks nothing of it.
 ///
 /// `Memory` alone has no cause: it may come in place of `Answered` and `Refused`, or before the outside fails. Every
 /// other status has its cause below.
@@ -115,7 +115,7 @@ fn end_of(alloc: Global, text: &[u8]) -> End
     ensures { IsEndOf text.now result }
 {
     match read(alloc, text, None) {
-        Ok(problem) => match answered(alloc, &problem) {
+        Ok(problem) => match answered(alloc, problem) {
             Ok(lines) => End::Answered(lines),
             Err(AllocError) => End::Memory,
         },
@@ -128,9 +128,9 @@ fn end_of(alloc: Global, text: &[u8]) -> End
 }
 
 // The lines of a right answer to the problem.
-fn answered(alloc: Global, problem: &Problem) -> Result<Vec<u8>, AllocError>
-    ensures { IfOk result (λ text. IsAnswerTo problem.now text.items) }
+fn answered(alloc: Global, problem: Problem) -> Result<Vec<u8>, AllocError>
+    ensures { IfOk result (λ text. IsAnswerTo problem text.items) }
 {
-    let answer = solve(alloc, problem)?;
-    answer_lines(alloc, problem, &answer)
+    let solved = solve(alloc, problem)?;
+    answer_lines(alloc, solved.task.problem(), &solved.answer)
 }
