@@ -1,5 +1,5 @@
 -- How the least and the greatest sum of terms change when one column's interval is replaced, and how large they are.
-use Rattle.std.proofs.Common.{◌≡◌, ◌≢◌, refl, sym, ap, subst, ◌∙◌, ◌⊎◌, inl, inr, ℕ, zero, suc, ◌*◌, ◌^◌, ◌<◌, ◌≤◌, ℤ, pos, negsuc, ◌+ℤ◌, ◌-ℤ◌, ◌*ℤ◌, unsigned_abs, List, [], ◌∷◌, length, set, arith}
+use Rattle.std.proofs.Common.{◌≡◌, ◌≢◌, refl, sym, ap, subst, ◌∙◌, inl, inr, ℕ, zero, suc, ◌*◌, ◌^◌, ◌<◌, ◌≤◌, ℤ, pos, negsuc, ◌+ℤ◌, ◌-ℤ◌, ◌*ℤ◌, unsigned_abs, List, [], ◌∷◌, length, set, arith}
 use Rattle.std.proofs.lemmas.Int.{ints, unsigned_abs-mul}
 use Rattle.std.proofs.lemmas.List.{get_or-set_other, get_or-set_same}
 use Rattle.std.proofs.Math.Nat.{mul-le-mul}
@@ -8,16 +8,11 @@ use Rattle.ug_rows.specs.declared.row.Term.{Term}
 use Rattle.ug_rows.specs.declared.sums.Extreme.{Extreme}
 use Rattle.ug_rows.specs.declared.sums.Extreme.TheVariants.{Least, Greatest}
 use Rattle.ug_rows.specs.Boxes.{IsSmall, interval_at, no_interval}
-use Rattle.ug_rows.specs.Rows.{IsLinear, term_at}
+use Rattle.ug_rows.specs.Rows.{IsAmong, IsLinear, term_at}
 use Rattle.ug_rows.specs.Sums.{end_of, end_product, end_sum}
 use Rattle.ug_rows.proofs.EndBounds.{IsFree, AreApart, apart_from_index}
 use Rattle.ug_rows.proofs.Products.{abs_add}
 use Rattle.ug_rows.proofs.SumLemmas.{few_terms}
-
--- the term is one of these
-abbrev pub IsAmong : Term → List Term → Type 0
-IsAmong t [] = ⊥
-IsAmong t (u ∷ us) = (t ≡ u) ⊎ IsAmong t us
 
 pub among_at : (ts : List Term) (k : ℕ) → k < length ts → IsAmong (term_at ts k) ts
 among_at [] k h = absurd (omega arith)
