@@ -14,11 +14,12 @@ use Rattle.ug_rows.specs.declared.area.Interval.{Interval}
 use Rattle.ug_rows.specs.declared.row.Term.{Term}
 use Rattle.ug_rows.specs.declared.row.Row.{Row}
 use Rattle.ug_rows.specs.Rows.{no_term, term_at}
+use Rattle.ug_rows.proofs.Products.{abs_add}
 use Rattle.ug_problem.specs.declared.column.NamedRow.{NamedRow}
 use Rattle.ug_problem.specs.Instances.{Instance, IsRow, no_row, row_at}
 use Rattle.ug_problem.specs.Limits.{IsProblem}
 use Rattle.ug_problem.proofs.Linear.{linear_row, linear_objective}
-use Rattle.ug_propagate.specs.declared.step.Look.{Look}
+use Rattle.ug_propagate.specs.declared.look.Look.{Look}
 use Rattle.ug_propagate.specs.declared.tight.Tight.{Tight}
 use Rattle.ug_propagate.specs.declared.tight.Tight.TheVariants.{Kept, Empty}
 use Rattle.ug_propagate.specs.declared.tight.Reason.{Reason}
@@ -33,6 +34,9 @@ others_small (pos a) (negsuc b) = omega (arith, ints)
 others_small (negsuc a) (pos zero) = omega (arith, ints)
 others_small (negsuc a) (pos (suc b)) = omega (arith, ints)
 others_small (negsuc a) (negsuc b) = omega (arith, ints)
+
+-- sums and differences fit where their parts are small
+pub ruleset sizes = (others_small, abs_add)
 
 pub most_pos : (reason : Reason) (f : ℤ) (j : ℕ) (s : ℤ) (area : List Interval) → pos 0 <ℤ f
     → keep_at_most reason f j s area ≡ lower_high reason j (floor_quotient s f) area

@@ -6,4 +6,7 @@ pub mod Sweeps
 pub mod Fixed
 pub mod Answers
 pub mod Bodies
-pub mod Replaced
+pub mod Still
+pub mod Rooms
+pub mod Measures
+pub mod Machine

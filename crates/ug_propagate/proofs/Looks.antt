@@ -6,7 +6,7 @@ use Rattle.ug_rows.specs.declared.row.Term.{Term}
 use Rattle.ug_rows.specs.declared.row.Row.{Row}
 use Rattle.ug_rows.specs.declared.sums.Extreme.TheVariants.{Least, Greatest}
 use Rattle.ug_rows.specs.Boxes.{IsInside, IsNonEmpty}
-use Rattle.ug_rows.specs.Rows.{IsLinear, Keeps, sum_at, term_at}
+use Rattle.ug_rows.specs.Rows.{IsAmong, IsLinear, Keeps, sum_at, term_at}
 use Rattle.ug_rows.specs.Sums.{least_sum, greatest_sum}
 use Rattle.ug_rows.proofs.EndBounds.{AreThere, there_from_index, end_bound}
 use Rattle.ug_propagate.specs.declared.tight.Tight.{Tight}
@@ -17,7 +17,7 @@ use Rattle.ug_propagate.specs.declared.tight.Side.TheVariants.{Low, High}
 use Rattle.ug_propagate.specs.Rounds.{reason_of, under_high, over_low, then_low, term_step, over_terms, exceeds, falls_short, row_step}
 use Rattle.ug_propagate.specs.Claims.{Holds, IsMissed}
 use Rattle.ug_propagate.proofs.Parts.{IsPart, part_same, part_trans, part_nonempty, if_lt}
-use Rattle.ug_propagate.proofs.Terms.{IsCut, IsAmong, high_cuts, low_cuts, high_holds, low_holds}
+use Rattle.ug_propagate.proofs.Terms.{IsCut, high_cuts, low_cuts, high_holds, low_holds}
 
 -- these are terms of the row over `width` columns, with factors that are not 0
 abbrev pub AreOf : ℕ → List Term → List Term → Type 0
@@ -97,13 +97,13 @@ terms_look name row (t ∷ rest) area o of h =
     terms_look name row rest area (term_step name row t o) of.3 (term_look name row t area o of.1 of.2 h)
 
 -- a choice by whether a sum is above the high side
-if_exceeds : {A : Type 0} (P : A → Type 0) (high : Option ℤ) (sum : ℤ) (x y : A)
+pub if_exceeds : {A : Type 0} (P : A → Type 0) (high : Option ℤ) (sum : ℤ) (x y : A)
     → (MatchOption high ⊥ (λ h. h <ℤ sum) → P x) → (IfSome high (λ h. sum ≤ℤ h) → P y)
     → P (if exceeds high sum then x else y)
 if_exceeds P None sum x y f g = g tt
 if_exceeds P (Some high) sum x y f g = if_lt P high sum x y f g
 
-if_falls_short : {A : Type 0} (P : A → Type 0) (low : Option ℤ) (sum : ℤ) (x y : A)
+pub if_falls_short : {A : Type 0} (P : A → Type 0) (low : Option ℤ) (sum : ℤ) (x y : A)
     → (MatchOption low ⊥ (λ l. sum <ℤ l) → P x) → (IfSome low (λ l. l ≤ℤ sum) → P y)
     → P (if falls_short low sum then x else y)
 if_falls_short P None sum x y f g = g tt

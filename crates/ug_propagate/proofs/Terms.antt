@@ -1,12 +1,12 @@
 -- What one term of a row does to a box.
-use Rattle.std.proofs.Common.{◌≡◌, ◌≢◌, refl, sym, subst, ◌⊎◌, inl, inr, ℕ, zero, suc, ◌<◌, ℤ, pos, negsuc, ◌+ℤ◌, ◌-ℤ◌, ◌*ℤ◌, ◌≤ℤ◌, ◌<ℤ◌, List, [], ◌∷◌, length, Option, Some, None, IfSome, MatchOption, arith}
+use Rattle.std.proofs.Common.{◌≡◌, ◌≢◌, refl, sym, subst, inl, inr, ℕ, zero, suc, ◌<◌, ℤ, pos, negsuc, ◌+ℤ◌, ◌-ℤ◌, ◌*ℤ◌, ◌≤ℤ◌, ◌<ℤ◌, List, [], ◌∷◌, length, Option, Some, None, IfSome, MatchOption, arith}
 use Rattle.std.proofs.lemmas.Int.{ints, by_lt_z}
 use Rattle.ug_rows.specs.declared.area.Interval.{Interval}
 use Rattle.ug_rows.specs.declared.row.Term.{Term}
 use Rattle.ug_rows.specs.declared.sums.Extreme.{Extreme}
 use Rattle.ug_rows.specs.declared.sums.Extreme.TheVariants.{Least, Greatest}
 use Rattle.ug_rows.specs.Boxes.{IsInside, IsNonEmpty, IsWithin, interval_at, value_at}
-use Rattle.ug_rows.specs.Rows.{sum_at}
+use Rattle.ug_rows.specs.Rows.{IsAmong, sum_at}
 use Rattle.ug_rows.specs.Sums.{IsBound, end_of, end_product, end_sum, least_sum, greatest_sum}
 use Rattle.ug_rows.proofs.EndBounds.{AreThere, end_bound}
 use Rattle.ug_propagate.specs.declared.tight.Tight.{Tight}
@@ -130,11 +130,6 @@ at_least_holds reason (pos (suc d)) j s area x i there ne h =
     raise_low_holds reason j _ area x i there (ceiling_least s (suc d) (value_at x j) (omega arith) h)
 at_least_holds reason (negsuc d) j s area x i there ne h =
     lower_high_holds reason j _ area x i there (floor_greatest_neg s d (value_at x j) h)
-
--- the term is one of these
-abbrev pub IsAmong : Term → List Term → Type 0
-IsAmong t [] = ⊥
-IsAmong t (u ∷ us) = (t ≡ u) ⊎ IsAmong t us
 
 first_out : (e : Extreme) (a b c s : ℤ) → IsBound e b s → IsBound e ((a +ℤ b) -ℤ a) ((c +ℤ s) -ℤ c)
 first_out Least a b c s h = omega (arith, ints)

@@ -1,10 +1,17 @@
--- What the functions for one row, one term and one column are given, and what they answer.
-use Rattle.std.specs.Prelude.{◌≢◌, ℕ, pos, ◌<◌, ◌≤◌, ◌*◌, ◌^◌, List, length, Option, Some, None, IfSome, unsigned_abs}
+-- What the functions for one row, one term and one column are given, what they answer, and what they keep up.
+use Rattle.std.specs.Prelude.{◌≡◌, ◌≢◌, ℕ, ℤ, pos, ◌<◌, ◌≤◌, ◌*◌, ◌^◌, ◌-ℤ◌, ◌≤ℤ◌, neg_ℤ, List, length, Option, Some, None, IfSome, unsigned_abs}
 use Rattle.ug_rows.specs.declared.area.Interval.{Interval}
 use Rattle.ug_rows.specs.declared.row.Term.{Term}
 use Rattle.ug_rows.specs.declared.row.Row.{Row}
+use Rattle.ug_rows.specs.declared.sums.Extreme.TheVariants.{Least, Greatest}
+use Rattle.ug_rows.specs.Boxes.{IsSmall, interval_at}
 use Rattle.ug_rows.specs.Rows.{IsLinear, term_at}
-use Rattle.ug_propagate.specs.declared.step.Look.{Look}
+use Rattle.ug_rows.specs.Sums.{end_product, least_sum, greatest_sum}
+use Rattle.ug_propagate.specs.declared.look.Look.{Look}
+use Rattle.ug_propagate.specs.declared.look.Looked.{Looked}
+use Rattle.ug_propagate.specs.declared.look.Looked.TheVariants.{Same, Changed, Emptied}
+use Rattle.ug_propagate.specs.declared.measure.Ends.{Ends}
+use Rattle.ug_propagate.specs.declared.measure.Room.{Room}
 use Rattle.ug_propagate.specs.declared.tight.Tight.{Tight}
 use Rattle.ug_propagate.specs.declared.tight.Tight.TheVariants.{Kept, Empty}
 use Rattle.ug_propagate.specs.declared.tight.Reason.{Reason}
@@ -13,6 +20,24 @@ use Rattle.ug_propagate.specs.declared.tight.Reason.{Reason}
 abbrev pub outcome_of : Option Reason → List Interval → Tight
 outcome_of None area = Kept area
 outcome_of (Some reason) area = Empty reason
+
+-- what a look answers, over the box that it leaves
+abbrev pub looked_of : Looked → List Interval → Tight
+looked_of Same area = Kept area
+looked_of Changed area = Kept area
+looked_of (Emptied reason) area = Empty reason
+
+-- a look that tells of no change made none
+abbrev pub IsStill : Looked → List Interval → List Interval → Type 0
+IsStill Same old new = new ≡ old
+IsStill Changed old new = Unit {0}
+IsStill (Emptied reason) old new = Unit {0}
+
+-- something is left
+abbrev pub IsGoing : Looked → Type 0
+IsGoing Same = Unit {0}
+IsGoing Changed = Unit {0}
+IsGoing (Emptied reason) = ⊥
 
 -- the row with these terms and the sides of the look
 abbrev pub row_of : Look → List Term → Row
@@ -30,3 +55,35 @@ pub record IsReady (width : ℕ) (look : Look) (terms : List Term) : Type 0 wher
   pub nonzero : (k : ℕ) → k < length terms → (term_at terms k).factor ≢ pos 0
   pub low : IfSome look.low (λ low. unsigned_abs low ≤ 4 * 10 ^ 37)
   pub high : IfSome look.high (λ high. unsigned_abs high ≤ 4 * 10 ^ 37)
+
+-- how far the product of a term goes over the box: the greatest less the least
+abbrev pub span_of : Term → List Interval → ℤ
+span_of t area = end_product Greatest t area -ℤ end_product Least t area
+
+-- the columns of the terms have i32 numbers
+abbrev pub AreSmall : List Term → List Interval → Type 0
+AreSmall terms area = (k : ℕ) → k < length terms → IsSmall (interval_at area (term_at terms k).column)
+
+-- the sums of the terms over the box, and a number that no span of a term is above
+pub record IsMeasured (terms : List Term) (area : List Interval) (ends : Ends) : Type 0 where
+  pub small : AreSmall terms area
+  pub least : ends.least ≡ least_sum terms area
+  pub greatest : ends.greatest ≡ greatest_sum terms area
+  pub widest : (k : ℕ) → k < length terms → span_of (term_at terms k) area ≤ℤ ends.widest
+
+-- the side, or a number that no sum reaches where there is none
+abbrev pub high_of : Option ℤ → ℤ
+high_of None = pos (6 * 10 ^ 37)
+high_of (Some high) = high
+
+abbrev pub low_of : Option ℤ → ℤ
+low_of None = neg_ℤ (pos (6 * 10 ^ 37))
+low_of (Some low) = low
+
+-- how far the least sum over the box is below the high side, and the greatest above the low side
+pub record IsRoomOf (look : Look) (terms : List Term) (area : List Interval) (room : Room) : Type 0 where
+  pub small : AreSmall terms area
+  pub high : room.high ≡ high_of look.high -ℤ least_sum terms area
+  pub low : room.low ≡ greatest_sum terms area -ℤ low_of look.low
+  pub high_size : unsigned_abs room.high ≤ 9 * 10 ^ 37
+  pub low_size : unsigned_abs room.low ≤ 9 * 10 ^ 37

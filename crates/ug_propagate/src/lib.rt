@@ -4,14 +4,17 @@
 //! with a value below the cutoff is left, and where nothing is left it names the row that shows it.
 #![tactic(auto)]
 
-mod ends;
+mod columns;
+mod fast;
+mod look;
+mod measure;
+mod plain;
 mod propagation;
 mod quotient;
 mod rounds;
-mod step;
 #[cfg(test)]
 mod tests;
 mod tight;
 
-pub use propagation::tighten;
+pub use propagation::{tighten, tighten_plain};
 pub use tight::{Reason, Side, Tight};

@@ -4,6 +4,9 @@ ghost use Rattle.ug_propagate.specs.Claims.{HasReason, IsLeftOf, IsSolved, Keeps
 ghost use Rattle.ug_propagate.specs.Rounds.{crossed, last_round, rounds, rounds_of};
 ghost use Rattle.ug_propagate.specs.declared.tight.Tight.TheVariants.{Kept};
 
+use crate::fast::Fast;
+use crate::look::RowRule;
+use crate::plain::Plain;
 use crate::rounds::{has_point, run_all};
 use crate::tight::{Reason, Side, Tight};
 use std::alloc::{AllocError, Global};
@@ -31,7 +34,7 @@ fn told_of_crossed(
 }
 
 // The rounds of a box that has a point.
-fn tighten_sides(
+fn tighten_sides<R: RowRule>(
     alloc: Global,
     problem: &Problem,
     cutoff: Option<i128>,
@@ -42,15 +45,14 @@ fn tighten_sides(
     ensures { IfOk result (λ t. t ≡ last_round problem.now cutoff (rounds_of 32 problem.now cutoff (Kept area.now))) }
 {
     let mut sides = Vec::from_slice(alloc, area)?;
-    let told = run_all(alloc, problem, cutoff, sides.as_mut_slice())?;
-    match told {
+    match run_all::<R>(problem, cutoff, sides.as_mut_slice()) {
         Some(reason) => Ok(Tight::Empty(reason)),
         None => Ok(Tight::Kept(IntBox::from_vec(sides))),
     }
 }
 
 #[tactic(auto, using(crate::proofs::Bodies::rounds_some, crate::proofs::Bodies::rounds_none))]
-fn tighten_area(
+fn tighten_area<R: RowRule>(
     alloc: Global,
     problem: &Problem,
     cutoff: Option<i128>,
@@ -63,10 +65,28 @@ fn tighten_area(
 {
     let rows = problem.rows();
     if has_point(area) {
-        tighten_sides(alloc, problem, cutoff, area)
+        tighten_sides::<R>(alloc, problem, cutoff, area)
     } else {
         told_of_crossed(alloc, rows, cutoff, area)
     }
+}
+
+// What bound propagation makes of a box, by this rule.
+fn tighten_by<R: RowRule>(
+    alloc: Global,
+    problem: &Problem,
+    cutoff: Option<i128>,
+    area: &IntBox,
+) -> Result<Tight, AllocError>
+    requires width { length area.now ≡ length problem.now.columns }
+    requires cutoff { IfSome cutoff (λ c. unsigned_abs c ≤ 2 * 10 ^ 37) }
+    ensures value { IfOk result (λ t. t ≡ rounds problem.now cutoff area.now) }
+    ensures below { IfOk result (λ t. IsLeftOf area.now t) }
+    ensures kept { IfOk result (λ t. KeepsGood problem.now cutoff area.now t) }
+    ensures empty { IfOk result (λ t. HasReason problem.now cutoff area.now t) }
+    ensures fixed { IfOk result (λ t. IsSolved problem.now cutoff t) }
+{
+    tighten_area::<R>(alloc, problem, cutoff, area.as_slice())
 }
 
 /// What bound propagation makes of a box, for points with a value below the cutoff.
@@ -84,5 +104,23 @@ pub fn tighten(
     ensures empty { IfOk result (λ t. HasReason problem.now cutoff area.now t) }
     ensures fixed { IfOk result (λ t. IsSolved problem.now cutoff t) }
 {
-    tighten_area(alloc, problem, cutoff, area.as_slice())
+    tighten_by::<Fast>(alloc, problem, cutoff, area)
+}
+
+/// The same by the slow program that the definition is: for tests.
+pub fn tighten_plain(
+    alloc: Global,
+    problem: &Problem,
+    cutoff: Option<i128>,
+    area: &IntBox,
+) -> Result<Tight, AllocError>
+    requires width { length area.now ≡ length problem.now.columns }
+    requires cutoff { IfSome cutoff (λ c. unsigned_abs c ≤ 2 * 10 ^ 37) }
+    ensures value { IfOk result (λ t. t ≡ rounds problem.now cutoff area.now) }
+    ensures below { IfOk result (λ t. IsLeftOf area.now t) }
+    ensures kept { IfOk result (λ t. KeepsGood problem.now cutoff area.now t) }
+    ensures empty { IfOk result (λ t. HasReason problem.now cutoff area.now t) }
+    ensures fixed { IfOk result (λ t. IsSolved problem.now cutoff t) }
+{
+    tighten_by::<Plain>(alloc, problem, cutoff, area)
 }

@@ -1,5 +1,18 @@
-ghost use Rattle.std.specs.Prelude.{◌≡◌, ◌≢◌, ◌≤◌, ◌^◌, pos, unsigned_abs};
+ghost use Rattle.std.specs.Prelude.{◌≡◌, ◌≢◌, ◌≤◌, ◌<ℤ◌, ◌^◌, pos, unsigned_abs};
+ghost use Rattle.std.specs.Int.{int_div_euclid};
 ghost use Rattle.ug_propagate.specs.Rounds.{floor_quotient, ceiling_quotient};
+
+// `number` / `divisor`, rounded down, in 64 bits where both fit: that is faster.
+#[tactic(auto, using(crate::proofs::Quotients::quotients))]
+fn divide(number: i128, divisor: i128) -> i128
+    requires divisor { pos 0 <ℤ divisor }
+    ensures { result ≡ int_div_euclid number divisor }
+{
+    match (i64::try_from(number), i64::try_from(divisor)) {
+        (Ok(number), Ok(divisor)) => i128::from(number.div_euclid(divisor)),
+        _ => number.div_euclid(divisor),
+    }
+}
 
 /// `number` / `divisor`, rounded down.
 #[tactic(auto, using(crate::proofs::Quotients::quotients))]
@@ -11,9 +24,9 @@ pub fn floor_div(number: i128, divisor: i128) -> i128
     ensures small { unsigned_abs result ≤ 10 ^ 38 }
 {
     if divisor > 0 {
-        number.div_euclid(divisor)
+        divide(number, divisor)
     } else {
-        (-number).div_euclid(-divisor)
+        divide(-number, -divisor)
     }
 }
 

@@ -3,3 +3,4 @@ pub mod SumLemmas
 pub mod EndLemmas
 pub mod AreaLemmas
 pub mod EndBounds
+pub mod Replaced

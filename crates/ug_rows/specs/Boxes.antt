@@ -1,5 +1,5 @@
 -- Points and boxes. A point is the list of its values, a box the list of its intervals, one per column.
-use Rattle.std.specs.Prelude.{◌≡◌, ◌≢◌, ℕ, ℤ, pos, ◌<◌, ◌≤ℤ◌, List, length, slice_index_or}
+use Rattle.std.specs.Prelude.{◌≡◌, ◌≢◌, ℕ, ℤ, pos, ◌<◌, ◌≤◌, ◌^◌, ◌≤ℤ◌, List, length, slice_index_or, unsigned_abs}
 use Rattle.ug_rows.specs.declared.area.Interval.{Interval}
 
 -- the value of column j
@@ -27,6 +27,11 @@ pub record IsInside (area : List Interval) (x : List ℤ) : Type 0 where
 -- no interval of the box has its low above its high, so the box has a point
 abbrev pub IsNonEmpty : List Interval → Type 0
 IsNonEmpty area = (j : ℕ) → j < length area → (interval_at area j).low ≤ℤ (interval_at area j).high
+
+-- both ends are at most 2^31 in absolute value, as i32 numbers are
+pub record IsSmall (side : Interval) : Type 0 where
+  pub low : unsigned_abs side.low ≤ 2 ^ 31
+  pub high : unsigned_abs side.high ≤ 2 ^ 31
 
 -- the inner interval is within the outer, and has its low at most its high
 pub record IsClosedWithin (inner outer : Interval) : Type 0 where

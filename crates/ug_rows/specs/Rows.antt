@@ -1,5 +1,5 @@
 -- Rows: linear sums with two optional sides, and when a point keeps to them.
-use Rattle.std.specs.Prelude.{ℕ, ℤ, pos, ◌+ℤ◌, ◌*ℤ◌, ◌<◌, ◌≤◌, ◌^◌, ◌≤ℤ◌, List, [], ◌∷◌, length, slice_index_or, IfSome, unsigned_abs}
+use Rattle.std.specs.Prelude.{◌≡◌, ◌⊎◌, ℕ, ℤ, pos, ◌+ℤ◌, ◌*ℤ◌, ◌<◌, ◌≤◌, ◌^◌, ◌≤ℤ◌, List, [], ◌∷◌, length, slice_index_or, IfSome, unsigned_abs}
 use Rattle.ug_rows.specs.declared.row.Term.{Term}
 use Rattle.ug_rows.specs.declared.row.Row.{Row}
 use Rattle.ug_rows.specs.declared.row.Objective.{Objective}
@@ -12,6 +12,11 @@ no_term = record { column = 0; factor = pos 0 }
 -- term k
 abbrev pub term_at : List Term → ℕ → Term
 term_at terms k = slice_index_or terms k no_term
+
+-- the term is one of these
+abbrev pub IsAmong : Term → List Term → Type 0
+IsAmong t [] = ⊥
+IsAmong t (u ∷ us) = (t ≡ u) ⊎ IsAmong t us
 
 -- the sum of the terms at the point x
 abbrev pub sum_at : List Term → List ℤ → ℤ

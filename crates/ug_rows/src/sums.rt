@@ -49,7 +49,7 @@ pub fn floor(objective: &Objective, area: &IntBox) -> i128
 }
 
 /// The least or the greatest sum of terms over the points of a box.
-fn sum_of_ends(extreme: Extreme, terms: &[Term], sides: &[Interval]) -> i128
+pub fn sum_of_ends(extreme: Extreme, terms: &[Term], sides: &[Interval]) -> i128
     requires { IsLinear (length sides.now) terms.now }
     ensures bound { (x : List ℤ) → IsInside sides.now x → IsBound extreme result (sum_at terms.now x) }
     ensures reached { IsNonEmpty sides.now → (x : List ℤ) × IsInside sides.now x × (sum_at terms.now x ≡ result) }
@@ -72,8 +72,8 @@ fn add_ends(extreme: Extreme, terms: &[Term], sides: &[Interval]) -> i128
     total
 }
 
-// A total and one term more, at the end of its column's interval.
-fn add_end(extreme: Extreme, total: i128, term: Term, side: Interval) -> i128
+/// A total and one term more, at that end of its column's interval.
+pub fn add_end(extreme: Extreme, total: i128, term: Term, side: Interval) -> i128
     requires total { unsigned_abs total ≤ 10 ^ 38 }
     requires factor { unsigned_abs term.factor ≤ 10 ^ 24 }
     ensures value { result ≡ total +ℤ (term.factor *ℤ end_of extreme term.factor side) }
@@ -83,7 +83,7 @@ fn add_end(extreme: Extreme, total: i128, term: Term, side: Interval) -> i128
 }
 
 /// The end of an interval at which its product with a factor is the least, or the greatest.
-fn end_at(extreme: Extreme, factor: i128, side: Interval) -> i32
+pub fn end_at(extreme: Extreme, factor: i128, side: Interval) -> i32
     ensures { result ≡ end_of extreme factor side }
 {
     match extreme {

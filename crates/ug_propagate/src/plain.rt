@@ -1,87 +1,48 @@
-ghost use Rattle.std.specs.Prelude.{◌≡◌, ◌≢◌, ◌≤◌, ◌<◌, ◌^◌, pos, length, unsigned_abs};
-ghost use Rattle.ug_propagate.specs.Rounds.{exceeds, falls_short, keep_at_least, keep_at_most, lower_high, over_low, over_terms, raise_low, row_step, term_step, under_high};
+ghost use Rattle.std.specs.Prelude.{◌≡◌, ◌≤◌, ◌*◌, ◌^◌, ◌-ℤ◌, length, unsigned_abs};
+ghost use Rattle.ug_rows.specs.Rows.{IsLinear};
+ghost use Rattle.ug_propagate.specs.Rounds.{end_of_others, exceeds, falls_short, over_low, over_terms, row_step, term_step, under_high};
 ghost use Rattle.ug_propagate.specs.Steps.{IsReady, IsTermOf, outcome_of, row_of};
 ghost use Rattle.ug_propagate.specs.declared.tight.Tight.TheVariants.{Kept};
 
-use crate::ends::{less_others, sum_of_ends};
-use crate::quotient::{ceiling_div, floor_div};
+use crate::columns::{product_above, product_below};
+use crate::look::{Look, Looked, RowRule};
 use crate::tight::{Reason, Side};
-use ug_rows::{Extreme, Interval, Term};
+use ug_rows::{Extreme, Interval, Term, add_end, sum_of_ends};
 
-/// The row that is looked at, or `None` for the objective, and its sides.
-#[derive(Clone, Copy, Debug)]
-pub struct Look {
-    pub row: Option<u32>,
-    pub low: Option<i128>,
-    pub high: Option<i128>,
-}
+/// The rule as it is defined: each sum is taken anew for each term, and no look ends early.
+pub struct Plain;
 
-// The column keeps to at most `most`.
-fn keep_below(reason: Reason, column: usize, most: i128, area: &mut [Interval]) -> Option<Reason>
-    requires { column < length area.old }
-    ensures { outcome_of result area.new ≡ lower_high reason column most area.old }
-{
-    let side = area[column];
-    if i128::from(side.high) <= most {
-        return None;
-    }
-    if most < i128::from(side.low) {
-        return Some(reason);
-    }
-    area[column] = Interval {
-        low: side.low,
-        high: most as i32,
-    };
-    None
-}
-
-// The column keeps to at least `least`.
-fn keep_above(reason: Reason, column: usize, least: i128, area: &mut [Interval]) -> Option<Reason>
-    requires { column < length area.old }
-    ensures { outcome_of result area.new ≡ raise_low reason column least area.old }
-{
-    let side = area[column];
-    if least <= i128::from(side.low) {
-        return None;
-    }
-    if i128::from(side.high) < least {
-        return Some(reason);
-    }
-    area[column] = Interval {
-        low: least as i32,
-        high: side.high,
-    };
-    None
-}
-
-// The product of the term and its column keeps to at most `most`.
-#[tactic(auto, using(crate::proofs::Bodies::at_most_cases))]
-fn product_below(reason: Reason, term: Term, most: i128, area: &mut [Interval]) -> Option<Reason>
-    requires term { IsTermOf (length area.old) term }
-    requires most { unsigned_abs most ≤ 10 ^ 38 }
-    ensures { outcome_of result area.new ≡ keep_at_most reason term.factor term.column most area.old }
-{
-    let column = term.column as usize;
-    if term.factor > 0 {
-        keep_below(reason, column, floor_div(most, term.factor), area)
-    } else {
-        keep_above(reason, column, ceiling_div(most, term.factor), area)
+impl RowRule for Plain {
+    fn look(look: Look, terms: &[Term], area: &mut [Interval]) -> Looked {
+        match tighten_row(look, terms, area) {
+            Some(reason) => Looked::Emptied(reason),
+            None => Looked::Changed,
+        }
     }
 }
 
-// The product of the term and its column keeps to at least `least`.
-#[tactic(auto, using(crate::proofs::Bodies::at_least_cases))]
-fn product_above(reason: Reason, term: Term, least: i128, area: &mut [Interval]) -> Option<Reason>
-    requires term { IsTermOf (length area.old) term }
-    requires least { unsigned_abs least ≤ 10 ^ 38 }
-    ensures { outcome_of result area.new ≡ keep_at_least reason term.factor term.column least area.old }
+// The least or the greatest sum of the other terms.
+#[tactic(auto, using(crate::proofs::Bodies::others_small))]
+fn ends_of_others(extreme: Extreme, terms: &[Term], term: Term, sides: &[Interval]) -> i128
+    requires terms { IsLinear (length sides.now) terms.now }
+    requires term { IsTermOf (length sides.now) term }
+    ensures value { result ≡ end_of_others extreme terms.now term sides.now }
+    ensures small { unsigned_abs result ≤ 4 * 10 ^ 37 }
 {
-    let column = term.column as usize;
-    if term.factor > 0 {
-        keep_above(reason, column, ceiling_div(least, term.factor), area)
-    } else {
-        keep_below(reason, column, floor_div(least, term.factor), area)
-    }
+    let product = add_end(extreme, 0, term, sides[term.column as usize]);
+    sum_of_ends(extreme, terms, sides) - product
+}
+
+// A side of a row less the least or the greatest sum of the other terms.
+#[tactic(auto, using(crate::proofs::Bodies::others_small))]
+fn less_others(extreme: Extreme, side: i128, terms: &[Term], term: Term, sides: &[Interval]) -> i128
+    requires terms { IsLinear (length sides.now) terms.now }
+    requires term { IsTermOf (length sides.now) term }
+    requires side { unsigned_abs side ≤ 4 * 10 ^ 37 }
+    ensures value { result ≡ side -ℤ end_of_others extreme terms.now term sides.now }
+    ensures small { unsigned_abs result ≤ 10 ^ 38 }
+{
+    side - ends_of_others(extreme, terms, term, sides)
 }
 
 fn tighten_under_high(
@@ -163,8 +124,8 @@ fn is_below(sum: i128, low: Option<i128>) -> bool
     }
 }
 
-/// One row: its least against the high side, its greatest against the low side, then its terms.
-pub fn tighten_row(look: Look, terms: &[Term], area: &mut [Interval]) -> Option<Reason>
+// One row: its least against the high side, its greatest against the low side, then its terms.
+fn tighten_row(look: Look, terms: &[Term], area: &mut [Interval]) -> Option<Reason>
     requires { IsReady (length area.old) look terms.now }
     ensures { outcome_of result area.new ≡ row_step look.row (row_of look terms.now) area.old }
 {

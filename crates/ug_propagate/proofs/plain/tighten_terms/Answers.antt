@@ -1,6 +1,6 @@
 use Rattle.ug_propagate.specs.Steps.{row_of}
 use Rattle.ug_propagate.proofs.Bodies.{terms_stop}
-use Rattle.ug_propagate.proofs.step.tighten_terms.Goals as goal
+use Rattle.ug_propagate.proofs.plain.tighten_terms.Goals as goal
 
 pub returns-in-Some : goal.returns-in-Some
 returns-in-Some c =

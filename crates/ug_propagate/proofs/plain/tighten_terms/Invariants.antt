@@ -2,7 +2,7 @@ use Rattle.std.proofs.Common.{◌≡◌, drop}
 use Rattle.ug_propagate.specs.Rounds.{over_terms}
 use Rattle.ug_propagate.specs.Steps.{row_of}
 use Rattle.ug_propagate.specs.declared.tight.Tight.TheVariants.{Kept}
-use Rattle.ug_propagate.proofs.step.tighten_terms.Given as goal
+use Rattle.ug_propagate.proofs.plain.tighten_terms.Given as goal
 
 abbrev pub invariant-loop-term : goal.invariant-loop-term
 invariant-loop-term l =

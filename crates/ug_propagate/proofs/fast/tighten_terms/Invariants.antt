@@ -1,0 +1,13 @@
+use Rattle.std.proofs.Common.{◌≡◌, drop, false}
+use Rattle.ug_propagate.specs.Rounds.{over_terms}
+use Rattle.ug_propagate.specs.Steps.{IsRoomOf, row_of}
+use Rattle.ug_propagate.specs.declared.tight.Tight.TheVariants.{Kept}
+use Rattle.ug_propagate.proofs.fast.tighten_terms.Given as goal
+
+abbrev pub invariant-loop-term : goal.invariant-loop-term
+invariant-loop-term l = record {
+  so_far : over_terms l.look.row (row_of l.look l.terms) (drop l.term-index l.terms) (Kept l.area)
+      ≡ over_terms l.look.row (row_of l.look l.terms) l.terms (Kept l.fn.area);
+  still : l.changed ≡ false → l.area ≡ l.fn.area;
+  room : IsRoomOf l.look l.terms l.area l.room;
+}

@@ -1,0 +1,137 @@
+ghost use Rattle.std.specs.Prelude.{◌≡◌, ◌≤◌, ◌*◌, ◌^◌, ◌+◌, ◌+ℤ◌, ◌-ℤ◌, ◌*ℤ◌, ◌≤ℤ◌, ◌⊎◌, length, unsigned_abs};
+ghost use Rattle.ug_rows.specs.Boxes.{IsSmall};
+ghost use Rattle.ug_rows.specs.Rows.{IsLinear};
+ghost use Rattle.ug_rows.specs.Sums.{end_of};
+ghost use Rattle.ug_rows.specs.declared.sums.Extreme.TheVariants.{Least, Greatest};
+ghost use Rattle.ug_propagate.specs.Steps.{IsMeasured, IsReady, IsRoomOf, high_of, low_of};
+
+use crate::look::Look;
+use ug_rows::{Extreme, Interval, Term, add_end};
+
+/// The least and the greatest sum of a row over a box, and a number that no span of a term is above.
+#[derive(Clone, Copy, Debug)]
+pub struct Ends {
+    pub least: i128,
+    pub greatest: i128,
+    pub widest: i128,
+}
+
+/// How far the least sum of a row is below its high side, and the greatest above its low side.
+#[derive(Clone, Copy, Debug)]
+pub struct Room {
+    pub high: i128,
+    pub low: i128,
+}
+
+/// A sum of two numbers.
+#[tactic(auto, using(crate::proofs::Bodies::sizes))]
+pub fn plus(a: i128, b: i128) -> i128
+    requires { unsigned_abs a + unsigned_abs b ≤ 10 ^ 38 }
+    ensures value { result ≡ a +ℤ b }
+    ensures small { unsigned_abs result ≤ unsigned_abs a + unsigned_abs b }
+{
+    a + b
+}
+
+/// A difference of two numbers.
+#[tactic(auto, using(crate::proofs::Bodies::sizes))]
+pub fn minus(a: i128, b: i128) -> i128
+    requires { unsigned_abs a + unsigned_abs b ≤ 10 ^ 38 }
+    ensures value { result ≡ a -ℤ b }
+    ensures small { unsigned_abs result ≤ unsigned_abs a + unsigned_abs b }
+{
+    a - b
+}
+
+/// The product of a term at an end of its column's interval.
+pub fn product(extreme: Extreme, term: Term, side: Interval) -> i128
+    requires { unsigned_abs term.factor ≤ 10 ^ 24 }
+    ensures value { result ≡ term.factor *ℤ end_of extreme term.factor side }
+    ensures small { unsigned_abs result ≤ 10 ^ 24 * 2 ^ 31 }
+    ensures side { IsSmall side }
+{
+    add_end(extreme, 0, term, side)
+}
+
+fn larger(a: i128, b: i128) -> i128
+    ensures first { a ≤ℤ result }
+    ensures second { b ≤ℤ result }
+    ensures one { (result ≡ a) ⊎ (result ≡ b) }
+{
+    if a < b { b } else { a }
+}
+
+// The sums and the widest span with one term more.
+fn with_term(ends: Ends, term: Term, side: Interval) -> Ends
+    requires least { unsigned_abs ends.least ≤ 3 * 10 ^ 37 }
+    requires greatest { unsigned_abs ends.greatest ≤ 3 * 10 ^ 37 }
+    requires factor { unsigned_abs term.factor ≤ 10 ^ 24 }
+    ensures least { result.least ≡ ends.least +ℤ (term.factor *ℤ end_of Least term.factor side) }
+    ensures greatest { result.greatest ≡ ends.greatest +ℤ (term.factor *ℤ end_of Greatest term.factor side) }
+    ensures span { ((term.factor *ℤ end_of Greatest term.factor side) -ℤ (term.factor *ℤ end_of Least term.factor side)) ≤ℤ result.widest }
+    ensures widest { ends.widest ≤ℤ result.widest }
+    ensures small_least { unsigned_abs result.least ≤ unsigned_abs ends.least + 10 ^ 24 * 2 ^ 31 }
+    ensures small_greatest { unsigned_abs result.greatest ≤ unsigned_abs ends.greatest + 10 ^ 24 * 2 ^ 31 }
+    ensures side { IsSmall side }
+{
+    let least = product(Extreme::Least, term, side);
+    let greatest = product(Extreme::Greatest, term, side);
+    Ends {
+        least: plus(ends.least, least),
+        greatest: plus(ends.greatest, greatest),
+        widest: larger(ends.widest, minus(greatest, least)),
+    }
+}
+
+/// One pass over the terms of a row.
+pub fn measure(terms: &[Term], area: &[Interval]) -> Ends
+    requires { IsLinear (length area.now) terms.now }
+    ensures measured { IsMeasured terms.now area.now result }
+    ensures least { unsigned_abs result.least ≤ 3 * 10 ^ 37 }
+    ensures greatest { unsigned_abs result.greatest ≤ 3 * 10 ^ 37 }
+{
+    let mut ends = Ends {
+        least: 0,
+        greatest: 0,
+        widest: 0,
+    };
+    for term in terms {
+        ends = with_term(ends, *term, area[term.column as usize]);
+    }
+    ends
+}
+
+// A side of a row, or where there is none a number that no sum reaches.
+const NO_SIDE: i128 = 60_000_000_000_000_000_000_000_000_000_000_000_000;
+
+fn high_or_none(high: Option<i128>) -> i128
+    ensures { result ≡ high_of high }
+{
+    match high {
+        Some(high) => high,
+        None => NO_SIDE,
+    }
+}
+
+fn low_or_none(low: Option<i128>) -> i128
+    ensures { result ≡ low_of low }
+{
+    match low {
+        Some(low) => low,
+        None => -NO_SIDE,
+    }
+}
+
+/// The room that the sums leave within the sides of the row.
+pub fn room_within(look: Look, terms: &[Term], ends: Ends, area: &[Interval]) -> Room
+    requires ready { IsReady (length area.now) look terms.now }
+    requires measured { IsMeasured terms.now area.now ends }
+    requires least { unsigned_abs ends.least ≤ 3 * 10 ^ 37 }
+    requires greatest { unsigned_abs ends.greatest ≤ 3 * 10 ^ 37 }
+    ensures { IsRoomOf look terms.now area.now result }
+{
+    Room {
+        high: minus(high_or_none(look.high), ends.least),
+        low: minus(ends.greatest, low_or_none(look.low)),
+    }
+}
