@@ -18,3 +18,4 @@ pub mod FinishLemmas
 pub mod StatedLemmas
 pub mod ProblemLemmas
 pub mod EndLemmas
+mod WorkedTexts

@@ -6,6 +6,7 @@ pub mod Stated
 pub mod Reads
 pub mod Said
 pub mod Laws
+pub mod Examples
 pub mod Ending
 pub mod Names
 pub mod Plain

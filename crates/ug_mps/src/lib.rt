@@ -20,6 +20,6 @@ mod words;
 
 pub use ending::enough;
 pub use fault::{Kind, MpsError, MpsFault};
-pub use laws::one_outcome;
+pub use laws::{one_outcome, worked_texts};
 pub use reading::read;
 pub use section::{RowKind, Section};
