@@ -22,4 +22,6 @@ pub use running::run;
 pub use status::Status;
 
 #[cfg(test)]
+mod small_problems;
+#[cfg(test)]
 mod tests;
