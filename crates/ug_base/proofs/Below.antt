@@ -1,5 +1,5 @@
 -- A box below one that is below a third is below the third.
-use Rattle.std.proofs.Common.{◌≡◌, ◌≢◌, ℤ, ◌<◌, ◌≤ℤ◌, ◌<ℤ◌, List, length, sym, subst, ◌∙◌, arith}
+use Rattle.std.proofs.Common.{◌≢◌, ℤ, ◌<◌, ◌≤ℤ◌, ◌<ℤ◌, List, sym, subst, ◌∙◌, arith}
 use Rattle.std.proofs.lemmas.Int.{ints, by_lt_z}
 use Rattle.ug_rows.specs.declared.area.Interval.{Interval}
 use Rattle.ug_rows.specs.Boxes.{IsBelow, IsInside, IsNarrower, IsWithin, interval_at, value_at}

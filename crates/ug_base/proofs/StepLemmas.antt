@@ -1,19 +1,19 @@
 -- A step keeps what every task is, and leaves less to search.
-use Rattle.std.proofs.Common.{◌≡◌, ℕ, ℤ, ◌+◌, ◌-◌, ◌*◌, ◌^◌, ◌<◌, ◌≤◌, ◌<ℤ◌, ◌⊎◌, inl, inr, List, [], ◌∷◌, ◌++◌, length, All, Option, Some, None, IfSome, unsigned_abs, int_lt, if◌then◌else◌, refl, sym, ap, subst, ◌∙◌, arith}
+use Rattle.std.proofs.Common.{◌≡◌, ℤ, ◌+◌, ◌-◌, ◌<◌, ◌<ℤ◌, ◌⊎◌, inl, inr, List, [], ◌∷◌, ◌++◌, length, Option, Some, None, IfSome, refl, sym, ap, subst, arith}
 use Rattle.std.proofs.lemmas.Int.{ints}
 use Rattle.std.proofs.lemmas.List.Elements.{All-append, All-cons, All-nil, All-take}
 use Rattle.ug_rows.specs.declared.area.Interval.{Interval}
 use Rattle.ug_rows.specs.Boxes.{IsBelow, IsInside}
 use Rattle.ug_rows.specs.Rows.{value_of}
-use Rattle.ug_problem.specs.Instances.{Instance, root_of}
+use Rattle.ug_problem.specs.Instances.{Instance}
 use Rattle.ug_problem.proofs.Values.{value_within}
 use Rattle.ug_propagate.specs.Claims.{IsGood}
 use Rattle.ug_base.specs.declared.halves.Halves.{Halves}
 use Rattle.ug_base.specs.declared.look.Seen.{Seen}
 use Rattle.ug_base.specs.declared.look.Seen.TheVariants.{Hopeless, Solved, Halved}
-use Rattle.ug_base.specs.Covers.{AreCovered, HasNoGood, IsInOne}
+use Rattle.ug_base.specs.Covers.{IsInOne}
 use Rattle.ug_base.specs.Points.{measure_of, weight_of}
-use Rattle.ug_base.specs.Tasks.{AreBelow, IsSmall, IsTask, TaskState}
+use Rattle.ug_base.specs.Tasks.{AreBelow, IsTask, TaskState}
 use Rattle.ug_base.specs.Steps.{IsSplit}
 use Rattle.ug_base.specs.Looks.{IsReady, IsSeen, IsSeenHalved, IsSeenHopeless, IsSeenSolved, front_of}
 use Rattle.ug_base.proofs.Below.{below_trans}
