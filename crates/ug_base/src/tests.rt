@@ -139,12 +139,11 @@ fn ends_with(alloc: Global, number: u8) -> Option<i128>
     requires { number < 8 }
 {
     let mut task = task(alloc, number)?;
-    for _ in 0..300 {
+    loop {
         if matches!(task.step().ok()?, Step::Empty) {
             return task.cutoff();
         }
     }
-    None
 }
 
 #[test]
