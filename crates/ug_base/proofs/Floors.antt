@@ -1,17 +1,16 @@
 -- The least floor of boxes, and that it bounds the value of each good point.
-use Rattle.std.proofs.Common.{◌≡◌, ◌↔◌, ℕ, zero, suc, ℤ, ◌+◌, ◌+ℤ◌, ◌<◌, ◌≤ℤ◌, ◌<ℤ◌, ◌⊎◌, inl, inr, List, [], ◌∷◌, length, Bool, true, false, All, Option, Some, None, IsNone, IfSome, ap, int_lt, if◌then◌else◌, refl, sym, subst, ◌∙◌, arith}
+use Rattle.std.proofs.Common.{◌≡◌, ◌↔◌, ℕ, suc, ℤ, ◌+◌, ◌<◌, ◌≤ℤ◌, ◌⊎◌, inl, inr, List, [], ◌∷◌, length, All, Option, Some, None, IsNone, IfSome, ap, refl, sym, subst, ◌∙◌, arith}
 use Rattle.std.proofs.lemmas.Int.{ints, by_lt_z}
 use Rattle.std.proofs.lemmas.Bool.{cases_eq, true≢false}
 use Rattle.std.proofs.lemmas.List.{length-map}
 use Rattle.std.proofs.lemmas.List.Elements.{All-get_or, All-weaker}
 use Rattle.ug_rows.specs.declared.area.Interval.{Interval}
-use Rattle.ug_rows.specs.declared.sums.Extreme.{Extreme}
 use Rattle.ug_rows.specs.declared.sums.Extreme.TheVariants.{Least}
 use Rattle.ug_rows.specs.Boxes.{IsBelow, IsInside}
 use Rattle.ug_rows.specs.Rows.{IsLinear, sum_at, value_of}
 use Rattle.ug_rows.specs.Sums.{least_sum}
 use Rattle.ug_rows.proofs.EndBounds.{sum_bound}
-use Rattle.ug_problem.specs.Instances.{Instance, bounds_of, root_of}
+use Rattle.ug_problem.specs.Instances.{Instance, bounds_of}
 use Rattle.ug_problem.specs.Limits.{IsProblem}
 use Rattle.ug_problem.proofs.Linear.{linear_objective}
 use Rattle.ug_base.specs.Covers.{IsInOne}

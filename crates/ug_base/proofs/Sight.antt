@@ -1,21 +1,18 @@
 -- What a look at a box sees.
-use Rattle.std.proofs.Common.{◌≡◌, ℕ, ℤ, pos, ◌+◌, ◌+ℤ◌, ◌*ℤ◌, ◌<◌, ◌≤◌, ◌^◌, ◌≤ℤ◌, ◌<ℤ◌, ◌⊎◌, inl, inr, List, length, map, slice_set, Option, Some, None, sym, ap, subst, ◌∙◌, arith}
+use Rattle.std.proofs.Common.{◌≡◌, ℕ, ℤ, pos, ◌+◌, ◌+ℤ◌, ◌*ℤ◌, ◌<◌, ◌≤◌, ◌^◌, ◌≤ℤ◌, ◌<ℤ◌, ◌⊎◌, inl, inr, List, length, Option, sym, subst, ◌∙◌, arith}
 use Rattle.std.proofs.lemmas.Int.{ints}
 use Rattle.std.proofs.lemmas.List.{ext_get_or, get_or-map, length-map}
 use Rattle.ug_rows.specs.declared.area.Interval.{Interval}
-use Rattle.ug_rows.specs.Boxes.{IsBelow, IsInside, IsNonEmpty, IsWithin, interval_at, no_interval, value_at}
-use Rattle.ug_problem.specs.Instances.{Instance, bounds_of, root_of}
-use Rattle.ug_problem.specs.Limits.{IsProblem}
+use Rattle.ug_rows.specs.Boxes.{IsBelow, IsInside, IsNonEmpty, interval_at, no_interval, value_at}
+use Rattle.ug_problem.specs.Instances.{Instance, bounds_of}
 use Rattle.ug_branch.specs.declared.params.Params.{Params}
 use Rattle.ug_branch.specs.declared.params.Half.{Half}
 use Rattle.ug_branch.specs.declared.params.Half.TheVariants.{Lower, Upper}
 use Rattle.ug_branch.specs.declared.choice.Branch.{Branch}
-use Rattle.ug_branch.specs.Choices.{AreHalves, IsChosen, IsFixed as IsClosed, IsMiddle, lower_half, upper_half}
-use Rattle.ug_propagate.specs.declared.tight.Tight.{Tight}
+use Rattle.ug_branch.specs.Choices.{AreHalves, IsChosen, IsFixed as IsClosed, lower_half, upper_half}
 use Rattle.ug_propagate.specs.declared.tight.Tight.TheVariants.{Kept, Empty}
 use Rattle.ug_propagate.specs.declared.tight.Reason.{Reason}
-use Rattle.ug_propagate.specs.Claims.{IsCrossed, IsFixed, IsGood}
-use Rattle.ug_propagate.specs.Rounds.{rounds}
+use Rattle.ug_propagate.specs.Claims.{IsCrossed, IsFixed}
 use Rattle.ug_base.specs.declared.halves.Halves.{Halves}
 use Rattle.ug_base.specs.declared.look.Seen.{Seen}
 use Rattle.ug_base.specs.declared.look.Seen.TheVariants.{Hopeless, Solved, Halved}

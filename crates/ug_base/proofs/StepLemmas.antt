@@ -1,20 +1,19 @@
 -- A step keeps what every task is, and leaves less to search.
-use Rattle.std.proofs.Common.{◌≡◌, ℕ, ℤ, ◌+◌, ◌-◌, ◌*◌, ◌^◌, ◌<◌, ◌≤◌, ◌<ℤ◌, ◌⊎◌, inl, inr, List, [], ◌∷◌, ◌++◌, length, All, Option, Some, None, IfSome, unsigned_abs, int_lt, if◌then◌else◌, refl, sym, ap, subst, ◌∙◌, arith}
+use Rattle.std.proofs.Common.{◌≡◌, ℤ, ◌+◌, ◌-◌, ◌<◌, ◌<ℤ◌, ◌⊎◌, inl, inr, List, [], ◌∷◌, ◌++◌, length, Option, Some, None, IfSome, sym, ap, subst, arith}
 use Rattle.std.proofs.lemmas.Int.{ints}
 use Rattle.std.proofs.lemmas.List.Elements.{All-append, All-cons, All-nil, All-take}
 use Rattle.ug_rows.specs.declared.area.Interval.{Interval}
 use Rattle.ug_rows.specs.Boxes.{IsBelow, IsInside}
 use Rattle.ug_rows.specs.Rows.{value_of}
-use Rattle.ug_problem.specs.Instances.{Instance, root_of}
+use Rattle.ug_problem.specs.Instances.{Instance}
 use Rattle.ug_problem.proofs.Values.{value_within}
 use Rattle.ug_propagate.specs.Claims.{IsGood}
 use Rattle.ug_base.specs.declared.halves.Halves.{Halves}
 use Rattle.ug_base.specs.declared.look.Seen.{Seen}
 use Rattle.ug_base.specs.declared.look.Seen.TheVariants.{Hopeless, Solved, Halved}
-use Rattle.ug_base.specs.Covers.{AreCovered, HasNoGood, IsInOne}
+use Rattle.ug_base.specs.Covers.{IsInOne}
 use Rattle.ug_base.specs.Points.{measure_of, weight_of}
-use Rattle.ug_base.specs.Tasks.{AreBelow, IsSmall, IsTask, TaskState}
-use Rattle.ug_base.specs.Steps.{IsSplit}
+use Rattle.ug_base.specs.Tasks.{AreBelow, IsTask, TaskState}
 use Rattle.ug_base.specs.Looks.{IsReady, IsSeen, IsSeenHalved, IsSeenHopeless, IsSeenSolved, front_of}
 use Rattle.ug_base.proofs.Below.{below_trans}
 use Rattle.ug_base.proofs.LastBox.{all_last, in_one_behind, in_one_front, in_one_split}
@@ -133,22 +132,6 @@ pub after_halved : (t : TaskState) (last : List Interval) (seen : Seen) (halves 
 after_halved t last seen halves boxes task e s is new =
     subst (λ bs. IsTask (record t { boxes = bs })) (sym new)
     (split_task t last halves task e (subst (IsSeen t.problem t.cutoff t.params last) is s))
-
--- what a split did
-pub split_took : (t : TaskState) (last : List Interval) (halves : Halves) → t.boxes ≡ front_of t.boxes ++ last ∷ []
-    → IsSeenHalved t.problem t.cutoff t.params last halves
-    → IsSplit t (record t { boxes = front_of t.boxes ++ halves.second ∷ halves.first ∷ [] })
-split_took t last halves e seen = record {
-  before = front_of t.boxes;
-  last = last;
-  boxes = e;
-  inner = seen.inner;
-  left = seen.left;
-  some = seen.some;
-  branch = seen.branch;
-  chosen = seen.chosen;
-  same = rw (seen.ordered.first, seen.ordered.second) refl;
-}
 
 -- a box dropped leaves less
 pub dropped_less : (boxes : List (List Interval)) (last : List Interval) → boxes ≡ front_of boxes ++ last ∷ []

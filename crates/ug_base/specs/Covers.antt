@@ -1,5 +1,5 @@
 -- Which points the boxes that are left have.
-use Rattle.std.specs.Prelude.{ℕ, ℤ, ◌⊎◌, List, [], ◌∷◌, Option}
+use Rattle.std.specs.Prelude.{ℤ, ◌⊎◌, List, [], ◌∷◌, Option}
 use Rattle.ug_rows.specs.declared.area.Interval.{Interval}
 use Rattle.ug_rows.specs.Boxes.{IsInside}
 use Rattle.ug_problem.specs.Instances.{Instance}

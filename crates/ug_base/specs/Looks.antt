@@ -1,5 +1,5 @@
 -- What a look at a box sees, and what that means for the search.
-use Rattle.std.specs.Prelude.{◌≡◌, ℕ, ℤ, ◌+◌, ◌-◌, ◌<◌, ◌⊎◌, List, length, take, map, Option}
+use Rattle.std.specs.Prelude.{◌≡◌, ℤ, ◌+◌, ◌-◌, ◌<◌, ◌⊎◌, List, length, take, map, Option}
 use Rattle.ug_rows.specs.declared.area.Interval.{Interval}
 use Rattle.ug_rows.specs.Boxes.{IsInside, IsBelow, IsNonEmpty}
 use Rattle.ug_problem.specs.Instances.{Instance, root_of}

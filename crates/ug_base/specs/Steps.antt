@@ -1,5 +1,5 @@
 -- What a step does: it takes the last box left, and drops it, finds its one point good, or halves it.
-use Rattle.std.specs.Prelude.{◌≡◌, ℕ, ℤ, ◌<◌, List, [], ◌∷◌, ◌++◌, Option, Some}
+use Rattle.std.specs.Prelude.{◌≡◌, ℤ, ◌<◌, List, [], ◌∷◌, ◌++◌, Some}
 use Rattle.ug_rows.specs.declared.area.Interval.{Interval}
 use Rattle.ug_rows.specs.Boxes.{IsInside, IsNonEmpty}
 use Rattle.ug_rows.specs.Rows.{value_of}

@@ -12,6 +12,8 @@ mod lowest;
 mod lows;
 mod step;
 mod task;
+#[cfg(test)]
+mod tests;
 
 pub use step::Step;
 pub use task::Task;

@@ -102,7 +102,8 @@ impl Task {
                 Ok(Step::Pruned)
             }
             Seen::Solved(point) => {
-                self.cutoff = cutoff_at(&self.problem, &point);
+                let value = cutoff_at(&self.problem, &point);
+                self.cutoff = value;
                 drop_last(&mut self.boxes);
                 Ok(Step::Found(point))
             }

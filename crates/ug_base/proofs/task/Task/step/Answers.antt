@@ -16,7 +16,7 @@ pub invariant_of-self-in-Solved : goal.invariant_of-self-in-Solved
 invariant_of-self-in-Solved c =
     let t = state_of c.self.inside in
     after_solved t c.in-Some.last.now c.in_ok-look.field-0 c.in-Solved.point _ _ c.self.invariant c.in-Some.ensures c.in_ok-look.ensures c.in-Solved.is
-    c.drop_last-in-Solved.ensures c.cutoff_at-self-inside.ensures
+    c.drop_last-in-Solved.ensures c.cutoff_at-value.ensures
 
 pub invariant_of-self-in-Halved : goal.invariant_of-self-in-Halved
 invariant_of-self-in-Halved c =
