@@ -1,4 +1,4 @@
-ghost use Rattle.std.specs.Prelude.{◌≡◌, ◌<◌, ◌<ℤ◌, ◌+ℤ◌, pos, length, slice_set, IfOk};
+ghost use Rattle.std.specs.Prelude.{◌≡◌, ◌<◌, ◌<ℤ◌, ◌+ℤ◌, pos, length, IfOk};
 ghost use Rattle.ug_rows.specs.Boxes.{interval_at};
 ghost use Rattle.ug_branch.specs.Choices.{lower_half, upper_half};
 ghost use Rattle.ug_base.specs.Looks.{AreOrdered};
@@ -14,33 +14,6 @@ pub struct Halves {
     pub second: IntBox,
 }
 
-// The box with another interval in one column.
-fn with_side(
-    alloc: Global,
-    sides: &[Interval],
-    at: usize,
-    side: Interval,
-) -> Result<IntBox, AllocError>
-    requires { at < length sides.now }
-    ensures { IfOk result (λ area. area ≡ slice_set sides.now at side) }
-{
-    let mut copy = Vec::from_slice(alloc, sides)?;
-    copy[at] = side;
-    Ok(IntBox::from_vec(copy))
-}
-
-fn lower(alloc: Global, sides: &[Interval], branch: Branch) -> Result<IntBox, AllocError>
-    requires { branch.column < length sides.now }
-    ensures { IfOk result (λ area. area ≡ lower_half sides.now branch) }
-{
-    let at = branch.column as usize;
-    let side = Interval {
-        low: sides[at].low,
-        high: branch.middle,
-    };
-    with_side(alloc, sides, at, side)
-}
-
 // The value after one that is less than another.
 fn next(at: i32, high: i32) -> i32
     requires { at <ℤ high }
@@ -49,27 +22,44 @@ fn next(at: i32, high: i32) -> i32
     at + 1
 }
 
-fn upper(alloc: Global, sides: &[Interval], branch: Branch) -> Result<IntBox, AllocError>
-    requires there { branch.column < length sides.now }
-    requires middle { branch.middle <ℤ (interval_at sides.now branch.column).high }
-    ensures { IfOk result (λ area. area ≡ upper_half sides.now branch) }
+// A copy of the box, cut to its lower half.
+fn lower(alloc: Global, sides: &[Interval], branch: Branch) -> Result<IntBox, AllocError>
+    requires { branch.column < length sides.now }
+    ensures { IfOk result (λ area. area ≡ lower_half sides.now branch) }
 {
     let at = branch.column as usize;
-    let side = Interval {
-        low: next(branch.middle, sides[at].high),
-        high: sides[at].high,
+    let mut copy = Vec::from_slice(alloc, sides)?;
+    copy[at] = Interval {
+        low: sides[at].low,
+        high: branch.middle,
     };
-    with_side(alloc, sides, at, side)
+    Ok(IntBox::from_vec(copy))
 }
 
-/// The halves of a box at a branch, in the order in which they are looked at.
-pub fn halve(alloc: Global, half: Half, area: &IntBox, branch: Branch) -> Result<Halves, AllocError>
-    requires there { branch.column < length area.now }
-    requires middle { branch.middle <ℤ (interval_at area.now branch.column).high }
-    ensures { IfOk result (AreOrdered half area.now branch) }
+// The box itself, cut to its upper half.
+fn upper(mut sides: Vec<Interval>, branch: Branch) -> IntBox
+    requires there { branch.column < length sides.items }
+    requires middle { branch.middle <ℤ (interval_at sides.items branch.column).high }
+    ensures { result ≡ upper_half sides.items branch }
 {
-    let lower = lower(alloc, area.as_slice(), branch)?;
-    let upper = upper(alloc, area.as_slice(), branch)?;
+    let at = branch.column as usize;
+    let high = sides[at].high;
+    sides[at] = Interval {
+        low: next(branch.middle, high),
+        high,
+    };
+    IntBox::from_vec(sides)
+}
+
+/// The halves of a box at a branch, in the order in which they are looked at. The box becomes one of them.
+pub fn halve(alloc: Global, half: Half, area: IntBox, branch: Branch) -> Result<Halves, AllocError>
+    requires there { branch.column < length area }
+    requires middle { branch.middle <ℤ (interval_at area branch.column).high }
+    ensures { IfOk result (AreOrdered half area branch) }
+{
+    let sides = area.into_vec();
+    let lower = lower(alloc, sides.as_slice(), branch)?;
+    let upper = upper(sides, branch);
     Ok(match half {
         Half::Lower => Halves {
             first: lower,

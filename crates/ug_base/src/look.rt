@@ -36,14 +36,14 @@ fn has_point(sides: &[Interval]) -> bool
 
 // What is seen in what is left of a box. A box without points is left where there is neither row nor cutoff.
 #[tactic(auto, using(crate::proofs::Sight::only_point, crate::proofs::Sight::are_halved))]
-fn look_inside(alloc: Global, params: Params, inner: &IntBox) -> Result<Seen, AllocError>
-    requires { length inner.now ≤ 10 ^ 4 }
-    ensures { IfOk result (IsInSight params inner.now) }
+fn look_inside(alloc: Global, params: Params, inner: IntBox) -> Result<Seen, AllocError>
+    requires { length inner ≤ 10 ^ 4 }
+    ensures { IfOk result (IsInSight params inner) }
 {
     if !has_point(inner.as_slice()) {
         return Ok(Seen::Hopeless);
     }
-    match choose(params, inner) {
+    match choose(params, &inner) {
         Some(branch) => Ok(Seen::Halved(halve(alloc, params.half, inner, branch)?)),
         None => Ok(Seen::Solved(lows(alloc, inner.as_slice())?)),
     }
@@ -76,6 +76,6 @@ pub fn look(
 {
     match tight_of(alloc, problem, cutoff, area)? {
         Tight::Empty(_) => Ok(Seen::Hopeless),
-        Tight::Kept(inner) => look_inside(alloc, params, &inner),
+        Tight::Kept(inner) => look_inside(alloc, params, inner),
     }
 }

@@ -38,6 +38,13 @@ impl IntBox {
     {
         self.sides.as_slice()
     }
+
+    /// The intervals. It takes no memory.
+    pub fn into_vec(self) -> Vec<Interval>
+        ensures { result.items ≡ self }
+    {
+        self.sides
+    }
 }
 
 /// Whether each interval of the inner box is within the one of the outer.
