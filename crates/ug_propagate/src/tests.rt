@@ -1,114 +1,295 @@
-ghost use Rattle.std.specs.Prelude.{◌≡◌, ◌≢◌, ◌≤◌, ◌*◌, ◌^◌, [], ◌∷◌, pos, length, IfOk, IfSome, unsigned_abs};
+ghost use Rattle.std.specs.Prelude.{◌≡◌, ◌≢◌, ◌≤◌, ◌*◌, ◌^◌, ◌+◌, pos, length, All, IfOk, IfSome, unsigned_abs};
 ghost use Rattle.ug_rows.specs.declared.row.Term.{Term};
+ghost use Rattle.ug_problem.specs.Instances.{AreTerms, IsColumn, IsName, IsRow};
 
-use crate::propagation::tighten;
+use crate::propagation::{tighten, tighten_plain};
 use crate::tight::{Reason, Side, Tight};
 use std::alloc::{AllocError, Global};
 use ug_lists::{Items, Text};
 use ug_problem::{Column, Columns, NamedRow, NamedRows, Problem, ProblemError};
-use ug_rows::{IntBox, Interval, Objective, Row, Term, Terms};
+use ug_rows::{Interval, Objective, Row, Term, Terms};
 
-// `factor` times column 0.
-fn one_term(alloc: Global, factor: i128) -> Result<Terms, AllocError>
-    ensures { IfOk result (λ terms. terms ≡ record { column = 0; factor = factor } ∷ []) }
+fn column(alloc: Global, high: i32) -> Result<Column, AllocError>
+    requires { unsigned_abs high ≤ 10 ^ 9 }
+    ensures { IfOk result IsColumn }
 {
-    Terms::from_slice(alloc, &[Term { column: 0, factor }])
+    Ok(Column {
+        name: Text::from_slice(alloc, b"x")?,
+        low: 0,
+        high,
+    })
 }
 
-fn one_column(alloc: Global) -> Result<Columns, AllocError>
-    ensures { IfOk result (λ columns. columns ≡ record { name = 120 ∷ []; low = pos 0; high = pos 9 } ∷ []) }
+fn row(
+    alloc: Global,
+    terms: &[Term],
+    low: Option<i128>,
+    high: Option<i128>,
+) -> Result<NamedRow, AllocError>
+    requires { AreTerms 3 terms.now }
+    ensures { IfOk result (IsRow 3) }
 {
-    let name = Text::from_slice(alloc, b"x")?;
-    let mut columns = Items::new(alloc);
-    columns.push(Column {
-        name,
-        low: 0,
-        high: 9,
-    })?;
+    let terms = Terms::from_slice(alloc, terms)?;
+    Ok(NamedRow {
+        name: Text::from_slice(alloc, b"r")?,
+        row: Row { terms, low, high },
+    })
+}
+
+// `x` times column 0.
+fn one(
+    alloc: Global,
+    x: i128,
+    low: Option<i128>,
+    high: Option<i128>,
+) -> Result<NamedRow, AllocError>
+    requires { x ≢ pos 0 }
+    ensures { IfOk result (IsRow 3) }
+{
+    row(
+        alloc,
+        &[Term {
+            column: 0,
+            factor: x,
+        }],
+        low,
+        high,
+    )
+}
+
+// `x` times column 0, and `y` times column 1.
+fn two(alloc: Global, x: i128, y: i128, low: Option<i128>) -> Result<NamedRow, AllocError>
+    requires x { x ≢ pos 0 }
+    requires y { y ≢ pos 0 }
+    ensures { IfOk result (IsRow 3) }
+{
+    row(
+        alloc,
+        &[
+            Term {
+                column: 0,
+                factor: x,
+            },
+            Term {
+                column: 1,
+                factor: y,
+            },
+        ],
+        low,
+        None,
+    )
+}
+
+// `x` times each column.
+fn three(alloc: Global, x: i128, side: i128) -> Result<NamedRow, AllocError>
+    requires { x ≢ pos 0 }
+    ensures { IfOk result (IsRow 3) }
+{
+    row(
+        alloc,
+        &[
+            Term {
+                column: 0,
+                factor: x,
+            },
+            Term {
+                column: 1,
+                factor: x,
+            },
+            Term {
+                column: 2,
+                factor: x,
+            },
+        ],
+        Some(side),
+        Some(side),
+    )
+}
+
+// The columns, and one more from 0 to this number.
+fn add(alloc: Global, columns: Columns, high: i32) -> Result<Columns, AllocError>
+    requires columns { All IsColumn columns }
+    requires high { unsigned_abs high ≤ 10 ^ 9 }
+    ensures width { IfOk result (λ longer. length longer ≡ length columns + 1) }
+    ensures each { IfOk result (All IsColumn) }
+{
+    let mut columns = columns;
+    columns.push(column(alloc, high)?)?;
     Ok(columns)
 }
 
-fn one_row(alloc: Global, factor: i128, high: i128) -> Result<NamedRows, AllocError>
-    ensures { IfOk result (λ rows. rows ≡ record { name = 114 ∷ []; row = record { terms = record { column = 0; factor = factor } ∷ []; low = None; high = Some high } } ∷ []) }
+// Three columns from 0 to these numbers.
+fn columns(alloc: Global, x: i32, y: i32, w: i32) -> Result<Columns, AllocError>
+    requires x { unsigned_abs x ≤ 10 ^ 9 }
+    requires y { unsigned_abs y ≤ 10 ^ 9 }
+    requires w { unsigned_abs w ≤ 10 ^ 9 }
+    ensures width { IfOk result (λ columns. length columns ≡ 3) }
+    ensures each { IfOk result (All IsColumn) }
 {
-    let name = Text::from_slice(alloc, b"r")?;
-    let terms = one_term(alloc, factor)?;
-    let row = Row {
-        terms,
-        low: None,
-        high: Some(high),
-    };
+    let first = add(alloc, Items::new(alloc), x)?;
+    let second = add(alloc, first, y)?;
+    add(alloc, second, w)
+}
+
+fn rows(alloc: Global, first: NamedRow, second: NamedRow) -> Result<NamedRows, AllocError>
+    requires first { IsRow 3 first }
+    requires second { IsRow 3 second }
+    ensures { IfOk result (All (IsRow 3)) }
+{
     let mut rows = Items::new(alloc);
-    rows.push(NamedRow { name, row })?;
+    rows.push(first)?;
+    rows.push(second)?;
     Ok(rows)
 }
 
-// One column from 0 to 9, one row in which it has this factor and high side, and the column as the objective.
-fn made(alloc: Global, factor: i128, high: i128) -> Result<Problem, ProblemError>
-    requires { factor ≢ pos 0 }
-    ensures { IfOk result (λ p. length p.columns ≡ 1) }
+// Column 0.
+fn objective(alloc: Global) -> Result<Objective, AllocError>
+    ensures terms { IfOk result (λ objective. AreTerms 3 objective.terms) }
+    ensures scale { IfOk result (λ objective. objective.scale ≤ 60) }
 {
-    let columns = one_column(alloc)?;
-    let rows = one_row(alloc, factor, high)?;
-    let objective = Objective {
-        terms: one_term(alloc, 1)?,
+    let terms = Terms::from_slice(
+        alloc,
+        &[Term {
+            column: 0,
+            factor: 1,
+        }],
+    )?;
+    Ok(Objective {
+        terms,
         constant: 0,
         maximise: false,
         scale: 0,
-    };
+    })
+}
+
+fn made(alloc: Global, columns: Columns, rows: NamedRows) -> Result<Problem, ProblemError>
+    requires width { length columns ≡ 3 }
+    requires columns { All IsColumn columns }
+    requires rows { All (IsRow 3) rows }
+{
+    let objective = objective(alloc)?;
     Problem::new(alloc, columns, rows, objective)
 }
 
-fn root(alloc: Global) -> Result<IntBox, AllocError>
-    ensures { IfOk result (λ area. length area ≡ 1) }
+// x <= 9, and `factor` x <= `high`.
+fn bounded(alloc: Global, factor: i128, high: i128) -> Result<Problem, ProblemError>
+    requires { factor ≢ pos 0 }
 {
-    let sides = Vec::from_slice(alloc, &[Interval { low: 0, high: 9 }])?;
-    Ok(IntBox::from_vec(sides))
+    let first = one(alloc, factor, None, Some(high))?;
+    let second = one(alloc, 1, Some(0), None)?;
+    made(alloc, columns(alloc, 9, 0, 0)?, rows(alloc, first, second)?)
 }
 
-fn tight(alloc: Global, factor: i128, high: i128, cutoff: Option<i128>) -> Option<Tight>
-    requires factor { factor ≢ pos 0 }
+// x <= 2, and x >= 5.
+fn too_little(alloc: Global) -> Result<Problem, ProblemError> {
+    let first = one(alloc, 1, Some(5), None)?;
+    let second = one(alloc, 1, Some(0), None)?;
+    made(alloc, columns(alloc, 2, 0, 0)?, rows(alloc, first, second)?)
+}
+
+// x and y <= 63, x - y >= 0, and y - x >= 1.
+fn a_chase(alloc: Global) -> Result<Problem, ProblemError> {
+    let first = two(alloc, 1, -1, Some(0))?;
+    let second = two(alloc, -1, 1, Some(1))?;
+    made(
+        alloc,
+        columns(alloc, 63, 63, 0)?,
+        rows(alloc, first, second)?,
+    )
+}
+
+// x, y and w <= 10, and 2x + 2y + 2w = 7.
+fn an_odd_sum(alloc: Global) -> Result<Problem, ProblemError> {
+    let first = three(alloc, 2, 7)?;
+    let second = one(alloc, 1, Some(0), None)?;
+    made(
+        alloc,
+        columns(alloc, 10, 10, 10)?,
+        rows(alloc, first, second)?,
+    )
+}
+
+fn to(low: i32, high: i32) -> Interval {
+    Interval { low, high }
+}
+
+fn is_left(tight: Result<Tight, AllocError>, sides: &[Interval]) -> bool {
+    match tight {
+        Ok(Tight::Kept(area)) => area.as_slice() == sides,
+        _ => false,
+    }
+}
+
+fn is_told(tight: Result<Tight, AllocError>, row: Option<u32>, side: Side) -> bool {
+    match tight {
+        Ok(Tight::Empty(reason)) => reason == Reason { row, side },
+        _ => false,
+    }
+}
+
+// Whether both bodies leave this.
+fn leaves(
+    alloc: Global,
+    made: Result<Problem, ProblemError>,
+    cutoff: Option<i128>,
+    sides: &[Interval],
+) -> bool
     requires cutoff { IfSome cutoff (λ c. unsigned_abs c ≤ 2 * 10 ^ 37) }
 {
-    let problem = made(alloc, factor, high).ok()?;
-    let area = root(alloc).ok()?;
-    tighten(alloc, &problem, cutoff, &area).ok()
+    let Ok(problem) = made else {
+        return false;
+    };
+    is_left(tighten(alloc, &problem, cutoff, problem.root()), sides)
+        && is_left(
+            tighten_plain(alloc, &problem, cutoff, problem.root()),
+            sides,
+        )
 }
 
-// The bounds that are left of the column.
-fn left(tight: Option<Tight>) -> Option<Interval> {
-    match tight? {
-        Tight::Kept(area) => area.as_slice().first().copied(),
-        Tight::Empty(_) => None,
-    }
-}
-
-fn told(tight: Option<Tight>) -> Option<Reason> {
-    match tight? {
-        Tight::Kept(_) => None,
-        Tight::Empty(reason) => Some(reason),
-    }
+// Whether both bodies tell this of a box of which nothing is left.
+fn tells(
+    alloc: Global,
+    made: Result<Problem, ProblemError>,
+    cutoff: Option<i128>,
+    row: Option<u32>,
+    side: Side,
+) -> bool
+    requires cutoff { IfSome cutoff (λ c. unsigned_abs c ≤ 2 * 10 ^ 37) }
+{
+    let Ok(problem) = made else {
+        return false;
+    };
+    is_told(tighten(alloc, &problem, cutoff, problem.root()), row, side)
+        && is_told(
+            tighten_plain(alloc, &problem, cutoff, problem.root()),
+            row,
+            side,
+        )
 }
 
 #[test]
-fn tightens_one_column(rt: HostRuntime) {
+fn both_bodies_do_the_worked_rows(rt: HostRuntime) {
     let alloc = rt.alloc();
-    assert_eq!(rt;
-        left(tight(alloc, 2, 7, None)),
-        Some(Interval { low: 0, high: 3 })
+    let zero = to(0, 0);
+    assert!(rt; leaves(alloc, bounded(alloc, 2, 7), None, &[to(0, 3), zero, zero]));
+    assert!(rt;
+        leaves(
+            alloc,
+            bounded(alloc, -2, -7),
+            Some(9),
+            &[to(4, 8), zero, zero]
+        )
     );
-    assert_eq!(rt;
-        left(tight(alloc, -2, -7, Some(9))),
-        Some(Interval { low: 4, high: 8 })
+    assert!(rt; tells(alloc, bounded(alloc, -2, -19), None, Some(0), Side::High));
+    assert!(rt; tells(alloc, bounded(alloc, -2, -7), Some(4), None, Side::High));
+    assert!(rt; tells(alloc, too_little(alloc), None, Some(0), Side::Low));
+    assert!(rt; tells(alloc, a_chase(alloc), None, Some(0), Side::Low));
+    assert!(rt;
+        leaves(
+            alloc,
+            an_odd_sum(alloc),
+            None,
+            &[to(0, 3), to(0, 3), to(0, 3)]
+        )
     );
-    let row = Some(Reason {
-        row: Some(0),
-        side: Side::High,
-    });
-    assert!(rt; told(tight(alloc, -2, -19, None)) == row);
-    let objective = Some(Reason {
-        row: None,
-        side: Side::High,
-    });
-    assert!(rt; told(tight(alloc, -2, -7, Some(4))) == objective);
 }
