@@ -1,0 +1,20 @@
+-- The order of tickets and of names, and the own name of a line.
+use Rattle.std.specs.Prelude.{◌≡◌, ◌<◌, ◌-◌, ◌⊎◌, List, length, slice_index_or}
+use Rattle.ug_nodes.specs.declared.name.Ticket.{Ticket}
+use Rattle.ug_nodes.specs.declared.name.Name.{Name}
+
+-- a ticket is before another: of an earlier run, or of the same run with a lesser number
+abbrev pub IsTicketBefore : Ticket → Ticket → Type 0
+IsTicketBefore a b = (a.run < b.run) ⊎ ((a.run ≡ b.run) × (a.number < b.number))
+
+-- a name is before another: of an earlier ticket, or of the same ticket with a lesser hand number
+abbrev pub IsNameBefore : Name → Name → Type 0
+IsNameBefore a b = IsTicketBefore a.ticket b.ticket ⊎ ((a.ticket ≡ b.ticket) × (a.hand < b.hand))
+
+-- a name that stands for one that is not there
+abbrev pub no_name : Name
+no_name = record { ticket = record { run = 0; number = 0 }; hand = 0 }
+
+-- the name of the node to which a line leads: the last
+abbrev pub own_name : List Name → Name
+own_name line = slice_index_or line (length line - 1) no_name
