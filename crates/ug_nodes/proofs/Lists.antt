@@ -1,12 +1,12 @@
 -- Each box below the root has one list of changes, and a list spells one box.
-use Rattle.std.proofs.Common.{◌≡◌, ◌≢◌, ◌⊎◌, inl, inr, ℤ, pos, negsuc, ℕ, suc, zero, ◌+◌, ◌<◌, ◌≤◌, List, [], ◌∷◌, ◌++◌, length, get_or, refl, sym, ap, ◌∙◌, subst, arith}
+use Rattle.std.proofs.Common.{◌≡◌, ◌≢◌, ◌⊎◌, inl, inr, ℤ, pos, negsuc, ℕ, suc, zero, ◌+◌, ◌<◌, ◌≤◌, List, [], ◌∷◌, ◌++◌, length, refl, sym, ap, ◌∙◌, subst, arith}
 use Rattle.std.proofs.lemmas.Bool.{cases_eq}
 use Rattle.std.proofs.lemmas.Int.{ints}
 use Rattle.std.proofs.lemmas.List.{ext_get_or}
 use Rattle.ug_rows.specs.declared.area.Interval.{Interval}
 use Rattle.ug_rows.specs.Boxes.{IsBelow, IsClosedWithin, interval_at, no_interval}
 use Rattle.ug_nodes.specs.declared.change.Change.{Change}
-use Rattle.ug_nodes.specs.Changes.{IsRising, IsNamed, IsChange, IsGood, AreGood, Tell, Spells, change_at, no_change, bounds_of}
+use Rattle.ug_nodes.specs.Changes.{IsRising, IsNamed, AreGood, IsFirstBad, Tell, Spells, change_at, bounds_of}
 use Rattle.ug_nodes.specs.Steps.{IsToldTo, change_of}
 use Rattle.ug_nodes.proofs.Steps.{none_told, same_told, other_told}
 
@@ -102,6 +102,10 @@ same_change a b e h =
     (subst (λ n. a ≡ record { column = b.column; low = n; high = a.high }) low
     (subst (λ n. a ≡ record { column = n; low = a.low; high = a.high }) e refl))
 
+-- no first bad change stands among good ones
+pub never_bad : (root area : List Interval) (changes : List Change) (column : ℕ) → Spells root changes area → IsFirstBad root changes column → ⊥
+never_bad root area changes column s b = b.bad (s.good b.at b.there)
+
 -- the change is one of the list
 abbrev IsAmong : List Change → Change → Type 0
 IsAmong changes c = (k : ℕ) × (k < length changes) × (change_at changes k ≡ c)
@@ -115,8 +119,12 @@ are_among : (root area : List Interval) (changes other : List Change) → Tell r
 are_among root area changes other s t k h =
     let c = change_at changes k in
     elim (named_or_not other c.column) [
-      | inl n ↦ (n.0, n.1, same_change (change_at other n.0) c n.2
-          (sym (t.changed n.0 n.1) ∙ (ap (λ j. interval_at area j) n.2 ∙ s.changed k h)))
+      | inl n ↦ (
+        n.0,
+        n.1,
+        same_change (change_at other n.0) c n.2
+            (sym (t.changed n.0 n.1) ∙ (ap (λ j. interval_at area j) n.2 ∙ s.changed k h)),
+      )
       | inr not ↦ absurd ((s.each k h).other (sym (s.changed k h) ∙ t.kept c.column (s.each k h).there not))
     ]
 

@@ -1,11 +1,11 @@
 -- One column more is looked at, and one change more is written.
-use Rattle.std.proofs.Common.{◌≡◌, ◌≢◌, ◌⊎◌, inl, inr, ℕ, suc, ◌+◌, ◌<◌, ◌≤◌, List, [], ◌∷◌, ◌++◌, length, get_or, set, refl, sym, ap, ◌∙◌, subst, arith}
+use Rattle.std.proofs.Common.{◌≡◌, ◌≢◌, inl, inr, ℕ, ◌+◌, ◌<◌, List, [], ◌∷◌, ◌++◌, length, set, refl, sym, ap, ◌∙◌, subst, arith}
 use Rattle.std.proofs.lemmas.Bool.{cases_eq}
 use Rattle.std.proofs.lemmas.List.{get_or_push, get_or_append_left, length_push, get_or-set_same, get_or-set_other, length-set}
 use Rattle.ug_rows.specs.declared.area.Interval.{Interval}
 use Rattle.ug_rows.specs.Boxes.{interval_at, no_interval}
 use Rattle.ug_nodes.specs.declared.change.Change.{Change}
-use Rattle.ug_nodes.specs.Changes.{IsRising, IsNamed, IsChange, IsGood, AreGood, Tell, Spells, change_at, no_change, bounds_of}
+use Rattle.ug_nodes.specs.Changes.{IsRising, IsNamed, IsChange, AreGood, Spells, change_at, no_change, bounds_of}
 use Rattle.ug_nodes.specs.Steps.{IsToldTo, IsWritten, change_of}
 
 -- what holds of each change and of one more holds of each

@@ -11,6 +11,8 @@ mod line;
 mod name;
 mod node;
 mod spelling;
+#[cfg(test)]
+mod tests;
 
 pub use change::{Change, Changes};
 pub use laws::one_list_for_each_box;

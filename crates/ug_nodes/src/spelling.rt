@@ -1,4 +1,5 @@
-ghost use Rattle.std.specs.Prelude.{◌≡◌, ◌≢◌, ◌+◌, ◌≤◌, ◌<◌, ◌^◌, ◌↔◌, length, IfOk, OnOk, IsTrue, MatchBool, MatchOption, MatchResult};
+ghost use Rattle.std.specs.Prelude.{◌≡◌, ◌≢◌, ◌+◌, ◌≤◌, ◌<◌, ◌^◌, ◌↔◌, List, length, IfOk, OnOk, IsTrue, MatchBool, MatchOption, MatchResult};
+ghost use Rattle.ug_rows.specs.declared.area.Interval.{Interval};
 ghost use Rattle.ug_rows.specs.Boxes.{IsBelow, IsClosedWithin};
 ghost use Rattle.ug_nodes.specs.declared.spelling.AreaError.TheVariants.{Memory};
 ghost use Rattle.ug_nodes.specs.Changes.{IsGood, IsRising, Tell, Spells, AreGood, IsFirstBad, IsRefused};
@@ -40,7 +41,11 @@ pub fn changes_of(alloc: Global, root: &IntBox, area: &IntBox) -> Result<Changes
 }
 
 #[tactic(auto, using(crate::proofs::Steps::none_told))]
-fn differences(alloc: Global, root: &[Interval], area: &[Interval]) -> Result<Vec<Change>, AllocError>
+fn differences(
+    alloc: Global,
+    root: &[Interval],
+    area: &[Interval],
+) -> Result<Vec<Change>, AllocError>
     requires width { length area.now ≡ length root.now }
     requires few { length root.now ≤ 10 ^ 4 }
     ensures { IfOk result (λ changes. IsToldTo (length root.now) root.now area.now changes.items) }
@@ -54,7 +59,12 @@ fn differences(alloc: Global, root: &[Interval], area: &[Interval]) -> Result<Ve
 
 // Adds the change of one column more, if it has other bounds than in the root.
 #[tactic(auto, using(crate::proofs::Steps::same_told, crate::proofs::Steps::other_told))]
-fn look_at(root: &[Interval], area: &[Interval], j: usize, changes: &mut Vec<Change>) -> Result<(), AllocError>
+fn look_at(
+    root: &[Interval],
+    area: &[Interval],
+    j: usize,
+    changes: &mut Vec<Change>,
+) -> Result<(), AllocError>
     requires few { length root.now ≤ 10 ^ 4 }
     requires width { length area.now ≡ length root.now }
     requires there { j < length root.now }
@@ -85,8 +95,11 @@ fn change_to(column: u32, bounds: Interval) -> Change
 }
 
 /// The box that the changes make of the root's.
+#[tactic(auto, using(crate::proofs::Lists::never_bad))]
 pub fn area_of(alloc: Global, root: &IntBox, changes: &Changes) -> Result<IntBox, AreaError>
-    ensures { MatchResult result (Spells root.now changes.now) (IsRefused root.now changes.now) }
+    ensures outcome { MatchResult result (Spells root.now changes.now) (IsRefused root.now changes.now) }
+    // Changes that spell a box give it back.
+    ensures back { (area : List Interval) → Spells root.now changes.now area → MatchResult result (λ made. made ≡ area) (λ e. e ≡ Memory) }
 {
     if let Some(column) = first_bad(root.as_slice(), changes.as_slice()) {
         return Err(AreaError::Outside { column });
@@ -127,7 +140,11 @@ fn is_within(inner: Interval, outer: Interval) -> bool
 }
 
 // The root's intervals with those of the changes in their columns.
-fn changed(alloc: Global, root: &[Interval], changes: &[Change]) -> Result<Vec<Interval>, AllocError>
+fn changed(
+    alloc: Global,
+    root: &[Interval],
+    changes: &[Change],
+) -> Result<Vec<Interval>, AllocError>
     requires rising { IsRising changes.now }
     requires good { AreGood root.now changes.now }
     ensures { IfOk result (λ sides. Spells root.now changes.now sides.items) }

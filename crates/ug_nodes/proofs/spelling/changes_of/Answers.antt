@@ -10,6 +10,6 @@ returns-clause-below c = λ b.
     let area = c.args.area.now in
     let changes = c.in_ok-changes.changes.items in
     let t : IsToldTo (length root) root area changes =
-        subst (λ r. IsToldTo (length r) r area changes) c.as_slice.ensures
-        (subst (λ a. IsToldTo (length c.as_slice.result.now) c.as_slice.result.now a changes) c.as_slice-2.ensures c.in_ok-changes.ensures) in
+    subst (λ r. IsToldTo (length r) r area changes) c.as_slice.ensures
+    (subst (λ a. IsToldTo (length c.as_slice.result.now) c.as_slice.result.now a changes) c.as_slice-2.ensures c.in_ok-changes.ensures) in
     subst (λ list. Spells root list area) (sym c.new.ensures) (spelled root area changes (told root area changes c.requires.width t) b)
