@@ -1,10 +1,12 @@
 -- The orders of tickets and of names are total: of two, one is before the other or they are the same, and never
 -- both; and what is before one that is before a third is before the third.
 use Rattle.std.proofs.Common.{◌≡◌, ◌⊎◌, ◌<◌, inl, inr, refl, sym, ◌∙◌, subst, arith}
+use Rattle.std.specs.Cmp.{IsTotalOrder}
 use Rattle.std.proofs.lemmas.Bool.{cases_order}
+use Rattle.std.proofs.lemmas.Cmp.{then_total, on_total, nat_cmp_total}
 use Rattle.ug_nodes.specs.declared.name.Ticket.{Ticket}
 use Rattle.ug_nodes.specs.declared.name.Name.{Name}
-use Rattle.ug_nodes.specs.Names.{IsTicketBefore, IsNameBefore}
+use Rattle.ug_nodes.specs.Names.{IsTicketBefore, IsNameBefore, ticket_cmp, name_cmp}
 
 -- two tickets with the same numbers are the same
 same_ticket : (a b : Ticket) → a.run ≡ b.run → a.number ≡ b.number → a ≡ b
@@ -63,3 +65,10 @@ either_name a b (inl e) (inr (inr h)) = inr (inr (inr (sym e, h)))
 
 pub name_either : (a b : Name) → (a ≡ b) ⊎ (IsNameBefore a b ⊎ IsNameBefore b a)
 name_either a b = either_name a b (ticket_either a.ticket b.ticket) (cases_order a.hand b.hand)
+
+-- the comparisons are total orders
+pub ticket_cmp_total : IsTotalOrder ticket_cmp
+ticket_cmp_total = then_total (on_total (λ (t : Ticket). t.run) nat_cmp_total) (on_total (λ (t : Ticket). t.number) nat_cmp_total)
+
+pub name_cmp_total : IsTotalOrder name_cmp
+name_cmp_total = then_total (on_total (λ (n : Name). n.ticket) ticket_cmp_total) (on_total (λ (n : Name). n.hand) nat_cmp_total)

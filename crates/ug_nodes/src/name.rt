@@ -1,6 +1,6 @@
 ghost use Rattle.std.specs.Prelude.{◌≡◌};
 ghost use Rattle.std.specs.Ordering.{MatchOrdering};
-ghost use Rattle.ug_nodes.specs.Names.{IsTicketBefore, IsNameBefore};
+ghost use Rattle.ug_nodes.specs.Names.{IsTicketBefore, IsNameBefore, ticket_cmp, name_cmp};
 
 use std::cmp::Ordering;
 
@@ -23,7 +23,8 @@ pub struct Name {
 impl Ticket {
     /// How the ticket stands to another.
     pub fn order(self, other: Ticket) -> Ordering
-        ensures { MatchOrdering result (IsTicketBefore self other) (self ≡ other) (IsTicketBefore other self) }
+        ensures value { result ≡ ticket_cmp self other }
+        ensures meaning { MatchOrdering result (IsTicketBefore self other) (self ≡ other) (IsTicketBefore other self) }
     {
         self.cmp(&other)
     }
@@ -32,7 +33,8 @@ impl Ticket {
 impl Name {
     /// How the name stands to another.
     pub fn order(self, other: Name) -> Ordering
-        ensures { MatchOrdering result (IsNameBefore self other) (self ≡ other) (IsNameBefore other self) }
+        ensures value { result ≡ name_cmp self other }
+        ensures meaning { MatchOrdering result (IsNameBefore self other) (self ≡ other) (IsNameBefore other self) }
     {
         self.cmp(&other)
     }
