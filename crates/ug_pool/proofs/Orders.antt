@@ -1,12 +1,12 @@
 -- The order of entries is total.
-use Rattle.std.proofs.Common.{◌≡◌, ℤ, ◌≤ℤ◌, ◌<ℤ◌, Bool, true, false, ◌⊎◌, inl, inr, refl, sym, ap, ◌∙◌, subst, arith}
+use Rattle.std.proofs.Common.{◌≡◌, ◌≤ℤ◌, ◌<ℤ◌, Bool, true, false, refl, sym, ap, ◌∙◌, arith}
 use Rattle.std.proofs.lemmas.Int.{ints}
+use Rattle.std.proofs.lemmas.Bool.{false≢true}
 use Rattle.std.specs.Cmp.{IsTotalOrder}
 use Rattle.std.specs.declared.cmp.Ordering.{Ordering}
 use Rattle.std.specs.declared.cmp.Ordering.TheVariants.{Less, Equal, Greater}
-use Rattle.std.specs.Ordering.{int_cmp, ordering_then, ordering_reverse, is_lt, is_gt, MatchOrdering}
+use Rattle.std.specs.Ordering.{int_cmp, ordering_then, ordering_reverse, is_lt, is_gt}
 use Rattle.std.proofs.lemmas.Cmp.{then_total, on_total, int_cmp_total, upto, int_ranked, by_ranked}
-use Rattle.ug_nodes.specs.Names.{name_cmp}
 use Rattle.ug_nodes.proofs.Orders.{name_cmp_total}
 use Rattle.ug_pool.specs.declared.entry.Entry.{Entry}
 use Rattle.ug_pool.specs.Pools.{entry_cmp, name_of, is_before}
@@ -26,6 +26,14 @@ before_gt a b = ap is_lt (entry_cmp_total.antisymm a b) ∙ lt_reverse (entry_cm
 -- of three in a row the last is not before the first
 pub not_before_along : (a b c : Entry) → is_before b a ≡ false → is_before c b ≡ false → is_before c a ≡ false
 not_before_along a b c h k = before_gt c a ∙ upto entry_cmp_total a b c (sym (before_gt b a) ∙ h) (sym (before_gt c b) ∙ k)
+
+-- what is before an entry is before each that is not before it
+pub before_along : (a b c : Entry) → is_before a b ≡ true → is_before c b ≡ false → is_before a c ≡ true
+before_along a b c h k = by_test (is_before a c) refl
+  where
+    by_test : (t : Bool) → is_before a c ≡ t → is_before a c ≡ true
+    by_test true e = e
+    by_test false e = absurd (false≢true (sym (not_before_along b c a k e) ∙ h))
 
 lt_not_gt : (o : Ordering) → is_lt o ≡ true → is_gt o ≡ false
 lt_not_gt Less h = refl

@@ -1,5 +1,5 @@
 -- An entry is put in at its place, and entries from a floor on are cut off.
-use Rattle.std.proofs.Common.{◌≡◌, ℕ, zero, suc, ℤ, ◌≤ℤ◌, ◌+◌, ◌-◌, ◌<◌, ◌≤◌, Bool, true, false, not, ◌⊎◌, inl, inr, int_lt, List, [], ◌∷◌, ◌++◌, length, filter, take, drop, get_or, refl, sym, ap, ◌∙◌, subst, arith}
+use Rattle.std.proofs.Common.{◌≡◌, ℕ, zero, suc, ℤ, ◌≤ℤ◌, ◌+◌, ◌-◌, ◌<◌, ◌≤◌, Bool, true, false, not, inl, inr, int_lt, List, [], ◌∷◌, ◌++◌, length, filter, take, drop, refl, sym, ap, ◌∙◌, subst, arith}
 use Rattle.std.specs.List.{insert}
 use Rattle.std.specs.List.Sorted.{IsPartitionedBy, IsPartitionPoint}
 use Rattle.std.proofs.lemmas.Int.{ints}
@@ -54,17 +54,17 @@ insert_in_order e xs at order h i k lt within =
     let n = length-insert xs at e h.there in
     after_insert e xs at (λ later. is_before later (entry_at (insert xs at e) i) ≡ false) k h.there
     (λ k_below. after_insert e xs at (λ earlier. is_before (entry_at xs k) earlier ≡ false) i h.there
-      (λ i_below. order i k lt (omega (arith, h.there)))
-      (λ same. absurd (omega arith))
-      (λ above. absurd (omega arith)))
+    (λ i_below. order i k lt (omega (arith, h.there)))
+    (λ same. absurd (omega arith))
+    (λ above. absurd (omega arith)))
     (λ k_here. after_insert e xs at (λ earlier. is_before e earlier ≡ false) i h.there
-      (λ i_below. h.ahead i i_below)
-      (λ same. absurd (omega arith))
-      (λ above. absurd (omega arith)))
+    (λ i_below. h.ahead i i_below)
+    (λ same. absurd (omega arith))
+    (λ above. absurd (omega arith)))
     (λ k_above. after_insert e xs at (λ earlier. is_before (entry_at xs (k - 1)) earlier ≡ false) i h.there
-      (λ i_below. order i (k - 1) (omega arith) (omega (arith, n)))
-      (λ same. one_way e (entry_at xs (k - 1)) (h.behind (k - 1) (omega arith) (omega (arith, n))))
-      (λ i_above. order (i - 1) (k - 1) (omega arith) (omega (arith, n))))
+    (λ i_below. order i (k - 1) (omega arith) (omega (arith, n)))
+    (λ same. one_way e (entry_at xs (k - 1)) (h.behind (k - 1) (omega arith) (omega (arith, n))))
+    (λ i_above. order (i - 1) (k - 1) (omega arith) (omega (arith, n))))
 
 -- a first part of entries in order is in order
 pub take_in_order : (xs : List Entry) (n : ℕ) → IsInOrder xs → n ≤ length xs → IsInOrder (take n xs)
@@ -73,7 +73,7 @@ take_in_order xs n order h i k lt within =
     let klt : k < n = omega (arith, size, within) in
     subst (λ later. is_before later (entry_at (take n xs) i) ≡ false) (sym (get_or-take n xs k no_entry klt))
     (subst (λ earlier. is_before (entry_at xs k) earlier ≡ false) (sym (get_or-take n xs i no_entry (omega arith)))
-     (order i k lt (omega arith)))
+    (order i k lt (omega arith)))
 
 -- so are the entries behind the first
 pub rest_in_order : (e : Entry) (xs : List Entry) → IsInOrder (e ∷ xs) → IsInOrder xs

@@ -1,5 +1,5 @@
 -- An unsorted list in order: what is taken from it, and what is dropped.
-use Rattle.std.proofs.Common.{◌≡◌, ℕ, zero, suc, ℤ, ◌≤ℤ◌, ◌<ℤ◌, ◌+◌, ◌-◌, ◌<◌, ◌≤◌, Bool, true, false, cond, not, ◌⊎◌, inl, inr, int_lt, List, [], ◌∷◌, ◌++◌, length, filter, refl, sym, ap, ◌∙◌, subst, arith}
+use Rattle.std.proofs.Common.{◌≡◌, ℕ, zero, suc, ℤ, ◌≤ℤ◌, ◌+◌, ◌<◌, Bool, true, false, cond, not, inl, inr, int_lt, List, [], ◌∷◌, ◌++◌, length, filter, refl, sym, ap, ◌∙◌, subst, arith}
 use Rattle.std.specs.List.{remove}
 use Rattle.std.proofs.lemmas.Int.{ints}
 use Rattle.std.proofs.lemmas.Bool.{cases_eq, cases_order}
@@ -7,9 +7,9 @@ use Rattle.std.proofs.lemmas.List.{length-append, append-nil}
 use Rattle.std.proofs.lemmas.List.Elements.{filter-append}
 use Rattle.std.proofs.lemmas.List.Filters.{length-filter_both}
 use Rattle.ug_pool.specs.declared.entry.Entry.{Entry}
-use Rattle.ug_pool.specs.Pools.{is_before, entry_at, placed, below}
+use Rattle.ug_pool.specs.Pools.{is_before, entry_at, IsInOrder, placed, below}
 use Rattle.ug_pool.specs.Plain.{in_order, IsLeast}
-use Rattle.ug_pool.proofs.Orders.{not_before_along, one_way, floors_rise}
+use Rattle.ug_pool.proofs.Orders.{not_before_along, before_along, one_way, floors_rise}
 
 -- the entry itself is the least of one
 pub first_least : (xs : List Entry) → IsLeast 1 xs 0
@@ -169,7 +169,7 @@ below_dropped value e xs h =
     let n : Entry → Bool = λ x. not (is_before e x) in
     filter-append q (filter n xs) (e ∷ filter p xs)
     ∙ rw h (ap (λ ys. filter q (filter n xs) ++ ys) (filter_apart q p (λ x b. no_lower value e x h b) xs)
-      ∙ (append-nil (filter q (filter n xs)) ∙ filter_weaker q n (λ x l. not_after x l (is_before e x) refl) xs))
+    ∙ (append-nil (filter q (filter n xs)) ∙ filter_weaker q n (λ x l. not_after x l (is_before e x) refl) xs))
   where
     not_after : (x : Entry) → int_lt x.floor value ≡ true → (b : Bool) → is_before e x ≡ b → not (is_before e x) ≡ true
     not_after x l true f = absurd (cc (no_lower value e x h f))
@@ -184,3 +184,49 @@ below_in_order value (e ∷ xs) = by_floor (below_in_order value xs) (int_lt e.f
         → below value (in_order (e ∷ xs)) ≡ in_order (below value (e ∷ xs))
     by_floor rest true h = rw h (below_placed value e (in_order xs) h ∙ ap (λ ys. placed e ys) rest)
     by_floor rest false h = rw h (below_dropped value e (in_order xs) h ∙ rest)
+
+-- each entry is before none that stands ahead of it, said along the list
+abbrev Rises : List Entry → Type 0
+Rises [] = Unit {0}
+Rises (x ∷ xs) = Each (λ y. is_before y x ≡ false) xs × Rises xs
+
+each_weaker : (P Q : Entry → Type 0) → ((x : Entry) → P x → Q x) → (xs : List Entry) → Each P xs → Each Q xs
+each_weaker P Q w [] a = tt
+each_weaker P Q w (x ∷ xs) a = (w x a.0, each_weaker P Q w xs a.1)
+
+-- what is before the first of entries that rise is before each
+before_each : (e x : Entry) (xs : List Entry) → is_before e x ≡ true → Each (λ y. is_before y x ≡ false) xs → Each (λ y. is_before e y ≡ true) xs
+before_each e x [] b a = tt
+before_each e x (y ∷ ys) b a = (before_along e x y b a.0, before_each e x ys b a.1)
+
+placed_rises : (e : Entry) (xs : List Entry) → Rises xs → Rises (placed e xs)
+placed_rises e [] r = (tt, tt)
+placed_rises e (x ∷ xs) r = by_test (placed_rises e xs r.1) (is_before e x) refl
+  where
+    by_test : Rises (placed e xs) → (b : Bool) → is_before e x ≡ b → Rises (placed e (x ∷ xs))
+    by_test rest false h = subst Rises (sym (placed_later e x xs h))
+        (each_append (λ y. is_before y x ≡ false) _ _ (each_filter (λ y. is_before y x ≡ false) _ xs r.0) (h, each_filter (λ y. is_before y x ≡ false) _ xs r.0), rest)
+    by_test rest true h =
+        let all : Each (λ y. is_before e y ≡ true) (x ∷ xs) = (h, before_each e x xs h r.0) in
+        subst Rises (sym (placed_first e (x ∷ xs) all))
+        (each_weaker (λ y. is_before e y ≡ true) (λ y. is_before y e ≡ false) (λ y b. one_way e y b) (x ∷ xs) all, r)
+
+in_order_rises : (xs : List Entry) → Rises (in_order xs)
+in_order_rises [] = tt
+in_order_rises (e ∷ xs) = placed_rises e (in_order xs) (in_order_rises xs)
+
+each_at : (P : Entry → Type 0) (xs : List Entry) → Each P xs → (k : ℕ) → k < length xs → P (entry_at xs k)
+each_at P [] a k h = absurd (omega arith)
+each_at P (x ∷ xs) a zero h = a.0
+each_at P (x ∷ xs) a (suc k) h = each_at P xs a.1 k (omega arith)
+
+order_from_rises : (xs : List Entry) → Rises xs → IsInOrder xs
+order_from_rises [] r i k lt h = absurd (omega arith)
+order_from_rises (x ∷ xs) r zero zero lt h = absurd (omega arith)
+order_from_rises (x ∷ xs) r zero (suc k) lt h = each_at (λ y. is_before y x ≡ false) xs r.0 k (omega arith)
+order_from_rises (x ∷ xs) r (suc i) zero lt h = absurd (omega arith)
+order_from_rises (x ∷ xs) r (suc i) (suc k) lt h = order_from_rises xs r.1 i k (omega arith) (omega arith)
+
+-- the list in order is in order
+pub is_in_order : (xs : List Entry) → IsInOrder (in_order xs)
+is_in_order xs = order_from_rises (in_order xs) (in_order_rises xs)

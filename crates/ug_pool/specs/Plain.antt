@@ -1,5 +1,5 @@
 -- An unsorted list of entries, the latest first, and its order.
-use Rattle.std.specs.Prelude.{◌≡◌, ℕ, ◌<◌, true, false, List, [], ◌∷◌, length}
+use Rattle.std.specs.Prelude.{◌≡◌, ℕ, ◌<◌, true, false, List, [], ◌∷◌}
 use Rattle.ug_pool.specs.declared.entry.Entry.{Entry}
 use Rattle.ug_pool.specs.Pools.{is_before, entry_at, placed}
 

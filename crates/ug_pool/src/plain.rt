@@ -1,5 +1,5 @@
 ghost use Rattle.std.specs.Prelude.{◌≡◌, ◌≤◌, ◌<◌, ◌-◌, ◌+◌, [], ◌∷◌, length, vec_len, vec_capacity, max, MatchOption, OnOk, OnErr, IsOk};
-ghost use Rattle.ug_pool.specs.Pools.{IsTaken, IsDroppedFrom, placed, below, is_before, entry_at};
+ghost use Rattle.ug_pool.specs.Pools.{IsInOrder, IsTaken, IsDroppedFrom, placed, below, is_before, entry_at};
 ghost use Rattle.ug_pool.specs.Plain.{IsLeast, in_order};
 
 use crate::entry::Entry;
@@ -39,7 +39,8 @@ impl PlainPool {
 
     /// How many nodes the pool has.
     pub fn len(&self) -> usize
-        ensures { result ≡ length self.now.entries }
+        ensures value { result ≡ length self.now.entries }
+        ensures order { IsInOrder self.now.entries }
     {
         self.entries.len()
     }
@@ -73,7 +74,8 @@ impl PlainPool {
 
     /// Takes out the first node.
     pub fn take_least(&mut self) -> Option<Node>
-        ensures { MatchOption result ((self.old.entries ≡ []) × (self.new ≡ self.old)) (IsTaken self.old self.new) }
+        ensures order { IsInOrder self.old.entries }
+        ensures taken { MatchOption result ((self.old.entries ≡ []) × (self.new ≡ self.old)) (IsTaken self.old self.new) }
     {
         if self.entries.is_empty() {
             return None;
@@ -122,11 +124,7 @@ fn least_with(entries: &[Entry], best: usize, k: usize) -> usize
     requires least { IsLeast k entries.now best }
     ensures { IsLeast (k + 1) entries.now result }
 {
-    if is_ahead(entries, best, k) {
-        best
-    } else {
-        k
-    }
+    if is_ahead(entries, best, k) { best } else { k }
 }
 
 fn is_ahead(entries: &[Entry], i: usize, k: usize) -> bool

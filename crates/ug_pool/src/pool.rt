@@ -1,4 +1,4 @@
-ghost use Rattle.std.specs.Prelude.{◌≡◌, ◌≤◌, ◌<◌, ◌+◌, ◌-◌, [], length, take, max, MatchOption, OnOk, OnErr, IsOk};
+ghost use Rattle.std.specs.Prelude.{◌≡◌, ◌≤◌, ◌<◌, ◌+◌, ◌-◌, [], ◌∷◌, length, take, max, MatchOption, IsNone, IfSome, OnOk, OnErr, IsOk};
 ghost use Rattle.ug_pool.specs.Pools.{IsInOrder, IsTaken, IsDroppedFrom, placed, below};
 ghost use Rattle.ug_pool.specs.Steps.{IsPlace};
 ghost use Rattle.std.specs.VecDeque.{deque_len, deque_capacity};
@@ -27,8 +27,8 @@ impl Model for Pool {
     ghost view = { λ pool. record { entries = pool.entries.items; spare = pool.spare } };
 
     ghost invariant = { λ pool. record {
-        in_order : IsInOrder pool.entries.items;
-        has_room : deque_len pool.entries + pool.spare ≤ deque_capacity pool.entries
+      in_order : IsInOrder pool.entries.items;
+      has_room : deque_len pool.entries + pool.spare ≤ deque_capacity pool.entries;
     } };
 }
 
@@ -81,9 +81,10 @@ impl Pool {
 
     /// Takes out the first node.
     pub fn take_least(&mut self) -> Option<Node>
-        ensures { MatchOption result ((self.old.entries ≡ []) × (self.new ≡ self.old)) (IsTaken self.old self.new) }
+        ensures order { IsInOrder self.old.entries }
+        ensures taken { MatchOption result ((self.old.entries ≡ []) × (self.new ≡ self.old)) (IsTaken self.old self.new) }
     {
-        match self.entries.pop_front() {
+        match take_first(&mut self.entries) {
             Some(entry) => {
                 self.spare += 1;
                 Some(entry.node)
@@ -131,6 +132,15 @@ fn insert(entries: &mut VecDeque<Entry>, at: usize, entry: Entry)
     ensures capacity { deque_capacity entries.old ≤ deque_capacity entries.new }
 {
     let _ = entries.insert(at, entry);
+}
+
+fn take_first(entries: &mut VecDeque<Entry>) -> Option<Entry>
+    ensures none { IsNone result → (entries.old.items ≡ []) × (entries.new.items ≡ []) }
+    ensures some { IfSome result (λ entry. entries.old.items ≡ entry ∷ entries.new.items) }
+    ensures len { IfSome result (λ _. deque_len entries.new + 1 ≡ deque_len entries.old) }
+    ensures capacity { deque_capacity entries.new ≡ deque_capacity entries.old }
+{
+    entries.pop_front()
 }
 
 // How many entries have a floor below the value.

@@ -12,4 +12,4 @@ returns-clause-kept c =
     let within : point.result ≤ length xs = search rules in
     below_from_parts value xs point.result within
     (IsPartitionPoint-from_clause (λ (x : Entry). int_lt x.floor value) xs point.result point.ensures.partitioned
-     (floor_parts value xs c.requires) (λ a r f' k. search rules))
+    (floor_parts value xs c.requires) (λ a r f' k. search rules))

@@ -13,4 +13,4 @@ returns c =
     let within : point.result ≤ length xs = search rules in
     place_from_parts entry xs point.result within
     (IsPartitionPoint-from_clause (λ (x : Entry). not (is_before entry x)) xs point.result point.ensures.partitioned
-     (not_before_parts entry xs c.requires) (λ a r f' k. search rules))
+    (not_before_parts entry xs c.requires) (λ a r f' k. search rules))

@@ -5,10 +5,10 @@ use Rattle.ug_pool.proofs.pool.Pool.take_least.Goals as goal
 
 pub invariant_of-self : goal.invariant_of-self
 invariant_of-self c = record {
-  in_order = rest_in_order c.in-Some.entry c.pop_front.new.self.items (subst IsInOrder c.in-Some.ensures.items c.self.invariant.in_order);
-  has_room = omega (arith, c.in-Some.ensures.cases, c.in-Some.ensures.capacity, c.self.invariant.has_room);
+  in_order = rest_in_order c.in-Some.entry c.take_first.new.entries.items (subst IsInOrder c.in-Some.ensures.some c.self.invariant.in_order);
+  has_room = omega (arith, c.in-Some.ensures.len, c.in-Some.ensures.capacity, c.self.invariant.has_room);
 }
 
-pub returns-in-Some : goal.returns-in-Some
-returns-in-Some c = rw (← c.self.view_is)
-    (record { floor = c.in-Some.entry.floor; first = c.in-Some.ensures.items; spare = refl })
+pub returns-in-Some-clause-taken : goal.returns-in-Some-clause-taken
+returns-in-Some-clause-taken c = rw (← c.self.view_is)
+    (record { floor = c.in-Some.entry.floor; first = c.in-Some.ensures.some; spare = refl })
