@@ -29,11 +29,13 @@ entry_at entries k = slice_index_or entries k no_entry
 
 -- no entry is before one that stands ahead of it in the list
 abbrev pub IsInOrder : List Entry → Type 0
-IsInOrder entries = (i k : ℕ) → i < k → k < length entries → is_before (entry_at entries k) (entry_at entries i) ≡ false
+IsInOrder entries =
+    (i k : ℕ) → i < k → k < length entries → is_before (entry_at entries k) (entry_at entries i) ≡ false
 
 -- the list with an entry more, behind those that it is not before
 abbrev pub placed : Entry → List Entry → List Entry
-placed entry entries = filter (λ other. not (is_before entry other)) entries ++ entry ∷ filter (λ other. is_before entry other) entries
+placed entry entries =
+    filter (λ other. not (is_before entry other)) entries ++ entry ∷ filter (λ other. is_before entry other) entries
 
 -- the entries with a floor below the value
 abbrev pub below : ℤ → List Entry → List Entry
@@ -43,6 +45,11 @@ below value entries = filter (λ entry. int_lt entry.floor value) entries
 pub record Pooled : Type 0 where
   pub entries : List Entry
   pub spare : ℕ
+
+-- the node was put in, in a spare place
+pub record IsPut (floor : ℤ) (node : Node) (old new : Pooled) : Type 0 where
+  pub entries : new.entries ≡ placed (record { floor = floor; node = node }) old.entries
+  pub spare : new.spare + 1 ≡ old.spare
 
 -- the first node was taken out, and its place is spare
 pub record IsTaken (old new : Pooled) (node : Node) : Type 0 where

@@ -1,8 +1,7 @@
 //! The pool of open nodes, in order of their floors and names.
 //! It stands on ug_nodes, ug_lists and ug_rows.
-//! `Pool` gives the least node, takes nodes in and drops those whose floor is too great; memory is taken by
-//! `reserve` alone. `PlainPool` says the same of an unsorted list that is looked through: the slow program of the
-//! definitions.
+//! `Pool` takes nodes in, gives the least and drops those whose floor is too great; `reserve` alone takes memory.
+//! `PlainPool` has the same contracts over an unsorted list that is looked through: the definitions' slow program.
 #![tactic(auto)]
 
 mod entry;

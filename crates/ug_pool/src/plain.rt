@@ -1,5 +1,5 @@
 ghost use Rattle.std.specs.Prelude.{◌≡◌, ◌≤◌, ◌<◌, ◌-◌, ◌+◌, [], ◌∷◌, length, vec_len, vec_capacity, max, MatchOption, OnOk, OnErr, IsOk};
-ghost use Rattle.ug_pool.specs.Pools.{IsInOrder, IsTaken, IsDroppedFrom, placed, below, is_before, entry_at};
+ghost use Rattle.ug_pool.specs.Pools.{IsInOrder, IsPut, IsTaken, IsDroppedFrom, placed, below, is_before, entry_at};
 ghost use Rattle.ug_pool.specs.Plain.{IsLeast, in_order};
 
 use crate::entry::Entry;
@@ -66,7 +66,7 @@ impl PlainPool {
     /// Puts a node in, behind those that are not after it.
     pub fn put(&mut self, node: Node, floor: i128)
         requires { 0 < self.old.spare }
-        ensures { self.new ≡ record { entries = placed (record { floor = floor; node = node }) self.old.entries; spare = self.old.spare - 1 } }
+        ensures { IsPut floor node self.old self.new }
     {
         let _ = self.entries.insert(0, Entry { floor, node });
         self.spare -= 1;
@@ -75,7 +75,9 @@ impl PlainPool {
     /// Takes out the first node.
     pub fn take_least(&mut self) -> Option<Node>
         ensures order { IsInOrder self.old.entries }
-        ensures taken { MatchOption result ((self.old.entries ≡ []) × (self.new ≡ self.old)) (IsTaken self.old self.new) }
+        ensures taken { MatchOption result
+            ((self.old.entries ≡ []) × (self.new ≡ self.old))
+            (IsTaken self.old self.new) }
     {
         if self.entries.is_empty() {
             return None;

@@ -1,5 +1,5 @@
 ghost use Rattle.std.specs.Prelude.{◌≡◌, ◌≤◌, ◌<◌, ◌+◌, ◌-◌, [], ◌∷◌, length, take, max, MatchOption, IsNone, IfSome, OnOk, OnErr, IsOk};
-ghost use Rattle.ug_pool.specs.Pools.{IsInOrder, IsTaken, IsDroppedFrom, placed, below};
+ghost use Rattle.ug_pool.specs.Pools.{IsInOrder, IsPut, IsTaken, IsDroppedFrom, placed, below};
 ghost use Rattle.ug_pool.specs.Steps.{IsPlace};
 ghost use Rattle.std.specs.VecDeque.{deque_len, deque_capacity};
 ghost use Rattle.std.specs.List.{insert};
@@ -72,7 +72,7 @@ impl Pool {
     /// Puts a node in, behind those that are not after it.
     pub fn put(&mut self, node: Node, floor: i128)
         requires { 0 < self.old.spare }
-        ensures { self.new ≡ record { entries = placed (record { floor = floor; node = node }) self.old.entries; spare = self.old.spare - 1 } }
+        ensures { IsPut floor node self.old self.new }
     {
         let entry = Entry { floor, node };
         place(&mut self.entries, entry);
@@ -82,7 +82,9 @@ impl Pool {
     /// Takes out the first node.
     pub fn take_least(&mut self) -> Option<Node>
         ensures order { IsInOrder self.old.entries }
-        ensures taken { MatchOption result ((self.old.entries ≡ []) × (self.new ≡ self.old)) (IsTaken self.old self.new) }
+        ensures taken { MatchOption result
+            ((self.old.entries ≡ []) × (self.new ≡ self.old))
+            (IsTaken self.old self.new) }
     {
         match take_first(&mut self.entries) {
             Some(entry) => {
