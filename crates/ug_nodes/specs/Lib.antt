@@ -1,0 +1,3 @@
+pub mod Names
+pub mod Changes
+pub mod Steps

@@ -1,0 +1,22 @@
+//! The words in which a coordinator and its solvers speak of subproblems: tickets and names, lines and nodes,
+//! and a box as its changes against the root's box.
+//! It stands on ug_lists and ug_rows.
+//! `is_below` says whether a node stands below another; `changes_of` and `area_of` turn a box into its changes
+//! and back, and each box below the root has exactly one list of changes (`one_list_for_each_box`).
+#![tactic(auto)]
+
+mod change;
+mod laws;
+mod line;
+mod name;
+mod node;
+mod spelling;
+#[cfg(test)]
+mod tests;
+
+pub use change::{Change, Changes};
+pub use laws::one_list_for_each_box;
+pub use line::{Line, is_below};
+pub use name::{Name, Ticket};
+pub use node::Node;
+pub use spelling::{AreaError, area_of, changes_of};

@@ -1,0 +1,105 @@
+ghost use Rattle.std.specs.Prelude.{◌≡◌, length, IfOk};
+
+use crate::change::{Change, Changes};
+use crate::line::{Line, is_below};
+use crate::name::{Name, Ticket};
+use crate::node::Node;
+use crate::spelling::{AreaError, area_of, changes_of};
+use std::alloc::{AllocError, Global};
+use std::cmp::Ordering;
+use std::test::Fail;
+use ug_rows::{IntBox, Interval};
+
+// The box of two columns with these bounds.
+fn area(alloc: Global, x: (i32, i32), y: (i32, i32)) -> Result<IntBox, AllocError>
+    ensures { IfOk result (λ area. length area ≡ 2) }
+{
+    let x = Interval {
+        low: x.0,
+        high: x.1,
+    };
+    let y = Interval {
+        low: y.0,
+        high: y.1,
+    };
+    Ok(IntBox::from_vec(Vec::from_slice(alloc, &[x, y])?))
+}
+
+fn change(column: u32, low: i32, high: i32) -> Change {
+    Change { column, low, high }
+}
+
+// The changes, if their columns rise.
+fn list(alloc: Global, changes: &[Change]) -> Result<Option<Changes>, AllocError> {
+    Ok(Changes::checked(Vec::from_slice(alloc, changes)?))
+}
+
+// What `area_of` answers over the box of two columns from 0 to 7, where it makes none.
+fn refused(alloc: Global, changes: &[Change]) -> Result<Option<AreaError>, AllocError> {
+    let root = area(alloc, (0, 7), (0, 7))?;
+    Ok(match list(alloc, changes)? {
+        Some(changes) => area_of(alloc, &root, &changes).err(),
+        None => None,
+    })
+}
+
+#[test]
+fn spells_a_box_and_reads_it_back(rt: HostRuntime) -> Result<(), Fail> {
+    let alloc = rt.alloc();
+    let root = area(alloc, (0, 7), (0, 7))?;
+    let upper = area(alloc, (4, 7), (0, 7))?;
+    let changes = changes_of(alloc, &root, &upper)?;
+    assert!(rt; changes.as_slice() == [change(0, 4, 7)].as_slice());
+    let back = area_of(alloc, &root, &changes).ok();
+    assert!(rt; back.is_some_and(|back| back.as_slice() == upper.as_slice()));
+    assert!(rt; changes_of(alloc, &root, &root)?.as_slice().is_empty());
+    Ok(())
+}
+
+#[test]
+fn names_the_first_change_that_is_none(rt: HostRuntime) -> Result<(), Fail> {
+    let alloc = rt.alloc();
+    let outside = |column| Some(AreaError::Outside { column });
+    assert_eq!(rt;
+        refused(alloc, &[change(0, 4, 7), change(1, 0, 7)])?,
+        outside(1)
+    );
+    assert_eq!(rt;
+        refused(alloc, &[change(0, 5, 4), change(2, 0, 1)])?,
+        outside(0)
+    );
+    assert_eq!(rt; refused(alloc, &[change(2, 0, 1)])?, outside(2));
+    assert_eq!(rt;
+        refused(alloc, &[change(0, 1, 7), change(1, 1, 8)])?,
+        outside(1)
+    );
+    assert_eq!(rt; refused(alloc, &[change(0, -1, 7)])?, outside(0));
+    assert_eq!(rt; refused(alloc, &[change(0, 1, 7), change(1, 7, 7)])?, None);
+    assert!(rt; list(alloc, &[change(1, 1, 7), change(0, 1, 7)])?.is_none());
+    assert!(rt; list(alloc, &[change(1, 1, 7), change(1, 2, 7)])?.is_none());
+    Ok(())
+}
+
+fn name(run: u64, number: u64, hand: u64) -> Name {
+    let ticket = Ticket { run, number };
+    Name { ticket, hand }
+}
+
+#[test]
+fn stands_below_the_names_of_its_line(rt: HostRuntime) -> Result<(), Fail> {
+    let alloc = rt.alloc();
+    let root = Line::start(alloc, name(1, 1, 1))?;
+    let line = root.child(alloc, name(1, 4, 2))?;
+    assert!(rt; line.as_slice() == [name(1, 1, 1), name(1, 4, 2)].as_slice());
+    assert!(rt; line.name() == name(1, 4, 2));
+    assert!(rt; is_below(&line, &name(1, 1, 1)) && is_below(&line, &line.name()));
+    assert!(rt; !is_below(&line, &name(1, 4, 1)) && !is_below(&root, &line.name()));
+    assert!(rt; Line::checked(Vec::new(alloc)).is_none());
+    let node = Node {
+        line,
+        area: area(alloc, (0, 7), (4, 7))?,
+    };
+    assert!(rt; node.line.name().order(name(2, 1, 1)) == Ordering::Less);
+    assert!(rt; name(1, 4, 2).ticket.order(name(1, 3, 9).ticket) == Ordering::Greater);
+    Ok(())
+}

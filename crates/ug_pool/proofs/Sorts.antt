@@ -1,0 +1,232 @@
+-- An unsorted list in order: what is taken from it, and what is dropped.
+use Rattle.std.proofs.Common.{◌≡◌, ℕ, zero, suc, ℤ, ◌≤ℤ◌, ◌+◌, ◌<◌, Bool, true, false, cond, not, inl, inr, int_lt, List, [], ◌∷◌, ◌++◌, length, filter, refl, sym, ap, ◌∙◌, subst, arith}
+use Rattle.std.specs.List.{remove}
+use Rattle.std.proofs.lemmas.Int.{ints}
+use Rattle.std.proofs.lemmas.Bool.{cases_eq, cases_order}
+use Rattle.std.proofs.lemmas.List.{length-append, append-nil}
+use Rattle.std.proofs.lemmas.List.Elements.{filter-append}
+use Rattle.std.proofs.lemmas.List.Filters.{length-filter_both}
+use Rattle.ug_pool.specs.declared.entry.Entry.{Entry}
+use Rattle.ug_pool.specs.Pools.{is_before, entry_at, IsInOrder, placed, below}
+use Rattle.ug_pool.specs.Plain.{in_order, IsLeast}
+use Rattle.ug_pool.proofs.Orders.{not_before_along, before_along, one_way, floors_rise}
+
+-- the entry itself is the least of one
+pub first_least : (xs : List Entry) → IsLeast 1 xs 0
+first_least xs = record {
+  there = omega arith;
+  ahead = λ k lt. absurd (omega arith);
+  behind = λ k gt lt. absurd (omega arith);
+}
+
+-- the least stays so, if it is before one more
+pub least_stays : (xs : List Entry) (n best : ℕ) → IsLeast n xs best → is_before (entry_at xs best) (entry_at xs n) ≡ true → IsLeast (n + 1) xs best
+least_stays xs n best h b = record {
+  there = omega (arith, h.there);
+  ahead = h.ahead;
+  behind = λ k gt lt. elim (cases_eq k n) [
+    | inl same ↦ subst (λ j. is_before (entry_at xs best) (entry_at xs j) ≡ true) (sym same) b
+    | inr ne ↦ h.behind k gt (omega arith)
+  ];
+}
+
+-- else the one more is the least
+pub least_changes : (xs : List Entry) (n best : ℕ) → IsLeast n xs best → is_before (entry_at xs best) (entry_at xs n) ≡ false → IsLeast (n + 1) xs n
+least_changes xs n best h b = record {
+  there = omega arith;
+  ahead = λ k lt. elim (cases_order k best) [
+    | inl same ↦ subst (λ j. is_before (entry_at xs j) (entry_at xs n) ≡ false) (sym same) b
+    | inr (inl less) ↦ not_before_along (entry_at xs n) (entry_at xs best) (entry_at xs k) b (h.ahead k less)
+    | inr (inr more) ↦ not_before_along (entry_at xs n) (entry_at xs best) (entry_at xs k) b (one_way (entry_at xs best) (entry_at xs k) (h.behind k more lt))
+  ];
+  behind = λ k gt lt. absurd (omega arith);
+}
+
+-- a fact of each entry
+abbrev Each : (Entry → Type 0) → List Entry → Type 0
+Each P [] = Unit {0}
+Each P (x ∷ xs) = P x × Each P xs
+
+each_append : (P : Entry → Type 0) (xs ys : List Entry) → Each P xs → Each P ys → Each P (xs ++ ys)
+each_append P [] ys a b = b
+each_append P (x ∷ xs) ys a b = (a.0, each_append P xs ys a.1 b)
+
+each_filter : (P : Entry → Type 0) (p : Entry → Bool) (xs : List Entry) → Each P xs → Each P (filter p xs)
+each_filter P p [] a = tt
+each_filter P p (x ∷ xs) a = elim (p x) as (λ b. Each P (cond b (x ∷ filter p xs) (filter p xs))) [
+  | true ↦ (a.0, each_filter P p xs a.1)
+  | false ↦ each_filter P p xs a.1
+]
+
+each_in_order : (P : Entry → Type 0) (xs : List Entry) → Each P xs → Each P (in_order xs)
+each_in_order P [] a = tt
+each_in_order P (x ∷ xs) a =
+    let rest = each_in_order P xs a.1 in
+    each_append P _ _ (each_filter P _ (in_order xs) rest) (a.0, each_filter P _ (in_order xs) rest)
+
+each_from_index : (P : Entry → Type 0) (xs : List Entry) → ((k : ℕ) → k < length xs → P (entry_at xs k)) → Each P xs
+each_from_index P [] h = tt
+each_from_index P (x ∷ xs) h = (h 0 (omega arith), each_from_index P xs (λ k lt. h (suc k) (omega arith)))
+
+-- a test that holds of each picks each, and one that holds of none picks none
+filter_each : (p : Entry → Bool) (xs : List Entry) → Each (λ x. p x ≡ true) xs → filter p xs ≡ xs
+filter_each p [] a = refl
+filter_each p (x ∷ xs) a = rw a.0 (ap (λ ys. x ∷ ys) (filter_each p xs a.1))
+
+filter_none : (p : Entry → Bool) (xs : List Entry) → Each (λ x. p x ≡ false) xs → filter p xs ≡ []
+filter_none p [] a = refl
+filter_none p (x ∷ xs) a = rw a.0 (filter_none p xs a.1)
+
+each_not : (p : Entry → Bool) (xs : List Entry) → Each (λ x. p x ≡ true) xs → Each (λ x. not (p x) ≡ false) xs
+each_not p [] a = tt
+each_not p (x ∷ xs) a = (ap not a.0, each_not p xs a.1)
+
+-- an entry before all others is placed first
+placed_first : (e : Entry) (xs : List Entry) → Each (λ x. is_before e x ≡ true) xs → placed e xs ≡ e ∷ xs
+placed_first e xs a =
+    ap (λ ys. ys ++ e ∷ filter (λ x. is_before e x) xs) (filter_none (λ x. not (is_before e x)) xs (each_not (λ x. is_before e x) xs a))
+    ∙ ap (λ ys. e ∷ ys) (filter_each (λ x. is_before e x) xs a)
+
+-- an entry that is not before the first is placed behind it
+placed_later : (e x : Entry) (xs : List Entry) → is_before e x ≡ false → placed e (x ∷ xs) ≡ x ∷ placed e xs
+placed_later e x xs h = rw h refl
+
+-- the least of a list comes first in its order
+pub least_first : (xs : List Entry) (at : ℕ) → IsLeast (length xs) xs at → in_order xs ≡ entry_at xs at ∷ in_order (remove xs at)
+least_first [] at h = absurd (omega (arith, h.there))
+least_first (e ∷ xs) zero h =
+    placed_first e (in_order xs) (each_in_order (λ x. is_before e x ≡ true) xs (each_from_index (λ x. is_before e x ≡ true) xs (λ k lt. h.behind (suc k) (omega arith) (omega arith))))
+least_first (e ∷ xs) (suc at) h =
+    let inner : IsLeast (length xs) xs at = record {
+      there = omega (arith, h.there);
+      ahead = λ k lt. h.ahead (suc k) (omega arith);
+      behind = λ k gt lt. h.behind (suc k) (omega arith) (omega arith);
+    } in
+    ap (λ ys. placed e ys) (least_first xs at inner) ∙ placed_later e (entry_at xs at) (in_order (remove xs at)) (h.ahead 0 (omega arith))
+
+-- no entry is lost
+pub length_in_order : (xs : List Entry) → length (in_order xs) ≡ length xs
+length_in_order [] = refl
+length_in_order (e ∷ xs) =
+    let ys = in_order xs in
+    let ih : length ys ≡ length xs = length_in_order xs in
+    let parts = length-filter_both (λ x. is_before e x) (λ x. not (is_before e x)) (λ x. refl) ys in
+    omega (arith, ih, parts, length-append (filter (λ x. not (is_before e x)) ys) (e ∷ filter (λ x. is_before e x) ys))
+
+-- two tests may be made in either order
+filter_swap : (p q : Entry → Bool) (xs : List Entry) → filter p (filter q xs) ≡ filter q (filter p xs)
+filter_swap p q [] = refl
+filter_swap p q (x ∷ xs) = by_tests (filter_swap p q xs) (p x) (q x) refl refl
+  where
+    by_tests : filter p (filter q xs) ≡ filter q (filter p xs) → (a b : Bool) → p x ≡ a → q x ≡ b
+        → filter p (filter q (x ∷ xs)) ≡ filter q (filter p (x ∷ xs))
+    by_tests rest true true e f = simp (e, f) (ap (λ ys. x ∷ ys) rest)
+    by_tests rest true false e f = simp (e, f) rest
+    by_tests rest false true e f = simp (e, f) rest
+    by_tests rest false false e f = simp (e, f) rest
+
+-- a weaker test changes nothing of what a test picks
+filter_weaker : (q p : Entry → Bool) → ((x : Entry) → q x ≡ true → p x ≡ true) → (xs : List Entry) → filter q (filter p xs) ≡ filter q xs
+filter_weaker q p w [] = refl
+filter_weaker q p w (x ∷ xs) = by_tests (filter_weaker q p w xs) (p x) (q x) refl refl
+  where
+    by_tests : filter q (filter p xs) ≡ filter q xs → (a b : Bool) → p x ≡ a → q x ≡ b → filter q (filter p (x ∷ xs)) ≡ filter q (x ∷ xs)
+    by_tests rest true true e f = simp (e, f) (ap (λ ys. x ∷ ys) rest)
+    by_tests rest true false e f = simp (e, f) rest
+    by_tests rest false true e f = absurd (cc (w x f))
+    by_tests rest false false e f = simp (e, f) rest
+
+-- two tests that never hold together pick none
+filter_apart : (q p : Entry → Bool) → ((x : Entry) → p x ≡ true → q x ≡ false) → (xs : List Entry) → filter q (filter p xs) ≡ []
+filter_apart q p w [] = refl
+filter_apart q p w (x ∷ xs) = by_test (filter_apart q p w xs) (p x) refl
+  where
+    by_test : filter q (filter p xs) ≡ [] → (a : Bool) → p x ≡ a → filter q (filter p (x ∷ xs)) ≡ []
+    by_test rest true e = simp (e, w x e) rest
+    by_test rest false e = simp e rest
+
+-- an entry of lesser floor is placed among those of lesser floor
+below_placed : (value : ℤ) (e : Entry) (xs : List Entry) → int_lt e.floor value ≡ true → below value (placed e xs) ≡ placed e (below value xs)
+below_placed value e xs h =
+    let q : Entry → Bool = λ x. int_lt x.floor value in
+    let p : Entry → Bool = λ x. is_before e x in
+    let n : Entry → Bool = λ x. not (is_before e x) in
+    filter-append q (filter n xs) (e ∷ filter p xs)
+    ∙ rw h (ap (λ ys. ys ++ e ∷ filter q (filter p xs)) (filter_swap q n xs) ∙ ap (λ ys. filter n (filter q xs) ++ e ∷ ys) (filter_swap q p xs))
+
+at_least_along : (a b value : ℤ) → a ≤ℤ b → int_lt a value ≡ false → int_lt b value ≡ false
+at_least_along a b value h k = grind (arith, ints)
+
+-- what an entry is before has no lesser floor
+no_lower : (value : ℤ) (e x : Entry) → int_lt e.floor value ≡ false → is_before e x ≡ true → int_lt x.floor value ≡ false
+no_lower value e x h b = at_least_along e.floor x.floor value (floors_rise e x (one_way e x b)) h
+
+-- another is not there
+below_dropped : (value : ℤ) (e : Entry) (xs : List Entry) → int_lt e.floor value ≡ false → below value (placed e xs) ≡ below value xs
+below_dropped value e xs h =
+    let q : Entry → Bool = λ x. int_lt x.floor value in
+    let p : Entry → Bool = λ x. is_before e x in
+    let n : Entry → Bool = λ x. not (is_before e x) in
+    filter-append q (filter n xs) (e ∷ filter p xs)
+    ∙ rw h (ap (λ ys. filter q (filter n xs) ++ ys) (filter_apart q p (λ x b. no_lower value e x h b) xs)
+    ∙ (append-nil (filter q (filter n xs)) ∙ filter_weaker q n (λ x l. not_after x l (is_before e x) refl) xs))
+  where
+    not_after : (x : Entry) → int_lt x.floor value ≡ true → (b : Bool) → is_before e x ≡ b → not (is_before e x) ≡ true
+    not_after x l true f = absurd (cc (no_lower value e x h f))
+    not_after x l false f = ap not f
+
+-- the entries of lesser floor, in order
+pub below_in_order : (value : ℤ) (xs : List Entry) → below value (in_order xs) ≡ in_order (below value xs)
+below_in_order value [] = refl
+below_in_order value (e ∷ xs) = by_floor (below_in_order value xs) (int_lt e.floor value) refl
+  where
+    by_floor : below value (in_order xs) ≡ in_order (below value xs) → (b : Bool) → int_lt e.floor value ≡ b
+        → below value (in_order (e ∷ xs)) ≡ in_order (below value (e ∷ xs))
+    by_floor rest true h = rw h (below_placed value e (in_order xs) h ∙ ap (λ ys. placed e ys) rest)
+    by_floor rest false h = rw h (below_dropped value e (in_order xs) h ∙ rest)
+
+-- each entry is before none that stands ahead of it, said along the list
+abbrev Rises : List Entry → Type 0
+Rises [] = Unit {0}
+Rises (x ∷ xs) = Each (λ y. is_before y x ≡ false) xs × Rises xs
+
+each_weaker : (P Q : Entry → Type 0) → ((x : Entry) → P x → Q x) → (xs : List Entry) → Each P xs → Each Q xs
+each_weaker P Q w [] a = tt
+each_weaker P Q w (x ∷ xs) a = (w x a.0, each_weaker P Q w xs a.1)
+
+-- what is before the first of entries that rise is before each
+before_each : (e x : Entry) (xs : List Entry) → is_before e x ≡ true → Each (λ y. is_before y x ≡ false) xs → Each (λ y. is_before e y ≡ true) xs
+before_each e x [] b a = tt
+before_each e x (y ∷ ys) b a = (before_along e x y b a.0, before_each e x ys b a.1)
+
+placed_rises : (e : Entry) (xs : List Entry) → Rises xs → Rises (placed e xs)
+placed_rises e [] r = (tt, tt)
+placed_rises e (x ∷ xs) r = by_test (placed_rises e xs r.1) (is_before e x) refl
+  where
+    by_test : Rises (placed e xs) → (b : Bool) → is_before e x ≡ b → Rises (placed e (x ∷ xs))
+    by_test rest false h = subst Rises (sym (placed_later e x xs h))
+        (each_append (λ y. is_before y x ≡ false) _ _ (each_filter (λ y. is_before y x ≡ false) _ xs r.0) (h, each_filter (λ y. is_before y x ≡ false) _ xs r.0), rest)
+    by_test rest true h =
+        let all : Each (λ y. is_before e y ≡ true) (x ∷ xs) = (h, before_each e x xs h r.0) in
+        subst Rises (sym (placed_first e (x ∷ xs) all))
+        (each_weaker (λ y. is_before e y ≡ true) (λ y. is_before y e ≡ false) (λ y b. one_way e y b) (x ∷ xs) all, r)
+
+in_order_rises : (xs : List Entry) → Rises (in_order xs)
+in_order_rises [] = tt
+in_order_rises (e ∷ xs) = placed_rises e (in_order xs) (in_order_rises xs)
+
+each_at : (P : Entry → Type 0) (xs : List Entry) → Each P xs → (k : ℕ) → k < length xs → P (entry_at xs k)
+each_at P [] a k h = absurd (omega arith)
+each_at P (x ∷ xs) a zero h = a.0
+each_at P (x ∷ xs) a (suc k) h = each_at P xs a.1 k (omega arith)
+
+order_from_rises : (xs : List Entry) → Rises xs → IsInOrder xs
+order_from_rises [] r i k lt h = absurd (omega arith)
+order_from_rises (x ∷ xs) r zero zero lt h = absurd (omega arith)
+order_from_rises (x ∷ xs) r zero (suc k) lt h = each_at (λ y. is_before y x ≡ false) xs r.0 k (omega arith)
+order_from_rises (x ∷ xs) r (suc i) zero lt h = absurd (omega arith)
+order_from_rises (x ∷ xs) r (suc i) (suc k) lt h = order_from_rises xs r.1 i k (omega arith) (omega arith)
+
+-- the list in order is in order
+pub is_in_order : (xs : List Entry) → IsInOrder (in_order xs)
+is_in_order xs = order_from_rises (in_order xs) (in_order_rises xs)

@@ -1,0 +1,147 @@
+ghost use Rattle.std.specs.Prelude.{◌≡◌, ◌≤◌, ◌<◌, ◌-◌, ◌+◌, [], ◌∷◌, length, vec_len, vec_capacity, max, MatchOption, OnOk, OnErr, IsOk};
+ghost use Rattle.ug_pool.specs.Pools.{IsInOrder, IsPut, IsTaken, IsDroppedFrom, placed, below, is_before, entry_at};
+ghost use Rattle.ug_pool.specs.Plain.{IsLeast, in_order};
+
+use crate::entry::Entry;
+use std::alloc::{AllocError, Global};
+use std::marker::Model;
+use ug_nodes::Node;
+
+/// Open nodes in no order, the latest first. Each call looks through all of them.
+#[derive(Debug, Drop)]
+pub struct PlainPool {
+    entries: Vec<Entry>,
+    spare: usize,
+}
+
+impl Model for PlainPool {
+    ghost use Rattle.std.specs.Prelude.{◌+◌, ◌≤◌, vec_len, vec_capacity};
+    ghost use Rattle.ug_pool.specs.Pools.{Pooled};
+    ghost use Rattle.ug_pool.specs.Plain.{in_order};
+
+    ghost Value = { Pooled };
+
+    ghost view = { λ pool. record { entries = in_order pool.entries.items; spare = pool.spare } };
+
+    ghost invariant = { λ pool. vec_len pool.entries + pool.spare ≤ vec_capacity pool.entries };
+}
+
+impl PlainPool {
+    /// The empty pool. It takes no memory.
+    pub fn new(alloc: Global) -> PlainPool
+        ensures { result ≡ record { entries = []; spare = 0 } }
+    {
+        PlainPool {
+            entries: Vec::new(alloc),
+            spare: 0,
+        }
+    }
+
+    /// How many nodes the pool has.
+    pub fn len(&self) -> usize
+        ensures value { result ≡ length self.now.entries }
+        ensures order { IsInOrder self.now.entries }
+    {
+        self.entries.len()
+    }
+
+    /// How many more nodes may be put in.
+    pub fn spare(&self) -> usize
+        ensures { result ≡ self.now.spare }
+    {
+        self.spare
+    }
+
+    /// Takes memory for `n` nodes more, if there is less to spare.
+    pub fn reserve(&mut self, n: usize) -> Result<(), AllocError>
+        ensures ok { OnOk result (self.new ≡ record self.old { spare = max self.old.spare n }) }
+        ensures err { OnErr result (self.new ≡ self.old) }
+        ensures enough { n ≤ self.old.spare → IsOk result }
+    {
+        self.entries.reserve(n)?;
+        self.spare = self.spare.max(n);
+        Ok(())
+    }
+
+    /// Puts a node in, behind those that are not after it.
+    pub fn put(&mut self, node: Node, floor: i128)
+        requires { 0 < self.old.spare }
+        ensures { IsPut floor node self.old self.new }
+    {
+        let _ = self.entries.insert(0, Entry { floor, node });
+        self.spare -= 1;
+    }
+
+    /// Takes out the first node.
+    pub fn take_least(&mut self) -> Option<Node>
+        ensures order { IsInOrder self.old.entries }
+        ensures taken { MatchOption result
+            ((self.old.entries ≡ []) × (self.new ≡ self.old))
+            (IsTaken self.old self.new) }
+    {
+        if self.entries.is_empty() {
+            return None;
+        }
+        let entry = take_out(&mut self.entries);
+        self.spare += 1;
+        Some(entry.node)
+    }
+
+    /// Drops the nodes whose floor is at least the value.
+    pub fn drop_from(&mut self, value: i128)
+        ensures { IsDroppedFrom value self.old self.new }
+    {
+        let before = self.entries.len();
+        keep_below(&mut self.entries, value);
+        self.spare += before - self.entries.len();
+    }
+}
+
+// Takes out the first entry in order.
+fn take_out(entries: &mut Vec<Entry>) -> Entry
+    requires { 0 < length entries.old.items }
+    ensures first { in_order entries.old.items ≡ result ∷ in_order entries.new.items }
+    ensures len { vec_len entries.new + 1 ≡ vec_len entries.old }
+    ensures capacity { vec_capacity entries.new ≡ vec_capacity entries.old }
+{
+    let at = least_of(entries);
+    entries.remove(at)
+}
+
+// The place of the least entry, the last of those.
+fn least_of(entries: &[Entry]) -> usize
+    requires { 0 < length entries.now }
+    ensures { IsLeast (length entries.now) entries.now result }
+{
+    let mut best = 0;
+    for k in 1..entries.len() {
+        best = least_with(entries, best, k);
+    }
+    best
+}
+
+// The least of the first k entries, or entry k.
+fn least_with(entries: &[Entry], best: usize, k: usize) -> usize
+    requires there { k < length entries.now }
+    requires least { IsLeast k entries.now best }
+    ensures { IsLeast (k + 1) entries.now result }
+{
+    if is_ahead(entries, best, k) { best } else { k }
+}
+
+fn is_ahead(entries: &[Entry], i: usize, k: usize) -> bool
+    requires first { i < length entries.now }
+    requires second { k < length entries.now }
+    ensures { result ≡ is_before (entry_at entries.now i) (entry_at entries.now k) }
+{
+    entries[i].is_before(&entries[k])
+}
+
+// Keeps the entries with a floor below the value.
+fn keep_below(entries: &mut Vec<Entry>, value: i128)
+    ensures items { entries.new.items ≡ below value entries.old.items }
+    ensures fewer { vec_len entries.new ≤ vec_len entries.old }
+    ensures capacity { vec_capacity entries.new ≡ vec_capacity entries.old }
+{
+    entries.retain(|entry| entry.floor < value);
+}

@@ -1,0 +1,155 @@
+ghost use Rattle.std.specs.Prelude.{◌≡◌, ◌≤◌, ◌<◌, ◌+◌, ◌-◌, [], ◌∷◌, length, take, max, MatchOption, IsNone, IfSome, OnOk, OnErr, IsOk};
+ghost use Rattle.ug_pool.specs.Pools.{IsInOrder, IsPut, IsTaken, IsDroppedFrom, placed, below};
+ghost use Rattle.ug_pool.specs.Steps.{IsPlace};
+ghost use Rattle.std.specs.VecDeque.{deque_len, deque_capacity};
+ghost use Rattle.std.specs.List.{insert};
+
+use crate::entry::Entry;
+use std::alloc::{AllocError, Global};
+use std::collections::VecDeque;
+use std::marker::Model;
+use ug_nodes::Node;
+
+/// Open nodes, in order of their floors, and of their names where the floors are the same.
+#[derive(Debug, Drop)]
+pub struct Pool {
+    entries: VecDeque<Entry>,
+    spare: usize,
+}
+
+impl Model for Pool {
+    ghost use Rattle.std.specs.Prelude.{◌+◌, ◌≤◌};
+    ghost use Rattle.std.specs.VecDeque.{deque_len, deque_capacity};
+    ghost use Rattle.ug_pool.specs.Pools.{Pooled, IsInOrder};
+
+    ghost Value = { Pooled };
+
+    ghost view = { λ pool. record { entries = pool.entries.items; spare = pool.spare } };
+
+    ghost invariant = { λ pool. record {
+      in_order : IsInOrder pool.entries.items;
+      has_room : deque_len pool.entries + pool.spare ≤ deque_capacity pool.entries;
+    } };
+}
+
+impl Pool {
+    /// The empty pool. It takes no memory.
+    pub fn new(alloc: Global) -> Pool
+        ensures { result ≡ record { entries = []; spare = 0 } }
+    {
+        Pool {
+            entries: VecDeque::new(alloc),
+            spare: 0,
+        }
+    }
+
+    /// How many nodes the pool has.
+    pub fn len(&self) -> usize
+        ensures value { result ≡ length self.now.entries }
+        ensures order { IsInOrder self.now.entries }
+    {
+        self.entries.len()
+    }
+
+    /// How many more nodes may be put in.
+    pub fn spare(&self) -> usize
+        ensures { result ≡ self.now.spare }
+    {
+        self.spare
+    }
+
+    /// Takes memory for `n` nodes more, if there is less to spare.
+    pub fn reserve(&mut self, n: usize) -> Result<(), AllocError>
+        ensures ok { OnOk result (self.new ≡ record self.old { spare = max self.old.spare n }) }
+        ensures err { OnErr result (self.new ≡ self.old) }
+        ensures enough { n ≤ self.old.spare → IsOk result }
+    {
+        self.entries.reserve(n)?;
+        self.spare = self.spare.max(n);
+        Ok(())
+    }
+
+    /// Puts a node in, behind those that are not after it.
+    pub fn put(&mut self, node: Node, floor: i128)
+        requires { 0 < self.old.spare }
+        ensures { IsPut floor node self.old self.new }
+    {
+        let entry = Entry { floor, node };
+        place(&mut self.entries, entry);
+        self.spare -= 1;
+    }
+
+    /// Takes out the first node.
+    pub fn take_least(&mut self) -> Option<Node>
+        ensures order { IsInOrder self.old.entries }
+        ensures taken { MatchOption result
+            ((self.old.entries ≡ []) × (self.new ≡ self.old))
+            (IsTaken self.old self.new) }
+    {
+        match take_first(&mut self.entries) {
+            Some(entry) => {
+                self.spare += 1;
+                Some(entry.node)
+            }
+            None => None,
+        }
+    }
+
+    /// Drops the nodes whose floor is at least the value.
+    pub fn drop_from(&mut self, value: i128)
+        ensures { IsDroppedFrom value self.old self.new }
+    {
+        let kept = first_from(&self.entries, value);
+        self.spare += self.entries.len() - kept;
+        self.entries.truncate(kept);
+    }
+}
+
+// Puts an entry in, where there is room.
+fn place(entries: &mut VecDeque<Entry>, entry: Entry)
+    requires order { IsInOrder entries.old.items }
+    requires room { deque_len entries.old < deque_capacity entries.old }
+    ensures items { entries.new.items ≡ placed entry entries.old.items }
+    ensures order { IsInOrder entries.new.items }
+    ensures len { deque_len entries.new ≡ deque_len entries.old + 1 }
+    ensures capacity { deque_capacity entries.old ≤ deque_capacity entries.new }
+{
+    let at = place_of(entries, &entry);
+    insert(entries, at, entry);
+}
+
+// How many entries this one is not before.
+fn place_of(entries: &VecDeque<Entry>, entry: &Entry) -> usize
+    requires { IsInOrder entries.now.items }
+    ensures { IsPlace entry.now entries.now.items result }
+{
+    entries.partition_point(|other| !entry.is_before(other))
+}
+
+fn insert(entries: &mut VecDeque<Entry>, at: usize, entry: Entry)
+    requires there { at ≤ deque_len entries.old }
+    requires room { deque_len entries.old < deque_capacity entries.old }
+    ensures items { entries.new.items ≡ insert entries.old.items at entry }
+    ensures len { deque_len entries.new ≡ deque_len entries.old + 1 }
+    ensures capacity { deque_capacity entries.old ≤ deque_capacity entries.new }
+{
+    let _ = entries.insert(at, entry);
+}
+
+fn take_first(entries: &mut VecDeque<Entry>) -> Option<Entry>
+    ensures none { IsNone result → (entries.old.items ≡ []) × (entries.new.items ≡ []) }
+    ensures some { IfSome result (λ entry. entries.old.items ≡ entry ∷ entries.new.items) }
+    ensures len { IfSome result (λ _. deque_len entries.new + 1 ≡ deque_len entries.old) }
+    ensures capacity { deque_capacity entries.new ≡ deque_capacity entries.old }
+{
+    entries.pop_front()
+}
+
+// How many entries have a floor below the value.
+fn first_from(entries: &VecDeque<Entry>, value: i128) -> usize
+    requires { IsInOrder entries.now.items }
+    ensures within { result ≤ deque_len entries.now }
+    ensures kept { take result entries.now.items ≡ below value entries.now.items }
+{
+    entries.partition_point(|entry| entry.floor < value)
+}
