@@ -12,7 +12,7 @@ use crate::measure::{Room, measure, minus, plus, product, room_within};
 use crate::tight::{Reason, Side};
 use ug_rows::{Extreme, Interval, Term};
 
-/// The rule in one pass where no term can tighten, else in two, with the sums kept up.
+/// The rule in one pass over the terms where none can tighten, else in two, with the sums kept up.
 pub struct Fast;
 
 impl RowRule for Fast {
@@ -178,7 +178,7 @@ fn tighten_terms(look: Look, terms: &[Term], room: Room, area: &mut [Interval]) 
     }
 }
 
-// Whether some sum is within each side, but no span is above the room that a side leaves.
+// One row. Where no span is above the room of either side, as in most looks, it ends after the first pass.
 fn tighten_row(look: Look, terms: &[Term], area: &mut [Interval]) -> Looked
     requires { IsReady (length area.old) look terms.now }
     ensures value { looked_of result area.new ≡ row_step look.row (row_of look terms.now) area.old }

@@ -43,7 +43,7 @@ pub fn minus(a: i128, b: i128) -> i128
     a - b
 }
 
-/// The product of a term at an end of its column's interval.
+/// The product of a term at an end of its column's interval, whose ends are i32 numbers.
 pub fn product(extreme: Extreme, term: Term, side: Interval) -> i128
     requires { unsigned_abs term.factor ≤ 10 ^ 24 }
     ensures value { result ≡ term.factor *ℤ end_of extreme term.factor side }
