@@ -1,9 +1,8 @@
 -- What the bodies are made of: sizes, cases of signs, and the next row or term.
-use Rattle.std.proofs.Common.{◌≡◌, ◌≢◌, refl, sym, subst, ◌∙◌, ap, ℕ, zero, suc, ◌+◌, ◌-◌, ◌*◌, ◌^◌, ◌<◌, ◌≤◌, ℤ, pos, negsuc, ◌-ℤ◌, ◌≤ℤ◌, ◌<ℤ◌, unsigned_abs, List, [], ◌∷◌, length, ◌++◌, take, drop, slice_index_or, Option, Some, None, IfSome, arith}
+use Rattle.std.proofs.Common.{◌≡◌, ◌≢◌, refl, sym, subst, ◌∙◌, ap, ℕ, zero, suc, ◌+◌, ◌-◌, ◌*◌, ◌^◌, ◌<◌, ◌≤◌, ℤ, pos, negsuc, ◌-ℤ◌, ◌≤ℤ◌, ◌<ℤ◌, unsigned_abs, List, [], ◌∷◌, length, drop, slice_index_or, Option, Some, None, IfSome, arith}
 use Rattle.std.proofs.lemmas.Int.{ints}
 use Rattle.std.proofs.lemmas.List.Elements.{All-get_or}
 use Rattle.std.proofs.Math.Seq.{drop-cons}
-use Rattle.std.proofs.lemmas.Grind.{common_steps}
 use Rattle.std.proofs.Common.{add-one, Bool, true, false, T, not}
 use Rattle.ug_rows.specs.Boxes.{IsNonEmpty, interval_at}
 use Rattle.ug_propagate.specs.Claims.{IsFixed, IsCrossed}
@@ -262,10 +261,6 @@ rounds_none p cutoff area none =
     let P : Tight → Type 0 = λ (t : Tight). t ≡ crossed p.rows cutoff area in
     if_bool P (are_crossed area) (crossed p.rows cutoff area) (last_round p cutoff (rounds_of 32 p cutoff (Kept area)))
     (λ _. refl) (λ n. absurd (none (nonempty_from area n)))
-
--- a list that is written over another of its length
-pub copied : (xs ys : List Interval) (n : ℕ) → length xs ≡ n → length ys ≡ n → take n (xs ++ drop (length xs) ys) ≡ xs
-copied xs ys n h k = grind (arith, common_steps)
 
 get_any : {A : Type 0} (xs : List A) (i : ℕ) (d e : A) → i < length xs → slice_index_or xs i d ≡ slice_index_or xs i e
 get_any [] i d e h = absurd (omega arith)

@@ -19,7 +19,7 @@ use Rattle.ug_propagate.specs.declared.tight.Tight.TheVariants.{Kept, Empty}
 use Rattle.ug_propagate.specs.declared.tight.Reason.{Reason}
 use Rattle.ug_propagate.specs.declared.tight.Side.TheVariants.{Low, High}
 use Rattle.ug_propagate.specs.Rounds.{keep_at_least, keep_at_most, lower_high, over_low, raise_low, reason_of, under_high}
-use Rattle.ug_propagate.specs.Steps.{AreSmall, IsMeasured, IsReady, IsRoomOf, high_of, low_of, outcome_of}
+use Rattle.ug_propagate.specs.Steps.{HaveSmallColumns, IsMeasured, IsReady, IsRoomOf, high_of, low_of, outcome_of}
 use Rattle.ug_propagate.proofs.Bodies.{others_small}
 use Rattle.ug_propagate.proofs.Parts.{if_lt}
 
@@ -44,7 +44,7 @@ low_room_size low sum room e side small =
 
 -- the sums of a room and their sizes
 room_of : (width : ℕ) (look : Look) (terms : List Term) (area : List Interval) (room : Room) → IsReady width look terms
-    → AreSmall terms area → room.high ≡ high_of look.high -ℤ least_sum terms area
+    → HaveSmallColumns terms area → room.high ≡ high_of look.high -ℤ least_sum terms area
     → room.low ≡ greatest_sum terms area -ℤ low_of look.low → IsRoomOf look terms area room
 room_of width look terms area room ready small high low = record {
   small = small;
@@ -197,7 +197,7 @@ at_least_moved reason (pos n) j s area new e = at_least_raised reason n j s area
 at_least_moved reason (negsuc n) j s area new e = at_least_lowered reason n j s area new e
 
 small_put : (terms : List Term) (area : List Interval) (j : ℕ) (side : Interval) → j < length area
-    → AreSmall terms area → IsSmall side → AreSmall terms (set area j side)
+    → HaveSmallColumns terms area → IsSmall side → HaveSmallColumns terms (set area j side)
 small_put terms area j side there small one k within = elim (cases_eq (term_at terms k).column j) [
   | inl e ↦
       let at : interval_at (set area j side) j ≡ side = get_or-set_same area j side no_interval there in
@@ -226,11 +226,11 @@ high_changes : (room sum old new high : ℤ) → room ≡ high -ℤ sum → room
 high_changes room sum old new high e = omega (arith, ints)
 
 small_moved : (e : Extreme) (f : ℤ) (terms : List Term) (j : ℕ) (area new : List Interval) → j < length area
-    → AreSmall terms area → IsSmall (interval_at new j) → IsMoved e f j area new → AreSmall terms new
+    → HaveSmallColumns terms area → IsSmall (interval_at new j) → IsMoved e f j area new → HaveSmallColumns terms new
 small_moved e f terms j area new there small one moved =
     let at : interval_at (set area j moved.side) j ≡ moved.side = get_or-set_same area j moved.side no_interval there in
     let P : List Interval → Type 0 = λ (a : List Interval). IsSmall (interval_at a j) in
-    subst (AreSmall terms) (sym moved.put)
+    subst (HaveSmallColumns terms) (sym moved.put)
     (small_put terms area j moved.side there small (subst IsSmall at (subst P moved.put one)))
 
 -- the room after a term is tightened under the high side

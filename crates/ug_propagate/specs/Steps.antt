@@ -61,12 +61,12 @@ abbrev pub span_of : Term → List Interval → ℤ
 span_of t area = end_product Greatest t area -ℤ end_product Least t area
 
 -- the columns of the terms have i32 numbers
-abbrev pub AreSmall : List Term → List Interval → Type 0
-AreSmall terms area = (k : ℕ) → k < length terms → IsSmall (interval_at area (term_at terms k).column)
+abbrev pub HaveSmallColumns : List Term → List Interval → Type 0
+HaveSmallColumns terms area = (k : ℕ) → k < length terms → IsSmall (interval_at area (term_at terms k).column)
 
 -- the sums of the terms over the box, and a number that no span of a term is above
 pub record IsMeasured (terms : List Term) (area : List Interval) (ends : Ends) : Type 0 where
-  pub small : AreSmall terms area
+  pub small : HaveSmallColumns terms area
   pub least : ends.least ≡ least_sum terms area
   pub greatest : ends.greatest ≡ greatest_sum terms area
   pub widest : (k : ℕ) → k < length terms → span_of (term_at terms k) area ≤ℤ ends.widest
@@ -82,7 +82,7 @@ low_of (Some low) = low
 
 -- how far the least sum over the box is below the high side, and the greatest above the low side
 pub record IsRoomOf (look : Look) (terms : List Term) (area : List Interval) (room : Room) : Type 0 where
-  pub small : AreSmall terms area
+  pub small : HaveSmallColumns terms area
   pub high : room.high ≡ high_of look.high -ℤ least_sum terms area
   pub low : room.low ≡ greatest_sum terms area -ℤ low_of look.low
   pub high_size : unsigned_abs room.high ≤ 9 * 10 ^ 37

@@ -8,11 +8,11 @@ ghost use Rattle.ug_propagate.specs.declared.tight.Tight.TheVariants.{Kept};
 
 use crate::columns::{product_above, product_below};
 use crate::look::{Look, Looked, RowRule};
-use crate::measure::{Room, measure, minus, plus, product, room_within};
+use crate::measure::{Room, change, measure, minus, plus, product, room_within};
 use crate::tight::{Reason, Side};
-use ug_rows::{Extreme, Interval, Term};
+use ug_rows::{Extreme, Interval, Term, end_at};
 
-/// The rule in one pass where no term can tighten, else in two, with the sums kept up.
+/// The rule in one pass over the terms where none can tighten, else in two, with the sums kept up.
 pub struct Fast;
 
 impl RowRule for Fast {
@@ -28,23 +28,21 @@ fn span(term: Term, area: &[Interval]) -> i128
     ensures small { unsigned_abs result ≤ 10 ^ 24 * 2 ^ 32 }
 {
     let side = area[term.column as usize];
-    minus(
-        product(Extreme::Greatest, term, side),
-        product(Extreme::Least, term, side),
-    )
+    let near = end_at(Extreme::Least, term.factor, side);
+    let far = end_at(Extreme::Greatest, term.factor, side);
+    change(term.factor, near, far)
 }
 
 // How the product of the term at an end changes with its column's interval.
-fn change(extreme: Extreme, term: Term, before: Interval, after: Interval) -> i128
+fn end_change(extreme: Extreme, term: Term, before: Interval, after: Interval) -> i128
     requires { unsigned_abs term.factor ≤ 10 ^ 24 }
     ensures value { result ≡ (term.factor *ℤ end_of extreme term.factor after) -ℤ (term.factor *ℤ end_of extreme term.factor before) }
     ensures small { unsigned_abs result ≤ 10 ^ 24 * 2 ^ 32 }
     ensures after { IsSmall after }
 {
-    minus(
-        product(extreme, term, after),
-        product(extreme, term, before),
-    )
+    let old = end_at(extreme, term.factor, before);
+    let new = end_at(extreme, term.factor, after);
+    change(term.factor, old, new)
 }
 
 // The term under the high side: its greatest product goes down, its least stays.
@@ -73,7 +71,7 @@ fn tighten_under_high(
         side: Side::High,
     };
     let told = product_below(reason, term, most, area);
-    let change = change(Extreme::Greatest, term, before, area[column]);
+    let change = end_change(Extreme::Greatest, term, before, area[column]);
     room.low = plus(room.low, change);
     told
 }
@@ -104,7 +102,7 @@ fn tighten_over_low(
         side: Side::Low,
     };
     let told = product_above(reason, term, least, area);
-    let change = change(Extreme::Least, term, before, area[column]);
+    let change = end_change(Extreme::Least, term, before, area[column]);
     room.high = minus(room.high, change);
     told
 }
@@ -178,7 +176,7 @@ fn tighten_terms(look: Look, terms: &[Term], room: Room, area: &mut [Interval]) 
     }
 }
 
-// Whether some sum is within each side, but no span is above the room that a side leaves.
+// One row. Where no span is above the room of either side, as in most looks, it ends after the first pass.
 fn tighten_row(look: Look, terms: &[Term], area: &mut [Interval]) -> Looked
     requires { IsReady (length area.old) look terms.now }
     ensures value { looked_of result area.new ≡ row_step look.row (row_of look terms.now) area.old }

@@ -2,6 +2,8 @@
 //! It stands on ug_rows and ug_problem.
 //! `tighten` gives what 32 rounds leave of a box, as specs/Rounds.antt says; every feasible point of the box
 //! with a value below the cutoff is left, and where nothing is left it names the row that shows it.
+//! It looks at a row once where no term of it can tighten, and keeps the row's sums up where one can;
+//! `tighten_plain` is the slow program that the definition is, with the same contract, for tests.
 #![tactic(auto)]
 
 mod columns;

@@ -11,8 +11,8 @@ pub struct Look {
     pub high: Option<i128>,
 }
 
-/// What a look at a row, or at all rows, does to a box.
-#[derive(Clone, Copy, Debug, PartialEq, Eq)]
+/// What a look at a row, or a round of looks, does to a box.
+#[derive(Clone, Copy, Debug)]
 pub enum Looked {
     /// The box is as it was.
     Same,

@@ -43,7 +43,35 @@ pub fn minus(a: i128, b: i128) -> i128
     a - b
 }
 
-/// The product of a term at an end of its column's interval.
+// How far apart two ends are.
+fn apart(near: i32, far: i32) -> i64
+    ensures value { result ≡ far -ℤ near }
+    ensures small { unsigned_abs result ≤ 2 ^ 32 }
+{
+    i64::from(far) - i64::from(near)
+}
+
+// The product of a factor and a number of 33 bits.
+#[tactic(auto, using(crate::proofs::Machine::products))]
+fn times(factor: i128, width: i64) -> i128
+    requires factor { unsigned_abs factor ≤ 10 ^ 24 }
+    requires width { unsigned_abs width ≤ 2 ^ 32 }
+    ensures value { result ≡ factor *ℤ width }
+    ensures small { unsigned_abs result ≤ 10 ^ 24 * 2 ^ 32 }
+{
+    factor * i128::from(width)
+}
+
+/// How the product of a factor changes from one end to another.
+pub fn change(factor: i128, before: i32, after: i32) -> i128
+    requires { unsigned_abs factor ≤ 10 ^ 24 }
+    ensures value { result ≡ (factor *ℤ after) -ℤ (factor *ℤ before) }
+    ensures small { unsigned_abs result ≤ 10 ^ 24 * 2 ^ 32 }
+{
+    times(factor, apart(before, after))
+}
+
+/// The product of a term at an end of its column's interval, whose ends are i32 numbers.
 pub fn product(extreme: Extreme, term: Term, side: Interval) -> i128
     requires { unsigned_abs term.factor ≤ 10 ^ 24 }
     ensures value { result ≡ term.factor *ℤ end_of extreme term.factor side }

@@ -23,6 +23,6 @@ returns-clause-room c = λ none.
     room_after_high (length c.args.area.now) c.args.look c.args.terms.now c.args.term c.args.area.now c.product_below-told.new.area
     c.args.room.now _ _ _ c.requires.row c.requires.among c.requires.term.there c.requires.room
     (kept_where_none c.product_below-told.result c.product_below-told.new.area _ none c.product_below-told.ensures)
-    c.change-change.ensures.after refl
-    (room_plus c.plus-room.result c.args.room.now.low c.change-change.result _ c.requires.room.low_size
-    c.change-change.ensures.small c.plus-room.ensures.value c.change-change.ensures.value)
+    c.end_change-change.ensures.after refl
+    (room_plus c.plus-room.result c.args.room.now.low c.end_change-change.result _ c.requires.room.low_size
+    c.end_change-change.ensures.small c.plus-room.ensures.value c.end_change-change.ensures.value)
