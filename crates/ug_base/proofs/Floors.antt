@@ -13,6 +13,7 @@ use Rattle.ug_rows.proofs.EndBounds.{sum_bound}
 use Rattle.ug_problem.specs.Instances.{Instance, bounds_of}
 use Rattle.ug_problem.specs.Limits.{IsProblem}
 use Rattle.ug_problem.proofs.Linear.{linear_objective}
+use Rattle.ug_propagate.specs.Claims.{IsGood}
 use Rattle.ug_base.specs.Covers.{IsInOne}
 use Rattle.ug_base.specs.Tasks.{IsBound, IsLowest, IsLowestOf, IsLowestSoFar, IsTask, TaskState, box_at, floor_of, lesser_of}
 
@@ -99,10 +100,17 @@ pub boxes_wide : (t : TaskState) → IsTask t → All (λ (area : List Interval)
 boxes_wide t task = All-weaker (λ (area : List Interval). IsBelow area t.whole) (λ (area : List Interval). length area ≡ length t.problem.columns)
     (λ area below. below.width ∙ task.whole.width ∙ length-map t.problem.columns bounds_of) t.boxes task.below
 
--- each good point has at least the least floor
+-- a good point in no box handed is in a box left
+left_in : (t : TaskState) (x : List ℤ) → IsTask t → IsInside t.whole x → IsGood t.problem t.cutoff x → ¬ IsInOne t.handed x → IsInOne t.boxes x
+left_in t x task inside good out = elim (task.covered x inside good) [
+  | inl a ↦ a
+  | inr b ↦ absurd (out b)
+]
+
+-- each good point in no box handed has at least the least floor
 pub lowest_bound : (t : TaskState) (low : ℤ) → IsTask t → IsLowest t.problem t.boxes low → IsBound t low
-lowest_bound t low task l = λ x inside good.
-    let r = box_of t.boxes x (task.covered x inside good) in
+lowest_bound t low task l = λ x inside good out.
+    let r = box_of t.boxes x (left_in t x task inside good out) in
     let wide : length (box_at t.boxes r.0) ≡ length t.problem.columns =
     All-get_or (λ (area : List Interval). length area ≡ length t.problem.columns) t.boxes r.0 [] r.1 (boxes_wide t task) in
     at_most_trans _ _ _ (l.least r.0 r.1) (floor_bound t.problem (box_at t.boxes r.0) x task.problem wide r.2)

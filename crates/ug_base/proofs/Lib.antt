@@ -4,3 +4,4 @@ pub mod Sight
 pub mod LastBox
 pub mod Floors
 pub mod StepLemmas
+pub mod HandLemmas

@@ -32,11 +32,14 @@ last_ready t last task e = record {
   small = task.cutoff;
 }
 
--- a good point of the whole box is in the last box or in one before it
-in_front_or_last : (t : TaskState) (last : List Interval) (x : List ℤ) → IsTask t → t.boxes ≡ front_of t.boxes ++ last ∷ []
-    → IsInside t.whole x → IsGood t.problem t.cutoff x → IsInOne (front_of t.boxes) x ⊎ IsInside last x
-in_front_or_last t last x task e inside good =
-    in_one_split (front_of t.boxes) last x (subst (λ boxes. IsInOne boxes x) e (task.covered x inside good))
+-- a good point stays covered if the new boxes have each one that was in the last box, and each that was in one before it
+still_covered : (t : TaskState) (last : List Interval) (boxes : List (List Interval)) (x : List ℤ) → IsTask t → t.boxes ≡ front_of t.boxes ++ last ∷ []
+    → IsInside t.whole x → IsGood t.problem t.cutoff x → (IsInOne (front_of t.boxes) x → IsInOne boxes x) → (IsInside last x → IsInOne boxes x)
+    → IsInOne boxes x ⊎ IsInOne t.handed x
+still_covered t last boxes x task e inside good front back = elim (task.covered x inside good) [
+  | inl a ↦ inl (elim (in_one_split (front_of t.boxes) last x (subst (λ bs. IsInOne bs x) e a)) [ inl f ↦ front f | inr l ↦ back l ])
+  | inr b ↦ inr b
+]
 
 front_below : (t : TaskState) → IsTask t → AreBelow t.whole (front_of t.boxes)
 front_below t task = All-take (λ (area : List Interval). IsBelow area t.whole) (length t.boxes - 1) t.boxes task.below
@@ -49,10 +52,8 @@ pruned_task t last task e seen = record {
   whole = task.whole;
   cutoff = task.cutoff;
   below = front_below t task;
-  covered = λ x inside good. elim (in_front_or_last t last x task e inside good) [
-    | inl a ↦ a
-    | inr b ↦ absurd (seen.none x b good)
-  ];
+  handed_below = task.handed_below;
+  covered = λ x inside good. still_covered t last (front_of t.boxes) x task e inside good (λ a. a) (λ b. absurd (seen.none x b good));
 }
 
 -- below a value that is below the cutoff is below the cutoff
@@ -78,12 +79,11 @@ found_task t last x task e seen = record {
   whole = task.whole;
   cutoff = value_within t.problem x task.problem seen.good.feasible.inside;
   below = front_below t task;
+  handed_below = task.handed_below;
   covered = λ y inside better.
       let good : IsGood t.problem t.cutoff y = good_still t.problem t.cutoff x y seen.good better in
-      elim (in_front_or_last t last y task e inside good) [
-        | inl a ↦ a
-        | inr b ↦ absurd (not_below_itself t.problem x y (seen.alone y b good) better.less)
-      ];
+      still_covered t last (front_of t.boxes) y task e inside good (λ a. a)
+      (λ b. absurd (not_below_itself t.problem x y (seen.alone y b good) better.less));
 }
 
 -- with two halves in the last box's place
@@ -101,13 +101,13 @@ split_task t last halves task e seen =
       cutoff = task.cutoff;
       below = All-append P (front_of t.boxes) (halves.second ∷ halves.first ∷ []) (front_below t task)
           (All-cons P halves.second (halves.first ∷ []) second (All-cons P halves.first [] first (All-nil P)));
-      covered = λ x inside good. elim (in_front_or_last t last x task e inside good) [
-        | inl a ↦ in_one_front (front_of t.boxes) (halves.second ∷ halves.first ∷ []) x a
-        | inr b ↦ in_one_behind (front_of t.boxes) (halves.second ∷ halves.first ∷ []) x (elim (seen.kept x b good) [
-          | inl f ↦ inr (inl f)
-          | inr s ↦ inl s
-        ])
-      ];
+      handed_below = task.handed_below;
+      covered = λ x inside good. still_covered t last (front_of t.boxes ++ halves.second ∷ halves.first ∷ []) x task e inside good
+          (in_one_front (front_of t.boxes) (halves.second ∷ halves.first ∷ []) x)
+          (λ b. in_one_behind (front_of t.boxes) (halves.second ∷ halves.first ∷ []) x (elim (seen.kept x b good) [
+            | inl f ↦ inr (inl f)
+            | inr s ↦ inl s
+          ]));
     }
 
 -- the same of the fields of a task, after a look at the last box

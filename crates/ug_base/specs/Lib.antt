@@ -3,4 +3,5 @@ pub mod Points
 pub mod Tasks
 pub mod Views
 pub mod Steps
+pub mod Hands
 pub mod Looks

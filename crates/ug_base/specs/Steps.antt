@@ -13,7 +13,7 @@ use Rattle.ug_propagate.specs.Claims.{IsCrossed, IsFixed, IsGood}
 use Rattle.ug_propagate.specs.Rounds.{rounds}
 use Rattle.ug_base.specs.declared.step.Step.{Step}
 use Rattle.ug_base.specs.declared.step.Step.TheVariants.{Pruned, Found, Split, Empty}
-use Rattle.ug_base.specs.Covers.{HasNoGood}
+use Rattle.ug_base.specs.Covers.{AreAllHanded, HasNoGood}
 use Rattle.ug_base.specs.Points.{measure_of}
 use Rattle.ug_base.specs.Tasks.{TaskState}
 
@@ -62,11 +62,12 @@ pub record IsSplit (old new : TaskState) : Type 0 where
   pub chosen : IsChosen old.params inner branch
   pub same : new ≡ record old { boxes = before ++ other_half old.params.half inner branch ∷ first_half old.params.half inner branch ∷ [] }
 
--- no box was left, so no point of the whole box is good; nothing changed
+-- no box was left, so each good point of the whole box lies in a box handed, and none is good where none was; nothing changed
 pub record IsEnded (old new : TaskState) : Type 0 where
   pub none : old.boxes ≡ []
   pub same : new ≡ old
-  pub searched : HasNoGood new.problem new.cutoff new.whole
+  pub searched : AreAllHanded new.problem new.cutoff new.whole new.handed
+  pub alone : new.handed ≡ [] → HasNoGood new.problem new.cutoff new.whole
 
 -- the step with this answer
 abbrev pub TookStep : TaskState → TaskState → Step → Type 0

@@ -7,16 +7,20 @@ use Rattle.ug_rows.specs.Sums.{least_sum}
 use Rattle.ug_problem.specs.Instances.{Instance, root_of}
 use Rattle.ug_problem.specs.Limits.{IsProblem}
 use Rattle.ug_branch.specs.declared.params.Params.{Params}
+use Rattle.ug_nodes.specs.declared.name.Ticket.{Ticket}
 use Rattle.ug_propagate.specs.Claims.{IsGood}
-use Rattle.ug_base.specs.Covers.{AreCovered}
+use Rattle.ug_base.specs.Covers.{AreCovered, IsInOne}
 
--- the problem, how its boxes are halved, the whole box, the cutoff if there is one, and the boxes left
+-- the problem, the ticket that the task was given with, how its boxes are halved, the whole box, the cutoff if there is one,
+-- the boxes left, and the boxes handed, in the order in which they were handed
 pub record TaskState : Type 0 where
   pub problem : Instance
+  pub ticket : Ticket
   pub params : Params
   pub whole : List Interval
   pub cutoff : Option ℤ
   pub boxes : List (List Interval)
+  pub handed : List (List Interval)
 
 -- a cutoff, if there is one, is at most 2 * 10^37
 abbrev pub IsSmall : Option ℤ → Type 0
@@ -26,13 +30,14 @@ IsSmall cutoff = IfSome cutoff (λ c. unsigned_abs c ≤ 2 * 10 ^ 37)
 abbrev pub AreBelow : List Interval → List (List Interval) → Type 0
 AreBelow whole boxes = All (λ (area : List Interval). IsBelow area whole) boxes
 
--- what every task is: the boxes left are below the whole box, and have each good point of it
+-- what every task is: the boxes left and those handed are below the whole box, and have each good point of it
 pub record IsTask (t : TaskState) : Type 0 where
   pub problem : IsProblem t.problem
   pub whole : IsBelow t.whole (root_of t.problem)
   pub cutoff : IsSmall t.cutoff
   pub below : AreBelow t.whole t.boxes
-  pub covered : AreCovered t.problem t.cutoff t.whole t.boxes
+  pub handed_below : AreBelow t.whole t.handed
+  pub covered : AreCovered t.problem t.cutoff t.whole t.boxes t.handed
 
 -- the lesser of a cutoff, if there is one, and another
 abbrev pub lesser_of : Option ℤ → ℤ → ℤ
@@ -63,6 +68,6 @@ abbrev pub IsLowestSoFar : Instance → List (List Interval) → ℕ → Option 
 IsLowestSoFar p boxes n None = n ≡ 0
 IsLowestSoFar p boxes n (Some low) = IsLowestOf p boxes n low
 
--- each good point of the whole box has at least this value
+-- each good point of the whole box that is in no box handed has at least this value
 abbrev pub IsBound : TaskState → ℤ → Type 0
-IsBound t low = (x : List ℤ) → IsInside t.whole x → IsGood t.problem t.cutoff x → low ≤ℤ value_of t.problem.objective x
+IsBound t low = (x : List ℤ) → IsInside t.whole x → IsGood t.problem t.cutoff x → ¬ IsInOne t.handed x → low ≤ℤ value_of t.problem.objective x

@@ -1,9 +1,10 @@
-ghost use Rattle.std.specs.Prelude.{◌≡◌, ◌<◌, ◌++◌, ◌∷◌, [], length, MatchOption, OnOk, OnErr};
+ghost use Rattle.std.specs.Prelude.{◌≡◌, ◌<◌, ◌++◌, ◌∷◌, [], length, MatchOption, IfOk, OnOk, OnErr};
 ghost use Rattle.std.specs.Option.{option_copied};
+ghost use Rattle.ug_base.specs.Hands.{IsMoved};
 ghost use Rattle.ug_base.specs.Looks.{front_of};
 
 use crate::halves::Halves;
-use std::alloc::AllocError;
+use std::alloc::{AllocError, Global};
 use ug_rows::IntBox;
 
 /// The last box.
@@ -33,4 +34,23 @@ pub fn split_last(boxes: &mut Vec<IntBox>, halves: Halves) -> Result<(), AllocEr
     boxes.push(first)?;
     boxes[at] = second;
     Ok(())
+}
+
+/// Moves the first box behind other boxes, and gives a copy of it. After an error all boxes are as they were.
+pub fn move_first(
+    alloc: Global,
+    boxes: &mut Vec<IntBox>,
+    others: &mut Vec<IntBox>,
+) -> Result<IntBox, AllocError>
+    requires { 0 < length boxes.old.items }
+    ensures ok { IfOk result (IsMoved boxes.old.items boxes.new.items others.old.items others.new.items) }
+    ensures boxes { OnErr result (boxes.new.items ≡ boxes.old.items) }
+    ensures others { OnErr result (others.new.items ≡ others.old.items) }
+{
+    let first = 0;
+    // All memory is taken before a box is moved.
+    let copy = Vec::from_slice(alloc, boxes[first].as_slice())?;
+    others.reserve(1)?;
+    others.push_reserved(boxes.remove(first));
+    Ok(IntBox::from_vec(copy))
 }

@@ -1,12 +1,14 @@
 //! The base solver of one subproblem: a list of boxes left to search, below one whole box, with a cutoff.
-//! It stands on ug_problem, ug_propagate and ug_branch.
+//! It stands on ug_problem, ug_propagate and ug_branch, and on ug_nodes for its ticket.
 //! A `step` takes the last box left, tightens it, and drops it, answers its one point, or puts its halves in its
-//! place. Every feasible point of the whole box with a value below the cutoff lies in a box left, so with none
-//! left there is no such point; each step leaves less to search, as specs/Points.antt counts it.
+//! place; `hand` gives the first box left to another. Every feasible point of the whole box with a value below the
+//! cutoff lies in a box left or handed, so with neither there is no such point; each step and each box handed leave
+//! less to search, as specs/Points.antt counts it.
 #![tactic(auto)]
 
 mod boxes;
 mod halves;
+mod handed;
 mod look;
 mod lowest;
 mod lows;
@@ -15,5 +17,6 @@ mod task;
 #[cfg(test)]
 mod tests;
 
+pub use handed::Handed;
 pub use step::Step;
 pub use task::Task;

@@ -1,20 +1,23 @@
-ghost use Rattle.std.specs.Prelude.{◌≡◌, ◌↔◌, ◌≤◌, ◌*◌, ◌^◌, [], ◌∷◌, length, Some, IfOk, OnErr, IfSome, IsNone, unsigned_abs};
+ghost use Rattle.std.specs.Prelude.{◌≡◌, ◌↔◌, ◌<◌, ◌≤◌, ◌*◌, ◌^◌, [], ◌∷◌, length, Some, IfOk, OnErr, IfSome, IsNone, unsigned_abs};
 ghost use Rattle.ug_rows.specs.Boxes.{IsBelow};
 ghost use Rattle.ug_rows.specs.Rows.{value_of};
 ghost use Rattle.ug_problem.specs.Instances.{root_of};
 ghost use Rattle.ug_problem.specs.Limits.{IsProblem};
 ghost use Rattle.ug_base.specs.declared.step.Step.TheVariants.{Empty};
-ghost use Rattle.ug_base.specs.Covers.{AreCovered, HasNoGood};
+ghost use Rattle.ug_base.specs.Covers.{AreAllHanded, AreCovered, HasNoGood};
+ghost use Rattle.ug_base.specs.Hands.{DidHand, HandsLess};
 ghost use Rattle.ug_base.specs.Steps.{LeavesLess, TookStep};
 ghost use Rattle.ug_base.specs.Tasks.{AreBelow, IsBound, IsLowest, IsSmall, lesser_of};
 
-use crate::boxes::{drop_last, last_of, split_last};
+use crate::boxes::{drop_last, last_of, move_first, split_last};
+use crate::handed::Handed;
 use crate::look::{Seen, look};
 use crate::lowest::{lesser, lowest_floor};
 use crate::step::Step;
 use std::alloc::{AllocError, Global};
 use std::marker::Model;
 use ug_branch::Params;
+use ug_nodes::Ticket;
 use ug_problem::Problem;
 use ug_rows::{IntBox, Point};
 
@@ -23,10 +26,12 @@ use ug_rows::{IntBox, Point};
 pub struct Task {
     alloc: Global,
     problem: Problem,
+    ticket: Ticket,
     params: Params,
     whole: IntBox,
     cutoff: Option<i128>,
     boxes: Vec<IntBox>,
+    handed: Vec<IntBox>,
 }
 
 impl Model for Task {
@@ -50,10 +55,11 @@ fn cutoff_at(problem: &Problem, point: &Point) -> Option<i128>
 }
 
 impl Task {
-    /// The task with the whole box left. It copies the box.
+    /// The task with the whole box left and none handed. It copies the box.
     pub fn new(
         alloc: Global,
         problem: Problem,
+        ticket: Ticket,
         params: Params,
         whole: IntBox,
         cutoff: Option<i128>,
@@ -62,10 +68,12 @@ impl Task {
         requires cutoff { IsSmall cutoff }
         ensures { IfOk result (λ t. t ≡ record {
           problem = problem;
+          ticket = ticket;
           params = params;
           whole = whole;
           cutoff = cutoff;
           boxes = whole ∷ [];
+          handed = [];
         }) }
     {
         // The problem's type keeps that it is one.
@@ -76,10 +84,12 @@ impl Task {
         Ok(Task {
             alloc,
             problem,
+            ticket,
             params,
             whole,
             cutoff,
             boxes,
+            handed: Vec::new(alloc),
         })
     }
 
@@ -114,6 +124,22 @@ impl Task {
         }
     }
 
+    /// Hands the first box left to another, unless fewer than two are left: it is no longer left here.
+    /// After an error the task is as it was.
+    pub fn hand(&mut self) -> Result<Option<Handed>, AllocError>
+        ensures handed { IfOk result (DidHand self.old self.new) }
+        ensures none { IfOk result (λ given. IsNone given ↔ (length self.old.boxes < 2)) }
+        ensures less { IfOk result (HandsLess self.old self.new) }
+        ensures err { OnErr result (self.new ≡ self.old) }
+    {
+        if self.boxes.len() < 2 {
+            return Ok(None);
+        }
+        let number = self.handed.len() as u64;
+        let area = move_first(self.alloc, &mut self.boxes, &mut self.handed)?;
+        Ok(Some(Handed { number, area }))
+    }
+
     /// Lowers the cutoff to the given one, unless it is below that already. It takes no memory.
     pub fn lower(&mut self, cutoff: i128)
         requires { unsigned_abs cutoff ≤ 2 * 10 ^ 37 }
@@ -126,8 +152,9 @@ impl Task {
     pub fn left(&self) -> u64
         ensures count { result ≡ length self.now.boxes }
         ensures below { AreBelow self.now.whole self.now.boxes }
-        ensures covered { AreCovered self.now.problem self.now.cutoff self.now.whole self.now.boxes }
-        ensures ended { result ≡ 0 → HasNoGood self.now.problem self.now.cutoff self.now.whole }
+        ensures covered { AreCovered self.now.problem self.now.cutoff self.now.whole self.now.boxes self.now.handed }
+        ensures ended { result ≡ 0 → AreAllHanded self.now.problem self.now.cutoff self.now.whole self.now.handed }
+        ensures alone { result ≡ 0 → self.now.handed ≡ [] → HasNoGood self.now.problem self.now.cutoff self.now.whole }
     {
         self.boxes.len() as u64
     }
@@ -142,12 +169,27 @@ impl Task {
         lowest_floor(&self.problem, self.boxes.as_slice())
     }
 
+    /// The boxes handed, in the order in which they were handed. It takes no memory.
+    pub fn handed(&self) -> &[IntBox]
+        ensures value { result.now ≡ self.now.handed }
+        ensures below { AreBelow self.now.whole self.now.handed }
+    {
+        self.handed.as_slice()
+    }
+
     /// The problem that is solved.
     pub fn problem(&self) -> &Problem
         ensures value { result.now ≡ self.now.problem }
         ensures problem { IsProblem self.now.problem }
     {
         &self.problem
+    }
+
+    /// What the task was given with.
+    pub fn ticket(&self) -> Ticket
+        ensures { result ≡ self.now.ticket }
+    {
+        self.ticket
     }
 
     /// The box that is searched.

@@ -5,8 +5,9 @@ use crate::task::Task;
 use std::alloc::{AllocError, Global};
 use ug_branch::Params;
 use ug_lists::{Items, Text};
+use ug_nodes::Ticket;
 use ug_problem::{Column, Columns, NamedRow, NamedRows, Problem, ProblemError};
-use ug_rows::{IntBox, Objective, Row, Term, Terms, below};
+use ug_rows::{IntBox, Interval, Objective, Row, Term, Terms, below};
 
 // The sum of columns 0 and 1.
 fn both(alloc: Global) -> Result<Terms, AllocError>
@@ -92,7 +93,8 @@ fn task(alloc: Global, number: u8) -> Option<Task>
     if !below(&whole, problem.root()) {
         return None;
     }
-    Task::new(alloc, problem, Params::new(number), whole, None).ok()
+    let ticket = Ticket { run: 1, number: 3 };
+    Task::new(alloc, problem, ticket, Params::new(number), whole, None).ok()
 }
 
 // A letter for what a step did, where a point that is found is (0, 5).
@@ -165,4 +167,33 @@ fn lowers_the_cutoff(rt: HostRuntime) {
     let step = task.step();
     assert!(rt; step.is_ok_and(|step| letter(&step) == b'P'));
     assert_eq!(rt; task.left(), 0);
+}
+
+#[test]
+fn hands_the_first_boxes(rt: HostRuntime) {
+    let Some(mut task) = task(rt.alloc(), 0) else {
+        panic!(rt; "no memory");
+    };
+    for _ in 0..2 {
+        let step = task.step();
+        assert!(rt; step.is_ok_and(|step| letter(&step) == b'S'));
+    }
+    let boxes = [
+        [Interval { low: 4, high: 7 }, Interval { low: 0, high: 7 }],
+        [Interval { low: 2, high: 3 }, Interval { low: 2, high: 7 }],
+    ];
+    for k in 0..2 {
+        let Ok(Some(given)) = task.hand() else {
+            panic!(rt; "no box {k}");
+        };
+        assert_eq!(rt; given.number, k as u64);
+        assert_eq!(rt; given.area.as_slice(), boxes[k].as_slice());
+    }
+    assert!(rt; task.hand().is_ok_and(|given| given.is_none()));
+    assert_eq!(rt; task.left(), 1);
+    assert_eq!(rt; task.handed().len(), 2);
+    for (area, sides) in task.handed().iter().zip(boxes.iter()) {
+        assert_eq!(rt; area.as_slice(), sides.as_slice());
+    }
+    assert_eq!(rt; task.ticket(), Ticket { run: 1, number: 3 });
 }

@@ -1,12 +1,10 @@
 -- Steps of the task of a whole problem.
-use Rattle.std.proofs.Common.{◌≡◌, ◌≤ℤ◌, ◌<ℤ◌, ℤ, List, Option, Some, None, IfSome, MatchOption, refl, sym, ap, ◌∙◌, subst}
+use Rattle.std.proofs.Common.{◌≡◌, ℤ, List, [], Option, Some, None, IfSome, ap, ◌∙◌, subst}
 use Rattle.std.specs.Option.{option_map}
 use Rattle.std.proofs.lemmas.Int.{by_lt_z}
 use Rattle.ug_rows.specs.Rows.{value_of}
 use Rattle.ug_problem.specs.Instances.{Instance, root_of}
 use Rattle.ug_problem.specs.Feasible.{Feasible}
-use Rattle.ug_problem.specs.Right.{IsOptimal}
-use Rattle.ug_propagate.specs.Claims.{IsGood}
 use Rattle.ug_base.specs.Covers.{HasNoGood}
 use Rattle.ug_base.specs.Tasks.{TaskState}
 use Rattle.ug_base.specs.Steps.{IsPruned, IsFound, IsSplit, IsEnded}
@@ -17,6 +15,7 @@ same_way : (p : Instance) (best : Option (List ℤ)) (old new : TaskState) → n
 same_way p best old new e h = record {
   problem = ap (λ (t : TaskState). t.problem) e ∙ h.problem;
   whole = ap (λ (t : TaskState). t.whole) e ∙ h.whole;
+  handed = ap (λ (t : TaskState). t.handed) e ∙ h.handed;
   incumbent = h.incumbent;
   cutoff = ap (λ (t : TaskState). t.cutoff) e ∙ h.cutoff;
 }
@@ -28,6 +27,7 @@ pub split_way : (p : Instance) (best : Option (List ℤ)) (old new : TaskState) 
 split_way p best old new s h = record {
   problem = ap (λ (t : TaskState). t.problem) s.same ∙ h.problem;
   whole = ap (λ (t : TaskState). t.whole) s.same ∙ h.whole;
+  handed = ap (λ (t : TaskState). t.handed) s.same ∙ h.handed;
   incumbent = h.incumbent;
   cutoff = ap (λ (t : TaskState). t.cutoff) s.same ∙ h.cutoff;
 }
@@ -36,6 +36,7 @@ pub found_way : (p : Instance) (best : Option (List ℤ)) (old new : TaskState) 
 found_way p best old new x s h = record {
   problem = ap (λ (t : TaskState). t.problem) s.same ∙ h.problem;
   whole = ap (λ (t : TaskState). t.whole) s.same ∙ h.whole;
+  handed = ap (λ (t : TaskState). t.handed) s.same ∙ h.handed;
   incumbent = subst (λ (q : Instance). Feasible q x) h.problem s.good.feasible;
   cutoff = ap (λ (t : TaskState). t.cutoff) s.same ∙ ap (λ (q : Instance). Some (value_of q.objective x)) h.problem;
 }
@@ -53,7 +54,8 @@ unbeaten p (Some x) f n = record {
 pub ended_way : (p : Instance) (best : Option (List ℤ)) (old new : TaskState) → IsEnded old new → IsUnderWay p best old → IsBest p best
 ended_way p best old new s h =
     let same : new ≡ old = s.same in
-    let none : HasNoGood old.problem old.cutoff old.whole = subst (λ (t : TaskState). HasNoGood t.problem t.cutoff t.whole) same s.searched in
+    let unhanded : new.handed ≡ [] = ap (λ (t : TaskState). t.handed) same ∙ h.handed in
+    let none : HasNoGood old.problem old.cutoff old.whole = subst (λ (t : TaskState). HasNoGood t.problem t.cutoff t.whole) same (s.alone unhanded) in
     unbeaten p best h.incumbent
     (subst (λ (w : List _). HasNoGood p (option_map (value_of p.objective) best) w) h.whole
     (subst (λ (c : Option ℤ). HasNoGood p c old.whole) h.cutoff

@@ -1,6 +1,6 @@
 //! The search: one task of the whole problem, stepped until no box is left.
 
-ghost use Rattle.std.specs.Prelude.{◌≡◌, IfOk, None};
+ghost use Rattle.std.specs.Prelude.{◌≡◌, [], IfOk, None};
 ghost use Rattle.ug_problem.specs.Instances.{root_of};
 ghost use Rattle.ug_problem.specs.Right.{Right};
 ghost use Rattle.ug_top.specs.Search.{IsBest};
@@ -8,6 +8,7 @@ ghost use Rattle.ug_top.specs.Search.{IsBest};
 use std::alloc::{AllocError, Global};
 use ug_base::{Step, Task};
 use ug_branch::Params;
+use ug_nodes::Ticket;
 use ug_problem::{Answer, Problem};
 use ug_rows::{IntBox, Point};
 
@@ -23,15 +24,18 @@ fn root_task(alloc: Global, problem: Problem) -> Result<Task, AllocError>
     ensures problem { IfOk result (λ t. t.problem ≡ problem) }
     ensures whole { IfOk result (λ t. t.whole ≡ root_of problem) }
     ensures cutoff { IfOk result (λ t. t.cutoff ≡ None) }
+    ensures handed { IfOk result (λ t. t.handed ≡ []) }
 {
+    let ticket = Ticket { run: 1, number: 1 };
     let whole = IntBox::from_vec(Vec::from_slice(alloc, problem.root().as_slice())?);
-    Task::new(alloc, problem, Params::new(0), whole, None)
+    Task::new(alloc, problem, ticket, Params::new(0), whole, None)
 }
 
 // Steps until no box is left. The best point of the whole box, if it has a feasible one.
 fn search(task: &mut Task) -> Result<Option<Point>, AllocError>
     requires whole { task.old.whole ≡ root_of task.old.problem }
     requires cutoff { task.old.cutoff ≡ None }
+    requires handed { task.old.handed ≡ [] }
     ensures problem { task.new.problem ≡ task.old.problem }
     ensures best { IfOk result (IsBest task.old.problem) }
 {

@@ -1,0 +1,36 @@
+-- Handing keeps what every task is.
+use Rattle.std.proofs.Common.{inl, inr, List, [], ◌∷◌, sym, subst}
+use Rattle.std.proofs.lemmas.List.Elements.{All-append, All-cons, All-head, All-nil, All-tail}
+use Rattle.ug_rows.specs.declared.area.Interval.{Interval}
+use Rattle.ug_rows.specs.Boxes.{IsBelow}
+use Rattle.ug_base.specs.Covers.{AreCovered, IsInOne}
+use Rattle.ug_base.specs.Hands.{IsMoved}
+use Rattle.ug_base.specs.Tasks.{AreBelow, IsTask, TaskState}
+use Rattle.ug_base.proofs.LastBox.{in_one_behind, in_one_front}
+
+-- a point of the first box left is in a box handed after it
+pub handed_covered : (t : TaskState) (boxes handed : List (List Interval)) (area : List Interval) → IsTask t → IsMoved t.boxes boxes t.handed handed area
+    → AreCovered t.problem t.cutoff t.whole boxes handed
+handed_covered t boxes handed area task m x inside good = elim (task.covered x inside good) [
+  | inl a ↦ elim (subst (λ bs. IsInOne bs x) m.first a) [
+    | inl first ↦ inr (subst (λ bs. IsInOne bs x) (sym m.last) (in_one_behind t.handed (area ∷ []) x (inl first)))
+    | inr rest ↦ inl rest
+  ]
+  | inr b ↦ inr (subst (λ bs. IsInOne bs x) (sym m.last) (in_one_front t.handed (area ∷ []) x b))
+]
+
+-- with the first box left moved to the boxes handed
+pub handed_task : (t : TaskState) (boxes handed : List (List Interval)) (area : List Interval) → IsTask t → IsMoved t.boxes boxes t.handed handed area
+    → IsTask (record t { boxes = boxes; handed = handed })
+handed_task t boxes handed area task m =
+    let P : List Interval → Type 0 = λ (b : List Interval). IsBelow b t.whole in
+    let all : AreBelow t.whole (area ∷ boxes) = subst (AreBelow t.whole) m.first task.below in
+    record {
+      problem = task.problem;
+      whole = task.whole;
+      cutoff = task.cutoff;
+      below = All-tail P area boxes all;
+      handed_below = subst (AreBelow t.whole) (sym m.last)
+          (All-append P t.handed (area ∷ []) task.handed_below (All-cons P area [] (All-head P area boxes all) (All-nil P)));
+      covered = handed_covered t boxes handed area task m;
+    }

@@ -1,0 +1,34 @@
+-- What handing does: the first of the boxes left is no longer left, and is the last of the boxes handed.
+use Rattle.std.specs.Prelude.{◌≡◌, ◌<◌, ◌≤◌, List, [], ◌∷◌, ◌++◌, length, Option, Some, None}
+use Rattle.ug_rows.specs.declared.area.Interval.{Interval}
+use Rattle.ug_base.specs.declared.handed.Handed.{Handed}
+use Rattle.ug_base.specs.Points.{measure_of}
+use Rattle.ug_base.specs.Tasks.{TaskState}
+
+-- the first of a list of boxes is moved behind the others
+pub record IsMoved (boxes_old boxes_new others_old others_new : List (List Interval)) (area : List Interval) : Type 0 where
+  pub first : boxes_old ≡ area ∷ boxes_new
+  pub last : others_new ≡ others_old ++ area ∷ []
+
+-- of two boxes left or more the first is handed, and its number is its place among the boxes handed; nothing else changed
+pub record IsHanded (old new : TaskState) (given : Handed) : Type 0 where
+  pub two : 2 ≤ length old.boxes
+  pub boxes : old.boxes ≡ given.area ∷ new.boxes
+  pub handed : new.handed ≡ old.handed ++ given.area ∷ []
+  pub number : given.number ≡ length old.handed
+  pub same : new ≡ record old { boxes = new.boxes; handed = new.handed }
+
+-- fewer than two boxes were left; nothing changed
+pub record IsNoneHanded (old new : TaskState) : Type 0 where
+  pub few : length old.boxes < 2
+  pub same : new ≡ old
+
+-- what handing with this answer did
+abbrev pub DidHand : TaskState → TaskState → Option Handed → Type 0
+DidHand old new None = IsNoneHanded old new
+DidHand old new (Some given) = IsHanded old new given
+
+-- a box handed leaves less to search
+abbrev pub HandsLess : TaskState → TaskState → Option Handed → Type 0
+HandsLess old new None = Unit {0}
+HandsLess old new (Some given) = measure_of new.boxes < measure_of old.boxes
