@@ -1,0 +1,5 @@
+pub mod Lines
+pub mod Words
+pub mod Kinds
+pub mod Shapes
+pub mod Shaped
