@@ -1,3 +1,5 @@
+pub mod Decimals
+pub mod Fractions
 pub mod Instances
 pub mod Feasible
 pub mod Limits

@@ -7,6 +7,7 @@
 
 mod answer;
 mod column;
+mod decimal;
 mod error;
 mod feasible;
 mod limits;
@@ -17,6 +18,9 @@ mod tests;
 
 pub use answer::{Answer, Broken};
 pub use column::{Column, Columns, NamedRow, NamedRows};
+pub use decimal::{
+    Decimal, ceiling_is_least, floor_is_greatest, reads_these_words, scales_from_its_places,
+};
 pub use error::ProblemError;
 pub use print::prints_one_text;
 pub use problem::Problem;

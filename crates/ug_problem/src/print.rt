@@ -8,7 +8,7 @@ use ug_rows::Objective;
 
 // The number `digits` / 10^`places`.
 #[derive(Clone, Copy, Debug)]
-struct Decimal {
+struct Lowest {
     digits: u128,
     places: u8,
 }
@@ -22,7 +22,7 @@ struct Parts {
 
 // The number `number` / 10^`scale` in lowest terms.
 #[tactic(auto, using(crate::proofs::Printing::one_place_less))]
-fn in_lowest_terms(number: u128, scale: u8) -> Decimal
+fn in_lowest_terms(number: u128, scale: u8) -> Lowest
     ensures { IsLowest scale number result.digits result.places }
 {
     let mut digits = number;
@@ -31,10 +31,10 @@ fn in_lowest_terms(number: u128, scale: u8) -> Decimal
         digits /= 10;
         places -= 1;
     }
-    Decimal { digits, places }
+    Lowest { digits, places }
 }
 
-fn split(alloc: Global, decimal: Decimal) -> Result<Parts, AllocError>
+fn split(alloc: Global, decimal: Lowest) -> Result<Parts, AllocError>
     ensures whole { IfOk result (λ parts. parts.whole ≡ decimal.digits / 10 ^ decimal.places) }
     ensures fraction { IfOk result (λ parts. AreDigitsOf decimal.places (decimal.digits % 10 ^ decimal.places) parts.fraction.items) }
 {

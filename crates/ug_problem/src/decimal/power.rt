@@ -1,0 +1,19 @@
+ghost use Rattle.std.specs.Prelude.{◌*◌, ◌<◌, ◌^◌, SomeIff};
+
+// The number times 10^`power`, if it has at most 38 digits.
+pub fn times_power(number: u128, power: u32) -> Option<u128>
+    requires { number < 10 ^ 38 }
+    ensures { SomeIff result (number * 10 ^ power < 10 ^ 38) (number * 10 ^ power) }
+{
+    if number == 0 {
+        return Some(0);
+    }
+    if power > 37 {
+        return None;
+    }
+    if number < 10u128.pow(38 - power) {
+        Some(number * 10u128.pow(power))
+    } else {
+        None
+    }
+}
