@@ -1,48 +1,68 @@
-ghost use Rattle.std.specs.Prelude.{◌≡◌, ◌+◌, ◌<◌, ◌^◌, [], ◌∷◌, ◌++◌, ◌↔◌, length, Contains, slice_set, map, MatchOption, Some, IsNone, IfSome, IfOk, OnOk};
-ghost use Rattle.std.specs.List.{zip};
-ghost use Rattle.ug_mps.specs.Finish.{made_column};
-ghost use Rattle.ug_mps.specs.Unbounded.{AllHave, IsFirstWithout, FindsUnbounded};
+ghost use Rattle.std.specs.Prelude.{◌≡◌, ◌+◌, ◌<◌, ◌^◌, [], ◌∷◌, ◌++◌, ◌↔◌, length, Contains, slice_set, IsNone, IfSome, OnOk};
+ghost use Rattle.ug_mps.specs.Columns.{new_column, column_at, with_change, FindsPlace};
+ghost use Rattle.ug_mps.specs.History.{low_after, high_after};
 ghost use Rattle.ug_mps.specs.Names.{StandsAt, AreDistinct};
-ghost use Rattle.ug_mps.specs.Columns.{new_column, column_at, PlacesColumn};
 
-use crate::fault::{Kind, MpsFault};
+use crate::bound::{Bound, Change};
 use crate::names::Names;
 use std::alloc::{AllocError, Global};
 use std::marker::Model;
-use ug_lists::Text;
-use ug_problem::Column;
 
 /// What a column has so far.
 #[derive(Clone, Copy, Debug)]
 pub struct ColumnDraft {
     /// The line in which it begins.
     pub line: u64,
+    /// It is integer where it begins, or a bound made it so.
+    pub integer: bool,
+    /// The lower bound, if it was set.
+    pub low: Option<Bound>,
     /// The upper bound, if it was set.
-    pub upper: Option<i32>,
+    pub high: Option<Bound>,
 }
 
-// The place of the first column without an upper bound.
-fn first_without(drafts: &[ColumnDraft]) -> Option<usize>
-    ensures { MatchOption result
-        (AllHave drafts.now (length drafts.now))
-        (IsFirstWithout drafts.now) }
+/// The place of the column of a line, and whether it begins there.
+#[derive(Clone, Copy, Debug)]
+pub struct Place {
+    pub at: u32,
+    pub new: bool,
+}
+
+// The lower bound after a change.
+fn low_after(change: Change, old: Option<Bound>) -> Option<Bound>
+    ensures { result ≡ low_after change old }
 {
-    for (i, draft) in drafts.iter().enumerate() {
-        if draft.upper.is_none() {
-            return Some(i);
+    match change.low {
+        Some(low) => Some(low),
+        None => {
+            if change.falls && old.is_none() {
+                Some(Bound::Infinite)
+            } else {
+                old
+            }
         }
     }
-    None
 }
 
-// A column of the problem.
-fn column_of(name: Text, draft: ColumnDraft) -> Column
-    ensures { result ≡ made_column (name, draft) }
+// The upper bound after a change.
+fn high_after(change: Change, old: Option<Bound>) -> Option<Bound>
+    ensures { result ≡ high_after change old }
 {
-    Column {
-        name,
-        low: 0,
-        high: draft.upper.unwrap_or(0),
+    match change.high {
+        Some(high) => Some(high),
+        None => old,
+    }
+}
+
+// A column after a change.
+fn changed(draft: ColumnDraft, change: Change) -> ColumnDraft
+    ensures { result ≡ with_change change draft }
+{
+    ColumnDraft {
+        line: draft.line,
+        integer: draft.integer || change.integer,
+        low: low_after(change, draft.low),
+        high: high_after(change, draft.high),
     }
 }
 
@@ -92,16 +112,49 @@ impl Columns {
         self.names.find(name)
     }
 
+    /// The place of the column for one more line of it: the last column goes on, and a new one stands behind it. It is
+    /// `None` where the column began before the last one.
+    pub fn place(&self, name: &[u8]) -> Option<Place>
+        requires { length self.now.names < 2 ^ 32 }
+        ensures { FindsPlace name.now self.now result }
+    {
+        let count = self.len();
+        match self.find(name) {
+            Some(at) => {
+                if at as usize + 1 == count {
+                    Some(Place { at, new: false })
+                } else {
+                    None
+                }
+            }
+            None => Some(Place {
+                at: count as u32,
+                new: true,
+            }),
+        }
+    }
+
     /// Adds a column that begins in a line.
-    pub fn add(&mut self, alloc: Global, name: &[u8], line: u64) -> Result<(), AllocError>
+    pub fn add(
+        &mut self,
+        alloc: Global,
+        name: &[u8],
+        line: u64,
+        integer: bool,
+    ) -> Result<(), AllocError>
         requires new { ¬ Contains self.old.names name.now }
         requires room { length self.old.names + 1 < 2 ^ 32 }
         ensures { OnOk result (self.new ≡ record {
           names = self.old.names ++ name.now ∷ [];
-          drafts = self.old.drafts ++ new_column line ∷ [];
+          drafts = self.old.drafts ++ new_column line integer ∷ [];
         }) }
     {
-        self.drafts.push(ColumnDraft { line, upper: None })?;
+        self.drafts.push(ColumnDraft {
+            line,
+            integer,
+            low: None,
+            high: None,
+        })?;
         if self.names.add(alloc, name).is_err() {
             self.drafts.pop();
             return Err(AllocError);
@@ -109,82 +162,14 @@ impl Columns {
         Ok(())
     }
 
-    /// Gives a column its upper bound.
-    pub fn set_upper(&mut self, at: u32, upper: i32)
+    /// Changes the bounds of a column.
+    pub fn change(&mut self, at: u32, change: Change)
         requires { at < length self.old.drafts }
         ensures { self.new ≡ record self.old {
-          drafts = slice_set self.old.drafts at (record (column_at self.old.drafts at) { upper = Some upper });
+          drafts = slice_set self.old.drafts at (with_change change (column_at self.old.drafts at));
         } }
     {
-        self.drafts[at as usize].upper = Some(upper);
-    }
-
-    /// The place of a column for one more line of it: the last column goes on behind a line of it, and a new one is
-    /// added. It is `None` where the line may not follow.
-    pub fn go_on(
-        &mut self,
-        alloc: Global,
-        name: &[u8],
-        after_column: bool,
-        line: u64,
-    ) -> Result<Option<u32>, AllocError>
-        ensures { IfOk result (PlacesColumn name.now after_column line self.old self.new) }
-    {
-        let count = self.len();
-        match self.find(name) {
-            Some(at) => {
-                if after_column && at as usize + 1 == count {
-                    Ok(Some(at))
-                } else {
-                    Ok(None)
-                }
-            }
-            None => {
-                if count >= 10_000 {
-                    return Ok(None);
-                }
-                self.add(alloc, name, line)?;
-                Ok(Some(count as u32))
-            }
-        }
-    }
-
-    // The place of the first column without an upper bound.
-    fn first_unbounded(&self) -> Option<usize>
-        ensures first { MatchOption result
-            (AllHave self.now.drafts (length self.now.drafts))
-            (IsFirstWithout self.now.drafts) }
-        ensures same { length self.now.drafts ≡ length self.now.names }
-    {
-        let _ = &self.names;
-        first_without(self.drafts.as_slice())
-    }
-
-    /// The fault of the first column without an upper bound, if there is one.
-    pub fn fault(&self, alloc: Global) -> Result<Option<MpsFault>, AllocError>
-        ensures { IfOk result (FindsUnbounded self.now) }
-    {
-        let Some(at) = self.first_unbounded() else {
-            return Ok(None);
-        };
-        let names = self.names.as_slice();
-        Ok(Some(MpsFault {
-            line: self.drafts[at].line,
-            kind: Kind::Unbounded,
-            word: Some(Text::from_slice(alloc, names[at].as_slice())?),
-        }))
-    }
-
-    /// The columns of the problem.
-    pub fn into_columns(self, alloc: Global) -> Result<Vec<Column>, AllocError>
-        ensures { IfOk result (λ v. v.items ≡ map made_column (zip self.names self.drafts)) }
-    {
-        let Columns { names, drafts } = self;
-        names
-            .into_vec()
-            .into_iter()
-            .zip(drafts)
-            .map(|(name, draft)| column_of(name, draft))
-            .collect(alloc)
+        let draft = self.drafts[at as usize];
+        self.drafts[at as usize] = changed(draft, change);
     }
 }

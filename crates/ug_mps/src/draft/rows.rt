@@ -1,59 +1,99 @@
-ghost use Rattle.std.specs.Prelude.{◌≡◌, ◌+◌, ◌<◌, ◌^◌, [], ◌∷◌, ◌++◌, ◌↔◌, length, map, filter, All, Contains, slice_set, IsNone, IsTrue, IfSome, IfOk, OnOk};
-ghost use Rattle.std.specs.List.{zip};
-ghost use Rattle.ug_mps.specs.Finish.{made_row, is_side_row, made_objective, HasSmallTerms};
+ghost use Rattle.std.specs.Prelude.{◌≡◌, ◌+◌, ◌<◌, ◌^◌, [], ◌∷◌, ◌++◌, ◌↔◌, length, Contains, slice_set, IsNone, IfNone, IfSome, OnOk, MatchOption, MatchResult};
+ghost use Rattle.std.specs.Option.{option_map};
+ghost use Rattle.ug_lines.specs.Shaped.{pairs_shaped};
+ghost use Rattle.ug_mps.specs.Faults.{rows_in};
 ghost use Rattle.ug_mps.specs.Names.{StandsAt, AreDistinct};
-ghost use Rattle.ug_mps.specs.History.{is_objective};
-ghost use Rattle.ug_mps.specs.RowSteps.{new_row, with_coefficient, with_side, row_at, is_place, fits_rows, PutsCoefficient, PutsSide, PutsCoefficients, PutsSides};
-ghost use Rattle.ug_mps.specs.Said.{pairs_said};
+ghost use Rattle.ug_mps.specs.Numbered.{pairs_said};
+ghost use Rattle.ug_mps.specs.RowSteps.{new_row, row_at, with_factor, with_part, has_part, places_in, AreAt, first_missing, FindsRepeated, PutsPairs, rows_named};
 
-use crate::draft::made::{constant_of, no_objective, row_of, signed_terms};
 use crate::names::Names;
-use crate::said::{NamedNumber, NamedNumbers};
-use crate::section::RowKind;
+use crate::pairs::NamedNumbers;
+use crate::role::Role;
 use std::alloc::{AllocError, Global};
 use std::marker::Model;
-use std::mem;
-use ug_problem::NamedRow;
-use ug_rows::{Objective, Term, Terms};
+use ug_lines::NamedWords;
+use ug_lists::Items;
+use ug_problem::Decimal;
 
-// The number of a pair.
-fn number_of(pair: &NamedNumber<'_>) -> i64
-    ensures { result ≡ pair.now.number }
-{
-    pair.number
-}
-
-// Whether a row of this kind is the objective.
-fn is_objective(kind: RowKind) -> bool
-    ensures { result ≡ is_objective kind }
-{
-    match kind {
-        RowKind::Objective => true,
-        _ => false,
-    }
+/// A column's place, and the number with which a row has it.
+#[derive(Clone, Copy, Debug)]
+pub struct Factor {
+    pub column: u32,
+    pub number: Decimal,
 }
 
 /// What a row has so far.
 #[derive(Debug, Drop)]
 pub struct RowDraft {
-    pub kind: RowKind,
-    /// The terms whose factor is not 0.
-    pub terms: Terms,
+    /// The line that names it.
+    pub line: u64,
+    pub role: Role,
+    /// The factors that are not 0.
+    pub terms: Items<Factor>,
     /// The right-hand side, if it was given.
-    pub side: Option<i64>,
+    pub side: Option<Decimal>,
+    /// The range, if it was given.
+    pub range: Option<Decimal>,
     /// The place of the last column that has a coefficient of the row, 0 or not.
     pub last: Option<u32>,
 }
 
+/// What pairs give their rows.
+#[derive(Clone, Copy, Debug)]
+pub enum Part {
+    /// A coefficient of the column at a place.
+    Coefficient(u32),
+    /// A right-hand side.
+    Side,
+    /// A range.
+    Range,
+}
+
+/// The places of one or two rows.
+#[derive(Clone, Copy, Debug)]
+pub struct Places {
+    pub first: u32,
+    pub second: Option<u32>,
+}
+
 impl RowDraft {
-    /// Whether the row has a coefficient in the column at a place, which no later column follows.
-    pub fn is_in(&self, column: u32) -> bool
-        ensures { result ≡ is_place self.now.last column }
+    /// Whether the row has the part; of the columns none comes behind the one asked for.
+    pub fn has(&self, part: Part) -> bool
+        ensures { result ≡ has_part part self.now }
     {
-        match self.last {
-            Some(last) => last == column,
-            None => false,
+        match part {
+            Part::Coefficient(column) => match self.last {
+                Some(last) => last == column,
+                None => false,
+            },
+            Part::Side => self.side.is_some(),
+            Part::Range => self.range.is_some(),
         }
+    }
+
+    // Adds a factor, if it is not 0.
+    fn add_factor(&mut self, column: u32, number: Decimal) -> Result<(), AllocError>
+        ensures { OnOk result (self.new ≡ record self.old { terms = with_factor column number self.old.terms }) }
+    {
+        if number.digits != 0 {
+            self.terms.push(Factor { column, number })?;
+        }
+        Ok(())
+    }
+
+    /// Gives the row the part.
+    pub fn put(&mut self, part: Part, number: Decimal) -> Result<(), AllocError>
+        ensures { OnOk result (self.new ≡ with_part part number self.old) }
+    {
+        match part {
+            Part::Coefficient(column) => {
+                self.add_factor(column, number)?;
+                self.last = Some(column);
+            }
+            Part::Side => self.side = Some(number),
+            Part::Range => self.range = Some(number),
+        }
+        Ok(())
     }
 }
 
@@ -112,18 +152,26 @@ impl Rows {
     }
 
     /// Adds a row.
-    pub fn add(&mut self, alloc: Global, kind: RowKind, name: &[u8]) -> Result<(), AllocError>
+    pub fn add(
+        &mut self,
+        alloc: Global,
+        line: u64,
+        role: Role,
+        name: &[u8],
+    ) -> Result<(), AllocError>
         requires new { ¬ Contains self.old.names name.now }
         requires room { length self.old.names + 1 < 2 ^ 32 }
         ensures { OnOk result (self.new ≡ record {
           names = self.old.names ++ name.now ∷ [];
-          drafts = self.old.drafts ++ new_row kind ∷ [];
+          drafts = self.old.drafts ++ new_row line role ∷ [];
         }) }
     {
         let draft = RowDraft {
-            kind,
-            terms: Terms::new(alloc),
+            line,
+            role,
+            terms: Items::new(alloc),
             side: None,
+            range: None,
             last: None,
         };
         self.drafts.push(draft)?;
@@ -134,162 +182,80 @@ impl Rows {
         Ok(())
     }
 
-    /// Adds a coefficient of a row in the column at a place.
-    pub fn add_coefficient(&mut self, at: u32, column: u32, number: i64) -> Result<(), AllocError>
+    /// Gives a row a part.
+    pub fn put(&mut self, at: u32, part: Part, number: Decimal) -> Result<(), AllocError>
         requires { at < length self.old.drafts }
         ensures { OnOk result (self.new ≡ record self.old {
-          drafts = slice_set self.old.drafts at (with_coefficient column number (row_at self.old.drafts at));
+          drafts = slice_set self.old.drafts at (with_part part number (row_at self.old.drafts at));
         }) }
     {
-        let row = &mut self.drafts[at as usize];
-        row.last = Some(column);
-        if number != 0 {
-            let factor = i128::from(number);
-            row.terms.push(Term { column, factor })?;
+        self.drafts[at as usize].put(part, number)
+    }
+
+    /// The places of the rows that the pairs name, or the first name that is none of a row.
+    pub fn look<'a>(&self, pairs: &NamedWords<'a>) -> Result<Places, &'a [u8]>
+        ensures value { MatchResult result
+            (λ places. (first_missing self.now.names (rows_in (pairs_shaped pairs.now)) ≡ None)
+                × AreAt self.now.names (rows_in (pairs_shaped pairs.now)) (places_in places))
+            (λ word. first_missing self.now.names (rows_in (pairs_shaped pairs.now)) ≡ Some word.now) }
+    {
+        let Some(first) = self.find(pairs.first.row) else {
+            return Err(pairs.first.row);
+        };
+        let Some(pair) = &pairs.second else {
+            return Ok(Places {
+                first,
+                second: None,
+            });
+        };
+        match self.find(pair.row) {
+            Some(place) => Ok(Places {
+                first,
+                second: Some(place),
+            }),
+            None => Err(pair.row),
+        }
+    }
+
+    /// The first row of the pairs, which stand at the places, that has the part, or that is named twice.
+    pub fn repeated<'a>(
+        &self,
+        part: Part,
+        places: Places,
+        pairs: &NamedWords<'a>,
+    ) -> Option<&'a [u8]>
+        requires { AreAt self.now.names (rows_in (pairs_shaped pairs.now)) (places_in places) }
+        ensures { FindsRepeated part (rows_in (pairs_shaped pairs.now)) (places_in places) self.now result }
+    {
+        if self.get(places.first).has(part) {
+            return Some(pairs.first.row);
+        }
+        match (places.second, &pairs.second) {
+            (Some(place), Some(pair)) => {
+                if place == places.first || self.get(place).has(part) {
+                    Some(pair.row)
+                } else {
+                    None
+                }
+            }
+            _ => None,
+        }
+    }
+
+    /// Gives the rows of the pairs, which stand at the places, the part.
+    pub fn put_pairs(
+        &mut self,
+        part: Part,
+        places: Places,
+        pairs: &NamedNumbers<'_>,
+    ) -> Result<(), AllocError>
+        requires { AreAt self.old.names (rows_named (pairs_said pairs.now)) (places_in places) }
+        ensures { OnOk result (PutsPairs part (pairs_said pairs.now) (places_in places) self.old self.new) }
+    {
+        self.put(places.first, part, pairs.first.number)?;
+        if let (Some(place), Some(pair)) = (places.second, &pairs.second) {
+            self.put(place, part, pair.number)?;
         }
         Ok(())
-    }
-
-    /// Gives a row its right-hand side.
-    pub fn set_side(&mut self, at: u32, number: i64)
-        requires { at < length self.old.drafts }
-        ensures { self.new ≡ record self.old {
-          drafts = slice_set self.old.drafts at (with_side number (row_at self.old.drafts at));
-        } }
-    {
-        let row = &mut self.drafts[at as usize];
-        row.side = Some(number);
-    }
-
-    /// Takes a number as a coefficient of a row in the column at a place, if the row is there and has none in it.
-    pub fn put_coefficient(
-        &mut self,
-        column: u32,
-        name: &[u8],
-        number: i64,
-    ) -> Result<bool, AllocError>
-        ensures { IfOk result (PutsCoefficient column (record { row = name.now; number = number }) self.old self.new) }
-    {
-        let Some(at) = self.find(name) else {
-            return Ok(false);
-        };
-        if self.get(at).is_in(column) {
-            return Ok(false);
-        }
-        self.add_coefficient(at, column, number)?;
-        Ok(true)
-    }
-
-    /// Takes a number as the right-hand side of a row, if the row is there and has none.
-    pub fn put_side(&mut self, name: &[u8], number: i64) -> bool
-        ensures { PutsSide (record { row = name.now; number = number }) self.old self.new result }
-    {
-        let Some(at) = self.find(name) else {
-            return false;
-        };
-        if self.get(at).side.is_some() {
-            return false;
-        }
-        self.set_side(at, number);
-        true
-    }
-
-    /// Takes one or two coefficients of the column at a place, if they fit.
-    pub fn put_coefficients(
-        &mut self,
-        column: u32,
-        pairs: &NamedNumbers<'_>,
-    ) -> Result<bool, AllocError>
-        ensures { IfOk result (PutsCoefficients column (pairs_said pairs.now) self.old self.new) }
-    {
-        let number = number_of(&pairs.first);
-        if !self.put_coefficient(column, pairs.first.row, number)? {
-            return Ok(false);
-        }
-        let Some(second) = &pairs.second else {
-            return Ok(true);
-        };
-        let number = number_of(second);
-        self.put_coefficient(column, second.row, number)
-    }
-
-    /// Takes one or two right-hand sides, if they fit.
-    pub fn put_sides(&mut self, pairs: &NamedNumbers<'_>) -> bool
-        ensures { PutsSides (pairs_said pairs.now) self.old self.new result }
-    {
-        let number = number_of(&pairs.first);
-        if !self.put_side(pairs.first.row, number) {
-            return false;
-        }
-        let Some(second) = &pairs.second else {
-            return true;
-        };
-        let number = number_of(second);
-        self.put_side(second.row, number)
-    }
-
-    /// The number of a pair.
-    fn number_of(pair: &NamedNumber<'_>) -> i64
-        ensures { result ≡ pair.now.number }
-    {
-        pair.number
-    }
-
-    // Whether a row of this kind and name may be added.
-    pub fn may_add(&self, kind: RowKind, name: &[u8]) -> bool
-        ensures value { result ≡ fits_rows self.now.names kind name.now }
-        ensures new { IsTrue result → ¬ Contains self.now.names name.now }
-    {
-        if self.find(name).is_some() {
-            return false;
-        }
-        let count = self.len();
-        if count >= 10_000 {
-            return false;
-        }
-        if count == 0 {
-            return true;
-        }
-        !is_objective(kind)
-    }
-
-    #[tactic(auto, using(crate::proofs::FinishLemmas::rest_same))]
-    /// Takes the objective out of the first row, where it is one.
-    pub fn take_objective(&mut self, alloc: Global, maximise: bool) -> Result<Objective, AllocError>
-        requires { All HasSmallTerms self.old.drafts }
-        ensures value { IfOk result (λ objective. objective ≡ made_objective maximise self.old.drafts) }
-        ensures rest { OnOk result (map made_row (filter is_side_row (zip self.new.names self.new.drafts))
-            ≡ map made_row (filter is_side_row (zip self.old.names self.old.drafts))) }
-    {
-        if self.drafts.is_empty() {
-            return Ok(no_objective(alloc, maximise));
-        }
-        let first = &mut self.drafts[0];
-        if !is_objective(first.kind) {
-            return Ok(no_objective(alloc, maximise));
-        }
-        let terms = mem::replace(&mut first.terms, Terms::new(alloc));
-        let side = first.side;
-        Ok(Objective {
-            terms: signed_terms(alloc, terms, maximise)?,
-            constant: constant_of(side, maximise),
-            maximise,
-            scale: 0,
-        })
-    }
-
-    /// The rows of the problem, without the objective.
-    pub fn into_rows(self, alloc: Global) -> Result<Vec<NamedRow>, AllocError>
-        ensures { IfOk result
-            (λ v. v.items ≡ map made_row (filter is_side_row (zip self.names self.drafts))) }
-    {
-        let Rows { names, drafts } = self;
-        names
-            .into_vec()
-            .into_iter()
-            .zip(drafts)
-            .filter(|(_, draft)| !is_objective(draft.kind))
-            .map(|(name, draft)| row_of(name, draft))
-            .collect(alloc)
     }
 }

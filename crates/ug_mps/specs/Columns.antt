@@ -1,0 +1,46 @@
+-- What the columns have so far.
+use Rattle.std.specs.Prelude.{◌≡◌, ℕ, ◌||◌, not, Bool, true, false, List, map, Option, None, MatchOption, slice_index_or}
+use Rattle.ug_mps.specs.declared.bound.Change.{Change}
+use Rattle.ug_mps.specs.declared.draft.columns.ColumnDraft.{ColumnDraft}
+use Rattle.ug_mps.specs.declared.draft.columns.Place.{Place}
+use Rattle.ug_mps.specs.Entries.{Entry}
+use Rattle.ug_mps.specs.Faults.{is_begun_again}
+use Rattle.ug_mps.specs.History.{ColumnBegun, columns_of, goes_on, place_of, low_set, high_set, low_after, high_after}
+use Rattle.ug_mps.specs.Stated.{is_integer}
+
+-- the columns with their names
+pub record NamedColumns : Type 0 where
+  pub names : List (List ℕ)
+  pub drafts : List ColumnDraft
+
+-- what a column has so far
+abbrev pub column_so_far : List Entry → ColumnBegun → ColumnDraft
+column_so_far h c = record { line = c.line; integer = is_integer h c; low = low_set h c.name; high = high_set h c.name }
+
+-- the columns are those of the history
+pub record AreColumns (h : List Entry) (columns : NamedColumns) : Type 0 where
+  pub names : columns.names ≡ map (λ (c : ColumnBegun). c.name) (columns_of h)
+  pub drafts : columns.drafts ≡ map (column_so_far h) (columns_of h)
+
+-- a column that begins in a line
+abbrev pub new_column : ℕ → Bool → ColumnDraft
+new_column line integer = record { line = line; integer = integer; low = None; high = None }
+
+-- the column at a place
+abbrev pub column_at : List ColumnDraft → ℕ → ColumnDraft
+column_at drafts at = slice_index_or drafts at (new_column 0 false)
+
+-- the column with a change
+abbrev pub with_change : Change → ColumnDraft → ColumnDraft
+with_change change c = record {
+  line = c.line;
+  integer = c.integer || change.integer;
+  low = low_after change c.low;
+  high = high_after change c.high;
+}
+
+-- where a line of a column stands: nowhere where the column began before another one
+abbrev pub FindsPlace : List ℕ → NamedColumns → Option Place → Type 0
+FindsPlace name columns place = (h : List Entry) → AreColumns h columns → MatchOption place
+    (is_begun_again h name ≡ true)
+    (λ p. (is_begun_again h name ≡ false) × (p.at ≡ place_of h name) × (p.new ≡ not (goes_on h name)))

@@ -1,0 +1,45 @@
+ghost use Rattle.std.specs.Prelude.{◌≡◌};
+ghost use Rattle.ug_lines.specs.Shapes.{row};
+ghost use Rattle.ug_problem.specs.Instances.{IsName};
+ghost use Rattle.ug_mps.specs.Drafts.{TakesShape};
+
+use crate::draft::Draft;
+use crate::error::{bare_fault, fault_of};
+use crate::fault::{Kind, MpsError};
+use crate::role::{Role, role_of};
+use ug_lines::row_kind_of;
+
+/// The rows that a text may have.
+const MOST_ROWS: usize = 10_000;
+
+// Whether a row is the objective.
+fn is_objective(role: Role) -> bool
+    ensures { result ≡ is_objective role }
+{
+    match role {
+        Role::Objective => true,
+        _ => false,
+    }
+}
+
+impl Draft {
+    /// Takes a row, or tells its fault.
+    pub fn row(&mut self, line: u64, kind: &[u8], name: &[u8]) -> Result<(), MpsError>
+        requires { IsName name.now }
+        ensures { TakesShape line (row kind.now name.now) self.old self.new result }
+    {
+        let Some(kind) = row_kind_of(kind) else {
+            return Err(fault_of(self.alloc, line, Kind::RowKind, kind));
+        };
+        if self.rows.find(name).is_some() {
+            return Err(fault_of(self.alloc, line, Kind::Duplicate, name));
+        }
+        if self.rows.len() >= MOST_ROWS {
+            return Err(bare_fault(line, Kind::TooMany));
+        }
+        let role = role_of(kind, self.has_objective);
+        self.rows.add(self.alloc, line, role, name)?;
+        self.has_objective = self.has_objective || is_objective(role);
+        Ok(())
+    }
+}

@@ -1,0 +1,37 @@
+ghost use Rattle.std.specs.Prelude.{◌≡◌, if◌then◌else◌};
+ghost use Rattle.ug_mps.specs.History.{role_with};
+
+use ug_lines::RowKind;
+
+/// What a row is to the problem.
+#[derive(Clone, Copy, Debug, PartialEq, Eq)]
+pub enum Role {
+    /// The first `N` row: the objective.
+    Objective,
+    /// A later `N` row: nothing.
+    Ignored,
+    /// A row of at most its right-hand side.
+    AtMost,
+    /// A row of at least its right-hand side.
+    AtLeast,
+    /// A row of its right-hand side.
+    Equal,
+}
+
+/// What a row of this type is to the problem, where the objective is there or is not.
+pub fn role_of(kind: RowKind, has_objective: bool) -> Role
+    ensures { result ≡ role_with has_objective kind }
+{
+    match kind {
+        RowKind::Objective => {
+            if has_objective {
+                Role::Ignored
+            } else {
+                Role::Objective
+            }
+        }
+        RowKind::AtMost => Role::AtMost,
+        RowKind::AtLeast => Role::AtLeast,
+        RowKind::Equal => Role::Equal,
+    }
+}
