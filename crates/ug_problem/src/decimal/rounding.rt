@@ -23,6 +23,7 @@ impl Decimal {
     }
 
     // The absolute value rounded down.
+    #[tactic(auto, using(crate::proofs::Bounds::vanishes, crate::proofs::Powers::power_small))]
     fn whole(self) -> u128
         requires decimal { IsDecimal self }
         requires small { is_huge self ≡ false }
@@ -46,12 +47,10 @@ impl Decimal {
         ensures small { unsigned_abs result ≤ 10 ^ 20 }
     {
         let whole = self.whole() as i128;
-        if !self.negative {
-            whole
-        } else if self.power >= 0 {
-            -whole
+        if self.negative {
+            if self.power >= 0 { -whole } else { -whole - 1 }
         } else {
-            -whole - 1
+            whole
         }
     }
 
@@ -65,10 +64,8 @@ impl Decimal {
         let whole = self.whole() as i128;
         if self.negative {
             -whole
-        } else if self.power >= 0 {
-            whole
         } else {
-            whole + 1
+            if self.power >= 0 { whole } else { whole + 1 }
         }
     }
 }
