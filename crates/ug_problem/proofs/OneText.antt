@@ -18,7 +18,7 @@ same_parts a b p v w hv hw e = (
   sym (mod-mul-add a p v hv) ∙ ap (λ (x : ℕ). x % p) e ∙ mod-mul-add b p w hw,
 )
 
-same_factor : (a b p : ℕ) → 0 < p → a * p ≡ b * p → a ≡ b
+pub same_factor : (a b p : ℕ) → 0 < p → a * p ≡ b * p → a ≡ b
 same_factor a b p some e = (same_parts a b p 0 0 some some (omega arith)).0
 
 same_digit : (d e : ℕ) → digit_value d < 10 → digit_value e < 10 → digit_value d ≡ digit_value e → d ≡ e

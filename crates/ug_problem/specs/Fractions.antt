@@ -1,7 +1,8 @@
 -- A decimal number as a fraction: between which whole numbers it lies, and which of its multiples are whole.
-use Rattle.std.specs.Prelude.{◌≡◌, ℕ, ℤ, pos, negsuc, neg_ℤ, ◌*ℤ◌, ◌≤ℤ◌, ◌+◌, ◌-◌, ◌*◌, ◌^◌, suc, nat_le, Bool, if◌then◌else◌}
+use Rattle.std.specs.Prelude.{◌≡◌, ℕ, ℤ, pos, negsuc, neg_ℤ, ◌*ℤ◌, ◌≤ℤ◌, ◌+◌, ◌-◌, ◌*◌, ◌^◌, suc, nat_le, Bool}
 use Rattle.std.specs.Int.{int_div_euclid}
 use Rattle.ug_problem.specs.declared.decimal.Decimal.{Decimal}
+use Rattle.ug_problem.specs.Decimals.{signed}
 
 -- how many digits stand behind the point
 abbrev pub places_of_power : ℤ → ℕ
@@ -18,7 +19,7 @@ places_of d = places_of_power d.power
 
 -- the digits with their sign
 abbrev pub signed_digits : Decimal → ℤ
-signed_digits d = if d.negative then neg_ℤ (pos d.digits) else pos d.digits
+signed_digits d = signed d.negative d.digits
 
 -- the number is its numerator over ten to its places
 abbrev pub numerator_of : Decimal → ℤ

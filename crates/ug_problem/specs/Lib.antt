@@ -1,4 +1,5 @@
 pub mod Decimals
+pub mod Digits
 pub mod Fractions
 pub mod Instances
 pub mod Feasible

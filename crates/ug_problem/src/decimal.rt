@@ -1,3 +1,4 @@
+mod digits;
 mod power;
 mod reading;
 mod rounding;

@@ -1,6 +1,7 @@
 ghost use Rattle.std.specs.Prelude.{◌*◌, ◌<◌, ◌^◌, SomeIff};
 
 // The number times 10^`power`, if it has at most 38 digits.
+#[tactic(auto, using(crate::proofs::Powers::power_small, crate::proofs::Powers::raised_below, crate::proofs::Powers::raised_above, crate::proofs::Powers::raised_far))]
 pub fn times_power(number: u128, power: u32) -> Option<u128>
     requires { number < 10 ^ 38 }
     ensures { SomeIff result (number * 10 ^ power < 10 ^ 38) (number * 10 ^ power) }

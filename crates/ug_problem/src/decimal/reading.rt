@@ -1,7 +1,140 @@
-ghost use Rattle.std.specs.Prelude.{◌≡◌, ◌≤◌, length, IfSome};
-ghost use Rattle.ug_problem.specs.Decimals.{IsDecimal, decimal_of};
+ghost use Rattle.std.specs.Prelude.{◌≡◌, ◌+◌, ◌≤◌, ◌%◌, ◌⊎◌, ◌≢◌, ◌<◌, ◌^◌, length, drop, IfSome, unsigned_abs};
+ghost use Rattle.std.specs.Char.{is_ascii_digit};
+ghost use Rattle.std.specs.Float.Parse.{without_sign};
+ghost use Rattle.std.specs.List.{position_or_len};
+ghost use Rattle.std.specs.Str.Parse.{starts_with_minus};
+ghost use Rattle.ug_problem.specs.Decimals.{IsDecimal, decimal_from, decimal_of, exponent_of, is_exponent_letter, is_point, mantissa_of, pointed_of, small_of};
 
 use crate::decimal::Decimal;
+use crate::decimal::digits::Digits;
+
+const MOST_EXPONENT: u16 = 9_999;
+
+// Where the exponent begins, or the length where there is none.
+fn exponent_start(word: &[u8]) -> usize
+    ensures value { result ≡ position_or_len is_exponent_letter word.now }
+    ensures within { result ≤ length word.now }
+{
+    word.iter()
+        .position(|b| matches!(*b, b'e' | b'E' | b'd' | b'D'))
+        .unwrap_or(word.len())
+}
+
+// Where the point stands, or the length where there is none.
+fn point_place(text: &[u8]) -> usize
+    ensures value { result ≡ position_or_len is_point text.now }
+    ensures within { result ≤ length text.now }
+{
+    text.iter().position(|b| *b == b'.').unwrap_or(text.len())
+}
+
+// What stands behind a place.
+fn behind(text: &[u8], place: usize) -> &[u8]
+    requires { place ≤ length text.now }
+    ensures { result.now ≡ drop (place + 1) text.now }
+{
+    if place < text.len() {
+        &text[place + 1..]
+    } else {
+        &text[place..]
+    }
+}
+
+fn starts_with_minus(text: &[u8]) -> bool
+    ensures { result ≡ starts_with_minus text.now }
+{
+    match text {
+        [b'-', ..] => true,
+        _ => false,
+    }
+}
+
+fn without_sign(text: &[u8]) -> &[u8]
+    ensures { result.now ≡ without_sign text.now }
+{
+    match text {
+        [b'+' | b'-', rest @ ..] => rest,
+        _ => text,
+    }
+}
+
+// The number that digits spell, if it is at most 9,999.
+fn small(digits: &[u8]) -> Option<u16>
+    ensures value { result ≡ small_of digits.now }
+    ensures small { IfSome result (λ n. n ≤ 9999) }
+{
+    if digits.is_empty() {
+        return None;
+    }
+    let mut number: u16 = 0;
+    for digit in digits {
+        if !digit.is_ascii_digit() {
+            return None;
+        }
+        let more = number * 10 + u16::from(*digit - b'0');
+        if more > MOST_EXPONENT {
+            return None;
+        }
+        number = more;
+    }
+    Some(number)
+}
+
+// The exponent that a letter, an optional sign and digits spell.
+fn exponent(text: &[u8]) -> Option<i32>
+    ensures value { result ≡ exponent_of text.now }
+    ensures small { IfSome result (λ e. unsigned_abs e ≤ 9999) }
+{
+    let [_, text @ ..] = text else {
+        return Some(0);
+    };
+    let number = i32::from(small(without_sign(text))?);
+    Some(if starts_with_minus(text) {
+        -number
+    } else {
+        number
+    })
+}
+
+// The number of these digits times ten to the power.
+fn decimal(negative: bool, number: u128, power: i32) -> Decimal
+    requires short { number < 10 ^ 38 }
+    requires lowest { (number ≡ 0) ⊎ (number % 10 ≢ 0) }
+    requires near { unsigned_abs power ≤ 20000 }
+    ensures value { result ≡ decimal_from negative number power }
+    ensures normal { IsDecimal result }
+{
+    if number == 0 {
+        return Decimal {
+            negative: false,
+            digits: 0,
+            power: 0,
+        };
+    }
+    Decimal {
+        negative,
+        digits: number,
+        power,
+    }
+}
+
+// The number that digits with at most one point spell, times ten to the exponent.
+fn pointed(negative: bool, text: &[u8], exponent: i32) -> Option<Decimal>
+    requires short { length text.now ≤ 255 }
+    requires small { unsigned_abs exponent ≤ 9999 }
+    ensures value { result ≡ pointed_of negative text.now exponent }
+    ensures normal { IfSome result IsDecimal }
+{
+    let point = point_place(text);
+    let whole = &text[..point];
+    let fraction = behind(text, point);
+    if whole.is_empty() && fraction.is_empty() {
+        return None;
+    }
+    let digits = Digits::NONE.extend(whole)?.extend(fraction)?;
+    let power = exponent - fraction.len() as i32 + digits.zeros as i32;
+    Some(decimal(negative, digits.number, power))
+}
 
 impl Decimal {
     /// The number that a word spells: an optional sign, digits with at most one point, and an optional exponent.
@@ -10,6 +143,9 @@ impl Decimal {
         ensures value { result ≡ decimal_of word.now }
         ensures normal { IfSome result IsDecimal }
     {
-        None
+        let start = exponent_start(word);
+        let exponent = exponent(&word[start..])?;
+        let text = &word[..start];
+        pointed(starts_with_minus(text), without_sign(text), exponent)
     }
 }

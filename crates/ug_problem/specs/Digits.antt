@@ -1,0 +1,17 @@
+-- What is kept of digits while they are read.
+use Rattle.std.specs.Prelude.{◌≡◌, ◌≢◌, ℕ, ◌^◌, ◌%◌, ◌<◌, ◌⊎◌, ◌&&◌, nat_lt, List, Option, Some, None, if◌then◌else◌}
+use Rattle.std.specs.Char.{is_ascii_digit}
+use Rattle.std.specs.List.{list_all}
+use Rattle.ug_problem.specs.declared.decimal.digits.Digits.{Digits}
+use Rattle.ug_problem.specs.Decimals.{significant_of, zeros_of}
+
+-- what is kept of a text, if it has digits alone and at most 38 of them count
+abbrev pub kept_of : List ℕ → Option Digits
+kept_of text =
+    if list_all is_ascii_digit text && nat_lt (significant_of text) (10 ^ 38)
+    then Some (record { number = significant_of text; zeros = zeros_of text }) else None
+
+-- at most 38 digits, and no zero at their end
+pub record IsKept (d : Digits) : Type 0 where
+  pub short : d.number < 10 ^ 38
+  pub lowest : (d.number ≡ 0) ⊎ (d.number % 10 ≢ 0)

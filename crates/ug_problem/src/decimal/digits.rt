@@ -1,0 +1,58 @@
+ghost use Rattle.std.specs.Prelude.{◌≡◌, ◌+◌, ◌≤◌, List, ℕ, ◌++◌, ◌∷◌, [], length, IfSome};
+ghost use Rattle.ug_problem.specs.Digits.{IsKept, kept_of};
+
+use crate::decimal::power::times_power;
+
+// The number that digits spell without the zeros at their end, and how many those are.
+#[derive(Clone, Copy, Debug)]
+pub struct Digits {
+    pub number: u128,
+    pub zeros: u32,
+}
+
+impl Digits {
+    // What is kept of no digits.
+    pub const NONE: Digits = Digits {
+        number: 0,
+        zeros: 0,
+    };
+
+    // One digit more.
+    fn push(self, byte: u8) -> Option<Digits>
+        requires kept { IsKept self }
+        requires few { self.zeros ≤ 255 }
+        ensures value { (text : List ℕ) → kept_of text ≡ Some self → result ≡ kept_of (text ++ byte ∷ []) }
+        ensures kept { IfSome result IsKept }
+        ensures few { IfSome result (λ d. d.zeros ≤ self.zeros + 1) }
+    {
+        if !byte.is_ascii_digit() {
+            return None;
+        }
+        if byte == b'0' {
+            return Some(Digits {
+                number: self.number,
+                zeros: self.zeros + 1,
+            });
+        }
+        let tens = times_power(self.number, self.zeros + 1)?;
+        Some(Digits {
+            number: tens + u128::from(byte - b'0'),
+            zeros: 0,
+        })
+    }
+
+    // More digits.
+    pub fn extend(self, bytes: &[u8]) -> Option<Digits>
+        requires kept { IsKept self }
+        requires few { self.zeros + length bytes.now ≤ 255 }
+        ensures value { (text : List ℕ) → kept_of text ≡ Some self → result ≡ kept_of (text ++ bytes.now) }
+        ensures kept { IfSome result IsKept }
+        ensures few { IfSome result (λ d. d.zeros ≤ self.zeros + length bytes.now) }
+    {
+        let mut digits = self;
+        for byte in bytes {
+            digits = digits.push(*byte)?;
+        }
+        Some(digits)
+    }
+}
