@@ -5,7 +5,7 @@ use Rattle.std.specs.List.{list_any}
 use Rattle.std.specs.Str.{bytes_eq}
 use Rattle.std.proofs.lemmas.Bool.{cases_Bool, false≢true}
 use Rattle.ug_mps.specs.Names.{StandsAt}
-use Rattle.ug_mps.specs.History.{NamedKind}
+use Rattle.ug_mps.specs.History.{RowNamed}
 use Rattle.ug_mps.specs.Rows.{is_named}
 use Rattle.ug_mps.proofs.NamesLemmas.{contains_at, at_contains}
 
@@ -85,10 +85,13 @@ pub none_any : (names : List (List ℕ)) (name : List ℕ) → list_any (λ n. b
 none_any names name e h = false≢true (sym e ∙ any_true names name h.0 (at_contains names name h))
 
 -- the rows' names
-pub named_any : (rows : List NamedKind) (name : List ℕ) → list_any (λ n. bytes_eq name n) (map (λ (r : NamedKind). r.name) rows) ≡ is_named rows name
+pub named_any : (rows : List RowNamed) (name : List ℕ) → list_any (λ n. bytes_eq name n) (map (λ (r : RowNamed). r.name) rows) ≡ is_named rows name
 named_any [] name = refl
 named_any (r ∷ rows) name = ap (λ b. bytes_eq name r.name || b) (named_any rows name)
 
 pub not_false : (a : Bool) → not a ≡ false → a ≡ true
 not_false true e = refl
 not_false false e = absurd (false≢true (sym e))
+
+pub no_or : (a b : Bool) → a ≡ false → b ≡ false → (a || b) ≡ false
+no_or a b p q = rw (p, q) refl

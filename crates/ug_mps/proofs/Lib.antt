@@ -1,2 +1,6 @@
 pub mod NamesLemmas
 pub mod Bytes
+pub mod RowsLemmas
+pub mod Looks
+pub mod HistoryLemmas
+pub mod ColumnsLemmas

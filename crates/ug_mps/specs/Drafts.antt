@@ -1,5 +1,5 @@
 -- What the reader keeps of the lines so far.
-use Rattle.std.specs.Prelude.{◌≡◌, ℕ, ◌≤◌, not, List, [], ◌∷◌, ◌++◌, length, Option, Some, None, Result, IfSome, MatchResult, ⊤}
+use Rattle.std.specs.Prelude.{◌≡◌, ℕ, ◌≤◌, ◌||◌, not, Bool, true, false, if◌then◌else◌, List, [], ◌∷◌, ◌++◌, length, Option, Some, None, Result, IfSome, MatchResult, ⊤}
 use Rattle.std.specs.List.{list_any}
 use Rattle.std.specs.Option.{option_map}
 use Rattle.ug_lines.specs.declared.section.Section.{Section}
@@ -11,8 +11,12 @@ use Rattle.ug_mps.specs.declared.fault.MpsFault.{MpsFault}
 use Rattle.ug_mps.specs.declared.fault.MpsError.{MpsError}
 use Rattle.ug_mps.specs.declared.fault.MpsError.TheVariants.{Memory, Fault}
 use Rattle.ug_mps.specs.Entries.{Entry}
-use Rattle.ug_mps.specs.Faults.{Complaint, or_fault, fault_where, may_stand}
-use Rattle.ug_mps.specs.Says.{formed_fault, formed_says}
+use Rattle.ug_mps.specs.Faults.{Complaint, or_fault, fault_where, may_stand, is_other, is_ranges}
+use Rattle.ug_lines.specs.Kinds.{sense_of_word}
+use Rattle.ug_lines.specs.declared.section.Section.TheVariants as sections
+use Rattle.ug_mps.specs.declared.draft.rows.Part.{Part}
+use Rattle.ug_mps.specs.declared.draft.rows.Part.TheVariants as parts
+use Rattle.ug_mps.specs.Says.{header_fault, header_says, formed_fault, formed_says}
 use Rattle.ug_mps.specs.Numbered.{AreShortNumbers}
 use Rattle.ug_mps.specs.Good.{Good}
 use Rattle.ug_mps.specs.History.{section_of, is_section, has_section, has_sense, is_maximised, rows_of, have_objective, is_integer_on, coefficients, set_of}
@@ -56,6 +60,25 @@ shaped_says n shape h = formed_says h (section_of h) n (Some shape)
 abbrev pub TakesShape : ℕ → Shape → Draft → Draft → Result ⊤ MpsError → Type 0
 TakesShape n shape old new result = Takes n (shaped_fault shape) (shaped_says n shape) old new result
 
+-- a header of these words was taken
+abbrev pub TakesHeader : ℕ → List (List ℕ) → Draft → Draft → Result ⊤ MpsError → Type 0
+TakesHeader n words old new result = Takes n (λ h. header_fault h words) (λ h. header_says words) old new result
+
+-- the section is this one
+abbrev pub is_in : Section → Option Section → Bool
+is_in s None = false
+is_in s (Some t) = is_section s t
+
+-- lines of this shape stand in the section
+abbrev pub belongs : Option Section → Shape → Bool
+belongs section (sense word) = is_in sections.Objsense section
+belongs section (row type name) = is_in sections.Rows section
+belongs section (marker word) = is_in sections.Columns section
+belongs section (column name pairs) = is_in sections.Columns section
+belongs section (sides set pairs) = is_in sections.Rhs section || is_in sections.Ranges section
+belongs section (bound kind set name number) = is_in sections.Bounds section
+belongs section (either kind first second) = is_in sections.Bounds section
+
 -- the words of a shape are within the limits of words
 abbrev pub IsWorded : Shape → Type 0
 IsWorded (row type name) = IsName name
@@ -63,3 +86,36 @@ IsWorded (column name pairs) = IsName name × AreShortNumbers pairs
 IsWorded (sides set pairs) = AreShortNumbers pairs
 IsWorded (bound kind set name number) = IfSome number (λ word. length word ≤ 255)
 IsWorded shape = Unit {0}
+
+-- a section has begun: it is the latest, and uses no set yet
+pub record Begins (s : Section) (old new : Draft) : Type 0 where
+  pub begun : new.begun.items ≡ old.begun.items ++ s ∷ []
+  pub rest : new ≡ record old { begun = new.begun; section = Some s; set = None }
+
+-- the sense that the words give is the draft's
+abbrev pub with_sense : Option Bool → Draft → Draft
+with_sense None d = d
+with_sense (Some b) d = record d { sensed = true; maximise = b }
+
+-- the sense that one word gives
+abbrev pub one_sense : List (List ℕ) → Option Bool
+one_sense (word ∷ []) = sense_of_word word
+one_sense words = None
+
+-- the sense behind the header of a section
+abbrev pub sense_behind : Section → List (List ℕ) → Option Bool
+sense_behind s words = if is_section sections.Objsense s then one_sense words else None
+
+-- the set after a line that names one, or none: the first that is named
+abbrev pub set_after : Option (List ℕ) → Option (List ℕ) → Option (List ℕ)
+set_after named (Some used) = Some used
+set_after named None = named
+
+-- the named set is not the one used
+abbrev pub is_passed_set : Option (List ℕ) → Option (List ℕ) → Bool
+is_passed_set None used = false
+is_passed_set (Some set) used = is_other set used
+
+-- what pairs give their rows in a section
+abbrev pub part_in : Option Section → Part
+part_in section = if is_ranges section then parts.Range else parts.Side

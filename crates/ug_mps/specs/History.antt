@@ -21,17 +21,20 @@ abbrev pub section_of : List Entry → Option Section
 section_of [] = None
 section_of (e ∷ before) = Some (section_of_entry e)
 
--- the section has this name
+-- a section's place in the list of all
+abbrev pub rank : Section → ℕ
+rank sections.Name = 0
+rank sections.Objsense = 1
+rank sections.Rows = 2
+rank sections.Columns = 3
+rank sections.Rhs = 4
+rank sections.Ranges = 5
+rank sections.Bounds = 6
+rank sections.Endata = 7
+
+-- the two sections are one
 abbrev pub is_section : Section → Section → Bool
-is_section sections.Name sections.Name = true
-is_section sections.Objsense sections.Objsense = true
-is_section sections.Rows sections.Rows = true
-is_section sections.Columns sections.Columns = true
-is_section sections.Rhs sections.Rhs = true
-is_section sections.Ranges sections.Ranges = true
-is_section sections.Bounds sections.Bounds = true
-is_section sections.Endata sections.Endata = true
-is_section _ _ = false
+is_section s t = rank s == rank t
 
 -- the section has begun
 abbrev pub has_section : List Entry → Section → Bool

@@ -4,6 +4,7 @@
 
 mod bound;
 mod draft;
+mod error;
 mod fault;
 mod names;
 mod pairs;

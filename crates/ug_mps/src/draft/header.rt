@@ -1,33 +1,37 @@
-ghost use Rattle.std.specs.Prelude.{◌≡◌, ◌∷◌, map, not, ◌||◌, is_some, IfSome, MatchOption};
+ghost use Rattle.std.specs.Prelude.{◌≡◌, ◌∷◌, map, true, Some, OnOk};
 ghost use Rattle.std.specs.List.{list_any};
-ghost use Rattle.ug_lines.specs.declared.section.Section.TheVariants as sections;
 ghost use Rattle.ug_lines.specs.Shapes.{sense, marker};
-ghost use Rattle.ug_lines.specs.Kinds.{section_of_word, sense_of_word};
-ghost use Rattle.ug_mps.specs.Drafts.{Takes, TakesShape};
+ghost use Rattle.ug_mps.specs.Drafts.{TakesHeader, TakesShape, belongs, Begins, with_sense, sense_behind};
 ghost use Rattle.ug_mps.specs.Faults.{are_sense, may_follow};
-ghost use Rattle.ug_mps.specs.History.{is_section};
-ghost use Rattle.ug_mps.specs.Says.{header_fault, header_says};
+ghost use Rattle.ug_mps.specs.History.{rank, is_section};
 
 use crate::draft::Draft;
 use crate::error::{bare_fault, fault_of};
 use crate::fault::{Kind, MpsError};
+use std::alloc::AllocError;
 use ug_lines::{Section, marker_of, section_of, sense_of};
 
-// Whether two sections are one.
-fn is_section(section: Section, other: Section) -> bool
+// A section's place in the list of all.
+fn rank(section: Section) -> u8
+    ensures { result ≡ rank section }
+{
+    match section {
+        Section::Name => 0,
+        Section::Objsense => 1,
+        Section::Rows => 2,
+        Section::Columns => 3,
+        Section::Rhs => 4,
+        Section::Ranges => 5,
+        Section::Bounds => 6,
+        Section::Endata => 7,
+    }
+}
+
+/// Whether two sections are one.
+pub fn is_section(section: Section, other: Section) -> bool
     ensures { result ≡ is_section section other }
 {
-    match (section, other) {
-        (Section::Name, Section::Name) => true,
-        (Section::Objsense, Section::Objsense) => true,
-        (Section::Rows, Section::Rows) => true,
-        (Section::Columns, Section::Columns) => true,
-        (Section::Rhs, Section::Rhs) => true,
-        (Section::Ranges, Section::Ranges) => true,
-        (Section::Bounds, Section::Bounds) => true,
-        (Section::Endata, Section::Endata) => true,
-        _ => false,
-    }
+    rank(section) == rank(other)
 }
 
 // Whether the words are one sense, or nothing.
@@ -76,7 +80,7 @@ impl Draft {
 
     // Gives the sense behind the header of a section.
     fn sense_behind(&mut self, section: Section, words: &[&[u8]])
-        ensures { GivesSense section (map (λ word. word.now) words.now) self.old self.new }
+        ensures { self.new ≡ with_sense (sense_behind section (map (λ word. word.now) words.now)) self.old }
     {
         if !is_section(Section::Objsense, section) {
             return;
@@ -90,8 +94,7 @@ impl Draft {
 
     /// Takes a header, or tells its fault.
     pub fn header(&mut self, line: u64, word: &[u8], words: &[&[u8]]) -> Result<(), MpsError>
-        ensures { Takes line (λ h. header_fault h (word.now ∷ map (λ word. word.now) words.now))
-            (λ h. header_says (word.now ∷ map (λ word. word.now) words.now)) self.old self.new result }
+        ensures { TakesHeader line (word.now ∷ map (λ word. word.now) words.now) self.old self.new result }
     {
         let Some(section) = section_of(word) else {
             return Err(fault_of(self.alloc, line, Kind::Section, word));
@@ -109,6 +112,7 @@ impl Draft {
 
     /// Takes the sense of a data line, or tells its fault.
     pub fn sense(&mut self, line: u64, word: &[u8]) -> Result<(), MpsError>
+        requires { belongs self.old.section (sense word.now) ≡ true }
         ensures { TakesShape line (sense word.now) self.old self.new result }
     {
         if self.sensed {
@@ -123,6 +127,7 @@ impl Draft {
 
     /// Takes a marker, or tells its fault.
     pub fn marker(&mut self, line: u64, word: &[u8]) -> Result<(), MpsError>
+        requires { belongs self.old.section (marker word.now) ≡ true }
         ensures { TakesShape line (marker word.now) self.old self.new result }
     {
         let Some(integer) = marker_of(word) else {

@@ -1,7 +1,8 @@
-ghost use Rattle.std.specs.Prelude.{◌≡◌};
+ghost use Rattle.std.specs.Prelude.{◌≡◌, true};
 ghost use Rattle.ug_lines.specs.Shapes.{row};
 ghost use Rattle.ug_problem.specs.Instances.{IsName};
-ghost use Rattle.ug_mps.specs.Drafts.{TakesShape};
+ghost use Rattle.ug_mps.specs.Drafts.{TakesShape, belongs};
+ghost use Rattle.ug_mps.specs.History.{is_objective};
 
 use crate::draft::Draft;
 use crate::error::{bare_fault, fault_of};
@@ -25,7 +26,8 @@ fn is_objective(role: Role) -> bool
 impl Draft {
     /// Takes a row, or tells its fault.
     pub fn row(&mut self, line: u64, kind: &[u8], name: &[u8]) -> Result<(), MpsError>
-        requires { IsName name.now }
+        requires section { belongs self.old.section (row kind.now name.now) ≡ true }
+        requires name { IsName name.now }
         ensures { TakesShape line (row kind.now name.now) self.old self.new result }
     {
         let Some(kind) = row_kind_of(kind) else {

@@ -1,4 +1,4 @@
-ghost use Rattle.std.specs.Prelude.{◌≡◌, ◌+◌, ◌<◌, ◌^◌, [], ◌∷◌, ◌++◌, ◌↔◌, length, Contains, slice_set, IsNone, IfNone, IfSome, OnOk, MatchOption, MatchResult};
+ghost use Rattle.std.specs.Prelude.{◌≡◌, ◌||◌, ◌==◌, ◌+◌, ◌<◌, ◌^◌, [], ◌∷◌, ◌++◌, ◌↔◌, length, Contains, slice_set, IsNone, IfNone, IfSome, OnOk, MatchOption, MatchResult};
 ghost use Rattle.std.specs.Option.{option_map};
 ghost use Rattle.ug_lines.specs.Shaped.{pairs_shaped};
 ghost use Rattle.ug_mps.specs.Faults.{rows_in};
@@ -97,6 +97,13 @@ impl RowDraft {
     }
 }
 
+// Whether a row has the part already, or is the one before it.
+fn is_again(has: bool, place: u32, before: u32) -> bool
+    ensures { result ≡ (has || place == before) }
+{
+    has || place == before
+}
+
 /// The rows so far, with their names.
 #[derive(Drop)]
 pub struct Rows {
@@ -145,9 +152,11 @@ impl Rows {
 
     /// What a row has so far.
     pub fn get(&self, at: u32) -> &RowDraft
-        requires { at < length self.now.drafts }
-        ensures { result.now ≡ row_at self.now.drafts at }
+        requires { at < length self.now.names }
+        ensures value { result.now ≡ row_at self.now.drafts at }
+        ensures distinct { AreDistinct self.now.names }
     {
+        let _ = self.names.len();
         &self.drafts[at as usize]
     }
 
@@ -182,13 +191,15 @@ impl Rows {
         Ok(())
     }
 
-    /// Gives a row a part.
-    pub fn put(&mut self, at: u32, part: Part, number: Decimal) -> Result<(), AllocError>
-        requires { at < length self.old.drafts }
-        ensures { OnOk result (self.new ≡ record self.old {
+    // Gives a row a part.
+    fn put(&mut self, at: u32, part: Part, number: Decimal) -> Result<(), AllocError>
+        requires { at < length self.old.names }
+        ensures value { OnOk result (self.new ≡ record self.old {
           drafts = slice_set self.old.drafts at (with_part part number (row_at self.old.drafts at));
         }) }
+        ensures distinct { AreDistinct self.old.names }
     {
+        let _ = self.names.len();
         self.drafts[at as usize].put(part, number)
     }
 
@@ -230,16 +241,16 @@ impl Rows {
         if self.get(places.first).has(part) {
             return Some(pairs.first.row);
         }
-        match (places.second, &pairs.second) {
-            (Some(place), Some(pair)) => {
-                if place == places.first || self.get(place).has(part) {
-                    Some(pair.row)
-                } else {
-                    None
-                }
-            }
-            _ => None,
+        let Some(place) = places.second else {
+            return None;
+        };
+        let Some(pair) = &pairs.second else {
+            return None;
+        };
+        if is_again(self.get(place).has(part), place, places.first) {
+            return Some(pair.row);
         }
+        None
     }
 
     /// Gives the rows of the pairs, which stand at the places, the part.
@@ -253,9 +264,12 @@ impl Rows {
         ensures { OnOk result (PutsPairs part (pairs_said pairs.now) (places_in places) self.old self.new) }
     {
         self.put(places.first, part, pairs.first.number)?;
-        if let (Some(place), Some(pair)) = (places.second, &pairs.second) {
-            self.put(place, part, pair.number)?;
-        }
-        Ok(())
+        let Some(place) = places.second else {
+            return Ok(());
+        };
+        let Some(pair) = &pairs.second else {
+            return Ok(());
+        };
+        self.put(place, part, pair.number)
     }
 }
