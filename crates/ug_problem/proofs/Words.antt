@@ -1,5 +1,5 @@
 -- The number that the digits of a word make.
-use Rattle.std.proofs.Common.{◌≡◌, ◌∙◌, sym, ap, subst, refl, ℕ, ℤ, pos, ◌+ℤ◌, ◌+◌, ◌-◌, ◌≤◌, ◌==◌, ◌&&◌, not, ltb, ◌^◌, Bool, true, false, cond, List, ◌++◌, length, take, drop, Option, Some, None, unsigned_abs, arith}
+use Rattle.std.proofs.Common.{◌≡◌, ◌∙◌, sym, ap, subst, refl, ℕ, ℤ, pos, ◌+ℤ◌, ◌+◌, ◌-◌, ◌≤◌, ◌==◌, ◌&&◌, not, ltb, ◌^◌, Bool, true, false, cond, List, length, take, drop, Some, None, unsigned_abs, arith}
 use Rattle.std.specs.Char.{is_ascii_digit}
 use Rattle.std.specs.List.{before_first, list_all, position_or_len}
 use Rattle.std.specs.Option.{option_and_then, option_map}
@@ -8,7 +8,6 @@ use Rattle.std.proofs.lemmas.Int.{fits_signed_from_abs, to_z-of_z}
 use Rattle.std.proofs.lemmas.List.{length-drop, length-take}
 use mir.Syntax.{w32}
 use mir.Val.{of_z, to_z}
-use Rattle.ug_problem.specs.declared.decimal.Decimal.{Decimal}
 use Rattle.ug_problem.specs.declared.decimal.digits.Digits.{Digits}
 use Rattle.ug_problem.specs.Decimals.{decimal_from, decimal_of, exponent_of, is_exponent_letter, mantissa_of, number_of, significant_of, zeros_of}
 use Rattle.ug_problem.specs.Digits.{read_of}

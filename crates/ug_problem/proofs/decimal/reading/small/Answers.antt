@@ -1,4 +1,4 @@
-use Rattle.std.proofs.Common.{◌≡◌, ℕ, ◌+◌, ◌-◌, ◌*◌, get_or, sym, subst, arith, rules}
+use Rattle.std.proofs.Common.{◌≡◌, ℕ, ◌+◌, ◌-◌, ◌*◌, get_or, sym, subst, rules}
 use Rattle.ug_problem.proofs.Numerals.{IsSoFar, one_digit_more}
 use Rattle.ug_problem.proofs.decimal.reading.small.Goals as goal
 

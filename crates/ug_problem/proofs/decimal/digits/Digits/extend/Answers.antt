@@ -1,4 +1,4 @@
-use Rattle.std.proofs.Common.{◌≡◌, ◌<◌, ◌+◌, length, Some, None, sym, ap, subst, ◌∙◌, rules, arith}
+use Rattle.std.proofs.Common.{◌≡◌, ◌<◌, ◌+◌, length, Some, None, subst, ◌∙◌, rules, arith}
 use Rattle.ug_problem.proofs.Significant.{IsSoFar, ends, steps, stops}
 use Rattle.ug_problem.proofs.decimal.digits.Digits.extend.Goals as goal
 

@@ -1,4 +1,4 @@
-use Rattle.std.proofs.Common.{◌≡◌, ℕ, ◌+◌, ◌-◌, ◌*◌, ◌^◌, sym, subst, arith, rules}
+use Rattle.std.proofs.Common.{◌≡◌, ℕ, ◌+◌, ◌-◌, ◌*◌, ◌^◌, sym, subst, rules}
 use Rattle.ug_problem.specs.Digits.{IsKept}
 use Rattle.ug_problem.proofs.Significant.{kept_number}
 use Rattle.ug_problem.proofs.decimal.digits.Digits.push.Goals as goal
