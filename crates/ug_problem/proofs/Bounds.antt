@@ -1,12 +1,12 @@
 -- A decimal number that is not whole, rounded, and the powers of ten that make it whole.
-use Rattle.std.proofs.Common.{◌≡◌, ◌≢◌, ◌∙◌, sym, ap, subst, refl, ℕ, zero, suc, ℤ, pos, negsuc, neg_ℤ, ◌+◌, ◌-◌, ◌*◌, ◌/◌, ◌%◌, ◌^◌, ◌<◌, ◌≤◌, ◌<ℤ◌, ◌≤ℤ◌, ◌*ℤ◌, Bool, true, false, unsigned_abs, inl, inr, pow-add, arith}
+use Rattle.std.proofs.Common.{◌≡◌, ◌≢◌, ◌∙◌, sym, ap, refl, ℕ, zero, suc, ℤ, pos, negsuc, neg_ℤ, ◌+◌, ◌-◌, ◌*◌, ◌/◌, ◌%◌, ◌^◌, ◌<◌, ◌≤◌, ◌<ℤ◌, ◌*ℤ◌, Bool, true, false, unsigned_abs, inl, inr, pow-add, arith}
 use Rattle.std.proofs.Math.Nat.{one-le-pow, pow-suc, pow-le-pow_right, mul_assoc, mul_comm}
 use Rattle.std.proofs.lemmas.Int.{ints, unsigned_abs-mul}
 use Rattle.std.proofs.lemmas.Nat.{div-mul-add, mod-mul-add}
 use Rattle.std.proofs.lemmas.Bool.{cases_lt}
 use Rattle.std.specs.Int.{int_div_euclid}
 use Rattle.ug_problem.specs.declared.decimal.Decimal.{Decimal}
-use Rattle.ug_problem.specs.Decimals.{IsDecimal, signed, zero_decimal}
+use Rattle.ug_problem.specs.Decimals.{IsDecimal, signed}
 use Rattle.ug_problem.specs.Fractions.{IsScaled, ceiling_of, denominator_of, floor_of, numerator_of, places_of, places_of_power, scaled, signed_digits, zeros_of_power}
 use Rattle.ug_problem.proofs.OneText.{same_factor}
 

@@ -1,12 +1,11 @@
 -- Whole numbers beside a fraction.
-use Rattle.std.proofs.Common.{◌≡◌, ◌≢◌, ◌∙◌, sym, ap, subst, refl, ℕ, zero, suc, ℤ, pos, negsuc, neg_ℤ, ◌+◌, ◌-◌, ◌*◌, ◌/◌, ◌%◌, ◌^◌, ◌<◌, ◌≤◌, ◌≤ℤ◌, ◌<ℤ◌, ◌*ℤ◌, ◌↔◌, Bool, true, false, unsigned_abs, inl, inr, arith}
-use Rattle.std.proofs.Math.Nat.{one-le-pow, pow-suc, div-mul-le_self, lt-div-mul-add, mul-le-mul_right}
-use Rattle.std.proofs.lemmas.Int.{ints, unsigned_abs-mul}
-use Rattle.std.proofs.lemmas.Nat.{div-mul-add, mod-mul-add, le-div, div_below}
+use Rattle.std.proofs.Common.{◌≡◌, ℕ, zero, suc, ℤ, pos, negsuc, neg_ℤ, ◌*◌, ◌/◌, ◌^◌, ◌<◌, ◌≤◌, ◌≤ℤ◌, ◌*ℤ◌, ◌↔◌, arith}
+use Rattle.std.proofs.Math.Nat.{one-le-pow, div-mul-le_self, lt-div-mul-add, mul-le-mul_right}
+use Rattle.std.proofs.lemmas.Int.{ints}
+use Rattle.std.proofs.lemmas.Nat.{le-div, div_below}
 use Rattle.std.specs.Int.{int_div_euclid}
 use Rattle.ug_problem.specs.declared.decimal.Decimal.{Decimal}
-use Rattle.ug_problem.specs.Decimals.{signed}
-use Rattle.ug_problem.specs.Fractions.{IsAtLeast, IsAtMost, ceiling_of, floor_of, numerator_of, places_of, places_of_power, zeros_of_power}
+use Rattle.ug_problem.specs.Fractions.{IsAtLeast, IsAtMost, ceiling_of, floor_of, numerator_of, places_of}
 
 -- a whole number is not above a quotient exactly where its product is not above the dividend
 below_quotient : (n a : ℤ) (b : ℕ) → 0 < b → (n *ℤ pos b) ≤ℤ a → n ≤ℤ int_div_euclid a (pos b)

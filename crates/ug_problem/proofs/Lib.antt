@@ -1,7 +1,10 @@
 pub mod Bounds
 pub mod Fractions
 pub mod Linear
+pub mod Numerals
 pub mod OneText
 pub mod Powers
 pub mod Printing
+pub mod Significant
 pub mod Values
+pub mod Words

@@ -1,5 +1,5 @@
 ghost use Rattle.std.specs.Prelude.{◌≡◌, ◌+◌, ◌≤◌, List, ℕ, ◌++◌, ◌∷◌, [], length, IfSome};
-ghost use Rattle.ug_problem.specs.Digits.{IsKept, kept_of};
+ghost use Rattle.ug_problem.specs.Digits.{IsKept, kept_of, read_of};
 
 use crate::decimal::power::times_power;
 
@@ -12,12 +12,13 @@ pub struct Digits {
 
 impl Digits {
     // What is kept of no digits.
-    pub const NONE: Digits = Digits {
+    const NONE: Digits = Digits {
         number: 0,
         zeros: 0,
     };
 
     // One digit more.
+    #[tactic(auto, using(crate::proofs::Significant::kept_more, crate::proofs::Significant::kept_no_more, crate::proofs::Significant::kept_number))]
     fn push(self, byte: u8) -> Option<Digits>
         requires kept { IsKept self }
         requires few { self.zeros ≤ 255 }
@@ -42,7 +43,7 @@ impl Digits {
     }
 
     // More digits.
-    pub fn extend(self, bytes: &[u8]) -> Option<Digits>
+    fn extend(self, bytes: &[u8]) -> Option<Digits>
         requires kept { IsKept self }
         requires few { self.zeros + length bytes.now ≤ 255 }
         ensures value { (text : List ℕ) → kept_of text ≡ Some self → result ≡ kept_of (text ++ bytes.now) }
@@ -54,5 +55,29 @@ impl Digits {
             digits = digits.push(*byte)?;
         }
         Some(digits)
+    }
+}
+
+// What is kept of the digits of both.
+fn keep(whole: &[u8], fraction: &[u8]) -> Option<Digits>
+    requires { length whole.now + length fraction.now ≤ 255 }
+    ensures value { result ≡ kept_of (whole.now ++ fraction.now) }
+    ensures kept { IfSome result IsKept }
+    ensures few { IfSome result (λ d. d.zeros ≤ length whole.now + length fraction.now) }
+{
+    Digits::NONE.extend(whole)?.extend(fraction)
+}
+
+// What is kept of the digits of both, if there is one at all.
+pub fn read(whole: &[u8], fraction: &[u8]) -> Option<Digits>
+    requires { length whole.now + length fraction.now ≤ 255 }
+    ensures value { result ≡ read_of (whole.now ++ fraction.now) }
+    ensures kept { IfSome result IsKept }
+    ensures few { IfSome result (λ d. d.zeros ≤ length whole.now + length fraction.now) }
+{
+    if whole.is_empty() && fraction.is_empty() {
+        None
+    } else {
+        keep(whole, fraction)
     }
 }
