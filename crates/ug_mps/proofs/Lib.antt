@@ -4,3 +4,5 @@ pub mod RowsLemmas
 pub mod Looks
 pub mod HistoryLemmas
 pub mod ColumnsLemmas
+pub mod DraftLemmas
+pub mod Finds

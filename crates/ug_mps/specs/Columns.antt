@@ -1,11 +1,12 @@
 -- What the columns have so far.
-use Rattle.std.specs.Prelude.{◌≡◌, ℕ, ◌||◌, not, Bool, true, false, List, map, Option, None, MatchOption, slice_index_or}
+use Rattle.std.specs.Prelude.{◌≡◌, ℕ, ◌||◌, not, Bool, true, false, List, ◌∷◌, length, Contains, map, Option, None, MatchOption, slice_index_or}
 use Rattle.ug_mps.specs.declared.bound.Change.{Change}
 use Rattle.ug_mps.specs.declared.draft.columns.ColumnDraft.{ColumnDraft}
 use Rattle.ug_mps.specs.declared.draft.columns.Place.{Place}
-use Rattle.ug_mps.specs.Entries.{Entry}
+use Rattle.ug_mps.specs.Entries.{Pair, Entry, column}
+use Rattle.ug_mps.specs.Good.{Good}
 use Rattle.ug_mps.specs.Faults.{is_begun_again}
-use Rattle.ug_mps.specs.History.{ColumnBegun, columns_of, goes_on, place_of, low_set, high_set, low_after, high_after}
+use Rattle.ug_mps.specs.History.{ColumnBegun, columns_of, goes_on, place_of, is_integer_on, low_set, high_set, low_after, high_after}
 use Rattle.ug_mps.specs.Stated.{is_integer}
 
 -- the columns with their names
@@ -44,3 +45,13 @@ abbrev pub FindsPlace : List ℕ → NamedColumns → Option Place → Type 0
 FindsPlace name columns place = (h : List Entry) → AreColumns h columns → MatchOption place
     (is_begun_again h name ≡ true)
     (λ p. (is_begun_again h name ≡ false) × (p.at ≡ place_of h name) × (p.new ≡ not (goes_on h name)))
+
+-- the name is none of the names, and the place is behind them
+pub record IsNew (names : List (List ℕ)) (name : List ℕ) (at : ℕ) : Type 0 where
+  pub gone : ¬ Contains names name
+  pub behind : at ≡ length names
+
+-- a line of a column was taken, where a new column begins
+abbrev pub OpensColumn : ℕ → List ℕ → Bool → Bool → NamedColumns → NamedColumns → Type 0
+OpensColumn line name integer new before after = (h : List Entry) (pairs : List Pair) → Good h → AreColumns h before
+    → is_begun_again h name ≡ false → new ≡ not (goes_on h name) → integer ≡ is_integer_on h → AreColumns (column line name pairs ∷ h) after

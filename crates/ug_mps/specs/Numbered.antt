@@ -1,5 +1,5 @@
 -- What the code's pairs with numbers are, without where their names lie in memory.
-use Rattle.std.specs.Prelude.{ℕ, ◌≤◌, List, [], ◌∷◌, All, length, Option, Some, None}
+use Rattle.std.specs.Prelude.{ℕ, ◌≤◌, List, [], ◌∷◌, length, Option, Some, None}
 use Rattle.ug_lines.specs.Shapes.{WordPair}
 use Rattle.ug_mps.specs.declared.pairs.NamedNumber.{NamedNumber}
 use Rattle.ug_mps.specs.declared.pairs.NamedNumbers.{NamedNumbers}
@@ -20,4 +20,5 @@ pairs_said p = pair_said p.first ∷ second_said p.second
 
 -- the words of the numbers have at most 255 bytes
 abbrev pub AreShortNumbers : List WordPair → Type 0
-AreShortNumbers pairs = All (λ (p : WordPair). length p.number ≤ 255) pairs
+AreShortNumbers [] = Unit {0}
+AreShortNumbers (p ∷ pairs) = (length p.number ≤ 255) × AreShortNumbers pairs

@@ -91,6 +91,21 @@ fn amount_from(number: Decimal) -> Amount
     }
 }
 
+/// The amount that a word says, if it says one.
+pub fn amount_of(word: &[u8]) -> Option<Amount>
+    requires { length word.now ≤ 255 }
+    ensures value { result ≡ amount_of word.now }
+    ensures amount { IfSome result IsAmount }
+{
+    if is_infinite(word) {
+        return Some(infinity(is_minus(word)));
+    }
+    match Decimal::from_word(word) {
+        Some(number) => Some(amount_from(number)),
+        None => None,
+    }
+}
+
 // Whether an amount is below 0.
 fn is_negative(amount: Amount) -> bool
     ensures { result ≡ is_negative amount }

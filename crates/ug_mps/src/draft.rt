@@ -1,12 +1,15 @@
+mod column;
 mod columns;
 mod header;
+mod limit;
 mod row;
 mod rows;
+mod sides;
 
-ghost use Rattle.std.specs.Prelude.{◌≡◌, [], List};
+ghost use Rattle.std.specs.Prelude.{◌≡◌, [], List, true};
 ghost use Rattle.std.specs.List.{list_any};
 ghost use Rattle.ug_lines.specs.Shaped.{shape_shaped};
-ghost use Rattle.ug_mps.specs.Drafts.{Drafts, TakesShape, IsWorded};
+ghost use Rattle.ug_mps.specs.Drafts.{Drafts, TakesShape, belongs, IsWorded};
 ghost use Rattle.ug_mps.specs.Entries.{Entry};
 ghost use Rattle.ug_mps.specs.History.{section_of};
 
@@ -65,5 +68,25 @@ impl Draft {
         ensures { (h : List Entry) → Drafts h self.now → result ≡ section_of h }
     {
         self.section
+    }
+
+    /// Takes the next line, which has this number and this shape, or tells its fault. After an error the draft is of no
+    /// more use.
+    pub fn take(&mut self, line: u64, shape: &LineShape<'_>) -> Result<(), MpsError>
+        requires section { belongs self.old.section (shape_shaped shape.now) ≡ true }
+        requires words { IsWorded (shape_shaped shape.now) }
+        ensures { TakesShape line (shape_shaped shape.now) self.old self.new result }
+    {
+        match shape {
+            LineShape::Sense(word) => self.sense(line, word),
+            LineShape::Row(kind, name) => self.row(line, kind, name),
+            LineShape::Marker(word) => self.marker(line, word),
+            LineShape::Column(name, pairs) => self.column(line, name, pairs),
+            LineShape::Sides(set, pairs) => self.sides(line, *set, pairs),
+            LineShape::Bound(kind, set, name, number) => {
+                self.bound(line, *kind, *set, name, *number)
+            }
+            LineShape::Either(kind, first, second) => self.either(line, *kind, first, second),
+        }
     }
 }

@@ -1,5 +1,5 @@
-ghost use Rattle.std.specs.Prelude.{◌≡◌, ◌+◌, ◌<◌, ◌^◌, [], ◌∷◌, ◌++◌, ◌↔◌, length, Contains, slice_set, IsNone, IfSome, OnOk};
-ghost use Rattle.ug_mps.specs.Columns.{new_column, column_at, with_change, FindsPlace};
+ghost use Rattle.std.specs.Prelude.{◌≡◌, ◌≤◌, ◌+◌, ◌<◌, ◌^◌, [], ◌∷◌, ◌++◌, ◌↔◌, length, Contains, slice_set, IsNone, IsTrue, IfSome, OnOk};
+ghost use Rattle.ug_mps.specs.Columns.{new_column, column_at, with_change, FindsPlace, IsNew, OpensColumn};
 ghost use Rattle.ug_mps.specs.History.{low_after, high_after};
 ghost use Rattle.ug_mps.specs.Names.{StandsAt, AreDistinct};
 
@@ -66,7 +66,7 @@ fn changed(draft: ColumnDraft, change: Change) -> ColumnDraft
     }
 }
 
-/// The columns so far, with their names.
+/// The columns so far, with their names: 10,000 at most.
 #[derive(Drop)]
 pub struct Columns {
     names: Names,
@@ -74,14 +74,14 @@ pub struct Columns {
 }
 
 impl Model for Columns {
-    ghost use Rattle.std.specs.Prelude.{◌≡◌, length};
+    ghost use Rattle.std.specs.Prelude.{◌≡◌, ◌≤◌, length};
     ghost use Rattle.ug_mps.specs.Columns.{NamedColumns};
 
     ghost Value = { NamedColumns };
 
     ghost view = { λ columns. record { names = columns.names; drafts = columns.drafts.items } };
 
-    ghost invariant = { λ columns. length columns.drafts.items ≡ length columns.names };
+    ghost invariant = { λ columns. (length columns.drafts.items ≡ length columns.names) × (length columns.names ≤ 10000) };
 }
 
 impl Columns {
@@ -97,7 +97,9 @@ impl Columns {
     pub fn len(&self) -> usize
         ensures names { result ≡ length self.now.names }
         ensures drafts { result ≡ length self.now.drafts }
+        ensures few { result ≤ 10000 }
     {
+        let _ = &self.names;
         self.drafts.len()
     }
 
@@ -115,8 +117,8 @@ impl Columns {
     /// The place of the column for one more line of it: the last column goes on, and a new one stands behind it. It is
     /// `None` where the column began before the last one.
     pub fn place(&self, name: &[u8]) -> Option<Place>
-        requires { length self.now.names < 2 ^ 32 }
-        ensures { FindsPlace name.now self.now result }
+        ensures place { FindsPlace name.now self.now result }
+        ensures new { IfSome result (λ p. IsTrue p.new → IsNew self.now.names name.now p.at) }
     {
         let count = self.len();
         match self.find(name) {
@@ -143,7 +145,7 @@ impl Columns {
         integer: bool,
     ) -> Result<(), AllocError>
         requires new { ¬ Contains self.old.names name.now }
-        requires room { length self.old.names + 1 < 2 ^ 32 }
+        requires room { length self.old.names < 10000 }
         ensures { OnOk result (self.new ≡ record {
           names = self.old.names ++ name.now ∷ [];
           drafts = self.old.drafts ++ new_column line integer ∷ [];
@@ -160,6 +162,25 @@ impl Columns {
             return Err(AllocError);
         }
         Ok(())
+    }
+
+    /// Takes a line of a column at the place that was found for it, where a new one begins.
+    pub fn open(
+        &mut self,
+        alloc: Global,
+        place: Place,
+        name: &[u8],
+        line: u64,
+        integer: bool,
+    ) -> Result<(), AllocError>
+        requires new { IsTrue place.new → IsNew self.old.names name.now place.at }
+        requires room { place.at < 10000 }
+        ensures { OnOk result (OpensColumn line name.now integer place.new self.old self.new) }
+    {
+        if !place.new {
+            return Ok(());
+        }
+        self.add(alloc, name, line, integer)
     }
 
     /// Changes the bounds of a column.

@@ -1,4 +1,4 @@
-ghost use Rattle.std.specs.Prelude.{◌≡◌, true};
+ghost use Rattle.std.specs.Prelude.{◌≡◌, ◌||◌, true};
 ghost use Rattle.ug_lines.specs.Shapes.{row};
 ghost use Rattle.ug_problem.specs.Instances.{IsName};
 ghost use Rattle.ug_mps.specs.Drafts.{TakesShape, belongs};
@@ -23,6 +23,13 @@ fn is_objective(role: Role) -> bool
     }
 }
 
+// Whether there is an objective, once there is this row.
+fn has_objective_with(has_objective: bool, role: Role) -> bool
+    ensures { result ≡ (has_objective || is_objective role) }
+{
+    has_objective || is_objective(role)
+}
+
 impl Draft {
     /// Takes a row, or tells its fault.
     pub fn row(&mut self, line: u64, kind: &[u8], name: &[u8]) -> Result<(), MpsError>
@@ -41,7 +48,7 @@ impl Draft {
         }
         let role = role_of(kind, self.has_objective);
         self.rows.add(self.alloc, line, role, name)?;
-        self.has_objective = self.has_objective || is_objective(role);
+        self.has_objective = has_objective_with(self.has_objective, role);
         Ok(())
     }
 }

@@ -1,0 +1,67 @@
+ghost use Rattle.std.specs.Prelude.{◌≡◌, ◌≤◌, ◌+◌, ◌||◌, nat_le, nat_lt, true};
+ghost use Rattle.ug_lines.specs.Shapes.{column};
+ghost use Rattle.ug_lines.specs.Shaped.{pairs_shaped};
+ghost use Rattle.ug_problem.specs.Instances.{IsName};
+ghost use Rattle.ug_mps.specs.Drafts.{TakesShape, belongs};
+ghost use Rattle.ug_mps.specs.Numbered.{AreShortNumbers};
+
+use crate::draft::Draft;
+use crate::draft::rows::Part;
+use crate::error::{bare_fault, fault_of};
+use crate::fault::{Kind, MpsError};
+use crate::pairs::numbers_of;
+use ug_lines::NamedWords;
+
+/// The columns that a text may have.
+const MOST_COLUMNS: u32 = 10_000;
+
+/// The coefficients that a text may have.
+const MOST_PAIRS: u32 = 1_000_000;
+
+// Whether there is no room for a column at a place, or for so many pairs more.
+fn is_full(at: u32, count: u32, more: u32) -> bool
+    requires { more ≤ 2 }
+    ensures { result ≡ (nat_le 10000 at || nat_lt 1000000 (count + more)) }
+{
+    at >= MOST_COLUMNS || count > MOST_PAIRS - more
+}
+
+impl Draft {
+    /// Takes a line of a column, or tells its fault.
+    pub fn column(
+        &mut self,
+        line: u64,
+        name: &[u8],
+        pairs: &NamedWords<'_>,
+    ) -> Result<(), MpsError>
+        requires section { belongs self.old.section (column name.now (pairs_shaped pairs.now)) ≡ true }
+        requires name { IsName name.now }
+        requires numbers { AreShortNumbers (pairs_shaped pairs.now) }
+        ensures { TakesShape line (column name.now (pairs_shaped pairs.now)) self.old self.new result }
+    {
+        let places = match self.rows.look(pairs) {
+            Ok(places) => places,
+            Err(word) => return Err(fault_of(self.alloc, line, Kind::Unknown, word)),
+        };
+        let Some(place) = self.columns.place(name) else {
+            return Err(fault_of(self.alloc, line, Kind::Duplicate, name));
+        };
+        let part = Part::Coefficient(place.at);
+        if let Some(word) = self.rows.repeated(part, places, pairs) {
+            return Err(fault_of(self.alloc, line, Kind::Duplicate, word));
+        }
+        let numbers = match numbers_of(pairs) {
+            Ok(numbers) => numbers,
+            Err(word) => return Err(fault_of(self.alloc, line, Kind::Number, word)),
+        };
+        let count = numbers.count();
+        if is_full(place.at, self.count, count) {
+            return Err(bare_fault(line, Kind::TooMany));
+        }
+        self.columns
+            .open(self.alloc, place, name, line, self.integer)?;
+        self.rows.put_pairs(part, places, &numbers)?;
+        self.count += count;
+        Ok(())
+    }
+}

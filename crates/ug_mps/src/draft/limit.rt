@@ -1,0 +1,65 @@
+ghost use Rattle.std.specs.Prelude.{◌≡◌, true, ◌≤◌, length, IfSome};
+ghost use Rattle.ug_lines.specs.Shapes.{bound, either};
+ghost use Rattle.ug_lines.specs.Shaped.{word_of};
+ghost use Rattle.ug_mps.specs.Drafts.{TakesShape, belongs};
+
+use crate::bound::{Amount, amount_of, change_of};
+use crate::draft::Draft;
+use crate::error::fault_of;
+use crate::fault::{Kind, MpsError};
+use ug_lines::BoundKind;
+
+impl Draft {
+    /// Takes a bound, or tells its fault.
+    pub fn bound(
+        &mut self,
+        line: u64,
+        kind: BoundKind,
+        set: Option<&[u8]>,
+        name: &[u8],
+        number: Option<&[u8]>,
+    ) -> Result<(), MpsError>
+        requires section { belongs self.old.section (bound kind (word_of set) name.now (word_of number)) ≡ true }
+        requires number { IfSome number (λ word. length word.now ≤ 255) }
+        ensures { TakesShape line (bound kind (word_of set.entry) name.now (word_of number.entry)) self.old self.new result }
+    {
+        if self.is_other_set(set) {
+            return Ok(());
+        }
+        let Some(at) = self.columns.find(name) else {
+            return Err(fault_of(self.alloc, line, Kind::Unknown, name));
+        };
+        let amount = match number {
+            None => None,
+            Some(word) => match amount_of(word) {
+                Some(amount) => Some(amount),
+                None => return Err(fault_of(self.alloc, line, Kind::Number, word)),
+            },
+        };
+        let Some(change) = change_of(kind, amount) else {
+            return Err(fault_of(self.alloc, line, Kind::TooWide, name));
+        };
+        self.use_set(set)?;
+        self.columns.change(at, change);
+        Ok(())
+    }
+
+    /// Takes a bound without a number that has two words behind its type: where the second names a column, the first is a
+    /// set's name.
+    pub fn either(
+        &mut self,
+        line: u64,
+        kind: BoundKind,
+        first: &[u8],
+        second: &[u8],
+    ) -> Result<(), MpsError>
+        requires { belongs self.old.section (either kind first.now second.now) ≡ true }
+        ensures { TakesShape line (either kind first.now second.now) self.old self.new result }
+    {
+        if self.columns.find(second).is_some() {
+            self.bound(line, kind, Some(first), second, None)
+        } else {
+            self.bound(line, kind, None, first, None)
+        }
+    }
+}
