@@ -6,3 +6,9 @@ pub mod HistoryLemmas
 pub mod ColumnsLemmas
 pub mod DraftLemmas
 pub mod Finds
+pub mod PairsLemmas
+pub mod ColumnLines
+pub mod SideLines
+pub mod BoundsLemmas
+pub mod LineLemmas
+pub mod HeaderLines

@@ -13,3 +13,5 @@ pub mod Rows
 pub mod RowSteps
 pub mod Columns
 pub mod Drafts
+pub mod Taking
+pub mod Reading

@@ -6,6 +6,7 @@ mod bound;
 mod draft;
 mod error;
 mod fault;
+mod line;
 mod names;
 mod pairs;
 mod role;

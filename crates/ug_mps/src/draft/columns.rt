@@ -177,10 +177,11 @@ impl Columns {
         requires room { place.at < 10000 }
         ensures { OnOk result (OpensColumn line name.now integer place.new self.old self.new) }
     {
-        if !place.new {
+        if place.new {
+            self.add(alloc, name, line, integer)?;
             return Ok(());
         }
-        self.add(alloc, name, line, integer)
+        Ok(())
     }
 
     /// Changes the bounds of a column.
