@@ -12,3 +12,5 @@ pub mod SideLines
 pub mod BoundsLemmas
 pub mod LineLemmas
 pub mod HeaderLines
+pub mod Outcome
+pub mod ReadLemmas

@@ -15,3 +15,4 @@ pub mod Columns
 pub mod Drafts
 pub mod Taking
 pub mod Reading
+pub mod Finish

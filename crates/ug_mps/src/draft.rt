@@ -1,5 +1,6 @@
 mod column;
 mod columns;
+mod finish;
 mod header;
 mod limit;
 mod row;
