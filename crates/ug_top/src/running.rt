@@ -3,18 +3,18 @@ ghost use Rattle.ug_problem.specs.Instances.{Instance};
 ghost use Rattle.ug_mps.specs.declared.fault.MpsFault.{MpsFault};
 ghost use Rattle.ug_mps.specs.Reads.{Reads, FirstFault};
 ghost use Rattle.ug_top.specs.Command.{IsSolve};
-ghost use Rattle.ug_top.specs.Outside.{Rose, IsCalm};
+ghost use Rattle.ug_io.specs.Outside.{Rose, IsCalm};
 ghost use Rattle.ug_top.specs.Ran.{Wrote};
 ghost use Rattle.ug_top.specs.Ends.{status_of, text_of, AreEndLines, IsEndOf, IsAnswerTo};
 
 use crate::command::file_of;
 use crate::gather::{GatherError, gather};
 use crate::lines::{answer_lines, refusal};
-use crate::outside::{Failed, Sink, Source};
 use crate::search::solve;
 use crate::status::Status;
 use crate::write::write_all;
 use std::alloc::{AllocError, Global};
+use ug_io::{Failed, Sink, Source};
 use ug_mps::{MpsError, one_outcome, read};
 use ug_problem::Problem;
 

@@ -1,6 +1,7 @@
-use crate::{MemorySink, MemorySource, Script, ScriptedSource, run};
+use crate::run;
 use std::alloc::Global;
 use std::test::Fail;
+use ug_io::{MemorySink, MemorySource, Script, ScriptedSource};
 
 const KNAP_HEAD: &str =
     "NAME SMALL\nOBJSENSE MAX\nROWS\n N Z\n L P\n L Q\n L R\nCOLUMNS\n M 'MARKER' 'INTORG'\n A Z 5 P 2\n A Q 4 R 3\n B Z 4 P 3\n B Q 1 R 4\n C Z 3 P 1\n C Q 2 R 2\n M 'MARKER' 'INTEND'\nRHS\n S P 5 Q 11\n";
