@@ -9,7 +9,7 @@ use std::process::ExitCode;
 use std::rt::Env;
 use std::{env, io};
 use ug_real::{Reader, Writer};
-use ug_top::{Status, file_of, run};
+use ug_top::{Status, command_of, run};
 
 // The words behind the program's own name. A word that is not UTF-8 is no command.
 fn words_of<R: Env + AllocGlobal>(rt: &R) -> Result<Vec<String>, Status> {
@@ -31,7 +31,7 @@ fn status_of(error: &io::Error) -> Status {
 
 // Runs the command, with the file that it names as the source.
 fn solve(rt: &HostRuntime, words: &[String]) -> Status {
-    let mut input = Reader::new(rt, file_of(words).unwrap_or(""));
+    let mut input = Reader::new(rt, command_of(words).map_or("", |command| command.file));
     let mut out = Writer::new(io::writer(rt));
     run(rt, rt.alloc(), words, &mut input, &mut out)
 }
@@ -42,7 +42,7 @@ fn main(rt: HostRuntime) -> ExitCode {
         Err(status) => status,
     };
     if status == Status::Usage {
-        let _ = eprintln!(rt; "usage: ug solve FILE");
+        let _ = eprintln!(rt; "usage: ug solve FILE [--box U]");
     }
     ExitCode::from(status.code())
 }

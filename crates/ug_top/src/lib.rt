@@ -13,7 +13,7 @@ mod search;
 mod status;
 mod write;
 
-pub use command::file_of;
+pub use command::{Command, command_of};
 pub use running::run;
 pub use status::Status;
 

@@ -1,4 +1,4 @@
-use crate::run;
+use crate::{command_of, run};
 use std::alloc::Global;
 use std::test::Fail;
 use ug_io::{MemorySink, MemorySource, Script, ScriptedSource};
@@ -143,5 +143,72 @@ fn words_that_are_no_command(rt: HostRuntime) -> Result<(), Fail> {
     let status = run(&rt, alloc, &words(alloc, "--box")?, &mut input, &mut out);
     assert_eq!(rt; status.code(), 2);
     assert_eq!(rt; out.bytes(), b"".as_slice());
+    Ok(())
+}
+
+// The words of this line, which stand behind a blank each but the first.
+fn words_of_line(alloc: Global, line: &str) -> Result<Vec<String>, Fail> {
+    let mut words = Vec::new(alloc);
+    for word in line.split(' ') {
+        words.push(String::from_str(alloc, word)?)?;
+    }
+    Ok(words)
+}
+
+#[test]
+fn commands(rt: HostRuntime) -> Result<(), Fail> {
+    let alloc = rt.alloc();
+    let commands = [
+        ("solve f", None),
+        ("solve f --box 5", Some(5)),
+        ("solve f --box=5", Some(5)),
+        ("solve --box 5 f", Some(5)),
+        ("solve --box=5 f", Some(5)),
+        ("solve f --box 0", Some(0)),
+        ("solve --box=1000000000 f", Some(1_000_000_000)),
+    ];
+    for (line, boxed) in commands {
+        match command_of(&words_of_line(alloc, line)?) {
+            Some(command) => {
+                assert_eq!(rt; command.file, "f");
+                assert_eq!(rt; command.boxed, boxed);
+            }
+            None => assert!(rt; false),
+        }
+    }
+    Ok(())
+}
+
+#[test]
+fn lines_that_are_no_command(rt: HostRuntime) -> Result<(), Fail> {
+    let alloc = rt.alloc();
+    let lines = [
+        "",
+        "solve",
+        "check f",
+        "solve f g",
+        "solve -f",
+        "solve --box 5",
+        "solve --box=5",
+        "solve f --box",
+        "solve f --box ",
+        "solve f --box=",
+        "solve f --boxed=5",
+        "solve f -box 5",
+        "solve f --box 05",
+        "solve f --box 00",
+        "solve f --box +5",
+        "solve f --box=-5",
+        "solve f --box 5x",
+        "solve f --box 1000000001",
+        "solve f --box 4294967296",
+        "solve f --box 5 --box 5",
+        "solve --box=5 f --box=5",
+        "solve --box f 5",
+        "--box 5 solve f",
+    ];
+    for line in lines {
+        assert!(rt; command_of(&words_of_line(alloc, line)?).is_none());
+    }
     Ok(())
 }
