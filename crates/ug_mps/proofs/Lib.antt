@@ -14,3 +14,4 @@ pub mod LineLemmas
 pub mod HeaderLines
 pub mod Outcome
 pub mod ReadLemmas
+pub mod WorkedTexts

@@ -7,6 +7,7 @@ pub mod Stated
 pub mod Reads
 pub mod Laws
 pub mod Names
+pub mod Examples
 pub mod Good
 pub mod Numbered
 pub mod Rows

@@ -14,5 +14,5 @@ mod reading;
 mod role;
 
 pub use fault::{Kind, MpsError, MpsFault};
-pub use laws::one_outcome;
+pub use laws::{one_outcome, worked_texts};
 pub use reading::read;
