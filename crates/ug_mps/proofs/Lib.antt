@@ -6,3 +6,4 @@ pub mod HistoryLemmas
 pub mod ColumnsLemmas
 pub mod DraftLemmas
 pub mod Finds
+pub mod ScalingLemmas

@@ -4,6 +4,7 @@ pub mod History
 pub mod Faults
 pub mod Says
 pub mod Stated
+pub mod Scales
 pub mod Reads
 pub mod Laws
 pub mod Names
@@ -13,3 +14,4 @@ pub mod Rows
 pub mod RowSteps
 pub mod Columns
 pub mod Drafts
+pub mod Finish
