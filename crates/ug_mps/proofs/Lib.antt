@@ -7,3 +7,4 @@ pub mod ColumnsLemmas
 pub mod DraftLemmas
 pub mod Finds
 pub mod ScalingLemmas
+pub mod MadeLemmas

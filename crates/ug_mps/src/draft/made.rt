@@ -61,15 +61,17 @@ fn signed(maximise: bool, number: i128) -> i128
     if maximise { -number } else { number }
 }
 
+#[tactic(auto, using(crate::proofs::MadeLemmas::signed_not))]
 // The terms with the sign that minimising wants.
 fn signed_terms(maximise: bool, terms: Terms) -> Terms
     requires { AreSmall terms }
     ensures { result ≡ signed_terms maximise terms }
 {
-    let mut terms = terms.into_vec();
-    if maximise {
-        negate(&mut terms);
+    if !maximise {
+        return terms;
     }
+    let mut terms = terms.into_vec();
+    negate(&mut terms);
     Items::from_vec(terms)
 }
 
