@@ -9,7 +9,6 @@ use crate::draft::columns::ColumnDraft;
 use crate::draft::made::make;
 use crate::draft::rows::RowDraft;
 use crate::fault::{Kind, MpsError, MpsFault};
-use crate::role::Role;
 use std::alloc::Global;
 use ug_lists::{Items, Text};
 use ug_problem::{Column, NamedRows};
@@ -143,7 +142,7 @@ impl Parts {
             (λ _. (row_fault_kept (name, draft) ≡ None) × (self.new ≡ and_row maximise self.old (name, draft)))
             (IsOf (row_fault_kept (name, draft))) }
     {
-        if draft.role == Role::Ignored {
+        if draft.role.is_ignored() {
             return Ok(());
         }
         let Some(made) = make(alloc, &draft)? else {
@@ -153,11 +152,11 @@ impl Parts {
                 word: Some(name),
             }));
         };
-        if draft.role == Role::Objective {
+        if draft.role.is_objective() {
             self.objective = made.into_objective(maximise);
-        } else {
-            self.rows.push(made.into_row(name))?;
+            return Ok(());
         }
+        self.rows.push(made.into_row(name))?;
         Ok(())
     }
 }
