@@ -8,3 +8,5 @@ pub mod DraftLemmas
 pub mod Finds
 pub mod ScalingLemmas
 pub mod MadeLemmas
+pub mod SideBySide
+pub mod PartsLemmas
