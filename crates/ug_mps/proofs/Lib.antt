@@ -10,3 +10,7 @@ pub mod ScalingLemmas
 pub mod MadeLemmas
 pub mod SideBySide
 pub mod PartsLemmas
+pub mod GoodLemmas
+pub mod StatedLemmas
+pub mod Counts
+pub mod ProblemLemmas
