@@ -15,3 +15,11 @@ pub mod HeaderLines
 pub mod Outcome
 pub mod ReadLemmas
 pub mod WorkedTexts
+pub mod ScalingLemmas
+pub mod MadeLemmas
+pub mod SideBySide
+pub mod PartsLemmas
+pub mod GoodLemmas
+pub mod StatedLemmas
+pub mod Counts
+pub mod ProblemLemmas

@@ -4,6 +4,7 @@ pub mod History
 pub mod Faults
 pub mod Says
 pub mod Stated
+pub mod Scales
 pub mod Reads
 pub mod Laws
 pub mod Names
