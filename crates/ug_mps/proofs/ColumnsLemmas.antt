@@ -1,7 +1,7 @@
 -- What lines do to what the columns have.
 use Rattle.std.proofs.Common.{◌≡◌, ℕ, ◌+◌, ◌-◌, ◌<◌, ◌≤◌, ◌&&◌, ◌||◌, not, cond, Bool, true, false, List, [], ◌∷◌, ◌++◌, length, get_or, set, map, Contains, Option, Some, None, sym, refl, ap, subst, ◌∙◌, arith, ⊎_elim}
 use Rattle.std.specs.Str.{bytes_eq}
-use Rattle.std.proofs.lemmas.Bool.{cases_eq, cases_Bool}
+use Rattle.std.proofs.lemmas.Bool.{cases_eq, cases_Bool, false≢true}
 use Rattle.std.proofs.lemmas.List.{same_lists, length-set, length-map, get_or-map, get_or-set_same, get_or-set_other, map_push}
 use Rattle.ug_mps.specs.declared.bound.Bound.{Bound}
 use Rattle.ug_mps.specs.declared.bound.Change.{Change}
@@ -13,7 +13,7 @@ use Rattle.ug_mps.specs.Good.{Good}
 use Rattle.ug_mps.specs.History.{ColumnBegun, columns_of, is_column, goes_on, place_of, is_integer_on, low_set, high_set, is_made_integer}
 use Rattle.ug_mps.specs.Stated.{is_integer}
 use Rattle.ug_mps.specs.Names.{name_at, StandsAt, AreDistinct}
-use Rattle.ug_mps.specs.Columns.{NamedColumns, column_so_far, new_column, column_at, with_change, AreColumns, FindsPlace}
+use Rattle.ug_mps.specs.Columns.{NamedColumns, column_so_far, new_column, column_at, with_change, AreColumns, FindsPlace, OpensColumn}
 use Rattle.ug_mps.proofs.Bytes.{any_true, any_none, bytes_same, bytes_apart, not_first, not_second}
 use Rattle.ug_mps.proofs.HistoryLemmas.{names_of, column_named, last_going, not_last, not_going, lows_known, highs_known, made_known}
 
@@ -130,3 +130,21 @@ columns_and_change set' name change h c at are apart here =
           (λ d s f. let t : bytes_eq d.name name ≡ true = bytes_same d.name name s in
           draft_same d.line _ _ _ _ _ _ (rw t (or_turn d.integer change.integer (is_made_integer h d.name))) (rw t refl) (rw t refl) ∙ ap (with_change change) f));
     }
+
+-- a line of a column at its place
+not_false' : (b : Bool) → true ≡ not b → b ≡ false
+not_false' true e = absurd (false≢true (sym e))
+not_false' false e = refl
+
+not_true' : (b : Bool) → false ≡ not b → b ≡ true
+not_true' true e = refl
+not_true' false e = absurd (false≢true e)
+
+pub open_going : (line : ℕ) (name : List ℕ) (integer new : Bool) (c : NamedColumns) → new ≡ false → OpensColumn line name integer new c c
+open_going line name integer new c f h pairs g are again n i = columns_going line name pairs h c (not_true' (goes_on h name) (sym f ∙ n)) are
+
+pub open_new : (line : ℕ) (name : List ℕ) (integer new : Bool) (c after : NamedColumns) → new ≡ true → ¬ Contains c.names name
+    → after ≡ record { names = c.names ++ name ∷ []; drafts = c.drafts ++ new_column line integer ∷ [] } → OpensColumn line name integer new c after
+open_new line name integer new c after t gone is h pairs g are again n i =
+    subst (λ cs. AreColumns (column line name pairs ∷ h) cs) (sym is)
+    (columns_new line name pairs h c integer g (not_false' (goes_on h name) (sym t ∙ n)) (gone_of h name c are gone) i are)

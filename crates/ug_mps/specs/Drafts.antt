@@ -10,6 +10,8 @@ use Rattle.ug_mps.specs.declared.draft.Draft.{Draft}
 use Rattle.ug_mps.specs.declared.fault.MpsFault.{MpsFault}
 use Rattle.ug_mps.specs.declared.fault.MpsError.{MpsError}
 use Rattle.ug_mps.specs.declared.fault.MpsError.TheVariants.{Memory, Fault}
+use Rattle.ug_mps.specs.declared.bound.Amount.{Amount}
+use Rattle.ug_mps.specs.Bounds.{amount_of}
 use Rattle.ug_mps.specs.Entries.{Entry}
 use Rattle.ug_mps.specs.Faults.{Complaint, or_fault, fault_where, may_stand, is_other, is_ranges}
 use Rattle.ug_lines.specs.Kinds.{sense_of_word}
@@ -119,3 +121,14 @@ is_passed_set (Some set) used = is_other set used
 -- what pairs give their rows in a section
 abbrev pub part_in : Option Section → Part
 part_in section = if is_ranges section then parts.Range else parts.Side
+
+-- the set after a line that uses one: the one that it names, or else the one before
+abbrev pub first_set : Option (List ℕ) → Option (List ℕ) → Option (List ℕ)
+first_set None used = used
+first_set (Some set) used = Some set
+
+-- the amount is that of the number, if there is one
+abbrev pub IsAmountOf : Option (List ℕ) → Option Amount → Type 0
+IsAmountOf None None = Unit {0}
+IsAmountOf (Some word) (Some a) = amount_of word ≡ Some a
+IsAmountOf _ _ = ⊥

@@ -1,11 +1,12 @@
 -- Laws on what texts state.
-use Rattle.std.specs.Prelude.{◌≡◌, ℕ, List, Option}
+use Rattle.std.specs.Prelude.{◌≡◌, ◌⊎◌, ℕ, List, Option}
 use Rattle.ug_problem.specs.Instances.{Instance}
 use Rattle.ug_mps.specs.declared.fault.MpsFault.{MpsFault}
 use Rattle.ug_mps.specs.Reads.{Reads, FirstFault}
 
--- a text states one problem or has one first fault, one of the two, whatever the box
+-- a text states a problem or has a first fault, never both, and there is one of it
 pub record HasOneOutcome (text : List ℕ) (boxed : Option ℕ) : Type 0 where
+  pub some : ((p : Instance) × Reads text boxed p) ⊎ ((f : MpsFault) × FirstFault text boxed f)
   pub problem : (p q : Instance) → Reads text boxed p → Reads text boxed q → p ≡ q
   pub fault : (f g : MpsFault) → FirstFault text boxed f → FirstFault text boxed g → f ≡ g
   pub apart : (p : Instance) (f : MpsFault) → Reads text boxed p → FirstFault text boxed f → ⊥

@@ -4,12 +4,17 @@ pub mod History
 pub mod Faults
 pub mod Says
 pub mod Stated
+pub mod Scales
 pub mod Reads
 pub mod Laws
 pub mod Names
+pub mod Examples
 pub mod Good
 pub mod Numbered
 pub mod Rows
 pub mod RowSteps
 pub mod Columns
 pub mod Drafts
+pub mod Taking
+pub mod Reading
+pub mod Finish

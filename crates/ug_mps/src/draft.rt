@@ -1,9 +1,13 @@
 mod column;
 mod columns;
+mod finish;
 mod header;
 mod limit;
+mod made;
+mod parts;
 mod row;
 mod rows;
+mod scaling;
 mod sides;
 
 ghost use Rattle.std.specs.Prelude.{◌≡◌, [], List, true};
@@ -12,6 +16,7 @@ ghost use Rattle.ug_lines.specs.Shaped.{shape_shaped};
 ghost use Rattle.ug_mps.specs.Drafts.{Drafts, TakesShape, belongs, IsWorded};
 ghost use Rattle.ug_mps.specs.Entries.{Entry};
 ghost use Rattle.ug_mps.specs.History.{section_of};
+ghost use Rattle.ug_mps.specs.Says.{is_ended};
 
 use crate::draft::columns::Columns;
 use crate::draft::rows::Rows;
@@ -65,9 +70,20 @@ impl Draft {
 
     /// The section in which the next data line stands.
     pub fn section(&self) -> Option<Section>
-        ensures { (h : List Entry) → Drafts h self.now → result ≡ section_of h }
+        ensures value { result ≡ self.now.section }
+        ensures section { (h : List Entry) → Drafts h self.now → result ≡ section_of h }
     {
         self.section
+    }
+
+    /// Whether ENDATA was taken.
+    pub fn is_ended(&self) -> bool
+        ensures { (h : List Entry) → Drafts h self.now → result ≡ is_ended h }
+    {
+        match self.section {
+            Some(Section::Endata) => true,
+            _ => false,
+        }
     }
 
     /// Takes the next line, which has this number and this shape, or tells its fault. After an error the draft is of no

@@ -6,8 +6,13 @@ mod bound;
 mod draft;
 mod error;
 mod fault;
+mod laws;
+mod line;
 mod names;
 mod pairs;
+mod reading;
 mod role;
 
 pub use fault::{Kind, MpsError, MpsFault};
+pub use laws::{one_outcome, worked_texts};
+pub use reading::read;

@@ -2,8 +2,8 @@
 use Rattle.std.proofs.Common.{◌≡◌, ℕ, List, [], ◌++◌, Option, Some, None, take, drop, refl, ap, sym, ◌∙◌, append_assoc, append-nil, take-append-drop}
 use Rattle.std.specs.Option.{option_map}
 use Rattle.std.proofs.Common.{IfSome, subst, inl, inr}
-use Rattle.ug_top.specs.Outside.{Gives, Takes, IsAtEnd, IsEnough}
-use Rattle.ug_mps.specs.Laws.{IsDecided}
+use Rattle.ug_io.specs.Outside.{Gives, Takes, IsAtEnd}
+use Rattle.ug_top.specs.Enough.{IsEnough}
 
 -- a front of the bytes went there, and these are left
 pub record Went (old new : Option (List ℕ)) (bytes rest : List ℕ) : Type 0 where
@@ -35,19 +35,3 @@ pub gives_more : (a b c : Option (List ℕ)) (xs ys : List ℕ) → Gives a b xs
 gives_more a b None xs ys p q = p ∙ ap (λ o. option_map (λ rest. xs ++ rest) o) q
 gives_more a b (Some r) xs ys p q =
     p ∙ ap (λ o. option_map (λ rest. xs ++ rest) o) q ∙ ap (λ t. Some t) (sym (append_assoc xs ys r))
-
--- all came
-pub enough_at_end : (a b : Option (List ℕ)) (xs : List ℕ) → Gives a b xs → IsAtEnd b → IfSome a (λ whole. IsEnough whole xs)
-enough_at_end a None xs p q = subst (λ o. IfSome o (λ whole. IsEnough whole xs)) (sym p) tt
-enough_at_end a (Some r) xs p q =
-    subst (λ o. IfSome o (λ whole. IsEnough whole xs)) (sym p) (inl (ap (λ t. xs ++ t) q ∙ append-nil xs))
-
--- a front that decides came
-pub enough_decided : (a b : Option (List ℕ)) (xs : List ℕ) (n : ℕ) → Gives a b xs → IsDecided (take n xs) → IfSome a (λ whole. IsEnough whole (take n xs))
-enough_decided a None xs n p q = subst (λ o. IfSome o (λ whole. IsEnough whole (take n xs))) (sym p) tt
-enough_decided a (Some r) xs n p q = subst (λ o. IfSome o (λ whole. IsEnough whole (take n xs))) (sym p)
-    (inr (record {
-      rest = drop n xs ++ r;
-      parts = ap (λ t. t ++ r) (sym (take-append-drop n xs)) ∙ append_assoc (take n xs) (drop n xs) r;
-      decided = q;
-    }))

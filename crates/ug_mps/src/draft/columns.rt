@@ -7,6 +7,7 @@ use crate::bound::{Bound, Change};
 use crate::names::Names;
 use std::alloc::{AllocError, Global};
 use std::marker::Model;
+use ug_lists::Text;
 
 /// What a column has so far.
 #[derive(Clone, Copy, Debug)]
@@ -177,10 +178,11 @@ impl Columns {
         requires room { place.at < 10000 }
         ensures { OnOk result (OpensColumn line name.now integer place.new self.old self.new) }
     {
-        if !place.new {
+        if place.new {
+            self.add(alloc, name, line, integer)?;
             return Ok(());
         }
-        self.add(alloc, name, line, integer)
+        Ok(())
     }
 
     /// Changes the bounds of a column.
@@ -192,5 +194,14 @@ impl Columns {
     {
         let draft = self.drafts[at as usize];
         self.drafts[at as usize] = changed(draft, change);
+    }
+
+    /// The names, and what is kept of each column. It takes no memory.
+    pub fn into_parts(self) -> (Vec<Text>, Vec<ColumnDraft>)
+        ensures names { result.0.items ≡ self.names }
+        ensures drafts { result.1.items ≡ self.drafts }
+    {
+        let Columns { names, drafts } = self;
+        (names.into_vec(), drafts)
     }
 }

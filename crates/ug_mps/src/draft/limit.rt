@@ -1,13 +1,30 @@
-ghost use Rattle.std.specs.Prelude.{◌≡◌, true, ◌≤◌, length, IfSome};
+ghost use Rattle.std.specs.Prelude.{◌≡◌, ◌≤◌, true, length, Some, None, IfSome, MatchResult};
 ghost use Rattle.ug_lines.specs.Shapes.{bound, either};
 ghost use Rattle.ug_lines.specs.Shaped.{word_of};
-ghost use Rattle.ug_mps.specs.Drafts.{TakesShape, belongs};
+ghost use Rattle.ug_mps.specs.Bounds.{IsAmount, amount_of};
+ghost use Rattle.ug_mps.specs.Drafts.{TakesShape, belongs, IsAmountOf};
 
 use crate::bound::{Amount, amount_of, change_of};
 use crate::draft::Draft;
 use crate::error::fault_of;
 use crate::fault::{Kind, MpsError};
 use ug_lines::BoundKind;
+
+// The amount of a number, if there is one, or the word that is none.
+fn amount_said<'a>(number: Option<&'a [u8]>) -> Result<Option<Amount>, &'a [u8]>
+    requires { IfSome number (λ word. length word.now ≤ 255) }
+    ensures said { MatchResult result
+        (λ a. IsAmountOf (word_of number.entry) a × IfSome a IsAmount)
+        (λ word. (word_of number.entry ≡ Some word.now) × (amount_of word.now ≡ None)) }
+{
+    match number {
+        None => Ok(None),
+        Some(word) => match amount_of(word) {
+            Some(amount) => Ok(Some(amount)),
+            None => Err(word),
+        },
+    }
+}
 
 impl Draft {
     /// Takes a bound, or tells its fault.
@@ -29,12 +46,9 @@ impl Draft {
         let Some(at) = self.columns.find(name) else {
             return Err(fault_of(self.alloc, line, Kind::Unknown, name));
         };
-        let amount = match number {
-            None => None,
-            Some(word) => match amount_of(word) {
-                Some(amount) => Some(amount),
-                None => return Err(fault_of(self.alloc, line, Kind::Number, word)),
-            },
+        let amount = match amount_said(number) {
+            Ok(amount) => amount,
+            Err(word) => return Err(fault_of(self.alloc, line, Kind::Number, word)),
         };
         let Some(change) = change_of(kind, amount) else {
             return Err(fault_of(self.alloc, line, Kind::TooWide, name));

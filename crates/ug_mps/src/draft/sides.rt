@@ -73,8 +73,8 @@ impl Draft {
             Ok(numbers) => numbers,
             Err(word) => return Err(fault_of(self.alloc, line, Kind::Number, word)),
         };
-        self.use_set(set)?;
         self.rows.put_pairs(part, places, &numbers)?;
+        self.use_set(set)?;
         Ok(())
     }
 }

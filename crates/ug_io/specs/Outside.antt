@@ -1,0 +1,31 @@
+-- What is said of the outside: bytes that come and go, where they are told, and a count of faults.
+use Rattle.std.specs.Prelude.{◌≡◌, ℕ, ◌-◌, ◌<◌, ◌≤◌, ◌^◌, ◌⊎◌, List, [], ◌++◌, Option, IfSome}
+use Rattle.std.specs.Option.{option_map}
+
+-- the count of faults rose; one that stands at its greatest value counts as risen
+abbrev pub Rose : ℕ → ℕ → Type 0
+Rose old new = (old < new) ⊎ (2 ^ 64 - 1 ≤ old)
+
+-- no fault rose: the count stayed, below its greatest value
+pub record IsCalm (old new : ℕ) : Type 0 where
+  pub same : new ≡ old
+  pub small : old < 2 ^ 64 - 1
+
+-- these bytes came from the front of what was left
+abbrev pub Gives : Option (List ℕ) → Option (List ℕ) → List ℕ → Type 0
+Gives old new bytes = old ≡ option_map (λ rest. bytes ++ rest) new
+
+-- nothing is left
+abbrev pub IsAtEnd : Option (List ℕ) → Type 0
+IsAtEnd left = IfSome left (λ rest. rest ≡ [])
+
+-- these bytes went to the end of what was written
+abbrev pub Takes : Option (List ℕ) → Option (List ℕ) → List ℕ → Type 0
+Takes old new bytes = new ≡ option_map (λ written. written ++ bytes) old
+
+-- a front of the bytes went there
+pub record TakesFront (old new : Option (List ℕ)) (bytes : List ℕ) : Type 0 where
+  pub front : List ℕ
+  pub rest : List ℕ
+  pub parts : bytes ≡ front ++ rest
+  pub taken : Takes old new front

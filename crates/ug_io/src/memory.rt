@@ -1,0 +1,159 @@
+//! The outside in memory: for tests, and for whoever has the bytes already.
+
+ghost use Rattle.std.specs.Prelude.{◌≡◌, ◌<◌, ◌≤◌, ◌++◌, [], length, take, Some, OnOk, OnErr};
+ghost use Rattle.ug_io.specs.Outside.{Rose};
+
+use crate::outside::{Failed, Sink, Source};
+use std::alloc::Global;
+
+/// Bytes in memory as a source. It never fails.
+#[derive(Debug, Drop)]
+pub struct MemorySource<'a> {
+    pub rest: &'a [u8],
+}
+
+impl Source for MemorySource<'_> {
+    ghost left = { λ s. Some s.rest.now };
+
+    ghost faults = { λ _. 0 };
+
+    fn read(&mut self, buffer: &mut [u8]) -> Result<usize, Failed> {
+        Ok(move_front(&mut self.rest, buffer))
+    }
+}
+
+// Moves the front of the bytes into the buffer, as much as it takes, and says how much.
+fn move_front(rest: &mut &[u8], buffer: &mut [u8]) -> usize
+    ensures within { result ≤ length buffer.new }
+    ensures bytes { rest.old.now ≡ take result buffer.new ++ rest.new.now }
+    ensures end { result ≡ 0 → 0 < length buffer.old → rest.old.now ≡ [] }
+{
+    let n = buffer.len().min(rest.len());
+    let (front, after) = rest.split_at(n);
+    buffer[..n].copy_from_slice(front);
+    *rest = after;
+    n
+}
+
+/// Which calls of a scripted form fail, and how many bytes a call moves at most.
+#[derive(Debug, Drop)]
+pub struct Script {
+    /// The calls that fail, counted from 1.
+    failing: Vec<u64>,
+    /// What a call moves at most; 0 counts as 1.
+    most: usize,
+    calls: u64,
+    faults: u64,
+}
+
+impl Script {
+    ghost use Rattle.ug_io.specs.Scripted.{faults_of};
+
+    /// A script under which these calls fail.
+    pub fn new(failing: Vec<u64>, most: usize) -> Script
+        ensures { faults_of result ≡ 0 }
+    {
+        Script {
+            failing,
+            most,
+            calls: 0,
+            faults: 0,
+        }
+    }
+
+    // The next call, and whether it fails.
+    fn step(&mut self) -> Result<(), Failed>
+        ensures failed { OnErr result (Rose (faults_of self.old) (faults_of self.new)) }
+        ensures calm { OnOk result (faults_of self.new ≡ faults_of self.old) }
+    {
+        self.calls = self.calls.saturating_add(1);
+        if self.failing.contains(&self.calls) {
+            self.fail();
+            return Err(Failed);
+        }
+        Ok(())
+    }
+
+    // One fault more.
+    fn fail(&mut self)
+        ensures { Rose (faults_of self.old) (faults_of self.new) }
+    {
+        self.faults = self.faults.saturating_add(1);
+    }
+
+    // How many of these many bytes a call moves.
+    fn portion(&self, len: usize) -> usize
+        ensures within { result ≤ len }
+        ensures some { 0 < len → 0 < result }
+    {
+        len.min(self.most.max(1))
+    }
+}
+
+/// Bytes in memory as a source, which fails where its script says.
+#[derive(Debug, Drop)]
+pub struct ScriptedSource<'a> {
+    pub rest: &'a [u8],
+    pub script: Script,
+}
+
+impl Source for ScriptedSource<'_> {
+    ghost use Rattle.ug_io.specs.Scripted.{faults_of};
+
+    ghost left = { λ s. Some s.rest.now };
+
+    ghost faults = { λ s. faults_of s.script };
+
+    fn read(&mut self, buffer: &mut [u8]) -> Result<usize, Failed> {
+        self.script.step()?;
+        let n = self.script.portion(buffer.len());
+        Ok(move_front(&mut self.rest, &mut buffer[..n]))
+    }
+}
+
+/// A sink that keeps what is written in a vector. It fails where its script says, or memory is wanting.
+#[derive(Debug, Drop)]
+pub struct MemorySink {
+    written: Vec<u8>,
+    script: Script,
+}
+
+impl MemorySink {
+    ghost use Rattle.ug_io.specs.Scripted.{bytes_of};
+
+    /// A sink with nothing written.
+    pub fn new(alloc: Global, script: Script) -> MemorySink
+        ensures { bytes_of result ≡ [] }
+    {
+        MemorySink {
+            written: Vec::new(alloc),
+            script,
+        }
+    }
+
+    /// What was written.
+    pub fn bytes(&self) -> &[u8]
+        ensures { result.now ≡ bytes_of self.now }
+    {
+        self.written.as_slice()
+    }
+}
+
+impl Sink for MemorySink {
+    ghost use Rattle.ug_io.specs.Scripted.{faults_of, bytes_of};
+
+    ghost written = { λ s. Some (bytes_of s) };
+
+    ghost faults = { λ s. faults_of s.script };
+
+    fn write(&mut self, bytes: &[u8]) -> Result<usize, Failed> {
+        self.script.step()?;
+        let n = self.script.portion(bytes.len());
+        let (front, _) = bytes.split_at(n);
+        if self.written.extend_from_slice(front).is_err() {
+            self.script.fail();
+            return Err(Failed);
+        }
+        Ok(n)
+    }
+}

@@ -1,0 +1,17 @@
+use Rattle.std.proofs.Common.{◌≡◌, ◌∙◌, Bor, List, ℕ, map, None, sym, refl, ap, subst}
+use Rattle.ug_mps.specs.declared.fault.Kind.TheVariants as kinds
+use Rattle.ug_mps.specs.Faults.{fault_where}
+use Rattle.ug_mps.specs.Taking.{AreWords}
+use Rattle.ug_mps.proofs.LineLemmas.{legible_words, line_taken}
+use Rattle.ug_mps.proofs.line.take_line.Goals as goal
+
+pub take_words-requires : goal.take_words-requires
+take_words-requires c =
+    subst (λ ws. AreWords (map (λ (word : Bor (List ℕ)). word.now) ws)) (sym c.deref.ensures.value)
+    (subst (λ ws. AreWords ws) (sym c.in_ok-words.ensures) (legible_words c.args.content.now (sym c.if-not-is_legible.ensures)))
+
+pub returns : goal.returns
+returns c = λ h d.
+    line_taken h c.args.line (record { content = c.args.content.now; through = c.args.through }) _ c.take_words.result c.is_data.result (map (λ (word : Bor (List ℕ)). word.now) c.deref.result.now)
+    (ap (fault_where kinds.TooLong) (sym c.if-is_too_long.ensures)) (sym c.if-is_comment.ensures) (sym c.if-not-is_legible.ensures) c.is_data.ensures
+    (ap (map (λ (word : Bor (List ℕ)). word.now)) c.deref.ensures.value ∙ c.in_ok-words.ensures) (c.take_words.ensures h d)
