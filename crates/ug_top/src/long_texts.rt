@@ -5,7 +5,13 @@ use std::alloc::Global;
 use std::test::Fail;
 
 // Lines from 0 up to this count, each with its number between the two parts.
-fn push_lines(alloc: Global, text: &mut String, before: &str, count: u32, after: &str) -> Result<(), Fail> {
+fn push_lines(
+    alloc: Global,
+    text: &mut String,
+    before: &str,
+    count: u32,
+    after: &str,
+) -> Result<(), Fail> {
     for number in 0..count {
         text.push_str(format!(in alloc; "{before}{number}{after}")?.as_str())?;
     }
@@ -28,7 +34,15 @@ fn rows_at_their_limit(rt: HostRuntime) -> Result<(), Fail> {
     assert!(rt; compare(alloc, text.as_str(), " N R\n", 3, "refused 10002 TooMany")?);
     // Ahead of it stand the other faults of the line.
     assert!(rt; compare(alloc, text.as_str(), " X R\n", 3, "refused 10002 RowKind X")?);
-    assert!(rt; compare(alloc, text.as_str(), " L R7\n", 3, "refused 10002 Duplicate R7")?);
+    assert!(rt;
+        compare(
+            alloc,
+            text.as_str(),
+            " L R7\n",
+            3,
+            "refused 10002 Duplicate R7"
+        )?
+    );
     Ok(())
 }
 
@@ -40,9 +54,33 @@ fn columns_at_their_limit(rt: HostRuntime) -> Result<(), Fail> {
     assert!(rt; compare(alloc, text.as_str(), "ENDATA\n", 0, "optimal 0")?);
     assert!(rt; compare(alloc, text.as_str(), " C Z 1\n", 3, "refused 10005 TooMany")?);
     // Ahead of it stand the other faults of the line.
-    assert!(rt; compare(alloc, text.as_str(), " C Z x\n", 3, "refused 10005 Number x")?);
-    assert!(rt; compare(alloc, text.as_str(), " C Y 1\n", 3, "refused 10005 Unknown Y")?);
-    assert!(rt; compare(alloc, text.as_str(), " C7 Z 1\n", 3, "refused 10005 Duplicate C7")?);
+    assert!(rt;
+        compare(
+            alloc,
+            text.as_str(),
+            " C Z x\n",
+            3,
+            "refused 10005 Number x"
+        )?
+    );
+    assert!(rt;
+        compare(
+            alloc,
+            text.as_str(),
+            " C Y 1\n",
+            3,
+            "refused 10005 Unknown Y"
+        )?
+    );
+    assert!(rt;
+        compare(
+            alloc,
+            text.as_str(),
+            " C7 Z 1\n",
+            3,
+            "refused 10005 Duplicate C7"
+        )?
+    );
     Ok(())
 }
 
@@ -59,7 +97,23 @@ fn pairs_at_their_limit(rt: HostRuntime) -> Result<(), Fail> {
     }
     push_lines(alloc, &mut text, " D", 100, " Z 0\n")?;
     assert!(rt; compare(alloc, text.as_str(), "ENDATA\n", 0, "optimal 0")?);
-    assert!(rt; compare(alloc, text.as_str(), " D99 R1 0\n", 3, "refused 1010004 TooMany")?);
-    assert!(rt; compare(alloc, text.as_str(), " D R1 0 R2 0\n", 3, "refused 1010004 TooMany")?);
+    assert!(rt;
+        compare(
+            alloc,
+            text.as_str(),
+            " D99 R1 0\n",
+            3,
+            "refused 1010004 TooMany"
+        )?
+    );
+    assert!(rt;
+        compare(
+            alloc,
+            text.as_str(),
+            " D R1 0 R2 0\n",
+            3,
+            "refused 1010004 TooMany"
+        )?
+    );
     Ok(())
 }
