@@ -14,3 +14,5 @@ pub mod GoodLemmas
 pub mod StatedLemmas
 pub mod Counts
 pub mod ProblemLemmas
+pub mod FinishLemmas
+pub mod EndLemmas
