@@ -16,3 +16,4 @@ pub mod Counts
 pub mod ProblemLemmas
 pub mod FinishLemmas
 pub mod EndLemmas
+pub mod ScaleLaws

@@ -6,8 +6,10 @@ mod bound;
 mod draft;
 mod error;
 mod fault;
+mod laws;
 mod names;
 mod pairs;
 mod role;
 
 pub use fault::{Kind, MpsError, MpsFault};
+pub use laws::least_scale;
