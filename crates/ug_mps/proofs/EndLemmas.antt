@@ -44,45 +44,51 @@ instance_same cs cs' rs rs' o o' a b c = cc
 
 -- ---- what columns and rows say
 
-module _ (boxed : Option ℕ) (h : List Entry) (d : Draft) (drafts : Drafts h d) where
-  -- the names and what is kept of the columns
-  module _ (names : List (List ℕ)) (kept : List ColumnDraft) (are_names : names ≡ d.columns.names) (are_kept : kept ≡ d.columns.drafts) where
-    same_fault : first_fault (column_fault_kept boxed) (zip names kept) ≡ first_fault (column_fault boxed h) (columns_of h)
-    same_fault = rw (are_names, are_kept) (columns_fault boxed h d.columns drafts.columns)
+-- no column has a fault, and the columns are those stated
+pub record AreColumnsStated (boxed : Option ℕ) (h : List Entry) (columns : List Column) : Type 0 where
+  pub none : first_fault (column_fault boxed h) (columns_of h) ≡ None
+  pub made : columns ≡ map (stated_column boxed h) (columns_of h)
 
-    pub columns_none : first_fault (column_fault_kept boxed) (zip names kept) ≡ None → first_fault (column_fault boxed h) (columns_of h) ≡ None
-    columns_none e = sym same_fault ∙ e
+-- the names and what is kept of the columns
+module _ (boxed : Option ℕ) (h : List Entry) (d : Draft) (drafts : Drafts h d)
+    (names : List (List ℕ)) (kept : List ColumnDraft) (are_names : names ≡ d.columns.names) (are_kept : kept ≡ d.columns.drafts) where
+  same_fault : first_fault (column_fault_kept boxed) (zip names kept) ≡ first_fault (column_fault boxed h) (columns_of h)
+  same_fault = rw (are_names, are_kept) (columns_fault boxed h d.columns drafts.columns)
 
-    pub columns_made : (columns : List Column) → columns ≡ map (made_column boxed) (zip names kept) → columns ≡ map (stated_column boxed h) (columns_of h)
-    columns_made columns e = e ∙ rw (are_names, are_kept) (columns_stated boxed h d.columns drafts.columns)
+  pub columns_good : (columns : List Column) → (first_fault (column_fault_kept boxed) (zip names kept) ≡ None) × (columns ≡ map (made_column boxed) (zip names kept)) → AreColumnsStated boxed h columns
+  columns_good columns good = record {
+    none = sym same_fault ∙ good.0;
+    made = good.1 ∙ rw (are_names, are_kept) (columns_stated boxed h d.columns drafts.columns);
+  }
 
-    pub columns_end : (e : MpsError) (r : Result Instance MpsError) → IsOf (first_fault (column_fault_kept boxed) (zip names kept)) e → IsErrAnd r (λ x. x ≡ e) → Ends boxed h r
-    columns_end e r is same =
-        passed_on boxed h r e same (of_columns (first_fault (column_fault boxed h) (columns_of h)) (first_fault (row_fault h) (rows_of h)) e (subst (λ f. IsOf f e) same_fault is))
+  pub columns_bad : (e : MpsError) (r : Result Instance MpsError) → IsOf (first_fault (column_fault_kept boxed) (zip names kept)) e → IsErrAnd r (λ x. x ≡ e) → Ends boxed h r
+  columns_bad e r is same =
+      passed_on boxed h r e same (of_columns (first_fault (column_fault boxed h) (columns_of h)) (first_fault (row_fault h) (rows_of h)) e (subst (λ f. IsOf f e) same_fault is))
 
-  -- the names and what is kept of the rows, where no column has a fault
-  module _ (names : List (List ℕ)) (kept : List RowDraft) (are_names : names ≡ d.rows.names) (are_kept : kept ≡ d.rows.drafts) where
-    same_row_fault : first_fault row_fault_kept (zip names kept) ≡ first_fault (row_fault h) (rows_of h)
-    same_row_fault = rw (are_names, are_kept) (rows_fault h d.rows drafts.rows)
+-- the names and what is kept of the rows
+module _ (boxed : Option ℕ) (h : List Entry) (d : Draft) (drafts : Drafts h d)
+    (names : List (List ℕ)) (kept : List RowDraft) (are_names : names ≡ d.rows.names) (are_kept : kept ≡ d.rows.drafts) where
+  same_row_fault : first_fault row_fault_kept (zip names kept) ≡ first_fault (row_fault h) (rows_of h)
+  same_row_fault = rw (are_names, are_kept) (rows_fault h d.rows drafts.rows)
 
-    pub rows_decimal : All HasDecimals kept
-    rows_decimal = subst (λ (ds : List RowDraft). All HasDecimals ds) (sym are_kept) (drafts_decimal h d.rows drafts.good drafts.rows)
+  pub rows_decimal : All HasDecimals kept
+  rows_decimal = subst (λ (ds : List RowDraft). All HasDecimals ds) (sym are_kept) (drafts_decimal h d.rows drafts.good drafts.rows)
 
-    pub rows_end : first_fault (column_fault boxed h) (columns_of h) ≡ None → (e : MpsError) (r : Result Instance MpsError)
-        → IsOf (first_fault row_fault_kept (zip names kept)) e → IsErrAnd r (λ x. x ≡ e) → Ends boxed h r
-    rows_end n e r is same =
-        passed_on boxed h r e same (of_rows (first_fault (column_fault boxed h) (columns_of h)) (first_fault (row_fault h) (rows_of h)) e n (subst (λ f. IsOf f e) same_row_fault is))
+  pub rows_bad : (columns : List Column) → AreColumnsStated boxed h columns → (e : MpsError) (r : Result Instance MpsError)
+      → IsOf (first_fault row_fault_kept (zip names kept)) e → IsErrAnd r (λ x. x ≡ e) → Ends boxed h r
+  rows_bad columns c e r is same =
+      passed_on boxed h r e same (of_rows (first_fault (column_fault boxed h) (columns_of h)) (first_fault (row_fault h) (rows_of h)) e c.none (subst (λ f. IsOf f e) same_row_fault is))
 
-    pub parts_stated : IsBox boxed → first_fault (column_fault boxed h) (columns_of h) ≡ None → (columns : List Column) → columns ≡ map (stated_column boxed h) (columns_of h)
-        → (parts : Parts) → first_fault row_fault_kept (zip names kept) ≡ None → parts ≡ parts_made d.maximise (zip names kept) → AreStated boxed h (instance_of columns parts.rows parts.objective)
-    parts_stated b n columns c parts m is = record {
-      good = drafts.good;
-      box = b;
-      none = rw (n, ← same_row_fault) m;
-      parts = instance_same columns _ parts.rows _ parts.objective _ c
-          (ap (λ (p : Parts). p.rows) is ∙ rw (are_names, are_kept) (rows_stated h d.rows drafts.rows))
-          (ap (λ (p : Parts). p.objective) is ∙ rw (are_names, are_kept) (objective_stated d.maximise h d.rows drafts.maximise drafts.rows));
-    }
+  pub rows_good : IsBox boxed → (columns : List Column) → AreColumnsStated boxed h columns
+      → (parts : Parts) → (first_fault row_fault_kept (zip names kept) ≡ None) × (parts ≡ parts_made d.maximise (zip names kept)) → AreStated boxed h (instance_of columns parts.rows parts.objective)
+  rows_good b columns c parts good = record {
+    good = drafts.good;
+    box = b;
+    none = rw (c.none, ← same_row_fault) good.0;
+    parts = instance_same columns _ parts.rows _ parts.objective _ c.made
+        (ap (λ (p : Parts). p.rows) good.1 ∙ rw (are_names, are_kept) (rows_stated h d.rows drafts.rows))
+        (ap (λ (p : Parts). p.objective) good.1 ∙ rw (are_names, are_kept) (objective_stated d.maximise h d.rows drafts.maximise drafts.rows));
+  }
 
 pub stated_end : (boxed : Option ℕ) (h : List Entry) (parts : Instance) (r : Result Instance MpsError) → AreStated boxed h parts → MatchResult r (λ p. p ≡ parts) (λ e. e ≡ Memory) → Ends boxed h r
 stated_end boxed h parts (Ok p) s is = (s.none, is ∙ s.parts)
