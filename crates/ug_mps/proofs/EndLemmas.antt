@@ -1,5 +1,5 @@
 -- What a draft says once all lines are taken.
-use Rattle.std.proofs.Common.{◌≡◌, ℕ, Bool, List, map, All, Option, Some, None, Result, Ok, Err, MatchResult, sym, refl, ap, subst, ◌∙◌}
+use Rattle.std.proofs.Common.{◌≡◌, ℕ, List, map, All, Option, None, Result, Ok, Err, MatchResult, sym, refl, ap, subst, ◌∙◌}
 use Rattle.std.specs.List.{zip}
 use Rattle.std.specs.Result.{IsErrAnd}
 use Rattle.ug_rows.specs.declared.row.Objective as target
@@ -15,10 +15,10 @@ use Rattle.ug_mps.specs.declared.fault.MpsError.TheVariants.{Memory, Fault}
 use Rattle.ug_mps.specs.declared.fault.MpsFault.{MpsFault}
 use Rattle.ug_mps.specs.Drafts.{Drafts}
 use Rattle.ug_mps.specs.Entries.{Entry}
-use Rattle.ug_mps.specs.Finish.{IsOf, IsEndFault, IsBox, column_fault_kept, made_column, HasDecimals, row_fault_kept, made_rows, last_objective, parts_made, AreStated}
-use Rattle.ug_mps.specs.History.{rows_of, columns_of, is_maximised}
+use Rattle.ug_mps.specs.Finish.{IsOf, IsEndFault, IsBox, column_fault_kept, made_column, HasDecimals, row_fault_kept, parts_made, AreStated}
+use Rattle.ug_mps.specs.History.{rows_of, columns_of}
 use Rattle.ug_mps.specs.Reads.{or_else, first_fault, column_fault, row_fault, end_fault}
-use Rattle.ug_mps.specs.Stated.{no_objective, stated_column, stated_rows, objective_in, stated}
+use Rattle.ug_mps.specs.Stated.{stated_column, stated}
 use Rattle.ug_mps.proofs.FinishLemmas.{columns_fault, columns_stated, rows_fault, rows_stated, drafts_decimal, objective_stated}
 
 -- ---- errors

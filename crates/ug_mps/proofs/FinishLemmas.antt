@@ -1,5 +1,5 @@
 -- What is made at the end is what the lines state.
-use Rattle.std.proofs.Common.{◌≡◌, ℕ, ◌||◌, ◌&&◌, not, cond, Bool, true, false, List, [], ◌∷◌, ◌++◌, get_or, map, filter, All, Option, Some, None, sym, refl, ap, subst, ◌∙◌, ⊎_elim}
+use Rattle.std.proofs.Common.{◌≡◌, ℕ, cond, Bool, true, false, List, [], ◌∷◌, ◌++◌, get_or, map, filter, All, Option, Some, None, sym, refl, ap, subst, ◌∙◌, ⊎_elim}
 use Rattle.std.specs.List.{zip}
 use Rattle.std.specs.Option.{option_map}
 use Rattle.std.proofs.lemmas.Bool.{cases_Bool, false≢true}
@@ -7,12 +7,9 @@ use Rattle.std.proofs.lemmas.List.Elements.{All-map}
 use Rattle.ug_lines.specs.declared.kinds.RowKind.{RowKind}
 use Rattle.ug_lines.specs.declared.kinds.RowKind.TheVariants as types
 use Rattle.ug_rows.specs.declared.row.Objective as target
-use Rattle.ug_problem.specs.declared.column.Column.{Column}
 use Rattle.ug_mps.specs.declared.draft.columns.ColumnDraft.{ColumnDraft}
 use Rattle.ug_mps.specs.declared.draft.rows.RowDraft.{RowDraft}
 use Rattle.ug_mps.specs.declared.fault.Kind.{Kind}
-use Rattle.ug_mps.specs.declared.fault.MpsError.{MpsError}
-use Rattle.ug_mps.specs.declared.fault.MpsError.TheVariants.{Memory, Fault}
 use Rattle.ug_mps.specs.declared.fault.MpsFault.{MpsFault}
 use Rattle.ug_mps.specs.Entries.{Entry, row}
 use Rattle.ug_mps.specs.Good.{Good}
@@ -21,7 +18,7 @@ use Rattle.ug_mps.specs.Reads.{or_else, first_fault, column_fault, row_fault}
 use Rattle.ug_mps.specs.Stated.{numbers_of, is_sided, stated_row, stated_rows, stated_column, objective_of, no_objective, objective_in}
 use Rattle.ug_mps.specs.Rows.{NamedRows, lists_of, row_so_far, AreRows}
 use Rattle.ug_mps.specs.Columns.{NamedColumns, column_so_far, AreColumns}
-use Rattle.ug_mps.specs.Finish.{column_fault_kept, made_column, HasDecimals, row_fault_kept, made_row, is_made, made_rows, objective_and, last_objective}
+use Rattle.ug_mps.specs.Finish.{column_fault_kept, made_column, HasDecimals, row_fault_kept, made_rows, last_objective}
 use Rattle.ug_mps.proofs.Bytes.{or_false, false_from, any_append}
 use Rattle.ug_mps.proofs.GoodLemmas.{decimals_of}
 

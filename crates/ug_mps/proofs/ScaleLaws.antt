@@ -1,5 +1,5 @@
 -- The scale of a row is the least that makes its numbers whole.
-use Rattle.std.proofs.Common.{◌≡◌, ℕ, ◌≤◌, ◌↔◌, max, List, [], ◌∷◌, All, IfSome, Option, Some, None, arith}
+use Rattle.std.proofs.Common.{ℕ, ◌≤◌, ◌↔◌, List, [], ◌∷◌, All, IfSome, Option, Some, None, arith}
 use Rattle.std.proofs.lemmas.List.Elements.{All-nil, All-cons, All-head, All-tail}
 use Rattle.ug_problem.specs.declared.decimal.Decimal.{Decimal}
 use Rattle.ug_problem.specs.Decimals.{IsDecimal}
