@@ -23,3 +23,6 @@ pub mod GoodLemmas
 pub mod StatedLemmas
 pub mod Counts
 pub mod ProblemLemmas
+pub mod FinishLemmas
+pub mod EndLemmas
+pub mod ScaleLaws
