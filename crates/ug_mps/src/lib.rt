@@ -1,5 +1,8 @@
 //! Reads a bounded integer program from an MPS text.
 //! It stands on ug_lines and ug_problem.
+//! `read` gives the problem that the text states, or the first fault with its line, kind and word; specs/ says
+//! what a text states as relations on its lines, each judged by what the lines before it have said.
+//! Memory grows only with bytes that are there.
 #![tactic(auto)]
 
 mod bound;
@@ -7,19 +10,12 @@ mod draft;
 mod error;
 mod fault;
 mod laws;
-<<<<<<< HEAD
 mod line;
-=======
->>>>>>> 973dd66471e368e21edaa85f1005c795bcf6a8c6
 mod names;
 mod pairs;
 mod reading;
 mod role;
 
 pub use fault::{Kind, MpsError, MpsFault};
-<<<<<<< HEAD
-pub use laws::{one_outcome, worked_texts};
+pub use laws::{least_scale, one_outcome, worked_texts};
 pub use reading::read;
-=======
-pub use laws::least_scale;
->>>>>>> 973dd66471e368e21edaa85f1005c795bcf6a8c6
