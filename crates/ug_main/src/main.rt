@@ -1,20 +1,15 @@
 //! The program `ug`: solves the bounded integer program of an MPS file.
-//! It stands on ug_top.
+//! It stands on ug_top and ug_real.
 //! `main` makes the real objects, a reader of the file and a writer to standard output, and ends with the
-//! status of `run`, whose contract says what was printed. The two adapters keep the contracts of the traits that
-//! they fill, and tell nothing of the bytes.
+//! status of `run`, whose contract says what was printed.
+//! Where the words are no command, it writes the usage line to standard error.
 #![tactic(auto)]
 
-mod faults;
-mod reader;
-mod writer;
-
-use reader::Reader;
 use std::process::ExitCode;
 use std::rt::Env;
 use std::{env, io};
-use ug_top::{Status, file_of, run};
-use writer::Writer;
+use ug_real::{Reader, Writer};
+use ug_top::{Status, command_of, run};
 
 // The words behind the program's own name. A word that is not UTF-8 is no command.
 fn words_of<R: Env + AllocGlobal>(rt: &R) -> Result<Vec<String>, Status> {
@@ -36,7 +31,7 @@ fn status_of(error: &io::Error) -> Status {
 
 // Runs the command, with the file that it names as the source.
 fn solve(rt: &HostRuntime, words: &[String]) -> Status {
-    let mut input = Reader::new(rt, file_of(words).unwrap_or(""));
+    let mut input = Reader::new(rt, command_of(words).map_or("", |command| command.file));
     let mut out = Writer::new(io::writer(rt));
     run(rt, rt.alloc(), words, &mut input, &mut out)
 }
@@ -47,7 +42,7 @@ fn main(rt: HostRuntime) -> ExitCode {
         Err(status) => status,
     };
     if status == Status::Usage {
-        let _ = eprintln!(rt; "usage: ug solve FILE");
+        let _ = eprintln!(rt; "usage: ug solve FILE [--box U]");
     }
     ExitCode::from(status.code())
 }

@@ -4,7 +4,8 @@ use Rattle.ug_problem.specs.Instances.{Instance}
 use Rattle.ug_mps.specs.declared.fault.MpsFault.{MpsFault}
 use Rattle.ug_mps.specs.Reads.{Reads, FirstFault}
 use Rattle.ug_mps.specs.Laws.{HasOneOutcome}
-use Rattle.ug_top.specs.Outside.{Rose, IsCalm, IsEnough}
+use Rattle.ug_io.specs.Outside.{Rose, IsCalm}
+use Rattle.ug_top.specs.Enough.{IsEnough}
 use Rattle.ug_top.specs.Ends.{status_of, AreEndLines, IsEndOf, IsTold, IsSolved}
 use Rattle.ug_top.specs.declared.status.Status.{Status}
 use Rattle.ug_top.specs.declared.status.Status.TheVariants as statuses

@@ -2,3 +2,4 @@ mod Moved
 mod ValueLines
 mod Steps
 mod EndLemmas
+mod BoxNumbers

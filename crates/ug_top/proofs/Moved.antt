@@ -2,7 +2,8 @@
 use Rattle.std.proofs.Common.{◌≡◌, ℕ, List, [], ◌++◌, Option, Some, None, take, drop, refl, ap, sym, ◌∙◌, append_assoc, append-nil, take-append-drop}
 use Rattle.std.specs.Option.{option_map}
 use Rattle.std.proofs.Common.{IfSome, subst, inl, inr}
-use Rattle.ug_top.specs.Outside.{Gives, Takes, IsAtEnd, IsEnough}
+use Rattle.ug_io.specs.Outside.{Gives, Takes, IsAtEnd}
+use Rattle.ug_top.specs.Enough.{IsEnough}
 use Rattle.ug_mps.specs.Laws.{IsDecided}
 
 -- a front of the bytes went there, and these are left

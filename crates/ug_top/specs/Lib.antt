@@ -1,7 +1,6 @@
 pub mod Command
 pub mod Ends
-pub mod Outside
+pub mod Enough
 pub mod Printed
-pub mod Scripted
 pub mod Search
 pub mod Ran

@@ -5,7 +5,7 @@ use Rattle.ug_problem.specs.Right.{Right}
 use Rattle.ug_problem.specs.declared.answer.Answer.{Answer}
 use Rattle.ug_mps.specs.declared.fault.MpsFault.{MpsFault}
 use Rattle.ug_mps.specs.Reads.{Reads, FirstFault}
-use Rattle.ug_top.specs.Outside.{Rose, Takes, TakesFront}
+use Rattle.ug_io.specs.Outside.{Rose, Takes, TakesFront}
 use Rattle.ug_top.specs.Printed.{line, AreAnswerLines, refused_line}
 use Rattle.ug_top.specs.declared.status.Status.{Status}
 use Rattle.ug_top.specs.declared.status.Status.TheVariants.{Answered, Usage, Refused, ReadFault, WriteFault, Memory}

@@ -1,9 +1,10 @@
 ghost use Rattle.std.specs.Prelude.{◌≡◌, ◌<◌, ◌≤◌, length, IfOk, OnOk, IfSome, IsErrOf};
-ghost use Rattle.ug_top.specs.Outside.{Rose, IsEnough};
+ghost use Rattle.ug_io.specs.Outside.{Rose};
+ghost use Rattle.ug_top.specs.Enough.{IsEnough};
 ghost use Rattle.ug_top.specs.declared.gather.GatherError.TheVariants.{Memory, Fault};
 
-use crate::outside::{Failed, Source};
 use std::alloc::{AllocError, Global};
+use ug_io::{Failed, Source};
 use ug_mps::enough;
 
 /// How many bytes are enough to see that a text is too long: one more than it may have before its ENDATA line.

@@ -1,5 +1,5 @@
 //! The top call: a text in, an answer out.
-//! It stands on ug_mps and ug_problem.
+//! It stands on ug_io, ug_mps, ug_problem and ug_base.
 //! `run` does all that the program does: it reads the source, solves the problem that the bytes state and
 //! writes the lines of the answer to the sink. Its contract says what was written for each status, and when
 //! each status comes.
@@ -8,16 +8,12 @@
 mod command;
 mod gather;
 mod lines;
-mod memory;
-mod outside;
 mod running;
 mod search;
 mod status;
 mod write;
 
-pub use command::file_of;
-pub use memory::{MemorySink, MemorySource, Script, ScriptedSource};
-pub use outside::{Failed, Sink, Source};
+pub use command::{Command, command_of};
 pub use running::run;
 pub use status::Status;
 

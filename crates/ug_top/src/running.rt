@@ -3,18 +3,18 @@ ghost use Rattle.ug_problem.specs.Instances.{Instance};
 ghost use Rattle.ug_mps.specs.declared.fault.MpsFault.{MpsFault};
 ghost use Rattle.ug_mps.specs.Reads.{Reads, FirstFault};
 ghost use Rattle.ug_top.specs.Command.{IsSolve};
-ghost use Rattle.ug_top.specs.Outside.{Rose, IsCalm};
+ghost use Rattle.ug_io.specs.Outside.{Rose, IsCalm};
 ghost use Rattle.ug_top.specs.Ran.{Wrote};
 ghost use Rattle.ug_top.specs.Ends.{status_of, text_of, AreEndLines, IsEndOf, IsAnswerTo};
 
-use crate::command::file_of;
+use crate::command::command_of;
 use crate::gather::{GatherError, gather};
 use crate::lines::{answer_lines, refusal};
-use crate::outside::{Failed, Sink, Source};
 use crate::search::solve;
 use crate::status::Status;
 use crate::write::write_all;
 use std::alloc::{AllocError, Global};
+use ug_io::{Failed, Sink, Source};
 use ug_mps::{MpsError, one_outcome, read};
 use ug_problem::Problem;
 
@@ -34,8 +34,8 @@ pub fn run<R, S: Source, K: Sink>(
     // The lines of the status were written; for an answer those of a right one to what the bytes state.
     ensures lines { Wrote (S.left input.old) (S.faults input.old) (S.faults input.new) (K.written out.old) (K.written out.new) result }
 
-    ensures usage { result ≡ Status.Usage → (file : List ℕ) → IsSolve words.now file → ⊥ }
-    ensures command { ((file : List ℕ) → IsSolve words.now file → ⊥) → result ≡ Status.Usage }
+    ensures usage { result ≡ Status.Usage → (file : List ℕ) (boxed : Option ℕ) → IsSolve words.now file boxed → ⊥ }
+    ensures command { ((file : List ℕ) (boxed : Option ℕ) → IsSolve words.now file boxed → ⊥) → result ≡ Status.Usage }
 
     ensures read_fault { result ≡ Status.ReadFault → Rose (S.faults input.old) (S.faults input.new) }
     ensures source { S.faults input.old < S.faults input.new → (result ≡ Status.ReadFault) ⊎ (result ≡ Status.WriteFault) }
@@ -44,17 +44,17 @@ pub fn run<R, S: Source, K: Sink>(
     ensures sink { K.faults out.old < K.faults out.new → result ≡ Status.WriteFault }
 
     // Without a fault of the outside a first fault of the bytes is told, and a problem is answered.
-    ensures refused { (file bytes : List ℕ) (f : MpsFault) → IsSolve words.now file → S.left input.old ≡ Some bytes → FirstFault bytes f
+    ensures refused { (file bytes : List ℕ) (boxed : Option ℕ) (f : MpsFault) → IsSolve words.now file boxed → S.left input.old ≡ Some bytes → FirstFault bytes f
         → IsCalm (S.faults input.old) (S.faults input.new) → IsCalm (K.faults out.old) (K.faults out.new)
         → (result ≡ Status.Refused) ⊎ (result ≡ Status.Memory) }
-    ensures complete { (file bytes : List ℕ) (p : Instance) → IsSolve words.now file → S.left input.old ≡ Some bytes → Reads bytes p
+    ensures complete { (file bytes : List ℕ) (boxed : Option ℕ) (p : Instance) → IsSolve words.now file boxed → S.left input.old ≡ Some bytes → Reads bytes p
         → IsCalm (S.faults input.old) (S.faults input.new) → IsCalm (K.faults out.old) (K.faults out.new)
         → (result ≡ Status.Answered) ⊎ (result ≡ Status.Memory) }
 {
-    if file_of(words).is_none() {
+    let Some(command) = command_of(words) else {
         return Status::Usage;
-    }
-    let end = work(alloc, input);
+    };
+    let end = work(alloc, input, command.boxed);
     match write_all(out, end.text()) {
         Ok(()) => end.status(),
         Err(Failed) => Status::WriteFault,
@@ -95,7 +95,7 @@ impl End {
 }
 
 // Reads the source and solves the problem that its bytes state.
-fn work<S: Source>(alloc: Global, input: &mut S) -> End
+fn work<S: Source>(alloc: Global, input: &mut S, boxed: Option<u32>) -> End
     ensures lines { AreEndLines (S.left input.old) result }
     ensures fault { result ≡ End.ReadFault → Rose (S.faults input.old) (S.faults input.new) }
     ensures calm { (result ≡ End.ReadFault) ⊎ (S.faults input.new ≡ S.faults input.old) }
@@ -103,7 +103,7 @@ fn work<S: Source>(alloc: Global, input: &mut S) -> End
     match gather(alloc, input) {
         Ok(text) => {
             one_outcome();
-            end_of(alloc, &text)
+            end_of(alloc, &text, boxed)
         }
         Err(GatherError::Memory) => End::Memory,
         Err(GatherError::Fault) => End::ReadFault,
@@ -111,9 +111,10 @@ fn work<S: Source>(alloc: Global, input: &mut S) -> End
 }
 
 // What the text comes to.
-fn end_of(alloc: Global, text: &[u8]) -> End
+fn end_of(alloc: Global, text: &[u8], boxed: Option<u32>) -> End
     ensures { IsEndOf text.now result }
 {
+    let _boxed = boxed;
     match read(alloc, text, None) {
         Ok(problem) => match answered(alloc, problem) {
             Ok(lines) => End::Answered(lines),

@@ -2,9 +2,10 @@
 
 ghost use Rattle.std.specs.Prelude.{◌≡◌, length};
 
-use crate::{MemorySink, MemorySource, Script, run};
+use crate::run;
 use std::alloc::Global;
 use std::test::Fail;
+use ug_io::{MemorySink, MemorySource, Script};
 use ug_mps::read;
 use ug_problem::Problem;
 use ug_rows::{Interval, Point};

@@ -1,6 +1,7 @@
-use crate::{MemorySink, MemorySource, Script, ScriptedSource, run};
+use crate::{command_of, run};
 use std::alloc::Global;
 use std::test::Fail;
+use ug_io::{MemorySink, MemorySource, Script, ScriptedSource};
 
 const KNAP_HEAD: &str =
     "NAME SMALL\nOBJSENSE MAX\nROWS\n N Z\n L P\n L Q\n L R\nCOLUMNS\n M 'MARKER' 'INTORG'\n A Z 5 P 2\n A Q 4 R 3\n B Z 4 P 3\n B Q 1 R 4\n C Z 3 P 1\n C Q 2 R 2\n M 'MARKER' 'INTEND'\nRHS\n S P 5 Q 11\n";
@@ -142,5 +143,72 @@ fn words_that_are_no_command(rt: HostRuntime) -> Result<(), Fail> {
     let status = run(&rt, alloc, &words(alloc, "--box")?, &mut input, &mut out);
     assert_eq!(rt; status.code(), 2);
     assert_eq!(rt; out.bytes(), b"".as_slice());
+    Ok(())
+}
+
+// The words of this line, which stand behind a blank each but the first.
+fn words_of_line(alloc: Global, line: &str) -> Result<Vec<String>, Fail> {
+    let mut words = Vec::new(alloc);
+    for word in line.split(' ') {
+        words.push(String::from_str(alloc, word)?)?;
+    }
+    Ok(words)
+}
+
+#[test]
+fn commands(rt: HostRuntime) -> Result<(), Fail> {
+    let alloc = rt.alloc();
+    let commands = [
+        ("solve f", None),
+        ("solve f --box 5", Some(5)),
+        ("solve f --box=5", Some(5)),
+        ("solve --box 5 f", Some(5)),
+        ("solve --box=5 f", Some(5)),
+        ("solve f --box 0", Some(0)),
+        ("solve --box=1000000000 f", Some(1_000_000_000)),
+    ];
+    for (line, boxed) in commands {
+        match command_of(&words_of_line(alloc, line)?) {
+            Some(command) => {
+                assert_eq!(rt; command.file, "f");
+                assert_eq!(rt; command.boxed, boxed);
+            }
+            None => assert!(rt; false),
+        }
+    }
+    Ok(())
+}
+
+#[test]
+fn lines_that_are_no_command(rt: HostRuntime) -> Result<(), Fail> {
+    let alloc = rt.alloc();
+    let lines = [
+        "",
+        "solve",
+        "check f",
+        "solve f g",
+        "solve -f",
+        "solve --box 5",
+        "solve --box=5",
+        "solve f --box",
+        "solve f --box ",
+        "solve f --box=",
+        "solve f --boxed=5",
+        "solve f -box 5",
+        "solve f --box 05",
+        "solve f --box 00",
+        "solve f --box +5",
+        "solve f --box=-5",
+        "solve f --box 5x",
+        "solve f --box 1000000001",
+        "solve f --box 4294967296",
+        "solve f --box 5 --box 5",
+        "solve --box=5 f --box=5",
+        "solve --box f 5",
+        "--box 5 solve f",
+    ];
+    for line in lines {
+        assert!(rt; command_of(&words_of_line(alloc, line)?).is_none());
+    }
     Ok(())
 }

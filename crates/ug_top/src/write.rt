@@ -1,7 +1,7 @@
 ghost use Rattle.std.specs.Prelude.{◌≡◌, OnOk, OnErr};
-ghost use Rattle.ug_top.specs.Outside.{Rose, Takes, TakesFront};
+ghost use Rattle.ug_io.specs.Outside.{Rose, Takes, TakesFront};
 
-use crate::outside::{Failed, Sink};
+use ug_io::{Failed, Sink};
 
 /// Writes all the bytes. After a failure a front of them is written.
 #[tactic(auto, using(crate::proofs::Moved::went_more))]

@@ -1,6 +1,6 @@
 use Rattle.std.proofs.Common.{◌<◌, ℕ, List, Option, IfSome, length, take, sym, subst, arith}
 use Rattle.ug_mps.specs.Laws.{IsDecided}
-use Rattle.ug_top.specs.Outside.{IsEnough}
+use Rattle.ug_top.specs.Enough.{IsEnough}
 use Rattle.ug_top.proofs.Moved.{enough_at_end, enough_decided}
 use Rattle.ug_top.proofs.gather.gather.Goals as goal
 

@@ -1,5 +1,5 @@
 use Rattle.std.proofs.Common.{◌≡◌, ◌-◌, ◌<◌, vec_len}
-use Rattle.ug_top.specs.Outside.{Gives}
+use Rattle.ug_io.specs.Outside.{Gives}
 use Rattle.ug_top.proofs.gather.gather.Given as goal
 
 abbrev pub invariant-loop-bytes : goal.invariant-loop-bytes

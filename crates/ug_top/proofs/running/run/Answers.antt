@@ -2,9 +2,15 @@ use Rattle.ug_top.proofs.EndLemmas.{told_status, solved_status, told_end, solved
 use Rattle.ug_top.proofs.running.run.Goals as goal
 
 pub returns-in-Ok-clause-refused : goal.returns-in-Ok-clause-refused
-returns-in-Ok-clause-refused g c = λ file bytes f command told first source sink.
+returns-in-Ok-clause-refused g c = λ file bytes boxed f command told first source sink.
     told_status _ _ _ _ c.status.ensures (told_end _ _ bytes f c.work-end.ensures.lines told first) c.work-end.ensures.fault source
 
 pub returns-in-Ok-clause-complete : goal.returns-in-Ok-clause-complete
-returns-in-Ok-clause-complete g c = λ file bytes p command told reads source sink.
+returns-in-Ok-clause-complete g c = λ file bytes boxed p command told reads source sink.
     solved_status _ _ _ _ c.status.ensures (solved_end _ _ bytes p c.work-end.ensures.lines told reads) c.work-end.ensures.fault source
+
+pub returns-in_default-clause-refused : goal.returns-in_default-clause-refused
+returns-in_default-clause-refused g c = λ file bytes boxed f command told first source sink. absurd (c.in_default.ensures.none file boxed command)
+
+pub returns-in_default-clause-complete : goal.returns-in_default-clause-complete
+returns-in_default-clause-complete g c = λ file bytes boxed p command told reads source sink. absurd (c.in_default.ensures.none file boxed command)

@@ -1,5 +1,5 @@
 ghost use Rattle.std.specs.Prelude.{◌≡◌, ◌<◌, ◌≤◌, ℕ, List, Option, length, take, Ok, IfOk, OnOk, OnErr, IfSome};
-ghost use Rattle.ug_top.specs.Outside.{Rose, Gives, Takes, IsAtEnd};
+ghost use Rattle.ug_io.specs.Outside.{Rose, Gives, Takes, IsAtEnd};
 
 /// A call of the outside failed. The count of faults says that it did.
 #[derive(Clone, Copy, Debug, PartialEq, Eq)]

@@ -1,7 +1,7 @@
 //! The outside in memory: for tests, and for whoever has the bytes already.
 
 ghost use Rattle.std.specs.Prelude.{◌≡◌, ◌<◌, ◌≤◌, ◌++◌, [], length, take, Some, OnOk, OnErr};
-ghost use Rattle.ug_top.specs.Outside.{Rose};
+ghost use Rattle.ug_io.specs.Outside.{Rose};
 
 use crate::outside::{Failed, Sink, Source};
 use std::alloc::Global;
@@ -47,7 +47,7 @@ pub struct Script {
 }
 
 impl Script {
-    ghost use Rattle.ug_top.specs.Scripted.{faults_of};
+    ghost use Rattle.ug_io.specs.Scripted.{faults_of};
 
     /// A script under which these calls fail.
     pub fn new(failing: Vec<u64>, most: usize) -> Script
@@ -98,7 +98,7 @@ pub struct ScriptedSource<'a> {
 }
 
 impl Source for ScriptedSource<'_> {
-    ghost use Rattle.ug_top.specs.Scripted.{faults_of};
+    ghost use Rattle.ug_io.specs.Scripted.{faults_of};
 
     ghost left = { λ s. Some s.rest.now };
 
@@ -119,7 +119,7 @@ pub struct MemorySink {
 }
 
 impl MemorySink {
-    ghost use Rattle.ug_top.specs.Scripted.{bytes_of};
+    ghost use Rattle.ug_io.specs.Scripted.{bytes_of};
 
     /// A sink with nothing written.
     pub fn new(alloc: Global, script: Script) -> MemorySink
@@ -140,7 +140,7 @@ impl MemorySink {
 }
 
 impl Sink for MemorySink {
-    ghost use Rattle.ug_top.specs.Scripted.{faults_of, bytes_of};
+    ghost use Rattle.ug_io.specs.Scripted.{faults_of, bytes_of};
 
     ghost written = { λ s. Some (bytes_of s) };
 

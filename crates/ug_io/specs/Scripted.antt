@@ -1,7 +1,7 @@
 -- What a scripted form shows: its faults, and the bytes that a sink has.
 use Rattle.std.specs.Prelude.{ℕ, List}
-use Rattle.ug_top.specs.declared.memory.Script.{Script}
-use Rattle.ug_top.specs.declared.memory.MemorySink.{MemorySink}
+use Rattle.ug_io.specs.declared.memory.Script.{Script}
+use Rattle.ug_io.specs.declared.memory.MemorySink.{MemorySink}
 
 -- how many calls failed
 abbrev pub faults_of : Script → ℕ

@@ -2,7 +2,7 @@ ghost use Rattle.std.specs.Prelude.{None};
 
 use crate::faults::rise;
 use std::io::Write;
-use ug_top::{Failed, Sink};
+use ug_io::{Failed, Sink};
 
 /// A writer of std as a sink, such as standard output. A write of nothing of a piece that is not empty is a fault.
 #[derive(Drop)]

@@ -1,6 +1,6 @@
-ghost use Rattle.ug_top.specs.Outside.{Rose};
+ghost use Rattle.ug_io.specs.Outside.{Rose};
 
-use ug_top::Failed;
+use ug_io::Failed;
 
 /// One fault more. The count stands still at its greatest value.
 pub fn rise(faults: &mut u64) -> Failed

@@ -4,7 +4,7 @@ use crate::faults::rise;
 use std::fs::OpenOptions;
 use std::io::Read;
 use std::rt::Files;
-use ug_top::{Failed, Source};
+use ug_io::{Failed, Source};
 
 /// A file as a source. It is opened at the first call; a failed opening is a fault of that call.
 #[derive(Drop)]

@@ -1,7 +1,6 @@
 -- What is said of the outside: bytes that come and go, where they are told, and a count of faults.
 use Rattle.std.specs.Prelude.{◌≡◌, ℕ, ◌-◌, ◌<◌, ◌≤◌, ◌^◌, ◌⊎◌, List, [], ◌++◌, Option, IfSome}
 use Rattle.std.specs.Option.{option_map}
-use Rattle.ug_mps.specs.Laws.{IsDecided}
 
 -- the count of faults rose; one that stands at its greatest value counts as risen
 abbrev pub Rose : ℕ → ℕ → Type 0
@@ -30,13 +29,3 @@ pub record TakesFront (old new : Option (List ℕ)) (bytes : List ℕ) : Type 0 
   pub rest : List ℕ
   pub parts : bytes ≡ front ++ rest
   pub taken : Takes old new front
-
--- the text is a front of the bytes, and decides what they state
-pub record IsDecidingFront (bytes text : List ℕ) : Type 0 where
-  pub rest : List ℕ
-  pub parts : bytes ≡ text ++ rest
-  pub decided : IsDecided text
-
--- the text is all the bytes, or enough of them to decide what they state
-abbrev pub IsEnough : List ℕ → List ℕ → Type 0
-IsEnough bytes text = (bytes ≡ text) ⊎ IsDecidingFront bytes text
