@@ -14,3 +14,5 @@ pub mod LineLemmas
 pub mod HeaderLines
 pub mod Outcome
 pub mod ReadLemmas
+pub mod Closing
+pub mod FirstLines

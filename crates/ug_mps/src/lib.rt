@@ -4,6 +4,7 @@
 
 mod bound;
 mod draft;
+mod ending;
 mod error;
 mod fault;
 mod laws;
@@ -13,6 +14,7 @@ mod pairs;
 mod reading;
 mod role;
 
+pub use ending::{Seen, Tail, see, tail_of};
 pub use fault::{Kind, MpsError, MpsFault};
 pub use laws::one_outcome;
 pub use reading::read;
