@@ -2,7 +2,7 @@
 use Rattle.std.proofs.Common.{◌≡◌, ℕ, ◌+◌, ◌<◌, ◌≤◌, ◌⊎◌, inl, inr, Bool, true, false, List, [], ◌∷◌, ◌++◌, length, take, get_or, Option, Some, None, refl, sym, ap, ◌∙◌, subst, arith, append_assoc}
 use Rattle.std.specs.Prelude.{reverse}
 use Rattle.std.proofs.lemmas.Bool.{cases_lt, cases_order, false≢true}
-use Rattle.std.proofs.lemmas.List.{take-append-le, get_or_append_left, length-append, length-take, length-reverse}
+use Rattle.std.proofs.lemmas.List.{take-append-le, get_or_append_left, length-append, length-take-le, length-reverse}
 use Rattle.ug_lines.specs.Lines.{Line, lines_of}
 use Rattle.ug_problem.specs.Instances.{Instance}
 use Rattle.ug_mps.specs.declared.fault.MpsFault.{MpsFault}
@@ -37,7 +37,7 @@ count_of text lines line t =
     omega (arith, len)
 
 before_len : (text : List ℕ) (k : ℕ) → k ≤ length (lines_of text) → length (lines_before text k) ≡ k
-before_len text k le = length-reverse (take k (lines_of text)) ∙ length-take k (lines_of text) le
+before_len text k le = length-reverse (take k (lines_of text)) ∙ length-take-le k (lines_of text) le
 
 module _ (text other : List ℕ) (lines : List Line) (a b : Line) (t : HasLine text lines a) (u : HasLine other lines b) (c : CloseSame a b) where
   count : length lines < length (lines_of text)
@@ -58,7 +58,7 @@ module _ (text other : List ℕ) (lines : List Line) (a b : Line) (t : HasLine t
     | inr le ↦ le
     | inl gt ↦
         let f = says_less text (length lines + 1) k h (omega (arith, gt)) s in
-        absurd (stops text (length lines + 1) k f.0 h f.1 (after_end f.0 _ _ (closed f.0 f.1)) gt s)
+        absurd (stops text (length lines + 1) k f.0 h f.1 (after_end f.0 (length (lines_before text (length lines + 1)) + 1) (line_at text (length lines + 1)) (closed f.0 f.1)) gt s)
   ]
 
   -- the lines before it say the same

@@ -16,3 +16,5 @@ pub mod Outcome
 pub mod ReadLemmas
 pub mod Closing
 pub mod FirstLines
+pub mod EndLines
+pub mod EndingLemmas

@@ -1,7 +1,7 @@
 -- How far a text has to be read: its ENDATA line, what follows the word on that line, and what the bytes so far show.
 use Rattle.std.specs.Prelude.{◌≡◌, ℕ, ◌+◌, ◌<◌, ◌≤◌, ◌==◌, ◌⊎◌, ◌||◌, ◌&&◌, Bool, true, false, List, [], ◌∷◌, ◌++◌, length, take, drop, codes, if◌then◌else◌}
 use Rattle.ug_lines.specs.Lines.{content_of}
-use Rattle.ug_lines.specs.Words.{is_blank, is_legible}
+use Rattle.ug_lines.specs.Words.{is_blank, is_word_byte, is_legible}
 use Rattle.ug_mps.specs.declared.ending.Head.{Head}
 use Rattle.ug_mps.specs.declared.ending.Head.TheVariants as heads
 use Rattle.ug_mps.specs.declared.ending.Tail.{Tail}
@@ -57,13 +57,18 @@ IsBehind rest heads.Open = (more : List ℕ) × (13 ∷ [] ≡ rest ++ more)
 -- ---- the rest of the line ENDATA
 
 -- the bytes, behind a carriage return or not
-abbrev pub behind : Bool → List ℕ → List ℕ
-behind true bytes = 13 ∷ bytes
-behind false bytes = bytes
+abbrev pub after_if : Bool → List ℕ → List ℕ
+after_if true bytes = 13 ∷ bytes
+after_if false bytes = bytes
+
+-- the first byte, if there is one, may not stand in a line
+abbrev pub StopsFirst : List ℕ → Type 0
+StopsFirst [] = Unit {0}
+StopsFirst (b ∷ bs) = (is_blank b || is_word_byte b) ≡ false
 
 -- the line is legible, by what was seen of it and the bytes that follow
 abbrev pub legible_by : Tail → List ℕ → Bool
-legible_by (tails.Open after_return) bytes = begins_legibly (behind after_return bytes)
+legible_by (tails.Open after_return) bytes = begins_legibly (after_if after_return bytes)
 legible_by tails.Legible bytes = true
 legible_by tails.Bad bytes = false
 
@@ -74,10 +79,14 @@ mark false = 32 ∷ 0 ∷ []
 
 -- ---- where the last line begins
 
+-- the test is true of none of the bytes
+abbrev pub NoneOf : (ℕ → Bool) → List ℕ → Type 0
+NoneOf test [] = Unit {0}
+NoneOf test (b ∷ bs) = (test b ≡ false) × NoneOf test bs
+
 -- no line feed stands in these bytes
 abbrev pub HasNoFeed : List ℕ → Type 0
-HasNoFeed [] = Unit {0}
-HasNoFeed (b ∷ bs) = ((b == 10) ≡ false) × HasNoFeed bs
+HasNoFeed bytes = NoneOf (λ b. b == 10) bytes
 
 -- these bytes are whole lines
 abbrev pub AreWhole : List ℕ → Type 0

@@ -1,7 +1,7 @@
-ghost use Rattle.std.specs.Prelude.{◌≡◌, ◌+◌, ◌∷◌, ◌++◌, ◌≤◌, ◌||◌, ℕ, List, length, drop, MatchOption, not};
+ghost use Rattle.std.specs.Prelude.{◌≡◌, ◌==◌, ◌+◌, ◌∷◌, ◌++◌, ◌≤◌, ◌||◌, ℕ, List, length, drop, MatchOption, not};
 ghost use Rattle.std.specs.List.{position};
 ghost use Rattle.ug_lines.specs.Words.{is_blank, is_word_byte};
-ghost use Rattle.ug_mps.specs.Ending.{IsHead, IsBehind, IsLineAt, IsFeedAt, IsSeen, IsSeenTo, HasNoFeed, begins_legibly, behind, legible_by};
+ghost use Rattle.ug_mps.specs.Ending.{IsHead, IsBehind, IsLineAt, IsFeedAt, IsSeen, IsSeenTo, HasNoFeed, StopsFirst, begins_legibly, after_if, legible_by};
 
 use crate::line::LIMIT;
 use ug_lines::is_blank;
@@ -34,6 +34,14 @@ pub enum Seen {
     Ended(usize),
     Passed,
     Open(usize),
+}
+
+// The bytes from a place on.
+fn behind(bytes: &[u8], place: usize) -> &[u8]
+    requires { place ≤ length bytes.now }
+    ensures { result.now ≡ drop place bytes.now }
+{
+    bytes.split_at(place).1
 }
 
 // What the bytes behind ENDATA and a carriage return show.
@@ -103,16 +111,21 @@ fn after_return(bytes: &[u8]) -> Tail
 }
 
 // What the bytes from one on that may not stand in a line show.
-fn after_stop(byte: u8, bytes: &[u8]) -> Tail
-    requires { (is_blank byte || is_word_byte byte) ≡ false }
-    ensures { (more : List ℕ) → begins_legibly (byte ∷ (bytes.now ++ more)) ≡ legible_by result more }
+fn after_stop(bytes: &[u8]) -> Tail
+    requires { StopsFirst bytes.now }
+    ensures { (more : List ℕ) → begins_legibly (bytes.now ++ more) ≡ legible_by result more }
 {
-    if byte == b'\n' {
-        Tail::Legible
-    } else if byte == b'\r' {
-        after_return(bytes)
-    } else {
-        Tail::Bad
+    match bytes {
+        [] => Tail::Open(false),
+        [b, more @ ..] => {
+            if *b == b'\n' {
+                Tail::Legible
+            } else if *b == b'\r' {
+                after_return(more)
+            } else {
+                Tail::Bad
+            }
+        }
     }
 }
 
@@ -135,14 +148,14 @@ fn after_all(bytes: &[u8]) -> Tail
     ensures { (more : List ℕ) → begins_legibly (bytes.now ++ more) ≡ legible_by result more }
 {
     match stop(bytes) {
-        Some(at) => after_stop(bytes[at], &bytes[at + 1..]),
+        Some(at) => after_stop(behind(bytes, at)),
         None => Tail::Open(false),
     }
 }
 
 /// Reads on over the rest of an ENDATA line: what its next bytes show of it.
 pub fn tail_of(after: bool, bytes: &[u8]) -> Tail
-    ensures { (more : List ℕ) → begins_legibly (behind after (bytes.now ++ more)) ≡ legible_by result more }
+    ensures { (more : List ℕ) → begins_legibly (after_if after (bytes.now ++ more)) ≡ legible_by result more }
 {
     if after {
         after_return(bytes)
@@ -163,7 +176,7 @@ fn feed_from(bytes: &[u8], from: usize) -> Option<usize>
     requires { from ≤ length bytes.now }
     ensures { MatchOption result (HasNoFeed (drop from bytes.now)) (IsFeedAt bytes.now from) }
 {
-    match line_feed(&bytes[from..]) {
+    match line_feed(behind(bytes, from)) {
         Some(at) => Some(from + at),
         None => None,
     }
@@ -175,7 +188,7 @@ fn seen_to(bytes: &[u8], line: usize, from: usize, at: usize) -> Seen
     requires feed { IsFeedAt bytes.now from at }
     ensures { IsSeenTo bytes.now at result }
 {
-    match head_of(&bytes[line..]) {
+    match head_of(behind(bytes, line)) {
         Head::Ends => Seen::Ended(line + WORD.len()),
         _ => {
             if at < LIMIT {
@@ -192,7 +205,7 @@ fn seen_last(bytes: &[u8], line: usize) -> Seen
     requires { IsLineAt bytes.now line (length bytes.now) }
     ensures { IsSeen bytes.now result }
 {
-    match head_of(&bytes[line..]) {
+    match head_of(behind(bytes, line)) {
         Head::Ends => Seen::Ended(line + WORD.len()),
         Head::Other => {
             if bytes.len() > LIMIT {
