@@ -14,7 +14,7 @@ use Rattle.ug_mps.specs.declared.ending.Seen.{Seen}
 use Rattle.ug_mps.specs.declared.ending.Seen.TheVariants as seens
 use Rattle.ug_mps.specs.Faults.{is_word_end, is_end_line}
 use Rattle.ug_mps.specs.Laws.{StatesSame}
-use Rattle.ug_mps.specs.Ending.{first_piece, first_line, begins_legibly, is_feed_first, ends_word, BeginsEnd, IsHead, IsBehind, StopsFirst, mark, NoneOf, HasNoFeed, AreWhole, IsLineAt, IsFeedAt, IsEndedAt, AreEnough, IsSeen, IsSeenTo}
+use Rattle.ug_mps.specs.Ending.{first_piece, first_line, begins_legibly, is_feed_first, ends_word, BeginsEnd, IsHead, IsBehind, StopsFirst, mark, NoneOf, HasNoFeed, AreLines, IsLineAt, IsFeedAt, IsEndedAt, AreEnough, IsSeen, IsSeenTo}
 use Rattle.ug_mps.proofs.Bytes.{and_true, false_from, same_bytes, not_true, not_false}
 use Rattle.ug_mps.proofs.Closing.{HasLine, CloseSame, same_last}
 use Rattle.ug_mps.proofs.FirstLines.{line_behind, lines_first, piece_open, line_front, line_byte, line_return}
@@ -214,7 +214,7 @@ feed_there bytes from at e =
 
 -- ---- whole lines, and what follows them
 
-tails_same : (front tail other : List ℕ) → AreWhole front → 0 < length tail → 0 < length other
+tails_same : (front tail other : List ℕ) → AreLines front → 0 < length tail → 0 < length other
     → CloseSame (line_behind front tail) (line_behind front other) → StatesSame (front ++ tail) (front ++ other)
 tails_same front tail other whole p q c =
     let f = lines_first front tail whole p in
@@ -231,7 +231,7 @@ mark_ends true = refl
 mark_ends false = refl
 
 -- the rest of an ENDATA line counts only for whether it is legible
-end_same : (front rest more : List ℕ) → AreWhole front → ends_word rest ≡ true
+end_same : (front rest more : List ℕ) → AreLines front → ends_word rest ≡ true
     → StatesSame (front ++ (codes "ENDATA" ++ mark (begins_legibly (rest ++ more)))) (front ++ (codes "ENDATA" ++ (rest ++ more)))
 end_same front rest more whole e =
     let t : Bool = begins_legibly (rest ++ more) in
@@ -239,7 +239,7 @@ end_same front rest more whole e =
     (close_end _ _ (first_line (mark t)) (first_line (rest ++ more)) (mark_ends t) (word_ends rest more e) (mark_legible t))
 
 -- the line that begins with ENDATA is the last
-pub ended_at : (bytes front tail : List ℕ) (line : ℕ) → bytes ≡ front ++ tail → AreWhole front → length front ≡ line → BeginsEnd tail → IsEndedAt bytes (line + 6)
+pub ended_at : (bytes front tail : List ℕ) (line : ℕ) → bytes ≡ front ++ tail → AreLines front → length front ≡ line → BeginsEnd tail → IsEndedAt bytes (line + 6)
 ended_at bytes front tail line parts whole begins (rest, word, e) =
     let is : bytes ≡ (front ++ codes "ENDATA") ++ rest = parts ∙ ap (λ t. front ++ t) word ∙ sym (append_assoc front (codes "ENDATA") rest) in
     let len : length (front ++ codes "ENDATA") ≡ line + 6 = length-append front (codes "ENDATA") ∙ ap (λ n. n + 6) begins in
@@ -260,7 +260,7 @@ ended_at bytes front tail line parts whole begins (rest, word, e) =
     }
 
 -- a line that is not ENDATA passes the limit
-enough_long : (bytes front tail : List ℕ) → bytes ≡ front ++ tail → AreWhole front → 0 < length tail
+enough_long : (bytes front tail : List ℕ) → bytes ≡ front ++ tail → AreLines front → 0 < length tail
     → ((more : List ℕ) → 268435456 < length front + length (first_piece (tail ++ more)))
     → ((more : List ℕ) → is_end_line (first_line (tail ++ more)) ≡ false) → AreEnough bytes
 enough_long bytes front tail parts whole some long other = λ more.
@@ -279,7 +279,7 @@ pub record IsLineTo (bytes : List ℕ) (line at : ℕ) : Type 0 where
   pub open_ : List ℕ
   pub rest : List ℕ
   pub parts : bytes ≡ front ++ (open_ ++ 10 ∷ rest)
-  pub whole : AreWhole front
+  pub whole : AreLines front
   pub no_feed : HasNoFeed open_
   pub begins : length front ≡ line
   pub ends : line + length open_ ≡ at
@@ -381,7 +381,7 @@ pub record IsLast (bytes : List ℕ) (line : ℕ) : Type 0 where
   pub front : List ℕ
   pub open_ : List ℕ
   pub parts : bytes ≡ front ++ open_
-  pub whole : AreWhole front
+  pub whole : AreLines front
   pub no_feed : HasNoFeed open_
   pub begins : length front ≡ line
   pub count : line + length open_ ≡ length bytes

@@ -6,7 +6,7 @@ use Rattle.std.specs.Str.{bytes_eq}
 use Rattle.std.proofs.lemmas.Bool.{false≢true}
 use Rattle.std.proofs.lemmas.List.{length-append}
 use Rattle.ug_lines.specs.Lines.{Line, pieces, content_of, lines_after, lines_of}
-use Rattle.ug_mps.specs.Ending.{HasNoFeed, AreWhole, first_piece, first_line}
+use Rattle.ug_mps.specs.Ending.{HasNoFeed, AreLines, first_piece, first_line}
 
 -- ---- whole lines, and what follows them
 
@@ -46,7 +46,7 @@ from_zero : (n : ℕ) → 0 + n ≡ n
 from_zero n = omega arith
 
 -- the lines of whole lines, and those of what follows them
-lines_behind : (front tail : List ℕ) → AreWhole front → lines_of (front ++ tail) ≡ lines_of front ++ lines_after (length front) (pieces tail)
+lines_behind : (front tail : List ℕ) → AreLines front → lines_of (front ++ tail) ≡ lines_of front ++ lines_after (length front) (pieces tail)
 lines_behind front tail (inl e) = subst (λ f. lines_of (f ++ tail) ≡ lines_of f ++ lines_after (length f) (pieces tail)) (sym e) refl
 lines_behind front tail (inr (start, e)) =
     let whole : List ℕ = start ++ 10 ∷ [] in
@@ -80,7 +80,7 @@ abbrev pub line_behind : List ℕ → List ℕ → Line
 line_behind front tail = record { content = first_line tail; through = length front + length (first_piece tail) }
 
 -- the lines of whole lines, then that line
-pub lines_first : (front tail : List ℕ) → AreWhole front → 0 < length tail → (more : List Line) × (lines_of (front ++ tail) ≡ lines_of front ++ line_behind front tail ∷ more)
+pub lines_first : (front tail : List ℕ) → AreLines front → 0 < length tail → (more : List Line) × (lines_of (front ++ tail) ≡ lines_of front ++ line_behind front tail ∷ more)
 lines_first front [] whole some = absurd (omega arith)
 lines_first front (b ∷ bs) whole some =
     let p = pieces_first b bs in

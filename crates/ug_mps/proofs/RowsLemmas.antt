@@ -16,9 +16,9 @@ use Rattle.ug_mps.specs.declared.draft.rows.Part.TheVariants as parts
 use Rattle.ug_mps.specs.Entries.{Pair}
 use Rattle.ug_mps.specs.Faults.{repeated}
 use Rattle.ug_mps.specs.History.{RowNamed, Coefficient, has, names_row, placed}
-use Rattle.ug_mps.specs.Stated.{is_term, terms_of, number_given}
+use Rattle.ug_mps.specs.Stated.{is_term, terms_of, factor_of, number_given}
 use Rattle.ug_mps.specs.Names.{name_at, StandsAt, AreDistinct}
-use Rattle.ug_mps.specs.Rows.{NamedRows, Lists, factor_of, or_place, last_place, is_named, row_so_far, AreRows, IsBefore, AreOrdered, AreWithin, AreBelow, is_taken, and_pairs}
+use Rattle.ug_mps.specs.Rows.{NamedRows, Lists, or_place, last_place, is_named, row_so_far, AreRows, IsBefore, AreOrdered, AreWithin, AreBelow, is_taken, and_pairs}
 use Rattle.ug_mps.specs.RowSteps.{new_row, row_at, with_factor, with_part, is_place, is_given, has_part, AreAt, rows_named, PutsPairs}
 use Rattle.ug_mps.proofs.Bytes.{or_true, or_left, both, any_true, any_none, named_any, same_bytes, bytes_same, bytes_apart, apart_bytes, or_false, false_from, not_first, not_second, not_true, and_true, bytes_turn, any_append}
 

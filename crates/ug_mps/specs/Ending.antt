@@ -89,8 +89,8 @@ abbrev pub HasNoFeed : List ℕ → Type 0
 HasNoFeed bytes = NoneOf (λ b. b == 10) bytes
 
 -- these bytes are whole lines
-abbrev pub AreWhole : List ℕ → Type 0
-AreWhole bytes = (bytes ≡ []) ⊎ ((front : List ℕ) × (bytes ≡ front ++ 10 ∷ []))
+abbrev pub AreLines : List ℕ → Type 0
+AreLines bytes = (bytes ≡ []) ⊎ ((front : List ℕ) × (bytes ≡ front ++ 10 ∷ []))
 
 -- a line begins at `line`, within the limit, and no line feed follows before `from`
 pub record IsLineAt (bytes : List ℕ) (line from : ℕ) : Type 0 where
@@ -98,7 +98,7 @@ pub record IsLineAt (bytes : List ℕ) (line from : ℕ) : Type 0 where
   pub open_ : List ℕ
   pub rest : List ℕ
   pub parts : bytes ≡ front ++ (open_ ++ rest)
-  pub whole : AreWhole front
+  pub whole : AreLines front
   pub no_feed : HasNoFeed open_
   pub begins : length front ≡ line
   pub looked : line + length open_ ≡ from

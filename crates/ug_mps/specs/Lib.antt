@@ -4,9 +4,11 @@ pub mod History
 pub mod Faults
 pub mod Says
 pub mod Stated
+pub mod Scales
 pub mod Reads
 pub mod Laws
 pub mod Names
+pub mod Examples
 pub mod Good
 pub mod Numbered
 pub mod Rows

@@ -2,13 +2,12 @@
 use Rattle.std.specs.Prelude.{◌≡◌, ℕ, ◌≤◌, ◌<◌, ◌==◌, ◌&&◌, Bool, List, [], ◌∷◌, ◌++◌, map, All, Option, Some, None, if◌then◌else◌}
 use Rattle.std.specs.List.{list_any}
 use Rattle.std.specs.Str.{bytes_eq}
-use Rattle.ug_mps.specs.declared.draft.rows.Factor.{Factor}
 use Rattle.ug_mps.specs.declared.draft.rows.RowDraft.{RowDraft}
 use Rattle.ug_mps.specs.declared.draft.rows.Part.{Part}
 use Rattle.ug_mps.specs.declared.draft.rows.Part.TheVariants as parts
 use Rattle.ug_mps.specs.Entries.{Pair, Entry}
 use Rattle.ug_mps.specs.History.{RowNamed, Coefficient, rows_of, coefficients, placed, has, names_row, sides_given, ranges_given}
-use Rattle.ug_mps.specs.Stated.{terms_of, number_given}
+use Rattle.ug_mps.specs.Stated.{terms_of, factor_of, number_given}
 
 -- the rows with their names
 pub record NamedRows : Type 0 where
@@ -25,10 +24,6 @@ pub record Lists : Type 0 where
 -- those of a history
 abbrev pub lists_of : List Entry → Lists
 lists_of h = record { named = rows_of h; coefficients = coefficients h; sides = sides_given h; ranges = ranges_given h }
-
--- a coefficient without its row
-abbrev pub factor_of : Coefficient → Factor
-factor_of c = record { column = c.place; number = c.number }
 
 -- the first place, or else the second
 abbrev pub or_place : Option ℕ → Option ℕ → Option ℕ

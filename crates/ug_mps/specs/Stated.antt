@@ -15,6 +15,7 @@ use Rattle.ug_mps.specs.declared.role.Role.{Role}
 use Rattle.ug_mps.specs.declared.role.Role.TheVariants.{Objective, Ignored, AtMost, AtLeast, Equal}
 use Rattle.ug_mps.specs.declared.bound.Bound.{Bound}
 use Rattle.ug_mps.specs.declared.bound.Bound.TheVariants.{Infinite, Finite}
+use Rattle.ug_mps.specs.declared.draft.rows.Factor.{Factor}
 use Rattle.ug_mps.specs.Entries.{Pair, Entry}
 use Rattle.ug_mps.specs.History.{RowNamed, rows_of, is_objective, ColumnBegun, columns_of, Coefficient, coefficients, sides_given, ranges_given, low_set, high_set, or_bound, is_made_integer, is_maximised}
 
@@ -27,6 +28,10 @@ is_term name c = bytes_eq name c.row && not (c.number.digits == 0)
 abbrev pub terms_of : List Coefficient → List ℕ → List Coefficient
 terms_of cs name = filter (is_term name) cs
 
+-- a coefficient without its row
+abbrev pub factor_of : Coefficient → Factor
+factor_of c = record { column = c.place; number = c.number }
+
 -- the number that the pairs give a row, if they give one
 abbrev pub number_given : List Pair → List ℕ → Option Decimal
 number_given [] name = None
@@ -34,7 +39,7 @@ number_given (p ∷ pairs) name = if bytes_eq name p.row then Some p.number else
 
 -- what the lines give a row: its terms, its right-hand side, 0 where none is given, and its range, if one is given
 pub record Numbers : Type 0 where
-  pub terms : List Coefficient
+  pub terms : List Factor
   pub side : Decimal
   pub range : Option Decimal
 
@@ -45,7 +50,7 @@ range_of role range = range
 
 abbrev pub numbers_of : List Entry → RowNamed → Numbers
 numbers_of h r = record {
-  terms = terms_of (coefficients h) r.name;
+  terms = map factor_of (terms_of (coefficients h) r.name);
   side = unwrap_or (number_given (sides_given h) r.name) zero_decimal;
   range = range_of r.role (number_given (ranges_given h) r.name);
 }
@@ -57,18 +62,18 @@ abbrev pub places_if : Option Decimal → ℕ
 places_if None = 0
 places_if (Some d) = places_of d
 
--- the most places behind the point that a coefficient has
-abbrev pub most_places : List Coefficient → ℕ
+-- the most places behind the point that a factor has
+abbrev pub most_places : List Factor → ℕ
 most_places [] = 0
-most_places (c ∷ cs) = max (places_of c.number) (most_places cs)
+most_places (f ∷ fs) = max (places_of f.number) (most_places fs)
 
 -- the least power of ten that makes the numbers whole
 abbrev pub scale_of : Numbers → ℕ
 scale_of n = max (most_places n.terms) (max (places_of n.side) (places_if n.range))
 
 -- the numbers times ten to the scale
-abbrev pub scaled_term : ℕ → Coefficient → Term
-scaled_term scale c = record { column = c.place; factor = scaled scale c.number }
+abbrev pub scaled_term : ℕ → Factor → Term
+scaled_term scale f = record { column = f.column; factor = scaled scale f.number }
 
 abbrev pub scaled_terms : Numbers → List Term
 scaled_terms n = map (scaled_term (scale_of n)) n.terms

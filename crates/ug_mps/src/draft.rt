@@ -3,8 +3,11 @@ mod columns;
 mod finish;
 mod header;
 mod limit;
+mod made;
+mod parts;
 mod row;
 mod rows;
+mod scaling;
 mod sides;
 
 ghost use Rattle.std.specs.Prelude.{◌≡◌, [], List, true};

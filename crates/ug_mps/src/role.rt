@@ -1,5 +1,6 @@
 ghost use Rattle.std.specs.Prelude.{◌≡◌, if◌then◌else◌};
-ghost use Rattle.ug_mps.specs.History.{role_with};
+ghost use Rattle.ug_mps.specs.History.{is_objective, role_with};
+ghost use Rattle.ug_mps.specs.Reads.{is_ignored};
 
 use ug_lines::RowKind;
 
@@ -16,6 +17,28 @@ pub enum Role {
     AtLeast,
     /// A row of its right-hand side.
     Equal,
+}
+
+impl Role {
+    /// Whether the row is the objective.
+    pub fn is_objective(self) -> bool
+        ensures { result ≡ is_objective self }
+    {
+        match self {
+            Role::Objective => true,
+            _ => false,
+        }
+    }
+
+    /// Whether the row is nothing to the problem.
+    pub fn is_ignored(self) -> bool
+        ensures { result ≡ is_ignored self }
+    {
+        match self {
+            Role::Ignored => true,
+            _ => false,
+        }
+    }
 }
 
 /// What a row of this type is to the problem, where the objective is there or is not.

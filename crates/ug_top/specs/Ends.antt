@@ -31,11 +31,11 @@ abbrev pub IsAnswerTo : Instance → List ℕ → Type 0
 IsAnswerTo p text = (answer : answers.Answer) × Right p answer × AreAnswerLines p answer text
 
 -- what a text comes to: an answer to the problem that it states, the line of its first fault, or want of memory
-abbrev pub IsEndOf : List ℕ → End → Type 0
-IsEndOf text (Answered lines) = (p : Instance) × Reads text p × IsAnswerTo p lines.items
-IsEndOf text (Refused lines) = (f : MpsFault) × FirstFault text f × (lines.items ≡ refused_line f)
-IsEndOf text ReadFault = ⊥
-IsEndOf text Memory = Unit {0}
+abbrev pub IsEndOf : List ℕ → Option ℕ → End → Type 0
+IsEndOf text boxed (Answered lines) = (p : Instance) × Reads text boxed p × IsAnswerTo p lines.items
+IsEndOf text boxed (Refused lines) = (f : MpsFault) × FirstFault text boxed f × (lines.items ≡ refused_line f)
+IsEndOf text boxed ReadFault = ⊥
+IsEndOf text boxed Memory = Unit {0}
 
 -- a first fault is told
 abbrev pub IsTold : End → Type 0
@@ -46,7 +46,7 @@ abbrev pub IsSolved : End → Type 0
 IsSolved end = (status_of end ≡ statuses.Answered) ⊎ ((status_of end ≡ statuses.Memory) ⊎ (status_of end ≡ statuses.ReadFault))
 
 -- the end's lines are those of its status, and it is the end that the bytes want
-pub record AreEndLines (told : Option (List ℕ)) (end : End) : Type 0 where
-  pub lines : AreLines told (status_of end) (text_of end)
-  pub fault : IfSome told (λ bytes. (f : MpsFault) → FirstFault bytes f → IsTold end)
-  pub problem : IfSome told (λ bytes. (p : Instance) → Reads bytes p → IsSolved end)
+pub record AreEndLines (boxed : Option ℕ) (told : Option (List ℕ)) (end : End) : Type 0 where
+  pub lines : AreLines boxed told (status_of end) (text_of end)
+  pub fault : IfSome told (λ bytes. (f : MpsFault) → FirstFault bytes boxed f → IsTold end)
+  pub problem : IfSome told (λ bytes. (p : Instance) → Reads bytes boxed p → IsSolved end)

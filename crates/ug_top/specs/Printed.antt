@@ -9,7 +9,7 @@ use Rattle.ug_problem.specs.declared.answer.Answer.TheVariants.{Optimal, Infeasi
 use Rattle.ug_problem.specs.Instances.{Instance}
 use Rattle.ug_problem.specs.Printed.{IsPrinted}
 use Rattle.ug_mps.specs.declared.fault.Kind.{Kind}
-use Rattle.ug_mps.specs.declared.fault.Kind.TheVariants.{NotYet, NoEnd, Unbounded}
+use Rattle.ug_mps.specs.declared.fault.Kind.TheVariants as kinds
 use Rattle.ug_mps.specs.declared.fault.MpsFault.{MpsFault}
 
 -- a line with its end
@@ -46,9 +46,22 @@ AreAnswerLines p Infeasible text = text ≡ line (codes "infeasible")
 
 -- the name of a kind of fault
 abbrev pub kind_name : Kind → List ℕ
-kind_name NotYet = codes "NotYet"
-kind_name NoEnd = codes "NoEnd"
-kind_name Unbounded = codes "Unbounded"
+kind_name kinds.Byte = codes "Byte"
+kind_name kinds.Words = codes "Words"
+kind_name kinds.Section = codes "Section"
+kind_name kinds.RowKind = codes "RowKind"
+kind_name kinds.Marker = codes "Marker"
+kind_name kinds.BoundKind = codes "BoundKind"
+kind_name kinds.SemiContinuous = codes "SemiContinuous"
+kind_name kinds.Unknown = codes "Unknown"
+kind_name kinds.Duplicate = codes "Duplicate"
+kind_name kinds.Number = codes "Number"
+kind_name kinds.TooWide = codes "TooWide"
+kind_name kinds.TooMany = codes "TooMany"
+kind_name kinds.TooLong = codes "TooLong"
+kind_name kinds.NoEnd = codes "NoEnd"
+kind_name kinds.Continuous = codes "Continuous"
+kind_name kinds.Unbounded = codes "Unbounded"
 
 -- a blank and the word, if there is one
 abbrev pub word_part : Option (List ℕ) → List ℕ

@@ -19,37 +19,37 @@ code_of ReadFault = 4
 code_of WriteFault = 5
 code_of Memory = 9
 
--- the lines of a right answer to the problem that the bytes state, where they are told
-pub record AreRightLines (told : Option (List ℕ)) (text : List ℕ) : Type 0 where
+-- the lines of a right answer to the problem that the bytes state under the box, where they are told
+pub record AreRightLines (boxed : Option ℕ) (told : Option (List ℕ)) (text : List ℕ) : Type 0 where
   pub problem : Instance
   pub answer : Answer
-  pub reads : IfSome told (λ bytes. Reads bytes problem)
+  pub reads : IfSome told (λ bytes. Reads bytes boxed problem)
   pub right : Right problem answer
   pub lines : AreAnswerLines problem answer text
 
--- the line of the first fault of the bytes, where they are told
-pub record IsRefusedLine (told : Option (List ℕ)) (text : List ℕ) : Type 0 where
+-- the line of the first fault of the bytes under the box, where they are told
+pub record IsRefusedLine (boxed : Option ℕ) (told : Option (List ℕ)) (text : List ℕ) : Type 0 where
   pub fault : MpsFault
-  pub first : IfSome told (λ bytes. FirstFault bytes fault)
+  pub first : IfSome told (λ bytes. FirstFault bytes boxed fault)
   pub is : text ≡ refused_line fault
 
 -- the lines of a status
-abbrev pub AreLines : Option (List ℕ) → Status → List ℕ → Type 0
-AreLines told Answered text = AreRightLines told text
-AreLines told Usage text = text ≡ []
-AreLines told Refused text = IsRefusedLine told text
-AreLines told ReadFault text = text ≡ line (codes "read fault")
-AreLines told WriteFault text = ⊥
-AreLines told Memory text = text ≡ line (codes "memory")
+abbrev pub AreLines : Option ℕ → Option (List ℕ) → Status → List ℕ → Type 0
+AreLines boxed told Answered text = AreRightLines boxed told text
+AreLines boxed told Usage text = text ≡ []
+AreLines boxed told Refused text = IsRefusedLine boxed told text
+AreLines boxed told ReadFault text = text ≡ line (codes "read fault")
+AreLines boxed told WriteFault text = ⊥
+AreLines boxed told Memory text = text ≡ line (codes "memory")
 
 -- what the work came to before a line was written: the status and its lines, a read fault exactly where the source's faults rose
-pub record IsDue (told : Option (List ℕ)) (faults faults' : ℕ) (status : Status) (text : List ℕ) : Type 0 where
-  pub lines : AreLines told status text
+pub record IsDue (boxed : Option ℕ) (told : Option (List ℕ)) (faults faults' : ℕ) (status : Status) (text : List ℕ) : Type 0 where
+  pub lines : AreLines boxed told status text
   pub work : status ≢ Usage
   pub fault : status ≡ ReadFault → Rose faults faults'
   pub source : faults < faults' → status ≡ ReadFault
 
 -- the lines of the status were written; where the sink failed, a front of those that were due
-abbrev pub Wrote : Option (List ℕ) → ℕ → ℕ → Option (List ℕ) → Option (List ℕ) → Status → Type 0
-Wrote told faults faults' old new WriteFault = (status : Status) × (text : List ℕ) × IsDue told faults faults' status text × TakesFront old new text
-Wrote told faults faults' old new status = (text : List ℕ) × AreLines told status text × Takes old new text
+abbrev pub Wrote : Option ℕ → Option (List ℕ) → ℕ → ℕ → Option (List ℕ) → Option (List ℕ) → Status → Type 0
+Wrote boxed told faults faults' old new WriteFault = (status : Status) × (text : List ℕ) × IsDue boxed told faults faults' status text × TakesFront old new text
+Wrote boxed told faults faults' old new status = (text : List ℕ) × AreLines boxed told status text × Takes old new text

@@ -29,8 +29,21 @@ fn name_of(kind: Kind) -> &'static [u8]
     ensures { result.now ≡ kind_name kind }
 {
     match kind {
-        Kind::NotYet => b"NotYet",
+        Kind::Byte => b"Byte",
+        Kind::Words => b"Words",
+        Kind::Section => b"Section",
+        Kind::RowKind => b"RowKind",
+        Kind::Marker => b"Marker",
+        Kind::BoundKind => b"BoundKind",
+        Kind::SemiContinuous => b"SemiContinuous",
+        Kind::Unknown => b"Unknown",
+        Kind::Duplicate => b"Duplicate",
+        Kind::Number => b"Number",
+        Kind::TooWide => b"TooWide",
+        Kind::TooMany => b"TooMany",
+        Kind::TooLong => b"TooLong",
         Kind::NoEnd => b"NoEnd",
+        Kind::Continuous => b"Continuous",
         Kind::Unbounded => b"Unbounded",
     }
 }

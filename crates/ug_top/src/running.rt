@@ -1,4 +1,4 @@
-ghost use Rattle.std.specs.Prelude.{◌≡◌, ◌≢◌, ◌<◌, ◌⊎◌, ℕ, List, Option, Some, IfSome, IfOk, OnOk, OnErr, Ok};
+ghost use Rattle.std.specs.Prelude.{◌≡◌, ◌≢◌, ◌<◌, ◌≤◌, ◌^◌, ◌⊎◌, ℕ, List, Option, Some, IfSome, IfOk, OnOk, OnErr, Ok};
 ghost use Rattle.ug_problem.specs.Instances.{Instance};
 ghost use Rattle.ug_mps.specs.declared.fault.MpsFault.{MpsFault};
 ghost use Rattle.ug_mps.specs.Reads.{Reads, FirstFault};
@@ -31,8 +31,10 @@ pub fn run<R, S: Source, K: Sink>(
     input: &mut S,
     out: &mut K,
 ) -> Status
-    // The lines of the status were written; for an answer those of a right one to what the bytes state.
-    ensures lines { Wrote (S.left input.old) (S.faults input.old) (S.faults input.new) (K.written out.old) (K.written out.new) result }
+    // The lines of the status were written; for an answer those of a right one to what the bytes state under the box.
+    ensures lines { (file : List ℕ) (boxed : Option ℕ) → IsSolve words.now file boxed → Wrote boxed (S.left input.old) (S.faults input.old) (S.faults input.new) (K.written out.old) (K.written out.new) result }
+
+    ensures nothing { result ≡ Status.Usage → K.written out.new ≡ K.written out.old }
 
     ensures usage { result ≡ Status.Usage → (file : List ℕ) (boxed : Option ℕ) → IsSolve words.now file boxed → ⊥ }
     ensures command { ((file : List ℕ) (boxed : Option ℕ) → IsSolve words.now file boxed → ⊥) → result ≡ Status.Usage }
@@ -44,17 +46,41 @@ pub fn run<R, S: Source, K: Sink>(
     ensures sink { K.faults out.old < K.faults out.new → result ≡ Status.WriteFault }
 
     // Without a fault of the outside a first fault of the bytes is told, and a problem is answered.
-    ensures refused { (file bytes : List ℕ) (boxed : Option ℕ) (f : MpsFault) → IsSolve words.now file boxed → S.left input.old ≡ Some bytes → FirstFault bytes f
+    ensures refused { (file bytes : List ℕ) (boxed : Option ℕ) (f : MpsFault) → IsSolve words.now file boxed → S.left input.old ≡ Some bytes → FirstFault bytes boxed f
         → IsCalm (S.faults input.old) (S.faults input.new) → IsCalm (K.faults out.old) (K.faults out.new)
         → (result ≡ Status.Refused) ⊎ (result ≡ Status.Memory) }
-    ensures complete { (file bytes : List ℕ) (boxed : Option ℕ) (p : Instance) → IsSolve words.now file boxed → S.left input.old ≡ Some bytes → Reads bytes p
+    ensures complete { (file bytes : List ℕ) (boxed : Option ℕ) (p : Instance) → IsSolve words.now file boxed → S.left input.old ≡ Some bytes → Reads bytes boxed p
         → IsCalm (S.faults input.old) (S.faults input.new) → IsCalm (K.faults out.old) (K.faults out.new)
         → (result ≡ Status.Answered) ⊎ (result ≡ Status.Memory) }
 {
     let Some(command) = command_of(words) else {
         return Status::Usage;
     };
-    let end = work(alloc, input, command.boxed);
+    obey(alloc, command.boxed, input, out)
+}
+
+// Reads the source, solves the problem that its bytes state under the box, and writes the lines of the answer.
+fn obey<S: Source, K: Sink>(
+    alloc: Global,
+    boxed: Option<u32>,
+    input: &mut S,
+    out: &mut K,
+) -> Status
+    requires { IfSome boxed (λ u. u ≤ 10 ^ 9) }
+    ensures lines { Wrote boxed (S.left input.old) (S.faults input.old) (S.faults input.new) (K.written out.old) (K.written out.new) result }
+    ensures usage { result ≢ Status.Usage }
+    ensures read_fault { result ≡ Status.ReadFault → Rose (S.faults input.old) (S.faults input.new) }
+    ensures source { S.faults input.old < S.faults input.new → (result ≡ Status.ReadFault) ⊎ (result ≡ Status.WriteFault) }
+    ensures write_fault { result ≡ Status.WriteFault → Rose (K.faults out.old) (K.faults out.new) }
+    ensures sink { K.faults out.old < K.faults out.new → result ≡ Status.WriteFault }
+    ensures refused { (bytes : List ℕ) (f : MpsFault) → S.left input.old ≡ Some bytes → FirstFault bytes boxed f
+        → IsCalm (S.faults input.old) (S.faults input.new) → IsCalm (K.faults out.old) (K.faults out.new)
+        → (result ≡ Status.Refused) ⊎ (result ≡ Status.Memory) }
+    ensures complete { (bytes : List ℕ) (p : Instance) → S.left input.old ≡ Some bytes → Reads bytes boxed p
+        → IsCalm (S.faults input.old) (S.faults input.new) → IsCalm (K.faults out.old) (K.faults out.new)
+        → (result ≡ Status.Answered) ⊎ (result ≡ Status.Memory) }
+{
+    let end = work(alloc, input, boxed);
     match write_all(out, end.text()) {
         Ok(()) => end.status(),
         Err(Failed) => Status::WriteFault,
@@ -96,7 +122,8 @@ impl End {
 
 // Reads the source and solves the problem that its bytes state.
 fn work<S: Source>(alloc: Global, input: &mut S, boxed: Option<u32>) -> End
-    ensures lines { AreEndLines (S.left input.old) result }
+    requires { IfSome boxed (λ u. u ≤ 10 ^ 9) }
+    ensures lines { AreEndLines boxed (S.left input.old) result }
     ensures fault { result ≡ End.ReadFault → Rose (S.faults input.old) (S.faults input.new) }
     ensures calm { (result ≡ End.ReadFault) ⊎ (S.faults input.new ≡ S.faults input.old) }
 {
@@ -112,10 +139,10 @@ fn work<S: Source>(alloc: Global, input: &mut S, boxed: Option<u32>) -> End
 
 // What the text comes to.
 fn end_of(alloc: Global, text: &[u8], boxed: Option<u32>) -> End
-    ensures { IsEndOf text.now result }
+    requires { IfSome boxed (λ u. u ≤ 10 ^ 9) }
+    ensures { IsEndOf text.now boxed result }
 {
-    let _boxed = boxed;
-    match read(alloc, text, None) {
+    match read(alloc, text, boxed) {
         Ok(problem) => match answered(alloc, problem) {
             Ok(lines) => End::Answered(lines),
             Err(AllocError) => End::Memory,

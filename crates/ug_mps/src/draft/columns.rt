@@ -7,6 +7,7 @@ use crate::bound::{Bound, Change};
 use crate::names::Names;
 use std::alloc::{AllocError, Global};
 use std::marker::Model;
+use ug_lists::Text;
 
 /// What a column has so far.
 #[derive(Clone, Copy, Debug)]
@@ -193,5 +194,14 @@ impl Columns {
     {
         let draft = self.drafts[at as usize];
         self.drafts[at as usize] = changed(draft, change);
+    }
+
+    /// The names, and what is kept of each column. It takes no memory.
+    pub fn into_parts(self) -> (Vec<Text>, Vec<ColumnDraft>)
+        ensures names { result.0.items ≡ self.names }
+        ensures drafts { result.1.items ≡ self.drafts }
+    {
+        let Columns { names, drafts } = self;
+        (names.into_vec(), drafts)
     }
 }

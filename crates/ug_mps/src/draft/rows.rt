@@ -12,7 +12,7 @@ use crate::role::Role;
 use std::alloc::{AllocError, Global};
 use std::marker::Model;
 use ug_lines::NamedWords;
-use ug_lists::Items;
+use ug_lists::{Items, Text};
 use ug_problem::Decimal;
 
 /// A column's place, and the number with which a row has it.
@@ -207,7 +207,7 @@ impl Rows {
     pub fn look<'a>(&self, pairs: &NamedWords<'a>) -> Result<Places, &'a [u8]>
         ensures value { MatchResult result
             (λ places. (first_missing self.now.names (rows_in (pairs_shaped pairs.now)) ≡ None)
-                × AreAt self.now.names (rows_in (pairs_shaped pairs.now)) (places_in places))
+            × AreAt self.now.names (rows_in (pairs_shaped pairs.now)) (places_in places))
             (λ word. first_missing self.now.names (rows_in (pairs_shaped pairs.now)) ≡ Some word.now) }
     {
         let Some(first) = self.find(pairs.first.row) else {
@@ -271,5 +271,14 @@ impl Rows {
             return Ok(());
         };
         self.put(place, part, pair.number)
+    }
+
+    /// The names, and what is kept of each row. It takes no memory.
+    pub fn into_parts(self) -> (Vec<Text>, Vec<RowDraft>)
+        ensures names { result.0.items ≡ self.names }
+        ensures drafts { result.1.items ≡ self.drafts }
+    {
+        let Rows { names, drafts } = self;
+        (names.into_vec(), drafts)
     }
 }
