@@ -1,7 +1,7 @@
 -- Two texts state the same where they differ only from a line on that closes both: it has the same fault in both, or it is their end.
-use Rattle.std.proofs.Common.{◌≡◌, ℕ, ◌+◌, ◌<◌, ◌≤◌, ◌⊎◌, inl, inr, Bool, true, false, List, [], ◌∷◌, ◌++◌, length, take, get_or, Option, Some, None, refl, sym, ap, ◌∙◌, subst, arith, append_assoc}
+use Rattle.std.proofs.Common.{◌≡◌, ℕ, ◌+◌, ◌<◌, ◌≤◌, inl, inr, true, false, List, [], ◌∷◌, ◌++◌, length, take, get_or, Option, Some, refl, sym, ap, ◌∙◌, subst, arith}
 use Rattle.std.specs.Prelude.{reverse}
-use Rattle.std.proofs.lemmas.Bool.{cases_lt, cases_order, false≢true}
+use Rattle.std.proofs.lemmas.Bool.{cases_lt, false≢true}
 use Rattle.std.proofs.lemmas.List.{take-append-le, get_or_append_left, length-append, length-take-le, length-reverse}
 use Rattle.ug_lines.specs.Lines.{Line, lines_of}
 use Rattle.ug_problem.specs.Instances.{Instance}
@@ -11,7 +11,7 @@ use Rattle.ug_mps.specs.Faults.{Complaint}
 use Rattle.ug_mps.specs.Says.{line_fault, is_ended, after, history}
 use Rattle.ug_mps.specs.Reads.{no_line, lines_before, Says, IsFaulty, IsEndless, Reads, FirstFault}
 use Rattle.ug_mps.specs.Laws.{StatesSame}
-use Rattle.ug_mps.proofs.Outcome.{line_at, after_line, says_parts, says_more, says_less, says_one, after_end, stops}
+use Rattle.ug_mps.proofs.Outcome.{line_at, says_parts, says_more, says_less, after_end, stops}
 
 -- the two lines have the same fault, or say the same and end the text
 pub record CloseSame (a b : Line) : Type 0 where
@@ -82,13 +82,13 @@ module _ (text other : List ℕ) (lines : List Line) (a b : Line) (t : HasLine t
         let q = says_parts text (length lines) h s' in
         let before : Says text (length lines) q.earlier = record { there = omega (arith, count); said = q.said } in
         let n : length (lines_before text (length lines)) ≡ length (lines_before other (length lines)) =
-            before_len text (length lines) (omega (arith, count)) ∙ sym (before_len other (length lines) (omega (arith, count'))) in
+        before_len text (length lines) (omega (arith, count)) ∙ sym (before_len other (length lines) (omega (arith, count'))) in
         let line : after q.earlier (length (lines_before other (length lines)) + 1) (line_at other (length lines)) ≡ Some h =
-            ap (after q.earlier (length (lines_before other (length lines)) + 1)) (line_is other lines b u)
-            ∙ sym (c.same q.earlier (length (lines_before other (length lines)) + 1))
-            ∙ ap (after q.earlier (length (lines_before other (length lines)) + 1)) (sym (line_is text lines a t))
-            ∙ ap (λ m. after q.earlier (m + 1) (line_at text (length lines))) (sym n)
-            ∙ q.after_ in
+        ap (after q.earlier (length (lines_before other (length lines)) + 1)) (line_is other lines b u)
+        ∙ sym (c.same q.earlier (length (lines_before other (length lines)) + 1))
+        ∙ ap (after q.earlier (length (lines_before other (length lines)) + 1)) (sym (line_is text lines a t))
+        ∙ ap (λ m. after q.earlier (m + 1) (line_at text (length lines))) (sym n)
+        ∙ q.after_ in
         subst (λ m. Says other m h) (sym is)
         (says_more other (length lines) q.earlier h count' (same_front (length lines) q.earlier (omega arith) before) line)
   ]

@@ -1,15 +1,15 @@
 -- Lines that close a text alike: two ENDATA lines, both legible or neither; and two others beyond the limit.
 use Rattle.std.proofs.Common.{◌≡◌, ℕ, ◌<◌, Bool, true, false, List, [], ◌∷◌, ◌++◌, length, Option, Some, None, refl, sym, ap, ◌∙◌, arith, ⊎_elim}
-use Rattle.std.specs.Prelude.{◌==◌, ◌&&◌, not, filter, codes, nat_lt, if◌then◌else◌}
+use Rattle.std.specs.Prelude.{◌==◌, ◌&&◌, not, filter, codes, nat_lt}
 use Rattle.std.specs.List.{slice_split}
 use Rattle.std.proofs.lemmas.Bool.{cases_Bool}
 use Rattle.std.proofs.lemmas.Bool.Decides.{nat_tests}
 use Rattle.ug_lines.specs.declared.section.Section.TheVariants.{Endata}
 use Rattle.ug_lines.specs.Lines.{Line}
-use Rattle.ug_lines.specs.Words.{is_blank, is_legible, words_of, is_data}
+use Rattle.ug_lines.specs.Words.{is_blank, is_legible, words_of}
 use Rattle.ug_mps.specs.declared.fault.Kind.TheVariants as kinds
 use Rattle.ug_mps.specs.Entries.{Entry, header}
-use Rattle.ug_mps.specs.Faults.{Complaint, or_fault, fault_where, is_word_end, is_end_line, too_long, bad_byte}
+use Rattle.ug_mps.specs.Faults.{Complaint, or_fault, fault_where, is_word_end, is_end_line, bad_byte}
 use Rattle.ug_mps.specs.Says.{header_fault, words_fault, words_say, line_fault, line_says, is_ended, after_fault, after}
 use Rattle.ug_mps.proofs.Outcome.{after_end, after_open, after_bad}
 use Rattle.ug_mps.proofs.Closing.{CloseSame}
@@ -74,7 +74,7 @@ close_end m n x y p q l =
     let a : Line = line_with (codes "ENDATA" ++ x) m in
     let b : Line = line_with (codes "ENDATA" ++ y) n in
     let fault : (h : List Entry) → line_fault h a ≡ line_fault h b = λ h.
-        end_fault_is h m x p ∙ ap (λ t. or_fault (fault_where kinds.Byte (not t)) (header_fault h (codes "ENDATA" ∷ []))) l ∙ sym (end_fault_is h n y q) in
+    end_fault_is h m x p ∙ ap (λ t. or_fault (fault_where kinds.Byte (not t)) (header_fault h (codes "ENDATA" ∷ []))) l ∙ sym (end_fault_is h n y q) in
     record {
       fault = fault;
       same = λ h k. after_by h k a b (fault h) (end_says h k m x p ∙ sym (end_says h k n y q));

@@ -1,5 +1,5 @@
 -- What the bytes so far show of a text.
-use Rattle.std.proofs.Common.{◌≡◌, ◌≢◌, ℕ, ◌+◌, ◌<◌, ◌≤◌, ◌⊎◌, inl, inr, Bool, true, false, List, [], ◌∷◌, ◌++◌, length, take, drop, suc, cond, ltb, Option, Some, None, refl, sym, ap, ◌∙◌, subst, arith, append_assoc, append-nil, ⊎_elim}
+use Rattle.std.proofs.Common.{◌≡◌, ◌≢◌, ℕ, ◌+◌, ◌<◌, ◌≤◌, ◌⊎◌, inl, inr, Bool, true, false, List, [], ◌∷◌, ◌++◌, length, take, drop, cond, ltb, Some, None, refl, sym, ap, ◌∙◌, subst, arith, append_assoc, append-nil, ⊎_elim}
 use Rattle.std.specs.Prelude.{◌==◌, ◌||◌, ◌&&◌, not, codes, if◌then◌else◌}
 use Rattle.std.specs.List.{position, position_or_len}
 use Rattle.std.specs.Str.{bytes_eq}
@@ -16,7 +16,7 @@ use Rattle.ug_mps.specs.Faults.{is_word_end, is_end_line}
 use Rattle.ug_mps.specs.Laws.{StatesSame}
 use Rattle.ug_mps.specs.Ending.{first_piece, first_line, begins_legibly, is_feed_first, ends_word, BeginsEnd, IsHead, IsBehind, StopsFirst, mark, NoneOf, HasNoFeed, AreLines, IsLineAt, IsFeedAt, IsEndedAt, AreEnough, IsSeen, IsSeenTo}
 use Rattle.ug_mps.proofs.Bytes.{and_true, false_from, same_bytes, not_true, not_false}
-use Rattle.ug_mps.proofs.Closing.{HasLine, CloseSame, same_last}
+use Rattle.ug_mps.proofs.Closing.{CloseSame, same_last}
 use Rattle.ug_mps.proofs.FirstLines.{line_behind, lines_first, piece_open, line_front, line_byte, line_return}
 use Rattle.ug_mps.proofs.EndLines.{close_end, close_long}
 
@@ -44,10 +44,10 @@ word_ends [] more e = absurd (false≢true e)
 word_ends (b ∷ bs) more e = ⊎_elim
     (λ p. by_piece (b == 10) b (first_piece (bs ++ more)) p)
     (λ q. ⊎_elim
-        (λ f. subst (λ x. is_word_end (first_line (x ∷ (bs ++ more))) ≡ true) (sym (eqb-true b 10 f)) refl)
-        (λ g. let both = and_true (b == 13) (is_feed_first bs) g in
-            subst (λ x. is_word_end (first_line (x ∷ (bs ++ more))) ≡ true) (sym (eqb-true b 13 both.0)) (feed_first bs more both.1))
-        (or_cases (b == 10) ((b == 13) && is_feed_first bs) q))
+    (λ f. subst (λ x. is_word_end (first_line (x ∷ (bs ++ more))) ≡ true) (sym (eqb-true b 10 f)) refl)
+    (λ g. let both = and_true (b == 13) (is_feed_first bs) g in
+    subst (λ x. is_word_end (first_line (x ∷ (bs ++ more))) ≡ true) (sym (eqb-true b 13 both.0)) (feed_first bs more both.1))
+    (or_cases (b == 10) ((b == 13) && is_feed_first bs) q))
     (or_cases (is_blank b) ((b == 10) || ((b == 13) && is_feed_first bs)) e)
 
 -- a byte behind ENDATA that ends no word
@@ -87,7 +87,7 @@ head_other line a b = λ more. false_from (is_end_line (first_line (line ++ more
     let word : take 6 c ≡ codes "ENDATA" = same_bytes (take 6 c) (codes "ENDATA") (and_true (bytes_eq (take 6 c) (codes "ENDATA")) (is_word_end (drop 6 c)) e).0 in
     let f = line_front (line ++ more) in
     let whole : line ++ more ≡ codes "ENDATA" ++ (drop 6 c ++ f.0) =
-        f.1 ∙ ap (λ l. l ++ f.0) (sym (take-append-drop 6 c) ∙ ap (λ l. l ++ drop 6 c) word) ∙ append_assoc (codes "ENDATA") (drop 6 c) f.0 in
+    f.1 ∙ ap (λ l. l ++ f.0) (sym (take-append-drop 6 c) ∙ ap (λ l. l ++ drop 6 c) word) ∙ append_assoc (codes "ENDATA") (drop 6 c) f.0 in
     absurd (elim (front_of line more (codes "ENDATA") (drop 6 c ++ f.0) whole) [
       | inl (z, s) ↦ a z s
       | inr (z, s) ↦ b z s
@@ -152,7 +152,7 @@ cut_len test [] h = absurd (omega arith)
 cut_len test (x ∷ xs) h = ⊎_elim
     (λ t. record { open_ = []; byte = x; rest = xs; parts = refl; none = tt; is = t; there = sym (first-yes test x xs t) })
     (λ f. let n : position_or_len test (x ∷ xs) ≡ 1 + position_or_len test xs = first-no test x xs f in
-        subst (λ m. CutAt test (x ∷ xs) m) (sym n) (cut_more test x xs (position_or_len test xs) f (cut_len test xs (omega (arith, h, n)))))
+    subst (λ m. CutAt test (x ∷ xs) m) (sym n) (cut_more test x xs (position_or_len test xs) f (cut_len test xs (omega (arith, h, n)))))
     (cases_Bool (test x))
 
 none_len : (test : ℕ → Bool) (xs : List ℕ) → length xs ≤ position_or_len test xs → NoneOf test xs
@@ -220,7 +220,7 @@ tails_same front tail other whole p q c =
     let f = lines_first front tail whole p in
     let g = lines_first front other whole q in
     same_last (front ++ tail) (front ++ other) (lines_of front) (line_behind front tail) (line_behind front other)
-        (record { rest = f.0; are = f.1 }) (record { rest = g.0; are = g.1 }) c
+    (record { rest = f.0; are = f.1 }) (record { rest = g.0; are = g.1 }) c
 
 mark_legible : (t : Bool) → is_legible (first_line (mark t)) ≡ t
 mark_legible true = refl
@@ -250,11 +250,11 @@ ended_at bytes front tail line parts whole begins (rest, word, e) =
       within = omega (arith, len, all);
       same = λ more.
           let text : take (line + 6) bytes ++ mark (begins_legibly (drop (line + 6) bytes ++ more)) ≡ front ++ (codes "ENDATA" ++ mark (begins_legibly (rest ++ more))) =
-              ap (λ l. l ++ mark (begins_legibly (drop (line + 6) bytes ++ more))) taken
-              ∙ append_assoc front (codes "ENDATA") (mark (begins_legibly (drop (line + 6) bytes ++ more)))
-              ∙ ap (λ l. front ++ (codes "ENDATA" ++ mark (begins_legibly (l ++ more)))) left in
+          ap (λ l. l ++ mark (begins_legibly (drop (line + 6) bytes ++ more))) taken
+          ∙ append_assoc front (codes "ENDATA") (mark (begins_legibly (drop (line + 6) bytes ++ more)))
+          ∙ ap (λ l. front ++ (codes "ENDATA" ++ mark (begins_legibly (l ++ more)))) left in
           let other : bytes ++ more ≡ front ++ (codes "ENDATA" ++ (rest ++ more)) =
-              ap (λ l. l ++ more) is ∙ append_assoc (front ++ codes "ENDATA") rest more ∙ append_assoc front (codes "ENDATA") (rest ++ more) in
+          ap (λ l. l ++ more) is ∙ append_assoc (front ++ codes "ENDATA") rest more ∙ append_assoc front (codes "ENDATA") (rest ++ more) in
           subst (λ x. StatesSame x (bytes ++ more)) (sym text) (subst (λ y. StatesSame (front ++ (codes "ENDATA" ++ mark (begins_legibly (rest ++ more)))) y) (sym other)
           (end_same front rest more whole e));
     }
@@ -297,7 +297,7 @@ pub line_to : (bytes : List ℕ) (line from at : ℕ) → IsLineAt bytes line fr
 line_to bytes line from at l f =
     let seen : length (l.front ++ l.open_) ≡ from = length-append l.front l.open_ ∙ ap (λ n. n + length l.open_) l.begins ∙ l.looked in
     let rest : l.rest ≡ f.open_ ++ 10 ∷ f.rest =
-        sym (drop_at (l.front ++ l.open_) l.rest from seen) ∙ ap (drop from) (append_assoc l.front l.open_ l.rest ∙ sym l.parts) ∙ f.parts in
+    sym (drop_at (l.front ++ l.open_) l.rest from seen) ∙ ap (drop from) (append_assoc l.front l.open_ l.rest ∙ sym l.parts) ∙ f.parts in
     let tail : l.open_ ++ l.rest ≡ (l.open_ ++ f.open_) ++ 10 ∷ f.rest = ap (λ r. l.open_ ++ r) rest ∙ sym (append_assoc l.open_ f.open_ (10 ∷ f.rest)) in
     record {
       front = l.front;
@@ -332,7 +332,7 @@ pub passed_to : (bytes : List ℕ) (line at : ℕ) (r : Head) → IsLineTo bytes
 passed_to bytes line at r l n h le =
     let tail : List ℕ = l.open_ ++ 10 ∷ l.rest in
     let piece : (more : List ℕ) → first_piece (tail ++ more) ≡ l.open_ ++ 10 ∷ [] = λ more.
-        ap first_piece (append_assoc l.open_ (10 ∷ l.rest) more) ∙ piece_open l.open_ (10 ∷ (l.rest ++ more)) l.no_feed in
+    ap first_piece (append_assoc l.open_ (10 ∷ l.rest) more) ∙ piece_open l.open_ (10 ∷ (l.rest ++ more)) l.no_feed in
     enough_long bytes l.front tail l.parts l.whole (omega (arith, length-append l.open_ (10 ∷ l.rest)))
     (λ more. omega (arith, le, l.begins, l.ends, ap length (piece more), length-append l.open_ (10 ∷ [])))
     (λ more. not_end tail l.open_ l.rest r refl n (subst (λ t. IsHead t r) l.left h) more)
@@ -341,20 +341,22 @@ passed_to bytes line at r l n h le =
 pub next_line : (bytes : List ℕ) (line at : ℕ) → IsLineTo bytes line at → at < 268435456 → IsLineAt bytes (at + 1) (at + 1) × (at + 1 ≤ length bytes)
 next_line bytes line at l lt =
     let cut : bytes ≡ (l.front ++ (l.open_ ++ 10 ∷ [])) ++ ([] ++ l.rest) =
-        l.parts ∙ ap (λ t. l.front ++ t) (sym (append_assoc l.open_ (10 ∷ []) l.rest)) ∙ sym (append_assoc l.front (l.open_ ++ 10 ∷ []) l.rest) in
+    l.parts ∙ ap (λ t. l.front ++ t) (sym (append_assoc l.open_ (10 ∷ []) l.rest)) ∙ sym (append_assoc l.front (l.open_ ++ 10 ∷ []) l.rest) in
     let len : length (l.front ++ (l.open_ ++ 10 ∷ [])) ≡ at + 1 =
-        omega (arith, l.begins, l.ends, length-append l.front (l.open_ ++ 10 ∷ []), length-append l.open_ (10 ∷ [])) in
-    (record {
-      front = l.front ++ (l.open_ ++ 10 ∷ []);
-      open_ = [];
-      rest = l.rest;
-      parts = cut;
-      whole = inr (l.front ++ l.open_, sym (append_assoc l.front l.open_ (10 ∷ [])));
-      no_feed = tt;
-      begins = len;
-      looked = omega arith;
-      within = omega (arith, lt);
-    }, omega (arith, len, ap length cut, length-append (l.front ++ (l.open_ ++ 10 ∷ [])) l.rest))
+    omega (arith, l.begins, l.ends, length-append l.front (l.open_ ++ 10 ∷ []), length-append l.open_ (10 ∷ [])) in (
+      record {
+        front = l.front ++ (l.open_ ++ 10 ∷ []);
+        open_ = [];
+        rest = l.rest;
+        parts = cut;
+        whole = inr (l.front ++ l.open_, sym (append_assoc l.front l.open_ (10 ∷ [])));
+        no_feed = tt;
+        begins = len;
+        looked = omega arith;
+        within = omega (arith, lt);
+      },
+      omega (arith, len, ap length cut, length-append (l.front ++ (l.open_ ++ 10 ∷ [])) l.rest),
+    )
 
 -- ---- up to the end of the bytes
 

@@ -1,9 +1,8 @@
 -- The first line of bytes, and whole lines before it.
-use Rattle.std.proofs.Common.{◌≡◌, ℕ, ◌+◌, ◌<◌, ◌≤◌, inl, inr, Bool, true, false, List, [], ◌∷◌, ◌++◌, length, refl, sym, ap, ◌∙◌, subst, arith, append_assoc, append-nil}
-use Rattle.std.specs.Prelude.{◌==◌, ◌||◌, ◌&&◌, if◌then◌else◌}
+use Rattle.std.proofs.Common.{◌≡◌, ℕ, ◌+◌, ◌<◌, inl, inr, Bool, true, false, List, [], ◌∷◌, ◌++◌, length, refl, sym, ap, ◌∙◌, subst, arith, append_assoc}
+use Rattle.std.specs.Prelude.{◌==◌, ◌||◌, if◌then◌else◌}
 use Rattle.std.specs.List.{onto_first, concat}
 use Rattle.std.specs.Str.{bytes_eq}
-use Rattle.std.proofs.lemmas.Bool.{false≢true}
 use Rattle.std.proofs.lemmas.List.{length-append}
 use Rattle.ug_lines.specs.Lines.{Line, pieces, content_of, lines_after, lines_of}
 use Rattle.ug_mps.specs.Ending.{HasNoFeed, AreLines, first_piece, first_line}
@@ -83,9 +82,10 @@ line_behind front tail = record { content = first_line tail; through = length fr
 pub lines_first : (front tail : List ℕ) → AreLines front → 0 < length tail → (more : List Line) × (lines_of (front ++ tail) ≡ lines_of front ++ line_behind front tail ∷ more)
 lines_first front [] whole some = absurd (omega arith)
 lines_first front (b ∷ bs) whole some =
-    let p = pieces_first b bs in
-    (lines_after (length front + length (first_piece (b ∷ bs))) p.0,
-    lines_behind front (b ∷ bs) whole ∙ ap (λ ps. lines_of front ++ lines_after (length front) ps) p.1)
+    let p = pieces_first b bs in (
+      lines_after (length front + length (first_piece (b ∷ bs))) p.0,
+      lines_behind front (b ∷ bs) whole ∙ ap (λ ps. lines_of front ++ lines_after (length front) ps) p.1,
+    )
 
 -- bytes without a line feed begin the piece
 pub piece_open : (open_ rest : List ℕ) → HasNoFeed open_ → first_piece (open_ ++ rest) ≡ open_ ++ first_piece rest

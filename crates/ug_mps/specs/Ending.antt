@@ -1,5 +1,5 @@
 -- How far a text has to be read: its ENDATA line, what follows the word on that line, and what the bytes so far show.
-use Rattle.std.specs.Prelude.{◌≡◌, ℕ, ◌+◌, ◌<◌, ◌≤◌, ◌==◌, ◌⊎◌, ◌||◌, ◌&&◌, Bool, true, false, List, [], ◌∷◌, ◌++◌, length, take, drop, codes, if◌then◌else◌}
+use Rattle.std.specs.Prelude.{◌≡◌, ℕ, ◌+◌, ◌≤◌, ◌==◌, ◌⊎◌, ◌||◌, ◌&&◌, Bool, true, false, List, [], ◌∷◌, ◌++◌, length, take, drop, codes, if◌then◌else◌}
 use Rattle.ug_lines.specs.Lines.{content_of}
 use Rattle.ug_lines.specs.Words.{is_blank, is_word_byte, is_legible}
 use Rattle.ug_mps.specs.declared.ending.Head.{Head}

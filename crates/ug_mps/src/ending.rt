@@ -50,13 +50,7 @@ fn behind_return(rest: &[u8]) -> Head
 {
     match rest {
         [] => Head::Open,
-        [b, ..] => {
-            if *b == b'\n' {
-                Head::Ends
-            } else {
-                Head::Other
-            }
-        }
+        [b, ..] => { if *b == b'\n' { Head::Ends } else { Head::Other } }
     }
 }
 
@@ -66,10 +60,10 @@ fn behind_word(rest: &[u8]) -> Head
 {
     match rest {
         [] => Head::Open,
-        [b, more @ ..] => {
-            if is_blank(*b) || *b == b'\n' {
+        [first, more @ ..] => {
+            if is_blank(*first) || *first == b'\n' {
                 Head::Ends
-            } else if *b == b'\r' {
+            } else if *first == b'\r' {
                 behind_return(more)
             } else {
                 Head::Other
@@ -117,10 +111,10 @@ fn after_stop(bytes: &[u8]) -> Tail
 {
     match bytes {
         [] => Tail::Open(false),
-        [b, more @ ..] => {
-            if *b == b'\n' {
+        [stop, more @ ..] => {
+            if *stop == b'\n' {
                 Tail::Legible
-            } else if *b == b'\r' {
+            } else if *stop == b'\r' {
                 after_return(more)
             } else {
                 Tail::Bad

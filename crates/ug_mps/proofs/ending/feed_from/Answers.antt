@@ -1,4 +1,4 @@
-use Rattle.std.proofs.Common.{drop, subst, ap, ◌∙◌}
+use Rattle.std.proofs.Common.{subst, ap, ◌∙◌}
 use Rattle.std.specs.Prelude.{◌==◌}
 use Rattle.std.specs.List.{position}
 use Rattle.ug_mps.specs.Ending.{HasNoFeed}

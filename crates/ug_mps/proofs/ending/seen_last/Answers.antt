@@ -1,4 +1,4 @@
-use Rattle.std.proofs.Common.{refl, subst, arith}
+use Rattle.std.proofs.Common.{subst}
 use Rattle.ug_mps.specs.declared.ending.Head.TheVariants as heads
 use Rattle.ug_mps.specs.Ending.{BeginsEnd, IsHead}
 use Rattle.ug_mps.proofs.EndingLemmas.{last_of, ended_last, passed_last, few_above}

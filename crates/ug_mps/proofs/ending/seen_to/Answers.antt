@@ -1,5 +1,4 @@
 use Rattle.std.proofs.Common.{refl, subst, arith}
-use Rattle.ug_mps.specs.declared.ending.Head.TheVariants as heads
 use Rattle.ug_mps.specs.Ending.{BeginsEnd, IsHead}
 use Rattle.ug_mps.proofs.EndingLemmas.{line_to, ended_to, passed_to, next_line}
 use Rattle.ug_mps.proofs.ending.seen_to.Goals as goal
