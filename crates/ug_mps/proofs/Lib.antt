@@ -26,3 +26,7 @@ pub mod ProblemLemmas
 pub mod FinishLemmas
 pub mod EndLemmas
 pub mod ScaleLaws
+pub mod Closing
+pub mod FirstLines
+pub mod EndLines
+pub mod EndingLemmas

@@ -7,6 +7,7 @@
 
 mod bound;
 mod draft;
+mod ending;
 mod error;
 mod fault;
 mod laws;
@@ -16,6 +17,7 @@ mod pairs;
 mod reading;
 mod role;
 
+pub use ending::{Seen, Tail, see, tail_of};
 pub use fault::{Kind, MpsError, MpsFault};
 pub use laws::{least_scale, one_outcome, worked_texts};
 pub use reading::read;
