@@ -76,8 +76,8 @@ module _ (h : List Entry) (d : Draft) (old : Drafts h d) (name : List ℕ) (ws :
         let rows = read_rows ws ps read in
         let room = or_false (nat_le 10000 (place_of h name)) (nat_lt 1000000 (length (coefficients h) + length ws)) (full_same more false c t) in
         let fit = free_and_apart h (λ r. has (coefficients h) (place_of h name) r) ps
-            (ap (find (λ word. not (is_row h word))) rows ∙ missing_is h d.rows (rows_in ws) old.rows ∙ m)
-            (ap (repeated (λ word. has (coefficients h) (place_of h name) word)) rows ∙ column_repeats at places None e stand found) in
+        (ap (find (λ word. not (is_row h word))) rows ∙ missing_is h d.rows (rows_in ws) old.rows ∙ m)
+        (ap (repeated (λ word. has (coefficients h) (place_of h name) word)) rows ∙ column_repeats at places None e stand found) in
         both ((goes_on h name || not (is_column h name)) && nat_lt (place_of h name) 10000) _
         (both (goes_on h name || not (is_column h name)) (nat_lt (place_of h name) 10000) (not_again (is_column h name) (goes_on h name) f) (lt-ltb (place_of h name) 10000 (below_leb (place_of h name) room.0)))
         (both (are_free h (λ r. has (coefficients h) (place_of h name) r) ps && are_apart ps) (nat_le (length (coefficients h) + length ps) 1000000)
@@ -94,7 +94,7 @@ module _ (h : List Entry) (d : Draft) (old : Drafts h d) (name : List ℕ) (ws :
         let same = read_rows ws ps read in
         let put = subst (λ j. PutsPairs (parts.Coefficient j) ps places d.rows rows) e puts in
         let taken : AreRows (lists_of (entry ∷ h)) rows = put (lists_of h) old.rows (subst (λ rs. AreAt d.rows.names rs places) (sym same) stand)
-            (ap (repeated (λ word. has (coefficients h) (place_of h name) word)) same ∙ column_repeats at places None e stand found) in
+        (ap (repeated (λ word. has (coefficients h) (place_of h name) word)) same ∙ column_repeats at places None e stand found) in
         rw read (subst (λ x. Drafts (entry ∷ h) x) (sym is) (record {
           good = (record { fits = column_does_fit ps more read c t; entry = record { named = named; numbers = numbers } }, old.good);
           rows = taken;

@@ -1,5 +1,5 @@
 -- How many columns, rows and terms a good history states.
-use Rattle.std.proofs.Common.{◌≡◌, ℕ, ℤ, ◌+◌, ◌-◌, ◌<◌, ◌≤◌, ◌^◌, ◌==◌, ◌&&◌, ◌||◌, not, cond, nat_lt, nat_le, Bool, true, false, List, [], ◌∷◌, ◌++◌, length, map, filter, sum_by, Option, Some, None, sym, refl, ap, subst, ◌∙◌, arith, ⊎_elim}
+use Rattle.std.proofs.Common.{◌≡◌, ℕ, ◌+◌, ◌-◌, ◌<◌, ◌≤◌, ◌==◌, ◌&&◌, ◌||◌, not, cond, nat_lt, Bool, true, false, List, [], ◌∷◌, ◌++◌, length, map, filter, sum_by, Option, refl, subst, ◌∙◌, arith, ⊎_elim}
 use Rattle.std.specs.Str.{bytes_eq}
 use Rattle.std.proofs.lemmas.Bool.{cases_Bool, false≢true, ltb-true, leb-true}
 use Rattle.std.proofs.lemmas.List.{length-map, length-append, length_push}
@@ -12,7 +12,7 @@ use Rattle.ug_mps.specs.declared.role.Role.TheVariants as roles
 use Rattle.ug_mps.specs.Entries.{Pair, Entry, row, column}
 use Rattle.ug_mps.specs.Good.{Good, are_free, are_apart}
 use Rattle.ug_mps.specs.History.{RowNamed, ColumnBegun, Coefficient, rows_of, columns_of, coefficients, is_row, is_column, has, place_of, goes_on, role_after, is_objective, is_maximised, is_integer_on, placed}
-use Rattle.ug_mps.specs.Stated.{is_term, terms_of, factor_of, numbers_of, scale_of, scaled_term, scaled_terms, is_sided, signed, stated_row, stated_rows, objective_in, stated_column, stated}
+use Rattle.ug_mps.specs.Stated.{is_term, terms_of, factor_of, numbers_of, scale_of, scaled_term, scaled_terms, is_sided, signed, stated_row, objective_in, stated_column, stated}
 use Rattle.ug_mps.specs.Rows.{is_named}
 use Rattle.ug_mps.proofs.Bytes.{and_true, not_true, same_bytes, bytes_turn, or_false, any_append}
 

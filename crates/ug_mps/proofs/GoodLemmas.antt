@@ -1,20 +1,19 @@
 -- What a good history names, and the limits of its numbers and bounds.
-use Rattle.std.proofs.Common.{◌≡◌, ℕ, ℤ, pos, ◌<◌, ◌≤◌, ◌^◌, ◌||◌, cond, unwrap_or, unsigned_abs, Bool, true, false, List, [], ◌∷◌, ◌++◌, map, filter, All, IfSome, Option, Some, None, sym, refl, subst, arith, ⊎_elim, inl, inr}
+use Rattle.std.proofs.Common.{ℕ, cond, unwrap_or, Bool, true, false, List, [], ◌∷◌, ◌++◌, All, IfSome, Option, Some, None, refl, arith, ⊎_elim, inr}
 use Rattle.std.specs.Str.{bytes_eq}
 use Rattle.std.proofs.lemmas.Bool.{cases_Bool}
-use Rattle.std.proofs.lemmas.List.Elements.{All-nil, All-head, All-tail, All-append, All-push, All-map, All-filter, All-weaker}
+use Rattle.std.proofs.lemmas.List.Elements.{All-nil, All-head, All-tail, All-append, All-push, All-map, All-filter}
 use Rattle.ug_problem.specs.declared.decimal.Decimal.{Decimal}
 use Rattle.ug_problem.specs.Decimals.{IsDecimal, zero_decimal}
 use Rattle.ug_problem.specs.Instances.{IsName}
 use Rattle.ug_mps.specs.declared.bound.Bound.{Bound}
-use Rattle.ug_mps.specs.declared.bound.Bound.TheVariants.{Infinite, Finite}
-use Rattle.ug_mps.specs.declared.bound.Change.{Change}
+use Rattle.ug_mps.specs.declared.bound.Bound.TheVariants.{Infinite}
 use Rattle.ug_mps.specs.declared.draft.rows.Factor.{Factor}
 use Rattle.ug_mps.specs.declared.role.Role.{Role}
 use Rattle.ug_mps.specs.declared.role.Role.TheVariants.{Objective}
 use Rattle.ug_mps.specs.Entries.{Pair, Entry, row, column, sides, ranges, bound}
-use Rattle.ug_mps.specs.Good.{Good, IsNumbered, IsSmall, IsChange}
-use Rattle.ug_mps.specs.History.{RowNamed, ColumnBegun, Coefficient, rows_of, columns_of, coefficients, sides_given, ranges_given, goes_on, place_of, placed, role_after, is_integer_on, or_bound, low_after, high_after, low_set, high_set}
+use Rattle.ug_mps.specs.Good.{Good, IsNumbered, IsSmall}
+use Rattle.ug_mps.specs.History.{RowNamed, ColumnBegun, Coefficient, rows_of, columns_of, coefficients, sides_given, ranges_given, goes_on, place_of, placed, role_after, is_integer_on, or_bound, low_set, high_set}
 use Rattle.ug_mps.specs.Scales.{AreDecimals}
 use Rattle.ug_mps.specs.Stated.{is_term, terms_of, factor_of, number_given, range_of, numbers_of}
 

@@ -23,3 +23,10 @@ pub mod GoodLemmas
 pub mod StatedLemmas
 pub mod Counts
 pub mod ProblemLemmas
+pub mod FinishLemmas
+pub mod EndLemmas
+pub mod ScaleLaws
+pub mod Closing
+pub mod FirstLines
+pub mod EndLines
+pub mod EndingLemmas

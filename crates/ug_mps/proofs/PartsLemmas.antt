@@ -1,8 +1,6 @@
 -- All columns and all rows, as far as they are made.
-use Rattle.std.proofs.Common.{◌≡◌, ℕ, zero, suc, ◌+◌, ◌<◌, ◌≤◌, not, cond, Bool, true, false, List, [], ◌∷◌, ◌++◌, length, get_or, take, map, filter, All, Option, Some, None, Result, Ok, Err, MatchResult, sym, refl, ap, subst, ◌∙◌, arith, ◌⊎◌, inl, inr, ⊎_elim}
-use Rattle.std.specs.List.{zip}
+use Rattle.std.proofs.Common.{◌≡◌, ℕ, zero, suc, ◌<◌, cond, Bool, true, false, List, [], ◌∷◌, ◌++◌, length, get_or, take, map, filter, Option, Some, None, Result, Ok, Err, MatchResult, sym, refl, ap, subst, ◌∙◌, arith, ◌⊎◌, inl, inr, ⊎_elim}
 use Rattle.std.specs.Result.{IsErrAnd}
-use Rattle.std.proofs.lemmas.Bool.{cases_Bool}
 use Rattle.std.proofs.lemmas.List.{map_push}
 use Rattle.std.proofs.lemmas.List.Elements.{filter-append}
 use Rattle.ug_rows.specs.declared.row.Objective as target
@@ -14,7 +12,7 @@ use Rattle.ug_mps.specs.declared.fault.MpsError.{MpsError}
 use Rattle.ug_mps.specs.declared.fault.MpsError.TheVariants.{Memory, Fault}
 use Rattle.ug_mps.specs.declared.fault.MpsFault.{MpsFault}
 use Rattle.ug_problem.specs.declared.column.NamedRow.{NamedRow}
-use Rattle.ug_mps.specs.Reads.{or_else, first_fault}
+use Rattle.ug_mps.specs.Reads.{first_fault}
 use Rattle.ug_mps.specs.Stated.{no_objective}
 use Rattle.ug_mps.proofs.RowsLemmas.{append_none}
 use Rattle.ug_mps.proofs.SideBySide.{IsTurn}

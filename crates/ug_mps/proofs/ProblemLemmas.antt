@@ -1,5 +1,5 @@
 -- What a good history without faults states is a problem.
-use Rattle.std.proofs.Common.{◌≡◌, ℕ, ℤ, zero, suc, pos, neg_ℤ, ◌≤◌, ◌^◌, ◌&&◌, not, cond, unwrap_or, unsigned_abs, Bool, true, false, List, [], ◌∷◌, length, map, filter, All, IfSome, Option, Some, None, sym, refl, subst, ◌∙◌, arith, ◌⊎◌, inl, inr, ⊎_elim}
+use Rattle.std.proofs.Common.{◌≡◌, ℕ, ℤ, pos, neg_ℤ, ◌≤◌, ◌^◌, ◌&&◌, not, cond, unwrap_or, unsigned_abs, Bool, true, false, List, [], ◌∷◌, length, map, filter, All, IfSome, Option, Some, None, sym, refl, subst, arith, ⊎_elim}
 use Rattle.std.proofs.lemmas.Bool.{cases_Bool, false≢true}
 use Rattle.std.proofs.lemmas.List.{length-map}
 use Rattle.std.proofs.lemmas.List.Elements.{All-nil, All-cons, All-head, All-tail, All-map, All-filter, All-weaker}
@@ -17,10 +17,9 @@ use Rattle.ug_mps.specs.declared.role.Role.TheVariants as roles
 use Rattle.ug_mps.specs.Entries.{Entry}
 use Rattle.ug_mps.specs.Finish.{IsBox, AreStated}
 use Rattle.ug_mps.specs.Good.{Good, IsSmall}
-use Rattle.ug_mps.specs.History.{RowNamed, ColumnBegun, rows_of, columns_of, coefficients, is_objective, is_maximised, low_set, high_set}
+use Rattle.ug_mps.specs.History.{RowNamed, ColumnBegun, rows_of, columns_of, is_objective, is_maximised, low_set, high_set}
 use Rattle.ug_mps.specs.Reads.{or_else, first_fault, column_fault, is_ignored, row_fault, end_fault}
 use Rattle.ug_mps.specs.Stated.{numbers_of, scale_of, scaled_side, scaled_terms, is_wide, is_sided, stated_row, stated_rows, no_objective, objective_in, bound_or, box_of, low_of, high_of, stated_column, stated}
-use Rattle.ug_mps.proofs.Bytes.{not_false}
 use Rattle.ug_mps.proofs.Counts.{counts_fit}
 use Rattle.ug_mps.proofs.GoodLemmas.{IsColumnNamed, IsRowNamed, columns_named, rows_named, lows_small, highs_small}
 use Rattle.ug_mps.proofs.StatedLemmas.{terms_formed, signed_formed, signed_small, signed_all_small, AreNarrow, narrow_from}
@@ -97,8 +96,8 @@ sided_narrow h (r ∷ rows) n =
     let rest = sided_narrow h rows (All-tail (HasNone h) r rows n) in
     ⊎_elim
     (λ t. rw t (
-      let narrow = row_narrow h r (sided_not_ignored r.role t) (All-head (HasNone h) r rows n) in
-      All-cons (λ (q : NamedRow). IsNarrow q.row) (stated_row h r) (map (stated_row h) (filter sided rows)) (record { factors = narrow.terms; low = narrow.low; high = narrow.high }) rest))
+    let narrow = row_narrow h r (sided_not_ignored r.role t) (All-head (HasNone h) r rows n) in
+    All-cons (λ (q : NamedRow). IsNarrow q.row) (stated_row h r) (map (stated_row h) (filter sided rows)) (record { factors = narrow.terms; low = narrow.low; high = narrow.high }) rest))
     (λ f. rw f rest)
     (cases_Bool (is_sided r.role))
 
@@ -128,11 +127,11 @@ objective_narrow : (h : List Entry) (rows : List RowNamed) → All (HasNone h) r
 objective_narrow h [] n = nothing_narrow (is_maximised h)
 objective_narrow h (r ∷ rows) n = ⊎_elim
     (λ t. rw t (
-      let narrow = row_narrow h r (objective_not_ignored r.role t) (All-head (HasNone h) r rows n) in
-      record {
-        factors = signed_all_small (is_maximised h) (scaled_terms (numbers_of h r)) narrow.terms;
-        constant = signed_small (is_maximised h) (neg_ℤ (scaled_side (numbers_of h r))) (10 ^ 37) (signed_small true (scaled_side (numbers_of h r)) (10 ^ 37) narrow.side);
-      }))
+    let narrow = row_narrow h r (objective_not_ignored r.role t) (All-head (HasNone h) r rows n) in
+    record {
+      factors = signed_all_small (is_maximised h) (scaled_terms (numbers_of h r)) narrow.terms;
+      constant = signed_small (is_maximised h) (neg_ℤ (scaled_side (numbers_of h r))) (10 ^ 37) (signed_small true (scaled_side (numbers_of h r)) (10 ^ 37) narrow.side);
+    }))
     (λ f. rw f (objective_narrow h rows (All-tail (HasNone h) r rows n)))
     (cases_Bool (is_objective r.role))
 

@@ -154,8 +154,8 @@ module _ (h : List Entry) (d : Draft) (old : Drafts h d) (named : Option (List �
       sides_do_fit ps read =
           let rows = read_rows ws ps read in
           let fit = free_and_apart h (λ r. names_row (given_in h (section_of h)) r) ps
-              (ap (find (λ word. not (is_row h word))) rows ∙ missing_is h d.rows (rows_in ws) old.rows ∙ m)
-              (ap (repeated (λ word. names_row (given_in h (section_of h)) word)) rows ∙ sides_repeats None found) in
+          (ap (find (λ word. not (is_row h word))) rows ∙ missing_is h d.rows (rows_in ws) old.rows ∙ m)
+          (ap (repeated (λ word. names_row (given_in h (section_of h)) word)) rows ∙ sides_repeats None found) in
           both (are_free h (λ r. names_row (given_in h (section_of h)) r) ps) (are_apart ps) fit.0 fit.1
 
       -- the rows with the pairs

@@ -1,6 +1,5 @@
 -- What a good history states of a row is formed as a problem's terms are, and within the limits where it is not too wide.
-use Rattle.std.proofs.Common.{◌≡◌, ◌≢◌, ℕ, ℤ, zero, suc, pos, negsuc, neg_ℤ, ◌*ℤ◌, ◌+◌, ◌-◌, ◌*◌, ◌<◌, ◌≤◌, ◌^◌, ◌==◌, ◌||◌, not, cond, nat_lt, unsigned_abs, Bool, true, false, List, [], ◌∷◌, ◌++◌, length, get_or, map, filter, All, IfSome, Option, Some, None, sym, refl, ap, subst, ◌∙◌, arith, ⊎_elim}
-use Rattle.std.specs.List.{list_any}
+use Rattle.std.proofs.Common.{◌≡◌, ◌≢◌, ℕ, ℤ, zero, suc, pos, negsuc, neg_ℤ, ◌*ℤ◌, ◌+◌, ◌-◌, ◌*◌, ◌<◌, ◌≤◌, ◌^◌, ◌==◌, ◌||◌, not, cond, nat_lt, unsigned_abs, Bool, true, false, List, [], ◌∷◌, ◌++◌, length, get_or, map, filter, All, IfSome, Option, Some, None, sym, refl, subst, ◌∙◌, arith, ⊎_elim}
 use Rattle.std.specs.Str.{bytes_eq}
 use Rattle.std.proofs.Math.Nat.{one-le-pow, mul-le-mul_right}
 use Rattle.std.proofs.lemmas.Int.{ints}

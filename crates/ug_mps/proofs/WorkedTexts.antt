@@ -47,5 +47,10 @@ pub in_box : Reads falling_text (Some 50) falling
 in_box = (8, said falling_text 7, record { there = lit< tt; said = refl }, refl, refl)
 
 pub unknown_first : FirstFault unknown_text None (fault_at 5 Unknown (Some (codes "Q")))
-unknown_first = inl (4, said unknown_text 4, record { kind = Unknown; word = Some (codes "Q") },
-    record { there = lit< tt; before = record { there = lit< tt; said = refl }; open_ = refl; fault = refl }, refl)
+unknown_first = inl (
+  4,
+  said unknown_text 4,
+  record { kind = Unknown; word = Some (codes "Q") },
+  record { there = lit< tt; before = record { there = lit< tt; said = refl }; open_ = refl; fault = refl },
+  refl,
+)

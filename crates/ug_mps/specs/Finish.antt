@@ -1,5 +1,5 @@
 -- What is made of the columns and rows that are kept, each with its name, once all lines are taken.
-use Rattle.std.specs.Prelude.{◌≡◌, ℕ, ℤ, pos, neg_ℤ, ◌≤◌, ◌^◌, ◌||◌, ◌&&◌, not, true, Bool, List, [], ◌∷◌, ◌++◌, map, filter, Option, Some, None, is_none, unwrap_or, IfSome, if◌then◌else◌}
+use Rattle.std.specs.Prelude.{◌≡◌, ℕ, ℤ, pos, neg_ℤ, ◌≤◌, ◌^◌, ◌||◌, ◌&&◌, not, Bool, List, [], ◌∷◌, ◌++◌, map, filter, Option, Some, None, is_none, unwrap_or, IfSome, if◌then◌else◌}
 use Rattle.std.specs.List.{list_any}
 use Rattle.std.specs.Option.{option_map}
 use Rattle.ug_rows.specs.declared.row.Term.{Term}
@@ -25,7 +25,7 @@ use Rattle.ug_mps.specs.declared.role.Role.{Role}
 use Rattle.ug_mps.specs.Entries.{Entry}
 use Rattle.ug_mps.specs.Good.{Good}
 use Rattle.ug_mps.specs.History.{is_objective}
-use Rattle.ug_mps.specs.Reads.{fault_at, first_fault, is_infinite, is_ignored, end_fault}
+use Rattle.ug_mps.specs.Reads.{fault_at, is_infinite, is_ignored, end_fault}
 use Rattle.ug_mps.specs.Scales.{AreDecimals}
 use Rattle.ug_mps.specs.Stated.{Numbers, range_of, scale_of, scaled_term, scaled_terms, scaled_side, scaled_range, low_side, high_side, is_above, is_wide, row_of, is_sided, signed, signed_terms, objective_of, no_objective, bound_or, box_of, stated}
 

@@ -221,12 +221,7 @@ fn bare_change(kind: BoundKind) -> Option<Change>
     ensures { result ≡ bare_change kind }
 {
     match kind {
-        BoundKind::Free => Some(sets(
-            Some(Bound::Infinite),
-            Some(Bound::Infinite),
-            false,
-            false,
-        )),
+        BoundKind::Free => Some(sets(Some(Bound::Infinite), Some(Bound::Infinite), false, false)),
         BoundKind::MinusInfinity => Some(sets(Some(Bound::Infinite), None, false, false)),
         BoundKind::PlusInfinity => Some(sets(None, Some(Bound::Infinite), false, false)),
         BoundKind::Binary => Some(sets(

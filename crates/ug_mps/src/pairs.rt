@@ -57,7 +57,7 @@ pub fn numbers_of<'a>(pairs: &NamedWords<'a>) -> Result<NamedNumbers<'a>, &'a [u
     requires { AreShortNumbers (pairs_shaped pairs.now) }
     ensures value { MatchResult result
         (λ read. (find (λ word. is_none (decimal_of word)) (numbers_in (pairs_shaped pairs.now)) ≡ None)
-            × ((pairs_read (pairs_shaped pairs.now) ≡ Some (pairs_said read)) × All IsNumbered (pairs_said read)))
+        × ((pairs_read (pairs_shaped pairs.now) ≡ Some (pairs_said read)) × All IsNumbered (pairs_said read)))
         (λ word. find (λ word. is_none (decimal_of word)) (numbers_in (pairs_shaped pairs.now)) ≡ Some word.now) }
 {
     let Some(first) = numbered(&pairs.first) else {

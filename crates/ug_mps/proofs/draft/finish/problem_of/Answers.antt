@@ -1,6 +1,4 @@
-use Rattle.std.proofs.Common.{◌≡◌, ap, subst}
-use Rattle.ug_problem.specs.Instances.{Instance, instance_of}
-use Rattle.ug_mps.specs.Finish.{AreStated}
+use Rattle.ug_problem.specs.Instances.{instance_of}
 use Rattle.ug_mps.proofs.ProblemLemmas.{parts_formed, parts_for_memory}
 use Rattle.ug_mps.proofs.draft.finish.problem_of.Goals as goal
 

@@ -1,5 +1,4 @@
-use Rattle.std.proofs.Common.{sym, ap, ◌∙◌}
-use Rattle.ug_mps.specs.Finish.{column_fault_kept, made_column}
+use Rattle.ug_mps.specs.Finish.{column_fault_kept}
 use Rattle.ug_mps.proofs.SideBySide.{turn_of, end_of}
 use Rattle.ug_mps.proofs.PartsLemmas.{fault_of_turn, columns_more}
 use Rattle.ug_mps.proofs.draft.parts.columns_of.Goals as goal

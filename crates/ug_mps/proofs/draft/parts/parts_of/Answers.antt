@@ -1,4 +1,3 @@
-use Rattle.std.proofs.Common.{sym, ap, ◌∙◌}
 use Rattle.ug_mps.specs.Finish.{row_fault_kept}
 use Rattle.ug_mps.proofs.SideBySide.{turn_of, end_of}
 use Rattle.ug_mps.proofs.PartsLemmas.{result_of_turn, rows_more}

@@ -1,4 +1,4 @@
-use Rattle.std.proofs.Common.{◌≤◌, arith, sym, ◌∙◌}
+use Rattle.std.proofs.Common.{arith, sym, ◌∙◌}
 use Rattle.ug_mps.proofs.ScalingLemmas.{most_at, wide_at}
 use Rattle.ug_mps.proofs.draft.scaling.scaled_terms.Goals as goal
 

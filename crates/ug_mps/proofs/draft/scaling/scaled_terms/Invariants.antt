@@ -1,5 +1,3 @@
-use Rattle.std.proofs.Common.{◌≡◌, false, take}
-use Rattle.ug_mps.specs.Finish.{terms_scaled, are_terms_wide}
 use Rattle.ug_mps.proofs.ScalingLemmas.{AreNarrowSoFar}
 use Rattle.ug_mps.proofs.draft.scaling.scaled_terms.Given as goal
 

@@ -1,0 +1,432 @@
+-- What the bytes so far show of a text.
+use Rattle.std.proofs.Common.{◌≡◌, ◌≢◌, ℕ, ◌+◌, ◌<◌, ◌≤◌, ◌⊎◌, inl, inr, Bool, true, false, List, [], ◌∷◌, ◌++◌, length, take, drop, cond, ltb, Some, None, refl, sym, ap, ◌∙◌, subst, arith, append_assoc, append-nil, ⊎_elim}
+use Rattle.std.specs.Prelude.{◌==◌, ◌||◌, ◌&&◌, not, codes, if◌then◌else◌}
+use Rattle.std.specs.List.{position, position_or_len}
+use Rattle.std.specs.Str.{bytes_eq}
+use Rattle.std.proofs.lemmas.Bool.{cases_Bool, cond-true, cond-false, false≢true, eqb-true, ltb-false}
+use Rattle.std.proofs.lemmas.List.{take_at, drop_at, take-append-drop, length-append, nil_from_length}
+use borrow.Author.Tests.{ltb-true}
+use Rattle.ug_lines.specs.Lines.{content_of, is_line_end, lines_of}
+use Rattle.ug_lines.specs.Words.{is_blank, is_word_byte, is_legible}
+use Rattle.ug_mps.specs.declared.ending.Head.{Head}
+use Rattle.ug_mps.specs.declared.ending.Head.TheVariants as heads
+use Rattle.ug_mps.specs.declared.ending.Seen.{Seen}
+use Rattle.ug_mps.specs.declared.ending.Seen.TheVariants as seens
+use Rattle.ug_mps.specs.Faults.{is_word_end, is_end_line}
+use Rattle.ug_mps.specs.Laws.{StatesSame}
+use Rattle.ug_mps.specs.Ending.{first_piece, first_line, begins_legibly, is_feed_first, ends_word, BeginsEnd, IsHead, IsBehind, StopsFirst, mark, NoneOf, HasNoFeed, AreLines, IsLineAt, IsFeedAt, IsEndedAt, AreEnough, IsSeen, IsSeenTo}
+use Rattle.ug_mps.proofs.Bytes.{and_true, false_from, same_bytes, not_true, not_false}
+use Rattle.ug_mps.proofs.Closing.{CloseSame, same_last}
+use Rattle.ug_mps.proofs.FirstLines.{line_behind, lines_first, piece_open, line_front, line_byte, line_return}
+use Rattle.ug_mps.proofs.EndLines.{close_end, close_long}
+
+-- ---- heads
+
+or_cases : (a b : Bool) → (a || b) ≡ true → (a ≡ true) ⊎ (b ≡ true)
+or_cases true b e = inl refl
+or_cases false b e = inr e
+
+by_end : (t : Bool) (b : ℕ) (c : List ℕ) → is_blank b ≡ true → is_word_end (if t then [] else b ∷ c) ≡ true
+by_end true b c e = refl
+by_end false b c e = e
+
+by_piece : (t : Bool) (b : ℕ) (p : List ℕ) → is_blank b ≡ true → is_word_end (content_of (if t then b ∷ [] else b ∷ p)) ≡ true
+by_piece true b p e = by_end (is_line_end (b ∷ [])) b [] e
+by_piece false b p e = by_end (is_line_end (b ∷ p)) b (content_of p) e
+
+feed_first : (bs more : List ℕ) → is_feed_first bs ≡ true → is_word_end (first_line (13 ∷ (bs ++ more))) ≡ true
+feed_first [] more e = absurd (false≢true e)
+feed_first (c ∷ cs) more e = subst (λ x. is_word_end (first_line (13 ∷ (x ∷ (cs ++ more)))) ≡ true) (sym (eqb-true c 10 e)) refl
+
+-- where a word ends whatever follows, it does
+pub word_ends : (rest more : List ℕ) → ends_word rest ≡ true → is_word_end (first_line (rest ++ more)) ≡ true
+word_ends [] more e = absurd (false≢true e)
+word_ends (b ∷ bs) more e = ⊎_elim
+    (λ p. by_piece (b == 10) b (first_piece (bs ++ more)) p)
+    (λ q. ⊎_elim
+    (λ f. subst (λ x. is_word_end (first_line (x ∷ (bs ++ more))) ≡ true) (sym (eqb-true b 10 f)) refl)
+    (λ g. let both = and_true (b == 13) (is_feed_first bs) g in
+    subst (λ x. is_word_end (first_line (x ∷ (bs ++ more))) ≡ true) (sym (eqb-true b 13 both.0)) (feed_first bs more both.1))
+    (or_cases (b == 10) ((b == 13) && is_feed_first bs) q))
+    (or_cases (is_blank b) ((b == 10) || ((b == 13) && is_feed_first bs)) e)
+
+-- a byte behind ENDATA that ends no word
+pub other_byte : (b : ℕ) (bs more : List ℕ) → is_blank b ≡ false → (b == 10) ≡ false → (b == 13) ≡ false → is_word_end (first_line ((b ∷ bs) ++ more)) ≡ false
+other_byte b bs more p q r = ap is_word_end (line_byte b (bs ++ more) q r) ∙ p
+
+-- a carriage return behind it that no line feed follows
+pub other_return : (b : ℕ) (bs more : List ℕ) → (b == 10) ≡ false → is_word_end (first_line ((13 ∷ b ∷ bs) ++ more)) ≡ false
+other_return b bs more q = ap is_word_end (line_return b (bs ++ more) q)
+
+-- what the bytes behind ENDATA show, its line shows
+pub head_behind : (line rest : List ℕ) (r : Head) → line ≡ codes "ENDATA" ++ rest → IsBehind rest r → IsHead line r
+head_behind line rest heads.Ends e h = (rest, e, h)
+head_behind line rest heads.Other e h = λ more. ap (λ l. is_end_line (first_line (l ++ more))) e ∙ h more
+head_behind line rest heads.Open e (more, h) = (more, ap (λ l. codes "ENDATA" ++ l) h ∙ ap (λ l. l ++ more) (sym e))
+
+-- a front of ENDATA
+pub head_open : (line rest : List ℕ) → codes "ENDATA" ≡ line ++ rest → IsHead line heads.Open
+head_open line rest e = (rest ++ 13 ∷ [], ap (λ l. l ++ 13 ∷ []) e ∙ append_assoc line rest (13 ∷ []))
+
+-- of two lists that begin one, the one begins the other
+front_of : (xs ys vs ws : List ℕ) → xs ++ ys ≡ vs ++ ws → ((z : List ℕ) × (xs ≡ vs ++ z)) ⊎ ((z : List ℕ) × (vs ≡ xs ++ z))
+front_of [] ys vs ws e = inr (vs, refl)
+front_of (x ∷ xs) ys [] ws e = inl (x ∷ xs, refl)
+front_of (x ∷ xs) ys (v ∷ vs) ws e =
+    let head : x ≡ v = cc in
+    let tail : xs ++ ys ≡ vs ++ ws = cc in
+    elim (front_of xs ys vs ws tail) [
+      | inl h ↦ inl (h.0, cc)
+      | inr h ↦ inr (h.0, cc)
+    ]
+
+-- neither begins with ENDATA nor is a front of it
+pub head_other : (line : List ℕ) → ((rest : List ℕ) → line ≢ codes "ENDATA" ++ rest) → ((rest : List ℕ) → codes "ENDATA" ≢ line ++ rest) → IsHead line heads.Other
+head_other line a b = λ more. false_from (is_end_line (first_line (line ++ more))) (λ e.
+    let c : List ℕ = first_line (line ++ more) in
+    let word : take 6 c ≡ codes "ENDATA" = same_bytes (take 6 c) (codes "ENDATA") (and_true (bytes_eq (take 6 c) (codes "ENDATA")) (is_word_end (drop 6 c)) e).0 in
+    let f = line_front (line ++ more) in
+    let whole : line ++ more ≡ codes "ENDATA" ++ (drop 6 c ++ f.0) =
+    f.1 ∙ ap (λ l. l ++ f.0) (sym (take-append-drop 6 c) ∙ ap (λ l. l ++ drop 6 c) word) ∙ append_assoc (codes "ENDATA") (drop 6 c) f.0 in
+    absurd (elim (front_of line more (codes "ENDATA") (drop 6 c ++ f.0) whole) [
+      | inl (z, s) ↦ a z s
+      | inr (z, s) ↦ b z s
+    ]))
+
+-- ---- the rest of an ENDATA line
+
+abbrev may : ℕ → Bool
+may b = is_blank b || is_word_byte b
+
+may_not : (b c : ℕ) → may c ≡ false → may b ≡ true → (b == c) ≡ false
+may_not b c n m = false_from (b == c) (λ e. false≢true (sym n ∙ ap may (sym (eqb-true b c e)) ∙ m))
+
+-- a byte that may stand there
+legible_byte : (b : ℕ) (bs : List ℕ) → may b ≡ true → begins_legibly (b ∷ bs) ≡ begins_legibly bs
+legible_byte b bs m = ap is_legible (line_byte b bs (may_not b 10 refl m) (may_not b 13 refl m)) ∙ ap (λ t. t && begins_legibly bs) m
+
+-- a byte that may not, and ends no line
+pub bad_first : (b : ℕ) (bs : List ℕ) → may b ≡ false → (b == 10) ≡ false → (b == 13) ≡ false → begins_legibly (b ∷ bs) ≡ false
+bad_first b bs m p q = ap is_legible (line_byte b bs p q) ∙ ap (λ t. t && begins_legibly bs) m
+
+-- a carriage return that no line feed follows
+pub bad_return : (b : ℕ) (bs : List ℕ) → (b == 10) ≡ false → begins_legibly (13 ∷ b ∷ bs) ≡ false
+bad_return b bs p = ap is_legible (line_return b bs p)
+
+-- bytes that may stand there
+pub legible_more : (open_ rest : List ℕ) → NoneOf (λ b. not (is_blank b || is_word_byte b)) open_ → begins_legibly (open_ ++ rest) ≡ begins_legibly rest
+legible_more [] rest n = refl
+legible_more (b ∷ bs) rest n = legible_byte b (bs ++ rest) (not_false (may b) n.0) ∙ legible_more bs rest n.1
+
+-- ---- where a byte stands
+
+-- the bytes before the first of which the test is true, that one, and the rest
+pub record CutAt (test : ℕ → Bool) (bytes : List ℕ) (at : ℕ) : Type 0 where
+  pub open_ : List ℕ
+  pub byte : ℕ
+  pub rest : List ℕ
+  pub parts : bytes ≡ open_ ++ byte ∷ rest
+  pub none : NoneOf test open_
+  pub is : test byte ≡ true
+  pub there : length open_ ≡ at
+
+first-yes : (test : ℕ → Bool) (x : ℕ) (xs : List ℕ) → test x ≡ true → position_or_len test (x ∷ xs) ≡ 0
+first-yes test x xs e = ap (λ b. cond (not b) (1 + position_or_len test xs) 0) e
+
+first-no : (test : ℕ → Bool) (x : ℕ) (xs : List ℕ) → test x ≡ false → position_or_len test (x ∷ xs) ≡ 1 + position_or_len test xs
+first-no test x xs e = ap (λ b. cond (not b) (1 + position_or_len test xs) 0) e
+
+cut_more : (test : ℕ → Bool) (x : ℕ) (xs : List ℕ) (at : ℕ) → test x ≡ false → CutAt test xs at → CutAt test (x ∷ xs) (1 + at)
+cut_more test x xs at e c = record {
+  open_ = x ∷ c.open_;
+  byte = c.byte;
+  rest = c.rest;
+  parts = ap (λ l. x ∷ l) c.parts;
+  none = (e, c.none);
+  is = c.is;
+  there = omega (arith, c.there);
+}
+
+cut_len : (test : ℕ → Bool) (xs : List ℕ) → position_or_len test xs < length xs → CutAt test xs (position_or_len test xs)
+cut_len test [] h = absurd (omega arith)
+cut_len test (x ∷ xs) h = ⊎_elim
+    (λ t. record { open_ = []; byte = x; rest = xs; parts = refl; none = tt; is = t; there = sym (first-yes test x xs t) })
+    (λ f. let n : position_or_len test (x ∷ xs) ≡ 1 + position_or_len test xs = first-no test x xs f in
+    subst (λ m. CutAt test (x ∷ xs) m) (sym n) (cut_more test x xs (position_or_len test xs) f (cut_len test xs (omega (arith, h, n)))))
+    (cases_Bool (test x))
+
+none_len : (test : ℕ → Bool) (xs : List ℕ) → length xs ≤ position_or_len test xs → NoneOf test xs
+none_len test [] h = tt
+none_len test (x ∷ xs) h = ⊎_elim
+    (λ t. absurd (omega (arith, h, first-yes test x xs t)))
+    (λ f. (f, none_len test xs (omega (arith, h, first-no test x xs f))))
+    (cases_Bool (test x))
+
+pub found_at : (test : ℕ → Bool) (xs : List ℕ) (at : ℕ) → Some at ≡ position test xs → CutAt test xs at
+found_at test xs at e =
+    elim (cases_Bool (ltb (position_or_len test xs) (length xs))) [
+      | inl t ↦
+          let s : position test xs ≡ Some (position_or_len test xs) = cond-true (ltb (position_or_len test xs) (length xs)) _ _ t in
+          let n : at ≡ position_or_len test xs = cc in
+          subst (λ m. CutAt test xs m) (sym n) (cut_len test xs (ltb-true (position_or_len test xs) (length xs) t))
+      | inr t ↦
+          let s : position test xs ≡ None = cond-false (ltb (position_or_len test xs) (length xs)) _ _ t in
+          absurd (let bad : Some at ≡ None = e ∙ s in cc)
+    ]
+
+pub found_none : (test : ℕ → Bool) (xs : List ℕ) → None ≡ position test xs → NoneOf test xs
+found_none test xs e =
+    elim (cases_Bool (ltb (position_or_len test xs) (length xs))) [
+      | inl t ↦
+          let s : position test xs ≡ Some (position_or_len test xs) = cond-true (ltb (position_or_len test xs) (length xs)) _ _ t in
+          absurd (let bad : None ≡ Some (position_or_len test xs) = e ∙ s in cc)
+      | inr t ↦ none_len test xs (ltb-false (position_or_len test xs) (length xs) t)
+    ]
+
+-- what stands from there on
+cut_drop : (test : ℕ → Bool) (xs : List ℕ) (at : ℕ) (c : CutAt test xs at) → drop at xs ≡ c.byte ∷ c.rest
+cut_drop test xs at c = ap (drop at) c.parts ∙ drop_at c.open_ (c.byte ∷ c.rest) at c.there
+
+pub stop_first : (xs : List ℕ) (at : ℕ) → Some at ≡ position (λ b. not (is_blank b || is_word_byte b)) xs → StopsFirst (drop at xs)
+stop_first xs at e =
+    let c = found_at (λ b. not (is_blank b || is_word_byte b)) xs at e in
+    subst StopsFirst (sym (cut_drop _ xs at c)) (not_true (may c.byte) c.is)
+
+pub stop_legible : (xs more : List ℕ) (at : ℕ) → Some at ≡ position (λ b. not (is_blank b || is_word_byte b)) xs → begins_legibly (xs ++ more) ≡ begins_legibly (drop at xs ++ more)
+stop_legible xs more at e =
+    let c = found_at (λ b. not (is_blank b || is_word_byte b)) xs at e in
+    ap (λ l. begins_legibly (l ++ more)) c.parts
+    ∙ ap begins_legibly (append_assoc c.open_ (c.byte ∷ c.rest) more)
+    ∙ legible_more c.open_ ((c.byte ∷ c.rest) ++ more) c.none
+    ∙ ap (λ l. begins_legibly (l ++ more)) (sym (cut_drop _ xs at c))
+
+-- the first line feed from a place on
+pub feed_there : (bytes : List ℕ) (from at : ℕ) → Some at ≡ position (λ b. b == 10) (drop from bytes) → IsFeedAt bytes from (from + at)
+feed_there bytes from at e =
+    let c = found_at (λ b. b == 10) (drop from bytes) at e in
+    record {
+      open_ = c.open_;
+      rest = c.rest;
+      parts = c.parts ∙ ap (λ b. c.open_ ++ b ∷ c.rest) (eqb-true c.byte 10 c.is);
+      no_feed = c.none;
+      there = ap (λ n. from + n) c.there;
+    }
+
+-- ---- whole lines, and what follows them
+
+tails_same : (front tail other : List ℕ) → AreLines front → 0 < length tail → 0 < length other
+    → CloseSame (line_behind front tail) (line_behind front other) → StatesSame (front ++ tail) (front ++ other)
+tails_same front tail other whole p q c =
+    let f = lines_first front tail whole p in
+    let g = lines_first front other whole q in
+    same_last (front ++ tail) (front ++ other) (lines_of front) (line_behind front tail) (line_behind front other)
+    (record { rest = f.0; are = f.1 }) (record { rest = g.0; are = g.1 }) c
+
+mark_legible : (t : Bool) → is_legible (first_line (mark t)) ≡ t
+mark_legible true = refl
+mark_legible false = refl
+
+mark_ends : (t : Bool) → is_word_end (first_line (mark t)) ≡ true
+mark_ends true = refl
+mark_ends false = refl
+
+-- the rest of an ENDATA line counts only for whether it is legible
+end_same : (front rest more : List ℕ) → AreLines front → ends_word rest ≡ true
+    → StatesSame (front ++ (codes "ENDATA" ++ mark (begins_legibly (rest ++ more)))) (front ++ (codes "ENDATA" ++ (rest ++ more)))
+end_same front rest more whole e =
+    let t : Bool = begins_legibly (rest ++ more) in
+    tails_same front (codes "ENDATA" ++ mark t) (codes "ENDATA" ++ (rest ++ more)) whole (omega arith) (omega arith)
+    (close_end _ _ (first_line (mark t)) (first_line (rest ++ more)) (mark_ends t) (word_ends rest more e) (mark_legible t))
+
+-- the line that begins with ENDATA is the last
+pub ended_at : (bytes front tail : List ℕ) (line : ℕ) → bytes ≡ front ++ tail → AreLines front → length front ≡ line → BeginsEnd tail → IsEndedAt bytes (line + 6)
+ended_at bytes front tail line parts whole begins (rest, word, e) =
+    let is : bytes ≡ (front ++ codes "ENDATA") ++ rest = parts ∙ ap (λ t. front ++ t) word ∙ sym (append_assoc front (codes "ENDATA") rest) in
+    let len : length (front ++ codes "ENDATA") ≡ line + 6 = length-append front (codes "ENDATA") ∙ ap (λ n. n + 6) begins in
+    let taken : take (line + 6) bytes ≡ front ++ codes "ENDATA" = ap (take (line + 6)) is ∙ take_at (front ++ codes "ENDATA") rest (line + 6) len in
+    let left : drop (line + 6) bytes ≡ rest = ap (drop (line + 6)) is ∙ drop_at (front ++ codes "ENDATA") rest (line + 6) len in
+    let all : length bytes ≡ length (front ++ codes "ENDATA") + length rest = ap length is ∙ length-append (front ++ codes "ENDATA") rest in
+    record {
+      within = omega (arith, len, all);
+      same = λ more.
+          let text : take (line + 6) bytes ++ mark (begins_legibly (drop (line + 6) bytes ++ more)) ≡ front ++ (codes "ENDATA" ++ mark (begins_legibly (rest ++ more))) =
+          ap (λ l. l ++ mark (begins_legibly (drop (line + 6) bytes ++ more))) taken
+          ∙ append_assoc front (codes "ENDATA") (mark (begins_legibly (drop (line + 6) bytes ++ more)))
+          ∙ ap (λ l. front ++ (codes "ENDATA" ++ mark (begins_legibly (l ++ more)))) left in
+          let other : bytes ++ more ≡ front ++ (codes "ENDATA" ++ (rest ++ more)) =
+          ap (λ l. l ++ more) is ∙ append_assoc (front ++ codes "ENDATA") rest more ∙ append_assoc front (codes "ENDATA") (rest ++ more) in
+          subst (λ x. StatesSame x (bytes ++ more)) (sym text) (subst (λ y. StatesSame (front ++ (codes "ENDATA" ++ mark (begins_legibly (rest ++ more)))) y) (sym other)
+          (end_same front rest more whole e));
+    }
+
+-- a line that is not ENDATA passes the limit
+enough_long : (bytes front tail : List ℕ) → bytes ≡ front ++ tail → AreLines front → 0 < length tail
+    → ((more : List ℕ) → 268435456 < length front + length (first_piece (tail ++ more)))
+    → ((more : List ℕ) → is_end_line (first_line (tail ++ more)) ≡ false) → AreEnough bytes
+enough_long bytes front tail parts whole some long other = λ more.
+    let far : 268435456 < length front + length (first_piece tail) = subst (λ t. 268435456 < length front + length (first_piece t)) (append-nil tail) (long []) in
+    let none : is_end_line (first_line tail) ≡ false = subst (λ t. is_end_line (first_line t) ≡ false) (append-nil tail) (other []) in
+    let all : bytes ++ more ≡ front ++ (tail ++ more) = ap (λ l. l ++ more) parts ∙ append_assoc front tail more in
+    subst (λ x. StatesSame x (bytes ++ more)) (sym parts) (subst (λ y. StatesSame (front ++ tail) y) (sym all)
+    (tails_same front tail (tail ++ more) whole some (omega (arith, some, length-append tail more))
+    (close_long (line_behind front tail) (line_behind front (tail ++ more)) far (long more) none (other more))))
+
+-- ---- up to a line feed
+
+-- the line with its line feed
+pub record IsLineTo (bytes : List ℕ) (line at : ℕ) : Type 0 where
+  pub front : List ℕ
+  pub open_ : List ℕ
+  pub rest : List ℕ
+  pub parts : bytes ≡ front ++ (open_ ++ 10 ∷ rest)
+  pub whole : AreLines front
+  pub no_feed : HasNoFeed open_
+  pub begins : length front ≡ line
+  pub ends : line + length open_ ≡ at
+  pub left : drop line bytes ≡ open_ ++ 10 ∷ rest
+
+no_feed_both : (xs ys : List ℕ) → HasNoFeed xs → HasNoFeed ys → HasNoFeed (xs ++ ys)
+no_feed_both [] ys p q = q
+no_feed_both (x ∷ xs) ys p q = (p.0, no_feed_both xs ys p.1 q)
+
+no_feed_behind : (xs ys : List ℕ) → HasNoFeed (xs ++ ys) → HasNoFeed ys
+no_feed_behind [] ys h = h
+no_feed_behind (x ∷ xs) ys h = no_feed_behind xs ys h.1
+
+pub line_to : (bytes : List ℕ) (line from at : ℕ) → IsLineAt bytes line from → IsFeedAt bytes from at → IsLineTo bytes line at
+line_to bytes line from at l f =
+    let seen : length (l.front ++ l.open_) ≡ from = length-append l.front l.open_ ∙ ap (λ n. n + length l.open_) l.begins ∙ l.looked in
+    let rest : l.rest ≡ f.open_ ++ 10 ∷ f.rest =
+    sym (drop_at (l.front ++ l.open_) l.rest from seen) ∙ ap (drop from) (append_assoc l.front l.open_ l.rest ∙ sym l.parts) ∙ f.parts in
+    let tail : l.open_ ++ l.rest ≡ (l.open_ ++ f.open_) ++ 10 ∷ f.rest = ap (λ r. l.open_ ++ r) rest ∙ sym (append_assoc l.open_ f.open_ (10 ∷ f.rest)) in
+    record {
+      front = l.front;
+      open_ = l.open_ ++ f.open_;
+      rest = f.rest;
+      parts = l.parts ∙ ap (λ t. l.front ++ t) tail;
+      whole = l.whole;
+      no_feed = no_feed_both l.open_ f.open_ l.no_feed f.no_feed;
+      begins = l.begins;
+      ends = omega (arith, l.looked, f.there, length-append l.open_ f.open_);
+      left = ap (drop line) l.parts ∙ drop_at l.front (l.open_ ++ l.rest) line l.begins ∙ tail;
+    }
+
+pub ended_to : (bytes : List ℕ) (line at : ℕ) → IsLineTo bytes line at → BeginsEnd (drop line bytes) → IsEndedAt bytes (line + 6)
+ended_to bytes line at l e = ended_at bytes l.front (l.open_ ++ 10 ∷ l.rest) line l.parts l.whole l.begins (subst BeginsEnd l.left e)
+
+-- a front of ENDATA and a carriage return has no line feed
+open_feed : (open_ rest more : List ℕ) → codes "ENDATA" ++ 13 ∷ [] ≡ (open_ ++ 10 ∷ rest) ++ more → ⊥
+open_feed open_ rest more e =
+    let none : HasNoFeed (codes "ENDATA" ++ 13 ∷ []) = (refl, (refl, (refl, (refl, (refl, (refl, (refl, tt))))))) in
+    let part : HasNoFeed (open_ ++ 10 ∷ (rest ++ more)) = subst HasNoFeed (e ∙ append_assoc open_ (10 ∷ rest) more) none in
+    let last : HasNoFeed (10 ∷ (rest ++ more)) = no_feed_behind open_ (10 ∷ (rest ++ more)) part in
+    false≢true (sym last.0)
+
+not_end : (tail open_ rest : List ℕ) (r : Head) → tail ≡ open_ ++ 10 ∷ rest → r ≢ heads.Ends → IsHead tail r → (more : List ℕ) → is_end_line (first_line (tail ++ more)) ≡ false
+not_end tail open_ rest heads.Ends e n h more = absurd (n refl)
+not_end tail open_ rest heads.Other e n h more = h more
+not_end tail open_ rest heads.Open e n h more = absurd (open_feed open_ rest h.0 (h.1 ∙ ap (λ t. t ++ h.0) e))
+
+-- another line that passes the limit
+pub passed_to : (bytes : List ℕ) (line at : ℕ) (r : Head) → IsLineTo bytes line at → r ≢ heads.Ends → IsHead (drop line bytes) r → 268435456 ≤ at → AreEnough bytes
+passed_to bytes line at r l n h le =
+    let tail : List ℕ = l.open_ ++ 10 ∷ l.rest in
+    let piece : (more : List ℕ) → first_piece (tail ++ more) ≡ l.open_ ++ 10 ∷ [] = λ more.
+    ap first_piece (append_assoc l.open_ (10 ∷ l.rest) more) ∙ piece_open l.open_ (10 ∷ (l.rest ++ more)) l.no_feed in
+    enough_long bytes l.front tail l.parts l.whole (omega (arith, length-append l.open_ (10 ∷ l.rest)))
+    (λ more. omega (arith, le, l.begins, l.ends, ap length (piece more), length-append l.open_ (10 ∷ [])))
+    (λ more. not_end tail l.open_ l.rest r refl n (subst (λ t. IsHead t r) l.left h) more)
+
+-- the next line begins behind it
+pub next_line : (bytes : List ℕ) (line at : ℕ) → IsLineTo bytes line at → at < 268435456 → IsLineAt bytes (at + 1) (at + 1) × (at + 1 ≤ length bytes)
+next_line bytes line at l lt =
+    let cut : bytes ≡ (l.front ++ (l.open_ ++ 10 ∷ [])) ++ ([] ++ l.rest) =
+    l.parts ∙ ap (λ t. l.front ++ t) (sym (append_assoc l.open_ (10 ∷ []) l.rest)) ∙ sym (append_assoc l.front (l.open_ ++ 10 ∷ []) l.rest) in
+    let len : length (l.front ++ (l.open_ ++ 10 ∷ [])) ≡ at + 1 =
+    omega (arith, l.begins, l.ends, length-append l.front (l.open_ ++ 10 ∷ []), length-append l.open_ (10 ∷ [])) in (
+      record {
+        front = l.front ++ (l.open_ ++ 10 ∷ []);
+        open_ = [];
+        rest = l.rest;
+        parts = cut;
+        whole = inr (l.front ++ l.open_, sym (append_assoc l.front l.open_ (10 ∷ [])));
+        no_feed = tt;
+        begins = len;
+        looked = omega arith;
+        within = omega (arith, lt);
+      },
+      omega (arith, len, ap length cut, length-append (l.front ++ (l.open_ ++ 10 ∷ [])) l.rest),
+    )
+
+-- ---- up to the end of the bytes
+
+-- no line feed follows: all were looked at
+pub looked_all : (bytes : List ℕ) (line from : ℕ) → IsLineAt bytes line from → HasNoFeed (drop from bytes) → IsLineAt bytes line (length bytes)
+looked_all bytes line from l n =
+    let seen : length (l.front ++ l.open_) ≡ from = length-append l.front l.open_ ∙ ap (λ k. k + length l.open_) l.begins ∙ l.looked in
+    let cut : bytes ≡ (l.front ++ l.open_) ++ l.rest = l.parts ∙ sym (append_assoc l.front l.open_ l.rest) in
+    let rest : drop from bytes ≡ l.rest = ap (drop from) cut ∙ drop_at (l.front ++ l.open_) l.rest from seen in
+    record {
+      front = l.front;
+      open_ = l.open_ ++ l.rest;
+      rest = [];
+      parts = l.parts ∙ ap (λ t. l.front ++ t) (sym (append-nil (l.open_ ++ l.rest)));
+      whole = l.whole;
+      no_feed = no_feed_both l.open_ l.rest l.no_feed (subst HasNoFeed rest n);
+      begins = l.begins;
+      looked = omega (arith, l.looked, seen, ap length cut, length-append (l.front ++ l.open_) l.rest, length-append l.open_ l.rest);
+      within = l.within;
+    }
+
+-- the last line
+pub record IsLast (bytes : List ℕ) (line : ℕ) : Type 0 where
+  pub front : List ℕ
+  pub open_ : List ℕ
+  pub parts : bytes ≡ front ++ open_
+  pub whole : AreLines front
+  pub no_feed : HasNoFeed open_
+  pub begins : length front ≡ line
+  pub count : line + length open_ ≡ length bytes
+  pub left : drop line bytes ≡ open_
+  pub within : line ≤ 268435456
+
+pub last_of : (bytes : List ℕ) (line : ℕ) → IsLineAt bytes line (length bytes) → IsLast bytes line
+last_of bytes line l =
+    let len : length bytes ≡ length l.front + length (l.open_ ++ l.rest) = ap length l.parts ∙ length-append l.front (l.open_ ++ l.rest) in
+    let rest : l.rest ≡ [] = nil_from_length l.rest (omega (arith, l.begins, l.looked, len, length-append l.open_ l.rest)) in
+    let tail : l.open_ ++ l.rest ≡ l.open_ = ap (λ r. l.open_ ++ r) rest ∙ append-nil l.open_ in
+    record {
+      front = l.front;
+      open_ = l.open_;
+      parts = l.parts ∙ ap (λ t. l.front ++ t) tail;
+      whole = l.whole;
+      no_feed = l.no_feed;
+      begins = l.begins;
+      count = l.looked;
+      left = ap (drop line) l.parts ∙ drop_at l.front (l.open_ ++ l.rest) line l.begins ∙ tail;
+      within = l.within;
+    }
+
+pub ended_last : (bytes : List ℕ) (line : ℕ) → IsLast bytes line → BeginsEnd (drop line bytes) → IsEndedAt bytes (line + 6)
+ended_last bytes line l e = ended_at bytes l.front l.open_ line l.parts l.whole l.begins (subst BeginsEnd l.left e)
+
+pub passed_last : (bytes : List ℕ) (line : ℕ) → IsLast bytes line → IsHead (drop line bytes) heads.Other → 268435456 < length bytes → AreEnough bytes
+passed_last bytes line l h lt =
+    let within = l.within in
+    let count = l.count in
+    enough_long bytes l.front l.open_ l.parts l.whole (omega (arith, lt, within, count))
+    (λ more. omega (arith, lt, l.begins, count, ap length (piece_open l.open_ more l.no_feed), length-append l.open_ (first_piece more)))
+    (subst (λ t. IsHead t heads.Other) l.left h)
+
+-- where the line may still be ENDATA, few bytes stand above the limit
+pub few_above : (bytes : List ℕ) (line : ℕ) → IsLast bytes line → IsHead (drop line bytes) heads.Open → length bytes ≤ 268435456 + 7
+few_above bytes line l (more, e) =
+    let is : codes "ENDATA" ++ 13 ∷ [] ≡ l.open_ ++ more = e ∙ ap (λ t. t ++ more) l.left in
+    let len : 7 ≡ length l.open_ + length more = ap length is ∙ length-append l.open_ more in
+    omega (arith, len, l.count, l.within)
+
+-- what was seen up to a line feed, where it is no open line, was seen of all
+pub seen_all : (bytes : List ℕ) (at : ℕ) (r : Seen) → ((line : ℕ) → r ≢ seens.Open line) → IsSeenTo bytes at r → IsSeen bytes r
+seen_all bytes at (seens.Ended cut) n h = h
+seen_all bytes at seens.Passed n h = h
+seen_all bytes at (seens.Open line) n h = absurd (n line refl)
