@@ -1,4 +1,5 @@
-//! Texts at the limits on rows, columns and pairs, and one line beyond them.
+//! Texts at the limits on rows and columns, and one line beyond them. That on pairs is tried by bench/reading, for the time
+//! that its text takes to make.
 
 use crate::texts::{due, run_over};
 use std::alloc::Global;
@@ -79,40 +80,6 @@ fn columns_at_their_limit(rt: HostRuntime) -> Result<(), Fail> {
             " C7 Z 1\n",
             3,
             "refused 10005 Duplicate C7"
-        )?
-    );
-    Ok(())
-}
-
-// Pairs of 0, and pairs of rows without effect, count too.
-#[test]
-fn pairs_at_their_limit(rt: HostRuntime) -> Result<(), Fail> {
-    let alloc = rt.alloc();
-    let mut text = String::from_str(alloc, "ROWS\n N Z\n")?;
-    push_lines(alloc, &mut text, " N R", 9_999, "\n")?;
-    text.push_str("COLUMNS\n M 'MARKER' 'INTORG'\n")?;
-    for column in 0..100 {
-        let name = format!(in alloc; " C{column} R")?;
-        push_lines(alloc, &mut text, name.as_str(), 9_999, " 0\n")?;
-    }
-    push_lines(alloc, &mut text, " D", 100, " Z 0\n")?;
-    assert!(rt; compare(alloc, text.as_str(), "ENDATA\n", 0, "optimal 0")?);
-    assert!(rt;
-        compare(
-            alloc,
-            text.as_str(),
-            " D99 R1 0\n",
-            3,
-            "refused 1010004 TooMany"
-        )?
-    );
-    assert!(rt;
-        compare(
-            alloc,
-            text.as_str(),
-            " D R1 0 R2 0\n",
-            3,
-            "refused 1010004 TooMany"
         )?
     );
     Ok(())
