@@ -53,4 +53,3 @@ enough_at_end a None xs p q = subst (λ o. IfSome o (λ whole. IsEnough whole xs
 enough_at_end a (Some r) xs p q =
     subst (λ o. IfSome o (λ whole. IsEnough whole xs)) (sym p)
     (subst (λ whole. StatesSame xs whole) (sym (ap (λ t. xs ++ t) q ∙ append-nil xs)) (same_text xs))
-
