@@ -399,7 +399,10 @@ fn knapsacks_cut_short(rt: HostRuntime) -> Result<(), Fail> {
     let mut text = String::new(alloc);
     for (count, line) in KNAP.lines().enumerate() {
         let fault = format!(in alloc; "refused {count} NoEnd")?;
-        assert_eq!(rt; outcome(alloc, text.as_str(), None)?, due(alloc, 3, &[fault.as_str()])?);
+        assert_eq!(rt;
+            outcome(alloc, text.as_str(), None)?,
+            due(alloc, 3, &[fault.as_str()])?
+        );
         text.push_str(line)?;
         text.push_str("/")?;
     }

@@ -18,6 +18,12 @@ pub use running::run;
 pub use status::Status;
 
 #[cfg(test)]
+mod fault_texts;
+#[cfg(test)]
+mod long_texts;
+#[cfg(test)]
 mod small_problems;
 #[cfg(test)]
 mod tests;
+#[cfg(test)]
+mod texts;

@@ -1,11 +1,18 @@
-//! Texts at the limits on rows, columns and pairs, and one line beyond them.
+//! Texts at the limits on rows and columns, and one line beyond them. That on pairs is tried by bench/reading, for the time
+//! that its text takes to make.
 
 use crate::texts::{due, run_over};
 use std::alloc::Global;
 use std::test::Fail;
 
 // Lines from 0 up to this count, each with its number between the two parts.
-fn push_lines(alloc: Global, text: &mut String, before: &str, count: u32, after: &str) -> Result<(), Fail> {
+fn push_lines(
+    alloc: Global,
+    text: &mut String,
+    before: &str,
+    count: u32,
+    after: &str,
+) -> Result<(), Fail> {
     for number in 0..count {
         text.push_str(format!(in alloc; "{before}{number}{after}")?.as_str())?;
     }
@@ -28,7 +35,15 @@ fn rows_at_their_limit(rt: HostRuntime) -> Result<(), Fail> {
     assert!(rt; compare(alloc, text.as_str(), " N R\n", 3, "refused 10002 TooMany")?);
     // Ahead of it stand the other faults of the line.
     assert!(rt; compare(alloc, text.as_str(), " X R\n", 3, "refused 10002 RowKind X")?);
-    assert!(rt; compare(alloc, text.as_str(), " L R7\n", 3, "refused 10002 Duplicate R7")?);
+    assert!(rt;
+        compare(
+            alloc,
+            text.as_str(),
+            " L R7\n",
+            3,
+            "refused 10002 Duplicate R7"
+        )?
+    );
     Ok(())
 }
 
@@ -40,26 +55,32 @@ fn columns_at_their_limit(rt: HostRuntime) -> Result<(), Fail> {
     assert!(rt; compare(alloc, text.as_str(), "ENDATA\n", 0, "optimal 0")?);
     assert!(rt; compare(alloc, text.as_str(), " C Z 1\n", 3, "refused 10005 TooMany")?);
     // Ahead of it stand the other faults of the line.
-    assert!(rt; compare(alloc, text.as_str(), " C Z x\n", 3, "refused 10005 Number x")?);
-    assert!(rt; compare(alloc, text.as_str(), " C Y 1\n", 3, "refused 10005 Unknown Y")?);
-    assert!(rt; compare(alloc, text.as_str(), " C7 Z 1\n", 3, "refused 10005 Duplicate C7")?);
-    Ok(())
-}
-
-// Pairs of 0, and pairs of rows without effect, count too.
-#[test]
-fn pairs_at_their_limit(rt: HostRuntime) -> Result<(), Fail> {
-    let alloc = rt.alloc();
-    let mut text = String::from_str(alloc, "ROWS\n N Z\n")?;
-    push_lines(alloc, &mut text, " N R", 9_999, "\n")?;
-    text.push_str("COLUMNS\n M 'MARKER' 'INTORG'\n")?;
-    for column in 0..100 {
-        let name = format!(in alloc; " C{column} R")?;
-        push_lines(alloc, &mut text, name.as_str(), 9_999, " 0\n")?;
-    }
-    push_lines(alloc, &mut text, " D", 100, " Z 0\n")?;
-    assert!(rt; compare(alloc, text.as_str(), "ENDATA\n", 0, "optimal 0")?);
-    assert!(rt; compare(alloc, text.as_str(), " D99 R1 0\n", 3, "refused 1010004 TooMany")?);
-    assert!(rt; compare(alloc, text.as_str(), " D R1 0 R2 0\n", 3, "refused 1010004 TooMany")?);
+    assert!(rt;
+        compare(
+            alloc,
+            text.as_str(),
+            " C Z x\n",
+            3,
+            "refused 10005 Number x"
+        )?
+    );
+    assert!(rt;
+        compare(
+            alloc,
+            text.as_str(),
+            " C Y 1\n",
+            3,
+            "refused 10005 Unknown Y"
+        )?
+    );
+    assert!(rt;
+        compare(
+            alloc,
+            text.as_str(),
+            " C7 Z 1\n",
+            3,
+            "refused 10005 Duplicate C7"
+        )?
+    );
     Ok(())
 }

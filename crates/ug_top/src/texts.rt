@@ -157,7 +157,11 @@ fn texts_that_are_read(rt: HostRuntime) -> Result<(), Fail> {
     for case in READ.lines() {
         if let Some((text, told)) = case.split_once(" -> ") {
             let status = if told.starts_with("refused") { 3 } else { 0 };
-            assert_eq!(rt; outcome(alloc, text, None)?, due(alloc, status, &[told])?, "{case}");
+            assert_eq!(rt;
+                outcome(alloc, text, None)?,
+                due(alloc, status, &[told])?,
+                "{case}"
+            );
         }
     }
     Ok(())
@@ -399,13 +403,21 @@ fn texts_of_one_column(rt: HostRuntime) -> Result<(), Fail> {
     for table in [ROW_TYPES, NUMBERS, SETS, BOUNDS, LAYOUT] {
         for case in table.lines() {
             if let Some((edits, values)) = case.split_once(" -> ") {
-                assert_eq!(rt; extremes(alloc, edits, None)?, told_of_both(alloc, values)?, "{case}");
+                assert_eq!(rt;
+                    extremes(alloc, edits, None)?,
+                    told_of_both(alloc, values)?,
+                    "{case}"
+                );
             }
         }
     }
     for case in BOXED.lines() {
         if let Some((edits, values)) = case.split_once(" -> ") {
-            assert_eq!(rt; extremes(alloc, edits, Some("50"))?, told_of_both(alloc, values)?, "{case}");
+            assert_eq!(rt;
+                extremes(alloc, edits, Some("50"))?,
+                told_of_both(alloc, values)?,
+                "{case}"
+            );
         }
     }
     Ok(())
@@ -433,7 +445,11 @@ fn senses(rt: HostRuntime) -> Result<(), Fail> {
     for case in SENSES.lines() {
         if let Some((edits, value)) = case.split_once(" -> ") {
             let text = edited(alloc, ONE, edits)?;
-            assert_eq!(rt; outcome(alloc, text.as_str(), None)?, due_at(alloc, value)?, "{case}");
+            assert_eq!(rt;
+                outcome(alloc, text.as_str(), None)?,
+                due_at(alloc, value)?,
+                "{case}"
+            );
         }
     }
     Ok(())
