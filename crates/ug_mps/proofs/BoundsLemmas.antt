@@ -1,17 +1,16 @@
 -- What bounds set is within the limit.
-use Rattle.std.proofs.Common.{◌≡◌, ℕ, ℤ, pos, ◌≤◌, ◌^◌, Bool, true, false, Option, Some, None, IfSome, nat_le, unsigned_abs, sym, refl, subst, arith, ⊎_elim}
-use Rattle.std.specs.Prelude.{option_and_then, if◌then◌else◌}
+use Rattle.std.proofs.Common.{◌≡◌, ℤ, ◌^◌, Bool, true, false, Option, Some, None, nat_le, unsigned_abs, subst, arith, ⊎_elim}
+use Rattle.std.specs.Prelude.{option_and_then}
 use Rattle.std.specs.Option.{option_map}
 use Rattle.std.proofs.lemmas.Bool.{cases_Bool, leb-true}
 use Rattle.ug_lines.specs.declared.kinds.BoundKind.{BoundKind}
 use Rattle.ug_lines.specs.declared.kinds.BoundKind.TheVariants.{Upper, Lower, Fixed, IntegerLower, IntegerUpper, Free, MinusInfinity, PlusInfinity, Binary}
-use Rattle.ug_problem.specs.declared.decimal.Decimal.{Decimal}
 use Rattle.ug_problem.specs.Fractions.{floor_of, ceiling_of}
 use Rattle.ug_mps.specs.declared.bound.Bound.{Bound}
 use Rattle.ug_mps.specs.declared.bound.Amount.{Amount}
 use Rattle.ug_mps.specs.declared.bound.Amount.TheVariants as amounts
 use Rattle.ug_mps.specs.declared.bound.Change.{Change}
-use Rattle.ug_mps.specs.Bounds.{is_negative, finite, upper_bound, lower_bound, sets, sets_upper, sets_lower, sets_both, numbered_change, bare_change, change_of}
+use Rattle.ug_mps.specs.Bounds.{is_negative, finite, upper_bound, lower_bound, sets, sets_both, change_of}
 use Rattle.ug_mps.specs.Good.{IsSmall, IsChange}
 
 -- what is said of a value, if there is one

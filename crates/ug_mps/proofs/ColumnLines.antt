@@ -1,8 +1,7 @@
 -- What a column's line does to the draft.
-use Rattle.std.proofs.Common.{◌≡◌, ℕ, ◌+◌, ◌-◌, ◌<◌, ◌≤◌, ◌||◌, ◌&&◌, not, cond, Bool, true, false, List, [], ◌∷◌, ◌++◌, length, map, find, All, Option, Some, None, is_none, nat_lt, nat_le, sym, refl, ap, subst, ◌∙◌, arith, ⊎_elim, Bor}
+use Rattle.std.proofs.Common.{◌≡◌, ℕ, ◌+◌, ◌<◌, ◌||◌, ◌&&◌, not, Bool, true, false, List, ◌∷◌, ◌++◌, length, find, All, Option, Some, None, is_none, nat_lt, nat_le, sym, refl, ap, subst, ◌∙◌, arith, Bor}
 use Rattle.std.specs.Option.{option_map}
-use Rattle.std.specs.Str.{bytes_eq}
-use Rattle.std.proofs.lemmas.Bool.{cases_Bool, false≢true, lt-ltb, le-leb, leb-true, ltb-false, leb-false}
+use Rattle.std.proofs.lemmas.Bool.{false≢true, lt-ltb, le-leb, ltb-false, leb-false}
 use Rattle.std.proofs.lemmas.List.{length-append, length-map}
 use Rattle.ug_lines.specs.declared.section.Section.TheVariants as sections
 use Rattle.ug_lines.specs.Shapes.{WordPair}
@@ -17,11 +16,11 @@ use Rattle.ug_mps.specs.Faults.{repeated, rows_in, numbers_in, is_begun_again}
 use Rattle.ug_mps.specs.Good.{IsNumbered, are_free, are_apart, column_fits}
 use Rattle.ug_mps.specs.History.{is_row, is_column, goes_on, place_of, coefficients, has, placed, Coefficient}
 use Rattle.ug_mps.specs.Says.{pairs_read}
-use Rattle.ug_mps.specs.Rows.{NamedRows, lists_of, AreRows, is_taken, AreBelow}
-use Rattle.ug_mps.specs.RowSteps.{first_missing, rows_named, AreAt, FindsRepeated, PutsPairs}
-use Rattle.ug_mps.specs.Columns.{NamedColumns, AreColumns, OpensColumn}
+use Rattle.ug_mps.specs.Rows.{NamedRows, lists_of, AreRows}
+use Rattle.ug_mps.specs.RowSteps.{first_missing, AreAt, FindsRepeated, PutsPairs}
+use Rattle.ug_mps.specs.Columns.{NamedColumns, OpensColumn}
 use Rattle.ug_mps.specs.Drafts.{Drafts, shaped_fault, shaped_says}
-use Rattle.ug_mps.proofs.Bytes.{and_true, both, or_false, not_false}
+use Rattle.ug_mps.proofs.Bytes.{both, or_false}
 use Rattle.ug_mps.proofs.HistoryLemmas.{below_of}
 use Rattle.ug_mps.proofs.PairsLemmas.{missing_is, read_rows, read_count, free_and_apart}
 

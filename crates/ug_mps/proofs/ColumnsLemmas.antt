@@ -1,16 +1,14 @@
 -- What lines do to what the columns have.
-use Rattle.std.proofs.Common.{◌≡◌, ℕ, ◌+◌, ◌-◌, ◌<◌, ◌≤◌, ◌&&◌, ◌||◌, not, cond, Bool, true, false, List, [], ◌∷◌, ◌++◌, length, get_or, set, map, Contains, Option, Some, None, sym, refl, ap, subst, ◌∙◌, arith, ⊎_elim}
+use Rattle.std.proofs.Common.{◌≡◌, ℕ, ◌+◌, ◌<◌, ◌||◌, not, Bool, true, false, List, [], ◌∷◌, ◌++◌, length, get_or, set, map, Contains, Option, Some, None, sym, refl, ap, subst, ◌∙◌, arith, ⊎_elim}
 use Rattle.std.specs.Str.{bytes_eq}
-use Rattle.std.proofs.lemmas.Bool.{cases_eq, cases_Bool, false≢true}
+use Rattle.std.proofs.lemmas.Bool.{cases_eq, false≢true}
 use Rattle.std.proofs.lemmas.List.{same_lists, length-set, length-map, get_or-map, get_or-set_same, get_or-set_other, map_push}
 use Rattle.ug_mps.specs.declared.bound.Bound.{Bound}
 use Rattle.ug_mps.specs.declared.bound.Change.{Change}
 use Rattle.ug_mps.specs.declared.draft.columns.ColumnDraft.{ColumnDraft}
-use Rattle.ug_mps.specs.declared.draft.columns.Place.{Place}
 use Rattle.ug_mps.specs.Entries.{Pair, Entry, column, bound}
-use Rattle.ug_mps.specs.Faults.{is_begun_again}
 use Rattle.ug_mps.specs.Good.{Good}
-use Rattle.ug_mps.specs.History.{ColumnBegun, columns_of, is_column, goes_on, place_of, is_integer_on, low_set, high_set, is_made_integer}
+use Rattle.ug_mps.specs.History.{ColumnBegun, columns_of, is_column, goes_on, is_integer_on, low_set, high_set, is_made_integer}
 use Rattle.ug_mps.specs.Stated.{is_integer}
 use Rattle.ug_mps.specs.Names.{name_at, StandsAt, AreDistinct}
 use Rattle.ug_mps.specs.Columns.{NamedColumns, column_so_far, new_column, column_at, with_change, AreColumns, FindsPlace, OpensColumn}

@@ -1,9 +1,8 @@
 -- What lines do to the draft: headers, senses, rows and markers.
-use Rattle.std.proofs.Common.{◌≡◌, ℕ, ◌+◌, ◌<◌, ◌≤◌, ◌||◌, ◌&&◌, ◌==◌, not, cond, Bool, true, false, List, [], ◌∷◌, ◌++◌, length, map, get_or, find, Contains, Option, Some, None, is_some, is_none, nat_lt, nat_le, sym, refl, ap, subst, ◌∙◌, arith, ⊎_elim}
+use Rattle.std.proofs.Common.{◌≡◌, ℕ, ◌||◌, not, Bool, true, false, List, [], ◌∷◌, ◌++◌, length, get_or, Option, Some, None, nat_lt, nat_le, sym, refl, ap, subst, ◌∙◌}
 use Rattle.std.specs.List.{list_any}
-use Rattle.std.specs.Option.{option_map}
 use Rattle.std.specs.Str.{bytes_eq}
-use Rattle.std.proofs.lemmas.Bool.{cases_Bool, eqb-true, false≢true, le-leb, lt-ltb, leb-true}
+use Rattle.std.proofs.lemmas.Bool.{eqb-true, false≢true}
 use Rattle.std.proofs.lemmas.List.{length-map}
 use Rattle.ug_lines.specs.declared.section.Section.{Section}
 use Rattle.ug_lines.specs.declared.section.Section.TheVariants as sections
@@ -12,19 +11,16 @@ use Rattle.ug_lines.specs.Kinds.{row_kind_of}
 use Rattle.ug_lines.specs.Shapes as shapes
 use Rattle.ug_problem.specs.Instances.{IsName}
 use Rattle.ug_mps.specs.declared.role.Role.{Role}
-use Rattle.ug_mps.specs.declared.fault.Kind.{Kind}
 use Rattle.ug_mps.specs.declared.fault.Kind.TheVariants as kinds
 use Rattle.ug_mps.specs.declared.fault.MpsError.{MpsError}
 use Rattle.ug_mps.specs.declared.draft.Draft.{Draft}
-use Rattle.ug_mps.specs.Entries.{Pair, Entry, header, sense, row, marker, column, sides, ranges, bound}
+use Rattle.ug_mps.specs.Entries.{Entry, row}
 use Rattle.ug_mps.specs.Faults.{Complaint}
-use Rattle.ug_mps.specs.Good.{Good}
 use Rattle.ug_mps.specs.History.{rank, is_section, RowNamed, rows_of, is_row, is_objective, have_objective, role_with, role_after}
 use Rattle.ug_mps.specs.Rows.{NamedRows, lists_of, AreRows}
 use Rattle.ug_mps.specs.RowSteps.{new_row, is_among}
-use Rattle.ug_mps.specs.Columns.{AreColumns}
 use Rattle.ug_mps.specs.Drafts.{Drafts, IsFaultOf, shaped_fault, shaped_says, is_in}
-use Rattle.ug_mps.proofs.Bytes.{named_any, any_none, any_append, or_false, both}
+use Rattle.ug_mps.proofs.Bytes.{named_any, any_append, both}
 use Rattle.ug_mps.proofs.RowsLemmas.{rows_and_row}
 use Rattle.ug_mps.proofs.HistoryLemmas.{coefficients_known, sides_known, ranges_known}
 use Rattle.ug_mps.proofs.ColumnsLemmas.{columns_kept}

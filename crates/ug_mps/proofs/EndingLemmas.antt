@@ -1,216 +1,23 @@
 -- What the bytes so far show of a text.
-use Rattle.std.proofs.Common.{◌≡◌, ◌≢◌, ℕ, ◌+◌, ◌<◌, ◌≤◌, ◌⊎◌, inl, inr, Bool, true, false, List, [], ◌∷◌, ◌++◌, length, take, drop, cond, ltb, Some, None, refl, sym, ap, ◌∙◌, subst, arith, append_assoc, append-nil, ⊎_elim}
-use Rattle.std.specs.Prelude.{◌==◌, ◌||◌, ◌&&◌, not, codes, if◌then◌else◌}
-use Rattle.std.specs.List.{position, position_or_len}
-use Rattle.std.specs.Str.{bytes_eq}
-use Rattle.std.proofs.lemmas.Bool.{cases_Bool, cond-true, cond-false, false≢true, eqb-true, ltb-false}
-use Rattle.std.proofs.lemmas.List.{take_at, drop_at, take-append-drop, length-append, nil_from_length}
-use borrow.Author.Tests.{ltb-true}
-use Rattle.ug_lines.specs.Lines.{content_of, is_line_end, lines_of}
-use Rattle.ug_lines.specs.Words.{is_blank, is_word_byte, is_legible}
+use Rattle.std.proofs.Common.{◌≡◌, ◌≢◌, ℕ, ◌+◌, ◌<◌, ◌≤◌, inr, Bool, true, false, List, [], ◌∷◌, ◌++◌, length, take, drop, Some, refl, sym, ap, ◌∙◌, subst, arith, append_assoc, append-nil}
+use Rattle.std.specs.Prelude.{◌==◌, codes}
+use Rattle.std.specs.List.{position}
+use Rattle.std.proofs.lemmas.Bool.{false≢true, eqb-true}
+use Rattle.std.proofs.lemmas.List.{take_at, drop_at, length-append, nil_from_length}
+use Rattle.ug_lines.specs.Lines.{lines_of}
+use Rattle.ug_lines.specs.Words.{is_legible}
 use Rattle.ug_mps.specs.declared.ending.Head.{Head}
 use Rattle.ug_mps.specs.declared.ending.Head.TheVariants as heads
 use Rattle.ug_mps.specs.declared.ending.Seen.{Seen}
 use Rattle.ug_mps.specs.declared.ending.Seen.TheVariants as seens
 use Rattle.ug_mps.specs.Faults.{is_word_end, is_end_line}
 use Rattle.ug_mps.specs.Laws.{StatesSame}
-use Rattle.ug_mps.specs.Ending.{first_piece, first_line, begins_legibly, is_feed_first, ends_word, BeginsEnd, IsHead, IsBehind, StopsFirst, mark, NoneOf, HasNoFeed, AreLines, IsLineAt, IsFeedAt, IsEndedAt, AreEnough, IsSeen, IsSeenTo}
-use Rattle.ug_mps.proofs.Bytes.{and_true, false_from, same_bytes, not_true, not_false}
+use Rattle.ug_mps.specs.Ending.{first_piece, first_line, begins_legibly, ends_word, BeginsEnd, IsHead, mark, HasNoFeed, AreLines, IsLineAt, IsFeedAt, IsEndedAt, AreEnough, IsSeen, IsSeenTo}
 use Rattle.ug_mps.proofs.Closing.{CloseSame, same_last}
-use Rattle.ug_mps.proofs.FirstLines.{line_behind, lines_first, piece_open, line_front, line_byte, line_return}
+use Rattle.ug_mps.proofs.FirstLines.{line_behind, lines_first, piece_open}
 use Rattle.ug_mps.proofs.EndLines.{close_end, close_long}
-
--- ---- heads
-
-or_cases : (a b : Bool) → (a || b) ≡ true → (a ≡ true) ⊎ (b ≡ true)
-or_cases true b e = inl refl
-or_cases false b e = inr e
-
-by_end : (t : Bool) (b : ℕ) (c : List ℕ) → is_blank b ≡ true → is_word_end (if t then [] else b ∷ c) ≡ true
-by_end true b c e = refl
-by_end false b c e = e
-
-by_piece : (t : Bool) (b : ℕ) (p : List ℕ) → is_blank b ≡ true → is_word_end (content_of (if t then b ∷ [] else b ∷ p)) ≡ true
-by_piece true b p e = by_end (is_line_end (b ∷ [])) b [] e
-by_piece false b p e = by_end (is_line_end (b ∷ p)) b (content_of p) e
-
-feed_first : (bs more : List ℕ) → is_feed_first bs ≡ true → is_word_end (first_line (13 ∷ (bs ++ more))) ≡ true
-feed_first [] more e = absurd (false≢true e)
-feed_first (c ∷ cs) more e = subst (λ x. is_word_end (first_line (13 ∷ (x ∷ (cs ++ more)))) ≡ true) (sym (eqb-true c 10 e)) refl
-
--- where a word ends whatever follows, it does
-pub word_ends : (rest more : List ℕ) → ends_word rest ≡ true → is_word_end (first_line (rest ++ more)) ≡ true
-word_ends [] more e = absurd (false≢true e)
-word_ends (b ∷ bs) more e = ⊎_elim
-    (λ p. by_piece (b == 10) b (first_piece (bs ++ more)) p)
-    (λ q. ⊎_elim
-    (λ f. subst (λ x. is_word_end (first_line (x ∷ (bs ++ more))) ≡ true) (sym (eqb-true b 10 f)) refl)
-    (λ g. let both = and_true (b == 13) (is_feed_first bs) g in
-    subst (λ x. is_word_end (first_line (x ∷ (bs ++ more))) ≡ true) (sym (eqb-true b 13 both.0)) (feed_first bs more both.1))
-    (or_cases (b == 10) ((b == 13) && is_feed_first bs) q))
-    (or_cases (is_blank b) ((b == 10) || ((b == 13) && is_feed_first bs)) e)
-
--- a byte behind ENDATA that ends no word
-pub other_byte : (b : ℕ) (bs more : List ℕ) → is_blank b ≡ false → (b == 10) ≡ false → (b == 13) ≡ false → is_word_end (first_line ((b ∷ bs) ++ more)) ≡ false
-other_byte b bs more p q r = ap is_word_end (line_byte b (bs ++ more) q r) ∙ p
-
--- a carriage return behind it that no line feed follows
-pub other_return : (b : ℕ) (bs more : List ℕ) → (b == 10) ≡ false → is_word_end (first_line ((13 ∷ b ∷ bs) ++ more)) ≡ false
-other_return b bs more q = ap is_word_end (line_return b (bs ++ more) q)
-
--- what the bytes behind ENDATA show, its line shows
-pub head_behind : (line rest : List ℕ) (r : Head) → line ≡ codes "ENDATA" ++ rest → IsBehind rest r → IsHead line r
-head_behind line rest heads.Ends e h = (rest, e, h)
-head_behind line rest heads.Other e h = λ more. ap (λ l. is_end_line (first_line (l ++ more))) e ∙ h more
-head_behind line rest heads.Open e (more, h) = (more, ap (λ l. codes "ENDATA" ++ l) h ∙ ap (λ l. l ++ more) (sym e))
-
--- a front of ENDATA
-pub head_open : (line rest : List ℕ) → codes "ENDATA" ≡ line ++ rest → IsHead line heads.Open
-head_open line rest e = (rest ++ 13 ∷ [], ap (λ l. l ++ 13 ∷ []) e ∙ append_assoc line rest (13 ∷ []))
-
--- of two lists that begin one, the one begins the other
-front_of : (xs ys vs ws : List ℕ) → xs ++ ys ≡ vs ++ ws → ((z : List ℕ) × (xs ≡ vs ++ z)) ⊎ ((z : List ℕ) × (vs ≡ xs ++ z))
-front_of [] ys vs ws e = inr (vs, refl)
-front_of (x ∷ xs) ys [] ws e = inl (x ∷ xs, refl)
-front_of (x ∷ xs) ys (v ∷ vs) ws e =
-    let head : x ≡ v = cc in
-    let tail : xs ++ ys ≡ vs ++ ws = cc in
-    elim (front_of xs ys vs ws tail) [
-      | inl h ↦ inl (h.0, cc)
-      | inr h ↦ inr (h.0, cc)
-    ]
-
--- neither begins with ENDATA nor is a front of it
-pub head_other : (line : List ℕ) → ((rest : List ℕ) → line ≢ codes "ENDATA" ++ rest) → ((rest : List ℕ) → codes "ENDATA" ≢ line ++ rest) → IsHead line heads.Other
-head_other line a b = λ more. false_from (is_end_line (first_line (line ++ more))) (λ e.
-    let c : List ℕ = first_line (line ++ more) in
-    let word : take 6 c ≡ codes "ENDATA" = same_bytes (take 6 c) (codes "ENDATA") (and_true (bytes_eq (take 6 c) (codes "ENDATA")) (is_word_end (drop 6 c)) e).0 in
-    let f = line_front (line ++ more) in
-    let whole : line ++ more ≡ codes "ENDATA" ++ (drop 6 c ++ f.0) =
-    f.1 ∙ ap (λ l. l ++ f.0) (sym (take-append-drop 6 c) ∙ ap (λ l. l ++ drop 6 c) word) ∙ append_assoc (codes "ENDATA") (drop 6 c) f.0 in
-    absurd (elim (front_of line more (codes "ENDATA") (drop 6 c ++ f.0) whole) [
-      | inl (z, s) ↦ a z s
-      | inr (z, s) ↦ b z s
-    ]))
-
--- ---- the rest of an ENDATA line
-
-abbrev may : ℕ → Bool
-may b = is_blank b || is_word_byte b
-
-may_not : (b c : ℕ) → may c ≡ false → may b ≡ true → (b == c) ≡ false
-may_not b c n m = false_from (b == c) (λ e. false≢true (sym n ∙ ap may (sym (eqb-true b c e)) ∙ m))
-
--- a byte that may stand there
-legible_byte : (b : ℕ) (bs : List ℕ) → may b ≡ true → begins_legibly (b ∷ bs) ≡ begins_legibly bs
-legible_byte b bs m = ap is_legible (line_byte b bs (may_not b 10 refl m) (may_not b 13 refl m)) ∙ ap (λ t. t && begins_legibly bs) m
-
--- a byte that may not, and ends no line
-pub bad_first : (b : ℕ) (bs : List ℕ) → may b ≡ false → (b == 10) ≡ false → (b == 13) ≡ false → begins_legibly (b ∷ bs) ≡ false
-bad_first b bs m p q = ap is_legible (line_byte b bs p q) ∙ ap (λ t. t && begins_legibly bs) m
-
--- a carriage return that no line feed follows
-pub bad_return : (b : ℕ) (bs : List ℕ) → (b == 10) ≡ false → begins_legibly (13 ∷ b ∷ bs) ≡ false
-bad_return b bs p = ap is_legible (line_return b bs p)
-
--- bytes that may stand there
-pub legible_more : (open_ rest : List ℕ) → NoneOf (λ b. not (is_blank b || is_word_byte b)) open_ → begins_legibly (open_ ++ rest) ≡ begins_legibly rest
-legible_more [] rest n = refl
-legible_more (b ∷ bs) rest n = legible_byte b (bs ++ rest) (not_false (may b) n.0) ∙ legible_more bs rest n.1
-
--- ---- where a byte stands
-
--- the bytes before the first of which the test is true, that one, and the rest
-pub record CutAt (test : ℕ → Bool) (bytes : List ℕ) (at : ℕ) : Type 0 where
-  pub open_ : List ℕ
-  pub byte : ℕ
-  pub rest : List ℕ
-  pub parts : bytes ≡ open_ ++ byte ∷ rest
-  pub none : NoneOf test open_
-  pub is : test byte ≡ true
-  pub there : length open_ ≡ at
-
-first-yes : (test : ℕ → Bool) (x : ℕ) (xs : List ℕ) → test x ≡ true → position_or_len test (x ∷ xs) ≡ 0
-first-yes test x xs e = ap (λ b. cond (not b) (1 + position_or_len test xs) 0) e
-
-first-no : (test : ℕ → Bool) (x : ℕ) (xs : List ℕ) → test x ≡ false → position_or_len test (x ∷ xs) ≡ 1 + position_or_len test xs
-first-no test x xs e = ap (λ b. cond (not b) (1 + position_or_len test xs) 0) e
-
-cut_more : (test : ℕ → Bool) (x : ℕ) (xs : List ℕ) (at : ℕ) → test x ≡ false → CutAt test xs at → CutAt test (x ∷ xs) (1 + at)
-cut_more test x xs at e c = record {
-  open_ = x ∷ c.open_;
-  byte = c.byte;
-  rest = c.rest;
-  parts = ap (λ l. x ∷ l) c.parts;
-  none = (e, c.none);
-  is = c.is;
-  there = omega (arith, c.there);
-}
-
-cut_len : (test : ℕ → Bool) (xs : List ℕ) → position_or_len test xs < length xs → CutAt test xs (position_or_len test xs)
-cut_len test [] h = absurd (omega arith)
-cut_len test (x ∷ xs) h = ⊎_elim
-    (λ t. record { open_ = []; byte = x; rest = xs; parts = refl; none = tt; is = t; there = sym (first-yes test x xs t) })
-    (λ f. let n : position_or_len test (x ∷ xs) ≡ 1 + position_or_len test xs = first-no test x xs f in
-    subst (λ m. CutAt test (x ∷ xs) m) (sym n) (cut_more test x xs (position_or_len test xs) f (cut_len test xs (omega (arith, h, n)))))
-    (cases_Bool (test x))
-
-none_len : (test : ℕ → Bool) (xs : List ℕ) → length xs ≤ position_or_len test xs → NoneOf test xs
-none_len test [] h = tt
-none_len test (x ∷ xs) h = ⊎_elim
-    (λ t. absurd (omega (arith, h, first-yes test x xs t)))
-    (λ f. (f, none_len test xs (omega (arith, h, first-no test x xs f))))
-    (cases_Bool (test x))
-
-pub found_at : (test : ℕ → Bool) (xs : List ℕ) (at : ℕ) → Some at ≡ position test xs → CutAt test xs at
-found_at test xs at e =
-    elim (cases_Bool (ltb (position_or_len test xs) (length xs))) [
-      | inl t ↦
-          let s : position test xs ≡ Some (position_or_len test xs) = cond-true (ltb (position_or_len test xs) (length xs)) _ _ t in
-          let n : at ≡ position_or_len test xs = cc in
-          subst (λ m. CutAt test xs m) (sym n) (cut_len test xs (ltb-true (position_or_len test xs) (length xs) t))
-      | inr t ↦
-          let s : position test xs ≡ None = cond-false (ltb (position_or_len test xs) (length xs)) _ _ t in
-          absurd (let bad : Some at ≡ None = e ∙ s in cc)
-    ]
-
-pub found_none : (test : ℕ → Bool) (xs : List ℕ) → None ≡ position test xs → NoneOf test xs
-found_none test xs e =
-    elim (cases_Bool (ltb (position_or_len test xs) (length xs))) [
-      | inl t ↦
-          let s : position test xs ≡ Some (position_or_len test xs) = cond-true (ltb (position_or_len test xs) (length xs)) _ _ t in
-          absurd (let bad : None ≡ Some (position_or_len test xs) = e ∙ s in cc)
-      | inr t ↦ none_len test xs (ltb-false (position_or_len test xs) (length xs) t)
-    ]
-
--- what stands from there on
-cut_drop : (test : ℕ → Bool) (xs : List ℕ) (at : ℕ) (c : CutAt test xs at) → drop at xs ≡ c.byte ∷ c.rest
-cut_drop test xs at c = ap (drop at) c.parts ∙ drop_at c.open_ (c.byte ∷ c.rest) at c.there
-
-pub stop_first : (xs : List ℕ) (at : ℕ) → Some at ≡ position (λ b. not (is_blank b || is_word_byte b)) xs → StopsFirst (drop at xs)
-stop_first xs at e =
-    let c = found_at (λ b. not (is_blank b || is_word_byte b)) xs at e in
-    subst StopsFirst (sym (cut_drop _ xs at c)) (not_true (may c.byte) c.is)
-
-pub stop_legible : (xs more : List ℕ) (at : ℕ) → Some at ≡ position (λ b. not (is_blank b || is_word_byte b)) xs → begins_legibly (xs ++ more) ≡ begins_legibly (drop at xs ++ more)
-stop_legible xs more at e =
-    let c = found_at (λ b. not (is_blank b || is_word_byte b)) xs at e in
-    ap (λ l. begins_legibly (l ++ more)) c.parts
-    ∙ ap begins_legibly (append_assoc c.open_ (c.byte ∷ c.rest) more)
-    ∙ legible_more c.open_ ((c.byte ∷ c.rest) ++ more) c.none
-    ∙ ap (λ l. begins_legibly (l ++ more)) (sym (cut_drop _ xs at c))
-
--- the first line feed from a place on
-pub feed_there : (bytes : List ℕ) (from at : ℕ) → Some at ≡ position (λ b. b == 10) (drop from bytes) → IsFeedAt bytes from (from + at)
-feed_there bytes from at e =
-    let c = found_at (λ b. b == 10) (drop from bytes) at e in
-    record {
-      open_ = c.open_;
-      rest = c.rest;
-      parts = c.parts ∙ ap (λ b. c.open_ ++ b ∷ c.rest) (eqb-true c.byte 10 c.is);
-      no_feed = c.none;
-      there = ap (λ n. from + n) c.there;
-    }
+use Rattle.ug_mps.proofs.LineHeads.{word_ends}
+use Rattle.ug_mps.proofs.LineTails.{found_at}
 
 -- ---- whole lines, and what follows them
 
@@ -272,6 +79,18 @@ enough_long bytes front tail parts whole some long other = λ more.
     (close_long (line_behind front tail) (line_behind front (tail ++ more)) far (long more) none (other more))))
 
 -- ---- up to a line feed
+
+-- the first line feed from a place on
+pub feed_there : (bytes : List ℕ) (from at : ℕ) → Some at ≡ position (λ b. b == 10) (drop from bytes) → IsFeedAt bytes from (from + at)
+feed_there bytes from at e =
+    let c = found_at (λ b. b == 10) (drop from bytes) at e in
+    record {
+      open_ = c.open_;
+      rest = c.rest;
+      parts = c.parts ∙ ap (λ b. c.open_ ++ b ∷ c.rest) (eqb-true c.byte 10 c.is);
+      no_feed = c.none;
+      there = ap (λ n. from + n) c.there;
+    }
 
 -- the line with its line feed
 pub record IsLineTo (bytes : List ℕ) (line at : ℕ) : Type 0 where

@@ -1,11 +1,10 @@
 -- What holds of every good history.
-use Rattle.std.proofs.Common.{◌≡◌, ◌≢◌, ℕ, ◌+◌, ◌-◌, ◌<◌, ◌≤◌, ◌==◌, ◌&&◌, ◌||◌, not, cond, Bool, true, false, List, [], ◌∷◌, ◌++◌, length, map, Option, Some, None, sym, refl, ap, subst, ◌∙◌, arith, ⊎_elim}
-use Rattle.std.specs.List.{list_any, list_all}
+use Rattle.std.proofs.Common.{◌≡◌, ℕ, ◌+◌, ◌-◌, ◌≤◌, ◌==◌, ◌&&◌, ◌||◌, not, cond, Bool, true, false, List, [], ◌∷◌, ◌++◌, length, map, None, sym, refl, ap, subst, ◌∙◌, arith, ⊎_elim}
+use Rattle.std.specs.List.{list_any}
 use Rattle.std.specs.Str.{bytes_eq}
-use Rattle.std.proofs.lemmas.Bool.{cases_Bool, cases_eq, eqb-true, eq-eqb, false≢true, ltb-true}
-use Rattle.std.proofs.lemmas.List.{append_assoc, get_or_push, length_push, length-map, map_push}
+use Rattle.std.proofs.lemmas.Bool.{cases_Bool, eq-eqb, false≢true}
+use Rattle.std.proofs.lemmas.List.{append_assoc, get_or_push, length_push, map_push}
 use Rattle.std.proofs.lemmas.List.Elements.{All-nil, All-weaker}
-use Rattle.ug_mps.specs.declared.bound.Bound.{Bound}
 use Rattle.ug_mps.specs.Entries.{Pair, Entry, row, column, sides, ranges, bound}
 use Rattle.ug_mps.specs.History.{RowNamed, ColumnBegun, Coefficient, rows_of, columns_of, coefficients, sides_given, ranges_given, is_row, is_column, is_integer_on, goes_on, place_of, placed, names_row, has, low_set, high_set, is_made_integer}
 use Rattle.ug_mps.specs.Good.{are_apart, are_free, column_fits, given_fits, Good}

@@ -29,4 +29,6 @@ pub mod ScaleLaws
 pub mod Closing
 pub mod FirstLines
 pub mod EndLines
+pub mod LineHeads
+pub mod LineTails
 pub mod EndingLemmas

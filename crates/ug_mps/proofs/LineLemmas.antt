@@ -1,10 +1,10 @@
 -- What a line's words do to the draft.
-use Rattle.std.proofs.Common.{◌≡◌, ℕ, ◌<◌, ◌≤◌, ◌==◌, ◌&&◌, ◌||◌, not, cond, Bool, true, false, List, [], ◌∷◌, ◌++◌, length, map, filter, Option, Some, None, IfSome, Result, MatchResult, nat_le, sym, refl, ap, subst, ◌∙◌, arith, ⊎_elim, inl, inr}
+use Rattle.std.proofs.Common.{◌≡◌, ℕ, ◌<◌, ◌≤◌, ◌==◌, ◌&&◌, ◌||◌, not, cond, Bool, true, false, List, [], ◌∷◌, ◌++◌, length, filter, Option, Some, None, Result, MatchResult, nat_le, refl, ap, subst, ◌∙◌, arith, inl, inr}
 use Rattle.std.specs.Prelude.{option_and_then, codes, if◌then◌else◌, ⊤}
 use Rattle.std.specs.List.{AllByRecursion, list_all, slice_split, onto_first}
 use Rattle.std.specs.Option.{option_map}
 use Rattle.std.specs.Str.{bytes_eq}
-use Rattle.std.proofs.lemmas.Bool.{cases_Bool, leb-true, cases_lt, false≢true}
+use Rattle.std.proofs.lemmas.Bool.{leb-true, cases_lt}
 use Rattle.std.proofs.lemmas.Bool.Decides.{nat_tests}
 use Rattle.std.proofs.lemmas.List.Elements.{All-from_recursion}
 use Rattle.ug_lines.specs.declared.section.Section.{Section}
@@ -20,11 +20,11 @@ use Rattle.ug_mps.specs.declared.draft.Draft.{Draft}
 use Rattle.ug_mps.specs.declared.fault.MpsError.{MpsError}
 use Rattle.ug_mps.specs.declared.fault.Kind.TheVariants as kinds
 use Rattle.ug_mps.specs.Entries.{Entry}
-use Rattle.ug_mps.specs.Faults.{Complaint, or_fault, too_long, shape_in, may_stand, bad_words, semi_continuous, bad_bound_kind}
+use Rattle.ug_mps.specs.Faults.{Complaint, or_fault, too_long, shape_in, bad_words, semi_continuous, bad_bound_kind}
 use Rattle.ug_mps.specs.Says.{data_fault, formed_fault, formed_says, words_fault, words_say, line_fault, line_says}
 use Rattle.ug_mps.specs.History.{section_of}
-use Rattle.ug_mps.specs.Drafts.{Drafts, IsFaultOf, shaped_fault, shaped_says, TakesShape, belongs, IsWorded}
-use Rattle.ug_mps.specs.Taking.{AreWords, IsFirst, TakesData, as_fault}
+use Rattle.ug_mps.specs.Drafts.{Drafts, IsFaultOf, shaped_fault, shaped_says, belongs, IsWorded}
+use Rattle.ug_mps.specs.Taking.{AreWords, IsFirst}
 use Rattle.ug_mps.proofs.Bytes.{and_true}
 
 -- ---- words of a legible line

@@ -1,11 +1,9 @@
 -- Pairs and the places of their rows.
-use Rattle.std.proofs.Common.{◌≡◌, ℕ, ◌<◌, ◌≤◌, ◌||◌, not, ◌==◌, cond, Bool, true, false, List, [], ◌∷◌, length, set, map, find, Contains, Option, Some, None, Result, Ok, Err, OnOk, sym, refl, ap, subst, ◌∙◌, arith, ⊎_elim, Bor}
-use Rattle.std.specs.Option.{option_map}
+use Rattle.std.proofs.Common.{◌≡◌, ℕ, ◌<◌, ◌||◌, ◌==◌, true, false, List, [], ◌∷◌, length, set, Contains, Option, Some, None, Result, Ok, Err, OnOk, sym, refl, ap, subst, ◌∙◌, ⊎_elim, Bor}
 use Rattle.std.specs.Str.{bytes_eq}
-use Rattle.std.proofs.lemmas.Bool.{cases_Bool, cases_eq, eqb-true, eq-eqb, false≢true}
+use Rattle.std.proofs.lemmas.Bool.{cases_Bool, cases_eq, eqb-true, eq-eqb}
 use Rattle.ug_lines.specs.declared.shape.NamedWord.{NamedWord}
-use Rattle.ug_lines.specs.Shapes.{WordPair}
-use Rattle.ug_lines.specs.Shaped.{pair_shaped, second_shaped}
+use Rattle.ug_lines.specs.Shaped.{second_shaped}
 use Rattle.ug_mps.specs.declared.draft.rows.Part.{Part}
 use Rattle.ug_mps.specs.declared.pairs.NamedNumber.{NamedNumber}
 use Rattle.ug_mps.specs.Entries.{Pair}
@@ -13,8 +11,8 @@ use Rattle.ug_mps.specs.Faults.{repeated, rows_in}
 use Rattle.ug_mps.specs.Names.{name_at, StandsAt, AreDistinct}
 use Rattle.ug_mps.specs.Numbered.{pair_said, second_said}
 use Rattle.ug_mps.specs.Rows.{NamedRows, Lists, AreRows, AreBelow, is_taken}
-use Rattle.ug_mps.specs.RowSteps.{row_at, with_part, has_part, second_place, AreAt, is_among, first_missing, FindsRepeated, PutsPairs, rows_named}
-use Rattle.ug_mps.proofs.Bytes.{any_true, any_none, same_bytes, bytes_same, bytes_apart, or_true, or_left, no_or}
+use Rattle.ug_mps.specs.RowSteps.{row_at, with_part, has_part, second_place, AreAt, first_missing, FindsRepeated, PutsPairs, rows_named}
+use Rattle.ug_mps.proofs.Bytes.{any_true, any_none, bytes_same, bytes_apart}
 use Rattle.ug_mps.proofs.RowsLemmas.{has_there, puts_one, puts_two}
 
 -- ---- the places of the rows

@@ -1,9 +1,8 @@
 -- A text has one outcome.
-use Rattle.std.proofs.Common.{◌≡◌, ◌≢◌, ℕ, ◌+◌, ◌-◌, ◌<◌, ◌≤◌, ◌⊎◌, inl, inr, Bool, true, false, List, [], ◌∷◌, ◌++◌, length, take, get_or, Option, Some, None, refl, sym, ap, ◌∙◌, subst, arith, zero, suc, ⊎_elim}
-use Rattle.std.specs.Prelude.{reverse, option_and_then, if◌then◌else◌}
-use Rattle.std.proofs.lemmas.List.{take_more, reverse-append, length-reverse, length-take}
+use Rattle.std.proofs.Common.{◌≡◌, ℕ, ◌+◌, ◌-◌, ◌<◌, ◌≤◌, ◌⊎◌, inl, inr, true, false, List, [], ◌∷◌, ◌++◌, length, take, get_or, Option, Some, None, refl, sym, ap, ◌∙◌, subst, arith, zero, suc, ⊎_elim}
+use Rattle.std.specs.Prelude.{reverse, option_and_then}
+use Rattle.std.proofs.lemmas.List.{take_more, reverse-append}
 use Rattle.std.proofs.lemmas.Bool.{cases_order, cases_Bool, false≢true}
-use Rattle.ug_lines.specs.declared.section.Section.{Section}
 use Rattle.ug_lines.specs.declared.section.Section.TheVariants.{Endata}
 use Rattle.ug_lines.specs.Lines.{Line, lines_of}
 use Rattle.ug_problem.specs.Instances.{Instance}
@@ -11,7 +10,6 @@ use Rattle.ug_mps.specs.declared.fault.MpsFault.{MpsFault}
 use Rattle.ug_mps.specs.declared.fault.Kind.TheVariants.{NoEnd}
 use Rattle.ug_mps.specs.Entries.{Entry, header, sense, row, marker, column, sides, ranges, bound}
 use Rattle.ug_mps.specs.Faults.{Complaint}
-use Rattle.ug_mps.specs.History.{is_section}
 use Rattle.ug_mps.specs.Says.{line_fault, line_says, is_ended, after_fault, after, history}
 use Rattle.ug_mps.specs.Stated.{stated}
 use Rattle.ug_mps.specs.Reads.{no_line, lines_before, Says, Ends, IsFaulty, IsEndless, fault_at, end_fault, Reads, FirstFault}

@@ -1,17 +1,16 @@
 -- Pairs, the words of their numbers, and what is at fault among them.
-use Rattle.std.proofs.Common.{◌≡◌, ℕ, ◌+◌, ◌<◌, ◌≤◌, ◌||◌, ◌&&◌, not, cond, Bool, true, false, List, [], ◌∷◌, ◌++◌, length, map, find, All, Option, Some, None, is_none, nat_lt, nat_le, sym, refl, ap, subst, ◌∙◌, arith, ⊎_elim}
+use Rattle.std.proofs.Common.{◌≡◌, ℕ, ◌≤◌, ◌||◌, ◌&&◌, not, cond, Bool, true, false, List, [], ◌∷◌, length, find, Option, Some, None, sym, refl, ap, subst, ◌∙◌, ⊎_elim}
 use Rattle.std.specs.Prelude.{option_and_then}
-use Rattle.std.specs.List.{list_any, list_all}
 use Rattle.std.specs.Option.{option_map}
 use Rattle.std.specs.Str.{bytes_eq}
-use Rattle.std.proofs.lemmas.Bool.{cases_Bool, false≢true}
+use Rattle.std.proofs.lemmas.Bool.{cases_Bool}
 use Rattle.ug_lines.specs.declared.shape.NamedWord.{NamedWord}
 use Rattle.ug_lines.specs.Shapes.{WordPair}
-use Rattle.ug_lines.specs.Shaped.{pair_shaped, second_shaped}
+use Rattle.ug_lines.specs.Shaped.{second_shaped}
 use Rattle.ug_problem.specs.declared.decimal.Decimal.{Decimal}
 use Rattle.ug_problem.specs.Decimals.{decimal_of}
 use Rattle.ug_mps.specs.Entries.{Pair, Entry}
-use Rattle.ug_mps.specs.Faults.{Complaint, at_fault, repeated, rows_in, numbers_in}
+use Rattle.ug_mps.specs.Faults.{repeated, rows_in}
 use Rattle.ug_mps.specs.Good.{are_apart, are_free}
 use Rattle.ug_mps.specs.History.{is_row, names_row}
 use Rattle.ug_mps.specs.Numbered.{AreShortNumbers}

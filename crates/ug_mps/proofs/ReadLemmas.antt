@@ -1,12 +1,10 @@
 -- One line more is read.
-use Rattle.std.proofs.Common.{◌≡◌, ℕ, ◌+◌, ◌-◌, ◌<◌, ◌≤◌, ◌^◌, inl, inr, true, false, List, [], ◌∷◌, ◌++◌, length, take, get_or, Option, Some, None, Result, Ok, Err, IfOk, IfErr, IfSome, MatchResult, refl, sym, ap, ◌∙◌, subst, arith, append-nil}
+use Rattle.std.proofs.Common.{◌≡◌, ℕ, ◌+◌, ◌-◌, ◌<◌, inl, inr, false, List, [], ◌∷◌, ◌++◌, length, take, get_or, Option, Some, None, Result, Ok, Err, IfOk, IfErr, MatchResult, refl, sym, ap, ◌∙◌, subst, arith, append-nil}
 use Rattle.std.specs.Prelude.{reverse, option_and_then}
-use Rattle.std.specs.Option.{option_map}
 use Rattle.std.proofs.lemmas.List.{take_at, get_or_at, reverse-append, length-append, length-reverse, append_assoc}
 use Rattle.ug_lines.specs.declared.section.Section.TheVariants.{Endata}
 use Rattle.ug_lines.specs.Lines.{Line, pieces, content_of, lines_after, lines_of}
 use Rattle.ug_problem.specs.Instances.{Instance}
-use Rattle.ug_mps.specs.declared.draft.Draft.{Draft}
 use Rattle.ug_mps.specs.declared.fault.Kind.TheVariants.{NoEnd}
 use Rattle.ug_mps.specs.declared.fault.MpsFault.{MpsFault}
 use Rattle.ug_mps.specs.declared.fault.MpsError.{MpsError}
@@ -15,11 +13,11 @@ use Rattle.ug_mps.specs.Entries.{Entry, header}
 use Rattle.ug_mps.specs.Faults.{Complaint}
 use Rattle.ug_mps.specs.Says.{line_fault, line_says, is_ended, after, history}
 use Rattle.ug_mps.specs.Stated.{stated}
-use Rattle.ug_mps.specs.Drafts.{Drafts, IsFaultOf}
+use Rattle.ug_mps.specs.Drafts.{IsFaultOf}
 use Rattle.ug_mps.specs.Finish.{IsEndFault}
-use Rattle.ug_mps.specs.Reading.{HasTaken, IsReading}
-use Rattle.ug_mps.specs.Reads.{no_line, Says, Ends, IsFaulty, IsEndless, fault_at, end_fault, Reads, FirstFault, IsRefusal}
-use Rattle.ug_mps.proofs.Outcome.{line_at, after_good, ended_form}
+use Rattle.ug_mps.specs.Reading.{HasTaken}
+use Rattle.ug_mps.specs.Reads.{no_line, Says, Ends, IsFaulty, IsEndless, fault_at, end_fault, Reads, IsRefusal}
+use Rattle.ug_mps.proofs.Outcome.{line_at, after_good}
 
 some_same : (f g : MpsFault) → Some f ≡ Some g → f ≡ g
 some_same f g e = cc

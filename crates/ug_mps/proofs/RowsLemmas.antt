@@ -1,5 +1,5 @@
 -- What pairs do to what the rows have.
-use Rattle.std.proofs.Common.{◌≡◌, ◌≢◌, ℕ, ◌<◌, ◌≤◌, ◌==◌, ◌&&◌, ◌||◌, not, cond, Bool, true, false, List, [], ◌∷◌, ◌++◌, length, get_or, set, map, filter, find, All, Contains, Option, Some, None, sym, refl, ap, subst, ◌∙◌, arith, ⊎_elim}
+use Rattle.std.proofs.Common.{◌≡◌, ◌≢◌, ℕ, ◌<◌, ◌≤◌, ◌==◌, ◌&&◌, ◌||◌, not, cond, Bool, true, false, List, [], ◌∷◌, ◌++◌, length, get_or, set, map, filter, All, Contains, Option, Some, None, sym, refl, ap, subst, ◌∙◌, arith, ⊎_elim}
 use Rattle.std.specs.List.{list_any}
 use Rattle.std.specs.Str.{bytes_eq}
 use Rattle.std.proofs.lemmas.Bool.{cases_Bool, cases_eq, eqb-true, eq-eqb, false≢true}
@@ -19,8 +19,8 @@ use Rattle.ug_mps.specs.History.{RowNamed, Coefficient, has, names_row, placed}
 use Rattle.ug_mps.specs.Stated.{is_term, terms_of, factor_of, number_given}
 use Rattle.ug_mps.specs.Names.{name_at, StandsAt, AreDistinct}
 use Rattle.ug_mps.specs.Rows.{NamedRows, Lists, or_place, last_place, is_named, row_so_far, AreRows, IsBefore, AreOrdered, AreWithin, AreBelow, is_taken, and_pairs}
-use Rattle.ug_mps.specs.RowSteps.{new_row, row_at, with_factor, with_part, is_place, is_given, has_part, AreAt, rows_named, PutsPairs}
-use Rattle.ug_mps.proofs.Bytes.{or_true, or_left, both, any_true, any_none, named_any, same_bytes, bytes_same, bytes_apart, apart_bytes, or_false, false_from, not_first, not_second, not_true, and_true, bytes_turn, any_append}
+use Rattle.ug_mps.specs.RowSteps.{new_row, row_at, with_factor, with_part, is_place, is_given, has_part, PutsPairs}
+use Rattle.ug_mps.proofs.Bytes.{both, any_none, named_any, same_bytes, bytes_same, bytes_apart, apart_bytes, or_false, not_first, any_append}
 
 -- a row without a coefficient has no terms and no last column
 pub no_terms : (cs : List Coefficient) (name : List ℕ) → list_any (λ (c : Coefficient). bytes_eq name c.row) cs ≡ false → terms_of cs name ≡ []

@@ -1,10 +1,9 @@
 -- What lines of right-hand sides, ranges and bounds do to the draft.
-use Rattle.std.proofs.Common.{◌≡◌, ℕ, ◌≤◌, ◌||◌, ◌&&◌, not, cond, Bool, true, false, List, [], ◌∷◌, ◌++◌, length, set, map, find, All, Contains, Option, Some, None, is_none, is_some, IfSome, Result, MatchResult, sym, refl, ap, subst, ◌∙◌, ⊎_elim, Bor}
-use Rattle.std.specs.Prelude.{option_and_then, if◌then◌else◌, ⊤}
+use Rattle.std.proofs.Common.{◌≡◌, ℕ, ◌||◌, not, Bool, true, false, List, [], ◌∷◌, ◌++◌, set, find, All, Contains, Option, Some, None, is_none, Result, MatchResult, sym, refl, ap, subst, ◌∙◌, ⊎_elim, Bor}
+use Rattle.std.specs.Prelude.{if◌then◌else◌, ⊤}
 use Rattle.std.specs.Option.{option_map}
 use Rattle.std.specs.Str.{bytes_eq}
 use Rattle.std.proofs.lemmas.Bool.{cases_Bool, false≢true}
-use Rattle.ug_lines.specs.declared.section.Section.{Section}
 use Rattle.ug_lines.specs.declared.section.Section.TheVariants as sections
 use Rattle.ug_lines.specs.declared.kinds.BoundKind.{BoundKind}
 use Rattle.ug_lines.specs.Shapes.{WordPair, Shape}
@@ -21,18 +20,18 @@ use Rattle.ug_mps.specs.Bounds.{amount_of, change_of}
 use Rattle.ug_mps.specs.Entries.{Pair, Entry, sides, ranges, bound}
 use Rattle.ug_mps.specs.Faults.{repeated, rows_in, numbers_in, is_ranges, given_in, is_other_set, change_by, bad_number}
 use Rattle.ug_mps.specs.Good.{IsNumbered, IsChange, are_free, are_apart, given_fits}
-use Rattle.ug_mps.specs.History.{is_section, section_of, is_row, is_column, sides_given, ranges_given, names_row, set_of}
-use Rattle.ug_mps.specs.Says.{pairs_read, sides_in}
+use Rattle.ug_mps.specs.History.{section_of, is_row, is_column, sides_given, ranges_given, names_row, set_of}
+use Rattle.ug_mps.specs.Says.{pairs_read}
 use Rattle.ug_mps.specs.Names.{StandsAt, AreDistinct}
 use Rattle.ug_mps.specs.Rows.{NamedRows, Lists, lists_of, AreRows, is_taken, and_pairs, AreBelow}
 use Rattle.ug_mps.specs.RowSteps.{is_among, first_missing, rows_named, AreAt, FindsRepeated, PutsPairs}
 use Rattle.ug_mps.specs.Columns.{NamedColumns, column_at, with_change, AreColumns}
 use Rattle.ug_mps.specs.Drafts.{Drafts, shaped_fault, shaped_says, is_in, is_passed_set, set_after, first_set, part_in, IsAmountOf, IsFaultOf}
-use Rattle.ug_mps.proofs.Bytes.{both, or_false, any_true, same_bytes, not_false}
+use Rattle.ug_mps.proofs.Bytes.{both, any_true, same_bytes, not_false}
 use Rattle.ug_mps.proofs.ColumnsLemmas.{columns_kept, columns_and_change, gone_of}
 use Rattle.ug_mps.proofs.HistoryLemmas.{names_of, column_named}
 use Rattle.ug_mps.proofs.PairsLemmas.{missing_is, read_rows, free_and_apart}
-use Rattle.ug_mps.proofs.DraftLemmas.{in_section, section_same}
+use Rattle.ug_mps.proofs.DraftLemmas.{in_section}
 
 -- ---- sets
 

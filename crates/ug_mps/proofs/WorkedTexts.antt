@@ -1,7 +1,7 @@
 -- The definitions on worked texts, by computing them.
-use Rattle.std.proofs.Common.{◌≡◌, ℕ, ◌+◌, inl, inr, List, [], ◌∷◌, ◌++◌, Option, Some, None, refl, lit<}
+use Rattle.std.proofs.Common.{ℕ, inl, inr, List, [], ◌∷◌, ◌++◌, Option, Some, None, refl, lit<}
 use Rattle.std.specs.Prelude.{codes}
-use Rattle.ug_mps.specs.declared.fault.Kind.TheVariants.{NoEnd, Unbounded, Continuous, Unknown}
+use Rattle.ug_mps.specs.declared.fault.Kind.TheVariants.{NoEnd, Unbounded, Unknown}
 use Rattle.ug_mps.specs.Entries.{Entry}
 use Rattle.ug_mps.specs.Says.{history}
 use Rattle.ug_mps.specs.Reads.{lines_before, Reads, FirstFault, fault_at}

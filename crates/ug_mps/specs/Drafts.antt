@@ -7,7 +7,6 @@ use Rattle.ug_lines.specs.Shapes.{Shape, sense, row, marker, column, sides, boun
 use Rattle.ug_problem.specs.Instances.{IsName}
 use Rattle.ug_mps.specs.declared.fault.Kind.TheVariants as kinds
 use Rattle.ug_mps.specs.declared.draft.Draft.{Draft}
-use Rattle.ug_mps.specs.declared.fault.MpsFault.{MpsFault}
 use Rattle.ug_mps.specs.declared.fault.MpsError.{MpsError}
 use Rattle.ug_mps.specs.declared.fault.MpsError.TheVariants.{Memory, Fault}
 use Rattle.ug_mps.specs.declared.bound.Amount.{Amount}

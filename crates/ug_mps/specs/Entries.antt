@@ -1,5 +1,5 @@
 -- What a line says.
-use Rattle.std.specs.Prelude.{ℕ, Bool, true, false, List, Option}
+use Rattle.std.specs.Prelude.{ℕ, Bool, List, Option}
 use Rattle.ug_lines.specs.declared.section.Section.{Section}
 use Rattle.ug_lines.specs.declared.section.Section.TheVariants.{Objsense, Rows, Columns, Rhs, Ranges, Bounds}
 use Rattle.ug_lines.specs.declared.kinds.RowKind.{RowKind}

@@ -16,7 +16,7 @@ use Rattle.ug_mps.specs.declared.fault.Kind.TheVariants as kinds
 use Rattle.ug_mps.specs.declared.bound.Change.{Change}
 use Rattle.ug_mps.specs.Bounds.{amount_of, change_of}
 use Rattle.ug_mps.specs.Entries.{Pair, Entry}
-use Rattle.ug_mps.specs.History.{section_of, is_section, has_section, has_sense, rows_of, is_row, columns_of, is_column, goes_on, place_of, coefficients, has, set_of, sides_given, ranges_given, names_row}
+use Rattle.ug_mps.specs.History.{is_section, has_section, has_sense, rows_of, is_row, is_column, goes_on, place_of, coefficients, has, set_of, sides_given, ranges_given, names_row}
 
 -- a fault: its kind, and the word at fault, if there is one
 pub record Complaint : Type 0 where

@@ -1,12 +1,12 @@
 -- Histories of good lines: each entry may follow those before it, and its words are within the limits of words.
-use Rattle.std.specs.Prelude.{◌≡◌, ℕ, ◌+◌, ◌≤◌, ◌^◌, ◌&&◌, ◌||◌, not, Bool, true, List, [], ◌∷◌, length, All, Option, Some, None, IfSome, nat_lt, nat_le, unsigned_abs}
+use Rattle.std.specs.Prelude.{◌≡◌, ℕ, ◌+◌, ◌≤◌, ◌^◌, ◌&&◌, ◌||◌, not, Bool, true, List, [], ◌∷◌, length, All, IfSome, nat_lt, nat_le, unsigned_abs}
 use Rattle.std.specs.List.{list_all}
 use Rattle.ug_problem.specs.Decimals.{IsDecimal}
 use Rattle.ug_problem.specs.Instances.{IsName}
 use Rattle.ug_mps.specs.declared.bound.Bound.{Bound}
 use Rattle.ug_mps.specs.declared.bound.Bound.TheVariants.{Infinite, Finite}
 use Rattle.ug_mps.specs.declared.bound.Change.{Change}
-use Rattle.ug_mps.specs.Entries.{Pair, Entry, header, sense, row, marker, column, sides, ranges, bound}
+use Rattle.ug_mps.specs.Entries.{Pair, Entry, row, column, sides, ranges, bound}
 use Rattle.ug_mps.specs.History.{rows_of, is_row, goes_on, is_column, place_of, coefficients, has, names_row, sides_given, ranges_given}
 
 -- no two of the pairs name one row

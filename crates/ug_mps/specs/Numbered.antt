@@ -1,5 +1,5 @@
 -- What the code's pairs with numbers are, without where their names lie in memory.
-use Rattle.std.specs.Prelude.{ℕ, ◌≤◌, List, [], ◌∷◌, length, Option, Some, None}
+use Rattle.std.specs.Prelude.{◌≤◌, List, [], ◌∷◌, length, Option, Some, None}
 use Rattle.ug_lines.specs.Shapes.{WordPair}
 use Rattle.ug_mps.specs.declared.pairs.NamedNumber.{NamedNumber}
 use Rattle.ug_mps.specs.declared.pairs.NamedNumbers.{NamedNumbers}

@@ -1,5 +1,5 @@
 -- The problem that the lines state.
-use Rattle.std.specs.Prelude.{ℕ, ℤ, pos, neg_ℤ, ◌==◌, true, ◌+ℤ◌, ◌-ℤ◌, ◌^◌, ◌||◌, ◌&&◌, not, max, nat_lt, unsigned_abs, int_lt, Bool, false, List, [], ◌∷◌, ◌++◌, map, filter, Option, Some, None, unwrap_or, if◌then◌else◌}
+use Rattle.std.specs.Prelude.{ℕ, ℤ, pos, neg_ℤ, ◌==◌, true, ◌+ℤ◌, ◌-ℤ◌, ◌^◌, ◌||◌, ◌&&◌, not, max, nat_lt, unsigned_abs, int_lt, Bool, false, List, [], ◌∷◌, map, filter, Option, Some, None, unwrap_or, if◌then◌else◌}
 use Rattle.std.specs.List.{list_any}
 use Rattle.std.specs.Option.{option_map}
 use Rattle.std.specs.Str.{bytes_eq}
@@ -17,7 +17,7 @@ use Rattle.ug_mps.specs.declared.bound.Bound.{Bound}
 use Rattle.ug_mps.specs.declared.bound.Bound.TheVariants.{Infinite, Finite}
 use Rattle.ug_mps.specs.declared.draft.rows.Factor.{Factor}
 use Rattle.ug_mps.specs.Entries.{Pair, Entry}
-use Rattle.ug_mps.specs.History.{RowNamed, rows_of, is_objective, ColumnBegun, columns_of, Coefficient, coefficients, sides_given, ranges_given, low_set, high_set, or_bound, is_made_integer, is_maximised}
+use Rattle.ug_mps.specs.History.{RowNamed, rows_of, is_objective, ColumnBegun, columns_of, Coefficient, coefficients, sides_given, ranges_given, low_set, high_set, is_made_integer, is_maximised}
 
 -- ---- the numbers of a row
 

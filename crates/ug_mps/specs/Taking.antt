@@ -1,5 +1,5 @@
 -- What the reader does with a line.
-use Rattle.std.specs.Prelude.{◌≡◌, ℕ, ◌==◌, Bool, false, true, List, [], ◌∷◌, length, Option, Some, Result, ⊤}
+use Rattle.std.specs.Prelude.{◌≡◌, ℕ, ◌==◌, Bool, false, true, List, [], ◌∷◌, length, Some, Result, ⊤}
 use Rattle.std.specs.List.{list_all}
 use Rattle.ug_lines.specs.Lines.{Line}
 use Rattle.ug_lines.specs.Words.{is_word_byte}

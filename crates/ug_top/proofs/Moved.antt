@@ -1,14 +1,9 @@
 -- Bytes that went to a sink or came from a source, in two calls.
-use Rattle.std.proofs.Common.{◌≡◌, ℕ, List, [], ◌++◌, Option, Some, None, take, drop, refl, ap, sym, ◌∙◌, append_assoc, append-nil, take-append-drop}
+use Rattle.std.proofs.Common.{◌≡◌, ℕ, List, [], ◌++◌, Option, Some, None, IfSome, take, drop, refl, ap, sym, subst, ◌∙◌, append_assoc, append-nil, take-append-drop}
 use Rattle.std.specs.Option.{option_map}
-use Rattle.std.proofs.Common.{IfSome, subst, inl, arith}
-use Rattle.std.specs.Prelude.{Bool, true, false, not, if◌then◌else◌}
 use Rattle.ug_io.specs.Outside.{Gives, Takes, IsAtEnd}
-use Rattle.ug_top.specs.Enough.{IsEnough, legible_left}
 use Rattle.ug_mps.specs.Laws.{StatesSame}
-use Rattle.ug_mps.specs.declared.ending.Tail.{Tail}
-use Rattle.ug_mps.specs.declared.ending.Tail.TheVariants as tails
-use Rattle.ug_mps.specs.Ending.{begins_legibly, after_if, legible_by, mark, IsLineAt, IsEndedAt, AreEnough}
+use Rattle.ug_top.specs.Enough.{IsEnough}
 
 -- a front of the bytes went there, and these are left
 pub record Went (old new : Option (List ℕ)) (bytes rest : List ℕ) : Type 0 where
@@ -53,4 +48,3 @@ enough_at_end a None xs p q = subst (λ o. IfSome o (λ whole. IsEnough whole xs
 enough_at_end a (Some r) xs p q =
     subst (λ o. IfSome o (λ whole. IsEnough whole xs)) (sym p)
     (subst (λ whole. StatesSame xs whole) (sym (ap (λ t. xs ++ t) q ∙ append-nil xs)) (same_text xs))
-

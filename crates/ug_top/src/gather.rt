@@ -9,7 +9,7 @@ use std::alloc::{AllocError, Global};
 use ug_io::{Failed, Source};
 use ug_mps::{Seen, Tail, see, tail_of};
 
-/// How many bytes are enough to see that a text is too long: one more than it may have before its ENDATA line.
+/// How many bytes show that a text is too long: one more than it may have before its ENDATA line.
 const MOST: usize = 268_435_457;
 
 /// How many bytes are asked for at once.
@@ -38,9 +38,9 @@ impl From<Failed> for GatherError {
     }
 }
 
-/// The bytes that are left, up to those that show what all of them state: the word ENDATA of the line that it begins, or
-/// where a line that is another one passes the limit. Behind the word stands a byte that may not stand there, if the line
-/// has one; the line is read on over for that, and not kept.
+/// The bytes that are left, up to the word ENDATA of the line that it begins, or to where another line passes the limit:
+/// they state what all bytes state. The rest of the ENDATA line is read on over and not kept; where a byte of it may not
+/// stand there, a blank and such a byte stand for it.
 #[tactic(auto, using(crate::proofs::Moved::gives_more))]
 pub fn gather<S: Source>(alloc: Global, input: &mut S) -> Result<Vec<u8>, GatherError>
     ensures enough { IfOk result (λ bytes. IfSome (S.left input.old) (λ whole. IsEnough whole bytes.items)) }

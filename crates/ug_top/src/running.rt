@@ -60,12 +60,7 @@ pub fn run<R, S: Source, K: Sink>(
 }
 
 // Reads the source, solves the problem that its bytes state under the box, and writes the lines of the answer.
-fn obey<S: Source, K: Sink>(
-    alloc: Global,
-    boxed: Option<u32>,
-    input: &mut S,
-    out: &mut K,
-) -> Status
+fn obey<S: Source, K: Sink>(alloc: Global, boxed: Option<u32>, input: &mut S, out: &mut K) -> Status
     requires { IfSome boxed (λ u. u ≤ 10 ^ 9) }
     ensures lines { Wrote boxed (S.left input.old) (S.faults input.old) (S.faults input.new) (K.written out.old) (K.written out.new) result }
     ensures usage { result ≢ Status.Usage }

@@ -1,6 +1,6 @@
 use Rattle.std.proofs.Common.{◌++◌, sym, ap, subst, ◌∙◌}
 use Rattle.ug_mps.specs.Ending.{StopsFirst, begins_legibly}
-use Rattle.ug_mps.proofs.EndingLemmas.{stop_first, stop_legible, found_none, legible_more}
+use Rattle.ug_mps.proofs.LineTails.{stop_first, stop_legible, found_none, legible_more}
 use Rattle.ug_mps.proofs.ending.after_all.Goals as goal
 
 pub after_stop-requires : goal.after_stop-requires

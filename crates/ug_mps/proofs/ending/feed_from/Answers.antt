@@ -2,7 +2,8 @@ use Rattle.std.proofs.Common.{subst, ap, ◌∙◌}
 use Rattle.std.specs.Prelude.{◌==◌}
 use Rattle.std.specs.List.{position}
 use Rattle.ug_mps.specs.Ending.{HasNoFeed}
-use Rattle.ug_mps.proofs.EndingLemmas.{feed_there, found_none}
+use Rattle.ug_mps.proofs.LineTails.{found_none}
+use Rattle.ug_mps.proofs.EndingLemmas.{feed_there}
 use Rattle.ug_mps.proofs.ending.feed_from.Goals as goal
 
 pub returns-in-Some : goal.returns-in-Some

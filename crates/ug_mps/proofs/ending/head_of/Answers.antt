@@ -3,7 +3,7 @@ use Rattle.std.specs.Prelude.{codes}
 use Rattle.std.proofs.lemmas.Bool.{false≢true}
 use Rattle.std.proofs.lemmas.Bool.Decides.{Decides-eqb}
 use Rattle.std.proofs.lemmas.Slice.Eq.{strip_prefix_is, starts_is}
-use Rattle.ug_mps.proofs.EndingLemmas.{head_behind, head_open, head_other}
+use Rattle.ug_mps.proofs.LineHeads.{head_behind, head_open, head_other}
 use Rattle.ug_mps.proofs.ending.head_of.Goals as goal
 
 pub returns-in-Some : goal.returns-in-Some

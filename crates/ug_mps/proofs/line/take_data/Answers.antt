@@ -1,9 +1,8 @@
-use Rattle.std.proofs.Common.{◌≡◌, ◌∙◌, Bor, List, ℕ, map, Option, Some, None, not, false, true, sym, refl, ap, subst}
+use Rattle.std.proofs.Common.{◌≡◌, ◌∙◌, Bor, List, ℕ, map, Some, None, sym, ap}
 use Rattle.std.specs.Option.{option_map}
 use Rattle.ug_lines.specs.Shaped.{shape_shaped}
 use Rattle.ug_mps.specs.Faults.{shape_in}
 use Rattle.ug_mps.specs.Taking.{as_fault}
-use Rattle.ug_mps.proofs.Bytes.{not_true}
 use Rattle.ug_mps.proofs.DraftLemmas.{fault_same}
 use Rattle.ug_mps.proofs.LineLemmas.{type_by_first, data_bad_type, data_long, data_shapeless, data_taken, shape_fine}
 use Rattle.ug_mps.proofs.line.take_data.Goals as goal

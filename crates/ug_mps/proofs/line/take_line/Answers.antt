@@ -1,4 +1,4 @@
-use Rattle.std.proofs.Common.{◌≡◌, ◌∙◌, Bor, List, ℕ, map, None, sym, refl, ap, subst}
+use Rattle.std.proofs.Common.{◌∙◌, Bor, List, ℕ, map, sym, ap, subst}
 use Rattle.ug_mps.specs.declared.fault.Kind.TheVariants as kinds
 use Rattle.ug_mps.specs.Faults.{fault_where}
 use Rattle.ug_mps.specs.Taking.{AreWords}

@@ -1,8 +1,7 @@
-use Rattle.std.proofs.Common.{◌≡◌, ◌-◌, ◌+◌, ◌∷◌, ◌++◌, ℕ, List, None, Some, Result, MatchResult, length, sym, ap, subst, arith, ◌∙◌}
+use Rattle.std.proofs.Common.{◌≡◌, ◌-◌, ◌+◌, ◌++◌, None, length, sym, ap, subst, arith, ◌∙◌}
 use Rattle.std.proofs.lemmas.List.{nil_from_length}
 use Rattle.std.proofs.lemmas.Bool.Decides.{nat_tests}
-use Rattle.ug_lines.specs.Lines.{Line}
-use Rattle.ug_mps.specs.Says.{line_fault, line_says, is_ended}
+use Rattle.ug_mps.specs.Says.{line_fault, line_says}
 use Rattle.ug_mps.specs.Drafts.{Drafts, IsFaultOf}
 use Rattle.ug_mps.proofs.Outcome.{ended_form}
 use Rattle.ug_mps.proofs.ReadLemmas.{next_line, as_line, taken_more, refused_next, ended_next, finish_reads, finish_refuses, endless_is}

@@ -1,4 +1,4 @@
-use Rattle.std.proofs.Common.{◌≡◌, ◌∙◌, sym, refl, ap, subst}
+use Rattle.std.proofs.Common.{◌∙◌, sym, refl}
 use Rattle.ug_lines.specs.declared.section.Section.TheVariants as sections
 use Rattle.ug_lines.specs.Shaped.{word_of}
 use Rattle.ug_mps.proofs.BoundsLemmas.{small_of}

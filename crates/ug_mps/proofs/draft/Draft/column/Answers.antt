@@ -1,4 +1,4 @@
-use Rattle.std.proofs.Common.{◌≡◌, ◌<◌, ◌∙◌, sym, refl, ap, subst, arith}
+use Rattle.std.proofs.Common.{◌∙◌, sym, refl, subst}
 use Rattle.ug_lines.specs.declared.section.Section.TheVariants as sections
 use Rattle.ug_lines.specs.Shaped.{pairs_shaped}
 use Rattle.ug_mps.specs.RowSteps.{AreAt, places_in}

@@ -1,4 +1,4 @@
-use Rattle.std.proofs.Common.{◌≡◌, ◌∙◌, sym, refl, ap, subst}
+use Rattle.std.proofs.Common.{◌∙◌, sym}
 use Rattle.ug_mps.proofs.Finds.{found_some, found_none}
 use Rattle.ug_mps.proofs.SideLines.{column_among, either_set, either_word}
 use Rattle.ug_mps.proofs.draft.Draft.either.Goals as goal

@@ -1,4 +1,4 @@
-use Rattle.std.proofs.Common.{◌≡◌, ◌∙◌, Bor, List, ℕ, map, sym, refl}
+use Rattle.std.proofs.Common.{◌∙◌, Bor, List, ℕ, map, sym}
 use Rattle.ug_mps.proofs.HeaderLines.{header_taken}
 use Rattle.ug_mps.proofs.draft.Draft.header.Goals as goal
 

@@ -1,7 +1,6 @@
-use Rattle.std.proofs.Common.{◌≡◌, ◌∙◌, sym, refl, ap, subst}
-use Rattle.ug_mps.specs.declared.draft.Draft.{Draft}
+use Rattle.std.proofs.Common.{◌∙◌, sym, refl, subst}
 use Rattle.ug_lines.specs.Shaped.{pairs_shaped, word_of}
-use Rattle.ug_mps.specs.RowSteps.{AreAt, places_in, FindsRepeated}
+use Rattle.ug_mps.specs.RowSteps.{AreAt, places_in}
 use Rattle.ug_mps.proofs.DraftLemmas.{fault_same}
 use Rattle.ug_mps.proofs.PairsLemmas.{read_rows}
 use Rattle.ug_mps.proofs.SideLines.{sides_passed, sides_unknown, sides_repeated, sides_no_number, sides_good, drafts_and_sides}

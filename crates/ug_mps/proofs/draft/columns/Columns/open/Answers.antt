@@ -1,4 +1,3 @@
-use Rattle.std.proofs.Common.{refl}
 use Rattle.ug_mps.proofs.ColumnsLemmas.{open_going, open_new}
 use Rattle.ug_mps.proofs.draft.columns.Columns.open.Goals as goal
 

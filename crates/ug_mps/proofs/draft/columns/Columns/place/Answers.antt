@@ -1,4 +1,4 @@
-use Rattle.std.proofs.Common.{◌+◌, length, refl, sym, ◌∙◌}
+use Rattle.std.proofs.Common.{refl, sym, ◌∙◌}
 use Rattle.ug_mps.proofs.ColumnsLemmas.{place_goes_on, place_refused, place_new}
 use Rattle.ug_mps.proofs.draft.columns.Columns.place.Goals as goal
 

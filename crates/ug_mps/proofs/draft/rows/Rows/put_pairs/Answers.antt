@@ -1,4 +1,4 @@
-use Rattle.std.proofs.Common.{◌≡◌, ◌<◌, length, List, ℕ, Result, Ok, Err, OnOk, sym, ap, subst}
+use Rattle.std.proofs.Common.{◌≡◌, ◌<◌, length, sym, ap, subst}
 use Rattle.ug_mps.specs.Numbered.{pair_said, pairs_said}
 use Rattle.ug_mps.specs.RowSteps.{PutsPairs, places_in}
 use Rattle.ug_mps.specs.Rows.{NamedRows}
