@@ -1,5 +1,5 @@
-//! Texts at the limits on rows and columns, and one line beyond them. That on pairs is tried by bench/reading, for the time
-//! that its text takes to make.
+//! Texts at the limits on rows and columns, and one line beyond them. The limit on pairs is tried by bench/reading, since
+//! its text is large.
 
 use crate::texts::{due, run_over};
 use std::alloc::Global;

@@ -1,7 +1,7 @@
 //! Texts that are read, in a short notation, and what `run` answers to them.
 //!
-//! A case is a line `TEXT -> TOLD`; a line without an arrow is a heading. In both parts `/` and `;` are line feeds, `~`
-//! is a word of 256 letters, `^` one of 255, and `#` is the marker that sets integer on. A text may be edits of another:
+//! A case is a line `TEXT -> TOLD`; a line without an arrow is a heading. In both parts `/` and `;` are line feeds, `~` is
+//! a word of 256 letters, `^` one of 255, and `#` is the marker that sets integer on. A text may be edits of another:
 //! `21: UP D A 4/` puts this in the place of line 21, `9:` takes line 9 out, and `&` stands between edits.
 
 use crate::run;
@@ -115,7 +115,7 @@ Costs with fractions.
 ROWS/ N Z/ G P/COLUMNS/#/ X Z 0.5 P 1/ Y Z 1.25 P 1/RHS/ P 3/BOUNDS/ UP X 2/ UP Y 5/ENDATA/ -> optimal 2.25;X 2;Y 1
 OBJSENSE/ MAX/ROWS/ N Z/ G P/COLUMNS/#/ X Z 0.5 P 1/ Y Z 1.25 P 1/RHS/ P 3/BOUNDS/ UP X 2/ UP Y 5/ENDATA/ -> optimal 7.25;X 2;Y 5
 ROWS/ N Z/COLUMNS/#/ X Z -1e-3/BOUNDS/ FX X 7/ENDATA/ -> optimal -0.007;X 7
-ROWS/ N Z/COLUMNS/#/ X Z 1e-60/BOUNDS/ FX X 1e9/ENDATA/ -> optimal 0.000000000000000000000000000000000000000000000000001;X 1000000000
+ROWS/ N Z/COLUMNS/#/ X Z 1e-60/BOUNDS/ FX X 20/ENDATA/ -> optimal 0.00000000000000000000000000000000000000000000000000000000002;X 20
 ROWS/ N Z/COLUMNS/#/ X Z 3e24/BOUNDS/ FX X 0/ENDATA/ -> refused 2 TooWide Z
 ROWS/ N Z/COLUMNS/#/ X Z 1e24/BOUNDS/ FX X 1e9/ENDATA/ -> optimal 1000000000000000000000000000000000;X 1000000000
 
