@@ -10,7 +10,7 @@ use Rattle.ug_branch.specs.declared.params.Pick.TheVariants.{Place, Width}
 use Rattle.ug_branch.specs.declared.params.End.{End}
 use Rattle.ug_branch.specs.declared.params.End.TheVariants.{Lowest, Highest}
 use Rattle.ug_branch.specs.declared.choice.Branch.{Branch}
-use Rattle.ug_branch.specs.Choices.{width_at, IsOpen, IsFixed, IsNearer, IsAheadBy, IsAhead, IsMiddle, IsChosen, IsBest, IsBestOf}
+use Rattle.ug_branch.specs.Choices.{width_at, IsOpen, HasNoneOpen, IsNearer, IsAheadBy, IsAhead, IsMiddle, IsChosen, IsBest, IsBestOf}
 
 nearer_same : (end : End) (c : ℕ) → IsNearer end c c
 nearer_same Lowest c = omega arith
@@ -108,5 +108,5 @@ is_chosen params area c branch h e m = record {
 }
 
 -- a box with an open column is not fixed
-pub is_not_fixed : (area : List Interval) (c : ℕ) → IsOpen area c → IsFixed area → ⊥
+pub is_not_fixed : (area : List Interval) (c : ℕ) → IsOpen area c → HasNoneOpen area → ⊥
 is_not_fixed area c o f = not_open _ _ (f c o.there) o.open_

@@ -5,6 +5,7 @@ use Rattle.std.proofs.lemmas.Bool.{cases_eq}
 use Rattle.std.proofs.lemmas.List.{get_or-set_same, get_or-set_other, length-set}
 use Rattle.ug_rows.specs.declared.area.Interval.{Interval}
 use Rattle.ug_rows.specs.Boxes.{IsInside, IsWithin, IsNarrower, IsBelow, interval_at, value_at, no_interval}
+use Rattle.ug_rows.proofs.AreaLemmas.{inside_below, narrower_same}
 use Rattle.ug_branch.specs.declared.params.Params.{Params}
 use Rattle.ug_branch.specs.declared.choice.Branch.{Branch}
 use Rattle.ug_branch.proofs.ChoiceLemmas.{is_chosen}
@@ -30,25 +31,11 @@ inside_side area c side x h w = record {
   each = λ j k. each_side area c side (λ n s. IsWithin s (value_at x n)) w h.each j (subst (λ n. j < n) (length-set area c side) k);
 }
 
-within_wider : (inner outer : Interval) (v : ℤ) → IsNarrower inner outer → IsWithin inner v → IsWithin outer v
-within_wider inner outer v n w = record { low = omega (arith, ints, n.low, w.low); high = omega (arith, ints, n.high, w.high) }
-
--- a point of a box below another is in the other
-inside_below : (inner outer : List Interval) (x : List ℤ) → IsBelow inner outer → IsInside inner x → IsInside outer x
-inside_below inner outer x b h = record {
-  width = h.width ∙ b.width;
-  each = λ j k. within_wider (interval_at inner j) (interval_at outer j) (value_at x j) (b.each j k)
-      (h.each j (subst (λ n. j < n) (sym b.width) k));
-}
-
-narrower_same : (side : Interval) → IsNarrower side side
-narrower_same side = record { low = omega (arith, ints); high = omega (arith, ints); open_ = λ ne. absurd (ne refl) }
-
 -- the box with a narrower side is below
 below_side : (area : List Interval) (c : ℕ) (side : Interval) → IsNarrower side (interval_at area c) → IsBelow (set area c side) area
 below_side area c side n = record {
   width = length-set area c side;
-  each = λ j k. each_side area c side (λ m s. IsNarrower s (interval_at area m)) n (λ m _. narrower_same (interval_at area m)) j k;
+  each = λ j k. each_side area c side (λ m s. IsNarrower s (interval_at area m)) n (λ m _. narrower_same (interval_at area m) (interval_at area m) refl) j k;
 }
 
 -- the column's value is within the side that was set

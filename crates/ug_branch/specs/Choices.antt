@@ -23,8 +23,8 @@ pub record IsOpen (area : List Interval) (c : ℕ) : Type 0 where
   pub open_ : (interval_at area c).low <ℤ (interval_at area c).high
 
 -- no column of the box is open
-abbrev pub IsFixed : List Interval → Type 0
-IsFixed area = (j : ℕ) → j < length area → (interval_at area j).high ≤ℤ (interval_at area j).low
+abbrev pub HasNoneOpen : List Interval → Type 0
+HasNoneOpen area = (j : ℕ) → j < length area → (interval_at area j).high ≤ℤ (interval_at area j).low
 
 -- column c is nearer to the end that wins than column k, or is k
 abbrev pub IsNearer : End → ℕ → ℕ → Type 0

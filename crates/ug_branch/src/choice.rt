@@ -1,6 +1,6 @@
 ghost use Rattle.std.specs.Prelude.{◌≡◌, ◌↔◌, ℕ, ℤ, pos, ◌+ℤ◌, ◌*ℤ◌, ◌+◌, ◌^◌, ◌<◌, ◌≤◌, ◌≤ℤ◌, ◌<ℤ◌, length, IfSome, IsNone, IsTrue, MatchBool};
 ghost use Rattle.ug_rows.specs.Boxes.{interval_at};
-ghost use Rattle.ug_branch.specs.Choices.{width_of, IsOpen, IsFixed, IsAhead, IsMiddle, IsBest, IsChosen, AreHalves};
+ghost use Rattle.ug_branch.specs.Choices.{width_of, IsOpen, HasNoneOpen, IsAhead, IsMiddle, IsBest, IsChosen, AreHalves};
 
 use crate::params::{End, Params, Pick};
 use ug_rows::{IntBox, Interval};
@@ -15,7 +15,7 @@ pub struct Branch {
 /// Where to halve the box, or none if each of its columns has its high at most its low.
 pub fn choose(params: Params, area: &IntBox) -> Option<Branch>
     requires { length area.now ≤ 10 ^ 4 }
-    ensures none { IsNone result ↔ IsFixed area.now }
+    ensures none { IsNone result ↔ HasNoneOpen area.now }
     ensures chosen { IfSome result (IsChosen params area.now) }
     // Each point of the box is in one of the two halves, and in one alone.
     ensures halves { IfSome result (AreHalves area.now) }
@@ -27,7 +27,7 @@ pub fn choose(params: Params, area: &IntBox) -> Option<Branch>
 #[tactic(auto, using(crate::proofs::ChoiceLemmas::is_chosen, crate::proofs::ChoiceLemmas::is_not_fixed))]
 fn branch_of(params: Params, sides: &[Interval]) -> Option<Branch>
     requires { length sides.now ≤ 10 ^ 4 }
-    ensures none { IsNone result ↔ IsFixed sides.now }
+    ensures none { IsNone result ↔ HasNoneOpen sides.now }
     ensures chosen { IfSome result (IsChosen params sides.now) }
     ensures halves { IfSome result (AreHalves sides.now) }
 {

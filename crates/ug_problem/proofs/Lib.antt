@@ -1,10 +1,13 @@
 pub mod Bounds
+pub mod Cutoffs
+pub mod Floors
 pub mod Fractions
 pub mod Linear
 pub mod Numerals
 pub mod OneText
 pub mod Powers
 pub mod Printing
+pub mod SameLists
 pub mod Significant
 pub mod Values
 pub mod Words

@@ -15,14 +15,14 @@ use Rattle.ug_problem.specs.Limits.{IsProblem}
 use Rattle.ug_problem.proofs.Linear.{linear_objective}
 
 -- a value between two numbers of at most 10^9 is at most that
-between : (low high v : ℤ) → unsigned_abs low ≤ 10 ^ 9 → unsigned_abs high ≤ 10 ^ 9 → low ≤ℤ v → v ≤ℤ high → unsigned_abs v ≤ 10 ^ 9
+pub between : (low high v : ℤ) → unsigned_abs low ≤ 10 ^ 9 → unsigned_abs high ≤ 10 ^ 9 → low ≤ℤ v → v ≤ℤ high → unsigned_abs v ≤ 10 ^ 9
 between low (pos high) (pos v) a b c d = omega (arith, ints, b, d)
 between low (negsuc high) (pos v) a b c d = absurd (omega (arith, ints, d))
 between (pos low) high (negsuc v) a b c d = absurd (omega (arith, ints, c))
 between (negsuc low) high (negsuc v) a b c d = omega (arith, ints, a, c)
 
 -- a sum and one product more
-sum_step : (f v s : ℤ) (n : ℕ) → unsigned_abs f ≤ 10 ^ 24 → unsigned_abs v ≤ 10 ^ 9 → unsigned_abs s ≤ n * (10 ^ 24 * 10 ^ 9)
+pub sum_step : (f v s : ℤ) (n : ℕ) → unsigned_abs f ≤ 10 ^ 24 → unsigned_abs v ≤ 10 ^ 9 → unsigned_abs s ≤ n * (10 ^ 24 * 10 ^ 9)
     → unsigned_abs ((f *ℤ v) +ℤ s) ≤ suc n * (10 ^ 24 * 10 ^ 9)
 sum_step f v s n a b h = omega (arith, abs_add (f *ℤ v) s, unsigned_abs-mul f v, mul-le-mul a b, h)
 
@@ -36,7 +36,7 @@ sum_small (t ∷ ts) x f v =
     (sum_small ts x (λ k lt. f (suc k) (omega arith)) (λ k lt. v (suc k) (omega arith)))
 
 -- a column that stands for one that is not there
-no_column : Column
+pub no_column : Column
 no_column = record { name = []; low = pos 0; high = pos 0 }
 
 -- each value of a point within all bounds is at most 10^9
@@ -50,7 +50,7 @@ value_small p x j problem inside there =
     between _ _ _ column.low column.high within.low within.high
 
 -- a value of at most 10^37 and a constant
-value_sum : (s k : ℤ) (n : ℕ) → n ≤ 10 ^ 4 → unsigned_abs s ≤ n * (10 ^ 24 * 10 ^ 9) → unsigned_abs k ≤ 10 ^ 37 → unsigned_abs (s +ℤ k) ≤ 2 * 10 ^ 37
+pub value_sum : (s k : ℤ) (n : ℕ) → n ≤ 10 ^ 4 → unsigned_abs s ≤ n * (10 ^ 24 * 10 ^ 9) → unsigned_abs k ≤ 10 ^ 37 → unsigned_abs (s +ℤ k) ≤ 2 * 10 ^ 37
 value_sum s k n few h c = omega (arith, abs_add s k, few, h, c)
 
 -- the value of a point within all bounds is at most 2 * 10^37

@@ -1,7 +1,7 @@
--- Which points are feasible, and which are better than another.
-use Rattle.std.specs.Prelude.{◌≡◌, ◌≢◌, ℕ, ℤ, ◌<◌, ◌<ℤ◌, List, length, Option, IfSome}
+-- Which points are feasible, and the first way in which one is not.
+use Rattle.std.specs.Prelude.{◌≡◌, ◌≢◌, ℕ, ℤ, ◌<◌, List, length}
 use Rattle.ug_rows.specs.Boxes.{IsInside, IsWithin, interval_at, value_at}
-use Rattle.ug_rows.specs.Rows.{Keeps, value_of}
+use Rattle.ug_rows.specs.Rows.{Keeps}
 use Rattle.ug_problem.specs.Instances.{Instance, root_of, row_at}
 use Rattle.ug_problem.specs.declared.answer.Broken.{Broken}
 use Rattle.ug_problem.specs.declared.answer.Broken.TheVariants.{Length, Column, Row}
@@ -14,11 +14,6 @@ KeepsBelow p n x = (r : ℕ) → r < n → Keeps (row_at p r) x
 pub record Feasible (p : Instance) (x : List ℤ) : Type 0 where
   pub inside : IsInside (root_of p) x
   pub rows : KeepsBelow p (length p.rows) x
-
--- x is feasible, and there is no incumbent or x has a lesser value
-pub record Better (p : Instance) (best : Option (List ℤ)) (x : List ℤ) : Type 0 where
-  pub feasible : Feasible p x
-  pub less : IfSome best (λ y. value_of p.objective x <ℤ value_of p.objective y)
 
 -- the length is wrong, and is this
 pub record IsWrongLength (p : Instance) (x : List ℤ) (got : ℕ) : Type 0 where

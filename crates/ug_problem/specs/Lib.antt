@@ -4,5 +4,7 @@ pub mod Fractions
 pub mod Instances
 pub mod Feasible
 pub mod Limits
+pub mod Better
 pub mod Printed
 pub mod Right
+pub mod Shared

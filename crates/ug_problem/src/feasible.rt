@@ -1,17 +1,11 @@
 ghost use Rattle.std.specs.Prelude.{◌≡◌, ◌≤◌, ◌^◌, ◌↔◌, length, IsTrue, IsNone, IfSome, unsigned_abs};
-ghost use Rattle.ug_rows.specs.Boxes.{IsInside, IsWithin};
+ghost use Rattle.ug_rows.specs.Boxes.{IsInside};
 ghost use Rattle.ug_problem.specs.Instances.{root_of};
 ghost use Rattle.ug_problem.specs.Feasible.{Feasible, IsFirstBroken, IsFirstColumn, IsFirstRow, KeepsBelow};
 
 use crate::answer::Broken;
 use crate::problem::Problem;
-use ug_rows::{Interval, Point, holds};
-
-fn is_within(side: Interval, value: i32) -> bool
-    ensures { IsTrue result ↔ IsWithin side value }
-{
-    side.low <= value && value <= side.high
-}
+use ug_rows::{Point, holds, is_within};
 
 // The first column whose value is outside its bounds.
 fn first_column(problem: &Problem, point: &Point) -> Option<u32>

@@ -10,9 +10,12 @@ mod column;
 mod decimal;
 mod error;
 mod feasible;
+mod laws;
 mod limits;
 mod print;
 mod problem;
+mod same;
+mod shared;
 #[cfg(test)]
 mod tests;
 
@@ -22,5 +25,7 @@ pub use decimal::{
     Decimal, ceiling_is_least, floor_is_greatest, reads_these_words, scales_from_its_places,
 };
 pub use error::ProblemError;
+pub use laws::better_is_below_the_cutoff;
 pub use print::prints_one_text;
 pub use problem::Problem;
+pub use shared::Shared;

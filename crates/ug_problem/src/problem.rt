@@ -1,6 +1,9 @@
-ghost use Rattle.std.specs.Prelude.{◌≡◌, ◌*◌, ◌^◌, ◌≤◌, ◌↔◌, length, map, IsNone, IfSome, IfOk, OnOk, IfErr, unsigned_abs};
-ghost use Rattle.ug_rows.specs.Boxes.{IsInside};
+ghost use Rattle.std.specs.Prelude.{◌≡◌, List, ℤ, pos, ◌*◌, ◌^◌, ◌≤◌, ◌-ℤ◌, ◌≤ℤ◌, ◌↔◌, length, map, IsNone, IsTrue, IfSome, IfOk, OnOk, IfErr, unsigned_abs};
+ghost use Rattle.std.specs.Int.{int_max};
+ghost use Rattle.ug_rows.specs.Boxes.{IsBelow, IsInside};
 ghost use Rattle.ug_rows.specs.Rows.{value_of};
+ghost use Rattle.ug_rows.specs.Sums.{box_floor};
+ghost use Rattle.ug_problem.specs.Better.{IsGap, cutoff_of};
 ghost use Rattle.ug_problem.specs.Feasible.{Feasible, IsFirstBroken};
 ghost use Rattle.ug_problem.specs.Instances.{IsFormed, bounds_of, instance_of, root_of};
 ghost use Rattle.ug_problem.specs.Limits.{IsProblem, IsRefused};
@@ -12,10 +15,11 @@ use crate::error::ProblemError;
 use crate::feasible::find_broken;
 use crate::limits::check_limits;
 use crate::print::{shown, spell};
+use crate::same::{same_columns, same_objective, same_rows};
 use std::alloc::{AllocError, Global};
 use std::marker::Model;
 use ug_lists::Text;
-use ug_rows::{IntBox, Interval, Objective, Point, value};
+use ug_rows::{IntBox, Interval, Objective, Point, floor, value};
 
 /// A bounded integer program: columns, rows and an objective, all within the limits.
 #[derive(Debug, Drop)]
@@ -50,6 +54,39 @@ fn bounds(alloc: Global, columns: &[Column]) -> Result<Vec<Interval>, AllocError
             high: column.high,
         })
         .collect(alloc)
+}
+
+fn copied_columns(columns: &Columns) -> Result<Columns, AllocError>
+    ensures { IfOk result (λ copy. copy ≡ columns.now) }
+{
+    columns.clone()
+}
+
+fn copied_rows(rows: &NamedRows) -> Result<NamedRows, AllocError>
+    ensures { IfOk result (λ copy. copy ≡ rows.now) }
+{
+    rows.clone()
+}
+
+fn copied_objective(objective: &Objective) -> Result<Objective, AllocError>
+    ensures { IfOk result (λ copy. copy ≡ objective.now) }
+{
+    objective.clone()
+}
+
+// A value less a gap.
+fn less_gap(value: i128, gap: i128) -> i128
+    requires value { unsigned_abs value ≤ 10 ^ 38 }
+    requires gap { IsGap gap }
+    ensures { result ≡ value -ℤ gap }
+{
+    value - gap
+}
+
+fn greater(a: i128, b: i128) -> i128
+    ensures { result ≡ int_max a b }
+{
+    if b < a { a } else { b }
 }
 
 impl Problem {
@@ -107,6 +144,27 @@ impl Problem {
         &self.root
     }
 
+    /// A copy of the problem.
+    pub fn copy(&self) -> Result<Problem, AllocError>
+        ensures { IfOk result (λ p. p ≡ self.now) }
+    {
+        Ok(Problem {
+            columns: copied_columns(&self.columns)?,
+            rows: copied_rows(&self.rows)?,
+            objective: copied_objective(&self.objective)?,
+            root: self.root.clone()?,
+        })
+    }
+
+    /// Whether two problems are the same: columns, rows, objective and all names. It takes no memory.
+    pub fn is(&self, other: &Problem) -> bool
+        ensures { IsTrue result ↔ (self.now ≡ other.now) }
+    {
+        same_objective(&self.objective, &other.objective)
+            && same_columns(self.columns.as_slice(), other.columns.as_slice())
+            && same_rows(self.rows.as_slice(), other.rows.as_slice())
+    }
+
     /// The first way in which a point is not feasible. It takes no memory.
     pub fn first_broken(&self, point: &Point) -> Option<Broken>
         ensures feasible { IsNone result ↔ Feasible self.now point.now }
@@ -124,6 +182,34 @@ impl Problem {
         ensures within { IsInside (root_of self.now) point.now → unsigned_abs result ≤ 2 * 10 ^ 37 }
     {
         value(self.objective(), point)
+    }
+
+    /// The least value that the objective could have in a box, rows not looked at. It takes no memory.
+    #[tactic(auto, using(crate::proofs::Floors::objective_is_linear, crate::proofs::Floors::floor_within))]
+    pub fn floor(&self, area: &IntBox) -> i128
+        requires { length area.now ≡ length self.now.columns }
+        ensures value { result ≡ box_floor self.now.objective area.now }
+        ensures bound { (x : List ℤ) → IsInside area.now x → result ≤ℤ value_of self.now.objective x }
+        ensures small { unsigned_abs result ≤ 10 ^ 38 }
+        ensures within { IsBelow area.now (root_of self.now) → unsigned_abs result ≤ 2 * 10 ^ 37 }
+    {
+        floor(self.objective(), area)
+    }
+
+    /// The cutoff of a point under a gap: below it lie the values that are less by more than the gap, of points within
+    /// all bounds. It takes no memory.
+    #[tactic(auto, using(crate::proofs::Cutoffs::cutoff_small, crate::proofs::Cutoffs::cutoff_without_gap))]
+    pub fn cutoff(&self, gap: i128, point: &Point) -> i128
+        requires width { length point.now ≡ length self.now.columns }
+        requires gap { IsGap gap }
+        ensures value { result ≡ cutoff_of self.now gap point.now }
+        ensures no_gap { gap ≡ pos 0 → IsInside (root_of self.now) point.now
+            → result ≡ value_of self.now.objective point.now }
+        ensures within { IsInside (root_of self.now) point.now → unsigned_abs result ≤ 2 * 10 ^ 37 }
+    {
+        let value = self.value(point);
+        let floor = self.floor(self.root());
+        greater(less_gap(value, gap), floor)
     }
 
     /// The text of a value, as the user reads it: such as 2.25 for 225 hundredths.

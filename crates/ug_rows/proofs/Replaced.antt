@@ -7,7 +7,7 @@ use Rattle.ug_rows.specs.declared.area.Interval.{Interval}
 use Rattle.ug_rows.specs.declared.row.Term.{Term}
 use Rattle.ug_rows.specs.declared.sums.Extreme.{Extreme}
 use Rattle.ug_rows.specs.declared.sums.Extreme.TheVariants.{Least, Greatest}
-use Rattle.ug_rows.specs.Boxes.{IsSmall, interval_at, no_interval}
+use Rattle.ug_rows.specs.Boxes.{HasSmallEnds, interval_at, no_interval}
 use Rattle.ug_rows.specs.Rows.{IsAmong, IsLinear, term_at}
 use Rattle.ug_rows.specs.Sums.{end_of, end_product, end_sum}
 use Rattle.ug_rows.proofs.EndBounds.{IsFree, AreApart, apart_from_index}
@@ -82,14 +82,14 @@ pub product_new : (e : Extreme) (t : Term) (area : List Interval) (side : Interv
 product_new e t area side there =
     ap (λ (s : Interval). t.factor *ℤ end_of e t.factor s) (get_or-set_same area t.column side no_interval there)
 
-end_small : (e : Extreme) (f : ℤ) (side : Interval) → IsSmall side → unsigned_abs (end_of e f side) ≤ 2 ^ 31
+end_small : (e : Extreme) (f : ℤ) (side : Interval) → HasSmallEnds side → unsigned_abs (end_of e f side) ≤ 2 ^ 31
 end_small Least (pos n) side h = h.low
 end_small Least (negsuc n) side h = h.high
 end_small Greatest (pos n) side h = h.high
 end_small Greatest (negsuc n) side h = h.low
 
 sum_at_most : (e : Extreme) (ts : List Term) (area : List Interval)
-    → ((k : ℕ) → k < length ts → IsSmall (interval_at area (term_at ts k).column))
+    → ((k : ℕ) → k < length ts → HasSmallEnds (interval_at area (term_at ts k).column))
     → ((k : ℕ) → k < length ts → unsigned_abs (term_at ts k).factor ≤ 10 ^ 24)
     → unsigned_abs (end_sum e ts area) ≤ length ts * (10 ^ 24 * 2 ^ 31)
 sum_at_most e [] area small factors = omega arith
@@ -103,7 +103,7 @@ sum_at_most e (t ∷ ts) area small factors =
 
 -- where the columns of the terms have i32 numbers, the sums are at most 3 * 10^37
 pub sum_small : (e : Extreme) (width : ℕ) (ts : List Term) (area : List Interval) → IsLinear width ts
-    → ((k : ℕ) → k < length ts → IsSmall (interval_at area (term_at ts k).column))
+    → ((k : ℕ) → k < length ts → HasSmallEnds (interval_at area (term_at ts k).column))
     → unsigned_abs (end_sum e ts area) ≤ 3 * 10 ^ 37
 sum_small e width ts area linear small =
     omega (arith, sum_at_most e ts area small linear.small, few_terms width ts linear)

@@ -1,5 +1,5 @@
 -- Points and boxes. A point is the list of its values, a box the list of its intervals, one per column.
-use Rattle.std.specs.Prelude.{◌≡◌, ◌≢◌, ℕ, ℤ, pos, ◌<◌, ◌≤◌, ◌^◌, ◌≤ℤ◌, List, length, slice_index_or, unsigned_abs}
+use Rattle.std.specs.Prelude.{◌≡◌, ◌≢◌, ℕ, ℤ, pos, ◌<◌, ◌≤◌, ◌^◌, ◌≤ℤ◌, ◌<ℤ◌, ◌⊎◌, List, [], ◌∷◌, length, slice_index_or, unsigned_abs}
 use Rattle.ug_rows.specs.declared.area.Interval.{Interval}
 
 -- the value of column j
@@ -28,8 +28,25 @@ pub record IsInside (area : List Interval) (x : List ℤ) : Type 0 where
 abbrev pub IsNonEmpty : List Interval → Type 0
 IsNonEmpty area = (j : ℕ) → j < length area → (interval_at area j).low ≤ℤ (interval_at area j).high
 
+-- some column has its low above its high, so the box has no point
+abbrev pub IsCrossed : List Interval → Type 0
+IsCrossed area = (j : ℕ) × (j < length area) × ((interval_at area j).high <ℤ (interval_at area j).low)
+
+-- each column has one value
+abbrev pub IsFixed : List Interval → Type 0
+IsFixed area = (j : ℕ) → j < length area → (interval_at area j).low ≡ (interval_at area j).high
+
+-- x lies in one of the boxes
+abbrev pub IsInOne : List (List Interval) → List ℤ → Type 0
+IsInOne [] x = ⊥
+IsInOne (area ∷ boxes) x = IsInside area x ⊎ IsInOne boxes x
+
+-- box k
+abbrev pub box_at : List (List Interval) → ℕ → List Interval
+box_at boxes k = slice_index_or boxes k []
+
 -- both ends are at most 2^31 in absolute value, as i32 numbers are
-pub record IsSmall (side : Interval) : Type 0 where
+pub record HasSmallEnds (side : Interval) : Type 0 where
   pub low : unsigned_abs side.low ≤ 2 ^ 31
   pub high : unsigned_abs side.high ≤ 2 ^ 31
 

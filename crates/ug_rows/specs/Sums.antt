@@ -2,6 +2,7 @@
 use Rattle.std.specs.Prelude.{ℤ, pos, negsuc, ◌+ℤ◌, ◌*ℤ◌, ◌≤ℤ◌, List, [], ◌∷◌}
 use Rattle.ug_rows.specs.declared.area.Interval.{Interval}
 use Rattle.ug_rows.specs.declared.row.Term.{Term}
+use Rattle.ug_rows.specs.declared.row.Objective.{Objective}
 use Rattle.ug_rows.specs.declared.sums.Extreme.{Extreme}
 use Rattle.ug_rows.specs.declared.sums.Extreme.TheVariants.{Least, Greatest}
 use Rattle.ug_rows.specs.Boxes.{interval_at}
@@ -29,6 +30,10 @@ least_sum terms area = end_sum Least terms area
 -- the greatest sum of the terms over the box
 abbrev pub greatest_sum : List Term → List Interval → ℤ
 greatest_sum terms area = end_sum Greatest terms area
+
+-- the floor of the box: the least value of the objective over it, rows not looked at
+abbrev pub box_floor : Objective → List Interval → ℤ
+box_floor objective area = least_sum objective.terms area +ℤ objective.constant
 
 -- the sum is at most the value, for the least, or at least the value, for the greatest
 abbrev pub IsBound : Extreme → ℤ → ℤ → Type 0

@@ -1,5 +1,5 @@
-ghost use Rattle.std.specs.Prelude.{◌≡◌, ◌↔◌, IsTrue};
-ghost use Rattle.ug_rows.specs.Boxes.{IsBelow, IsNarrower, IsClosedWithin};
+ghost use Rattle.std.specs.Prelude.{◌≡◌, ◌↔◌, IsTrue, MatchBool};
+ghost use Rattle.ug_rows.specs.Boxes.{IsBelow, IsClosedWithin, IsCrossed, IsFixed, IsNarrower, IsNonEmpty};
 
 use std::marker::Model;
 
@@ -11,7 +11,7 @@ pub struct Interval {
 }
 
 /// A box: one interval per column, in the order of the columns.
-#[derive(Debug, Drop)]
+#[derive(Clone, Debug, Drop)]
 pub struct IntBox {
     sides: Vec<Interval>,
 }
@@ -72,12 +72,36 @@ fn all_narrower(inner: &[Interval], outer: &[Interval]) -> bool
 fn is_narrower(inner: Interval, outer: Interval) -> bool
     ensures { IsTrue result ↔ IsNarrower inner outer }
 {
-    inner == outer || is_within(inner, outer)
+    inner == outer || is_closed_within(inner, outer)
 }
 
-// Whether an interval is within another, and has its low at most its high.
-fn is_within(inner: Interval, outer: Interval) -> bool
+/// Whether an interval is within another, and has its low at most its high.
+pub fn is_closed_within(inner: Interval, outer: Interval) -> bool
     ensures { IsTrue result ↔ IsClosedWithin inner outer }
 {
     outer.low <= inner.low && inner.high <= outer.high && inner.low <= inner.high
+}
+
+/// Whether a box has a point: no column has its low above its high.
+pub fn has_point(sides: &[Interval]) -> bool
+    ensures { MatchBool result (IsNonEmpty sides.now) (IsCrossed sides.now) }
+{
+    for j in 0..sides.len() {
+        if sides[j].high < sides[j].low {
+            return false;
+        }
+    }
+    true
+}
+
+/// Whether each column of a box has one value.
+pub fn is_fixed(sides: &[Interval]) -> bool
+    ensures { IsTrue result ↔ IsFixed sides.now }
+{
+    for j in 0..sides.len() {
+        if sides[j].low != sides[j].high {
+            return false;
+        }
+    }
+    true
 }

@@ -11,7 +11,7 @@ mod point;
 mod row;
 mod sums;
 
-pub use area::{IntBox, Interval, below};
-pub use point::{Point, inside};
+pub use area::{IntBox, Interval, below, has_point, is_closed_within, is_fixed};
+pub use point::{Point, inside, is_within};
 pub use row::{Objective, Row, Term, Terms, holds, value};
 pub use sums::{Extreme, add_end, add_product, end_at, floor, greatest, least, sum, sum_of_ends};

@@ -5,7 +5,7 @@ use crate::area::{IntBox, Interval};
 use std::marker::Model;
 
 /// A point: one value per column, in the order of the columns.
-#[derive(Debug, Drop)]
+#[derive(Clone, Debug, Drop)]
 pub struct Point {
     values: Vec<i32>,
 }
@@ -54,7 +54,8 @@ fn all_within(sides: &[Interval], values: &[i32]) -> bool
     true
 }
 
-fn is_within(side: Interval, value: i32) -> bool
+/// Whether a value is within an interval.
+pub fn is_within(side: Interval, value: i32) -> bool
     ensures { IsTrue result ↔ IsWithin side value }
 {
     side.low <= value && value <= side.high

@@ -17,7 +17,7 @@ pub struct Term {
 pub type Terms = Items<Term>;
 
 /// A linear sum with the sides that it has to keep to. A side that is `None` is no bound.
-#[derive(Debug, Drop)]
+#[derive(Clone, Debug, Drop)]
 pub struct Row {
     pub terms: Terms,
     pub low: Option<i128>,
@@ -25,7 +25,7 @@ pub struct Row {
 }
 
 /// What is minimised: a linear sum and a constant, both multiplied by 10 to the power of `scale`.
-#[derive(Debug, Drop)]
+#[derive(Clone, Debug, Drop)]
 pub struct Objective {
     pub terms: Terms,
     pub constant: i128,

@@ -1,7 +1,7 @@
 ghost use Rattle.std.specs.Prelude.{◌≡◌, ℤ, List, ◌≤◌, ◌+◌, ◌*◌, ◌^◌, ◌+ℤ◌, ◌*ℤ◌, ◌≤ℤ◌, length, unsigned_abs};
 ghost use Rattle.ug_rows.specs.Boxes.{IsInside, IsNonEmpty};
 ghost use Rattle.ug_rows.specs.Rows.{IsLinear, sum_at, value_of};
-ghost use Rattle.ug_rows.specs.Sums.{IsBound, end_of, end_sum, least_sum, greatest_sum};
+ghost use Rattle.ug_rows.specs.Sums.{IsBound, box_floor, end_of, end_sum, least_sum, greatest_sum};
 
 use crate::area::{IntBox, Interval};
 use crate::row::{Objective, Row, Term};
@@ -41,7 +41,7 @@ pub fn floor(objective: &Objective, area: &IntBox) -> i128
     requires constant { unsigned_abs objective.now.constant ≤ 10 ^ 37 }
     ensures bound { (x : List ℤ) → IsInside area.now x → result ≤ℤ value_of objective.now x }
     ensures reached { IsNonEmpty area.now → (x : List ℤ) × IsInside area.now x × (value_of objective.now x ≡ result) }
-    ensures sum { result ≡ least_sum objective.now.terms area.now +ℤ objective.now.constant }
+    ensures sum { result ≡ box_floor objective.now area.now }
     ensures small { unsigned_abs result ≤ 10 ^ 38 }
 {
     let least = sum_of_ends(Extreme::Least, objective.terms.as_slice(), area.as_slice());
