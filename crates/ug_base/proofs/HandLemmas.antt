@@ -1,15 +1,22 @@
 -- Handing keeps what every task is.
-use Rattle.std.proofs.Common.{inl, inr, List, [], ◌∷◌, sym, subst}
+use Rattle.std.proofs.Common.{◌≡◌, inl, inr, List, [], ◌∷◌, ◌++◌, sym, ap, ◌∙◌, subst}
 use Rattle.std.proofs.lemmas.List.Elements.{All-append, All-cons, All-head, All-nil, All-tail}
 use Rattle.ug_rows.specs.declared.area.Interval.{Interval}
-use Rattle.ug_rows.specs.Boxes.{IsBelow}
-use Rattle.ug_base.specs.Covers.{AreCovered, IsInOne}
+use Rattle.ug_rows.specs.Boxes.{IsBelow, IsInOne}
+use Rattle.ug_base.specs.declared.left.BoxLeft.{BoxLeft}
+use Rattle.ug_base.specs.Covers.{AreCovered}
 use Rattle.ug_base.specs.Hands.{IsMoved}
+use Rattle.ug_base.specs.Lefts.{areas_of}
 use Rattle.ug_base.specs.Tasks.{AreBelow, IsTask, TaskState}
 use Rattle.ug_base.proofs.LastBox.{in_one_behind, in_one_front}
 
+-- the first of the boxes left is the last of the boxes handed
+record IsMovedOver (boxes_old boxes_new handed_old handed_new : List (List Interval)) (area : List Interval) : Type 0 where
+  first : boxes_old ≡ area ∷ boxes_new
+  last : handed_new ≡ handed_old ++ area ∷ []
+
 -- a point of the first box left is in a box handed after it
-pub handed_covered : (t : TaskState) (boxes handed : List (List Interval)) (area : List Interval) → IsTask t → IsMoved t.boxes boxes t.handed handed area
+handed_covered : (t : TaskState) (boxes handed : List (List Interval)) (area : List Interval) → IsTask t → IsMovedOver t.boxes boxes t.handed handed area
     → AreCovered t.problem t.cutoff t.whole boxes handed
 handed_covered t boxes handed area task m x inside good = elim (task.covered x inside good) [
   | inl a ↦ elim (subst (λ bs. IsInOne bs x) m.first a) [
@@ -20,17 +27,24 @@ handed_covered t boxes handed area task m x inside good = elim (task.covered x i
 ]
 
 -- with the first box left moved to the boxes handed
-pub handed_task : (t : TaskState) (boxes handed : List (List Interval)) (area : List Interval) → IsTask t → IsMoved t.boxes boxes t.handed handed area
+handed_task_by : (t : TaskState) (boxes handed : List (List Interval)) (area : List Interval) → IsTask t → IsMovedOver t.boxes boxes t.handed handed area
     → IsTask (record t { boxes = boxes; handed = handed })
-handed_task t boxes handed area task m =
+handed_task_by t boxes handed area task m =
     let P : List Interval → Type 0 = λ (b : List Interval). IsBelow b t.whole in
     let all : AreBelow t.whole (area ∷ boxes) = subst (AreBelow t.whole) m.first task.below in
     record {
       problem = task.problem;
       whole = task.whole;
       cutoff = task.cutoff;
+      gap = task.gap;
       below = All-tail P area boxes all;
       handed_below = subst (AreBelow t.whole) (sym m.last)
           (All-append P t.handed (area ∷ []) task.handed_below (All-cons P area [] (All-head P area boxes all) (All-nil P)));
       covered = handed_covered t boxes handed area task m;
     }
+
+-- of the fields of a task
+pub handed_task : (t : TaskState) (old new : List BoxLeft) (handed : List (List Interval)) (area : List Interval) → t.boxes ≡ areas_of old
+    → IsTask t → IsMoved old new t.handed handed area → IsTask (record t { boxes = areas_of new; handed = handed })
+handed_task t old new handed area same task m =
+    handed_task_by t (areas_of new) handed area task (record { first = same ∙ ap areas_of m.first; last = m.last })

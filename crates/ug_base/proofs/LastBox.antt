@@ -3,22 +3,21 @@ use Rattle.std.proofs.Common.{◌≡◌, ℕ, zero, suc, ℤ, ◌-◌, ◌<◌, 
 use Rattle.std.proofs.lemmas.Option.{slice_get_cases, slice_get_within}
 use Rattle.std.proofs.lemmas.List.Elements.{All-head, All-tail}
 use Rattle.ug_rows.specs.declared.area.Interval.{Interval}
-use Rattle.ug_rows.specs.Boxes.{IsInside}
-use Rattle.ug_base.specs.Covers.{IsInOne}
+use Rattle.ug_rows.specs.Boxes.{IsInside, IsInOne}
 use Rattle.ug_base.specs.Looks.{front_of}
 
 -- the boxes are those before the last, and the last
-split_at : (boxes : List (List Interval)) (n : ℕ) (last : List Interval) → length boxes ≡ suc n → slice_get boxes n ≡ Some last → boxes ≡ take n boxes ++ last ∷ []
+split_at : {A : Type 0} (boxes : List A) (n : ℕ) (last : A) → length boxes ≡ suc n → slice_get boxes n ≡ Some last → boxes ≡ take n boxes ++ last ∷ []
 split_at [] n last e h = absurd (omega (arith, e))
 split_at (area ∷ []) zero last e h = grind (arith, h)
 split_at (area ∷ second ∷ boxes) zero last e h = absurd (omega (arith, e))
 split_at (area ∷ boxes) (suc n) last e h = ap (λ bs. area ∷ bs) (split_at boxes n last (omega (arith, e)) h)
 
-pub last_split : (boxes : List (List Interval)) (last : List Interval) → slice_get boxes (length boxes - 1) ≡ Some last → boxes ≡ front_of boxes ++ last ∷ []
+pub last_split : {A : Type 0} (boxes : List A) (last : A) → slice_get boxes (length boxes - 1) ≡ Some last → boxes ≡ front_of boxes ++ last ∷ []
 last_split boxes last h = split_at boxes (length boxes - 1) last (omega (arith, slice_get_within boxes (length boxes - 1) last h)) h
 
 -- there is no last exactly where there is no box
-pub none_last : (boxes : List (List Interval)) → slice_get boxes (length boxes - 1) ≡ None → boxes ≡ []
+pub none_last : {A : Type 0} (boxes : List A) → slice_get boxes (length boxes - 1) ≡ None → boxes ≡ []
 none_last [] h = refl
 none_last (area ∷ boxes) h = elim (slice_get_cases (area ∷ boxes) (length boxes)).1 [
   | inl r ↦ absurd (grind (arith, h, r.2))
@@ -26,14 +25,14 @@ none_last (area ∷ boxes) h = elim (slice_get_cases (area ∷ boxes) (length bo
 ]
 
 -- a box put behind the last, and another in the last one's place
-set_last : (boxes : List (List Interval)) (n : ℕ) (first second : List Interval) → length boxes ≡ suc n
+set_last : {A : Type 0} (boxes : List A) (n : ℕ) (first second : A) → length boxes ≡ suc n
     → slice_set (boxes ++ first ∷ []) n second ≡ take n boxes ++ second ∷ first ∷ []
 set_last [] n first second e = absurd (omega (arith, e))
 set_last (area ∷ []) zero first second e = refl
 set_last (area ∷ next ∷ boxes) zero first second e = absurd (omega (arith, e))
 set_last (area ∷ boxes) (suc n) first second e = ap (λ bs. area ∷ bs) (set_last boxes n first second (omega (arith, e)))
 
-pub halves_put : (boxes : List (List Interval)) (first second : List Interval) → 0 < length boxes
+pub halves_put : {A : Type 0} (boxes : List A) (first second : A) → 0 < length boxes
     → slice_set (boxes ++ first ∷ []) (length boxes - 1) second ≡ front_of boxes ++ second ∷ first ∷ []
 halves_put boxes first second h = set_last boxes (length boxes - 1) first second (omega (arith, h))
 

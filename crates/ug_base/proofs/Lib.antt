@@ -1,7 +1,8 @@
-pub mod Below
 pub mod Measures
 pub mod Sight
 pub mod LastBox
+pub mod LeftLemmas
 pub mod Floors
 pub mod StepLemmas
 pub mod HandLemmas
+pub mod TaskLemmas

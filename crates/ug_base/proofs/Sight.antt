@@ -3,23 +3,23 @@ use Rattle.std.proofs.Common.{◌≡◌, ℕ, ℤ, pos, ◌+◌, ◌+ℤ◌, ◌
 use Rattle.std.proofs.lemmas.Int.{ints}
 use Rattle.std.proofs.lemmas.List.{ext_get_or, get_or-map, length-map}
 use Rattle.ug_rows.specs.declared.area.Interval.{Interval}
-use Rattle.ug_rows.specs.Boxes.{IsBelow, IsInside, IsNonEmpty, interval_at, no_interval, value_at}
+use Rattle.ug_rows.specs.Boxes.{IsBelow, IsInside, IsNonEmpty, interval_at, no_interval, value_at, IsCrossed, IsFixed}
 use Rattle.ug_problem.specs.Instances.{Instance, bounds_of}
 use Rattle.ug_branch.specs.declared.params.Params.{Params}
 use Rattle.ug_branch.specs.declared.params.Half.{Half}
 use Rattle.ug_branch.specs.declared.params.Half.TheVariants.{Lower, Upper}
 use Rattle.ug_branch.specs.declared.choice.Branch.{Branch}
-use Rattle.ug_branch.specs.Choices.{AreHalves, IsChosen, IsFixed as IsClosed, lower_half, upper_half}
+use Rattle.ug_branch.specs.Choices.{AreHalves, IsChosen, lower_half, upper_half, HasNoneOpen}
 use Rattle.ug_propagate.specs.declared.tight.Tight.TheVariants.{Kept, Empty}
 use Rattle.ug_propagate.specs.declared.tight.Reason.{Reason}
-use Rattle.ug_propagate.specs.Claims.{IsCrossed, IsFixed}
+use Rattle.ug_propagate.specs.Claims.{CanTighten, IsTightened}
 use Rattle.ug_base.specs.declared.halves.Halves.{Halves}
 use Rattle.ug_base.specs.declared.look.Seen.{Seen}
 use Rattle.ug_base.specs.declared.look.Seen.TheVariants.{Hopeless, Solved, Halved}
 use Rattle.ug_base.specs.Points.{points_of, weight_of}
 use Rattle.ug_base.specs.Steps.{IsHopeless, first_half, other_half}
-use Rattle.ug_base.specs.Looks.{AreHalved, AreOrdered, IsInSight, IsOnly, IsReady, IsSeen, IsSeenHalved, IsSeenHopeless, IsSeenSolved, IsTightOf, lows_of}
-use Rattle.ug_base.proofs.Below.{below_trans}
+use Rattle.ug_base.specs.Looks.{AreHalved, AreOrdered, IsInSight, IsOnly, CanLook, IsSeen, IsSeenHalved, IsSeenHopeless, IsSeenSolved, lows_of}
+use Rattle.ug_rows.proofs.AreaLemmas.{below_trans}
 use Rattle.ug_base.proofs.Measures.{count_halves, points_below, points_halves, points_set_some, weights_fall}
 
 one_value : (low high : ℤ) → low ≤ℤ high → high ≤ℤ low → low ≡ high
@@ -36,7 +36,7 @@ low_at : (area : List Interval) (j : ℕ) → j < length area → value_at (lows
 low_at area j there = get_or-map (λ (side : Interval). side.low) area j no_interval (pos 0) there
 
 -- a box with a point and no open column has the point of its lows alone
-pub only_point : (area : List Interval) → IsNonEmpty area → IsClosed area → IsOnly area (lows_of area)
+pub only_point : (area : List Interval) → IsNonEmpty area → HasNoneOpen area → IsOnly area (lows_of area)
 only_point area some closed = record {
   fixed = λ j there. one_value _ _ (some j there) (closed j there);
   point = record {
@@ -59,6 +59,10 @@ same_point area x y fixed h k = ext_get_or (pos 0) y x (k.width ∙ sym h.width)
 pub no_point : (area : List Interval) (x : List ℤ) → IsCrossed area → IsInside area x → ⊥
 no_point area x c h = crossed_has_none _ _ (value_at x c.0) c.2 (h.each c.0 c.1).low (h.each c.0 c.1).high
 
+-- a box of a problem may be tightened
+pub can_tighten : (p : Instance) (cutoff : Option ℤ) (area : List Interval) → CanLook p cutoff area → CanTighten p cutoff area
+can_tighten p cutoff area can = record { width = can.below.width ∙ length-map p.columns bounds_of; small = can.small }
+
 -- the halves of a box with a point
 pub are_halved : (params : Params) (area : List Interval) (branch : Branch) (halves : Halves) → IsNonEmpty area
     → IsChosen params area branch → AreHalves area branch → AreOrdered params.half area branch halves → AreHalved params area halves
@@ -67,12 +71,12 @@ are_halved params area branch halves some chosen parts ordered =
 
 -- nothing is left of the box
 pub nothing_left : (p : Instance) (cutoff : Option ℤ) (area : List Interval) (reason : Reason)
-    → IsTightOf p cutoff area (Empty reason) → IsSeenHopeless p cutoff area
+    → IsTightened p cutoff area (Empty reason) → IsSeenHopeless p cutoff area
 nothing_left p cutoff area reason t = record { hopeless = subst IsHopeless t.value tt; none = t.kept }
 
 -- what is left has no point
 left_crossed : (p : Instance) (cutoff : Option ℤ) (area inner : List Interval)
-    → IsTightOf p cutoff area (Kept inner) → IsCrossed inner → IsSeenHopeless p cutoff area
+    → IsTightened p cutoff area (Kept inner) → IsCrossed inner → IsSeenHopeless p cutoff area
 left_crossed p cutoff area inner t c = record {
   hopeless = subst IsHopeless t.value c;
   none = λ x h g. no_point inner x c (t.kept x h g);
@@ -80,7 +84,7 @@ left_crossed p cutoff area inner t c = record {
 
 -- one point is left
 left_one : (p : Instance) (cutoff : Option ℤ) (area inner : List Interval) (x : List ℤ)
-    → IsReady p cutoff area → IsTightOf p cutoff area (Kept inner) → IsOnly inner x → IsSeenSolved p cutoff area x
+    → CanLook p cutoff area → IsTightened p cutoff area (Kept inner) → IsOnly inner x → IsSeenSolved p cutoff area x
 left_one p cutoff area inner x r t o = record {
   inner = inner;
   left = sym t.value;
@@ -136,7 +140,7 @@ ordered_less Upper inner branch n h = h
 
 -- halves are left
 left_halves : (p : Instance) (cutoff : Option ℤ) (params : Params) (area inner : List Interval) (halves : Halves)
-    → IsTightOf p cutoff area (Kept inner) → AreHalved params inner halves → IsSeenHalved p cutoff params area halves
+    → IsTightened p cutoff area (Kept inner) → AreHalved params inner halves → IsSeenHalved p cutoff params area halves
 left_halves p cutoff params area inner halves t h =
     let half = params.half in
     let lower : IsBelow (lower_half inner h.branch) area = below_trans _ _ _ h.parts.lower t.below in
@@ -158,13 +162,13 @@ left_halves p cutoff params area inner halves t h =
 
 -- what is seen in what is left of a box is seen in the box
 pub seen_inside : (p : Instance) (cutoff : Option ℤ) (params : Params) (area inner : List Interval) (seen : Seen)
-    → IsReady p cutoff area → IsTightOf p cutoff area (Kept inner) → IsInSight params inner seen → IsSeen p cutoff params area seen
+    → CanLook p cutoff area → IsTightened p cutoff area (Kept inner) → IsInSight params inner seen → IsSeen p cutoff params area seen
 seen_inside p cutoff params area inner Hopeless r t s = left_crossed p cutoff area inner t s
 seen_inside p cutoff params area inner (Solved x) r t s = left_one p cutoff area inner x r t s
 seen_inside p cutoff params area inner (Halved halves) r t s = left_halves p cutoff params area inner halves t s
 
 -- a box of a problem has at most 10,000 columns, and what is left of it as many
-pub left_is_short : (p : Instance) (cutoff : Option ℤ) (area inner : List Interval) → IsReady p cutoff area → IsTightOf p cutoff area (Kept inner)
+pub left_is_short : (p : Instance) (cutoff : Option ℤ) (area inner : List Interval) → CanLook p cutoff area → IsTightened p cutoff area (Kept inner)
     → length inner ≤ 10 ^ 4
 left_is_short p cutoff area inner r t =
     omega (arith, t.below.width, r.below.width, length-map p.columns bounds_of, r.problem.counts.columns)

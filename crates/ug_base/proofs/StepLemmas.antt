@@ -1,21 +1,27 @@
 -- A step keeps what every task is, and leaves less to search.
-use Rattle.std.proofs.Common.{◌≡◌, ℤ, ◌+◌, ◌-◌, ◌<◌, ◌<ℤ◌, ◌⊎◌, inl, inr, List, [], ◌∷◌, ◌++◌, length, Option, Some, None, IfSome, sym, ap, subst, arith}
+use Rattle.std.proofs.Common.{◌≡◌, ℤ, pos, ◌+ℤ◌, ◌≤ℤ◌, ◌+◌, ◌-◌, ◌<◌, ◌<ℤ◌, ◌⊎◌, inl, inr, List, [], ◌∷◌, ◌++◌, length, Option, Some, None, IfSome, refl, sym, ap, ◌∙◌, subst, arith}
 use Rattle.std.proofs.lemmas.Int.{ints}
+use Rattle.std.proofs.lemmas.List.{length-map}
 use Rattle.std.proofs.lemmas.List.Elements.{All-append, All-cons, All-nil, All-take}
 use Rattle.ug_rows.specs.declared.area.Interval.{Interval}
-use Rattle.ug_rows.specs.Boxes.{IsBelow, IsInside}
+use Rattle.ug_rows.specs.Boxes.{IsBelow, IsInside, IsInOne}
 use Rattle.ug_rows.specs.Rows.{value_of}
-use Rattle.ug_problem.specs.Instances.{Instance}
-use Rattle.ug_problem.proofs.Values.{value_within}
-use Rattle.ug_propagate.specs.Claims.{IsGood}
+use Rattle.ug_problem.specs.Instances.{Instance, bounds_of}
+use Rattle.ug_problem.specs.Feasible.{Feasible}
+use Rattle.ug_problem.specs.Limits.{IsProblem}
+use Rattle.ug_problem.proofs.Cutoffs.{cutoff_small, good_is_better}
+use Rattle.ug_base.specs.declared.left.BoxLeft.{BoxLeft}
+use Rattle.ug_base.specs.Lefts.{areas_of}
+use Rattle.ug_base.proofs.LeftLemmas.{areas_behind, areas_front}
+use Rattle.ug_problem.specs.Better.{IsGap, IsGood, cutoff_of}
 use Rattle.ug_base.specs.declared.halves.Halves.{Halves}
 use Rattle.ug_base.specs.declared.look.Seen.{Seen}
 use Rattle.ug_base.specs.declared.look.Seen.TheVariants.{Hopeless, Solved, Halved}
-use Rattle.ug_base.specs.Covers.{IsInOne}
+use Rattle.ug_rows.proofs.AreaLemmas.{below_trans}
+use Rattle.ug_base.specs.Steps.{IsFound}
 use Rattle.ug_base.specs.Points.{measure_of, weight_of}
 use Rattle.ug_base.specs.Tasks.{AreBelow, IsTask, TaskState}
-use Rattle.ug_base.specs.Looks.{IsReady, IsSeen, IsSeenHalved, IsSeenHopeless, IsSeenSolved, front_of}
-use Rattle.ug_base.proofs.Below.{below_trans}
+use Rattle.ug_base.specs.Looks.{CanLook, IsSeen, IsSeenHalved, IsSeenHopeless, IsSeenSolved, front_of}
 use Rattle.ug_base.proofs.LastBox.{all_last, in_one_behind, in_one_front, in_one_split}
 use Rattle.ug_base.proofs.Measures.{measure_push, measure_push_two}
 
@@ -25,7 +31,7 @@ last_below t last task e = all_last (λ (area : List Interval). IsBelow area t.w
     (subst (AreBelow t.whole) e task.below)
 
 -- and so a box of the problem
-pub last_ready : (t : TaskState) (last : List Interval) → IsTask t → t.boxes ≡ front_of t.boxes ++ last ∷ [] → IsReady t.problem t.cutoff last
+pub last_ready : (t : TaskState) (last : List Interval) → IsTask t → t.boxes ≡ front_of t.boxes ++ last ∷ [] → CanLook t.problem t.cutoff last
 last_ready t last task e = record {
   problem = task.problem;
   below = below_trans _ _ _ (last_below t last task e) task.whole;
@@ -51,39 +57,52 @@ pruned_task t last task e seen = record {
   problem = task.problem;
   whole = task.whole;
   cutoff = task.cutoff;
+  gap = task.gap;
   below = front_below t task;
   handed_below = task.handed_below;
   covered = λ x inside good. still_covered t last (front_of t.boxes) x task e inside good (λ a. a) (λ b. absurd (seen.none x b good));
 }
 
--- below a value that is below the cutoff is below the cutoff
+less_value : (v w gap : ℤ) → pos 0 ≤ℤ gap → (w +ℤ gap) <ℤ v → w <ℤ v
+less_value v w gap g h = omega (arith, ints, g, h)
+
 less_still : (cutoff : Option ℤ) (v w : ℤ) → IfSome cutoff (λ c. v <ℤ c) → w <ℤ v → IfSome cutoff (λ c. w <ℤ c)
 less_still None v w h k = tt
 less_still (Some c) v w h k = omega (arith, ints, h, k)
 
-good_still : (p : Instance) (cutoff : Option ℤ) (x y : List ℤ) → IsGood p cutoff x → IsGood p (Some (value_of p.objective x)) y → IsGood p cutoff y
-good_still p cutoff x y good better = record {
-  feasible = better.feasible;
-  less = less_still cutoff (value_of p.objective x) (value_of p.objective y) good.less better.less;
+-- a point below the cutoff of a point has a lesser value
+less_than : (p : Instance) (gap : ℤ) (x y : List ℤ) → IsProblem p → IsGap gap → IsGood p (Some (cutoff_of p gap x)) y
+    → value_of p.objective y <ℤ value_of p.objective x
+less_than p gap x y problem g good =
+    less_value (value_of p.objective x) (value_of p.objective y) gap g.low (good_is_better p gap (Some x) y problem good).less
+
+-- and is good where that one is
+good_still : (p : Instance) (cutoff : Option ℤ) (x y : List ℤ) → IsGood p cutoff x → Feasible p y
+    → value_of p.objective y <ℤ value_of p.objective x → IsGood p cutoff y
+good_still p cutoff x y good feasible less = record {
+  feasible = feasible;
+  less = less_still cutoff (value_of p.objective x) (value_of p.objective y) good.less less;
 }
 
 not_below_itself : (p : Instance) (x y : List ℤ) → y ≡ x → value_of p.objective y <ℤ value_of p.objective x → ⊥
 not_below_itself p x y e h = let same = ap (value_of p.objective) e in omega (arith, ints, same, h)
 
--- without a last box of which one point was good, below whose value there is none in it
+-- without a last box of which one point was good, below whose cutoff there is none in it
 pub found_task : (t : TaskState) (last : List Interval) (x : List ℤ) → IsTask t → t.boxes ≡ front_of t.boxes ++ last ∷ []
     → IsSeenSolved t.problem t.cutoff last x
-    → IsTask (record t { boxes = front_of t.boxes; cutoff = Some (value_of t.problem.objective x) })
+    → IsTask (record t { boxes = front_of t.boxes; cutoff = Some (cutoff_of t.problem t.gap x) })
 found_task t last x task e seen = record {
   problem = task.problem;
   whole = task.whole;
-  cutoff = value_within t.problem x task.problem seen.good.feasible.inside;
+  cutoff = cutoff_small t.problem t.gap x (cutoff_of t.problem t.gap x) task.problem task.gap refl seen.good.feasible.inside;
+  gap = task.gap;
   below = front_below t task;
   handed_below = task.handed_below;
-  covered = λ y inside better.
-      let good : IsGood t.problem t.cutoff y = good_still t.problem t.cutoff x y seen.good better in
+  covered = λ y inside good'.
+      let less = less_than t.problem t.gap x y task.problem task.gap good' in
+      let good : IsGood t.problem t.cutoff y = good_still t.problem t.cutoff x y seen.good good'.feasible less in
       still_covered t last (front_of t.boxes) y task e inside good (λ a. a)
-      (λ b. absurd (not_below_itself t.problem x y (seen.alone y b good) better.less));
+      (λ b. absurd (not_below_itself t.problem x y (seen.alone y b good) less));
 }
 
 -- with two halves in the last box's place
@@ -99,6 +118,7 @@ split_task t last halves task e seen =
       problem = task.problem;
       whole = task.whole;
       cutoff = task.cutoff;
+      gap = task.gap;
       below = All-append P (front_of t.boxes) (halves.second ∷ halves.first ∷ []) (front_below t task)
           (All-cons P halves.second (halves.first ∷ []) second (All-cons P halves.first [] first (All-nil P)));
       handed_below = task.handed_below;
@@ -110,37 +130,97 @@ split_task t last halves task e seen =
           ]));
     }
 
+-- the last of a task's boxes, seen in its fields
+pub last_of_fields : (t : TaskState) (old : List BoxLeft) (last : BoxLeft) → t.boxes ≡ areas_of old → old ≡ front_of old ++ last ∷ []
+    → t.boxes ≡ front_of t.boxes ++ last.area ∷ []
+last_of_fields t old last same e =
+    same ∙ areas_behind old old (last ∷ []) e ∙ ap (λ bs. front_of bs ++ last.area ∷ []) (sym same)
+
+front_of_fields : (t : TaskState) (old new : List BoxLeft) → t.boxes ≡ areas_of old → new ≡ front_of old → areas_of new ≡ front_of t.boxes
+front_of_fields t old new same e = ap areas_of e ∙ areas_front old ∙ ap (λ (bs : List (List Interval)). front_of bs) (sym same)
+
 -- the same of the fields of a task, after a look at the last box
-pub after_hopeless : (t : TaskState) (last : List Interval) (seen : Seen) (boxes : List (List Interval)) → IsTask t
-    → t.boxes ≡ front_of t.boxes ++ last ∷ [] → IsSeen t.problem t.cutoff t.params last seen → seen ≡ Hopeless → boxes ≡ front_of t.boxes
-    → IsTask (record t { boxes = boxes })
-after_hopeless t last seen boxes task e s is new =
-    subst (λ bs. IsTask (record t { boxes = bs })) (sym new)
-    (pruned_task t last task e (subst (IsSeen t.problem t.cutoff t.params last) is s))
+pub after_hopeless : (t : TaskState) (old new : List BoxLeft) (last : BoxLeft) (seen : Seen) → t.boxes ≡ areas_of old → IsTask t
+    → old ≡ front_of old ++ last ∷ [] → IsSeen t.problem t.cutoff t.params last.area seen → seen ≡ Hopeless → new ≡ front_of old
+    → IsTask (record t { boxes = areas_of new })
+after_hopeless t old new last seen same task e s is dropped =
+    subst (λ bs. IsTask (record t { boxes = bs })) (sym (front_of_fields t old new same dropped))
+    (pruned_task t last.area task (last_of_fields t old last same e) (subst (IsSeen t.problem t.cutoff t.params last.area) is s))
 
-pub after_solved : (t : TaskState) (last : List Interval) (seen : Seen) (x : List ℤ) (boxes : List (List Interval)) (cutoff : Option ℤ) → IsTask t
-    → t.boxes ≡ front_of t.boxes ++ last ∷ [] → IsSeen t.problem t.cutoff t.params last seen → seen ≡ Solved x → boxes ≡ front_of t.boxes
-    → cutoff ≡ Some (value_of t.problem.objective x) → IsTask (record t { boxes = boxes; cutoff = cutoff })
-after_solved t last seen x boxes cutoff task e s is new value =
-    subst (λ bs. IsTask (record t { boxes = bs; cutoff = cutoff })) (sym new)
+pub after_solved : (t : TaskState) (old new : List BoxLeft) (last : BoxLeft) (seen : Seen) (x : List ℤ) (cutoff : Option ℤ)
+    → t.boxes ≡ areas_of old → IsTask t → old ≡ front_of old ++ last ∷ [] → IsSeen t.problem t.cutoff t.params last.area seen
+    → seen ≡ Solved x → new ≡ front_of old → cutoff ≡ Some (cutoff_of t.problem t.gap x)
+    → IsTask (record t { boxes = areas_of new; cutoff = cutoff })
+after_solved t old new last seen x cutoff same task e s is dropped value =
+    subst (λ bs. IsTask (record t { boxes = bs; cutoff = cutoff })) (sym (front_of_fields t old new same dropped))
     (subst (λ c. IsTask (record t { boxes = front_of t.boxes; cutoff = c })) (sym value)
-    (found_task t last x task e (subst (IsSeen t.problem t.cutoff t.params last) is s)))
+    (found_task t last.area x task (last_of_fields t old last same e)
+    (subst (IsSeen t.problem t.cutoff t.params last.area) is s)))
 
-pub after_halved : (t : TaskState) (last : List Interval) (seen : Seen) (halves : Halves) (boxes : List (List Interval)) → IsTask t
-    → t.boxes ≡ front_of t.boxes ++ last ∷ [] → IsSeen t.problem t.cutoff t.params last seen → seen ≡ Halved halves
-    → boxes ≡ front_of t.boxes ++ halves.second ∷ halves.first ∷ [] → IsTask (record t { boxes = boxes })
-after_halved t last seen halves boxes task e s is new =
-    subst (λ bs. IsTask (record t { boxes = bs })) (sym new)
-    (split_task t last halves task e (subst (IsSeen t.problem t.cutoff t.params last) is s))
+pub after_halved : (t : TaskState) (old new : List BoxLeft) (last first second : BoxLeft) (seen : Seen) (halves : Halves)
+    → t.boxes ≡ areas_of old → IsTask t → old ≡ front_of old ++ last ∷ [] → IsSeen t.problem t.cutoff t.params last.area seen
+    → seen ≡ Halved halves → first.area ≡ halves.first → second.area ≡ halves.second → new ≡ front_of old ++ second ∷ first ∷ []
+    → IsTask (record t { boxes = areas_of new })
+after_halved t old new last first second seen halves same task e s is f g put =
+    let there : areas_of new ≡ front_of t.boxes ++ halves.second ∷ halves.first ∷ [] =
+    areas_behind new old (second ∷ first ∷ []) put ∙ ap (λ bs. front_of bs ++ second.area ∷ first.area ∷ []) (sym same)
+    ∙ ap (λ a. front_of t.boxes ++ a ∷ first.area ∷ []) g ∙ ap (λ a. front_of t.boxes ++ halves.second ∷ a ∷ []) f in
+    subst (λ bs. IsTask (record t { boxes = bs })) (sym there)
+    (split_task t last.area halves task (last_of_fields t old last same e)
+    (subst (IsSeen t.problem t.cutoff t.params last.area) is s))
 
--- a box dropped leaves less
-pub dropped_less : (boxes : List (List Interval)) (last : List Interval) → boxes ≡ front_of boxes ++ last ∷ []
+-- what a step that found a point did
+pub found_step : (t : TaskState) (old new : List BoxLeft) (last : BoxLeft) (seen : Seen) (x : List ℤ) (cutoff : Option ℤ)
+    → t.boxes ≡ areas_of old → old ≡ front_of old ++ last ∷ [] → IsSeen t.problem t.cutoff t.params last.area seen
+    → seen ≡ Solved x → new ≡ front_of old → cutoff ≡ Some (cutoff_of t.problem t.gap x)
+    → IsFound t (record t { boxes = areas_of new; cutoff = cutoff }) x
+found_step t old new last seen x cutoff same e s is dropped value =
+    let solved : IsSeenSolved t.problem t.cutoff last.area x = subst (IsSeen t.problem t.cutoff t.params last.area) is s in
+    let front : areas_of new ≡ front_of t.boxes = front_of_fields t old new same dropped in
+    record {
+      last = last.area;
+      boxes = last_of_fields t old last same e ∙ ap (λ bs. bs ++ last.area ∷ []) (sym front);
+      inner = solved.inner;
+      left = solved.left;
+      fixed = solved.fixed;
+      point = solved.point;
+      good = solved.good;
+      same = ap (λ (c : Option ℤ). record t { boxes = areas_of new; cutoff = c }) value;
+    }
+
+dropped_less : (boxes : List (List Interval)) (last : List Interval) → boxes ≡ front_of boxes ++ last ∷ []
     → measure_of (front_of boxes) < measure_of boxes
 dropped_less boxes last e = let m = ap measure_of e in omega (arith, m, measure_push (front_of boxes) last)
 
--- and one halved
-pub halved_less : (boxes : List (List Interval)) (last first second : List Interval) → boxes ≡ front_of boxes ++ last ∷ []
+halved_less : (boxes : List (List Interval)) (last first second : List Interval) → boxes ≡ front_of boxes ++ last ∷ []
     → weight_of second + weight_of first < weight_of last → measure_of (front_of boxes ++ second ∷ first ∷ []) < measure_of boxes
 halved_less boxes last first second e h =
     let m = ap measure_of e in
     omega (arith, m, measure_push (front_of boxes) last, measure_push_two (front_of boxes) second first, h)
+
+-- a box dropped leaves less
+pub left_dropped_less : (old new : List BoxLeft) (last : BoxLeft) → old ≡ front_of old ++ last ∷ [] → new ≡ front_of old
+    → measure_of (areas_of new) < measure_of (areas_of old)
+left_dropped_less old new last e dropped =
+    subst (λ bs. measure_of bs < measure_of (areas_of old)) (sym (ap areas_of dropped ∙ areas_front old))
+    (dropped_less (areas_of old) last.area (areas_behind old old (last ∷ []) e))
+
+-- and one halved
+pub left_halved_less : (t : TaskState) (old new : List BoxLeft) (last first second : BoxLeft) (seen : Seen) (halves : Halves)
+    → old ≡ front_of old ++ last ∷ [] → IsSeen t.problem t.cutoff t.params last.area seen → seen ≡ Halved halves
+    → first.area ≡ halves.first → second.area ≡ halves.second → new ≡ front_of old ++ second ∷ first ∷ []
+    → measure_of (areas_of new) < measure_of (areas_of old)
+left_halved_less t old new last first second seen halves e s is f g put =
+    let halved : IsSeenHalved t.problem t.cutoff t.params last.area halves =
+    subst (IsSeen t.problem t.cutoff t.params last.area) is s in
+    let less : weight_of second.area + weight_of first.area < weight_of last.area = rw (f, g) halved.less in
+    subst (λ bs. measure_of bs < measure_of (areas_of old)) (sym (areas_behind new old (second ∷ first ∷ []) put))
+    (halved_less (areas_of old) last.area first.area second.area (areas_behind old old (last ∷ []) e) less)
+
+-- the halves are as wide as the problem
+pub second_width : (t : TaskState) (last : BoxLeft) (seen : Seen) (halves : Halves) → CanLook t.problem t.cutoff last.area
+    → IsSeen t.problem t.cutoff t.params last.area seen → seen ≡ Halved halves → length halves.second ≡ length t.problem.columns
+second_width t last seen halves can s is =
+    let halved : IsSeenHalved t.problem t.cutoff t.params last.area halves =
+    subst (IsSeen t.problem t.cutoff t.params last.area) is s in
+    halved.below_second.width ∙ can.below.width ∙ length-map t.problem.columns bounds_of

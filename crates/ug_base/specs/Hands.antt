@@ -1,13 +1,15 @@
 -- What handing does: the first of the boxes left is no longer left, and is the last of the boxes handed.
-use Rattle.std.specs.Prelude.{◌≡◌, ◌<◌, ◌≤◌, List, [], ◌∷◌, ◌++◌, length, Option, Some, None}
+use Rattle.std.specs.Prelude.{◌≡◌, ℤ, ◌<◌, ◌≤◌, List, [], ◌∷◌, ◌++◌, length, Option, Some, None}
 use Rattle.ug_rows.specs.declared.area.Interval.{Interval}
 use Rattle.ug_base.specs.declared.handed.Handed.{Handed}
+use Rattle.ug_base.specs.declared.left.BoxLeft.{BoxLeft}
 use Rattle.ug_base.specs.Points.{measure_of}
 use Rattle.ug_base.specs.Tasks.{TaskState}
 
--- the first of a list of boxes is moved behind the others
-pub record IsMoved (boxes_old boxes_new others_old others_new : List (List Interval)) (area : List Interval) : Type 0 where
-  pub first : boxes_old ≡ area ∷ boxes_new
+-- the first of the boxes left is moved behind other boxes
+pub record IsMoved (left_old left_new : List BoxLeft) (others_old others_new : List (List Interval)) (area : List Interval) : Type 0 where
+  pub floor : Option ℤ
+  pub first : left_old ≡ record { area = area; floor = floor } ∷ left_new
   pub last : others_new ≡ others_old ++ area ∷ []
 
 -- of two boxes left or more the first is handed, and its number is its place among the boxes handed; nothing else changed

@@ -1,5 +1,6 @@
 pub mod Covers
 pub mod Points
+pub mod Lefts
 pub mod Tasks
 pub mod Views
 pub mod Steps

@@ -1,30 +1,27 @@
 -- What a look at a box sees, and what that means for the search.
 use Rattle.std.specs.Prelude.{◌≡◌, ℤ, ◌+◌, ◌-◌, ◌<◌, ◌⊎◌, List, length, take, map, Option}
 use Rattle.ug_rows.specs.declared.area.Interval.{Interval}
-use Rattle.ug_rows.specs.Boxes.{IsInside, IsBelow, IsNonEmpty}
+use Rattle.ug_rows.specs.Boxes.{IsInside, IsBelow, IsNonEmpty, IsCrossed, IsFixed}
 use Rattle.ug_problem.specs.Instances.{Instance, root_of}
 use Rattle.ug_problem.specs.Limits.{IsProblem}
 use Rattle.ug_branch.specs.declared.params.Params.{Params}
 use Rattle.ug_branch.specs.declared.params.Half.{Half}
 use Rattle.ug_branch.specs.declared.choice.Branch.{Branch}
 use Rattle.ug_branch.specs.Choices.{AreHalves, IsChosen}
-use Rattle.ug_propagate.specs.declared.tight.Tight.{Tight}
 use Rattle.ug_propagate.specs.declared.tight.Tight.TheVariants.{Kept}
-use Rattle.ug_propagate.specs.Claims.{IsCrossed, IsFixed, IsGood, IsLeftOf, IsSolved, KeepsGood}
 use Rattle.ug_propagate.specs.Rounds.{rounds}
 use Rattle.ug_base.specs.declared.halves.Halves.{Halves}
 use Rattle.ug_base.specs.declared.look.Seen.{Seen}
 use Rattle.ug_base.specs.declared.look.Seen.TheVariants.{Hopeless, Solved, Halved}
-use Rattle.ug_base.specs.Covers.{HasNoGood}
+use Rattle.ug_problem.specs.Better.{IsGood, HasNoGood, IsSmallCutoff}
 use Rattle.ug_base.specs.Points.{weight_of}
 use Rattle.ug_base.specs.Steps.{IsHopeless, first_half, other_half}
-use Rattle.ug_base.specs.Tasks.{IsSmall}
 
--- a box of the problem, and a cutoff that is not too large
-pub record IsReady (p : Instance) (cutoff : Option ℤ) (area : List Interval) : Type 0 where
+-- a box below the problem's root box, and a cutoff that is not too large
+pub record CanLook (p : Instance) (cutoff : Option ℤ) (area : List Interval) : Type 0 where
   pub problem : IsProblem p
   pub below : IsBelow area (root_of p)
-  pub small : IsSmall cutoff
+  pub small : IsSmallCutoff cutoff
 
 -- the point with each column at its low
 abbrev pub lows_of : List Interval → List ℤ
@@ -53,13 +50,6 @@ abbrev pub IsInSight : Params → List Interval → Seen → Type 0
 IsInSight params area Hopeless = IsCrossed area
 IsInSight params area (Solved x) = IsOnly area x
 IsInSight params area (Halved halves) = AreHalved params area halves
-
--- what bound propagation says of what it leaves of a box
-pub record IsTightOf (p : Instance) (cutoff : Option ℤ) (area : List Interval) (tight : Tight) : Type 0 where
-  pub value : tight ≡ rounds p cutoff area
-  pub below : IsLeftOf area tight
-  pub kept : KeepsGood p cutoff area tight
-  pub fixed : IsSolved p cutoff tight
 
 -- no point of the box is good
 pub record IsSeenHopeless (p : Instance) (cutoff : Option ℤ) (area : List Interval) : Type 0 where
@@ -94,6 +84,6 @@ IsSeen p cutoff params area Hopeless = IsSeenHopeless p cutoff area
 IsSeen p cutoff params area (Solved x) = IsSeenSolved p cutoff area x
 IsSeen p cutoff params area (Halved halves) = IsSeenHalved p cutoff params area halves
 
--- all boxes but the last
-abbrev pub front_of : List (List Interval) → List (List Interval)
-front_of boxes = take (length boxes - 1) boxes
+-- all items but the last
+abbrev pub front_of : {A : Type 0} → List A → List A
+front_of items = take (length items - 1) items

@@ -1,19 +1,17 @@
 -- What a step does: it takes the last box left, and drops it, finds its one point good, or halves it.
 use Rattle.std.specs.Prelude.{◌≡◌, ℤ, ◌<◌, List, [], ◌∷◌, ◌++◌, Some}
 use Rattle.ug_rows.specs.declared.area.Interval.{Interval}
-use Rattle.ug_rows.specs.Boxes.{IsInside, IsNonEmpty}
-use Rattle.ug_rows.specs.Rows.{value_of}
+use Rattle.ug_rows.specs.Boxes.{IsInside, IsNonEmpty, IsCrossed, IsFixed}
 use Rattle.ug_branch.specs.declared.params.Half.{Half}
 use Rattle.ug_branch.specs.declared.params.Half.TheVariants.{Lower, Upper}
 use Rattle.ug_branch.specs.declared.choice.Branch.{Branch}
 use Rattle.ug_branch.specs.Choices.{IsChosen, lower_half, upper_half}
 use Rattle.ug_propagate.specs.declared.tight.Tight.{Tight}
 use Rattle.ug_propagate.specs.declared.tight.Tight.TheVariants.{Kept, Empty as NothingLeft}
-use Rattle.ug_propagate.specs.Claims.{IsCrossed, IsFixed, IsGood}
+use Rattle.ug_problem.specs.Better.{AreAllHanded, HasNoGood, IsGood, cutoff_of}
 use Rattle.ug_propagate.specs.Rounds.{rounds}
 use Rattle.ug_base.specs.declared.step.Step.{Step}
 use Rattle.ug_base.specs.declared.step.Step.TheVariants.{Pruned, Found, Split, Empty}
-use Rattle.ug_base.specs.Covers.{AreAllHanded, HasNoGood}
 use Rattle.ug_base.specs.Points.{measure_of}
 use Rattle.ug_base.specs.Tasks.{TaskState}
 
@@ -39,7 +37,7 @@ pub record IsPruned (old new : TaskState) : Type 0 where
   pub same : new ≡ record old { boxes = new.boxes }
   pub hopeless : IsHopeless (rounds old.problem old.cutoff last)
 
--- of the last box the point x was left, which is good; the box is dropped, and the cutoff is now the value of x
+-- of the last box the point x was left, which is good; the box is dropped, and the cutoff is now that of x under the gap
 pub record IsFound (old new : TaskState) (x : List ℤ) : Type 0 where
   pub last : List Interval
   pub boxes : old.boxes ≡ new.boxes ++ last ∷ []
@@ -48,7 +46,7 @@ pub record IsFound (old new : TaskState) (x : List ℤ) : Type 0 where
   pub fixed : IsFixed inner
   pub point : IsInside inner x
   pub good : IsGood old.problem old.cutoff x
-  pub same : new ≡ record old { boxes = new.boxes; cutoff = Some (value_of old.problem.objective x) }
+  pub same : new ≡ record old { boxes = new.boxes; cutoff = Some (cutoff_of old.problem old.gap x) }
 
 -- what was left of the last box has more points than one, and its two halves are in the box's place, the first the last
 pub record IsSplit (old new : TaskState) : Type 0 where

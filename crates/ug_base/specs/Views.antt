@@ -1,5 +1,6 @@
 -- What contracts see of a task.
 use Rattle.ug_base.specs.declared.task.Task.TheInside.{Inside}
+use Rattle.ug_base.specs.Lefts.{KeepFloors, areas_of}
 use Rattle.ug_base.specs.Tasks.{TaskState, IsTask}
 
 -- the state that the fields of a task say
@@ -10,10 +11,12 @@ state_of t = record {
   params = t.params;
   whole = t.whole;
   cutoff = t.cutoff;
-  boxes = t.boxes.items;
+  gap = t.gap;
+  boxes = areas_of t.boxes.items;
   handed = t.handed.items;
 }
 
--- the fields are those of a task
-abbrev pub AreOfTask : Inside → Type 0
-AreOfTask t = IsTask (state_of t)
+-- the fields are those of a task, and keep the floors that were taken
+pub record AreOfTask (t : Inside) : Type 0 where
+  pub task : IsTask (state_of t)
+  pub floors : KeepFloors t.problem t.boxes.items

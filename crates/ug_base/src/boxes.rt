@@ -3,20 +3,20 @@ ghost use Rattle.std.specs.Option.{option_copied};
 ghost use Rattle.ug_base.specs.Hands.{IsMoved};
 ghost use Rattle.ug_base.specs.Looks.{front_of};
 
-use crate::halves::Halves;
-use std::alloc::{AllocError, Global};
+use crate::left::BoxLeft;
+use std::alloc::AllocError;
 use ug_rows::IntBox;
 
 /// The last box.
 #[tactic(auto, using(crate::proofs::LastBox::last_split, crate::proofs::LastBox::none_last))]
-pub fn last_of(boxes: &Vec<IntBox>) -> Option<&IntBox>
+pub fn last_of(boxes: &Vec<BoxLeft>) -> Option<&BoxLeft>
     ensures { MatchOption (option_copied result) (boxes.now.items ≡ []) (λ last. boxes.now.items ≡ front_of boxes.now.items ++ last ∷ []) }
 {
     boxes.as_slice().last()
 }
 
 /// Drops the last box.
-pub fn drop_last(boxes: &mut Vec<IntBox>)
+pub fn drop_last(boxes: &mut Vec<BoxLeft>)
     ensures { boxes.new.items ≡ front_of boxes.old.items }
 {
     boxes.pop();
@@ -24,12 +24,15 @@ pub fn drop_last(boxes: &mut Vec<IntBox>)
 
 /// Puts two halves in the last box's place, the first the last. After an error the boxes are as they were.
 #[tactic(auto, using(crate::proofs::LastBox::halves_put))]
-pub fn split_last(boxes: &mut Vec<IntBox>, halves: Halves) -> Result<(), AllocError>
+pub fn split_last(
+    boxes: &mut Vec<BoxLeft>,
+    first: BoxLeft,
+    second: BoxLeft,
+) -> Result<(), AllocError>
     requires { 0 < length boxes.old.items }
-    ensures ok { OnOk result (boxes.new.items ≡ front_of boxes.old.items ++ halves.second ∷ halves.first ∷ []) }
+    ensures ok { OnOk result (boxes.new.items ≡ front_of boxes.old.items ++ second ∷ first ∷ []) }
     ensures err { OnErr result (boxes.new.items ≡ boxes.old.items) }
 {
-    let Halves { first, second } = halves;
     let at = boxes.len() - 1;
     boxes.push(first)?;
     boxes[at] = second;
@@ -37,11 +40,7 @@ pub fn split_last(boxes: &mut Vec<IntBox>, halves: Halves) -> Result<(), AllocEr
 }
 
 /// Moves the first box behind other boxes, and gives a copy of it. After an error all boxes are as they were.
-pub fn move_first(
-    alloc: Global,
-    boxes: &mut Vec<IntBox>,
-    others: &mut Vec<IntBox>,
-) -> Result<IntBox, AllocError>
+pub fn move_first(boxes: &mut Vec<BoxLeft>, others: &mut Vec<IntBox>) -> Result<IntBox, AllocError>
     requires { 0 < length boxes.old.items }
     ensures ok { IfOk result (IsMoved boxes.old.items boxes.new.items others.old.items others.new.items) }
     ensures boxes { OnErr result (boxes.new.items ≡ boxes.old.items) }
@@ -49,8 +48,8 @@ pub fn move_first(
 {
     let first = 0;
     // All memory is taken before a box is moved.
-    let copy = Vec::from_slice(alloc, boxes[first].as_slice())?;
+    let copy = boxes[first].area.clone()?;
     others.reserve(1)?;
-    others.push_reserved(boxes.remove(first));
-    Ok(IntBox::from_vec(copy))
+    others.push_reserved(boxes.remove(first).area);
+    Ok(copy)
 }

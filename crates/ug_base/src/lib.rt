@@ -9,6 +9,7 @@
 mod boxes;
 mod halves;
 mod handed;
+mod left;
 mod look;
 mod lowest;
 mod lows;

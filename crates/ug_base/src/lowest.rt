@@ -1,9 +1,10 @@
-ghost use Rattle.std.specs.Prelude.{◌≡◌, ◌↔◌, ◌+◌, ◌<◌, [], All, IsNone, IfSome, List, length};
-ghost use Rattle.ug_rows.specs.declared.area.Interval.{Interval};
-ghost use Rattle.ug_base.specs.Tasks.{IsLowest, IsLowestOf, IsLowestSoFar, box_at, floor_of, lesser_of};
+ghost use Rattle.std.specs.Prelude.{◌≡◌, ◌<◌, ◌+◌, ◌↔◌, [], All, IsNone, IfSome, length, slice_index_or};
+ghost use Rattle.ug_rows.specs.Sums.{box_floor};
+ghost use Rattle.ug_base.specs.Lefts.{CanBound, IsLowestOf, IsLowestSoFar, areas_of, no_left};
+ghost use Rattle.ug_base.specs.Tasks.{IsLowest, lesser_of};
 
-use ug_problem::Problem;
-use ug_rows::{IntBox, floor};
+use crate::left::BoxLeft;
+use ug_problem::Shared;
 
 /// The lesser of a number, if there is one, and another.
 pub fn lesser(before: Option<i128>, given: i128) -> i128
@@ -15,32 +16,35 @@ pub fn lesser(before: Option<i128>, given: i128) -> i128
     }
 }
 
-// The least value that the objective could have in a box.
-#[tactic(auto, using(crate::proofs::Floors::objective_is_linear))]
-fn box_floor(problem: &Problem, area: &IntBox) -> i128
-    requires { length area.now ≡ length problem.now.columns }
-    ensures { result ≡ floor_of problem.now area.now }
+// The floor of a box left: the one that is kept, or else taken now.
+#[tactic(auto, using(crate::proofs::Floors::left_width))]
+fn floor_of(problem: &Shared, left: &BoxLeft) -> i128
+    requires { CanBound problem.now left.now }
+    ensures { result ≡ box_floor problem.now.objective left.now.area }
 {
-    floor(problem.objective(), area)
+    match left.floor {
+        Some(floor) => floor,
+        None => problem.problem().floor(&left.area),
+    }
 }
 
 // The least floor of the boxes up to box k.
 #[tactic(auto, using(crate::proofs::Floors::lowest_next))]
-fn lowest_with(problem: &Problem, boxes: &[IntBox], lowest: Option<i128>, k: usize) -> i128
+fn lowest_with(problem: &Shared, boxes: &[BoxLeft], lowest: Option<i128>, k: usize) -> i128
     requires there { k < length boxes.now }
-    requires width { length (box_at boxes.now k) ≡ length problem.now.columns }
+    requires can { CanBound problem.now (slice_index_or boxes.now k no_left) }
     requires so_far { IsLowestSoFar problem.now boxes.now k lowest }
     ensures { IsLowestOf problem.now boxes.now (k + 1) result }
 {
-    lesser(lowest, box_floor(problem, &boxes[k]))
+    lesser(lowest, floor_of(problem, &boxes[k]))
 }
 
 /// The least floor of the boxes, if there is one.
-#[tactic(auto, using(crate::proofs::Floors::lowest_none))]
-pub fn lowest_floor(problem: &Problem, boxes: &[IntBox]) -> Option<i128>
-    requires { All (λ (area : List Interval). length area ≡ length problem.now.columns) boxes.now }
+#[tactic(auto, using(crate::proofs::Floors::lowest_none, crate::proofs::Floors::lowest_of))]
+pub fn lowest_floor(problem: &Shared, boxes: &[BoxLeft]) -> Option<i128>
+    requires { All (CanBound problem.now) boxes.now }
     ensures none { IsNone result ↔ (boxes.now ≡ []) }
-    ensures some { IfSome result (IsLowest problem.now boxes.now) }
+    ensures some { IfSome result (IsLowest problem.now (areas_of boxes.now)) }
 {
     let mut lowest = None;
     for k in 0..boxes.len() {

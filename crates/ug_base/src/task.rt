@@ -1,16 +1,19 @@
-ghost use Rattle.std.specs.Prelude.{◌≡◌, ◌↔◌, ◌<◌, ◌≤◌, ◌*◌, ◌^◌, [], ◌∷◌, length, Some, IfOk, OnErr, IfSome, IsNone, unsigned_abs};
+ghost use Rattle.std.specs.Prelude.{◌≡◌, ◌↔◌, ◌<◌, ◌≤◌, ◌*◌, ◌^◌, [], ◌∷◌, length, Some, None, IfOk, OnErr, IfSome, IsNone, unsigned_abs};
 ghost use Rattle.ug_rows.specs.Boxes.{IsBelow};
-ghost use Rattle.ug_rows.specs.Rows.{value_of};
 ghost use Rattle.ug_problem.specs.Instances.{root_of};
 ghost use Rattle.ug_problem.specs.Limits.{IsProblem};
 ghost use Rattle.ug_base.specs.declared.step.Step.TheVariants.{Empty};
-ghost use Rattle.ug_base.specs.Covers.{AreAllHanded, AreCovered, HasNoGood};
+ghost use Rattle.ug_base.specs.Covers.{AreCovered};
 ghost use Rattle.ug_base.specs.Hands.{DidHand, HandsLess};
 ghost use Rattle.ug_base.specs.Steps.{LeavesLess, TookStep};
-ghost use Rattle.ug_base.specs.Tasks.{AreBelow, IsBound, IsLowest, IsSmall, lesser_of};
+ghost use Rattle.ug_base.specs.Tasks.{AreBelow, IsBound, IsLowest, lesser_of};
+ghost use Rattle.ug_problem.specs.Better.{AreAllHanded, HasNoGood, IsGap, IsSmallCutoff, cutoff_of};
+ghost use Rattle.ug_base.specs.Lefts.{KeepsFloor};
 
 use crate::boxes::{drop_last, last_of, move_first, split_last};
+use crate::halves::Halves;
 use crate::handed::Handed;
+use crate::left::BoxLeft;
 use crate::look::{Seen, look};
 use crate::lowest::{lesser, lowest_floor};
 use crate::step::Step;
@@ -18,19 +21,20 @@ use std::alloc::{AllocError, Global};
 use std::marker::Model;
 use ug_branch::Params;
 use ug_nodes::Ticket;
-use ug_problem::Problem;
+use ug_problem::{Problem, Shared};
 use ug_rows::{IntBox, Point};
 
 /// The search of one box for feasible points with a value below the cutoff.
 #[derive(Drop)]
 pub struct Task {
     alloc: Global,
-    problem: Problem,
+    problem: Shared,
     ticket: Ticket,
     params: Params,
     whole: IntBox,
     cutoff: Option<i128>,
-    boxes: Vec<IntBox>,
+    gap: i128,
+    boxes: Vec<BoxLeft>,
     handed: Vec<IntBox>,
 }
 
@@ -46,41 +50,73 @@ impl Model for Task {
     ghost invariant = { AreOfTask };
 }
 
-// The value of a point, as a cutoff.
-fn cutoff_at(problem: &Problem, point: &Point) -> Option<i128>
-    requires { length point.now ≡ length problem.now.columns }
-    ensures { result ≡ Some (value_of problem.now.objective point.now) }
+// A copy of the box, as the one box left.
+fn only_left(alloc: Global, whole: &IntBox) -> Result<Vec<BoxLeft>, AllocError>
+    ensures { IfOk result (λ boxes. boxes.items ≡ record { area = whole.now; floor = None } ∷ []) }
 {
-    Some(problem.value(point))
+    let area = whole.clone()?;
+    let mut boxes = Vec::new(alloc);
+    boxes.push(BoxLeft { area, floor: None })?;
+    Ok(boxes)
+}
+
+// The cutoff of a point under a gap.
+fn cutoff_at(problem: &Shared, gap: i128, point: &Point) -> Option<i128>
+    requires width { length point.now ≡ length problem.now.columns }
+    requires gap { IsGap gap }
+    ensures { result ≡ Some (cutoff_of problem.now gap point.now) }
+{
+    Some(problem.problem().cutoff(gap, point))
+}
+
+// The halves of a box, as boxes left: of the one that stays behind the floor is taken.
+fn left_of(problem: &Shared, halves: Halves) -> (BoxLeft, BoxLeft)
+    requires { length halves.second ≡ length problem.now.columns }
+    ensures first { result.0.area ≡ halves.first }
+    ensures second { result.1.area ≡ halves.second }
+    ensures first_floor { KeepsFloor problem.now result.0 }
+    ensures second_floor { KeepsFloor problem.now result.1 }
+{
+    let floor = problem.problem().floor(&halves.second);
+    let first = BoxLeft {
+        area: halves.first,
+        floor: None,
+    };
+    let second = BoxLeft {
+        area: halves.second,
+        floor: Some(floor),
+    };
+    (first, second)
 }
 
 impl Task {
     /// The task with the whole box left and none handed. It copies the box.
     pub fn new(
         alloc: Global,
-        problem: Problem,
+        problem: Shared,
         ticket: Ticket,
         params: Params,
         whole: IntBox,
         cutoff: Option<i128>,
+        gap: i128,
     ) -> Result<Task, AllocError>
         requires below { IsBelow whole (root_of problem) }
-        requires cutoff { IsSmall cutoff }
+        requires cutoff { IsSmallCutoff cutoff }
+        requires gap { IsGap gap }
         ensures { IfOk result (λ t. t ≡ record {
           problem = problem;
           ticket = ticket;
           params = params;
           whole = whole;
           cutoff = cutoff;
+          gap = gap;
           boxes = whole ∷ [];
           handed = [];
         }) }
     {
         // The problem's type keeps that it is one.
-        let _columns = problem.columns();
-        let copy = Vec::from_slice(alloc, whole.as_slice())?;
-        let mut boxes = Vec::new(alloc);
-        boxes.push(IntBox::from_vec(copy))?;
+        let _columns = problem.problem().columns();
+        let boxes = only_left(alloc, &whole)?;
         Ok(Task {
             alloc,
             problem,
@@ -88,6 +124,7 @@ impl Task {
             params,
             whole,
             cutoff,
+            gap,
             boxes,
             handed: Vec::new(alloc),
         })
@@ -95,7 +132,7 @@ impl Task {
 
     /// Takes the last box left, and drops it, answers its one point, or puts its halves in its place.
     /// After an error the task is as it was.
-    #[tactic(auto, using(crate::proofs::StepLemmas::last_ready, crate::proofs::StepLemmas::dropped_less, crate::proofs::StepLemmas::halved_less))]
+    #[tactic(auto, using(crate::proofs::StepLemmas::left_dropped_less))]
     pub fn step(&mut self) -> Result<Step, AllocError>
         ensures took { IfOk result (TookStep self.old self.new) }
         ensures empty { IfOk result (λ step. (step ≡ Empty) ↔ (self.old.boxes ≡ [])) }
@@ -106,19 +143,26 @@ impl Task {
         let Some(last) = last_of(&self.boxes) else {
             return Ok(Step::Empty);
         };
-        match look(self.alloc, &self.problem, self.params, self.cutoff, last)? {
+        match look(
+            self.alloc,
+            &self.problem,
+            self.params,
+            self.cutoff,
+            &last.area,
+        )? {
             Seen::Hopeless => {
                 drop_last(&mut self.boxes);
                 Ok(Step::Pruned)
             }
             Seen::Solved(point) => {
-                let value = cutoff_at(&self.problem, &point);
-                self.cutoff = value;
+                let cutoff = cutoff_at(&self.problem, self.gap, &point);
+                self.cutoff = cutoff;
                 drop_last(&mut self.boxes);
                 Ok(Step::Found(point))
             }
             Seen::Halved(halves) => {
-                split_last(&mut self.boxes, halves)?;
+                let (first, second) = left_of(&self.problem, halves);
+                split_last(&mut self.boxes, first, second)?;
                 Ok(Step::Split)
             }
         }
@@ -136,7 +180,7 @@ impl Task {
             return Ok(None);
         }
         let number = self.handed.len() as u64;
-        let area = move_first(self.alloc, &mut self.boxes, &mut self.handed)?;
+        let area = move_first(&mut self.boxes, &mut self.handed)?;
         Ok(Some(Handed { number, area }))
     }
 
@@ -160,11 +204,12 @@ impl Task {
     }
 
     /// The least value that the objective could have in a box left. It takes no memory.
-    #[tactic(auto, using(crate::proofs::Floors::boxes_wide, crate::proofs::Floors::lowest_bounds))]
+    #[tactic(auto, using(crate::proofs::Floors::lowest_bounds))]
     pub fn lowest(&self) -> Option<i128>
         ensures none { IsNone result ↔ (self.now.boxes ≡ []) }
         ensures some { IfSome result (IsLowest self.now.problem self.now.boxes) }
         ensures bound { IfSome result (IsBound self.now) }
+        ensures small { IfSome result (λ low. unsigned_abs low ≤ 2 * 10 ^ 37) }
     {
         lowest_floor(&self.problem, self.boxes.as_slice())
     }
@@ -182,7 +227,7 @@ impl Task {
         ensures value { result.now ≡ self.now.problem }
         ensures problem { IsProblem self.now.problem }
     {
-        &self.problem
+        self.problem.problem()
     }
 
     /// What the task was given with.
@@ -200,6 +245,14 @@ impl Task {
         &self.whole
     }
 
+    /// By how much a value has to be less than that of a point found, multiplied by ten to the objective's scale.
+    pub fn gap(&self) -> i128
+        ensures value { result ≡ self.now.gap }
+        ensures gap { IsGap self.now.gap }
+    {
+        self.gap
+    }
+
     /// How its boxes are halved.
     pub fn params(&self) -> Params
         ensures { result ≡ self.now.params }
@@ -210,7 +263,7 @@ impl Task {
     /// The value below which points are searched for, if there is one.
     pub fn cutoff(&self) -> Option<i128>
         ensures value { result ≡ self.now.cutoff }
-        ensures small { IsSmall self.now.cutoff }
+        ensures small { IsSmallCutoff self.now.cutoff }
     {
         self.cutoff
     }

@@ -1,4 +1,5 @@
 ghost use Rattle.std.specs.Prelude.{◌≡◌, ◌<◌, [], ◌∷◌, pos, None, IfOk};
+ghost use Rattle.ug_problem.specs.Better.{IsGap};
 
 use crate::step::Step;
 use crate::task::Task;
@@ -6,8 +7,8 @@ use std::alloc::{AllocError, Global};
 use ug_branch::Params;
 use ug_lists::{Items, Text};
 use ug_nodes::Ticket;
-use ug_problem::{Column, Columns, NamedRow, NamedRows, Problem, ProblemError};
-use ug_rows::{IntBox, Interval, Objective, Row, Term, Terms, below};
+use ug_problem::{Column, Columns, NamedRow, NamedRows, Problem, ProblemError, Shared};
+use ug_rows::{Interval, Objective, Row, Term, Terms, below};
 
 // The sum of columns 0 and 1.
 fn both(alloc: Global) -> Result<Terms, AllocError>
@@ -83,18 +84,28 @@ fn square(alloc: Global) -> Result<Problem, ProblemError> {
     Problem::new(alloc, columns, rows, objective)
 }
 
-// The task of all of the square.
-fn task(alloc: Global, number: u8) -> Option<Task>
-    requires { number < 8 }
+// The task of all of the square, with these params and this gap.
+fn task(alloc: Global, number: u8, gap: i128) -> Option<Task>
+    requires number { number < 8 }
+    requires gap { IsGap gap }
 {
     let problem = square(alloc).ok()?;
-    let sides = Vec::from_slice(alloc, problem.root().as_slice()).ok()?;
-    let whole = IntBox::from_vec(sides);
+    let whole = problem.root().clone().ok()?;
     if !below(&whole, problem.root()) {
         return None;
     }
     let ticket = Ticket { run: 1, number: 3 };
-    Task::new(alloc, problem, ticket, Params::new(number), whole, None).ok()
+    let problem = Shared::own(problem);
+    Task::new(
+        alloc,
+        problem,
+        ticket,
+        Params::new(number),
+        whole,
+        None,
+        gap,
+    )
+    .ok()
 }
 
 // A letter for what a step did, where a point that is found is (0, 5).
@@ -108,12 +119,8 @@ fn letter(step: &Step) -> u8 {
     }
 }
 
-#[test]
-fn searches_the_square(rt: HostRuntime) {
-    let Some(mut task) = task(rt.alloc(), 0) else {
-        panic!(rt; "no memory");
-    };
-    assert_eq!(rt; task.lowest(), Some(0));
+// Whether the search of the square goes as it does by hand: what each step did, the boxes left and their least floor.
+fn goes_as_by_hand(task: &mut Task) -> bool {
     for (told, left, lowest) in [
         (b'S', 2, Some(0)),
         (b'S', 3, Some(2)),
@@ -129,18 +136,31 @@ fn searches_the_square(rt: HostRuntime) {
         (b'E', 0, None),
     ] {
         let step = task.step();
-        assert!(rt; step.is_ok_and(|step| letter(&step) == told));
-        assert_eq!(rt; task.left(), left);
-        assert_eq!(rt; task.lowest(), lowest);
+        let same = step.is_ok_and(|step| letter(&step) == told);
+        if !same || task.left() != left || task.lowest() != lowest {
+            return false;
+        }
     }
-    assert_eq!(rt; task.cutoff(), Some(5));
+    true
+}
+
+#[test]
+fn searches_the_square_under_gaps(rt: HostRuntime) {
+    for (gap, cutoff) in [(0, 5), (2, 3), (9, 0)] {
+        let Some(mut task) = task(rt.alloc(), 0, gap) else {
+            panic!(rt; "no memory");
+        };
+        assert_eq!(rt; task.lowest(), Some(0));
+        assert!(rt; goes_as_by_hand(&mut task), "gap {gap}");
+        assert_eq!(rt; task.cutoff(), Some(cutoff));
+    }
 }
 
 // The cutoff with which the search of the square ends.
 fn ends_with(alloc: Global, number: u8) -> Option<i128>
     requires { number < 8 }
 {
-    let mut task = task(alloc, number)?;
+    let mut task = task(alloc, number, 0)?;
     loop {
         if matches!(task.step().ok()?, Step::Empty) {
             return task.cutoff();
@@ -157,7 +177,7 @@ fn ends_with_the_least_value(rt: HostRuntime) {
 
 #[test]
 fn lowers_the_cutoff(rt: HostRuntime) {
-    let Some(mut task) = task(rt.alloc(), 0) else {
+    let Some(mut task) = task(rt.alloc(), 0, 0) else {
         panic!(rt; "no memory");
     };
     for (given, cutoff) in [(6, 6), (9, 6), (5, 5)] {
@@ -171,7 +191,7 @@ fn lowers_the_cutoff(rt: HostRuntime) {
 
 #[test]
 fn hands_the_first_boxes(rt: HostRuntime) {
-    let Some(mut task) = task(rt.alloc(), 0) else {
+    let Some(mut task) = task(rt.alloc(), 0, 0) else {
         panic!(rt; "no memory");
     };
     for _ in 0..2 {

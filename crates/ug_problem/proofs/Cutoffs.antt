@@ -53,8 +53,8 @@ cutoff_without_gap p gap x problem z inside =
     no_gap_max (value_of p.objective x) gap (box_floor p.objective (root_of p)) z (root_bound p x problem inside)
 
 -- a value that is at least a floor is less by more than a gap exactly where it is below the cutoff
-below_max : (v w gap low : ℤ) → low ≤ℤ v → (v +ℤ gap) <ℤ w → v <ℤ int_max (w -ℤ gap) low
-below_max v w gap low h less = elim (max_is (w -ℤ gap) low) [
+below_max : (v w gap low : ℤ) → (v +ℤ gap) <ℤ w → v <ℤ int_max (w -ℤ gap) low
+below_max v w gap low less = elim (max_is (w -ℤ gap) low) [
   | inl m ↦ let e = m.0 in omega (arith, ints, less, e)
   | inr m ↦ let e = m.0 in omega (arith, ints, less, e, m.1)
 ]
@@ -68,12 +68,12 @@ less_of_max v w gap low h less = elim (max_is (w -ℤ gap) low) [
   | inr m ↦ let e = m.0 in absurd (at_once v low h (omega (arith, ints, less, e)))
 ]
 
-below_best : (p : Instance) (gap : ℤ) (best : Option (List ℤ)) (x : List ℤ) → box_floor p.objective (root_of p) ≤ℤ value_of p.objective x
+below_best : (p : Instance) (gap : ℤ) (best : Option (List ℤ)) (x : List ℤ)
     → IfSome best (λ y. (value_of p.objective x +ℤ gap) <ℤ value_of p.objective y)
     → IfSome (best_cutoff p gap best) (λ c. value_of p.objective x <ℤ c)
-below_best p gap None x h less = tt
-below_best p gap (Some y) x h less =
-    below_max (value_of p.objective x) (value_of p.objective y) gap (box_floor p.objective (root_of p)) h less
+below_best p gap None x less = tt
+below_best p gap (Some y) x less =
+    below_max (value_of p.objective x) (value_of p.objective y) gap (box_floor p.objective (root_of p)) less
 
 above_best : (p : Instance) (gap : ℤ) (best : Option (List ℤ)) (x : List ℤ) → box_floor p.objective (root_of p) ≤ℤ value_of p.objective x
     → IfSome (best_cutoff p gap best) (λ c. value_of p.objective x <ℤ c)
@@ -83,11 +83,11 @@ above_best p gap (Some y) x h less =
     less_of_max (value_of p.objective x) (value_of p.objective y) gap (box_floor p.objective (root_of p)) h less
 
 -- a better point is a feasible one with a value below the incumbent's cutoff
-pub better_is_good : (p : Instance) (gap : ℤ) (best : Option (List ℤ)) (x : List ℤ) → IsProblem p
-    → Better p gap best x → IsGood p (best_cutoff p gap best) x
-better_is_good p gap best x problem better = record {
+pub better_is_good : (p : Instance) (gap : ℤ) (best : Option (List ℤ)) (x : List ℤ) → Better p gap best x
+    → IsGood p (best_cutoff p gap best) x
+better_is_good p gap best x better = record {
   feasible = better.feasible;
-  less = below_best p gap best x (root_bound p x problem better.feasible.inside) better.less;
+  less = below_best p gap best x better.less;
 }
 
 -- and the other way round
@@ -99,4 +99,4 @@ good_is_better p gap best x problem good = record {
 }
 
 pub better_below_cutoff : BetterIsBelowCutoff
-better_below_cutoff p gap best x problem = (better_is_good p gap best x problem, good_is_better p gap best x problem)
+better_below_cutoff p gap best x problem = (better_is_good p gap best x, good_is_better p gap best x problem)

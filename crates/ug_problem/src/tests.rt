@@ -5,6 +5,7 @@ ghost use Rattle.ug_problem.specs.Instances.{IsFormed, instance_of};
 use crate::column::{Column, Columns, NamedRow, NamedRows};
 use crate::error::ProblemError;
 use crate::problem::Problem;
+use crate::shared::Shared;
 use std::alloc::{AllocError, Global};
 use ug_lists::{Items, Text};
 use ug_rows::{Objective, Row, Term, Terms};
@@ -68,6 +69,20 @@ fn is_made_unless_a_row_is_too_wide(rt: HostRuntime) {
         made(rt.alloc(), widest + 1, false, 0).err(),
         Some(ProblemError::TooWide { row: Some(0) })
     );
+}
+
+// Whether a problem of its own has a copy as its second holder, and a counted one itself.
+fn shares(alloc: Global) -> Result<bool, ProblemError> {
+    let own = Shared::own(made(alloc, 3, false, 0)?);
+    let copy = own.share()?;
+    let counted = own.into_counted(alloc)?;
+    let second = counted.share()?;
+    Ok(copy.problem().is(second.problem()) && !copy.problem().is(&made(alloc, 4, false, 0)?))
+}
+
+#[test]
+fn has_a_second_holder(rt: HostRuntime) {
+    assert_eq!(rt; shares(rt.alloc()), Ok(true));
 }
 
 // Whether this text is printed of a value.

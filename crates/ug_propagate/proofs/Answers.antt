@@ -3,7 +3,8 @@ use Rattle.std.proofs.Common.{◌≡◌, refl, sym, subst, ◌∙◌, ap, inl, i
 use Rattle.std.proofs.lemmas.Int.{ints}
 use Rattle.std.proofs.lemmas.List.{length-map}
 use Rattle.ug_rows.specs.declared.area.Interval.{Interval}
-use Rattle.ug_rows.specs.Boxes.{IsBelow, IsInside, IsNonEmpty, IsNarrower, IsWithin, interval_at, value_at}
+use Rattle.ug_rows.specs.Boxes.{IsBelow, IsCrossed, IsFixed, IsInside, IsNonEmpty, IsWithin, interval_at, value_at}
+use Rattle.ug_rows.proofs.AreaLemmas.{below_itself, inside_below}
 use Rattle.ug_rows.specs.Rows.{Keeps, sum_at, value_of}
 use Rattle.ug_rows.proofs.EndBounds.{AreThere}
 use Rattle.ug_problem.specs.declared.column.NamedRow.{NamedRow}
@@ -12,20 +13,12 @@ use Rattle.ug_problem.specs.Limits.{IsProblem}
 use Rattle.ug_propagate.specs.declared.tight.Tight.{Tight}
 use Rattle.ug_propagate.specs.declared.tight.Tight.TheVariants.{Kept, Empty}
 use Rattle.ug_propagate.specs.Rounds.{are_crossed, are_fixed, crossed, cutoff_row, last_round, round, rounds, rounds_of}
-use Rattle.ug_propagate.specs.Claims.{Holds, HasReason, IsCrossed, IsFixed, IsGood, IsLeftOf, IsSolved, KeepsGood}
-use Rattle.ug_propagate.proofs.Parts.{part_below, part_same, if_bool}
+use Rattle.ug_problem.specs.Better.{IsGood}
+use Rattle.ug_propagate.specs.Claims.{CanTighten, Holds, HasReason, IsLeftOf, IsSolved, IsTightened, KeepsGood}
+use Rattle.ug_propagate.proofs.Parts.{part_below, if_bool}
 use Rattle.ug_propagate.proofs.Looks.{Passes}
-use Rattle.ug_propagate.proofs.Sweeps.{IsSweepOf, round_holds, round_sweep, rounds_hold, rounds_sweep, usable_objective, usable_row}
+use Rattle.ug_propagate.proofs.Sweeps.{IsSweepOf, good_part_same, round_sweep, rounds_sweep, sweep_keeps, usable_objective, usable_row}
 use Rattle.ug_propagate.proofs.Fixed.{AllPass, ObjectivePasses, crossed_from, fixed_from, fixed_to, nonempty_from, passes_keeps, round_passes}
-
--- a fact that a box without a low above its high has, and that one round keeps, what is left of it has
-last_holds : (p : Instance) (cutoff : Option ℤ) (x : List ℤ) (o : Tight) → IsProblem p → IsGood p cutoff x
-    → Holds o x → Holds (last_round p cutoff o) x
-last_holds p cutoff x (Empty reason) problem good h = h
-last_holds p cutoff x (Kept area) problem good h =
-    let P : Tight → Type 0 = λ (t : Tight). Holds t x in
-    if_bool P (are_fixed area) (round p cutoff (Kept area)) (Kept area)
-    (λ fixed. round_holds p cutoff x (Kept area) problem good h) (λ open_. h)
 
 no_point : (area : List Interval) (x : List ℤ) → IsCrossed area → IsInside area x → ⊥
 no_point area x c i =
@@ -39,16 +32,6 @@ crossed_holds [] None area x c i = i
 crossed_holds [] (Some cutoff) area x c i = no_point area x c i
 crossed_holds (named ∷ rows) cutoff area x c i = no_point area x c i
 
--- each good point of the box is among what is left
-pub rounds_keep : (p : Instance) (cutoff : Option ℤ) (area : List Interval) → IsProblem p
-    → KeepsGood p cutoff area (rounds p cutoff area)
-rounds_keep p cutoff area problem x i good =
-    let P : Tight → Type 0 = λ (t : Tight). Holds t x in
-    if_bool P (are_crossed area) (crossed p.rows cutoff area) (last_round p cutoff (rounds_of 32 p cutoff (Kept area)))
-    (λ c. crossed_holds p.rows cutoff area x (crossed_from area c) i)
-    (λ n. last_holds p cutoff x (rounds_of 32 p cutoff (Kept area)) problem good
-    (rounds_hold 32 p cutoff x (Kept area) problem good i))
-
 last_sweep : (p : Instance) (cutoff : Option ℤ) (area : List Interval) (o : Tight) → IsProblem p
     → length area ≡ length p.columns → IsSweepOf p cutoff area o → IsSweepOf p cutoff area (last_round p cutoff o)
 last_sweep p cutoff area (Empty reason) problem wide h = h
@@ -60,25 +43,29 @@ all_sweep : (p : Instance) (cutoff : Option ℤ) (area : List Interval) → IsPr
     → IsNonEmpty area → IsSweepOf p cutoff area (last_round p cutoff (rounds_of 32 p cutoff (Kept area)))
 all_sweep p cutoff area problem wide n =
     last_sweep p cutoff area (rounds_of 32 p cutoff (Kept area)) problem wide
-    (rounds_sweep 32 p cutoff area (Kept area) problem wide (part_same area n))
+    (rounds_sweep 32 p cutoff area (Kept area) problem wide (good_part_same p cutoff area n))
+
+-- each good point of the box is among what is left
+rounds_keep : (p : Instance) (cutoff : Option ℤ) (area : List Interval) → IsProblem p → length area ≡ length p.columns
+    → KeepsGood p cutoff area (rounds p cutoff area)
+rounds_keep p cutoff area problem wide =
+    if_bool (KeepsGood p cutoff area) (are_crossed area) (crossed p.rows cutoff area)
+    (last_round p cutoff (rounds_of 32 p cutoff (Kept area)))
+    (λ c x i good. crossed_holds p.rows cutoff area x (crossed_from area c) i)
+    (λ n. sweep_keeps p cutoff area (last_round p cutoff (rounds_of 32 p cutoff (Kept area)))
+    (all_sweep p cutoff area problem wide (nonempty_from area n)))
 
 sweep_left : (p : Instance) (cutoff : Option ℤ) (area : List Interval) (o : Tight) → IsSweepOf p cutoff area o → IsLeftOf area o
-sweep_left p cutoff area (Kept left) h = part_below left area h
+sweep_left p cutoff area (Kept left) h = part_below left area h.part
 sweep_left p cutoff area (Empty reason) h = tt
 
-below_same : (area : List Interval) → IsBelow area area
-below_same area = record {
-  width = refl;
-  each = λ j there. record { low = omega (arith, ints); high = omega (arith, ints); open_ = λ ne. absurd (ne refl) };
-}
-
 crossed_left : (rows : List NamedRow) (cutoff : Option ℤ) (area : List Interval) → IsLeftOf area (crossed rows cutoff area)
-crossed_left [] None area = below_same area
+crossed_left [] None area = below_itself area
 crossed_left [] (Some cutoff) area = tt
 crossed_left (named ∷ rows) cutoff area = tt
 
 -- what is left is below the box
-pub rounds_below : (p : Instance) (cutoff : Option ℤ) (area : List Interval) → IsProblem p
+rounds_below : (p : Instance) (cutoff : Option ℤ) (area : List Interval) → IsProblem p
     → length area ≡ length p.columns → IsLeftOf area (rounds p cutoff area)
 rounds_below p cutoff area problem wide =
     if_bool (IsLeftOf area) (are_crossed area) (crossed p.rows cutoff area) (last_round p cutoff (rounds_of 32 p cutoff (Kept area)))
@@ -93,7 +80,8 @@ sweep_reason p cutoff area (Empty reason) h = record {
   row = h.row;
   named = h.named;
   inner = h.inner;
-  below = part_below h.inner area h.part;
+  below = part_below h.inner area h.part.part;
+  kept = h.part.kept;
   shown = inl h.missed;
 }
 
@@ -104,19 +92,21 @@ crossed_reason p [] (Some cutoff) area same c = record {
   row = cutoff_row p.objective cutoff;
   named = refl;
   inner = area;
-  below = below_same area;
+  below = below_itself area;
+  kept = λ x i good. i;
   shown = inr c;
 }
 crossed_reason p (named ∷ rows) cutoff area same c = record {
   row = row_at p 0;
   named = (omega (arith, ap (λ (l : List NamedRow). length l) same), refl);
   inner = area;
-  below = below_same area;
+  below = below_itself area;
+  kept = λ x i good. i;
   shown = inr c;
 }
 
 -- where nothing is left, the reason shows it
-pub rounds_reason : (p : Instance) (cutoff : Option ℤ) (area : List Interval) → IsProblem p
+rounds_reason : (p : Instance) (cutoff : Option ℤ) (area : List Interval) → IsProblem p
     → length area ≡ length p.columns → HasReason p cutoff area (rounds p cutoff area)
 rounds_reason p cutoff area problem wide =
     if_bool (HasReason p cutoff area) (are_crossed area) (crossed p.rows cutoff area)
@@ -124,19 +114,6 @@ rounds_reason p cutoff area problem wide =
     (λ c. crossed_reason p p.rows cutoff area refl (crossed_from area c))
     (λ n. sweep_reason p cutoff area (last_round p cutoff (rounds_of 32 p cutoff (Kept area)))
     (all_sweep p cutoff area problem wide (nonempty_from area n)))
-
-within_wider : (inner outer : Interval) (v : ℤ) → IsNarrower inner outer → IsWithin inner v → IsWithin outer v
-within_wider inner outer v n w =
-    let a : outer.low ≤ℤ inner.low = n.low in
-    let b : inner.high ≤ℤ outer.high = n.high in
-    record { low = omega (arith, ints, a, w.low); high = omega (arith, ints, b, w.high) }
-
-inside_wider : (inner outer : List Interval) (x : List ℤ) → IsBelow inner outer → IsInside inner x → IsInside outer x
-inside_wider inner outer x b i = record {
-  width = i.width ∙ b.width;
-  each = λ j there. within_wider (interval_at inner j) (interval_at outer j) (value_at x j) (b.each j there)
-      (i.each j (omega (arith, b.width)));
-}
 
 all_pass_at : (rows : List NamedRow) (area : List Interval) (r : ℕ) → r < length rows → AllPass rows area
     → Passes (slice_index_or rows r no_row).row area
@@ -166,7 +143,7 @@ good_point p cutoff area x problem below fixed i rows objective =
     let P : ℕ → ℕ → Type 0 = λ (r w : ℕ). AreThere w (row_at p r).terms in
     record {
       feasible = record {
-        inside = inside_wider area (root_of p) x below i;
+        inside = inside_below area (root_of p) x below i;
         rows = λ r there. passes_keeps (row_at p r) area x (subst (P r) (sym wide) (usable_row p r problem there).there) fixed i
             (all_pass_at p.rows area r there rows);
       };
@@ -192,14 +169,14 @@ last_solved : (p : Instance) (cutoff : Option ℤ) (area : List Interval) (o : T
 last_solved p cutoff area (Empty reason) problem wide h = tt
 last_solved p cutoff area (Kept left) problem wide h =
     if_bool (IsSolved p cutoff) (are_fixed left) (round p cutoff (Kept left)) (Kept left)
-    (λ fixed. round_solved p cutoff left (round p cutoff (Kept left)) problem (h.width ∙ wide) (fixed_from left fixed) refl)
+    (λ fixed. round_solved p cutoff left (round p cutoff (Kept left)) problem (h.part.width ∙ wide) (fixed_from left fixed) refl)
     (λ open_ below one x i. absurd (not_fixed (are_fixed left) open_ (fixed_to left one)))
 
 crossed_solved : (p : Instance) (rows : List NamedRow) (cutoff : Option ℤ) (area : List Interval) → p.rows ≡ rows
     → IsSolved p cutoff (crossed rows cutoff area)
 crossed_solved p [] None area same = λ below one x i. record {
   feasible = record {
-    inside = inside_wider area (root_of p) x below i;
+    inside = inside_below area (root_of p) x below i;
     rows = λ r there. absurd (omega (arith, ap (λ (l : List NamedRow). length l) same));
   };
   less = tt;
@@ -208,16 +185,29 @@ crossed_solved p [] (Some cutoff) area same = tt
 crossed_solved p (named ∷ rows) cutoff area same = tt
 
 -- where one point within all bounds is left, it is good
-pub rounds_solve : (p : Instance) (cutoff : Option ℤ) (area : List Interval) → IsProblem p
+rounds_solve : (p : Instance) (cutoff : Option ℤ) (area : List Interval) → IsProblem p
     → length area ≡ length p.columns → IsSolved p cutoff (rounds p cutoff area)
 rounds_solve p cutoff area problem wide =
     if_bool (IsSolved p cutoff) (are_crossed area) (crossed p.rows cutoff area)
     (last_round p cutoff (rounds_of 32 p cutoff (Kept area)))
     (λ c. crossed_solved p p.rows cutoff area refl)
     (λ n. last_solved p cutoff area (rounds_of 32 p cutoff (Kept area)) problem wide
-    (rounds_sweep 32 p cutoff area (Kept area) problem wide (part_same area (nonempty_from area n))))
+    (rounds_sweep 32 p cutoff area (Kept area) problem wide (good_part_same p cutoff area (nonempty_from area n))))
 
--- what holds of this value holds of an answer that is this value
-pub told_since : {E : Type 0} (P : Tight → Type 0) (t : Tight) (r : Result Tight E) → P t → IfOk r (λ (o : Tight). o ≡ t) → IfOk r P
-told_since P t (Ok o) h e = subst P (sym e) h
-told_since P t (Err e) h k = k
+-- what the rounds make of a box is what bound propagation says
+rounds_tightened : (p : Instance) (cutoff : Option ℤ) (area : List Interval) → IsProblem p → CanTighten p cutoff area
+    → IsTightened p cutoff area (rounds p cutoff area)
+rounds_tightened p cutoff area problem can = record {
+  value = refl;
+  below = rounds_below p cutoff area problem can.width;
+  kept = rounds_keep p cutoff area problem can.width;
+  empty = rounds_reason p cutoff area problem can.width;
+  fixed = rounds_solve p cutoff area problem can.width;
+}
+
+-- and so is an answer that is what they make
+pub told_tightened : {E : Type 0} (p : Instance) (cutoff : Option ℤ) (area : List Interval) (told : Result Tight E) → IsProblem p
+    → CanTighten p cutoff area → IfOk told (λ (t : Tight). t ≡ rounds p cutoff area) → IfOk told (IsTightened p cutoff area)
+told_tightened p cutoff area (Ok t) problem can e =
+    subst (IsTightened p cutoff area) (sym e) (rounds_tightened p cutoff area problem can)
+told_tightened p cutoff area (Err _) problem can e = e

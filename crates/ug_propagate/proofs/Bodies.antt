@@ -4,8 +4,7 @@ use Rattle.std.proofs.lemmas.Int.{ints}
 use Rattle.std.proofs.lemmas.List.Elements.{All-get_or}
 use Rattle.std.proofs.Math.Seq.{drop-cons}
 use Rattle.std.proofs.Common.{add-one, Bool, true, false, T, not}
-use Rattle.ug_rows.specs.Boxes.{IsNonEmpty, interval_at}
-use Rattle.ug_propagate.specs.Claims.{IsFixed, IsCrossed}
+use Rattle.ug_rows.specs.Boxes.{IsCrossed, IsFixed, IsNonEmpty, interval_at}
 use Rattle.ug_propagate.proofs.Parts.{if_bool}
 use Rattle.ug_propagate.proofs.Fixed.{crossed_from, fixed_from, fixed_to, nonempty_from, empty_rows}
 use Rattle.ug_propagate.proofs.Sweeps.{rounds_stay, rounds_of_more, rounds_of_none}
@@ -23,7 +22,7 @@ use Rattle.ug_propagate.specs.declared.tight.Tight.{Tight}
 use Rattle.ug_propagate.specs.declared.tight.Tight.TheVariants.{Kept, Empty}
 use Rattle.ug_propagate.specs.declared.tight.Reason.{Reason}
 use Rattle.ug_propagate.specs.Rounds.{keep_at_least, keep_at_most, lower_high, raise_low, floor_quotient, ceiling_quotient, over_rows, over_terms, over_objective, row_step, term_step, round, rounds, rounds_of, last_round, crossed, are_crossed, are_fixed}
-use Rattle.ug_propagate.specs.Steps.{IsReady, IsTermOf}
+use Rattle.ug_propagate.specs.Steps.{IsLookable, IsTermOf}
 
 -- a difference is no larger than its parts
 pub others_small : (a b : ℤ) → unsigned_abs (a -ℤ b) ≤ unsigned_abs a + unsigned_abs b
@@ -70,7 +69,7 @@ side_small (Some s) h = omega (arith, h)
 -- each row of a problem is ready to be looked at
 pub ready_row : (p : Instance) (r : ℕ) (look : Look) → IsProblem p → r < length p.rows
     → look.low ≡ (row_at p r).low → look.high ≡ (row_at p r).high
-    → IsReady (length p.columns) look (row_at p r).terms
+    → IsLookable (length p.columns) look (row_at p r).terms
 ready_row p r look problem there low high =
     let formed : IsRow (length p.columns) (slice_index_or p.rows r no_row) =
     All-get_or (IsRow (length p.columns)) p.rows r no_row there problem.formed.rows in
@@ -85,7 +84,7 @@ ready_row p r look problem there low high =
 -- so is the objective, under a cutoff of at most 2 * 10^37
 pub ready_objective : (p : Instance) (look : Look) (c : ℤ) → IsProblem p → unsigned_abs c ≤ 2 * 10 ^ 37
     → look.low ≡ None → look.high ≡ Some (c -ℤ pos 1 -ℤ p.objective.constant)
-    → IsReady (length p.columns) look p.objective.terms
+    → IsLookable (length p.columns) look p.objective.terms
 ready_objective p look c problem small low high =
     let P : Option ℤ → Type 0 = λ (s : Option ℤ). IfSome s (λ v. unsigned_abs v ≤ 4 * 10 ^ 37) in
     let k : unsigned_abs (c -ℤ pos 1 -ℤ p.objective.constant) ≤ 4 * 10 ^ 37 =
@@ -138,7 +137,7 @@ terms_end name row ts i area whole h f =
     sym (ap (λ (l : List Term). over_terms name row l (Kept area)) (drop_all ts i h)) ∙ f
 
 -- a term of a row that is ready
-pub term_of : (width : ℕ) (look : Look) (ts : List Term) (i : ℕ) → IsReady width look ts → i < length ts → IsTermOf width (term_at ts i)
+pub term_of : (width : ℕ) (look : Look) (ts : List Term) (i : ℕ) → IsLookable width look ts → i < length ts → IsTermOf width (term_at ts i)
 term_of width look ts i ready h = record {
   there = ready.linear.within i h;
   small = ready.linear.small i h;

@@ -10,7 +10,7 @@ use Rattle.ug_rows.specs.declared.row.Term.{Term}
 use Rattle.ug_rows.specs.declared.row.Row.{Row}
 use Rattle.ug_rows.specs.declared.row.Objective.{Objective}
 use Rattle.ug_rows.specs.declared.sums.Extreme.TheVariants.{Least, Greatest}
-use Rattle.ug_rows.specs.Boxes.{IsInside, IsNonEmpty, IsClosedWithin, interval_at, no_interval}
+use Rattle.ug_rows.specs.Boxes.{IsClosedWithin, IsCrossed, IsFixed, IsInside, IsNonEmpty, interval_at, no_interval}
 use Rattle.ug_rows.specs.Rows.{Keeps, sum_at}
 use Rattle.ug_rows.specs.Sums.{end_of, end_product, end_sum}
 use Rattle.ug_rows.proofs.EndBounds.{AreThere, end_bound}
@@ -21,7 +21,6 @@ use Rattle.ug_propagate.specs.declared.tight.Tight.{Tight}
 use Rattle.ug_propagate.specs.declared.tight.Tight.TheVariants.{Kept, Empty}
 use Rattle.ug_propagate.specs.declared.tight.Reason.{Reason}
 use Rattle.ug_propagate.specs.Rounds.{are_fixed, are_crossed, cutoff_row, over_rows, over_objective, round, row_step}
-use Rattle.ug_propagate.specs.Claims.{IsFixed, IsCrossed}
 use Rattle.ug_propagate.proofs.Parts.{IsPart}
 use Rattle.ug_propagate.proofs.Looks.{IsLookOf, IsUsable, Passes, IsPassed, row_look, row_passes}
 use Rattle.ug_propagate.proofs.Sweeps.{AreRowsFrom, all_rows_from, usable_named, usable_objective}
@@ -120,7 +119,7 @@ IsSame area (Kept left) = left ≡ area
 IsSame area (Empty reason) = Unit {0}
 
 look_same : (name : Option ℕ) (row : Row) (area : List Interval) (o : Tight) → IsFixed area → IsLookOf name row area o → IsSame area o
-look_same name row area (Kept left) fixed h = part_of_fixed left area h fixed
+look_same name row area (Kept left) fixed h = part_of_fixed left area h.part fixed
 look_same name row area (Empty reason) fixed h = tt
 
 pub empty_rows : (r : ℕ) (rest : List NamedRow) (reason : Reason) → over_rows r rest (Empty reason) ≡ Empty reason

@@ -50,51 +50,77 @@ usable_terms width terms linear nonzero =
     let there : AreThere width terms = there_from_index width terms linear.within in
     record { there = there; each = of_itself width terms there nonzero }
 
--- a part of the box, over which no sum of the row keeps to the side of the reason
+-- a part of the box that has each point of it that keeps to the row
+pub record IsPartFor (row : Row) (inner outer : List Interval) : Type 0 where
+  pub part : IsPart inner outer
+  pub kept : (x : List ℤ) → Keeps row x → IsInside outer x → IsInside inner x
+
+-- such a part of the box, over which no sum of the row keeps to the side of the reason
 pub record IsMissedIn (name : Option ℕ) (row : Row) (area : List Interval) (reason : Reason) : Type 0 where
   pub named : reason.row ≡ name
   pub inner : List Interval
-  pub part : IsPart inner area
+  pub part : IsPartFor row inner area
   pub missed : IsMissed reason.side row inner
 
--- a part of the box is left, or the row shows that nothing is
+-- such a part of the box is left, or the row shows that nothing is
 abbrev pub IsLookOf : Option ℕ → Row → List Interval → Tight → Type 0
-IsLookOf name row area (Kept left) = IsPart left area
+IsLookOf name row area (Kept left) = IsPartFor row left area
 IsLookOf name row area (Empty reason) = IsMissedIn name row area reason
 
 missed_for : (name : Option ℕ) (row : Row) (inner area : List Interval) (side : Side) (reason : Reason)
-    → reason ≡ reason_of name side → IsPart inner area → IsMissed side row inner → IsMissedIn name row area reason
+    → reason ≡ reason_of name side → IsPartFor row inner area → IsMissed side row inner → IsMissedIn name row area reason
 missed_for name row inner area side reason same part missed =
     subst (IsMissedIn name row area) (sym same)
     (record { named = refl; inner = inner; part = part; missed = missed })
 
-cut_look : (name : Option ℕ) (row : Row) (inner area : List Interval) (side : Side) (o : Tight) → IsNonEmpty inner
-    → IsPart inner area → IsCut inner (reason_of name side) (IsMissed side row inner) o → IsLookOf name row area o
-cut_look name row inner area side (Kept left) n part h = part_trans left inner area h part
-cut_look name row inner area side (Empty told) n part h = missed_for name row inner area side told h.0 part h.1
+cut_look : (name : Option ℕ) (row : Row) (inner area : List Interval) (side : Side) (o : Tight)
+    → IsPartFor row inner area → IsCut inner (reason_of name side) (IsMissed side row inner) o
+    → ((x : List ℤ) → Keeps row x → IsInside inner x → Holds o x) → IsLookOf name row area o
+cut_look name row inner area side (Kept left) part h holds = record {
+  part = part_trans left inner area h part.part;
+  kept = λ x keeps i. holds x keeps (part.kept x keeps i);
+}
+cut_look name row inner area side (Empty told) part h holds = missed_for name row inner area side told h.0 part h.1
+
+-- the terms are over the columns of a part as well
+there_in : (row : Row) (left area : List Interval) → IsUsable (length area) row.terms → IsPartFor row left area
+    → AreThere (length left) row.terms
+there_in row left area usable h =
+    let P : ℕ → Type 0 = λ (w : ℕ). AreThere w row.terms in
+    subst P (sym h.part.width) usable.there
 
 then_low_look : (name : Option ℕ) (row : Row) (t : Term) (area : List Interval) (o : Tight)
-    → t.column < length area → t.factor ≢ pos 0 → IsLookOf name row area o → IsLookOf name row area (then_low name row t o)
-then_low_look name row t area (Empty reason) there ne h = h
-then_low_look name row t area (Kept left) there ne h =
-    let n : IsNonEmpty left = part_nonempty left area h in
-    cut_look name row left area Low (over_low name row.terms row.low t left) n h
-    (low_cuts name row.terms row.low t left n (omega (arith, h.width)) ne)
+    → IsUsable (length area) row.terms → IsAmong t row.terms → t.column < length area → t.factor ≢ pos 0
+    → IsLookOf name row area o → IsLookOf name row area (then_low name row t o)
+then_low_look name row t area (Empty reason) usable among there ne h = h
+then_low_look name row t area (Kept left) usable among there ne h =
+    let within : t.column < length left = omega (arith, h.part.width) in
+    cut_look name row left area Low (over_low name row.terms row.low t left) h
+    (low_cuts name row.terms row.low t left (part_nonempty left area h.part) within ne)
+    (λ x keeps i. low_holds name row.terms row.low t left x i (there_in row left area usable h) among within ne keeps.low)
 
 term_look : (name : Option ℕ) (row : Row) (t : Term) (area : List Interval) (o : Tight)
-    → t.column < length area → t.factor ≢ pos 0 → IsLookOf name row area o → IsLookOf name row area (term_step name row t o)
-term_look name row t area (Empty reason) there ne h = h
-term_look name row t area (Kept left) there ne h =
-    let n : IsNonEmpty left = part_nonempty left area h in
-    then_low_look name row t area (under_high name row.terms row.high t left) there ne
-    (cut_look name row left area High (under_high name row.terms row.high t left) n h
-    (high_cuts name row.terms row.high t left n (omega (arith, h.width)) ne))
+    → IsUsable (length area) row.terms → IsAmong t row.terms → t.column < length area → t.factor ≢ pos 0
+    → IsLookOf name row area o → IsLookOf name row area (term_step name row t o)
+term_look name row t area (Empty reason) usable among there ne h = h
+term_look name row t area (Kept left) usable among there ne h =
+    let within : t.column < length left = omega (arith, h.part.width) in
+    then_low_look name row t area (under_high name row.terms row.high t left) usable among there ne
+    (cut_look name row left area High (under_high name row.terms row.high t left) h
+    (high_cuts name row.terms row.high t left (part_nonempty left area h.part) within ne)
+    (λ x keeps i. high_holds name row.terms row.high t left x i (there_in row left area usable h) among within ne keeps.high))
 
 terms_look : (name : Option ℕ) (row : Row) (rest : List Term) (area : List Interval) (o : Tight)
-    → AreOf (length area) row.terms rest → IsLookOf name row area o → IsLookOf name row area (over_terms name row rest o)
-terms_look name row [] area o of h = h
-terms_look name row (t ∷ rest) area o of h =
-    terms_look name row rest area (term_step name row t o) of.3 (term_look name row t area o of.1 of.2 h)
+    → IsUsable (length area) row.terms → AreOf (length area) row.terms rest → IsLookOf name row area o
+    → IsLookOf name row area (over_terms name row rest o)
+terms_look name row [] area o usable of h = h
+terms_look name row (t ∷ rest) area o usable of h =
+    terms_look name row rest area (term_step name row t o) usable of.3
+    (term_look name row t area o usable of.0 of.1 of.2 h)
+
+-- the box itself is such a part
+whole_part : (row : Row) (area : List Interval) → IsNonEmpty area → IsPartFor row area area
+whole_part row area n = record { part = part_same area n; kept = λ x keeps i. i }
 
 -- a choice by whether a sum is above the high side
 pub if_exceeds : {A : Type 0} (P : A → Type 0) (high : Option ℤ) (sum : ℤ) (x y : A)
@@ -114,33 +140,10 @@ pub row_look : (name : Option ℕ) (row : Row) (area : List Interval) → IsNonE
 row_look name row area n usable =
     let P : Tight → Type 0 = IsLookOf name row area in
     if_exceeds P row.high (least_sum row.terms area) _ _
-    (λ missed. missed_for name row area area High (reason_of name High) refl (part_same area n) missed)
+    (λ missed. missed_for name row area area High (reason_of name High) refl (whole_part row area n) missed)
     (λ within. if_falls_short P row.low (greatest_sum row.terms area) _ _
-    (λ missed. missed_for name row area area Low (reason_of name Low) refl (part_same area n) missed)
-    (λ both. terms_look name row row.terms area (Kept area) usable.each (part_same area n)))
-
--- points that keep to the row are kept
-then_low_holds : (name : Option ℕ) (row : Row) (t : Term) (area : List Interval) (x : List ℤ) (o : Tight) → IsUsable (length x) row.terms
-    → IsAmong t row.terms → t.column < length x → t.factor ≢ pos 0 → Keeps row x → Holds o x → Holds (then_low name row t o) x
-then_low_holds name row t area x (Empty reason) usable among there ne keeps h = h
-then_low_holds name row t area x (Kept left) usable among there ne keeps h =
-    let P : ℕ → Type 0 = λ (w : ℕ). AreThere w row.terms in
-    low_holds name row.terms row.low t left x h (subst P h.width usable.there) among (omega (arith, h.width)) ne keeps.low
-
-term_holds : (name : Option ℕ) (row : Row) (t : Term) (x : List ℤ) (o : Tight) → IsUsable (length x) row.terms
-    → IsAmong t row.terms → t.column < length x → t.factor ≢ pos 0 → Keeps row x → Holds o x → Holds (term_step name row t o) x
-term_holds name row t x (Empty reason) usable among there ne keeps h = h
-term_holds name row t x (Kept left) usable among there ne keeps h =
-    let P : ℕ → Type 0 = λ (w : ℕ). AreThere w row.terms in
-    then_low_holds name row t left x (under_high name row.terms row.high t left) usable among there ne keeps
-    (high_holds name row.terms row.high t left x h (subst P h.width usable.there) among (omega (arith, h.width)) ne keeps.high)
-
-terms_hold : (name : Option ℕ) (row : Row) (rest : List Term) (x : List ℤ) (o : Tight) → IsUsable (length x) row.terms
-    → AreOf (length x) row.terms rest → Keeps row x → Holds o x → Holds (over_terms name row rest o) x
-terms_hold name row [] x o usable of keeps h = h
-terms_hold name row (t ∷ rest) x o usable of keeps h =
-    terms_hold name row rest x (term_step name row t o) usable of.3 keeps
-    (term_holds name row t x o usable of.0 of.1 of.2 keeps h)
+    (λ missed. missed_for name row area area Low (reason_of name Low) refl (whole_part row area n) missed)
+    (λ both. terms_look name row row.terms area (Kept area) usable usable.each (whole_part row area n)))
 
 not_exceeded : (high : Option ℤ) (least sum : ℤ) → least ≤ℤ sum → MatchOption high ⊥ (λ h. h <ℤ least) → IfSome high (λ h. sum ≤ℤ h) → ⊥
 not_exceeded None least sum h k m = k
@@ -150,19 +153,15 @@ not_short : (low : Option ℤ) (greatest sum : ℤ) → sum ≤ℤ greatest → 
 not_short None greatest sum h k m = k
 not_short (Some low) greatest sum h k m = omega (arith, ints)
 
-pub row_holds : (name : Option ℕ) (row : Row) (area : List Interval) (x : List ℤ) → IsUsable (length x) row.terms
-    → Keeps row x → IsInside area x → Holds (row_step name row area) x
-row_holds name row area x usable keeps i =
-    let P : Tight → Type 0 = λ (o : Tight). Holds o x in
-    let W : ℕ → Type 0 = λ (w : ℕ). AreThere w row.terms in
-    let there : AreThere (length area) row.terms = subst W i.width usable.there in
-    if_exceeds P row.high (least_sum row.terms area) _ _
-    (λ missed. not_exceeded row.high (least_sum row.terms area) (sum_at row.terms x)
-    (end_bound Least row.terms area x there i) missed keeps.high)
-    (λ within. if_falls_short P row.low (greatest_sum row.terms area) _ _
-    (λ missed. not_short row.low (greatest_sum row.terms area) (sum_at row.terms x)
-    (end_bound Greatest row.terms area x there i) missed keeps.low)
-    (λ both. terms_hold name row row.terms x (Kept area) usable usable.each keeps i))
+-- a box over which no sum of a row keeps to a side has no point that keeps to the row
+pub missed_none : (row : Row) (side : Side) (area : List Interval) (x : List ℤ) → AreThere (length area) row.terms
+    → IsMissed side row area → Keeps row x → IsInside area x → ⊥
+missed_none row Low area x there missed keeps i =
+    not_short row.low (greatest_sum row.terms area) (sum_at row.terms x) (end_bound Greatest row.terms area x there i)
+    missed keeps.low
+missed_none row High area x there missed keeps i =
+    not_exceeded row.high (least_sum row.terms area) (sum_at row.terms x) (end_bound Least row.terms area x there i)
+    missed keeps.high
 
 -- where the box is left, the row's least and greatest are within its sides
 pub record Passes (row : Row) (area : List Interval) : Type 0 where

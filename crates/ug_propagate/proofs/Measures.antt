@@ -5,7 +5,7 @@ use Rattle.std.proofs.lemmas.Bool.{cases_eq}
 use Rattle.ug_rows.specs.declared.area.Interval.{Interval}
 use Rattle.ug_rows.specs.declared.row.Term.{Term}
 use Rattle.ug_rows.specs.declared.sums.Extreme.{Extreme}
-use Rattle.ug_rows.specs.Boxes.{IsSmall, interval_at}
+use Rattle.ug_rows.specs.Boxes.{HasSmallEnds, interval_at}
 use Rattle.ug_rows.specs.Rows.{term_at}
 use Rattle.ug_rows.specs.Sums.{end_product, end_sum}
 use Rattle.ug_rows.proofs.EndLemmas.{end_sum_more}
@@ -30,10 +30,10 @@ widest_next ts i area widest next before more here k lt = elim (cases_eq k i) [
 ]
 
 pub small_next : (ts : List Term) (i : ℕ) (area : List Interval)
-    → ((k : ℕ) → k < i → IsSmall (interval_at area (term_at ts k).column))
-    → IsSmall (interval_at area (term_at ts i).column)
-    → (k : ℕ) → k < i + 1 → IsSmall (interval_at area (term_at ts k).column)
+    → ((k : ℕ) → k < i → HasSmallEnds (interval_at area (term_at ts k).column))
+    → HasSmallEnds (interval_at area (term_at ts i).column)
+    → (k : ℕ) → k < i + 1 → HasSmallEnds (interval_at area (term_at ts k).column)
 small_next ts i area before here k lt = elim (cases_eq k i) [
-  | inl e ↦ let P : ℕ → Type 0 = λ (j : ℕ). IsSmall (interval_at area (term_at ts j).column) in subst P (sym e) here
+  | inl e ↦ let P : ℕ → Type 0 = λ (j : ℕ). HasSmallEnds (interval_at area (term_at ts j).column) in subst P (sym e) here
   | inr ne ↦ before k (omega arith)
 ]

@@ -7,7 +7,7 @@ use Rattle.ug_rows.specs.declared.area.Interval.{Interval}
 use Rattle.ug_rows.specs.declared.row.Term.{Term}
 use Rattle.ug_rows.specs.declared.sums.Extreme.{Extreme}
 use Rattle.ug_rows.specs.declared.sums.Extreme.TheVariants.{Least, Greatest}
-use Rattle.ug_rows.specs.Boxes.{IsSmall, interval_at, no_interval}
+use Rattle.ug_rows.specs.Boxes.{HasSmallEnds, interval_at, no_interval}
 use Rattle.ug_rows.specs.Rows.{IsAmong, IsLinear, term_at}
 use Rattle.ug_rows.specs.Sums.{end_of, end_product, end_sum, least_sum, greatest_sum}
 use Rattle.ug_rows.proofs.Replaced.{product_new, sum_small, sum_with}
@@ -19,7 +19,7 @@ use Rattle.ug_propagate.specs.declared.tight.Tight.TheVariants.{Kept, Empty}
 use Rattle.ug_propagate.specs.declared.tight.Reason.{Reason}
 use Rattle.ug_propagate.specs.declared.tight.Side.TheVariants.{Low, High}
 use Rattle.ug_propagate.specs.Rounds.{keep_at_least, keep_at_most, lower_high, over_low, raise_low, reason_of, under_high}
-use Rattle.ug_propagate.specs.Steps.{HaveSmallColumns, IsMeasured, IsReady, IsRoomOf, high_of, low_of, outcome_of}
+use Rattle.ug_propagate.specs.Steps.{HaveSmallColumns, IsMeasured, IsLookable, IsRoomOf, high_of, low_of, outcome_of}
 use Rattle.ug_propagate.proofs.Bodies.{others_small}
 use Rattle.ug_propagate.proofs.Parts.{if_lt}
 
@@ -43,7 +43,7 @@ low_room_size low sum room e side small =
     rw e (omega (arith, others_small sum (low_of low), low_size low side, small))
 
 -- the sums of a room and their sizes
-room_of : (width : ℕ) (look : Look) (terms : List Term) (area : List Interval) (room : Room) → IsReady width look terms
+room_of : (width : ℕ) (look : Look) (terms : List Term) (area : List Interval) (room : Room) → IsLookable width look terms
     → HaveSmallColumns terms area → room.high ≡ high_of look.high -ℤ least_sum terms area
     → room.low ≡ greatest_sum terms area -ℤ low_of look.low → IsRoomOf look terms area room
 room_of width look terms area room ready small high low = record {
@@ -58,7 +58,7 @@ room_of width look terms area room ready small high low = record {
 
 -- the room that measured ends leave
 pub room_is : (width : ℕ) (look : Look) (terms : List Term) (area : List Interval) (ends : Ends) (room : Room)
-    → IsReady width look terms → IsMeasured terms area ends
+    → IsLookable width look terms → IsMeasured terms area ends
     → room.high ≡ high_of look.high -ℤ ends.least → room.low ≡ ends.greatest -ℤ low_of look.low → IsRoomOf look terms area room
 room_is width look terms area ends room ready m h l =
     room_of width look terms area room ready m.small (h ∙ ap (λ (s : ℤ). high_of look.high -ℤ s) m.least)
@@ -96,7 +96,7 @@ high_is name terms (Some high) t area room span most e small short less f =
 
 -- a term whose span is above the room of the high side keeps to that room above its least
 pub high_taken : (width : ℕ) (look : Look) (terms : List Term) (t : Term) (area : List Interval) (room : Room) (span most : ℤ)
-    → IsReady width look terms → IsRoomOf look terms area room
+    → IsLookable width look terms → IsRoomOf look terms area room
     → unsigned_abs span ≤ 10 ^ 24 * 2 ^ 32 → room.high <ℤ span → most ≡ room.high +ℤ end_product Least t area
     → under_high look.row terms look.high t area ≡ keep_at_most (reason_of look.row High) t.factor t.column most area
 high_taken width look terms t area room span most ready r short less f =
@@ -115,7 +115,7 @@ low_is name terms (Some low) t area room span least e small short less f =
 
 -- and one whose span is above the room of the low side, to that room below its greatest
 pub low_taken : (width : ℕ) (look : Look) (terms : List Term) (t : Term) (area : List Interval) (room : Room) (span least : ℤ)
-    → IsReady width look terms → IsRoomOf look terms area room
+    → IsLookable width look terms → IsRoomOf look terms area room
     → unsigned_abs span ≤ 10 ^ 24 * 2 ^ 32 → room.low <ℤ span → least ≡ end_product Greatest t area -ℤ room.low
     → over_low look.row terms look.low t area ≡ keep_at_least (reason_of look.row Low) t.factor t.column least area
 low_taken width look terms t area room span least ready r short less f =
@@ -197,13 +197,13 @@ at_least_moved reason (pos n) j s area new e = at_least_raised reason n j s area
 at_least_moved reason (negsuc n) j s area new e = at_least_lowered reason n j s area new e
 
 small_put : (terms : List Term) (area : List Interval) (j : ℕ) (side : Interval) → j < length area
-    → HaveSmallColumns terms area → IsSmall side → HaveSmallColumns terms (set area j side)
+    → HaveSmallColumns terms area → HasSmallEnds side → HaveSmallColumns terms (set area j side)
 small_put terms area j side there small one k within = elim (cases_eq (term_at terms k).column j) [
   | inl e ↦
       let at : interval_at (set area j side) j ≡ side = get_or-set_same area j side no_interval there in
-      let Q : ℕ → Type 0 = λ (i : ℕ). IsSmall (interval_at (set area j side) i) in
-      subst Q (sym e) (subst IsSmall (sym at) one)
-  | inr ne ↦ subst IsSmall (sym (get_or-set_other area j (term_at terms k).column side no_interval ne)) (small k within)
+      let Q : ℕ → Type 0 = λ (i : ℕ). HasSmallEnds (interval_at (set area j side) i) in
+      subst Q (sym e) (subst HasSmallEnds (sym at) one)
+  | inr ne ↦ subst HasSmallEnds (sym (get_or-set_other area j (term_at terms k).column side no_interval ne)) (small k within)
 ]
 
 stays : (sum old new : ℤ) → new ≡ old → (sum -ℤ old) +ℤ new ≡ sum
@@ -226,18 +226,18 @@ high_changes : (room sum old new high : ℤ) → room ≡ high -ℤ sum → room
 high_changes room sum old new high e = omega (arith, ints)
 
 small_moved : (e : Extreme) (f : ℤ) (terms : List Term) (j : ℕ) (area new : List Interval) → j < length area
-    → HaveSmallColumns terms area → IsSmall (interval_at new j) → IsMoved e f j area new → HaveSmallColumns terms new
+    → HaveSmallColumns terms area → HasSmallEnds (interval_at new j) → IsMoved e f j area new → HaveSmallColumns terms new
 small_moved e f terms j area new there small one moved =
     let at : interval_at (set area j moved.side) j ≡ moved.side = get_or-set_same area j moved.side no_interval there in
-    let P : List Interval → Type 0 = λ (a : List Interval). IsSmall (interval_at a j) in
+    let P : List Interval → Type 0 = λ (a : List Interval). HasSmallEnds (interval_at a j) in
     subst (HaveSmallColumns terms) (sym moved.put)
-    (small_put terms area j moved.side there small (subst IsSmall at (subst P moved.put one)))
+    (small_put terms area j moved.side there small (subst HasSmallEnds at (subst P moved.put one)))
 
 -- the room after a term is tightened under the high side
 pub room_after_high : (width : ℕ) (look : Look) (terms : List Term) (t : Term) (area new : List Interval) (room after : Room)
-    (reason : Reason) (most : ℤ) → IsReady width look terms → IsAmong t terms → t.column < length area
+    (reason : Reason) (most : ℤ) → IsLookable width look terms → IsAmong t terms → t.column < length area
     → IsRoomOf look terms area room → Kept new ≡ keep_at_most reason t.factor t.column most area
-    → IsSmall (interval_at new t.column) → after.high ≡ room.high
+    → HasSmallEnds (interval_at new t.column) → after.high ≡ room.high
     → after.low ≡ room.low +ℤ (end_product Greatest t new -ℤ end_product Greatest t area)
     → IsRoomOf look terms new after
 room_after_high width look terms t area new room after reason most ready among there r e small same changed =
@@ -260,9 +260,9 @@ room_after_high width look terms t area new room after reason most ready among t
 
 -- the room after a term is tightened over the low side
 pub room_after_low : (width : ℕ) (look : Look) (terms : List Term) (t : Term) (area new : List Interval) (room after : Room)
-    (reason : Reason) (least : ℤ) → IsReady width look terms → IsAmong t terms → t.column < length area
+    (reason : Reason) (least : ℤ) → IsLookable width look terms → IsAmong t terms → t.column < length area
     → IsRoomOf look terms area room → Kept new ≡ keep_at_least reason t.factor t.column least area
-    → IsSmall (interval_at new t.column) → after.low ≡ room.low
+    → HasSmallEnds (interval_at new t.column) → after.low ≡ room.low
     → after.high ≡ room.high -ℤ (end_product Least t new -ℤ end_product Least t area)
     → IsRoomOf look terms new after
 room_after_low width look terms t area new room after reason least ready among there r e small same changed =

@@ -1,22 +1,24 @@
 -- What rounds do to a box.
 use Rattle.std.proofs.Common.{◌≡◌, refl, sym, subst, ◌∙◌, ap, ℕ, zero, suc, ◌+◌, ◌<◌, ℤ, pos, ◌+ℤ◌, ◌-ℤ◌, ◌≤ℤ◌, ◌<ℤ◌, List, [], ◌∷◌, length, slice_index_or, Option, Some, None, arith}
 use Rattle.std.proofs.lemmas.Int.{ints}
-use Rattle.std.proofs.lemmas.List.{length-map}
 use Rattle.std.proofs.lemmas.List.Elements.{All-get_or}
 use Rattle.ug_rows.specs.declared.area.Interval.{Interval}
 use Rattle.ug_rows.specs.declared.row.Row.{Row}
+use Rattle.ug_rows.specs.Boxes.{IsInside, IsNonEmpty}
 use Rattle.ug_rows.specs.Rows.{Keeps, sum_at}
+use Rattle.ug_rows.proofs.EndBounds.{AreThere}
 use Rattle.ug_problem.specs.declared.column.NamedRow.{NamedRow}
-use Rattle.ug_problem.specs.Instances.{Instance, IsRow, bounds_of, no_row, row_at}
+use Rattle.ug_problem.specs.Instances.{Instance, IsRow, no_row, row_at}
 use Rattle.ug_problem.specs.Limits.{IsProblem}
 use Rattle.ug_problem.proofs.Linear.{linear_row, linear_objective}
 use Rattle.ug_propagate.specs.declared.tight.Tight.{Tight}
 use Rattle.ug_propagate.specs.declared.tight.Tight.TheVariants.{Kept, Empty}
 use Rattle.ug_propagate.specs.declared.tight.Reason.{Reason}
 use Rattle.ug_propagate.specs.Rounds.{cutoff_row, look_at, over_rows, over_objective, round, rounds_of, row_step}
-use Rattle.ug_propagate.specs.Claims.{Holds, IsGood, IsMissed, IsNamed}
-use Rattle.ug_propagate.proofs.Parts.{IsPart, part_trans, part_nonempty}
-use Rattle.ug_propagate.proofs.Looks.{IsLookOf, IsUsable, row_look, row_holds, usable_terms}
+use Rattle.ug_problem.specs.Better.{IsGood}
+use Rattle.ug_propagate.specs.Claims.{IsMissed, IsNamed, KeepsGood}
+use Rattle.ug_propagate.proofs.Parts.{IsPart, part_trans, part_nonempty, part_same}
+use Rattle.ug_propagate.proofs.Looks.{IsLookOf, IsPartFor, IsUsable, missed_none, row_look, usable_terms}
 
 -- the rows are those of the problem from row r on
 abbrev pub AreRowsFrom : Instance → ℕ → List NamedRow → Type 0
@@ -62,29 +64,64 @@ pub usable_objective : (p : Instance) → IsProblem p → IsUsable (length p.col
 usable_objective p problem =
     usable_terms (length p.columns) p.objective.terms (linear_objective p problem) problem.formed.objective.nonzero
 
--- a part of the box, over which no sum of the named row keeps to the side of the reason
+-- a part of the box that has each good point of it
+pub record IsGoodPart (p : Instance) (cutoff : Option ℤ) (inner outer : List Interval) : Type 0 where
+  pub part : IsPart inner outer
+  pub kept : (x : List ℤ) → IsInside outer x → IsGood p cutoff x → IsInside inner x
+
+pub good_part_same : (p : Instance) (cutoff : Option ℤ) (area : List Interval) → IsNonEmpty area → IsGoodPart p cutoff area area
+good_part_same p cutoff area n = record { part = part_same area n; kept = λ x i good. i }
+
+-- such a part of the box, over which no sum of the named row keeps to the side of the reason
 pub record IsShownIn (p : Instance) (cutoff : Option ℤ) (area : List Interval) (reason : Reason) : Type 0 where
   pub row : Row
   pub named : IsNamed p cutoff reason.row row
+  pub usable : IsUsable (length area) row.terms
   pub inner : List Interval
-  pub part : IsPart inner area
+  pub part : IsGoodPart p cutoff inner area
   pub missed : IsMissed reason.side row inner
 
--- a part of the box is left, or a row shows that nothing is
+-- such a part of the box is left, or a row shows that nothing is
 abbrev pub IsSweepOf : Instance → Option ℤ → List Interval → Tight → Type 0
-IsSweepOf p cutoff area (Kept left) = IsPart left area
+IsSweepOf p cutoff area (Kept left) = IsGoodPart p cutoff left area
 IsSweepOf p cutoff area (Empty reason) = IsShownIn p cutoff area reason
 
+value_below : (sum constant c : ℤ) → (sum +ℤ constant) <ℤ c → sum ≤ℤ (c -ℤ pos 1 -ℤ constant)
+value_below sum constant c h = omega (arith, ints)
+
+-- a good point keeps to each row that may be named
+pub good_keeps : (p : Instance) (cutoff : Option ℤ) (name : Option ℕ) (row : Row) (x : List ℤ)
+    → IsNamed p cutoff name row → IsGood p cutoff x → Keeps row x
+good_keeps p cutoff (Some r) row x named good =
+    let Q : Row → Type 0 = λ (w : Row). Keeps w x in
+    subst Q (sym named.1) (good.feasible.rows r named.0)
+good_keeps p None None row x named good = absurd named
+good_keeps p (Some c) None row x named good =
+    let Q : Row → Type 0 = λ (w : Row). Keeps w x in
+    subst Q (sym named)
+    (record { low = tt; high = value_below (sum_at p.objective.terms x) p.objective.constant c good.less })
+
+-- what is left by a row of a part that is left
+then_part : (p : Instance) (cutoff : Option ℤ) (last left area : List Interval) (name : Option ℕ) (row : Row)
+    → IsNamed p cutoff name row → IsGoodPart p cutoff left area → IsPartFor row last left → IsGoodPart p cutoff last area
+then_part p cutoff last left area name row named part h = record {
+  part = part_trans last left area h.part part.part;
+  kept = λ x i good. h.kept x (good_keeps p cutoff name row x named good) (part.kept x i good);
+}
+
 look_sweep : (p : Instance) (cutoff : Option ℤ) (area left : List Interval) (name : Option ℕ) (row : Row) (o : Tight)
-    → IsNamed p cutoff name row → IsPart left area → IsLookOf name row left o → IsSweepOf p cutoff area o
-look_sweep p cutoff area left name row (Kept last) named part h = part_trans last left area h part
-look_sweep p cutoff area left name row (Empty reason) named part h =
+    → IsNamed p cutoff name row → IsUsable (length area) row.terms → IsGoodPart p cutoff left area
+    → IsLookOf name row left o → IsSweepOf p cutoff area o
+look_sweep p cutoff area left name row (Kept last) named usable part h =
+    then_part p cutoff last left area name row named part h
+look_sweep p cutoff area left name row (Empty reason) named usable part h =
     let P : Option ℕ → Type 0 = λ (n : Option ℕ). IsNamed p cutoff n row in
     record {
       row = row;
       named = subst P (sym h.named) named;
+      usable = usable;
       inner = h.inner;
-      part = part_trans h.inner left area h.part part;
+      part = then_part p cutoff h.inner left area name row named part h.part;
       missed = h.missed;
     }
 
@@ -94,8 +131,8 @@ look_at_sweep : (p : Instance) (cutoff : Option ℤ) (area : List Interval) (nam
 look_at_sweep p cutoff area name row (Empty reason) named usable h = h
 look_at_sweep p cutoff area name row (Kept left) named usable h =
     let P : ℕ → Type 0 = λ (w : ℕ). IsUsable w row.terms in
-    look_sweep p cutoff area left name row (row_step name row left) named h
-    (row_look name row left (part_nonempty left area h) (subst P (sym h.width) usable))
+    look_sweep p cutoff area left name row (row_step name row left) named usable h
+    (row_look name row left (part_nonempty left area h.part) (subst P (sym h.part.width) usable))
 
 rows_sweep : (p : Instance) (cutoff : Option ℤ) (area : List Interval) (r : ℕ) (rest : List NamedRow) (o : Tight)
     → IsProblem p → length area ≡ length p.columns → AreRowsFrom p r rest → IsSweepOf p cutoff area o
@@ -128,50 +165,14 @@ rounds_sweep zero p cutoff area o problem wide h = h
 rounds_sweep (suc n) p cutoff area o problem wide h =
     rounds_sweep n p cutoff area (round p cutoff o) problem wide (round_sweep p cutoff area o problem wide h)
 
--- good points are kept
-look_at_holds : (name : Option ℕ) (row : Row) (x : List ℤ) (o : Tight) → IsUsable (length x) row.terms → Keeps row x
-    → Holds o x → Holds (look_at name row o) x
-look_at_holds name row x (Empty reason) usable keeps h = h
-look_at_holds name row x (Kept left) usable keeps h = row_holds name row left x usable keeps h
-
-pub good_width : (p : Instance) (cutoff : Option ℤ) (x : List ℤ) → IsGood p cutoff x → length x ≡ length p.columns
-good_width p cutoff x good = good.feasible.inside.width ∙ length-map p.columns bounds_of
-
-rows_hold : (p : Instance) (cutoff : Option ℤ) (x : List ℤ) (r : ℕ) (rest : List NamedRow) (o : Tight)
-    → IsProblem p → IsGood p cutoff x → AreRowsFrom p r rest → Holds o x → Holds (over_rows r rest o) x
-rows_hold p cutoff x r [] o problem good from h = h
-rows_hold p cutoff x r (named ∷ rest) o problem good from h =
-    let P : ℕ → Type 0 = λ (w : ℕ). IsUsable w named.row.terms in
-    let Q : Row → Type 0 = λ (w : Row). Keeps w x in
-    rows_hold p cutoff x (r + 1) rest (look_at (Some r) named.row o) problem good from.2
-    (look_at_holds (Some r) named.row x o
-    (subst P (sym (good_width p cutoff x good)) (usable_named p r named.row problem from.0 from.1))
-    (subst Q (sym from.1) (good.feasible.rows r from.0)) h)
-
-value_below : (sum constant c : ℤ) → (sum +ℤ constant) <ℤ c → sum ≤ℤ (c -ℤ pos 1 -ℤ constant)
-value_below sum constant c h = omega (arith, ints)
-
-objective_holds : (p : Instance) (cutoff : Option ℤ) (x : List ℤ) (o : Tight)
-    → IsProblem p → IsGood p cutoff x → Holds o x → Holds (over_objective p.objective cutoff o) x
-objective_holds p None x o problem good h = h
-objective_holds p (Some c) x o problem good h =
-    let P : ℕ → Type 0 = λ (w : ℕ). IsUsable w p.objective.terms in
-    look_at_holds None (cutoff_row p.objective c) x o
-    (subst P (sym (good_width p (Some c) x good)) (usable_objective p problem))
-    (record { low = tt; high = value_below (sum_at p.objective.terms x) p.objective.constant c good.less }) h
-
-pub round_holds : (p : Instance) (cutoff : Option ℤ) (x : List ℤ) (o : Tight)
-    → IsProblem p → IsGood p cutoff x → Holds o x → Holds (round p cutoff o) x
-round_holds p cutoff x o problem good h =
-    objective_holds p cutoff x (over_rows 0 p.rows o) problem good
-    (rows_hold p cutoff x 0 p.rows o problem good (all_rows_from p) h)
-
-pub rounds_hold : (n : ℕ) (p : Instance) (cutoff : Option ℤ) (x : List ℤ) (o : Tight)
-    → IsProblem p → IsGood p cutoff x → Holds o x → Holds (rounds_of n p cutoff o) x
-unfolding rounds_of
-rounds_hold zero p cutoff x o problem good h = h
-rounds_hold (suc n) p cutoff x o problem good h =
-    rounds_hold n p cutoff x (round p cutoff o) problem good (round_holds p cutoff x o problem good h)
+-- each good point of the box is among what is left; so there is none where nothing is left
+pub sweep_keeps : (p : Instance) (cutoff : Option ℤ) (area : List Interval) (o : Tight) → IsSweepOf p cutoff area o
+    → KeepsGood p cutoff area o
+sweep_keeps p cutoff area (Kept left) h x i good = h.kept x i good
+sweep_keeps p cutoff area (Empty reason) h x i good =
+    let P : ℕ → Type 0 = λ (w : ℕ). AreThere w h.row.terms in
+    missed_none h.row reason.side h.inner x (subst P (sym h.part.part.width) h.usable.there) h.missed
+    (good_keeps p cutoff reason.row h.row x h.named good) (h.part.kept x i good)
 
 -- after a round that changes nothing, no other changes anything
 pub rounds_stay : (n : ℕ) (p : Instance) (cutoff : Option ℤ) (o : Tight) → round p cutoff o ≡ o → rounds_of n p cutoff o ≡ o

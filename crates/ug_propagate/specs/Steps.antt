@@ -4,7 +4,7 @@ use Rattle.ug_rows.specs.declared.area.Interval.{Interval}
 use Rattle.ug_rows.specs.declared.row.Term.{Term}
 use Rattle.ug_rows.specs.declared.row.Row.{Row}
 use Rattle.ug_rows.specs.declared.sums.Extreme.TheVariants.{Least, Greatest}
-use Rattle.ug_rows.specs.Boxes.{IsSmall, interval_at}
+use Rattle.ug_rows.specs.Boxes.{HasSmallEnds, interval_at}
 use Rattle.ug_rows.specs.Rows.{IsLinear, term_at}
 use Rattle.ug_rows.specs.Sums.{end_product, least_sum, greatest_sum}
 use Rattle.ug_propagate.specs.declared.look.Look.{Look}
@@ -50,7 +50,7 @@ pub record IsTermOf (width : ℕ) (t : Term) : Type 0 where
   pub nonzero : t.factor ≢ pos 0
 
 -- terms over `width` columns with factors that are not 0, and sides of at most 4 * 10^37
-pub record IsReady (width : ℕ) (look : Look) (terms : List Term) : Type 0 where
+pub record IsLookable (width : ℕ) (look : Look) (terms : List Term) : Type 0 where
   pub linear : IsLinear width terms
   pub nonzero : (k : ℕ) → k < length terms → (term_at terms k).factor ≢ pos 0
   pub low : IfSome look.low (λ low. unsigned_abs low ≤ 4 * 10 ^ 37)
@@ -62,7 +62,7 @@ span_of t area = end_product Greatest t area -ℤ end_product Least t area
 
 -- the columns of the terms have i32 numbers
 abbrev pub HaveSmallColumns : List Term → List Interval → Type 0
-HaveSmallColumns terms area = (k : ℕ) → k < length terms → IsSmall (interval_at area (term_at terms k).column)
+HaveSmallColumns terms area = (k : ℕ) → k < length terms → HasSmallEnds (interval_at area (term_at terms k).column)
 
 -- the sums of the terms over the box, and a number that no span of a term is above
 pub record IsMeasured (terms : List Term) (area : List Interval) (ends : Ends) : Type 0 where

@@ -1,9 +1,9 @@
 ghost use Rattle.std.specs.Prelude.{◌≡◌, ◌≤◌, ◌*◌, ◌^◌, ◌-ℤ◌, ◌*ℤ◌, IsNone, length, unsigned_abs};
-ghost use Rattle.ug_rows.specs.Boxes.{IsSmall};
+ghost use Rattle.ug_rows.specs.Boxes.{HasSmallEnds};
 ghost use Rattle.ug_rows.specs.Rows.{IsAmong};
 ghost use Rattle.ug_rows.specs.Sums.{end_of};
 ghost use Rattle.ug_propagate.specs.Rounds.{over_low, over_terms, row_step, term_step, under_high};
-ghost use Rattle.ug_propagate.specs.Steps.{IsGoing, IsReady, IsRoomOf, IsStill, IsTermOf, looked_of, outcome_of, row_of, span_of};
+ghost use Rattle.ug_propagate.specs.Steps.{IsGoing, IsLookable, IsRoomOf, IsStill, IsTermOf, looked_of, outcome_of, row_of, span_of};
 ghost use Rattle.ug_propagate.specs.declared.tight.Tight.TheVariants.{Kept};
 
 use crate::columns::{product_above, product_below};
@@ -38,7 +38,7 @@ fn end_change(extreme: Extreme, term: Term, before: Interval, after: Interval) -
     requires { unsigned_abs term.factor ≤ 10 ^ 24 }
     ensures value { result ≡ (term.factor *ℤ end_of extreme term.factor after) -ℤ (term.factor *ℤ end_of extreme term.factor before) }
     ensures small { unsigned_abs result ≤ 10 ^ 24 * 2 ^ 32 }
-    ensures after { IsSmall after }
+    ensures after { HasSmallEnds after }
 {
     let old = end_at(extreme, term.factor, before);
     let new = end_at(extreme, term.factor, after);
@@ -53,7 +53,7 @@ fn tighten_under_high(
     room: &mut Room,
     area: &mut [Interval],
 ) -> Option<Reason>
-    requires row { IsReady (length area.old) look terms.now }
+    requires row { IsLookable (length area.old) look terms.now }
     requires term { IsTermOf (length area.old) term }
     requires among { IsAmong term terms.now }
     requires room { IsRoomOf look terms.now area.old room.old }
@@ -84,7 +84,7 @@ fn tighten_over_low(
     room: &mut Room,
     area: &mut [Interval],
 ) -> Option<Reason>
-    requires row { IsReady (length area.old) look terms.now }
+    requires row { IsLookable (length area.old) look terms.now }
     requires term { IsTermOf (length area.old) term }
     requires among { IsAmong term terms.now }
     requires room { IsRoomOf look terms.now area.old room.old }
@@ -115,7 +115,7 @@ fn tighten_both(
     room: &mut Room,
     area: &mut [Interval],
 ) -> Option<Reason>
-    requires row { IsReady (length area.old) look terms.now }
+    requires row { IsLookable (length area.old) look terms.now }
     requires term { IsTermOf (length area.old) term }
     requires among { IsAmong term terms.now }
     requires room { IsRoomOf look terms.now area.old room.old }
@@ -136,7 +136,7 @@ fn tighten_term(
     room: &mut Room,
     area: &mut [Interval],
 ) -> Looked
-    requires row { IsReady (length area.old) look terms.now }
+    requires row { IsLookable (length area.old) look terms.now }
     requires term { IsTermOf (length area.old) term }
     requires among { IsAmong term terms.now }
     requires room { IsRoomOf look terms.now area.old room.old }
@@ -155,7 +155,7 @@ fn tighten_term(
 }
 
 fn tighten_terms(look: Look, terms: &[Term], room: Room, area: &mut [Interval]) -> Looked
-    requires row { IsReady (length area.old) look terms.now }
+    requires row { IsLookable (length area.old) look terms.now }
     requires room { IsRoomOf look terms.now area.old room }
     ensures value { looked_of result area.new ≡ over_terms look.row (row_of look terms.now) terms.now (Kept area.old) }
     ensures still { IsStill result area.old area.new }
@@ -178,7 +178,7 @@ fn tighten_terms(look: Look, terms: &[Term], room: Room, area: &mut [Interval]) 
 
 // One row. Where no span is above the room of either side, as in most looks, it ends after the first pass.
 fn tighten_row(look: Look, terms: &[Term], area: &mut [Interval]) -> Looked
-    requires { IsReady (length area.old) look terms.now }
+    requires { IsLookable (length area.old) look terms.now }
     ensures value { looked_of result area.new ≡ row_step look.row (row_of look terms.now) area.old }
     ensures still { IsStill result area.old area.new }
 {

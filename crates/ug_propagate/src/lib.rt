@@ -2,14 +2,15 @@
 //! It stands on ug_rows and ug_problem.
 //! `tighten` gives what 32 rounds leave of a box, as specs/Rounds.antt says; every feasible point of the box
 //! with a value below the cutoff is left, and where nothing is left it names the row that shows it.
-//! It looks at a row once where no term of it can tighten, and keeps the row's sums up where one can;
-//! `tighten_plain` is the slow program that the definition is, with the same contract, for tests.
+//! It looks at a row once where no term of it can tighten, and keeps the row's sums up where one can; the slow
+//! program that the definition is has the same contract, and is there for tests alone.
 #![tactic(auto)]
 
 mod columns;
 mod fast;
 mod look;
 mod measure;
+#[cfg(test)]
 mod plain;
 mod propagation;
 mod quotient;
@@ -18,5 +19,5 @@ mod rounds;
 mod tests;
 mod tight;
 
-pub use propagation::{tighten, tighten_plain};
+pub use propagation::tighten;
 pub use tight::{Reason, Side, Tight};

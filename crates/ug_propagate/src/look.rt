@@ -25,10 +25,10 @@ pub enum Looked {
 /// A way to look at a row: its least against the high side, its greatest against the low side, then its terms.
 pub trait RowRule {
     ghost use Rattle.ug_propagate.specs.Rounds.{row_step};
-    ghost use Rattle.ug_propagate.specs.Steps.{IsReady, IsStill, looked_of, row_of};
+    ghost use Rattle.ug_propagate.specs.Steps.{IsLookable, IsStill, looked_of, row_of};
 
     fn look(look: Look, terms: &[Term], area: &mut [Interval]) -> Looked
-        requires { IsReady (length area.old) look terms.now }
+        requires { IsLookable (length area.old) look terms.now }
         ensures value { looked_of result area.new ≡ row_step look.row (row_of look terms.now) area.old }
         ensures still { IsStill result area.old area.new };
 }

@@ -1,9 +1,9 @@
 ghost use Rattle.std.specs.Prelude.{◌≡◌, ◌≤◌, ◌*◌, ◌^◌, ◌+◌, ◌+ℤ◌, ◌-ℤ◌, ◌*ℤ◌, ◌≤ℤ◌, ◌⊎◌, length, unsigned_abs};
-ghost use Rattle.ug_rows.specs.Boxes.{IsSmall};
+ghost use Rattle.ug_rows.specs.Boxes.{HasSmallEnds};
 ghost use Rattle.ug_rows.specs.Rows.{IsLinear};
 ghost use Rattle.ug_rows.specs.Sums.{end_of};
 ghost use Rattle.ug_rows.specs.declared.sums.Extreme.TheVariants.{Least, Greatest};
-ghost use Rattle.ug_propagate.specs.Steps.{IsMeasured, IsReady, IsRoomOf, high_of, low_of};
+ghost use Rattle.ug_propagate.specs.Steps.{IsMeasured, IsLookable, IsRoomOf, high_of, low_of};
 
 use crate::look::Look;
 use ug_rows::{Extreme, Interval, Term, add_end};
@@ -76,7 +76,7 @@ pub fn product(extreme: Extreme, term: Term, side: Interval) -> i128
     requires { unsigned_abs term.factor ≤ 10 ^ 24 }
     ensures value { result ≡ term.factor *ℤ end_of extreme term.factor side }
     ensures small { unsigned_abs result ≤ 10 ^ 24 * 2 ^ 31 }
-    ensures side { IsSmall side }
+    ensures side { HasSmallEnds side }
 {
     add_end(extreme, 0, term, side)
 }
@@ -100,7 +100,7 @@ fn with_term(ends: Ends, term: Term, side: Interval) -> Ends
     ensures widest { ends.widest ≤ℤ result.widest }
     ensures small_least { unsigned_abs result.least ≤ unsigned_abs ends.least + 10 ^ 24 * 2 ^ 31 }
     ensures small_greatest { unsigned_abs result.greatest ≤ unsigned_abs ends.greatest + 10 ^ 24 * 2 ^ 31 }
-    ensures side { IsSmall side }
+    ensures side { HasSmallEnds side }
 {
     let least = product(Extreme::Least, term, side);
     let greatest = product(Extreme::Greatest, term, side);
@@ -152,7 +152,7 @@ fn low_or_none(low: Option<i128>) -> i128
 
 /// The room that the sums leave within the sides of the row.
 pub fn room_within(look: Look, terms: &[Term], ends: Ends, area: &[Interval]) -> Room
-    requires ready { IsReady (length area.now) look terms.now }
+    requires ready { IsLookable (length area.now) look terms.now }
     requires measured { IsMeasured terms.now area.now ends }
     requires least { unsigned_abs ends.least ≤ 3 * 10 ^ 37 }
     requires greatest { unsigned_abs ends.greatest ≤ 3 * 10 ^ 37 }

@@ -1,13 +1,17 @@
-ghost use Rattle.std.specs.Prelude.{◌≡◌, ◌≤◌, ◌*◌, ◌^◌, ◌-ℤ◌, length, unsigned_abs};
+ghost use Rattle.std.specs.Prelude.{◌≡◌, ◌≤◌, ◌*◌, ◌^◌, ◌-ℤ◌, length, unsigned_abs, IfOk};
 ghost use Rattle.ug_rows.specs.Rows.{IsLinear};
+ghost use Rattle.ug_propagate.specs.Claims.{CanTighten, IsTightened};
 ghost use Rattle.ug_propagate.specs.Rounds.{end_of_others, exceeds, falls_short, over_low, over_terms, row_step, term_step, under_high};
-ghost use Rattle.ug_propagate.specs.Steps.{IsReady, IsTermOf, outcome_of, row_of};
+ghost use Rattle.ug_propagate.specs.Steps.{IsLookable, IsTermOf, outcome_of, row_of};
 ghost use Rattle.ug_propagate.specs.declared.tight.Tight.TheVariants.{Kept};
 
 use crate::columns::{product_above, product_below};
 use crate::look::{Look, Looked, RowRule};
-use crate::tight::{Reason, Side};
-use ug_rows::{Extreme, Interval, Term, add_end, sum_of_ends};
+use crate::propagation::tighten_by;
+use crate::tight::{Reason, Side, Tight};
+use std::alloc::{AllocError, Global};
+use ug_problem::Problem;
+use ug_rows::{Extreme, IntBox, Interval, Term, add_end, sum_of_ends};
 
 /// The rule as it is defined: each sum is taken anew for each term, and no look ends early.
 pub struct Plain;
@@ -51,7 +55,7 @@ fn tighten_under_high(
     term: Term,
     area: &mut [Interval],
 ) -> Option<Reason>
-    requires row { IsReady (length area.old) look terms.now }
+    requires row { IsLookable (length area.old) look terms.now }
     requires term { IsTermOf (length area.old) term }
     ensures { outcome_of result area.new ≡ under_high look.row terms.now look.high term area.old }
 {
@@ -67,7 +71,7 @@ fn tighten_under_high(
 }
 
 fn tighten_over_low(look: Look, terms: &[Term], term: Term, area: &mut [Interval]) -> Option<Reason>
-    requires row { IsReady (length area.old) look terms.now }
+    requires row { IsLookable (length area.old) look terms.now }
     requires term { IsTermOf (length area.old) term }
     ensures { outcome_of result area.new ≡ over_low look.row terms.now look.low term area.old }
 {
@@ -84,7 +88,7 @@ fn tighten_over_low(look: Look, terms: &[Term], term: Term, area: &mut [Interval
 
 // One term: its column is tightened under the high side, then under the low side.
 fn tighten_term(look: Look, terms: &[Term], term: Term, area: &mut [Interval]) -> Option<Reason>
-    requires row { IsReady (length area.old) look terms.now }
+    requires row { IsLookable (length area.old) look terms.now }
     requires term { IsTermOf (length area.old) term }
     ensures { outcome_of result area.new ≡ term_step look.row (row_of look terms.now) term (Kept area.old) }
 {
@@ -95,7 +99,7 @@ fn tighten_term(look: Look, terms: &[Term], term: Term, area: &mut [Interval]) -
 }
 
 fn tighten_terms(look: Look, terms: &[Term], area: &mut [Interval]) -> Option<Reason>
-    requires { IsReady (length area.old) look terms.now }
+    requires { IsLookable (length area.old) look terms.now }
     ensures { outcome_of result area.new ≡ over_terms look.row (row_of look terms.now) terms.now (Kept area.old) }
 {
     for term in terms {
@@ -126,7 +130,7 @@ fn is_below(sum: i128, low: Option<i128>) -> bool
 
 // One row: its least against the high side, its greatest against the low side, then its terms.
 fn tighten_row(look: Look, terms: &[Term], area: &mut [Interval]) -> Option<Reason>
-    requires { IsReady (length area.old) look terms.now }
+    requires { IsLookable (length area.old) look terms.now }
     ensures { outcome_of result area.new ≡ row_step look.row (row_of look terms.now) area.old }
 {
     if is_above(sum_of_ends(Extreme::Least, terms, area), look.high) {
@@ -142,4 +146,17 @@ fn tighten_row(look: Look, terms: &[Term], area: &mut [Interval]) -> Option<Reas
         });
     }
     tighten_terms(look, terms, area)
+}
+
+/// What bound propagation makes of a box, by the slow program that the definition is.
+pub fn tighten_plain(
+    alloc: Global,
+    problem: &Problem,
+    cutoff: Option<i128>,
+    area: &IntBox,
+) -> Result<Tight, AllocError>
+    requires { CanTighten problem.now cutoff area.now }
+    ensures { IfOk result (IsTightened problem.now cutoff area.now) }
+{
+    tighten_by::<Plain>(alloc, problem, cutoff, area)
 }

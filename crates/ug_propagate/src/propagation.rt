@@ -1,17 +1,16 @@
-ghost use Rattle.std.specs.Prelude.{◌≡◌, ◌≤◌, ◌*◌, ◌^◌, length, unsigned_abs, IfSome, IfOk};
+ghost use Rattle.std.specs.Prelude.{◌≡◌, IfOk};
 ghost use Rattle.ug_problem.specs.Limits.{IsProblem};
-ghost use Rattle.ug_propagate.specs.Claims.{HasReason, IsLeftOf, IsSolved, KeepsGood};
+ghost use Rattle.ug_propagate.specs.Claims.{CanTighten, IsTightened};
 ghost use Rattle.ug_propagate.specs.Rounds.{crossed, last_round, rounds, rounds_of};
 ghost use Rattle.ug_propagate.specs.declared.tight.Tight.TheVariants.{Kept};
 
 use crate::fast::Fast;
 use crate::look::RowRule;
-use crate::plain::Plain;
-use crate::rounds::{has_point, run_all};
+use crate::rounds::run_all;
 use crate::tight::{Reason, Side, Tight};
 use std::alloc::{AllocError, Global};
 use ug_problem::{NamedRow, Problem};
-use ug_rows::{IntBox, Interval};
+use ug_rows::{IntBox, Interval, has_point};
 
 // What is said of a box without points: the row that is looked at first, if there is one.
 fn told_of_crossed(
@@ -40,8 +39,7 @@ fn tighten_sides<R: RowRule>(
     cutoff: Option<i128>,
     area: &[Interval],
 ) -> Result<Tight, AllocError>
-    requires width { length area.now ≡ length problem.now.columns }
-    requires cutoff { IfSome cutoff (λ c. unsigned_abs c ≤ 2 * 10 ^ 37) }
+    requires { CanTighten problem.now cutoff area.now }
     ensures { IfOk result (λ t. t ≡ last_round problem.now cutoff (rounds_of 32 problem.now cutoff (Kept area.now))) }
 {
     let mut sides = Vec::from_slice(alloc, area)?;
@@ -58,8 +56,7 @@ fn tighten_area<R: RowRule>(
     cutoff: Option<i128>,
     area: &[Interval],
 ) -> Result<Tight, AllocError>
-    requires width { length area.now ≡ length problem.now.columns }
-    requires cutoff { IfSome cutoff (λ c. unsigned_abs c ≤ 2 * 10 ^ 37) }
+    requires { CanTighten problem.now cutoff area.now }
     ensures problem { IsProblem problem.now }
     ensures value { IfOk result (λ t. t ≡ rounds problem.now cutoff area.now) }
 {
@@ -71,20 +68,15 @@ fn tighten_area<R: RowRule>(
     }
 }
 
-// What bound propagation makes of a box, by this rule.
-fn tighten_by<R: RowRule>(
+/// What bound propagation makes of a box by a rule for rows, for points with a value below the cutoff.
+pub fn tighten_by<R: RowRule>(
     alloc: Global,
     problem: &Problem,
     cutoff: Option<i128>,
     area: &IntBox,
 ) -> Result<Tight, AllocError>
-    requires width { length area.now ≡ length problem.now.columns }
-    requires cutoff { IfSome cutoff (λ c. unsigned_abs c ≤ 2 * 10 ^ 37) }
-    ensures value { IfOk result (λ t. t ≡ rounds problem.now cutoff area.now) }
-    ensures below { IfOk result (λ t. IsLeftOf area.now t) }
-    ensures kept { IfOk result (λ t. KeepsGood problem.now cutoff area.now t) }
-    ensures empty { IfOk result (λ t. HasReason problem.now cutoff area.now t) }
-    ensures fixed { IfOk result (λ t. IsSolved problem.now cutoff t) }
+    requires { CanTighten problem.now cutoff area.now }
+    ensures { IfOk result (IsTightened problem.now cutoff area.now) }
 {
     tighten_area::<R>(alloc, problem, cutoff, area.as_slice())
 }
@@ -96,31 +88,8 @@ pub fn tighten(
     cutoff: Option<i128>,
     area: &IntBox,
 ) -> Result<Tight, AllocError>
-    requires width { length area.now ≡ length problem.now.columns }
-    requires cutoff { IfSome cutoff (λ c. unsigned_abs c ≤ 2 * 10 ^ 37) }
-    ensures value { IfOk result (λ t. t ≡ rounds problem.now cutoff area.now) }
-    ensures below { IfOk result (λ t. IsLeftOf area.now t) }
-    ensures kept { IfOk result (λ t. KeepsGood problem.now cutoff area.now t) }
-    ensures empty { IfOk result (λ t. HasReason problem.now cutoff area.now t) }
-    ensures fixed { IfOk result (λ t. IsSolved problem.now cutoff t) }
+    requires { CanTighten problem.now cutoff area.now }
+    ensures { IfOk result (IsTightened problem.now cutoff area.now) }
 {
     tighten_by::<Fast>(alloc, problem, cutoff, area)
-}
-
-/// The same by the slow program that the definition is: for tests.
-pub fn tighten_plain(
-    alloc: Global,
-    problem: &Problem,
-    cutoff: Option<i128>,
-    area: &IntBox,
-) -> Result<Tight, AllocError>
-    requires width { length area.now ≡ length problem.now.columns }
-    requires cutoff { IfSome cutoff (λ c. unsigned_abs c ≤ 2 * 10 ^ 37) }
-    ensures value { IfOk result (λ t. t ≡ rounds problem.now cutoff area.now) }
-    ensures below { IfOk result (λ t. IsLeftOf area.now t) }
-    ensures kept { IfOk result (λ t. KeepsGood problem.now cutoff area.now t) }
-    ensures empty { IfOk result (λ t. HasReason problem.now cutoff area.now t) }
-    ensures fixed { IfOk result (λ t. IsSolved problem.now cutoff t) }
-{
-    tighten_by::<Plain>(alloc, problem, cutoff, area)
 }

@@ -1,14 +1,13 @@
 ghost use Rattle.std.specs.Prelude.{◌≡◌, ◌≤◌, ◌*◌, ◌^◌, ◌↔◌, length, unsigned_abs, IfSome, IsTrue};
 ghost use Rattle.ug_propagate.specs.Rounds.{last_round, over_objective, over_rows, round, rounds_of};
-ghost use Rattle.ug_rows.specs.Boxes.{IsNonEmpty};
-ghost use Rattle.ug_propagate.specs.Claims.{IsFixed};
+ghost use Rattle.ug_propagate.specs.Claims.{CanTighten};
 ghost use Rattle.ug_propagate.specs.Steps.{IsStill, looked_of, outcome_of};
 ghost use Rattle.ug_propagate.specs.declared.tight.Tight.TheVariants.{Kept};
 
 use crate::look::{Look, Looked, RowRule};
 use crate::tight::Reason;
 use ug_problem::Problem;
-use ug_rows::Interval;
+use ug_rows::{Interval, is_fixed};
 
 const MOST_ROUNDS: u32 = 32;
 
@@ -47,8 +46,7 @@ fn tighten_objective<R: RowRule>(
     cutoff: Option<i128>,
     area: &mut [Interval],
 ) -> Looked
-    requires width { length area.old ≡ length problem.now.columns }
-    requires cutoff { IfSome cutoff (λ c. unsigned_abs c ≤ 2 * 10 ^ 37) }
+    requires { CanTighten problem.now cutoff area.old }
     ensures value { looked_of result area.new ≡ over_objective problem.now.objective cutoff (Kept area.old) }
     ensures still { IsStill result area.old area.new }
 {
@@ -67,8 +65,7 @@ fn tighten_objective<R: RowRule>(
 // One round: the rows, then the objective.
 #[tactic(auto, using(crate::proofs::Bodies::round_empty, crate::proofs::Bodies::round_kept))]
 fn run_round<R: RowRule>(problem: &Problem, cutoff: Option<i128>, area: &mut [Interval]) -> Looked
-    requires width { length area.old ≡ length problem.now.columns }
-    requires cutoff { IfSome cutoff (λ c. unsigned_abs c ≤ 2 * 10 ^ 37) }
+    requires { CanTighten problem.now cutoff area.old }
     ensures value { looked_of result area.new ≡ round problem.now cutoff (Kept area.old) }
     ensures still { IsStill result area.old area.new }
 {
@@ -88,8 +85,7 @@ fn run_rounds<R: RowRule>(
     cutoff: Option<i128>,
     area: &mut [Interval],
 ) -> Option<Reason>
-    requires width { length area.old ≡ length problem.now.columns }
-    requires cutoff { IfSome cutoff (λ c. unsigned_abs c ≤ 2 * 10 ^ 37) }
+    requires { CanTighten problem.now cutoff area.old }
     ensures { outcome_of result area.new ≡ rounds_of 32 problem.now cutoff (Kept area.old) }
 {
     for i in 0..MOST_ROUNDS {
@@ -102,18 +98,6 @@ fn run_rounds<R: RowRule>(
     None
 }
 
-// Whether each column has one value.
-fn is_fixed(area: &[Interval]) -> bool
-    ensures { IsTrue result ↔ IsFixed area.now }
-{
-    for j in 0..area.len() {
-        if area[j].low != area[j].high {
-            return false;
-        }
-    }
-    true
-}
-
 // One more round, where all columns are fixed.
 #[tactic(auto, using(crate::proofs::Bodies::last_fixed, crate::proofs::Bodies::last_open))]
 fn run_last<R: RowRule>(
@@ -121,8 +105,7 @@ fn run_last<R: RowRule>(
     cutoff: Option<i128>,
     area: &mut [Interval],
 ) -> Option<Reason>
-    requires width { length area.old ≡ length problem.now.columns }
-    requires cutoff { IfSome cutoff (λ c. unsigned_abs c ≤ 2 * 10 ^ 37) }
+    requires { CanTighten problem.now cutoff area.old }
     ensures { outcome_of result area.new ≡ last_round problem.now cutoff (Kept area.old) }
 {
     if is_fixed(area) {
@@ -141,24 +124,11 @@ pub fn run_all<R: RowRule>(
     cutoff: Option<i128>,
     area: &mut [Interval],
 ) -> Option<Reason>
-    requires width { length area.old ≡ length problem.now.columns }
-    requires cutoff { IfSome cutoff (λ c. unsigned_abs c ≤ 2 * 10 ^ 37) }
+    requires { CanTighten problem.now cutoff area.old }
     ensures { outcome_of result area.new ≡ last_round problem.now cutoff (rounds_of 32 problem.now cutoff (Kept area.old)) }
 {
     if let Some(reason) = run_rounds::<R>(problem, cutoff, area) {
         return Some(reason);
     }
     run_last::<R>(problem, cutoff, area)
-}
-
-/// Whether no column has its low above its high.
-pub fn has_point(area: &[Interval]) -> bool
-    ensures { IsTrue result ↔ IsNonEmpty area.now }
-{
-    for j in 0..area.len() {
-        if area[j].high < area[j].low {
-            return false;
-        }
-    }
-    true
 }

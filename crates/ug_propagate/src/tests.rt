@@ -2,7 +2,8 @@ ghost use Rattle.std.specs.Prelude.{◌≡◌, ◌≢◌, ◌≤◌, ◌*◌, �
 ghost use Rattle.ug_rows.specs.declared.row.Term.{Term};
 ghost use Rattle.ug_problem.specs.Instances.{AreTerms, IsColumn, IsName, IsRow};
 
-use crate::propagation::{tighten, tighten_plain};
+use crate::plain::tighten_plain;
+use crate::propagation::tighten;
 use crate::tight::{Reason, Side, Tight};
 use std::alloc::{AllocError, Global};
 use ug_lists::{Items, Text};

@@ -1,5 +1,5 @@
 -- How the work ends, before anything is written.
-use Rattle.std.specs.Prelude.{◌≡◌, ℕ, ◌⊎◌, List, Option, IfSome, codes}
+use Rattle.std.specs.Prelude.{◌≡◌, ℕ, pos, ◌⊎◌, List, Option, IfSome, codes}
 use Rattle.ug_problem.specs.Instances.{Instance}
 use Rattle.ug_problem.specs.Right.{Right}
 use Rattle.ug_problem.specs.declared.answer.Answer as answers
@@ -26,9 +26,9 @@ text_of (Refused text) = text.items
 text_of ReadFault = line (codes "read fault")
 text_of Memory = line (codes "memory")
 
--- the text is the lines of a right answer to the problem
+-- the text is the lines of a right answer to the problem, without a gap
 abbrev pub IsAnswerTo : Instance → List ℕ → Type 0
-IsAnswerTo p text = (answer : answers.Answer) × Right p answer × AreAnswerLines p answer text
+IsAnswerTo p text = (answer : answers.Answer) × Right p (pos 0) answer × AreAnswerLines p answer text
 
 -- what a text comes to: an answer to the problem that it states, the line of its first fault, or want of memory
 abbrev pub IsEndOf : List ℕ → Option ℕ → End → Type 0

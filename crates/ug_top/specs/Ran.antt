@@ -1,5 +1,5 @@
 -- What a run did, by its status.
-use Rattle.std.specs.Prelude.{◌≡◌, ◌≢◌, ℕ, ◌<◌, List, [], Option, IfSome, codes}
+use Rattle.std.specs.Prelude.{◌≡◌, ◌≢◌, ℕ, pos, ◌<◌, List, [], Option, IfSome, codes}
 use Rattle.ug_problem.specs.Instances.{Instance}
 use Rattle.ug_problem.specs.Right.{Right}
 use Rattle.ug_problem.specs.declared.answer.Answer.{Answer}
@@ -19,12 +19,12 @@ code_of ReadFault = 4
 code_of WriteFault = 5
 code_of Memory = 9
 
--- the lines of a right answer to the problem that the bytes state under the box, where they are told
+-- the lines of a right answer, without a gap, to the problem that the bytes state under the box, where they are told
 pub record AreRightLines (boxed : Option ℕ) (told : Option (List ℕ)) (text : List ℕ) : Type 0 where
   pub problem : Instance
   pub answer : Answer
   pub reads : IfSome told (λ bytes. Reads bytes boxed problem)
-  pub right : Right problem answer
+  pub right : Right problem (pos 0) answer
   pub lines : AreAnswerLines problem answer text
 
 -- the line of the first fault of the bytes under the box, where they are told

@@ -1,4 +1,4 @@
-ghost use Rattle.std.specs.Prelude.{◌≡◌, ◌++◌, length, IfOk, OnOk};
+ghost use Rattle.std.specs.Prelude.{◌≡◌, ◌++◌, length, IfOk, OnOk, pos};
 ghost use Rattle.ug_problem.specs.Right.{Right};
 ghost use Rattle.ug_top.specs.Printed.{refused_line, kind_name, value_part, value_lines, AreAnswerLines, AreOptimalLines};
 
@@ -91,7 +91,7 @@ pub fn answer_lines(
     problem: &Problem,
     answer: &Answer,
 ) -> Result<Vec<u8>, AllocError>
-    requires { Right problem.now answer.now }
+    requires { Right problem.now (pos 0) answer.now }
     ensures { IfOk result (λ text. AreAnswerLines problem.now answer.now text.items) }
 {
     match answer {

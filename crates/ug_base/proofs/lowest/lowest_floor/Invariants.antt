@@ -1,4 +1,4 @@
-use Rattle.ug_base.specs.Tasks.{IsLowestSoFar}
+use Rattle.ug_base.specs.Lefts.{IsLowestSoFar}
 use Rattle.ug_base.proofs.lowest.lowest_floor.Given as goal
 
 abbrev pub invariant-loop-k : goal.invariant-loop-k

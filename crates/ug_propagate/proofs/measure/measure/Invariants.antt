@@ -1,6 +1,6 @@
 use Rattle.std.proofs.Common.{◌≡◌, ℕ, ◌<◌, ◌≤◌, ◌*◌, ◌^◌, ◌≤ℤ◌, take, unsigned_abs}
 use Rattle.ug_rows.specs.declared.sums.Extreme.TheVariants.{Least, Greatest}
-use Rattle.ug_rows.specs.Boxes.{IsSmall, interval_at}
+use Rattle.ug_rows.specs.Boxes.{HasSmallEnds, interval_at}
 use Rattle.ug_rows.specs.Rows.{term_at}
 use Rattle.ug_rows.specs.Sums.{end_sum}
 use Rattle.ug_propagate.specs.Steps.{span_of}
@@ -11,7 +11,7 @@ invariant-loop-term l = record {
   least : l.ends.least ≡ end_sum Least (take l.term-index l.terms) l.area;
   greatest : l.ends.greatest ≡ end_sum Greatest (take l.term-index l.terms) l.area;
   widest : (k : ℕ) → k < l.term-index → span_of (term_at l.terms k) l.area ≤ℤ l.ends.widest;
-  small : (k : ℕ) → k < l.term-index → IsSmall (interval_at l.area (term_at l.terms k).column);
+  small : (k : ℕ) → k < l.term-index → HasSmallEnds (interval_at l.area (term_at l.terms k).column);
   small_least : unsigned_abs l.ends.least ≤ l.term-index * (10 ^ 24 * 2 ^ 31);
   small_greatest : unsigned_abs l.ends.greatest ≤ l.term-index * (10 ^ 24 * 2 ^ 31);
 }

@@ -1,6 +1,0 @@
-use Rattle.std.proofs.Common.{ℕ, ◌<◌, ◌≤ℤ◌}
-use Rattle.ug_rows.specs.Boxes.{interval_at}
-use Rattle.ug_base.proofs.look.has_point.Given as goal
-
-abbrev pub invariant-loop-j : goal.invariant-loop-j
-invariant-loop-j l = (k : ℕ) → k < l.j → (interval_at l.sides k).low ≤ℤ (interval_at l.sides k).high

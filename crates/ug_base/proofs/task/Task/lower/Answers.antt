@@ -1,0 +1,10 @@
+use Rattle.std.proofs.Common.{rules}
+use Rattle.ug_base.specs.Views.{state_of}
+use Rattle.ug_base.proofs.TaskLemmas.{lowered_task}
+use Rattle.ug_base.proofs.task.Task.lower.Goals as goal
+
+pub invariant_of-self : goal.invariant_of-self
+invariant_of-self c = record {
+  task = lowered_task (state_of c.self.inside) c.args.cutoff _ c.self.invariant.task c.requires (search rules);
+  floors = c.self.invariant.floors;
+}
