@@ -1,1 +1,3 @@
-pub mod FirstLemmas
+pub mod Numbers
+pub mod Firsts
+pub mod Winners

@@ -1,6 +1,7 @@
 -- Which racer wins a race.
-use Rattle.std.specs.Prelude.{◌≡◌, ℕ, ◌<◌, ◌≤◌, ◌<ℤ◌, ◌⊎◌, List, Option, Some, None, All, Contains}
+use Rattle.std.specs.Prelude.{◌≡◌, ℕ, ◌<◌, ◌≤◌, ◌<ℤ◌, ◌⊎◌, List, Option, Some, None, All}
 use Rattle.ug_ramp.specs.declared.racer.Racer.{Racer}
+use Rattle.ug_ramp.specs.Firsts.{IsFirstBy}
 
 -- the racer has at least w open nodes
 abbrev pub HasEnough : ℕ → Racer → Type 0
@@ -18,15 +19,9 @@ HasMore a b = (b.«open» < a.«open») ⊎ ((a.«open» ≡ b.«open») × (a.r
 abbrev pub IsAhead : Racer → Racer → Type 0
 IsAhead a b = (b.floor <ℤ a.floor) ⊎ ((a.floor ≡ b.floor) × HasMore a b)
 
--- the other racer is not ahead of this one, if it has enough open nodes
-abbrev pub IsNoBetter : ℕ → Racer → Racer → Type 0
-IsNoBetter w racer other = HasEnough w other → IsAhead other racer → ⊥
-
 -- the racer is one of these, has enough open nodes, and none of these with enough is ahead of it
-pub record IsFirst (w : ℕ) (racers : List Racer) (racer : Racer) : Type 0 where
-  pub among : Contains racers racer
-  pub enough : HasEnough w racer
-  pub none_ahead : All (IsNoBetter w racer) racers
+abbrev pub IsFirst : ℕ → List Racer → Racer → Type 0
+IsFirst w racers racer = IsFirstBy (HasEnough w) IsAhead racers racer
 
 -- the rank is that of the first of the racers
 pub record IsWinner (w : ℕ) (racers : List Racer) (rank : ℕ) : Type 0 where

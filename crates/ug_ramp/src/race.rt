@@ -7,7 +7,7 @@ use crate::racer::Racer;
 /// The rank that wins the race: of the racers with at least `w` open nodes the one with the greatest
 /// floor, of those the one with the most open nodes, and of those the lowest rank. None if no racer
 /// has `w`.
-#[tactic(auto, using(crate::proofs::FirstLemmas::one_winner, crate::proofs::FirstLemmas::not_all_short, crate::proofs::FirstLemmas::no_winner))]
+#[tactic(auto, using(crate::proofs::Winners::one_winner, crate::proofs::Winners::not_all_short, crate::proofs::Winners::no_winner))]
 pub fn winner(racers: &[Racer], w: u64) -> Option<u32>
     ensures none { IsNone result ↔ All (IsShort w) racers.now }
     ensures some { IfSome result (IsWinner w racers.now) }
@@ -31,7 +31,7 @@ fn first(racers: &[Racer], w: u64) -> Option<Racer>
 }
 
 // The first of some racers and one more.
-#[tactic(auto, using(crate::proofs::FirstLemmas::first_stays_short, crate::proofs::FirstLemmas::first_alone))]
+#[tactic(auto, using(crate::proofs::Winners::winner_stays_short, crate::proofs::Winners::winner_alone))]
 fn first_of(best: Option<Racer>, racer: Racer, w: u64) -> Option<Racer>
     ensures { (racers : List Racer) → IsFirstIfAny w racers best
         → IsFirstIfAny w (racers ++ racer ∷ []) result }
@@ -46,7 +46,7 @@ fn first_of(best: Option<Racer>, racer: Racer, w: u64) -> Option<Racer>
 }
 
 // The first of some racers and one more that has enough open nodes.
-#[tactic(auto, using(crate::proofs::FirstLemmas::first_stays, crate::proofs::FirstLemmas::first_changes))]
+#[tactic(auto, using(crate::proofs::Winners::winner_stays, crate::proofs::Winners::winner_changes))]
 fn first_of_two(before: Racer, racer: Racer) -> Racer
     ensures { (w : ℕ) (racers : List Racer) → IsFirst w racers before → HasEnough w racer
         → IsFirst w (racers ++ racer ∷ []) result }

@@ -1,6 +1,6 @@
 use Rattle.std.proofs.Common.{◌<◌, length}
 use Rattle.std.proofs.lemmas.List.{take_more}
-use Rattle.ug_ramp.proofs.FirstLemmas.{no_racer}
+use Rattle.ug_ramp.proofs.Winners.{no_racer}
 use Rattle.ug_ramp.proofs.race.first.Goals as goal
 
 pub loop-racer-preserved : goal.loop-racer-preserved
