@@ -1,0 +1,11 @@
+use ug_lists::Items;
+
+/// What is wanted of the members.
+#[derive(Debug, Drop)]
+pub enum Wanted {
+    /// That this rank hands this many nodes.
+    Ask { rank: u32, count: u64 },
+    /// That these ranks hand no more.
+    Enough(Items<u32>),
+    Nothing,
+}

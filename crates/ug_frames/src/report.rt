@@ -1,0 +1,53 @@
+use ug_nodes::{Changes, Ticket};
+use ug_rows::Point;
+
+/// What a solver tells the coordinator. Values and cutoffs are of the minimised, scaled objective.
+#[derive(Debug, Drop)]
+pub enum Report {
+    /// The problem is there.
+    Ready,
+    /// A point that was found.
+    Solution {
+        ticket: Ticket,
+        point: Point,
+    },
+    /// An open node, handed out: the changes of its box, and how many came before it.
+    Hand {
+        ticket: Ticket,
+        number: u64,
+        changes: Changes,
+    },
+    /// How many open nodes there are, and the least of their floors.
+    State {
+        ticket: Ticket,
+        open: u64,
+        floor: i128,
+    },
+    /// No open node is left: no point of the box with a value below the cutoff is outside the boxes
+    /// that were handed out, of which there are so many.
+    Done {
+        ticket: Ticket,
+        cutoff: Option<i128>,
+        count: u64,
+    },
+    /// Nothing comes after.
+    Ended,
+}
+
+impl Report {
+    ghost use Rattle.std.specs.Prelude.{◌≡◌};
+    ghost use Rattle.ug_frames.specs.Reports.{ticket_of};
+
+    /// The ticket of the assignment that the report speaks of, if it speaks of one.
+    pub fn ticket(&self) -> Option<Ticket>
+        ensures { result ≡ ticket_of self.now }
+    {
+        match self {
+            Report::Solution { ticket, .. } => Some(*ticket),
+            Report::Hand { ticket, .. } => Some(*ticket),
+            Report::State { ticket, .. } => Some(*ticket),
+            Report::Done { ticket, .. } => Some(*ticket),
+            Report::Ready | Report::Ended => None,
+        }
+    }
+}
