@@ -1,3 +1,5 @@
 pub mod Orders
 pub mod Steps
 pub mod Lists
+pub mod Areas
+pub mod LineLemmas

@@ -15,8 +15,8 @@ mod spelling;
 mod tests;
 
 pub use change::{Change, Changes};
-pub use laws::one_list_for_each_box;
-pub use line::{Line, is_below};
+pub use laws::{ancestors_stand_in_a_row, one_box_for_each_list, one_list_for_each_box};
+pub use line::{Line, is_ancestor, is_below};
 pub use name::{Name, Ticket};
 pub use node::Node;
 pub use spelling::{AreaError, area_of, changes_of};

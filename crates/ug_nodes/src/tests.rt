@@ -1,7 +1,7 @@
 ghost use Rattle.std.specs.Prelude.{◌≡◌, length, IfOk};
 
 use crate::change::{Change, Changes};
-use crate::line::{Line, is_below};
+use crate::line::{Line, is_ancestor, is_below};
 use crate::name::{Name, Ticket};
 use crate::node::Node;
 use crate::spelling::{AreaError, area_of, changes_of};
@@ -95,10 +95,13 @@ fn stands_below_the_names_of_its_line(rt: HostRuntime) -> Result<(), Fail> {
     assert!(rt; is_below(&line, &name(1, 1, 1)) && is_below(&line, &line.name()));
     assert!(rt; !is_below(&line, &name(1, 4, 1)) && !is_below(&root, &line.name()));
     assert!(rt; Line::checked(Vec::new(alloc)).is_none());
-    let node = Node {
-        line,
-        area: area(alloc, (0, 7), (4, 7))?,
-    };
+    assert!(rt; is_ancestor(&root, &line) && !is_ancestor(&line, &line));
+    let sibling = root.child(alloc, name(1, 4, 3))?;
+    assert!(rt; !is_ancestor(&line, &root) && !is_ancestor(&line, &sibling));
+    let changes = Changes::new(Vec::new(alloc));
+    let node = Node { line, changes };
+    let copy = node.clone()?;
+    assert!(rt; copy.line.as_slice() == node.line.as_slice() && copy.changes.as_slice().is_empty());
     assert!(rt; node.line.name().order(name(2, 1, 1)) == Ordering::Less);
     assert!(rt; name(1, 4, 2).ticket.order(name(1, 3, 9).ticket) == Ordering::Greater);
     Ok(())
