@@ -3,3 +3,5 @@ pub mod Steps
 pub mod Lists
 pub mod Areas
 pub mod LineLemmas
+pub mod Passes
+pub mod Floors

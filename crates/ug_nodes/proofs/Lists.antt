@@ -40,7 +40,7 @@ cases_eq_z (pos a) (negsuc b) = inr (λ e. omega (arith, ints, e))
 cases_eq_z (negsuc a) (pos b) = inr (λ e. omega (arith, ints, e))
 
 -- two intervals are the same or not
-same_bounds : (a b : Interval) → a.low ≡ b.low → a.high ≡ b.high → a ≡ b
+pub same_bounds : (a b : Interval) → a.low ≡ b.low → a.high ≡ b.high → a ≡ b
 same_bounds a b e h = subst (λ n. a ≡ record { low = b.low; high = n }) h (subst (λ n. a ≡ record { low = n; high = a.high }) e refl)
 
 same_or_not : (a b : Interval) → (a ≡ b) ⊎ (a ≢ b)

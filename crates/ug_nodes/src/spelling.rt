@@ -123,7 +123,7 @@ fn first_bad(root: &[Interval], changes: &[Change]) -> Option<u32>
 }
 
 // Whether the column is there, and the bounds are closed, within the root's and not the root's.
-fn is_change_of(root: &[Interval], change: Change) -> bool
+pub(crate) fn is_change_of(root: &[Interval], change: Change) -> bool
     ensures { IsTrue result ↔ IsChangeOf root.now change }
 {
     let column = change.column as usize;
@@ -135,7 +135,7 @@ fn is_change_of(root: &[Interval], change: Change) -> bool
 }
 
 // Whether an interval is within another, and has its low at most its high.
-fn is_within(inner: Interval, outer: Interval) -> bool
+pub(crate) fn is_within(inner: Interval, outer: Interval) -> bool
     ensures { IsTrue result ↔ IsClosedWithin inner outer }
 {
     outer.low <= inner.low && inner.high <= outer.high && inner.low <= inner.high

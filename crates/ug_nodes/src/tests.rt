@@ -1,14 +1,18 @@
-ghost use Rattle.std.specs.Prelude.{◌≡◌, length, IfOk};
+ghost use Rattle.std.specs.Prelude.{◌≡◌, ◌≤◌, ◌^◌, length, unsigned_abs, IfOk};
+ghost use Rattle.ug_rows.specs.Rows.{IsLinear};
 
 use crate::change::{Change, Changes};
+use crate::floor::floor_of_changes;
 use crate::line::{Line, is_ancestor, is_below};
 use crate::name::{Name, Ticket};
 use crate::node::Node;
+use crate::outside::first_outside;
 use crate::spelling::{AreaError, area_of, changes_of};
 use std::alloc::{AllocError, Global};
 use std::cmp::Ordering;
 use std::test::Fail;
-use ug_rows::{IntBox, Interval};
+use ug_lists::Items;
+use ug_rows::{IntBox, Interval, Objective, Term, floor};
 
 // The box of two columns with these bounds.
 fn area(alloc: Global, x: (i32, i32), y: (i32, i32)) -> Result<IntBox, AllocError>
@@ -77,6 +81,86 @@ fn names_the_first_change_that_is_none(rt: HostRuntime) -> Result<(), Fail> {
     assert_eq!(rt; refused(alloc, &[change(0, 1, 7), change(1, 7, 7)])?, None);
     assert!(rt; list(alloc, &[change(1, 1, 7), change(0, 1, 7)])?.is_none());
     assert!(rt; list(alloc, &[change(1, 1, 7), change(1, 2, 7)])?.is_none());
+    Ok(())
+}
+
+// What `first_outside` answers over the box of two columns from 0 to 7, where `told` spells a box below it.
+fn outside(
+    alloc: Global,
+    told: &[Change],
+    changes: &[Change],
+) -> Result<Option<Option<u32>>, AllocError> {
+    let root = area(alloc, (0, 7), (0, 7))?;
+    let Some(told) = list(alloc, told)? else {
+        return Ok(None);
+    };
+    let Some(changes) = list(alloc, changes)? else {
+        return Ok(None);
+    };
+    Ok(match area_of(alloc, &root, &told) {
+        Ok(_) => Some(first_outside(&root, &told, &changes)),
+        Err(_) => None,
+    })
+}
+
+#[test]
+fn names_the_least_column_outside(rt: HostRuntime) -> Result<(), Fail> {
+    let alloc = rt.alloc();
+    let x = [change(0, 4, 7)];
+    let y = [change(1, 0, 3)];
+    assert_eq!(rt;
+        outside(alloc, &x, &[change(0, 4, 7), change(1, 2, 2)])?,
+        Some(None)
+    );
+    assert_eq!(rt; outside(alloc, &x, &[])?, Some(Some(0)));
+    assert_eq!(rt; outside(alloc, &y, &[change(2, 0, 1)])?, Some(Some(1)));
+    assert_eq!(rt;
+        outside(alloc, &y, &[change(0, 5, 4), change(1, 0, 4)])?,
+        Some(Some(0))
+    );
+    assert_eq!(rt; outside(alloc, &x, &[change(0, 3, 7)])?, Some(Some(0)));
+    assert_eq!(rt;
+        outside(alloc, &x, &[change(0, 5, 6), change(1, 0, 7)])?,
+        Some(Some(1))
+    );
+    assert_eq!(rt; outside(alloc, &[], &[change(2, 0, 1)])?, Some(Some(2)));
+    Ok(())
+}
+
+// Two x less three y, and one.
+fn objective(alloc: Global) -> Result<Objective, AllocError>
+    ensures terms { IfOk result (λ objective. IsLinear 2 objective.terms) }
+    ensures constant { IfOk result (λ objective. unsigned_abs objective.constant ≤ 10 ^ 37) }
+{
+    let x = Term {
+        column: 0,
+        factor: 2,
+    };
+    let y = Term {
+        column: 1,
+        factor: -3,
+    };
+    Ok(Objective {
+        terms: Items::from_vec(Vec::from_slice(alloc, &[x, y])?),
+        constant: 1,
+        maximise: false,
+        scale: 0,
+    })
+}
+
+#[test]
+fn moves_the_floor_with_the_changes(rt: HostRuntime) -> Result<(), Fail> {
+    let alloc = rt.alloc();
+    let objective = objective(alloc)?;
+    let root = area(alloc, (0, 7), (0, 7))?;
+    let root_floor = floor(&objective, &root);
+    let changes = list(alloc, &[change(0, 4, 7), change(1, 0, 3)])?.ok_or("rising")?;
+    assert!(rt; area_of(alloc, &root, &changes).is_ok());
+    assert_eq!(rt; root_floor, -20);
+    assert_eq!(rt;
+        floor_of_changes(&objective, &root, root_floor, &changes),
+        0
+    );
     Ok(())
 }
 
