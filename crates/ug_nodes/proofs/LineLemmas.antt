@@ -1,5 +1,5 @@
 -- Lines that begin alike, and the ancestors of a line's node.
-use Rattle.std.proofs.Common.{◌≡◌, ◌≢◌, ◌⊎◌, inl, inr, ℕ, suc, zero, ◌+◌, ◌<◌, ◌≤◌, Bool, true, false, ◌&&◌, eqb, List, [], ◌∷◌, ◌++◌, length, drop, refl, sym, ap, ◌∙◌, subst, arith}
+use Rattle.std.proofs.Common.{◌≡◌, ◌⊎◌, inl, inr, ℕ, ◌+◌, ◌<◌, ◌≤◌, Bool, true, false, List, [], ◌∷◌, ◌++◌, length, drop, refl, sym, ap, ◌∙◌, subst, arith}
 use Rattle.std.specs.Prelude.{Contains, IsTrue, ◌↔◌}
 use Rattle.std.proofs.lemmas.Bool.{cases_eq}
 use Rattle.std.proofs.lemmas.Bool.Decides.{nat_tests}
@@ -8,7 +8,7 @@ use Rattle.std.proofs.lemmas.List.Elements.{Contains-append_left, Contains-get_o
 use Rattle.std.proofs.lemmas.List.Prefix.{front_from_reads, front_reads, front_fits}
 use Rattle.ug_nodes.specs.declared.name.Name.{Name}
 use Rattle.ug_nodes.specs.Names.{IsTicketBefore, no_name}
-use Rattle.ug_nodes.specs.Lines.{BeginsWith, GoesOn, IsAncestor, DoTicketsRise, is_ancestor, is_same_name, name_at}
+use Rattle.ug_nodes.specs.Lines.{BeginsWith, IsAncestor, DoTicketsRise, is_ancestor, is_same_name, name_at}
 use Rattle.ug_nodes.proofs.Orders.{same_name, same_ticket}
 
 abbrev tail_of : List Name → List Name

@@ -1,4 +1,4 @@
-use Rattle.std.proofs.Common.{◌≡◌, unsigned_abs, ap, arith}
+use Rattle.std.proofs.Common.{unsigned_abs, ap, arith}
 use Rattle.std.proofs.lemmas.Int.{ints, to_z-of_z}
 use mir.Syntax.{w128}
 use mir.Val.{to_z, of_z}

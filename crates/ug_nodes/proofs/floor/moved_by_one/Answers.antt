@@ -1,4 +1,4 @@
-use Rattle.std.proofs.Common.{length, unsigned_abs, ap, ◌∙◌, arith}
+use Rattle.std.proofs.Common.{length, unsigned_abs, ap, arith}
 use Rattle.std.proofs.lemmas.Int.{ints, fits_signed_from_abs, to_z-of_z}
 use mir.Syntax.{w128}
 use Rattle.ug_nodes.specs.Changes.{change_bounds}
