@@ -6,7 +6,7 @@ use Rattle.ug_rows.specs.Boxes.{IsBelow, IsNarrower, interval_at, no_interval}
 use Rattle.ug_rows.proofs.AreaLemmas.{narrower_same, narrower_within}
 use Rattle.ug_nodes.specs.declared.change.Change.{Change}
 use Rattle.ug_nodes.specs.Changes.{IsRising, IsListed, AreChangesOf, Spells, area_by, change_at, change_bounds, no_change}
-use Rattle.ug_nodes.proofs.Lists.{listed_or_not, one_box, rising_rest, later}
+use Rattle.ug_nodes.proofs.Lists.{never_bad, listed_or_not, one_box, rising_rest, later}
 
 -- the box is as wide as the root's
 pub area_by_width : (root : List Interval) (changes : List Change) → length (area_by root changes) ≡ length root
@@ -86,3 +86,6 @@ area_below root changes rising valid = record {
 pub spelled_below : (root area : List Interval) (changes : List Change) → IsRising changes → Spells root changes area → IsBelow area root
 spelled_below root area changes rising s =
     subst (λ a. IsBelow a root) (sym (area_only root area changes rising s)) (area_below root changes rising s.valid)
+
+-- for `area_of`
+pub ruleset made = (never_bad, area_only, spelled_below)

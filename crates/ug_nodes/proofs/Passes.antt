@@ -8,7 +8,7 @@ use Rattle.ug_rows.specs.Boxes.{IsNarrower, IsClosedWithin, interval_at}
 use Rattle.ug_rows.proofs.AreaLemmas.{narrower_same, narrower_within}
 use Rattle.ug_nodes.specs.declared.change.Change.{Change}
 use Rattle.ug_nodes.specs.Changes.{IsRising, IsListed, AreChangesOf, IsChangeOf, area_by, change_at, change_bounds}
-use Rattle.ug_nodes.specs.Outside.{Fits, SpellBelow, IsFirstOutside}
+use Rattle.ug_nodes.specs.Outside.{ColumnFits, SpellBelow, IsFirstOutside}
 use Rattle.ug_nodes.specs.Steps.{ArePassed}
 use Rattle.ug_nodes.proofs.Lists.{same_bounds}
 use Rattle.ug_nodes.proofs.Areas.{area_by_width, area_by_kept, area_by_changed}
@@ -22,7 +22,7 @@ rest_above xs i k rising le h = elim (cases_eq i k) [
 
 -- a column that neither list has fits
 free_fits : (root : List Interval) (told changes : List Change) (j : ℕ) → (IsListed changes j → ⊥) → (IsListed told j → ⊥)
-    → Fits root told changes j
+    → ColumnFits root told changes j
 free_fits root told changes j free free_told = record {
   valid = λ k h e. absurd (free (k, h, e));
   narrower = λ h. narrower_same _ _ (area_by_kept root changes j free ∙ sym (area_by_kept root told j free_told));
@@ -40,7 +40,7 @@ not_listed xs c b m j before behind low high (k, there, e) = elim (cases_lt k c)
 fit_up_to : (root : List Interval) (told changes : List Change) (i n m : ℕ) → ArePassed root told changes i n
     → ((k : ℕ) → i ≤ k → k < length changes → m ≤ (change_at changes k).column)
     → ((k : ℕ) → n ≤ k → k < length told → m ≤ (change_at told k).column)
-    → (j : ℕ) → j < m → Fits root told changes j
+    → (j : ℕ) → j < m → ColumnFits root told changes j
 fit_up_to root told changes i n m p above above_told j h = elim (cases_lt j p.bound) [
   | inl lt ↦ p.fit j lt
   | inr le ↦ free_fits root told changes j (not_listed changes i p.bound m j p.first above le h)
@@ -60,7 +60,7 @@ none_passed root told changes = record {
 
 -- a change told that is not listed: the root's bounds are not within those told
 told_alone : (root : List Interval) (told changes : List Change) (n : ℕ) → IsRising told → AreChangesOf root told → n < length told
-    → (IsListed changes (change_at told n).column → ⊥) → Fits root told changes (change_at told n).column → ⊥
+    → (IsListed changes (change_at told n).column → ⊥) → ColumnFits root told changes (change_at told n).column → ⊥
 told_alone root told changes n rising valid there free f =
     let t = change_at told n in
     let c = valid n there in
@@ -95,7 +95,7 @@ next_told_before root told changes i n rising changes_rise valid p there lt =
 pub not_passed : (root : List Interval) (told changes : List Change) (i n : ℕ) → IsRising told → IsRising changes
     → ArePassed root told changes i n → i < length changes
     → (n < length told → (change_at changes i).column ≤ (change_at told n).column)
-    → (Fits root told changes (change_at changes i).column → ⊥) → IsFirstOutside root told changes (change_at changes i).column
+    → (ColumnFits root told changes (change_at changes i).column → ⊥) → IsFirstOutside root told changes (change_at changes i).column
 not_passed root told changes i n rising changes_rise p there behind bad = record {
   outside = bad;
   before = fit_up_to root told changes i n (change_at changes i).column p (λ k le h. rest_above changes i k changes_rise le h)
@@ -104,14 +104,14 @@ not_passed root told changes i n rising changes_rise p there behind bad = record
 
 -- it is none of a box below the root
 pub change_unfit : (root : List Interval) (told changes : List Change) (i : ℕ) → i < length changes
-    → (IsChangeOf root (change_at changes i) → ⊥) → Fits root told changes (change_at changes i).column → ⊥
+    → (IsChangeOf root (change_at changes i) → ⊥) → ColumnFits root told changes (change_at changes i).column → ⊥
 change_unfit root told changes i there bad f = bad (f.valid i there refl)
 
 -- or its bounds are not within those told
 pub bounds_unfit : (root : List Interval) (told changes : List Change) (i n : ℕ) → IsRising told → IsRising changes
     → AreChangesOf root told → i < length changes → n < length told → (change_at told n).column ≡ (change_at changes i).column
     → (IsChangeOf root (change_at changes i) × IsClosedWithin (change_bounds (change_at changes i)) (change_bounds (change_at told n)) → ⊥)
-    → Fits root told changes (change_at changes i).column → ⊥
+    → ColumnFits root told changes (change_at changes i).column → ⊥
 bounds_unfit root told changes i n rising changes_rise valid there told_there same bad f =
     let c = change_at changes i in
     let is = f.valid i there refl in
@@ -134,7 +134,7 @@ only_valid root changes i k rising there h e is = elim (cases_order i k) [
 -- a change fits whose column no change told has
 pub alone_fits : (root : List Interval) (told changes : List Change) (i : ℕ) → IsRising changes → i < length changes
     → IsChangeOf root (change_at changes i) → (IsListed told (change_at changes i).column → ⊥)
-    → Fits root told changes (change_at changes i).column
+    → ColumnFits root told changes (change_at changes i).column
 alone_fits root told changes i rising there is free =
     let c = change_at changes i in
     record {
@@ -148,7 +148,7 @@ alone_fits root told changes i rising there is free =
 pub both_fit : (root : List Interval) (told changes : List Change) (i n : ℕ) → IsRising told → IsRising changes
     → AreChangesOf root told → i < length changes → n < length told → (change_at told n).column ≡ (change_at changes i).column
     → IsChangeOf root (change_at changes i) → IsClosedWithin (change_bounds (change_at changes i)) (change_bounds (change_at told n))
-    → Fits root told changes (change_at changes i).column
+    → ColumnFits root told changes (change_at changes i).column
 both_fit root told changes i n rising changes_rise valid there told_there same is within =
     let c = change_at changes i in
     let as_told : interval_at (area_by root told) c.column ≡ change_bounds (change_at told n) =
@@ -166,11 +166,11 @@ one_passed : (root : List Interval) (told changes : List Change) (i n n' : ℕ) 
     → (n < length told → (change_at changes i).column ≤ (change_at told n).column)
     → ((k : ℕ) → k < n' → (change_at told k).column < (change_at changes i).column + 1)
     → ((k : ℕ) → n' ≤ k → k < length told → (change_at changes i).column < (change_at told k).column)
-    → Fits root told changes (change_at changes i).column → ArePassed root told changes (i + 1) n'
+    → ColumnFits root told changes (change_at changes i).column → ArePassed root told changes (i + 1) n'
 one_passed root told changes i n n' rising changes_rise p there behind first_told later_told f = record {
   bound = (change_at changes i).column + 1;
   fit = λ j h. elim (cases_eq j (change_at changes i).column) [
-    | inl same ↦ subst (λ m. Fits root told changes m) (sym same) f
+    | inl same ↦ subst (λ m. ColumnFits root told changes m) (sym same) f
     | inr ne ↦ fit_up_to root told changes i n (change_at changes i).column p (λ k le h'. rest_above changes i k changes_rise le h')
         (λ k le h'. let a = rest_above told n k rising le h' in let b = behind (omega arith) in omega (arith, a, b)) j (omega (arith, ne))
   ];
@@ -219,7 +219,7 @@ told_is_left root told changes n rising valid p there =
 pub all_passed : (root : List Interval) (told changes : List Change) (n : ℕ) → ArePassed root told changes (length changes) n
     → length told ≤ n → SpellBelow root told changes
 all_passed root told changes n p none =
-    let fit : (j : ℕ) → Fits root told changes j =
+    let fit : (j : ℕ) → ColumnFits root told changes j =
     λ j. fit_up_to root told changes (length changes) n (j + 1) p (λ k le h. absurd (omega arith)) (λ k le h. absurd (omega arith)) j (omega arith) in
     record {
       valid = λ k h. (fit (change_at changes k).column).valid k h refl;

@@ -114,3 +114,6 @@ all_written root sides changes valid w = record {
     kept = λ j h not. w.kept j (λ k lt e. not (k, lt, e));
   };
 }
+
+-- for `change_all`
+pub ruleset written = (none_written, one_written, all_written)

@@ -21,11 +21,14 @@ change_bounds change = record { low = change.low; high = change.high }
 -- the box that the changes make of the root's: each is written into its column
 abbrev pub area_by : List Interval → List Change → List Interval
 area_by root [] = root
-area_by root (change ∷ changes) = area_by (slice_set root change.column (change_bounds change)) changes
+area_by root (change ∷ changes) =
+    area_by (slice_set root change.column (change_bounds change)) changes
 
 -- the columns rise strictly
 abbrev pub IsRising : List Change → Type 0
-IsRising changes = (i k : ℕ) → i < k → k < length changes → (change_at changes i).column < (change_at changes k).column
+IsRising changes =
+    (i k : ℕ) → i < k → k < length changes
+    → (change_at changes i).column < (change_at changes k).column
 
 -- some change is of column j
 abbrev pub IsListed : List Change → ℕ → Type 0
@@ -36,14 +39,16 @@ pub record IsDifference (root : List Interval) (change : Change) : Type 0 where
   pub there : change.column < length root
   pub other : change_bounds change ≢ interval_at root change.column
 
--- the changes tell how the box differs from the root's: it has the bounds of each change, and elsewhere the root's
+-- the changes tell how the box differs from the root's: it has their bounds, else the root's
 pub record Tell (root : List Interval) (changes : List Change) (area : List Interval) : Type 0 where
   pub width : length area ≡ length root
   pub each : (k : ℕ) → k < length changes → IsDifference root (change_at changes k)
-  pub changed : (k : ℕ) → k < length changes → interval_at area (change_at changes k).column ≡ change_bounds (change_at changes k)
-  pub kept : (j : ℕ) → j < length root → (IsListed changes j → ⊥) → interval_at area j ≡ interval_at root j
+  pub changed : (k : ℕ) → k < length changes
+      → interval_at area (change_at changes k).column ≡ change_bounds (change_at changes k)
+  pub kept : (j : ℕ) → j < length root → (IsListed changes j → ⊥)
+      → interval_at area j ≡ interval_at root j
 
--- the change is one of a box below the root: a difference whose bounds are closed, and within the root's
+-- the change is one of a box below the root: a difference with closed bounds within the root's
 pub record IsChangeOf (root : List Interval) (change : Change) : Type 0 where
   pub differs : IsDifference root change
   pub within : IsClosedWithin (change_bounds change) (interval_at root change.column)
@@ -53,7 +58,8 @@ abbrev pub AreChangesOf : List Interval → List Change → Type 0
 AreChangesOf root changes = (k : ℕ) → k < length changes → IsChangeOf root (change_at changes k)
 
 -- the changes are those of a box below the root, and tell how this box differs from the root's
-pub record Spells (root : List Interval) (changes : List Change) (area : List Interval) : Type 0 where
+pub record Spells (root : List Interval) (changes : List Change) (area : List Interval)
+    : Type 0 where
   pub valid : AreChangesOf root changes
   pub told : Tell root changes area
 
@@ -65,7 +71,7 @@ pub record IsFirstBad (root : List Interval) (changes : List Change) (column : �
   pub bad : IsChangeOf root (change_at changes at) → ⊥
   pub before : (k : ℕ) → k < at → IsChangeOf root (change_at changes k)
 
--- why no box is made: some change is none of a box below the root, or each is one and memory ran out
+-- why no box is made: a change is none of a box below the root, or each is one and memory ran out
 abbrev pub IsAreaRefused : List Interval → List Change → AreaError → Type 0
 IsAreaRefused root changes Memory = AreChangesOf root changes
 IsAreaRefused root changes (Outside column) = IsFirstBad root changes column

@@ -15,13 +15,14 @@ BeginsWith line front = (rest : List Name) × (line ≡ front ++ rest)
 abbrev pub GoesOn : List Name → List Name → Name → Type 0
 GoesOn line front name = (rest : List Name) × (line ≡ front ++ name ∷ rest)
 
--- the front's node is a proper ancestor of the line's: the line begins with the front followed by some name
+-- the front's node is a proper ancestor of the line's: the line begins with it and some name more
 abbrev pub IsAncestor : List Name → List Name → Type 0
 IsAncestor front line = (name : Name) × GoesOn line front name
 
 -- whether two names are the same
 abbrev pub is_same_name : Name → Name → Bool
-is_same_name a b = (a.ticket.run == b.ticket.run) && (a.ticket.number == b.ticket.number) && (a.hand == b.hand)
+is_same_name a b =
+    (a.ticket.run == b.ticket.run) && (a.ticket.number == b.ticket.number) && (a.hand == b.hand)
 
 -- whether the front's node is a proper ancestor of the line's
 abbrev pub is_ancestor : List Name → List Name → Bool
@@ -32,4 +33,6 @@ is_ancestor (first ∷ front) (name ∷ line) = is_same_name first name && is_an
 
 -- the tickets of the names rise strictly
 abbrev pub DoTicketsRise : List Name → Type 0
-DoTicketsRise line = (i k : ℕ) → i < k → k < length line → IsTicketBefore (name_at line i).ticket (name_at line k).ticket
+DoTicketsRise line =
+    (i k : ℕ) → i < k → k < length line
+    → IsTicketBefore (name_at line i).ticket (name_at line k).ticket

@@ -10,8 +10,9 @@ ghost use Rattle.ug_nodes.specs.Steps.{DoColumnsRise, IsColumnPlace};
 use crate::change::{Change, Changes};
 use ug_rows::{Extreme, IntBox, Interval, Objective, Term, add_end};
 
-/// The least value of an objective over the points of the box that the changes make of the root's, from the least over
-/// the root's own. It makes no box, takes no memory, and looks for the term of each change.
+/// The least value of an objective over the points of the box that the changes make of the root's,
+/// from the least over the root's. It makes no box, takes no memory, and searches the terms once
+/// for each change.
 pub fn floor_of_changes(
     objective: &Objective,
     root: &IntBox,
@@ -23,7 +24,8 @@ pub fn floor_of_changes(
     requires floor { root_floor ≡ least_sum objective.now.terms root.now +ℤ objective.now.constant }
     requires small { unsigned_abs root_floor ≤ 10 ^ 38 }
     requires changes { AreChangesOf root.now changes.now }
-    ensures sum { result ≡ least_sum objective.now.terms (area_by root.now changes.now) +ℤ objective.now.constant }
+    ensures sum { result
+        ≡ least_sum objective.now.terms (area_by root.now changes.now) +ℤ objective.now.constant }
     ensures small { unsigned_abs result ≤ unsigned_abs root_floor + 5 * 10 ^ 37 }
 {
     moved_by(

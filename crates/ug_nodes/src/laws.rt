@@ -17,10 +17,12 @@ pub fn one_list_for_each_box()
         → Spells root changes area → Spells root changes other → area ≡ other }
 {}
 
-/// Rising changes of boxes below the root spell the box that they make, which is below the root, and no other.
+/// Rising changes that are of boxes below the root spell the box that they make, and no other; it
+/// is below the root.
 pub fn one_box_for_each_list()
     ensures spelled { (root : List Interval) (changes : List Change)
-        → IsRising changes → AreChangesOf root changes → Spells root changes (area_by root changes) }
+        → IsRising changes → AreChangesOf root changes
+        → Spells root changes (area_by root changes) }
     ensures below { (root : List Interval) (changes : List Change)
         → IsRising changes → AreChangesOf root changes → IsBelow (area_by root changes) root }
     ensures only { (root area : List Interval) (changes : List Change)
@@ -28,7 +30,7 @@ pub fn one_box_for_each_list()
         → AreChangesOf root changes × (area ≡ area_by root changes) }
 {}
 
-/// The ancestors of a node stand in one row, each above the next, and none is an ancestor of itself.
+/// The ancestors of a node stand in one row, each above the next, and no node is its own ancestor.
 pub fn ancestors_stand_in_a_row()
     ensures along { (a b c : List Name) → IsAncestor a b → IsAncestor b c → IsAncestor a c }
     ensures not_itself { (a : List Name) → IsAncestor a a → ⊥ }

@@ -76,7 +76,8 @@ pub fn is_below(line: &Line, name: &Name) -> bool
     line.as_slice().contains(name)
 }
 
-/// Whether the front's node is a proper ancestor of the line's: the line begins with the front, and is longer.
+/// Whether the front's node is a proper ancestor of the line's: the line begins with the front,
+/// and is longer. It compares at most the front's names.
 #[tactic(auto, using(crate::proofs::LineLemmas::ancestors))]
 pub fn is_ancestor(front: &Line, line: &Line) -> bool
     ensures meaning { IsTrue result ↔ IsAncestor front.now line.now }

@@ -10,9 +10,10 @@ use crate::spelling::{is_change_of, is_within};
 use std::cmp::Ordering;
 use ug_rows::{IntBox, Interval};
 
-/// The least column in which the changes do not spell a box below the one that `told` spells: a change of it is none
-/// of a box below the root, or its bounds, the root's where no change lists it, are not within those told. There is
-/// none exactly where they spell such a box. It makes no box, takes no memory, and passes once over both lists.
+/// The least column in which the changes spell no box below the one that `told` spells: a change
+/// of it is none of a box below the root, or its bounds, the root's where no change lists it, are
+/// not within those told. There is none exactly where they spell such a box. It makes no box,
+/// takes no memory, and passes once over both lists.
 pub fn first_outside(root: &IntBox, told: &Changes, changes: &Changes) -> Option<u32>
     requires { AreChangesOf root.now told.now }
     ensures { MatchOption result
@@ -41,7 +42,7 @@ fn outside_of(root: &[Interval], told: &[Change], changes: &[Change]) -> Option<
     left(told, at)
 }
 
-// Passes one change more: how many of those told are behind it then, or the column that does not fit.
+// Passes one change more: how many of those told are passed then, or the column that does not fit.
 fn pass(
     root: &[Interval],
     told: &[Change],
@@ -92,8 +93,8 @@ fn next_told(told: &[Change], at: usize, column: u32) -> Ordering
 }
 
 fn is_change_within(root: &[Interval], change: Change, told: Change) -> bool
-    ensures { IsTrue result
-        ↔ (IsChangeOf root.now change × IsClosedWithin (change_bounds change) (change_bounds told)) }
+    ensures { IsTrue result ↔ (IsChangeOf root.now change
+        × IsClosedWithin (change_bounds change) (change_bounds told)) }
 {
     is_change_of(root, change) && is_within(change.bounds(), told.bounds())
 }

@@ -34,7 +34,8 @@ pub fn changes_of(alloc: Global, root: &IntBox, area: &IntBox) -> Result<Changes
     ensures told { IfOk result (λ changes. Tell root.now changes area.now) }
     ensures rising { IfOk result IsRising }
     // For a box below the root they are what `area_of` takes.
-    ensures below { IsBelow area.now root.now → IfOk result (λ changes. Spells root.now changes area.now) }
+    ensures below { IsBelow area.now root.now
+        → IfOk result (λ changes. Spells root.now changes area.now) }
 {
     let changes = differences(alloc, root.as_slice(), area.as_slice())?;
     Ok(Changes::new(changes))
@@ -95,13 +96,16 @@ fn change_to(column: u32, bounds: Interval) -> Change
 }
 
 /// The box that the changes make of the root's.
-#[tactic(auto, using(crate::proofs::Lists::never_bad, crate::proofs::Areas::area_only, crate::proofs::Areas::spelled_below))]
+#[tactic(auto, using(crate::proofs::Areas::made))]
 pub fn area_of(alloc: Global, root: &IntBox, changes: &Changes) -> Result<IntBox, AreaError>
-    ensures outcome { MatchResult result (Spells root.now changes.now) (IsAreaRefused root.now changes.now) }
+    ensures outcome { MatchResult result
+        (Spells root.now changes.now)
+        (IsAreaRefused root.now changes.now) }
     ensures value { IfOk result (λ area. area ≡ area_by root.now changes.now) }
     ensures below { IfOk result (λ area. IsBelow area root.now) }
     // Changes that spell a box give it back.
-    ensures back { (area : List Interval) → Spells root.now changes.now area → MatchResult result (λ made. made ≡ area) (λ e. e ≡ Memory) }
+    ensures back { (area : List Interval) → Spells root.now changes.now area
+        → MatchResult result (λ made. made ≡ area) (λ e. e ≡ Memory) }
 {
     if let Some(column) = first_bad(root.as_slice(), changes.as_slice()) {
         return Err(AreaError::Outside { column });
@@ -112,7 +116,9 @@ pub fn area_of(alloc: Global, root: &IntBox, changes: &Changes) -> Result<IntBox
 
 // The column of the first change that is none of a box below the root.
 fn first_bad(root: &[Interval], changes: &[Change]) -> Option<u32>
-    ensures { MatchOption result (AreChangesOf root.now changes.now) (IsFirstBad root.now changes.now) }
+    ensures { MatchOption result
+        (AreChangesOf root.now changes.now)
+        (IsFirstBad root.now changes.now) }
 {
     for change in changes {
         if !is_change_of(root, *change) {
@@ -157,7 +163,7 @@ fn changed(
 }
 
 // Writes the bounds of each change into its column.
-#[tactic(auto, using(crate::proofs::Steps::none_written, crate::proofs::Steps::one_written, crate::proofs::Steps::all_written))]
+#[tactic(auto, using(crate::proofs::Steps::written))]
 fn change_all(sides: &mut [Interval], changes: &[Change])
     requires rising { IsRising changes.now }
     requires valid { AreChangesOf sides.old changes.now }

@@ -84,7 +84,7 @@ fn names_the_first_change_that_is_none(rt: HostRuntime) -> Result<(), Fail> {
     Ok(())
 }
 
-// What `first_outside` answers over the box of two columns from 0 to 7, where `told` spells a box below it.
+// What `first_outside` answers over two columns from 0 to 7, if `told` spells a box below that.
 fn outside(
     alloc: Global,
     told: &[Change],

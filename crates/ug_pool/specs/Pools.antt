@@ -31,12 +31,14 @@ entry_at entries k = slice_index_or entries k no_entry
 -- no entry is before one that stands ahead of it in the list
 abbrev pub IsInOrder : List Entry → Type 0
 IsInOrder entries =
-    (i k : ℕ) → i < k → k < length entries → is_before (entry_at entries k) (entry_at entries i) ≡ false
+    (i k : ℕ) → i < k → k < length entries
+    → is_before (entry_at entries k) (entry_at entries i) ≡ false
 
 -- the list with an entry more, behind those that it is not before
 abbrev pub placed : Entry → List Entry → List Entry
 placed entry entries =
-    filter (λ other. not (is_before entry other)) entries ++ entry ∷ filter (λ other. is_before entry other) entries
+    filter (λ other. not (is_before entry other)) entries
+    ++ entry ∷ filter (λ other. is_before entry other) entries
 
 -- the entries with a floor below the value
 abbrev pub with_floor_below : ℤ → List Entry → List Entry

@@ -1,8 +1,8 @@
 //! The pool of open nodes, in order of their floors and names.
 //! It stands on ug_nodes, ug_lists and ug_rows.
-//! `Pool` takes nodes in, lends them in order, gives the least, and drops those whose floor is too great or that
-//! stand below a node; each call's contract is exact, and `reserve` alone takes memory.
-//! Its tests have a `PlainPool` of the same contracts over an unsorted list, the definitions' slow program.
+//! `Pool` takes nodes in, lends them in order, gives the least, and drops those whose floor is too
+//! great or that stand below a node, each exactly as defined; `reserve` alone takes memory.
+//! The tests compare it with a slow `PlainPool` of the same contracts over an unsorted list.
 #![tactic(auto)]
 
 mod entry;

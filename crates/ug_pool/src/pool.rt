@@ -119,8 +119,9 @@ impl Pool {
         self.entries.truncate(kept);
     }
 
-    /// Drops the nodes that have this line's node as a proper ancestor, and not that node itself. It passes once over the
-    /// pool, and compares at most the line's names with those of each node.
+    /// Drops the nodes that have this line's node as a proper ancestor, and not that node itself.
+    /// It takes no memory, passes once over the pool, and compares at most the line's names with
+    /// each.
     pub fn drop_below(&mut self, line: &Line)
         ensures { IsDroppedTo (without_below line.now self.old.entries) self.old self.new }
     {
