@@ -6,19 +6,19 @@ use Rattle.std.proofs.lemmas.List.{ext_get_or}
 use Rattle.ug_rows.specs.declared.area.Interval.{Interval}
 use Rattle.ug_rows.specs.Boxes.{IsBelow, IsClosedWithin, interval_at, no_interval}
 use Rattle.ug_nodes.specs.declared.change.Change.{Change}
-use Rattle.ug_nodes.specs.Changes.{IsRising, IsNamed, AreGood, IsFirstBad, Tell, Spells, change_at, bounds_of}
-use Rattle.ug_nodes.specs.Steps.{IsToldTo, change_of}
+use Rattle.ug_nodes.specs.Changes.{IsRising, IsListed, AreChangesOf, IsFirstBad, Tell, Spells, change_at, change_bounds}
+use Rattle.ug_nodes.specs.Steps.{IsToldTo, change_with}
 use Rattle.ug_nodes.proofs.Steps.{none_told, same_told, other_told}
 
 -- what is told of all columns tells the box
 pub told : (root area : List Interval) (changes : List Change) → length area ≡ length root → IsToldTo (length root) root area changes → Tell root changes area
 told root area changes width t = record { width = width; each = t.each; changed = t.changed; kept = t.kept }
 
--- a change that a box below the root tells is good
-good : (root area : List Interval) (changes : List Change) → Tell root changes area → IsBelow area root → AreGood root changes
-good root area changes t b k h =
+-- a change that a box below the root tells is one of it
+valid : (root area : List Interval) (changes : List Change) → Tell root changes area → IsBelow area root → AreChangesOf root changes
+valid root area changes t b k h =
     let c = change_at changes k in
-    let is : interval_at area c.column ≡ bounds_of c = t.changed k h in
+    let is : interval_at area c.column ≡ change_bounds c = t.changed k h in
     let n = b.each c.column (t.each k h).there in
     record {
       differs = t.each k h;
@@ -30,7 +30,7 @@ good root area changes t b k h =
     }
 
 pub spelled : (root area : List Interval) (changes : List Change) → Tell root changes area → IsBelow area root → Spells root changes area
-spelled root area changes t b = record { good = good root area changes t b; told = t }
+spelled root area changes t b = record { valid = valid root area changes t b; told = t }
 
 -- two whole numbers are the same or not
 cases_eq_z : (a b : ℤ) → (a ≡ b) ⊎ (a ≢ b)
@@ -40,7 +40,7 @@ cases_eq_z (pos a) (negsuc b) = inr (λ e. omega (arith, ints, e))
 cases_eq_z (negsuc a) (pos b) = inr (λ e. omega (arith, ints, e))
 
 -- two intervals are the same or not
-same_bounds : (a b : Interval) → a.low ≡ b.low → a.high ≡ b.high → a ≡ b
+pub same_bounds : (a b : Interval) → a.low ≡ b.low → a.high ≡ b.high → a ≡ b
 same_bounds a b e h = subst (λ n. a ≡ record { low = b.low; high = n }) h (subst (λ n. a ≡ record { low = n; high = a.high }) e refl)
 
 same_or_not : (a b : Interval) → (a ≡ b) ⊎ (a ≢ b)
@@ -60,7 +60,7 @@ some_told root area (suc n) h =
     subst (λ m. (changes : List Change) × IsToldTo m root area changes) {x = n + 1} (omega arith)
     (elim (same_or_not (interval_at area n) (interval_at root n)) as (λ _. (changes : List Change) × IsToldTo (n + 1) root area changes) [
       | inl e ↦ (before.0, same_told n root area before.0 before.1 e)
-      | inr ne ↦ (before.0 ++ change_of n (interval_at area n) ∷ [], other_told n root area before.0 before.1 (omega arith) ne)
+      | inr ne ↦ (before.0 ++ change_with n (interval_at area n) ∷ [], other_told n root area before.0 before.1 (omega arith) ne)
     ])
 
 pub some_list : (root area : List Interval) → IsBelow area root → (changes : List Change) × IsRising changes × Spells root changes area
@@ -69,24 +69,24 @@ some_list root area b =
     (t.0, t.1.rising, spelled root area t.0 (told root area t.0 b.width t.1) b)
 
 -- a column is named or not
-named_or_not : (changes : List Change) (j : ℕ) → IsNamed changes j ⊎ (IsNamed changes j → ⊥)
-named_or_not [] j = inr (λ n. absurd (omega (arith, n.1)))
-named_or_not (c ∷ changes) j = elim (cases_eq c.column j) [
+pub listed_or_not : (changes : List Change) (j : ℕ) → IsListed changes j ⊎ (IsListed changes j → ⊥)
+listed_or_not [] j = inr (λ n. absurd (omega (arith, n.1)))
+listed_or_not (c ∷ changes) j = elim (cases_eq c.column j) [
   | inl e ↦ inl (0, omega arith, e)
-  | inr ne ↦ elim (named_or_not changes j) [
+  | inr ne ↦ elim (listed_or_not changes j) [
     | inl n ↦ inl (suc n.0, omega (arith, n.1), n.2)
-    | inr not ↦ inr (λ n. named_later c changes j ne not n.0 n.1 n.2)
+    | inr not ↦ inr (λ n. listed_later c changes j ne not n.0 n.1 n.2)
   ]
 ]
   where
-    named_later : (c : Change) (changes : List Change) (j : ℕ) → c.column ≢ j → (IsNamed changes j → ⊥)
+    listed_later : (c : Change) (changes : List Change) (j : ℕ) → c.column ≢ j → (IsListed changes j → ⊥)
         → (k : ℕ) → k < length (c ∷ changes) → (change_at (c ∷ changes) k).column ≡ j → ⊥
-    named_later c changes j ne not zero h e = ne e
-    named_later c changes j ne not (suc k) h e = not (k, omega (arith, h), e)
+    listed_later c changes j ne not zero h e = ne e
+    listed_later c changes j ne not (suc k) h e = not (k, omega (arith, h), e)
 
 -- a list spells one box
 pub one_box : (root area other : List Interval) (changes : List Change) → Spells root changes area → Spells root changes other → area ≡ other
-one_box root area other changes s t = ext_get_or no_interval area other (s.told.width ∙ sym t.told.width) (λ j h. elim (named_or_not changes j) [
+one_box root area other changes s t = ext_get_or no_interval area other (s.told.width ∙ sym t.told.width) (λ j h. elim (listed_or_not changes j) [
   | inl n ↦ subst (λ m. interval_at area m ≡ interval_at other m) n.2 (s.told.changed n.0 n.1 ∙ sym (t.told.changed n.0 n.1))
   | inr not ↦
       let there = subst (λ m. j < m) s.told.width h in
@@ -94,7 +94,7 @@ one_box root area other changes s t = ext_get_or no_interval area other (s.told.
 ])
 
 -- two changes of one column with the same bounds are the same
-same_change : (a b : Change) → a.column ≡ b.column → bounds_of a ≡ bounds_of b → a ≡ b
+same_change : (a b : Change) → a.column ≡ b.column → change_bounds a ≡ change_bounds b → a ≡ b
 same_change a b e h =
     let low : a.low ≡ b.low = ap (λ (s : Interval). s.low) h in
     let high : a.high ≡ b.high = ap (λ (s : Interval). s.high) h in
@@ -102,9 +102,9 @@ same_change a b e h =
     (subst (λ n. a ≡ record { column = b.column; low = n; high = a.high }) low
     (subst (λ n. a ≡ record { column = n; low = a.low; high = a.high }) e refl))
 
--- no first bad change stands among good ones
+-- no first bad change stands among those that spell a box
 pub never_bad : (root area : List Interval) (changes : List Change) (column : ℕ) → Spells root changes area → IsFirstBad root changes column → ⊥
-never_bad root area changes column s b = b.bad (s.good b.at b.there)
+never_bad root area changes column s b = b.bad (s.valid b.at b.there)
 
 -- the change is one of the list
 abbrev IsAmong : List Change → Change → Type 0
@@ -118,7 +118,7 @@ AreAmong xs ys = (k : ℕ) → k < length xs → IsAmong ys (change_at xs k)
 are_among : (root area : List Interval) (changes other : List Change) → Tell root changes area → Tell root other area → AreAmong changes other
 are_among root area changes other s t k h =
     let c = change_at changes k in
-    elim (named_or_not other c.column) [
+    elim (listed_or_not other c.column) [
       | inl n ↦ (
         n.0,
         n.1,
@@ -129,11 +129,11 @@ are_among root area changes other s t k h =
     ]
 
 -- of rising lists the later part rises
-rising_rest : (x : Change) (xs : List Change) → IsRising (x ∷ xs) → IsRising xs
+pub rising_rest : (x : Change) (xs : List Change) → IsRising (x ∷ xs) → IsRising xs
 rising_rest x xs r i k a b = r (suc i) (suc k) (omega arith) (omega arith)
 
 -- a change of the later part is of a later column
-later : (x : Change) (xs : List Change) → IsRising (x ∷ xs) → (k : ℕ) → k < length xs → x.column < (change_at xs k).column
+pub later : (x : Change) (xs : List Change) → IsRising (x ∷ xs) → (k : ℕ) → k < length xs → x.column < (change_at xs k).column
 later x xs r k h = r 0 (suc k) (omega arith) (omega arith)
 
 -- the first changes of two such lists are the same

@@ -9,11 +9,11 @@ use Rattle.ug_nodes.specs.declared.name.Name.{Name}
 use Rattle.ug_nodes.specs.Names.{IsTicketBefore, IsNameBefore, ticket_cmp, name_cmp}
 
 -- two tickets with the same numbers are the same
-same_ticket : (a b : Ticket) → a.run ≡ b.run → a.number ≡ b.number → a ≡ b
+pub same_ticket : (a b : Ticket) → a.run ≡ b.run → a.number ≡ b.number → a ≡ b
 same_ticket a b e h = subst (λ n. a ≡ record { run = b.run; number = n }) h (subst (λ r. a ≡ record { run = r; number = a.number }) e refl)
 
 -- and two names with the same ticket and hand number
-same_name : (a b : Name) → a.ticket ≡ b.ticket → a.hand ≡ b.hand → a ≡ b
+pub same_name : (a b : Name) → a.ticket ≡ b.ticket → a.hand ≡ b.hand → a ≡ b
 same_name a b e h = subst (λ n. a ≡ record { ticket = b.ticket; hand = n }) h (subst (λ t. a ≡ record { ticket = t; hand = a.hand }) e refl)
 
 pub ticket_not_itself : (a : Ticket) → IsTicketBefore a a → ⊥

@@ -5,8 +5,8 @@ use Rattle.std.proofs.lemmas.List.{get_or_push, get_or_append_left, length_push,
 use Rattle.ug_rows.specs.declared.area.Interval.{Interval}
 use Rattle.ug_rows.specs.Boxes.{interval_at, no_interval}
 use Rattle.ug_nodes.specs.declared.change.Change.{Change}
-use Rattle.ug_nodes.specs.Changes.{IsRising, IsNamed, IsChange, AreGood, Spells, change_at, no_change, bounds_of}
-use Rattle.ug_nodes.specs.Steps.{IsToldTo, IsWritten, change_of}
+use Rattle.ug_nodes.specs.Changes.{IsRising, IsListed, IsDifference, AreChangesOf, Spells, change_at, no_change, change_bounds}
+use Rattle.ug_nodes.specs.Steps.{IsToldTo, IsWritten, change_with}
 
 -- what holds of each change and of one more holds of each
 each_push : (P : Change → Type 0) (xs : List Change) (x : Change) → ((k : ℕ) → k < length xs → P (change_at xs k)) → P x
@@ -19,11 +19,11 @@ each_push P xs x each here k h = elim (cases_eq k (length xs)) [
 ]
 
 -- the first n columns are not told of by more names
-named_push : (xs : List Change) (x : Change) (j : ℕ) → IsNamed xs j → IsNamed (xs ++ x ∷ []) j
-named_push xs x j n = (n.0, omega (arith, n.1, length_push xs x), ap (λ (c : Change). c.column) (get_or_append_left xs (x ∷ []) no_change n.0 n.1) ∙ n.2)
+listed_push : (xs : List Change) (x : Change) (j : ℕ) → IsListed xs j → IsListed (xs ++ x ∷ []) j
+listed_push xs x j n = (n.0, omega (arith, n.1, length_push xs x), ap (λ (c : Change). c.column) (get_or_append_left xs (x ∷ []) no_change n.0 n.1) ∙ n.2)
 
-named_last : (xs : List Change) (x : Change) → IsNamed (xs ++ x ∷ []) x.column
-named_last xs x = (length xs, omega (arith, length_push xs x), ap (λ (c : Change). c.column) (get_or_push xs x no_change (length xs) refl))
+listed_last : (xs : List Change) (x : Change) → IsListed (xs ++ x ∷ []) x.column
+listed_last xs x = (length xs, omega (arith, length_push xs x), ap (λ (c : Change). c.column) (get_or_push xs x no_change (length xs) refl))
 
 rising_push : (xs : List Change) (x : Change) → IsRising xs → ((k : ℕ) → k < length xs → (change_at xs k).column < x.column) → IsRising (xs ++ x ∷ [])
 rising_push xs x rising below i k lt h = elim (cases_eq k (length xs)) [
@@ -65,15 +65,15 @@ same_told n root area changes t e = record {
 -- another is told of by its change
 pub other_told : (n : ℕ) (root area : List Interval) (changes : List Change) → IsToldTo n root area changes
     → n < length root → interval_at area n ≢ interval_at root n
-    → IsToldTo (n + 1) root area (changes ++ change_of n (interval_at area n) ∷ [])
+    → IsToldTo (n + 1) root area (changes ++ change_with n (interval_at area n) ∷ [])
 other_told n root area changes t there ne = record {
   rising = rising_push changes _ t.rising t.below;
   below = each_push (λ c. c.column < n + 1) changes _ (λ k h. omega (arith, t.below k h)) (omega arith);
-  each = each_push (λ c. IsChange root c) changes _ t.each (record { there = there; other = ne });
-  changed = each_push (λ c. interval_at area c.column ≡ bounds_of c) changes _ t.changed refl;
+  each = each_push (λ c. IsDifference root c) changes _ t.each (record { there = there; other = ne });
+  changed = each_push (λ c. interval_at area c.column ≡ change_bounds c) changes _ t.changed refl;
   kept = λ j h not. elim (cases_eq j n) [
-    | inl same ↦ absurd (not (subst (λ m. IsNamed (changes ++ change_of n (interval_at area n) ∷ []) m) (sym same) (named_last changes (change_of n (interval_at area n)))))
-    | inr other ↦ t.kept j (omega (arith, other, h)) (λ named. not (named_push changes _ j named))
+    | inl same ↦ absurd (not (subst (λ m. IsListed (changes ++ change_with n (interval_at area n) ∷ []) m) (sym same) (listed_last changes (change_with n (interval_at area n)))))
+    | inr other ↦ t.kept j (omega (arith, other, h)) (λ named. not (listed_push changes _ j named))
   ];
 }
 
@@ -88,11 +88,11 @@ none_written root changes = record {
 -- a change of a later column is written over none before
 pub one_written : (n : ℕ) (root sides : List Interval) (changes : List Change) → IsWritten n root changes sides
     → IsRising changes → n < length changes → (change_at changes n).column < length root
-    → IsWritten (n + 1) root changes (set sides (change_at changes n).column (bounds_of (change_at changes n)))
+    → IsWritten (n + 1) root changes (set sides (change_at changes n).column (change_bounds (change_at changes n)))
 one_written n root sides changes w rising lt there = record {
   width = length-set sides (change_at changes n).column _ ∙ w.width;
   changed = λ k h. elim (cases_eq k n) [
-    | inl same ↦ subst (λ m. interval_at (set sides (change_at changes n).column (bounds_of (change_at changes n))) (change_at changes m).column ≡ bounds_of (change_at changes m)) (sym same)
+    | inl same ↦ subst (λ m. interval_at (set sides (change_at changes n).column (change_bounds (change_at changes n))) (change_at changes m).column ≡ change_bounds (change_at changes m)) (sym same)
         (get_or-set_same sides (change_at changes n).column _ no_interval (subst (λ l. (change_at changes n).column < l) (sym w.width) there))
     | inr ne ↦
         let before : (change_at changes k).column < (change_at changes n).column = rising k n (omega (arith, ne, h)) lt in
@@ -104,13 +104,16 @@ one_written n root sides changes w rising lt there = record {
 }
 
 -- once all are written, the changes spell the box
-pub all_written : (root sides : List Interval) (changes : List Change) → AreGood root changes → IsWritten (length changes) root changes sides → Spells root changes sides
-all_written root sides changes good w = record {
-  good = good;
+pub all_written : (root sides : List Interval) (changes : List Change) → AreChangesOf root changes → IsWritten (length changes) root changes sides → Spells root changes sides
+all_written root sides changes valid w = record {
+  valid = valid;
   told = record {
     width = w.width;
-    each = λ k h. (good k h).differs;
+    each = λ k h. (valid k h).differs;
     changed = w.changed;
     kept = λ j h not. w.kept j (λ k lt e. not (k, lt, e));
   };
 }
+
+-- for `change_all`
+pub ruleset written = (none_written, one_written, all_written)

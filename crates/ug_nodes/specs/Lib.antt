@@ -1,3 +1,6 @@
 pub mod Names
+pub mod Lines
 pub mod Changes
+pub mod Nodes
+pub mod Outside
 pub mod Steps

@@ -1,5 +1,5 @@
 ghost use Rattle.std.specs.Prelude.{◌≡◌, ◌↔◌, IsSome, IsTrue, IfSome};
-ghost use Rattle.ug_nodes.specs.Changes.{bounds_of, IsRising};
+ghost use Rattle.ug_nodes.specs.Changes.{change_bounds, IsRising};
 
 use std::marker::Model;
 use ug_rows::Interval;
@@ -16,7 +16,7 @@ pub struct Change {
 impl Change {
     /// The bounds that the column has.
     pub fn bounds(self) -> Interval
-        ensures { result ≡ bounds_of self }
+        ensures { result ≡ change_bounds self }
     {
         Interval {
             low: self.low,
@@ -26,7 +26,7 @@ impl Change {
 }
 
 /// A box against the root's: the columns that differ, in strictly rising order.
-#[derive(Debug, Drop)]
+#[derive(Clone, Debug, Drop)]
 pub struct Changes {
     changes: Vec<Change>,
 }

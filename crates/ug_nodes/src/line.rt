@@ -1,12 +1,13 @@
 ghost use Rattle.std.specs.Prelude.{◌≡◌, [], ◌∷◌, ◌++◌, ◌<◌, ◌↔◌, length, IfOk, IfSome, IsNone, IsTrue, Contains};
 ghost use Rattle.ug_nodes.specs.Names.{own_name};
+ghost use Rattle.ug_nodes.specs.Lines.{BeginsWith, IsAncestor, is_ancestor};
 
 use crate::name::Name;
 use std::alloc::{AllocError, Global};
 use std::marker::Model;
 
 /// The names from a starting node down to a node, which comes last. It has at least one.
-#[derive(Debug, Drop)]
+#[derive(Clone, Debug, Drop)]
 pub struct Line {
     names: Vec<Name>,
 }
@@ -73,4 +74,36 @@ pub fn is_below(line: &Line, name: &Name) -> bool
     ensures { IsTrue result ↔ Contains line.now name.now }
 {
     line.as_slice().contains(name)
+}
+
+/// Whether the front's node is a proper ancestor of the line's: the line begins with the front,
+/// and is longer. It compares at most the front's names.
+#[tactic(auto, using(crate::proofs::LineLemmas::ancestors))]
+pub fn is_ancestor(front: &Line, line: &Line) -> bool
+    ensures meaning { IsTrue result ↔ IsAncestor front.now line.now }
+    ensures test { result ≡ is_ancestor front.now line.now }
+{
+    is_proper_front(front.as_slice(), line.as_slice())
+}
+
+#[tactic(auto, using(crate::proofs::LineLemmas::ancestors))]
+fn is_proper_front(front: &[Name], line: &[Name]) -> bool
+    ensures { IsTrue result ↔ IsAncestor front.now line.now }
+{
+    front.len() < line.len() && begins_with(line, front)
+}
+
+#[tactic(auto, using(crate::proofs::LineLemmas::beginnings))]
+fn begins_with(line: &[Name], front: &[Name]) -> bool
+    ensures { IsTrue result ↔ BeginsWith line.now front.now }
+{
+    if line.len() < front.len() {
+        return false;
+    }
+    for k in 0..front.len() {
+        if line[k] != front[k] {
+            return false;
+        }
+    }
+    true
 }

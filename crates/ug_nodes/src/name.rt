@@ -24,7 +24,10 @@ impl Ticket {
     /// How the ticket stands to another.
     pub fn order(self, other: Ticket) -> Ordering
         ensures value { result ≡ ticket_cmp self other }
-        ensures meaning { MatchOrdering result (IsTicketBefore self other) (self ≡ other) (IsTicketBefore other self) }
+        ensures meaning { MatchOrdering result
+            (IsTicketBefore self other)
+            (self ≡ other)
+            (IsTicketBefore other self) }
     {
         self.cmp(&other)
     }
@@ -34,7 +37,10 @@ impl Name {
     /// How the name stands to another.
     pub fn order(self, other: Name) -> Ordering
         ensures value { result ≡ name_cmp self other }
-        ensures meaning { MatchOrdering result (IsNameBefore self other) (self ≡ other) (IsNameBefore other self) }
+        ensures meaning { MatchOrdering result
+            (IsNameBefore self other)
+            (self ≡ other)
+            (IsNameBefore other self) }
     {
         self.cmp(&other)
     }

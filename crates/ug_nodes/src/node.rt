@@ -1,9 +1,9 @@
+use crate::change::Changes;
 use crate::line::Line;
-use ug_rows::IntBox;
 
-/// A subproblem: a box, and the line of names down to it.
-#[derive(Debug, Drop)]
+/// A subproblem: the line of names down to it, and its box as the changes against the root's.
+#[derive(Clone, Debug, Drop)]
 pub struct Node {
     pub line: Line,
-    pub area: IntBox,
+    pub changes: Changes,
 }

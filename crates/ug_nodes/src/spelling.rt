@@ -2,8 +2,8 @@ ghost use Rattle.std.specs.Prelude.{◌≡◌, ◌≢◌, ◌+◌, ◌≤◌, �
 ghost use Rattle.ug_rows.specs.declared.area.Interval.{Interval};
 ghost use Rattle.ug_rows.specs.Boxes.{IsBelow, IsClosedWithin};
 ghost use Rattle.ug_nodes.specs.declared.spelling.AreaError.TheVariants.{Memory};
-ghost use Rattle.ug_nodes.specs.Changes.{IsGood, IsRising, Tell, Spells, AreGood, IsFirstBad, IsRefused};
-ghost use Rattle.ug_nodes.specs.Steps.{IsToldTo, change_of};
+ghost use Rattle.ug_nodes.specs.Changes.{IsChangeOf, IsRising, Tell, Spells, AreChangesOf, IsFirstBad, IsAreaRefused, area_by};
+ghost use Rattle.ug_nodes.specs.Steps.{IsToldTo, change_with};
 
 use crate::change::{Change, Changes};
 use std::alloc::{AllocError, Global};
@@ -34,7 +34,8 @@ pub fn changes_of(alloc: Global, root: &IntBox, area: &IntBox) -> Result<Changes
     ensures told { IfOk result (λ changes. Tell root.now changes area.now) }
     ensures rising { IfOk result IsRising }
     // For a box below the root they are what `area_of` takes.
-    ensures below { IsBelow area.now root.now → IfOk result (λ changes. Spells root.now changes area.now) }
+    ensures below { IsBelow area.now root.now
+        → IfOk result (λ changes. Spells root.now changes area.now) }
 {
     let changes = differences(alloc, root.as_slice(), area.as_slice())?;
     Ok(Changes::new(changes))
@@ -85,7 +86,7 @@ fn differ(one: Interval, other: Interval) -> bool
 
 // The change of a column to these bounds.
 fn change_to(column: u32, bounds: Interval) -> Change
-    ensures { result ≡ change_of column bounds }
+    ensures { result ≡ change_with column bounds }
 {
     Change {
         column,
@@ -95,11 +96,16 @@ fn change_to(column: u32, bounds: Interval) -> Change
 }
 
 /// The box that the changes make of the root's.
-#[tactic(auto, using(crate::proofs::Lists::never_bad))]
+#[tactic(auto, using(crate::proofs::Areas::made))]
 pub fn area_of(alloc: Global, root: &IntBox, changes: &Changes) -> Result<IntBox, AreaError>
-    ensures outcome { MatchResult result (Spells root.now changes.now) (IsRefused root.now changes.now) }
+    ensures outcome { MatchResult result
+        (Spells root.now changes.now)
+        (IsAreaRefused root.now changes.now) }
+    ensures value { IfOk result (λ area. area ≡ area_by root.now changes.now) }
+    ensures below { IfOk result (λ area. IsBelow area root.now) }
     // Changes that spell a box give it back.
-    ensures back { (area : List Interval) → Spells root.now changes.now area → MatchResult result (λ made. made ≡ area) (λ e. e ≡ Memory) }
+    ensures back { (area : List Interval) → Spells root.now changes.now area
+        → MatchResult result (λ made. made ≡ area) (λ e. e ≡ Memory) }
 {
     if let Some(column) = first_bad(root.as_slice(), changes.as_slice()) {
         return Err(AreaError::Outside { column });
@@ -110,10 +116,12 @@ pub fn area_of(alloc: Global, root: &IntBox, changes: &Changes) -> Result<IntBox
 
 // The column of the first change that is none of a box below the root.
 fn first_bad(root: &[Interval], changes: &[Change]) -> Option<u32>
-    ensures { MatchOption result (AreGood root.now changes.now) (IsFirstBad root.now changes.now) }
+    ensures { MatchOption result
+        (AreChangesOf root.now changes.now)
+        (IsFirstBad root.now changes.now) }
 {
     for change in changes {
-        if !is_good(root, *change) {
+        if !is_change_of(root, *change) {
             return Some(change.column);
         }
     }
@@ -121,8 +129,8 @@ fn first_bad(root: &[Interval], changes: &[Change]) -> Option<u32>
 }
 
 // Whether the column is there, and the bounds are closed, within the root's and not the root's.
-fn is_good(root: &[Interval], change: Change) -> bool
-    ensures { IsTrue result ↔ IsGood root.now change }
+pub(crate) fn is_change_of(root: &[Interval], change: Change) -> bool
+    ensures { IsTrue result ↔ IsChangeOf root.now change }
 {
     let column = change.column as usize;
     if root.len() <= column {
@@ -133,7 +141,7 @@ fn is_good(root: &[Interval], change: Change) -> bool
 }
 
 // Whether an interval is within another, and has its low at most its high.
-fn is_within(inner: Interval, outer: Interval) -> bool
+pub(crate) fn is_within(inner: Interval, outer: Interval) -> bool
     ensures { IsTrue result ↔ IsClosedWithin inner outer }
 {
     outer.low <= inner.low && inner.high <= outer.high && inner.low <= inner.high
@@ -146,7 +154,7 @@ fn changed(
     changes: &[Change],
 ) -> Result<Vec<Interval>, AllocError>
     requires rising { IsRising changes.now }
-    requires good { AreGood root.now changes.now }
+    requires valid { AreChangesOf root.now changes.now }
     ensures { IfOk result (λ sides. Spells root.now changes.now sides.items) }
 {
     let mut sides = Vec::from_slice(alloc, root)?;
@@ -155,10 +163,10 @@ fn changed(
 }
 
 // Writes the bounds of each change into its column.
-#[tactic(auto, using(crate::proofs::Steps::none_written, crate::proofs::Steps::one_written, crate::proofs::Steps::all_written))]
+#[tactic(auto, using(crate::proofs::Steps::written))]
 fn change_all(sides: &mut [Interval], changes: &[Change])
     requires rising { IsRising changes.now }
-    requires good { AreGood sides.old changes.now }
+    requires valid { AreChangesOf sides.old changes.now }
     ensures { Spells sides.old changes.now sides.new }
 {
     for change in changes {

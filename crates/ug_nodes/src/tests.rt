@@ -1,14 +1,18 @@
-ghost use Rattle.std.specs.Prelude.{◌≡◌, length, IfOk};
+ghost use Rattle.std.specs.Prelude.{◌≡◌, ◌≤◌, ◌^◌, length, unsigned_abs, IfOk};
+ghost use Rattle.ug_rows.specs.Rows.{IsLinear};
 
 use crate::change::{Change, Changes};
-use crate::line::{Line, is_below};
+use crate::floor::floor_of_changes;
+use crate::line::{Line, is_ancestor, is_below};
 use crate::name::{Name, Ticket};
 use crate::node::Node;
+use crate::outside::first_outside;
 use crate::spelling::{AreaError, area_of, changes_of};
 use std::alloc::{AllocError, Global};
 use std::cmp::Ordering;
 use std::test::Fail;
-use ug_rows::{IntBox, Interval};
+use ug_lists::Items;
+use ug_rows::{IntBox, Interval, Objective, Term, floor};
 
 // The box of two columns with these bounds.
 fn area(alloc: Global, x: (i32, i32), y: (i32, i32)) -> Result<IntBox, AllocError>
@@ -80,6 +84,86 @@ fn names_the_first_change_that_is_none(rt: HostRuntime) -> Result<(), Fail> {
     Ok(())
 }
 
+// What `first_outside` answers over two columns from 0 to 7, if `told` spells a box below that.
+fn outside(
+    alloc: Global,
+    told: &[Change],
+    changes: &[Change],
+) -> Result<Option<Option<u32>>, AllocError> {
+    let root = area(alloc, (0, 7), (0, 7))?;
+    let Some(told) = list(alloc, told)? else {
+        return Ok(None);
+    };
+    let Some(changes) = list(alloc, changes)? else {
+        return Ok(None);
+    };
+    Ok(match area_of(alloc, &root, &told) {
+        Ok(_) => Some(first_outside(&root, &told, &changes)),
+        Err(_) => None,
+    })
+}
+
+#[test]
+fn names_the_least_column_outside(rt: HostRuntime) -> Result<(), Fail> {
+    let alloc = rt.alloc();
+    let x = [change(0, 4, 7)];
+    let y = [change(1, 0, 3)];
+    assert_eq!(rt;
+        outside(alloc, &x, &[change(0, 4, 7), change(1, 2, 2)])?,
+        Some(None)
+    );
+    assert_eq!(rt; outside(alloc, &x, &[])?, Some(Some(0)));
+    assert_eq!(rt; outside(alloc, &y, &[change(2, 0, 1)])?, Some(Some(1)));
+    assert_eq!(rt;
+        outside(alloc, &y, &[change(0, 5, 4), change(1, 0, 4)])?,
+        Some(Some(0))
+    );
+    assert_eq!(rt; outside(alloc, &x, &[change(0, 3, 7)])?, Some(Some(0)));
+    assert_eq!(rt;
+        outside(alloc, &x, &[change(0, 5, 6), change(1, 0, 7)])?,
+        Some(Some(1))
+    );
+    assert_eq!(rt; outside(alloc, &[], &[change(2, 0, 1)])?, Some(Some(2)));
+    Ok(())
+}
+
+// Two x less three y, and one.
+fn objective(alloc: Global) -> Result<Objective, AllocError>
+    ensures terms { IfOk result (λ objective. IsLinear 2 objective.terms) }
+    ensures constant { IfOk result (λ objective. unsigned_abs objective.constant ≤ 10 ^ 37) }
+{
+    let x = Term {
+        column: 0,
+        factor: 2,
+    };
+    let y = Term {
+        column: 1,
+        factor: -3,
+    };
+    Ok(Objective {
+        terms: Items::from_vec(Vec::from_slice(alloc, &[x, y])?),
+        constant: 1,
+        maximise: false,
+        scale: 0,
+    })
+}
+
+#[test]
+fn moves_the_floor_with_the_changes(rt: HostRuntime) -> Result<(), Fail> {
+    let alloc = rt.alloc();
+    let objective = objective(alloc)?;
+    let root = area(alloc, (0, 7), (0, 7))?;
+    let root_floor = floor(&objective, &root);
+    let changes = list(alloc, &[change(0, 4, 7), change(1, 0, 3)])?.ok_or("rising")?;
+    assert!(rt; area_of(alloc, &root, &changes).is_ok());
+    assert_eq!(rt; root_floor, -20);
+    assert_eq!(rt;
+        floor_of_changes(&objective, &root, root_floor, &changes),
+        0
+    );
+    Ok(())
+}
+
 fn name(run: u64, number: u64, hand: u64) -> Name {
     let ticket = Ticket { run, number };
     Name { ticket, hand }
@@ -95,10 +179,13 @@ fn stands_below_the_names_of_its_line(rt: HostRuntime) -> Result<(), Fail> {
     assert!(rt; is_below(&line, &name(1, 1, 1)) && is_below(&line, &line.name()));
     assert!(rt; !is_below(&line, &name(1, 4, 1)) && !is_below(&root, &line.name()));
     assert!(rt; Line::checked(Vec::new(alloc)).is_none());
-    let node = Node {
-        line,
-        area: area(alloc, (0, 7), (4, 7))?,
-    };
+    assert!(rt; is_ancestor(&root, &line) && !is_ancestor(&line, &line));
+    let sibling = root.child(alloc, name(1, 4, 3))?;
+    assert!(rt; !is_ancestor(&line, &root) && !is_ancestor(&line, &sibling));
+    let changes = Changes::new(Vec::new(alloc));
+    let node = Node { line, changes };
+    let copy = node.clone()?;
+    assert!(rt; copy.line.as_slice() == node.line.as_slice() && copy.changes.as_slice().is_empty());
     assert!(rt; node.line.name().order(name(2, 1, 1)) == Ordering::Less);
     assert!(rt; name(1, 4, 2).ticket.order(name(1, 3, 9).ticket) == Ordering::Greater);
     Ok(())

@@ -7,7 +7,7 @@ use Rattle.std.proofs.lemmas.Bool.{cases_eq, cases_order}
 use Rattle.std.proofs.lemmas.List.{get_or_default, get_or-take, length-take-le}
 use Rattle.std.proofs.lemmas.List.Edits.{length-insert, get_or-insert_below, get_or-insert_at, get_or-insert_above}
 use Rattle.ug_pool.specs.declared.entry.Entry.{Entry}
-use Rattle.ug_pool.specs.Pools.{is_before, entry_at, no_entry, IsInOrder, placed, below}
+use Rattle.ug_pool.specs.Pools.{is_before, entry_at, no_entry, IsInOrder, placed, with_floor_below}
 use Rattle.ug_pool.specs.Steps.{IsPlace}
 use Rattle.ug_pool.proofs.Orders.{not_before_along, one_way, floors_rise}
 
@@ -119,6 +119,6 @@ place_from_parts e xs at h parts = record {
 
 -- the entries of lesser floor are a first part
 pub below_from_parts : (value : ℤ) (xs : List Entry) (at : ℕ) → at ≤ length xs
-    → IsPartitionPoint (λ x. int_lt x.floor value ≡ true) (λ x. int_lt x.floor value ≡ false) xs at → take at xs ≡ below value xs
+    → IsPartitionPoint (λ x. int_lt x.floor value ≡ true) (λ x. int_lt x.floor value ≡ false) xs at → take at xs ≡ with_floor_below value xs
 below_from_parts value xs at h parts = sym (filter_take (λ x. int_lt x.floor value) xs at
     (λ k lt. parts.0 k no_entry (omega arith) lt) (λ k le lt. parts.1 k no_entry le lt) h)

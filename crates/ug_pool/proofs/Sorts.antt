@@ -1,15 +1,15 @@
 -- An unsorted list in order: what is taken from it, and what is dropped.
-use Rattle.std.proofs.Common.{◌≡◌, ℕ, zero, suc, ℤ, ◌≤ℤ◌, ◌+◌, ◌<◌, Bool, true, false, cond, not, inl, inr, int_lt, List, [], ◌∷◌, ◌++◌, length, filter, refl, sym, ap, ◌∙◌, subst, arith}
+use Rattle.std.proofs.Common.{◌≡◌, ℕ, zero, suc, ◌+◌, Bool, true, false, cond, not, inl, inr, List, [], ◌∷◌, ◌++◌, length, filter, refl, sym, ap, ◌∙◌, subst, arith}
 use Rattle.std.specs.List.{remove}
-use Rattle.std.proofs.lemmas.Int.{ints}
 use Rattle.std.proofs.lemmas.Bool.{cases_eq, cases_order}
-use Rattle.std.proofs.lemmas.List.{length-append, append-nil}
+use Rattle.std.proofs.lemmas.List.{length-append}
 use Rattle.std.proofs.lemmas.List.Elements.{filter-append}
 use Rattle.std.proofs.lemmas.List.Filters.{length-filter_both}
 use Rattle.ug_pool.specs.declared.entry.Entry.{Entry}
-use Rattle.ug_pool.specs.Pools.{is_before, entry_at, IsInOrder, placed, below}
+use Rattle.ug_pool.specs.Pools.{is_before, entry_at, IsInOrder, placed}
 use Rattle.ug_pool.specs.Plain.{in_order, IsLeast}
-use Rattle.ug_pool.proofs.Orders.{not_before_along, before_along, one_way, floors_rise}
+use Rattle.ug_pool.proofs.Orders.{not_before_along, before_along, one_way}
+use Rattle.ug_pool.proofs.Rises.{Each, Rises, each_append, each_filter, each_from_index, order_from_rises}
 
 -- the entry itself is the least of one
 pub first_least : (xs : List Entry) → IsLeast 1 xs 0
@@ -42,31 +42,11 @@ least_changes xs n best h b = record {
   behind = λ k gt lt. absurd (omega arith);
 }
 
--- a fact of each entry
-abbrev Each : (Entry → Type 0) → List Entry → Type 0
-Each P [] = Unit {0}
-Each P (x ∷ xs) = P x × Each P xs
-
-each_append : (P : Entry → Type 0) (xs ys : List Entry) → Each P xs → Each P ys → Each P (xs ++ ys)
-each_append P [] ys a b = b
-each_append P (x ∷ xs) ys a b = (a.0, each_append P xs ys a.1 b)
-
-each_filter : (P : Entry → Type 0) (p : Entry → Bool) (xs : List Entry) → Each P xs → Each P (filter p xs)
-each_filter P p [] a = tt
-each_filter P p (x ∷ xs) a = elim (p x) as (λ b. Each P (cond b (x ∷ filter p xs) (filter p xs))) [
-  | true ↦ (a.0, each_filter P p xs a.1)
-  | false ↦ each_filter P p xs a.1
-]
-
 each_in_order : (P : Entry → Type 0) (xs : List Entry) → Each P xs → Each P (in_order xs)
 each_in_order P [] a = tt
 each_in_order P (x ∷ xs) a =
     let rest = each_in_order P xs a.1 in
     each_append P _ _ (each_filter P _ (in_order xs) rest) (a.0, each_filter P _ (in_order xs) rest)
-
-each_from_index : (P : Entry → Type 0) (xs : List Entry) → ((k : ℕ) → k < length xs → P (entry_at xs k)) → Each P xs
-each_from_index P [] h = tt
-each_from_index P (x ∷ xs) h = (h 0 (omega arith), each_from_index P xs (λ k lt. h (suc k) (omega arith)))
 
 -- a test that holds of each picks each, and one that holds of none picks none
 filter_each : (p : Entry → Bool) (xs : List Entry) → Each (λ x. p x ≡ true) xs → filter p xs ≡ xs
@@ -125,71 +105,6 @@ filter_swap p q (x ∷ xs) = by_tests (filter_swap p q xs) (p x) (q x) refl refl
     by_tests rest false true e f = simp (e, f) rest
     by_tests rest false false e f = simp (e, f) rest
 
--- a weaker test changes nothing of what a test picks
-filter_weaker : (q p : Entry → Bool) → ((x : Entry) → q x ≡ true → p x ≡ true) → (xs : List Entry) → filter q (filter p xs) ≡ filter q xs
-filter_weaker q p w [] = refl
-filter_weaker q p w (x ∷ xs) = by_tests (filter_weaker q p w xs) (p x) (q x) refl refl
-  where
-    by_tests : filter q (filter p xs) ≡ filter q xs → (a b : Bool) → p x ≡ a → q x ≡ b → filter q (filter p (x ∷ xs)) ≡ filter q (x ∷ xs)
-    by_tests rest true true e f = simp (e, f) (ap (λ ys. x ∷ ys) rest)
-    by_tests rest true false e f = simp (e, f) rest
-    by_tests rest false true e f = absurd (cc (w x f))
-    by_tests rest false false e f = simp (e, f) rest
-
--- two tests that never hold together pick none
-filter_apart : (q p : Entry → Bool) → ((x : Entry) → p x ≡ true → q x ≡ false) → (xs : List Entry) → filter q (filter p xs) ≡ []
-filter_apart q p w [] = refl
-filter_apart q p w (x ∷ xs) = by_test (filter_apart q p w xs) (p x) refl
-  where
-    by_test : filter q (filter p xs) ≡ [] → (a : Bool) → p x ≡ a → filter q (filter p (x ∷ xs)) ≡ []
-    by_test rest true e = simp (e, w x e) rest
-    by_test rest false e = simp e rest
-
--- an entry of lesser floor is placed among those of lesser floor
-below_placed : (value : ℤ) (e : Entry) (xs : List Entry) → int_lt e.floor value ≡ true → below value (placed e xs) ≡ placed e (below value xs)
-below_placed value e xs h =
-    let q : Entry → Bool = λ x. int_lt x.floor value in
-    let p : Entry → Bool = λ x. is_before e x in
-    let n : Entry → Bool = λ x. not (is_before e x) in
-    filter-append q (filter n xs) (e ∷ filter p xs)
-    ∙ rw h (ap (λ ys. ys ++ e ∷ filter q (filter p xs)) (filter_swap q n xs) ∙ ap (λ ys. filter n (filter q xs) ++ e ∷ ys) (filter_swap q p xs))
-
-at_least_along : (a b value : ℤ) → a ≤ℤ b → int_lt a value ≡ false → int_lt b value ≡ false
-at_least_along a b value h k = grind (arith, ints)
-
--- what an entry is before has no lesser floor
-no_lower : (value : ℤ) (e x : Entry) → int_lt e.floor value ≡ false → is_before e x ≡ true → int_lt x.floor value ≡ false
-no_lower value e x h b = at_least_along e.floor x.floor value (floors_rise e x (one_way e x b)) h
-
--- another is not there
-below_dropped : (value : ℤ) (e : Entry) (xs : List Entry) → int_lt e.floor value ≡ false → below value (placed e xs) ≡ below value xs
-below_dropped value e xs h =
-    let q : Entry → Bool = λ x. int_lt x.floor value in
-    let p : Entry → Bool = λ x. is_before e x in
-    let n : Entry → Bool = λ x. not (is_before e x) in
-    filter-append q (filter n xs) (e ∷ filter p xs)
-    ∙ rw h (ap (λ ys. filter q (filter n xs) ++ ys) (filter_apart q p (λ x b. no_lower value e x h b) xs)
-    ∙ (append-nil (filter q (filter n xs)) ∙ filter_weaker q n (λ x l. not_after x l (is_before e x) refl) xs))
-  where
-    not_after : (x : Entry) → int_lt x.floor value ≡ true → (b : Bool) → is_before e x ≡ b → not (is_before e x) ≡ true
-    not_after x l true f = absurd (cc (no_lower value e x h f))
-    not_after x l false f = ap not f
-
--- the entries of lesser floor, in order
-pub below_in_order : (value : ℤ) (xs : List Entry) → below value (in_order xs) ≡ in_order (below value xs)
-below_in_order value [] = refl
-below_in_order value (e ∷ xs) = by_floor (below_in_order value xs) (int_lt e.floor value) refl
-  where
-    by_floor : below value (in_order xs) ≡ in_order (below value xs) → (b : Bool) → int_lt e.floor value ≡ b
-        → below value (in_order (e ∷ xs)) ≡ in_order (below value (e ∷ xs))
-    by_floor rest true h = rw h (below_placed value e (in_order xs) h ∙ ap (λ ys. placed e ys) rest)
-    by_floor rest false h = rw h (below_dropped value e (in_order xs) h ∙ rest)
-
--- each entry is before none that stands ahead of it, said along the list
-abbrev Rises : List Entry → Type 0
-Rises [] = Unit {0}
-Rises (x ∷ xs) = Each (λ y. is_before y x ≡ false) xs × Rises xs
-
 each_weaker : (P Q : Entry → Type 0) → ((x : Entry) → P x → Q x) → (xs : List Entry) → Each P xs → Each Q xs
 each_weaker P Q w [] a = tt
 each_weaker P Q w (x ∷ xs) a = (w x a.0, each_weaker P Q w xs a.1)
@@ -215,18 +130,34 @@ in_order_rises : (xs : List Entry) → Rises (in_order xs)
 in_order_rises [] = tt
 in_order_rises (e ∷ xs) = placed_rises e (in_order xs) (in_order_rises xs)
 
-each_at : (P : Entry → Type 0) (xs : List Entry) → Each P xs → (k : ℕ) → k < length xs → P (entry_at xs k)
-each_at P [] a k h = absurd (omega arith)
-each_at P (x ∷ xs) a zero h = a.0
-each_at P (x ∷ xs) a (suc k) h = each_at P xs a.1 k (omega arith)
-
-order_from_rises : (xs : List Entry) → Rises xs → IsInOrder xs
-order_from_rises [] r i k lt h = absurd (omega arith)
-order_from_rises (x ∷ xs) r zero zero lt h = absurd (omega arith)
-order_from_rises (x ∷ xs) r zero (suc k) lt h = each_at (λ y. is_before y x ≡ false) xs r.0 k (omega arith)
-order_from_rises (x ∷ xs) r (suc i) zero lt h = absurd (omega arith)
-order_from_rises (x ∷ xs) r (suc i) (suc k) lt h = order_from_rises xs r.1 i k (omega arith) (omega arith)
-
 -- the list in order is in order
 pub is_in_order : (xs : List Entry) → IsInOrder (in_order xs)
 is_in_order xs = order_from_rises (in_order xs) (in_order_rises xs)
+
+-- an entry that a test picks is placed among those that it picks
+placed_kept : (q : Entry → Bool) (e : Entry) (xs : List Entry) → q e ≡ true → filter q (placed e xs) ≡ placed e (filter q xs)
+placed_kept q e xs h =
+    let p : Entry → Bool = λ x. is_before e x in
+    let n : Entry → Bool = λ x. not (is_before e x) in
+    filter-append q (filter n xs) (e ∷ filter p xs)
+    ∙ rw h (ap (λ ys. ys ++ e ∷ filter q (filter p xs)) (filter_swap q n xs) ∙ ap (λ ys. filter n (filter q xs) ++ e ∷ ys) (filter_swap q p xs))
+
+-- another leaves nothing
+placed_dropped : (q : Entry → Bool) (e : Entry) (xs : List Entry) → q e ≡ false → Rises xs → filter q (placed e xs) ≡ filter q xs
+placed_dropped q e [] h r = rw h refl
+placed_dropped q e (x ∷ xs) h r = by_test (placed_dropped q e xs h r.1) (is_before e x) refl
+  where
+    by_test : filter q (placed e xs) ≡ filter q xs → (b : Bool) → is_before e x ≡ b → filter q (placed e (x ∷ xs)) ≡ filter q (x ∷ xs)
+    by_test rest true before =
+        ap (λ ys. filter q ys) (placed_first e (x ∷ xs) (before, before_each e x xs before r.0)) ∙ rw h refl
+    by_test rest false behind =
+        ap (λ ys. filter q ys) (placed_later e x xs behind) ∙ ap (λ ys. cond (q x) (x ∷ ys) ys) rest
+
+-- what a test picks of the list in order is in order what it picks of the list
+pub filter_of_order : (q : Entry → Bool) (xs : List Entry) → filter q (in_order xs) ≡ in_order (filter q xs)
+filter_of_order q [] = refl
+filter_of_order q (e ∷ xs) = by_test (filter_of_order q xs) (q e) refl
+  where
+    by_test : filter q (in_order xs) ≡ in_order (filter q xs) → (b : Bool) → q e ≡ b → filter q (in_order (e ∷ xs)) ≡ in_order (filter q (e ∷ xs))
+    by_test rest true h = rw h (placed_kept q e (in_order xs) h ∙ ap (λ ys. placed e ys) rest)
+    by_test rest false h = rw h (placed_dropped q e (in_order xs) h (in_order_rises xs) ∙ rest)

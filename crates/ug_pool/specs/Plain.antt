@@ -8,8 +8,9 @@ abbrev pub in_order : List Entry → List Entry
 in_order [] = []
 in_order (entry ∷ entries) = placed entry (in_order entries)
 
--- among the first n entries the one at this place is the least, and before each that stands behind it
+-- of the first n entries the one at this place is the least, and before each that stands behind it
 pub record IsLeast (n : ℕ) (entries : List Entry) (at : ℕ) : Type 0 where
   pub there : at < n
   pub ahead : (k : ℕ) → k < at → is_before (entry_at entries k) (entry_at entries at) ≡ false
-  pub behind : (k : ℕ) → at < k → k < n → is_before (entry_at entries at) (entry_at entries k) ≡ true
+  pub behind : (k : ℕ) → at < k → k < n
+      → is_before (entry_at entries at) (entry_at entries k) ≡ true

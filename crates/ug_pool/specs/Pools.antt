@@ -5,6 +5,7 @@ use Rattle.std.specs.Ordering.{int_cmp, ordering_then, is_lt}
 use Rattle.ug_nodes.specs.declared.name.Name.{Name}
 use Rattle.ug_nodes.specs.declared.node.Node.{Node}
 use Rattle.ug_nodes.specs.Names.{name_cmp, own_name}
+use Rattle.ug_nodes.specs.Lines.{is_ancestor}
 use Rattle.ug_pool.specs.declared.entry.Entry.{Entry}
 
 -- the name of the entry's node
@@ -21,7 +22,7 @@ is_before a b = is_lt (entry_cmp a b)
 
 -- an entry that stands for one that is not there
 abbrev pub no_entry : Entry
-no_entry = record { floor = pos 0; node = record { line = []; area = [] } }
+no_entry = record { floor = pos 0; node = record { line = []; changes = [] } }
 
 -- entry k
 abbrev pub entry_at : List Entry → ℕ → Entry
@@ -30,16 +31,22 @@ entry_at entries k = slice_index_or entries k no_entry
 -- no entry is before one that stands ahead of it in the list
 abbrev pub IsInOrder : List Entry → Type 0
 IsInOrder entries =
-    (i k : ℕ) → i < k → k < length entries → is_before (entry_at entries k) (entry_at entries i) ≡ false
+    (i k : ℕ) → i < k → k < length entries
+    → is_before (entry_at entries k) (entry_at entries i) ≡ false
 
 -- the list with an entry more, behind those that it is not before
 abbrev pub placed : Entry → List Entry → List Entry
 placed entry entries =
-    filter (λ other. not (is_before entry other)) entries ++ entry ∷ filter (λ other. is_before entry other) entries
+    filter (λ other. not (is_before entry other)) entries
+    ++ entry ∷ filter (λ other. is_before entry other) entries
 
 -- the entries with a floor below the value
-abbrev pub below : ℤ → List Entry → List Entry
-below value entries = filter (λ entry. int_lt entry.floor value) entries
+abbrev pub with_floor_below : ℤ → List Entry → List Entry
+with_floor_below value entries = filter (λ entry. int_lt entry.floor value) entries
+
+-- the entries that do not have the line's node as a proper ancestor
+abbrev pub without_below : List Name → List Entry → List Entry
+without_below line entries = filter (λ entry. not (is_ancestor line entry.node.line)) entries
 
 -- a pool: its entries in order, and how many more may be put into it
 pub record Pooled : Type 0 where
@@ -57,7 +64,7 @@ pub record IsTaken (old new : Pooled) (node : Node) : Type 0 where
   pub first : old.entries ≡ record { floor = floor; node = node } ∷ new.entries
   pub spare : new.spare ≡ old.spare + 1
 
--- the entries that were dropped are spare
-pub record IsDroppedFrom (value : ℤ) (old new : Pooled) : Type 0 where
-  pub entries : new.entries ≡ below value old.entries
+-- of the entries these are kept, and the places of the others are spare
+pub record IsDroppedTo (kept : List Entry) (old new : Pooled) : Type 0 where
+  pub entries : new.entries ≡ kept
   pub spare : new.spare + length new.entries ≡ old.spare + length old.entries

@@ -1,11 +1,11 @@
 ghost use Rattle.std.specs.Prelude.{◌≡◌, ◌≤◌, ◌<◌, ◌-◌, ◌+◌, [], ◌∷◌, length, vec_len, vec_capacity, max, MatchOption, OnOk, OnErr, IsOk};
-ghost use Rattle.ug_pool.specs.Pools.{IsInOrder, IsPut, IsTaken, IsDroppedFrom, placed, below, is_before, entry_at};
+ghost use Rattle.ug_pool.specs.Pools.{IsInOrder, IsPut, IsTaken, IsDroppedTo, placed, with_floor_below, without_below, is_before, entry_at};
 ghost use Rattle.ug_pool.specs.Plain.{IsLeast, in_order};
 
 use crate::entry::Entry;
 use std::alloc::{AllocError, Global};
 use std::marker::Model;
-use ug_nodes::Node;
+use ug_nodes::{Line, Node, is_ancestor};
 
 /// Open nodes in no order, the latest first. Each call looks through all of them.
 #[derive(Debug, Drop)]
@@ -89,10 +89,19 @@ impl PlainPool {
 
     /// Drops the nodes whose floor is at least the value.
     pub fn drop_from(&mut self, value: i128)
-        ensures { IsDroppedFrom value self.old self.new }
+        ensures { IsDroppedTo (with_floor_below value self.old.entries) self.old self.new }
     {
         let before = self.entries.len();
-        keep_below(&mut self.entries, value);
+        keep_with_floor_below(&mut self.entries, value);
+        self.spare += before - self.entries.len();
+    }
+
+    /// Drops the nodes that have this line's node as a proper ancestor.
+    pub fn drop_below(&mut self, line: &Line)
+        ensures { IsDroppedTo (without_below line.now self.old.entries) self.old self.new }
+    {
+        let before = self.entries.len();
+        keep_others(&mut self.entries, line);
         self.spare += before - self.entries.len();
     }
 }
@@ -138,10 +147,19 @@ fn is_ahead(entries: &[Entry], i: usize, k: usize) -> bool
 }
 
 // Keeps the entries with a floor below the value.
-fn keep_below(entries: &mut Vec<Entry>, value: i128)
-    ensures items { entries.new.items ≡ below value entries.old.items }
+fn keep_with_floor_below(entries: &mut Vec<Entry>, value: i128)
+    ensures items { entries.new.items ≡ with_floor_below value entries.old.items }
     ensures fewer { vec_len entries.new ≤ vec_len entries.old }
     ensures capacity { vec_capacity entries.new ≡ vec_capacity entries.old }
 {
     entries.retain(|entry| entry.floor < value);
+}
+
+// Keeps the entries that do not have the line's node as a proper ancestor.
+fn keep_others(entries: &mut Vec<Entry>, line: &Line)
+    ensures items { entries.new.items ≡ without_below line.now entries.old.items }
+    ensures fewer { vec_len entries.new ≤ vec_len entries.old }
+    ensures capacity { vec_capacity entries.new ≡ vec_capacity entries.old }
+{
+    entries.retain(|entry| !is_ancestor(line, &entry.node.line));
 }

@@ -1,5 +1,6 @@
-ghost use Rattle.std.specs.Prelude.{◌≡◌, ◌≤◌, ◌<◌, ◌+◌, ◌-◌, [], ◌∷◌, length, take, max, MatchOption, IsNone, IfSome, OnOk, OnErr, IsOk};
-ghost use Rattle.ug_pool.specs.Pools.{IsInOrder, IsPut, IsTaken, IsDroppedFrom, placed, below};
+ghost use Rattle.std.specs.Prelude.{◌≡◌, ◌≤◌, ◌<◌, ◌+◌, ◌-◌, [], ◌∷◌, length, take, max, slice_get, MatchOption, IsNone, IfSome, OnOk, OnErr, IsOk};
+ghost use Rattle.std.specs.Option.{option_copied};
+ghost use Rattle.ug_pool.specs.Pools.{IsInOrder, IsPut, IsTaken, IsDroppedTo, placed, with_floor_below, without_below};
 ghost use Rattle.ug_pool.specs.Steps.{IsPlace};
 ghost use Rattle.std.specs.VecDeque.{deque_len, deque_capacity};
 ghost use Rattle.std.specs.List.{insert};
@@ -8,7 +9,7 @@ use crate::entry::Entry;
 use std::alloc::{AllocError, Global};
 use std::collections::VecDeque;
 use std::marker::Model;
-use ug_nodes::Node;
+use ug_nodes::{Line, Node, is_ancestor};
 
 /// Open nodes, in order of their floors, and of their names where the floors are the same.
 #[derive(Debug, Drop)]
@@ -49,6 +50,20 @@ impl Pool {
         ensures order { IsInOrder self.now.entries }
     {
         self.entries.len()
+    }
+
+    /// The node at a place in order, with its floor.
+    pub fn get(&self, at: usize) -> Option<&Entry>
+        ensures { option_copied result ≡ slice_get self.now.entries at }
+    {
+        self.entries.get(at)
+    }
+
+    /// The node that `take_least` would take, with its floor.
+    pub fn first(&self) -> Option<&Entry>
+        ensures { option_copied result ≡ slice_get self.now.entries 0 }
+    {
+        self.get(0)
     }
 
     /// How many more nodes may be put in.
@@ -97,11 +112,22 @@ impl Pool {
 
     /// Drops the nodes whose floor is at least the value.
     pub fn drop_from(&mut self, value: i128)
-        ensures { IsDroppedFrom value self.old self.new }
+        ensures { IsDroppedTo (with_floor_below value self.old.entries) self.old self.new }
     {
         let kept = first_from(&self.entries, value);
         self.spare += self.entries.len() - kept;
         self.entries.truncate(kept);
+    }
+
+    /// Drops the nodes that have this line's node as a proper ancestor, and not that node itself.
+    /// It takes no memory, passes once over the pool, and compares at most the line's names with
+    /// each.
+    pub fn drop_below(&mut self, line: &Line)
+        ensures { IsDroppedTo (without_below line.now self.old.entries) self.old self.new }
+    {
+        let before = self.entries.len();
+        keep_others(&mut self.entries, line);
+        self.spare += before - self.entries.len();
     }
 }
 
@@ -149,7 +175,18 @@ fn take_first(entries: &mut VecDeque<Entry>) -> Option<Entry>
 fn first_from(entries: &VecDeque<Entry>, value: i128) -> usize
     requires { IsInOrder entries.now.items }
     ensures within { result ≤ deque_len entries.now }
-    ensures kept { take result entries.now.items ≡ below value entries.now.items }
+    ensures kept { take result entries.now.items ≡ with_floor_below value entries.now.items }
 {
     entries.partition_point(|entry| entry.floor < value)
+}
+
+// Keeps the entries that do not have the line's node as a proper ancestor.
+fn keep_others(entries: &mut VecDeque<Entry>, line: &Line)
+    requires { IsInOrder entries.old.items }
+    ensures items { entries.new.items ≡ without_below line.now entries.old.items }
+    ensures order { IsInOrder entries.new.items }
+    ensures fewer { deque_len entries.new ≤ deque_len entries.old }
+    ensures capacity { deque_capacity entries.new ≡ deque_capacity entries.old }
+{
+    entries.retain(|entry| !is_ancestor(line, &entry.node.line));
 }

@@ -4,15 +4,27 @@ use crate::plain::PlainPool;
 use crate::pool::Pool;
 use std::alloc::{AllocError, Global};
 use std::test::Fail;
-use ug_nodes::{Line, Name, Node, Ticket};
-use ug_rows::IntBox;
+use ug_nodes::{Changes, Line, Name, Node, Ticket};
 
-// A starting node with this hand number in its name.
+fn name(number: u64, hand: u64) -> Name {
+    let ticket = Ticket { run: 1, number };
+    Name { ticket, hand }
+}
+
+// The line of the starting node of this hand number.
+fn start(alloc: Global, hand: u64) -> Result<Line, AllocError> {
+    Line::start(alloc, name(1, hand))
+}
+
+fn node_of(alloc: Global, line: Line) -> Node {
+    let changes = Changes::new(Vec::new(alloc));
+    Node { line, changes }
+}
+
+// A node with this hand number in its name, below the starting node of its last digit.
 fn node(alloc: Global, hand: u64) -> Result<Node, AllocError> {
-    let ticket = Ticket { run: 1, number: 1 };
-    let line = Line::start(alloc, Name { ticket, hand })?;
-    let area = IntBox::from_vec(Vec::new(alloc));
-    Ok(Node { line, area })
+    let line = start(alloc, hand % 10)?.child(alloc, name(2, hand))?;
+    Ok(node_of(alloc, line))
 }
 
 fn hand(node: Option<Node>) -> Option<u64> {
@@ -53,6 +65,49 @@ fn takes_the_least_name_of_the_least_floor(rt: HostRuntime) -> Result<(), Fail> 
     Ok(())
 }
 
+fn put_line(alloc: Global, pool: &mut Pool, line: &Line) -> Result<(), AllocError> {
+    pool.reserve(1)?;
+    pool.put(node_of(alloc, line.clone()?), 0);
+    Ok(())
+}
+
+#[test]
+fn drops_what_stands_below_a_node(rt: HostRuntime) -> Result<(), Fail> {
+    let alloc = rt.alloc();
+    let mut pool = Pool::new(alloc);
+    let a = start(alloc, 0)?;
+    let below = a.child(alloc, name(1, 2))?;
+    let lowest = below.child(alloc, name(2, 0))?;
+    let beside = a.child(alloc, name(1, 3))?;
+    let other = start(alloc, 1)?;
+    put_line(alloc, &mut pool, &a)?;
+    put_line(alloc, &mut pool, &below)?;
+    put_line(alloc, &mut pool, &lowest)?;
+    put_line(alloc, &mut pool, &beside)?;
+    put_line(alloc, &mut pool, &other)?;
+    assert!(rt;
+        pool.first().is_some_and(|entry| entry.floor == 0 && entry.node.line.name() == name(1, 0))
+    );
+    pool.drop_below(&below);
+    assert_eq!(rt; pool.len(), 4);
+    assert!(rt;
+        pool.get(2)
+            .is_some_and(|entry| entry.node.line.name() == name(1, 2))
+    );
+    pool.drop_below(&a);
+    assert_eq!(rt; pool.len(), 2);
+    assert!(rt;
+        pool.get(0)
+            .is_some_and(|entry| entry.node.line.as_slice() == a.as_slice())
+    );
+    assert!(rt;
+        pool.get(1)
+            .is_some_and(|entry| entry.node.line.as_slice() == other.as_slice())
+    );
+    assert_eq!(rt; pool.spare(), 3);
+    Ok(())
+}
+
 fn next(state: u64) -> u64 {
     state
         .wrapping_mul(6364136223846793005)
@@ -73,7 +128,12 @@ fn step(
             put(alloc, pool, draw / 8192 % 1000, floor)?;
             put_plain(alloc, plain, draw / 8192 % 1000, floor)?;
         }
-        40..=62 => alike = hand(pool.take_least()) == hand(plain.take_least()),
+        40..=61 => alike = hand(pool.take_least()) == hand(plain.take_least()),
+        62 => {
+            let line = start(alloc, draw / 8192 % 10)?;
+            pool.drop_below(&line);
+            plain.drop_below(&line);
+        }
         _ => {
             pool.drop_from(20 + floor);
             plain.drop_from(20 + floor);

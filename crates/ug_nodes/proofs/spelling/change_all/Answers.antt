@@ -10,4 +10,4 @@ loop-change-preserved c =
     let changes = c.args.changes.now in
     subst (λ b. IsWritten (n + 1) c.args.sides.now changes (set c.loop-change.sides (change_at changes n).column b)) (sym c.bounds.ensures)
     (one_written n c.args.sides.now c.loop-change.sides changes c.loop-change.invariant c.requires.rising c.loop-change-test.true
-    (c.requires.good n c.loop-change-test.true).differs.there)
+    (c.requires.valid n c.loop-change-test.true).differs.there)

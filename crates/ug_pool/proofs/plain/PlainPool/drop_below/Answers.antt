@@ -1,0 +1,19 @@
+use Rattle.std.proofs.Common.{◌≡◌, not, sym, ap, ◌∙◌, arith, rules}
+use Rattle.std.proofs.lemmas.Grind.{common_steps}
+use Rattle.ug_nodes.specs.Lines.{is_ancestor}
+use Rattle.ug_pool.specs.declared.entry.Entry.{Entry}
+use Rattle.ug_pool.specs.Pools.{without_below}
+use Rattle.ug_pool.specs.Plain.{in_order}
+use Rattle.ug_pool.proofs.Sorts.{filter_of_order, length_in_order}
+use Rattle.ug_pool.proofs.plain.PlainPool.drop_below.Goals as goal
+
+pub returns : goal.returns
+returns c =
+    let old = c.self.inside.entries in
+    let new = c.keep_others.new.entries in
+    let kept : new.items ≡ without_below c.args.line.now old.items = search rules in
+    rw (← c.self.view_is)
+    (record {
+      entries = ap in_order kept ∙ sym (filter_of_order (λ (e : Entry). not (is_ancestor c.args.line.now e.node.line)) old.items);
+      spare = grind (arith, common_steps, length_in_order new.items, length_in_order old.items, c.len-before.ensures, c.len.ensures, c.keep_others.ensures.fewer);
+    })
