@@ -8,7 +8,7 @@ use Rattle.std.proofs.lemmas.List.Elements.{Contains-append_left, Contains-get_o
 use Rattle.std.proofs.lemmas.List.Prefix.{front_from_reads, front_reads, front_fits}
 use Rattle.ug_nodes.specs.declared.name.Name.{Name}
 use Rattle.ug_nodes.specs.Names.{IsTicketBefore, no_name}
-use Rattle.ug_nodes.specs.Lines.{BeginsWith, IsAncestor, DoTicketsRise, is_ancestor, is_same_name, name_at}
+use Rattle.ug_nodes.specs.Lines.{BeginsWith, IsAncestor, DoTicketsRise, is_ancestor, is_same_name, line_name_at}
 use Rattle.ug_nodes.proofs.Orders.{same_name, same_ticket}
 
 abbrev tail_of : List Name → List Name
@@ -88,10 +88,10 @@ ancestor_shorter front line (n, (r, e)) = omega (arith, ap length e, length-appe
 
 -- a line begins with a front where the names are the same as far as the front goes
 pub begins_from_reads : (line front : List Name) → length front ≤ length line
-    → ((k : ℕ) → k < length front → name_at line k ≡ name_at front k) → BeginsWith line front
+    → ((k : ℕ) → k < length front → line_name_at line k ≡ line_name_at front k) → BeginsWith line front
 begins_from_reads line front h each = (drop (length front) line, front_from_reads no_name line front h each)
 
-pub begins_reads : (line front : List Name) → BeginsWith line front → (k : ℕ) → k < length front → name_at line k ≡ name_at front k
+pub begins_reads : (line front : List Name) → BeginsWith line front → (k : ℕ) → k < length front → line_name_at line k ≡ line_name_at front k
 begins_reads line front b k h = front_reads no_name line front b.0 b.1 k h
 
 pub begins_fits : (line front : List Name) → BeginsWith line front → length front ≤ length line
@@ -140,25 +140,25 @@ pub rises_push : (line : List Name) (name : Name) → DoTicketsRise line → ((m
     → DoTicketsRise (line ++ name ∷ [])
 rises_push line name r a i k ik h =
     let there : k < length line + 1 = subst (λ n. k < n) (length_push line name) h in
-    let old : (j : ℕ) → j < length line → name_at (line ++ name ∷ []) j ≡ name_at line j = λ j l. get_or_append_left line (name ∷ []) no_name j l in
+    let old : (j : ℕ) → j < length line → line_name_at (line ++ name ∷ []) j ≡ line_name_at line j = λ j l. get_or_append_left line (name ∷ []) no_name j l in
     elim (cases_eq k (length line)) [
       | inl e ↦
           let first : i < length line = omega (arith, ik, e) in
-          subst (λ (z : Name). IsTicketBefore (name_at (line ++ name ∷ []) i).ticket z.ticket) (sym (get_or_push line name no_name k (sym e)))
-          (subst (λ (z : Name). IsTicketBefore z.ticket name.ticket) (sym (old i first)) (a (name_at line i) (Contains-get_or line i no_name first)))
+          subst (λ (z : Name). IsTicketBefore (line_name_at (line ++ name ∷ []) i).ticket z.ticket) (sym (get_or_push line name no_name k (sym e)))
+          (subst (λ (z : Name). IsTicketBefore z.ticket name.ticket) (sym (old i first)) (a (line_name_at line i) (Contains-get_or line i no_name first)))
       | inr ne ↦
           let second : k < length line = omega (arith, there, ne) in
           let first : i < length line = omega (arith, ik, second) in
-          subst (λ (z : Name). IsTicketBefore (name_at (line ++ name ∷ []) i).ticket z.ticket) (sym (old k second))
-          (subst (λ (z : Name). IsTicketBefore z.ticket (name_at line k).ticket) (sym (old i first)) (r i k ik second))
+          subst (λ (z : Name). IsTicketBefore (line_name_at (line ++ name ∷ []) i).ticket z.ticket) (sym (old k second))
+          (subst (λ (z : Name). IsTicketBefore z.ticket (line_name_at line k).ticket) (sym (old i first)) (r i k ik second))
     ]
 
 -- tickets rise along each line with which such a line begins
 pub rises_front : (line front : List Name) → BeginsWith line front → DoTicketsRise line → DoTicketsRise front
 rises_front line front b r i k ik h =
     let long = begins_fits line front b in
-    subst (λ (z : Name). IsTicketBefore z.ticket (name_at front k).ticket) (begins_reads line front b i (omega arith))
-    (subst (λ (z : Name). IsTicketBefore (name_at line i).ticket z.ticket) (begins_reads line front b k h) (r i k ik (omega arith)))
+    subst (λ (z : Name). IsTicketBefore z.ticket (line_name_at front k).ticket) (begins_reads line front b i (omega arith))
+    (subst (λ (z : Name). IsTicketBefore (line_name_at line i).ticket z.ticket) (begins_reads line front b k h) (r i k ik (omega arith)))
 
 -- for `is_ancestor`
 pub ruleset ancestors = (ancestor_from_begins, begins_from_ancestor, ancestor_shorter, is_ancestor_test)

@@ -4,8 +4,8 @@ use Rattle.ug_nodes.specs.declared.name.Name.{Name}
 use Rattle.ug_nodes.specs.Names.{IsTicketBefore, no_name}
 
 -- name k of a line
-abbrev pub name_at : List Name → ℕ → Name
-name_at line k = slice_index_or line k no_name
+abbrev pub line_name_at : List Name → ℕ → Name
+line_name_at line k = slice_index_or line k no_name
 
 -- the line begins with the front
 abbrev pub BeginsWith : List Name → List Name → Type 0
@@ -35,4 +35,4 @@ is_ancestor (first ∷ front) (name ∷ line) = is_same_name first name && is_an
 abbrev pub DoTicketsRise : List Name → Type 0
 DoTicketsRise line =
     (i k : ℕ) → i < k → k < length line
-    → IsTicketBefore (name_at line i).ticket (name_at line k).ticket
+    → IsTicketBefore (line_name_at line i).ticket (line_name_at line k).ticket

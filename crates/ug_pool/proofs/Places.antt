@@ -7,7 +7,7 @@ use Rattle.std.proofs.lemmas.Bool.{cases_eq, cases_order}
 use Rattle.std.proofs.lemmas.List.{get_or_default, get_or-take, length-take-le}
 use Rattle.std.proofs.lemmas.List.Edits.{length-insert, get_or-insert_below, get_or-insert_at, get_or-insert_above}
 use Rattle.ug_pool.specs.declared.entry.Entry.{Entry}
-use Rattle.ug_pool.specs.Pools.{is_before, entry_at, no_entry, IsInOrder, placed, with_floor_below}
+use Rattle.ug_pool.specs.Pools.{is_before, entry_at, no_entry, IsInOrder, with_entry, with_floor_below}
 use Rattle.ug_pool.specs.Steps.{IsPlace}
 use Rattle.ug_pool.proofs.Orders.{not_before_along, one_way, floors_rise}
 
@@ -32,8 +32,8 @@ filter_drop p (x ∷ xs) (suc i) fails holds h =
     rw (fails 0 (omega arith)) (filter_drop p xs i (λ k lt. fails (suc k) (omega arith)) (λ k le lt. holds (suc k) (omega arith) (omega arith)) (omega arith))
 
 -- an entry that is put in at its place is placed
-pub insert_placed : (e : Entry) (xs : List Entry) (at : ℕ) → IsPlace e xs at → insert xs at e ≡ placed e xs
-insert_placed e xs at h =
+pub insert_with_entry : (e : Entry) (xs : List Entry) (at : ℕ) → IsPlace e xs at → insert xs at e ≡ with_entry e xs
+insert_with_entry e xs at h =
     let ahead = filter_take (λ x. not (is_before e x)) xs at (λ k lt. ap not (h.ahead k lt)) (λ k le lt. ap not (h.behind k le lt)) h.there in
     let behind = filter_drop (λ x. is_before e x) xs at h.ahead h.behind h.there in
     sym (ap (λ ys. ys ++ e ∷ filter (λ x. is_before e x) xs) ahead ∙ ap (λ ys. take at xs ++ e ∷ ys) behind)

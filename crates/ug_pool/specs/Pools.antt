@@ -35,8 +35,8 @@ IsInOrder entries =
     → is_before (entry_at entries k) (entry_at entries i) ≡ false
 
 -- the list with an entry more, behind those that it is not before
-abbrev pub placed : Entry → List Entry → List Entry
-placed entry entries =
+abbrev pub with_entry : Entry → List Entry → List Entry
+with_entry entry entries =
     filter (λ other. not (is_before entry other)) entries
     ++ entry ∷ filter (λ other. is_before entry other) entries
 
@@ -55,7 +55,7 @@ pub record Pooled : Type 0 where
 
 -- the node was put in, in a spare place
 pub record IsPut (floor : ℤ) (node : Node) (old new : Pooled) : Type 0 where
-  pub entries : new.entries ≡ placed (record { floor = floor; node = node }) old.entries
+  pub entries : new.entries ≡ with_entry (record { floor = floor; node = node }) old.entries
   pub spare : new.spare + 1 ≡ old.spare
 
 -- the first node was taken out, and its place is spare

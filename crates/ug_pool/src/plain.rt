@@ -1,5 +1,5 @@
 ghost use Rattle.std.specs.Prelude.{◌≡◌, ◌≤◌, ◌<◌, ◌-◌, ◌+◌, [], ◌∷◌, length, vec_len, vec_capacity, max, MatchOption, OnOk, OnErr, IsOk};
-ghost use Rattle.ug_pool.specs.Pools.{IsInOrder, IsPut, IsTaken, IsDroppedTo, placed, with_floor_below, without_below, is_before, entry_at};
+ghost use Rattle.ug_pool.specs.Pools.{IsInOrder, IsPut, IsTaken, IsDroppedTo, with_entry, with_floor_below, without_below, is_before, entry_at};
 ghost use Rattle.ug_pool.specs.Plain.{IsLeast, in_order};
 
 use crate::entry::Entry;

@@ -1,6 +1,6 @@
 ghost use Rattle.std.specs.Prelude.{◌≡◌, ◌≤◌, ◌<◌, ◌+◌, ◌-◌, [], ◌∷◌, length, take, max, slice_get, MatchOption, IsNone, IfSome, OnOk, OnErr, IsOk};
 ghost use Rattle.std.specs.Option.{option_copied};
-ghost use Rattle.ug_pool.specs.Pools.{IsInOrder, IsPut, IsTaken, IsDroppedTo, placed, with_floor_below, without_below};
+ghost use Rattle.ug_pool.specs.Pools.{IsInOrder, IsPut, IsTaken, IsDroppedTo, with_entry, with_floor_below, without_below};
 ghost use Rattle.ug_pool.specs.Steps.{IsPlace};
 ghost use Rattle.std.specs.VecDeque.{deque_len, deque_capacity};
 ghost use Rattle.std.specs.List.{insert};
@@ -135,7 +135,7 @@ impl Pool {
 fn place(entries: &mut VecDeque<Entry>, entry: Entry)
     requires order { IsInOrder entries.old.items }
     requires room { deque_len entries.old < deque_capacity entries.old }
-    ensures items { entries.new.items ≡ placed entry entries.old.items }
+    ensures items { entries.new.items ≡ with_entry entry entries.old.items }
     ensures order { IsInOrder entries.new.items }
     ensures len { deque_len entries.new ≡ deque_len entries.old + 1 }
     ensures capacity { deque_capacity entries.old ≤ deque_capacity entries.new }
