@@ -19,7 +19,7 @@ use Rattle.ug_mps.specs.Finish.{IsBox, AreStated}
 use Rattle.ug_mps.specs.Good.{Good, IsSmall}
 use Rattle.ug_mps.specs.History.{RowNamed, ColumnBegun, rows_of, columns_of, is_objective, is_maximised, low_set, high_set}
 use Rattle.ug_mps.specs.Reads.{or_else, first_fault, column_fault, is_ignored, row_fault, end_fault}
-use Rattle.ug_mps.specs.Stated.{numbers_of, scale_of, scaled_side, scaled_terms, is_wide, is_sided, stated_row, stated_rows, no_objective, objective_in, bound_or, box_of, low_of, high_of, stated_column, stated}
+use Rattle.ug_mps.specs.Stated.{numbers_of, scale_of, scaled_side, scaled_terms, is_wide, is_sided, stated_row, stated_rows, no_objective, objective_in, bound_or, box_end, low_of, high_of, stated_column, stated}
 use Rattle.ug_mps.proofs.Counts.{counts_fit}
 use Rattle.ug_mps.proofs.GoodLemmas.{IsColumnNamed, IsRowNamed, columns_named, rows_named, lows_small, highs_small}
 use Rattle.ug_mps.proofs.StatedLemmas.{terms_formed, signed_formed, signed_small, signed_all_small, AreNarrow, narrow_from}
@@ -34,15 +34,15 @@ or_small : (o : Option Bound) (b : Bound) → IfSome o IsSmall → IsSmall b →
 or_small None b h s = s
 or_small (Some c) b h s = h
 
-box_small : (boxed : Option ℕ) → IsBox boxed → unsigned_abs (box_of boxed) ≤ 10 ^ 9
+box_small : (boxed : Option ℕ) → IsBox boxed → unsigned_abs (box_end boxed) ≤ 10 ^ 9
 box_small None h = omega arith
 box_small (Some u) h = h
 
 column_formed : (boxed : Option ℕ) → IsBox boxed → (h : List Entry) → Good h → (c : ColumnBegun) → IsName c.name → IsColumn (stated_column boxed h c)
 column_formed boxed b h g c n = record {
   name = n;
-  low = bound_small (neg_ℤ (box_of boxed)) (low_of h c.name) (signed_small true (box_of boxed) (10 ^ 9) (box_small boxed b)) (or_small (low_set h c.name) (Finite (pos 0)) (lows_small h g c.name) (omega arith));
-  high = bound_small (box_of boxed) (high_of h c.name) (box_small boxed b) (or_small (high_set h c.name) Infinite (highs_small h g c.name) tt);
+  low = bound_small (neg_ℤ (box_end boxed)) (low_of h c.name) (signed_small true (box_end boxed) (10 ^ 9) (box_small boxed b)) (or_small (low_set h c.name) (Finite (pos 0)) (lows_small h g c.name) (omega arith));
+  high = bound_small (box_end boxed) (high_of h c.name) (box_small boxed b) (or_small (high_set h c.name) Infinite (highs_small h g c.name) tt);
 }
 
 -- ---- rows that are not too wide

@@ -27,7 +27,7 @@ use Rattle.ug_mps.specs.Good.{Good}
 use Rattle.ug_mps.specs.History.{is_objective}
 use Rattle.ug_mps.specs.Reads.{fault_at, is_infinite, is_ignored, end_fault}
 use Rattle.ug_mps.specs.Scales.{AreDecimals}
-use Rattle.ug_mps.specs.Stated.{Numbers, range_of, scale_of, scaled_term, scaled_terms, scaled_side, scaled_range, low_side, high_side, is_above, is_wide, row_of, is_sided, signed, signed_terms, objective_of, no_objective, bound_or, box_of, stated}
+use Rattle.ug_mps.specs.Stated.{Numbers, range_of, scale_of, scaled_term, scaled_terms, scaled_side, scaled_range, low_side, high_side, is_above, is_wide, row_of, is_sided, signed, signed_terms, objective_of, no_objective, bound_or, box_end, stated}
 
 -- ---- errors
 
@@ -66,8 +66,8 @@ column_fault_kept boxed p = option_map (λ kind. fault_at p.1.line kind (Some p.
 abbrev pub made_column : Option ℕ → List ℕ × ColumnDraft → Column
 made_column boxed p = record {
   name = p.0;
-  low = bound_or (neg_ℤ (box_of boxed)) (low_kept p.1);
-  high = bound_or (box_of boxed) (high_kept p.1);
+  low = bound_or (neg_ℤ (box_end boxed)) (low_kept p.1);
+  high = bound_or (box_end boxed) (high_kept p.1);
 }
 
 -- ---- one row

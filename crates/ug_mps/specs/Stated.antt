@@ -189,15 +189,15 @@ bound_or z Infinite = z
 bound_or z (Finite b) = b
 
 -- the bound that infinite ones have: that of the box, if there is one
-abbrev pub box_of : Option ℕ → ℤ
-box_of boxed = pos (unwrap_or boxed 0)
+abbrev pub box_end : Option ℕ → ℤ
+box_end boxed = pos (unwrap_or boxed 0)
 
 -- a column as it is stated
 abbrev pub stated_column : Option ℕ → List Entry → ColumnBegun → Column
 stated_column boxed h c = record {
   name = c.name;
-  low = bound_or (neg_ℤ (box_of boxed)) (low_of h c.name);
-  high = bound_or (box_of boxed) (high_of h c.name);
+  low = bound_or (neg_ℤ (box_end boxed)) (low_of h c.name);
+  high = bound_or (box_end boxed) (high_of h c.name);
 }
 
 -- the problem that the lines state, where infinite bounds are those of the box, if there is one

@@ -13,27 +13,20 @@ use Rattle.ug_rows.specs.declared.sums.Extreme.TheVariants.{Least}
 use Rattle.ug_rows.specs.Boxes.{interval_at}
 use Rattle.ug_rows.specs.Rows.{IsAmong, IsLinear, no_term, term_at}
 use Rattle.ug_rows.specs.Sums.{end_of, end_product, least_sum}
-use Rattle.ug_rows.proofs.Products.{abs_add}
+use Rattle.ug_rows.proofs.Products.{abs_add, abs_sub}
 use Rattle.ug_rows.proofs.Replaced.{product_new, sum_with, sum_without}
 use Rattle.ug_nodes.specs.declared.change.Change.{Change}
 use Rattle.ug_nodes.specs.Changes.{IsRising, IsListed, AreChangesOf, area_by, change_at, change_bounds, no_change}
 use Rattle.ug_nodes.specs.Steps.{DoColumnsRise, IsColumnPlace}
 use Rattle.ug_nodes.proofs.Areas.{area_by_more, area_by_kept, area_by_width}
 
--- a difference is no larger than its parts
-pub less_small : (a b : ℤ) → unsigned_abs (a -ℤ b) ≤ unsigned_abs a + unsigned_abs b
-less_small (pos a) (pos b) = grind (arith, ints)
-less_small (pos a) (negsuc b) = grind (arith, ints)
-less_small (negsuc a) (pos b) = grind (arith, ints)
-less_small (negsuc a) (negsuc b) = grind (arith, ints)
-
 -- a total less one product, and with another, is no larger than its parts, and fits
 less_fits : (total old : ℤ) → unsigned_abs total ≤ 16 * 10 ^ 37 → unsigned_abs old ≤ 10 ^ 24 * 2 ^ 31 → FitsSigned w128 (total -ℤ old)
-less_fits total old large small = fits_signed_from_abs w128 (total -ℤ old) (omega (arith, less_small total old))
+less_fits total old large small = fits_signed_from_abs w128 (total -ℤ old) (omega (arith, abs_sub total old))
 
 pub replaced_small : (total old new : ℤ) → unsigned_abs old ≤ 10 ^ 24 * 2 ^ 31 → unsigned_abs new ≤ 10 ^ 24 * 2 ^ 31
     → unsigned_abs ((total -ℤ old) +ℤ new) ≤ unsigned_abs total + 10 ^ 24 * 2 ^ 32
-replaced_small total old new small small' = omega (arith, less_small total old, abs_add (total -ℤ old) new)
+replaced_small total old new small small' = omega (arith, abs_sub total old, abs_add (total -ℤ old) new)
 
 replaced_fits : (total old new : ℤ) → unsigned_abs total ≤ 16 * 10 ^ 37 → unsigned_abs old ≤ 10 ^ 24 * 2 ^ 31 → unsigned_abs new ≤ 10 ^ 24 * 2 ^ 31
     → FitsSigned w128 ((total -ℤ old) +ℤ new)

@@ -3,7 +3,7 @@ ghost use Rattle.ug_rows.specs.declared.area.Interval.{Interval};
 ghost use Rattle.ug_rows.specs.declared.sums.Extreme.TheVariants.{Least};
 ghost use Rattle.ug_rows.specs.Boxes.{interval_at};
 ghost use Rattle.ug_rows.specs.Rows.{IsAmong, IsLinear, term_at};
-ghost use Rattle.ug_rows.specs.Sums.{end_of, least_sum};
+ghost use Rattle.ug_rows.specs.Sums.{box_floor, end_of, least_sum};
 ghost use Rattle.ug_nodes.specs.Changes.{AreChangesOf, IsRising, area_by, change_bounds};
 ghost use Rattle.ug_nodes.specs.Steps.{DoColumnsRise, IsColumnPlace};
 
@@ -21,12 +21,11 @@ pub fn floor_of_changes(
 ) -> i128
     requires terms { IsLinear (length root.now) objective.now.terms }
     requires constant { unsigned_abs objective.now.constant ≤ 10 ^ 37 }
-    requires floor { root_floor ≡ least_sum objective.now.terms root.now +ℤ objective.now.constant }
-    requires small { unsigned_abs root_floor ≤ 10 ^ 38 }
+    requires floor { root_floor ≡ box_floor objective.now root.now }
+    requires small { unsigned_abs root_floor ≤ 4 * 10 ^ 37 }
     requires changes { AreChangesOf root.now changes.now }
-    ensures sum { result
-        ≡ least_sum objective.now.terms (area_by root.now changes.now) +ℤ objective.now.constant }
-    ensures small { unsigned_abs result ≤ unsigned_abs root_floor + 5 * 10 ^ 37 }
+    ensures floor { result ≡ box_floor objective.now (area_by root.now changes.now) }
+    ensures small { unsigned_abs result ≤ 9 * 10 ^ 37 }
 {
     moved_by(
         objective.terms.as_slice(),

@@ -6,9 +6,9 @@ ghost use Rattle.ug_nodes.specs.Outside.{IsFirstOutside, SpellBelow};
 ghost use Rattle.ug_nodes.specs.Steps.{ArePassed};
 
 use crate::change::{Change, Changes};
-use crate::spelling::{is_change_of, is_within};
+use crate::spelling::is_change_of;
 use std::cmp::Ordering;
-use ug_rows::{IntBox, Interval};
+use ug_rows::{IntBox, Interval, is_closed_within};
 
 /// The least column in which the changes spell no box below the one that `told` spells: a change
 /// of it is none of a box below the root, or its bounds, the root's where no change lists it, are
@@ -96,7 +96,7 @@ fn is_change_within(root: &[Interval], change: Change, told: Change) -> bool
     ensures { IsTrue result ↔ (IsChangeOf root.now change
         × IsClosedWithin (change_bounds change) (change_bounds told)) }
 {
-    is_change_of(root, change) && is_within(change.bounds(), told.bounds())
+    is_change_of(root, change) && is_closed_within(change.bounds(), told.bounds())
 }
 
 // The column of the next change told, if any is left.

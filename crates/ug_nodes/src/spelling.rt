@@ -7,7 +7,7 @@ ghost use Rattle.ug_nodes.specs.Steps.{IsToldTo, change_with};
 
 use crate::change::{Change, Changes};
 use std::alloc::{AllocError, Global};
-use ug_rows::{IntBox, Interval};
+use ug_rows::{IntBox, Interval, is_closed_within};
 
 /// Why no box is made.
 #[derive(Clone, Copy, Debug, PartialEq, Eq)]
@@ -137,14 +137,7 @@ pub(crate) fn is_change_of(root: &[Interval], change: Change) -> bool
         return false;
     }
     let bounds = change.bounds();
-    bounds != root[column] && is_within(bounds, root[column])
-}
-
-// Whether an interval is within another, and has its low at most its high.
-pub(crate) fn is_within(inner: Interval, outer: Interval) -> bool
-    ensures { IsTrue result ↔ IsClosedWithin inner outer }
-{
-    outer.low <= inner.low && inner.high <= outer.high && inner.low <= inner.high
+    bounds != root[column] && is_closed_within(bounds, root[column])
 }
 
 // The root's intervals with those of the changes in their columns.

@@ -76,7 +76,7 @@ fn copied_objective(objective: &Objective) -> Result<Objective, AllocError>
 
 // A value less a gap.
 fn less_gap(value: i128, gap: i128) -> i128
-    requires value { unsigned_abs value ≤ 10 ^ 38 }
+    requires value { unsigned_abs value ≤ 4 * 10 ^ 37 }
     requires gap { IsGap gap }
     ensures { result ≡ value -ℤ gap }
 {
@@ -178,7 +178,7 @@ impl Problem {
     pub fn value(&self, point: &Point) -> i128
         requires { length point.now ≡ length self.now.columns }
         ensures value { result ≡ value_of self.now.objective point.now }
-        ensures small { unsigned_abs result ≤ 10 ^ 38 }
+        ensures small { unsigned_abs result ≤ 4 * 10 ^ 37 }
         ensures within { IsInside (root_of self.now) point.now → unsigned_abs result ≤ 2 * 10 ^ 37 }
     {
         value(self.objective(), point)
@@ -190,7 +190,7 @@ impl Problem {
         requires { length area.now ≡ length self.now.columns }
         ensures value { result ≡ box_floor self.now.objective area.now }
         ensures bound { (x : List ℤ) → IsInside area.now x → result ≤ℤ value_of self.now.objective x }
-        ensures small { unsigned_abs result ≤ 10 ^ 38 }
+        ensures small { unsigned_abs result ≤ 4 * 10 ^ 37 }
         ensures within { IsBelow area.now (root_of self.now) → unsigned_abs result ≤ 2 * 10 ^ 37 }
     {
         floor(self.objective(), area)

@@ -12,7 +12,7 @@ use Rattle.ug_rows.specs.declared.area.Interval.{Interval}
 use Rattle.ug_rows.specs.declared.row.Term.{Term}
 use Rattle.ug_rows.specs.declared.row.Row.{Row}
 use Rattle.ug_rows.specs.Rows.{no_term, term_at}
-use Rattle.ug_rows.proofs.Products.{abs_add}
+use Rattle.ug_rows.proofs.Products.{abs_add, abs_sub}
 use Rattle.ug_problem.specs.declared.column.NamedRow.{NamedRow}
 use Rattle.ug_problem.specs.Instances.{Instance, IsRow, no_row, row_at}
 use Rattle.ug_problem.specs.Limits.{IsProblem}
@@ -24,17 +24,8 @@ use Rattle.ug_propagate.specs.declared.tight.Reason.{Reason}
 use Rattle.ug_propagate.specs.Rounds.{keep_at_least, keep_at_most, lower_high, raise_low, floor_quotient, ceiling_quotient, over_rows, over_terms, over_objective, row_step, term_step, round, rounds, rounds_of, last_round, crossed, are_crossed, are_fixed}
 use Rattle.ug_propagate.specs.Steps.{IsLookable, IsTermOf}
 
--- a difference is no larger than its parts
-pub others_small : (a b : ℤ) → unsigned_abs (a -ℤ b) ≤ unsigned_abs a + unsigned_abs b
-others_small (pos a) (pos zero) = omega (arith, ints)
-others_small (pos a) (pos (suc b)) = omega (arith, ints)
-others_small (pos a) (negsuc b) = omega (arith, ints)
-others_small (negsuc a) (pos zero) = omega (arith, ints)
-others_small (negsuc a) (pos (suc b)) = omega (arith, ints)
-others_small (negsuc a) (negsuc b) = omega (arith, ints)
-
 -- sums and differences fit where their parts are small
-pub ruleset sizes = (others_small, abs_add)
+pub ruleset sizes = (abs_sub, abs_add)
 
 pub most_pos : (reason : Reason) (f : ℤ) (j : ℕ) (s : ℤ) (area : List Interval) → pos 0 <ℤ f
     → keep_at_most reason f j s area ≡ lower_high reason j (floor_quotient s f) area
@@ -88,7 +79,7 @@ pub ready_objective : (p : Instance) (look : Look) (c : ℤ) → IsProblem p →
 ready_objective p look c problem small low high =
     let P : Option ℤ → Type 0 = λ (s : Option ℤ). IfSome s (λ v. unsigned_abs v ≤ 4 * 10 ^ 37) in
     let k : unsigned_abs (c -ℤ pos 1 -ℤ p.objective.constant) ≤ 4 * 10 ^ 37 =
-    omega (arith, others_small (c -ℤ pos 1) p.objective.constant, others_small c (pos 1), problem.objective.constant) in
+    omega (arith, abs_sub (c -ℤ pos 1) p.objective.constant, abs_sub c (pos 1), problem.objective.constant) in
     record {
       linear = linear_objective p problem;
       nonzero = problem.formed.objective.nonzero;

@@ -5,8 +5,7 @@ use Rattle.std.proofs.Math.Nat.{mul-le-mul}
 use Rattle.std.proofs.lemmas.Int.{ints, fits_signed_from_abs, to_z-of_z, unsigned_abs-mul}
 use mir.Syntax.{w32, w64, w128}
 use mir.Val.{to_z, of_z}
-use Rattle.ug_rows.proofs.Products.{abs_add}
-use Rattle.ug_propagate.proofs.Bodies.{others_small}
+use Rattle.ug_rows.proofs.Products.{abs_add, abs_sub}
 
 pub wider : (v : ℤ) → unsigned_abs v ≤ 10 ^ 24 * 2 ^ 31 → unsigned_abs v ≤ 10 ^ 24 * 2 ^ 32
 wider v h = omega arith
@@ -33,7 +32,7 @@ pub room_minus : (p a b c : ℤ) → unsigned_abs a ≤ 9 * 10 ^ 37 → unsigned
     → p ≡ to_z w128 (of_z w128 a) -ℤ to_z w128 (of_z w128 b) → b ≡ c → to_z w128 (of_z w128 p) ≡ a -ℤ c
 room_minus p a b c room span e same =
     let p_is : p ≡ a -ℤ b = e ∙ ap (λ (v : ℤ). v -ℤ to_z w128 (of_z w128 b)) (room_same a room) ∙ ap (λ (v : ℤ). a -ℤ v) (span_same b span) in
-    let small : unsigned_abs p ≤ 9 * 10 ^ 37 + 10 ^ 24 * 2 ^ 32 = rw p_is (omega (arith, room, span, others_small a b)) in
+    let small : unsigned_abs p ≤ 9 * 10 ^ 37 + 10 ^ 24 * 2 ^ 32 = rw p_is (omega (arith, room, span, abs_sub a b)) in
     both_same p small ∙ p_is ∙ ap (λ (v : ℤ). a -ℤ v) same
 
 -- a span less a room
@@ -41,7 +40,7 @@ pub span_minus : (p a b c : ℤ) → unsigned_abs a ≤ 10 ^ 24 * 2 ^ 32 → uns
     → p ≡ to_z w128 (of_z w128 a) -ℤ to_z w128 (of_z w128 b) → a ≡ c → to_z w128 (of_z w128 p) ≡ c -ℤ b
 span_minus p a b c span room e same =
     let p_is : p ≡ a -ℤ b = e ∙ ap (λ (v : ℤ). v -ℤ to_z w128 (of_z w128 b)) (span_same a span) ∙ ap (λ (v : ℤ). a -ℤ v) (room_same b room) in
-    let small : unsigned_abs p ≤ 9 * 10 ^ 37 + 10 ^ 24 * 2 ^ 32 = rw p_is (omega (arith, room, span, others_small a b)) in
+    let small : unsigned_abs p ≤ 9 * 10 ^ 37 + 10 ^ 24 * 2 ^ 32 = rw p_is (omega (arith, room, span, abs_sub a b)) in
     both_same p small ∙ p_is ∙ ap (λ (v : ℤ). v -ℤ b) same
 
 nothing_times : (f : ℤ) → pos 0 *ℤ f ≡ pos 0

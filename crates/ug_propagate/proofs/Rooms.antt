@@ -20,7 +20,7 @@ use Rattle.ug_propagate.specs.declared.tight.Reason.{Reason}
 use Rattle.ug_propagate.specs.declared.tight.Side.TheVariants.{Low, High}
 use Rattle.ug_propagate.specs.Rounds.{keep_at_least, keep_at_most, lower_high, over_low, raise_low, reason_of, under_high}
 use Rattle.ug_propagate.specs.Steps.{HaveSmallColumns, IsMeasured, IsLookable, IsRoomOf, high_of, low_of, outcome_of}
-use Rattle.ug_propagate.proofs.Bodies.{others_small}
+use Rattle.ug_rows.proofs.Products.{abs_sub}
 use Rattle.ug_propagate.proofs.Parts.{if_lt}
 
 high_size : (high : Option ℤ) → IfSome high (λ h. unsigned_abs h ≤ 4 * 10 ^ 37) → unsigned_abs (high_of high) ≤ 6 * 10 ^ 37
@@ -35,12 +35,12 @@ low_size (Some low) h = omega arith
 pub high_room_size : (high : Option ℤ) (sum room : ℤ) → room ≡ high_of high -ℤ sum
     → IfSome high (λ h. unsigned_abs h ≤ 4 * 10 ^ 37) → unsigned_abs sum ≤ 3 * 10 ^ 37 → unsigned_abs room ≤ 9 * 10 ^ 37
 high_room_size high sum room e side small =
-    rw e (omega (arith, others_small (high_of high) sum, high_size high side, small))
+    rw e (omega (arith, abs_sub (high_of high) sum, high_size high side, small))
 
 pub low_room_size : (low : Option ℤ) (sum room : ℤ) → room ≡ sum -ℤ low_of low
     → IfSome low (λ l. unsigned_abs l ≤ 4 * 10 ^ 37) → unsigned_abs sum ≤ 3 * 10 ^ 37 → unsigned_abs room ≤ 9 * 10 ^ 37
 low_room_size low sum room e side small =
-    rw e (omega (arith, others_small sum (low_of low), low_size low side, small))
+    rw e (omega (arith, abs_sub sum (low_of low), low_size low side, small))
 
 -- the sums of a room and their sizes
 room_of : (width : ℕ) (look : Look) (terms : List Term) (area : List Interval) (room : Room) → IsLookable width look terms

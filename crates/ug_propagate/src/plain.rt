@@ -26,7 +26,7 @@ impl RowRule for Plain {
 }
 
 // The least or the greatest sum of the other terms.
-#[tactic(auto, using(crate::proofs::Bodies::others_small))]
+#[tactic(auto, using(crate::proofs::Bodies::sizes))]
 fn ends_of_others(extreme: Extreme, terms: &[Term], term: Term, sides: &[Interval]) -> i128
     requires terms { IsLinear (length sides.now) terms.now }
     requires term { IsTermOf (length sides.now) term }
@@ -38,7 +38,7 @@ fn ends_of_others(extreme: Extreme, terms: &[Term], term: Term, sides: &[Interva
 }
 
 // A side of a row less the least or the greatest sum of the other terms.
-#[tactic(auto, using(crate::proofs::Bodies::others_small))]
+#[tactic(auto, using(crate::proofs::Bodies::sizes))]
 fn less_others(extreme: Extreme, side: i128, terms: &[Term], term: Term, sides: &[Interval]) -> i128
     requires terms { IsLinear (length sides.now) terms.now }
     requires term { IsTermOf (length sides.now) term }

@@ -1,5 +1,5 @@
 -- Products of a factor and an i32, and how large they are.
-use Rattle.std.proofs.Common.{◌≡◌, ◌+◌, ◌*◌, ◌^◌, ◌≤◌, ℤ, pos, negsuc, ◌+ℤ◌, ◌*ℤ◌, unsigned_abs, FitsSigned, ◌∙◌, arith}
+use Rattle.std.proofs.Common.{◌-ℤ◌, suc, zero, ◌≡◌, ◌+◌, ◌*◌, ◌^◌, ◌≤◌, ℤ, pos, negsuc, ◌+ℤ◌, ◌*ℤ◌, unsigned_abs, FitsSigned, ◌∙◌, arith}
 use Rattle.std.proofs.Math.Nat.{mul-le-mul}
 use Rattle.std.proofs.lemmas.Int.{ints, unsigned_abs-mul, fits_signed_from_abs, to_z-of_z}
 use mir.Syntax.{w32, w128}
@@ -52,3 +52,12 @@ added_small t f v r large small t_fits f_fits v_fits e =
 
 -- for `add_product`
 pub ruleset products = (abs_add, abs_product, product_fits, total_fits, to_z-of_z)
+
+-- a difference is no larger than its parts
+pub abs_sub : (a b : ℤ) → unsigned_abs (a -ℤ b) ≤ unsigned_abs a + unsigned_abs b
+abs_sub (pos a) (pos zero) = omega (arith, ints)
+abs_sub (pos a) (pos (suc b)) = omega (arith, ints)
+abs_sub (pos a) (negsuc b) = omega (arith, ints)
+abs_sub (negsuc a) (pos zero) = omega (arith, ints)
+abs_sub (negsuc a) (pos (suc b)) = omega (arith, ints)
+abs_sub (negsuc a) (negsuc b) = omega (arith, ints)

@@ -1,4 +1,4 @@
-ghost use Rattle.std.specs.Prelude.{◌≡◌, ◌≤◌, ◌^◌, ◌↔◌, IsTrue, length, unsigned_abs};
+ghost use Rattle.std.specs.Prelude.{◌≡◌, ◌≤◌, ◌*◌, ◌^◌, ◌↔◌, IsTrue, length, unsigned_abs};
 ghost use Rattle.ug_rows.specs.Rows.{IsLinear, Keeps, value_of};
 
 use crate::point::Point;
@@ -49,7 +49,7 @@ pub fn value(objective: &Objective, point: &Point) -> i128
     requires terms { IsLinear (length point.now) objective.now.terms }
     requires constant { unsigned_abs objective.now.constant ≤ 10 ^ 37 }
     ensures value { result ≡ value_of objective.now point.now }
-    ensures small { unsigned_abs result ≤ 10 ^ 38 }
+    ensures small { unsigned_abs result ≤ 4 * 10 ^ 37 }
 {
     let sum = sum(objective.terms.as_slice(), point.as_slice());
     sum + objective.constant

@@ -42,7 +42,7 @@ pub fn floor(objective: &Objective, area: &IntBox) -> i128
     ensures bound { (x : List ℤ) → IsInside area.now x → result ≤ℤ value_of objective.now x }
     ensures reached { IsNonEmpty area.now → (x : List ℤ) × IsInside area.now x × (value_of objective.now x ≡ result) }
     ensures sum { result ≡ box_floor objective.now area.now }
-    ensures small { unsigned_abs result ≤ 10 ^ 38 }
+    ensures small { unsigned_abs result ≤ 4 * 10 ^ 37 }
 {
     let least = sum_of_ends(Extreme::Least, objective.terms.as_slice(), area.as_slice());
     least + objective.constant
