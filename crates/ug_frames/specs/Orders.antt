@@ -3,7 +3,8 @@ use Rattle.std.specs.Prelude.{◌≤◌, Option, Some, None, IfSome}
 use Rattle.ug_nodes.specs.declared.name.Ticket.{Ticket}
 use Rattle.ug_frames.specs.declared.order.Order.{Order}
 use Rattle.ug_frames.specs.declared.order.Order.TheVariants.{Setup, Work, Incumbent, CollectIn, CollectOut, Winner, Stop, End}
-use Rattle.ug_frames.specs.Ranges.{IsGiven, IsValue, IsGap, HasRoom, AreChanges}
+use Rattle.ug_problem.specs.Better.{IsGap}
+use Rattle.ug_frames.specs.Ranges.{IsGiven, IsValue, HasRoom, AreChanges}
 
 -- the ticket of the assignment that the order speaks of
 abbrev pub ticket_of : Order → Option Ticket

@@ -1,5 +1,5 @@
 -- What the parts of a frame can carry.
-use Rattle.std.specs.Prelude.{ℕ, ℤ, pos, ◌+◌, ◌*◌, ◌^◌, ◌<◌, ◌≤◌, ◌≤ℤ◌, List, length, All, unsigned_abs}
+use Rattle.std.specs.Prelude.{ℕ, ℤ, ◌+◌, ◌*◌, ◌^◌, ◌<◌, ◌≤◌, ◌≤ℤ◌, List, length, All, unsigned_abs}
 use Rattle.ug_nodes.specs.declared.name.Ticket.{Ticket}
 use Rattle.ug_nodes.specs.declared.change.Change.{Change}
 use Rattle.ug_nodes.specs.Changes.{IsRising}
@@ -16,11 +16,6 @@ pub record IsGiven (ticket : Ticket) : Type 0 where
 -- a value is at most 2*10^37 in absolute value
 abbrev pub IsValue : ℤ → Type 0
 IsValue value = unsigned_abs value ≤ 2 * 10 ^ 37
-
--- a gap is from 0 to 4*10^37
-pub record IsGap (gap : ℤ) : Type 0 where
-  pub low : pos 0 ≤ℤ gap
-  pub high : gap ≤ℤ pos (4 * 10 ^ 37)
 
 -- the bytes of a record leave room in the frame for the tag and the gap
 abbrev pub HasRoom : List ℕ → Type 0
