@@ -12,8 +12,8 @@ use Rattle.ug_problem.specs.Instances.{Instance, bounds_of, root_of}
 use Rattle.ug_problem.specs.Better.{IsGood}
 use Rattle.ug_problem.proofs.Floors.{floor_bound, floor_within}
 use Rattle.ug_base.specs.declared.left.BoxLeft.{BoxLeft}
-use Rattle.ug_base.specs.Lefts.{CanBound, IsLowestOf, IsLowestSoFar, KeepFloors, areas_of, floor_at, no_left}
-use Rattle.ug_base.specs.Tasks.{AreBelow, IsBound, IsLowest, IsTask, TaskState, lesser_of}
+use Rattle.ug_base.specs.Lefts.{CanBound, IsLeastFloorOf, IsLeastFloorSoFar, KeepFloors, areas_of, floor_at, no_left}
+use Rattle.ug_base.specs.Tasks.{AreBelow, BoundsTheRest, IsLeastFloor, IsTask, TaskState, lesser_of}
 
 -- a box left is as wide as its problem
 pub left_width : (p : Instance) (left : BoxLeft) → CanBound p left → length left.area ≡ length p.columns
@@ -27,8 +27,8 @@ lesser_is old given = by_lt_z old given
     (λ more. inr (grind (arith, ints, more), more))
 
 -- box n is not below the least of those before it
-keeps_lowest : (p : Instance) (boxes : List BoxLeft) (n : ℕ) (low here r : ℤ) → IsLowestOf p boxes n low
-    → floor_at p boxes n ≡ here → low ≤ℤ here → r ≡ low → IsLowestOf p boxes (n + 1) r
+keeps_lowest : (p : Instance) (boxes : List BoxLeft) (n : ℕ) (low here r : ℤ) → IsLeastFloorOf p boxes n low
+    → floor_at p boxes n ≡ here → low ≤ℤ here → r ≡ low → IsLeastFloorOf p boxes (n + 1) r
 keeps_lowest p boxes n low here r l e h same = record {
   at = l.at;
   there = omega (arith, l.there);
@@ -47,7 +47,7 @@ at_most_itself a = omega (arith, ints)
 
 -- box n is at most the least of those before it
 takes_lowest : (p : Instance) (boxes : List BoxLeft) (n : ℕ) (here r : ℤ) → floor_at p boxes n ≡ here → r ≡ here
-    → ((k : ℕ) → k < n → here ≤ℤ floor_at p boxes k) → IsLowestOf p boxes (n + 1) r
+    → ((k : ℕ) → k < n → here ≤ℤ floor_at p boxes k) → IsLeastFloorOf p boxes (n + 1) r
 takes_lowest p boxes n here r e same h = record {
   at = n;
   there = omega arith;
@@ -59,8 +59,8 @@ takes_lowest p boxes n here r e same h = record {
 }
 
 -- one box more
-pub lowest_next : (p : Instance) (boxes : List BoxLeft) (n : ℕ) (lowest : Option ℤ) (here r : ℤ) → IsLowestSoFar p boxes n lowest
-    → here ≡ floor_at p boxes n → r ≡ lesser_of lowest here → IsLowestOf p boxes (n + 1) r
+pub lowest_next : (p : Instance) (boxes : List BoxLeft) (n : ℕ) (lowest : Option ℤ) (here r : ℤ) → IsLeastFloorSoFar p boxes n lowest
+    → here ≡ floor_at p boxes n → r ≡ lesser_of lowest here → IsLeastFloorOf p boxes (n + 1) r
 lowest_next p boxes n None here r l e same = takes_lowest p boxes n here r (sym e) same (λ k lt. absurd (omega (arith, l, lt)))
 lowest_next p boxes n (Some low) here r l e same = elim (lesser_is low here) [
   | inl h ↦ keeps_lowest p boxes n low here r l (sym e) h.1 (same ∙ h.0)
@@ -72,14 +72,14 @@ no_boxes [] h = refl
 no_boxes (left ∷ boxes) h = absurd (omega (arith, h))
 
 -- there is none exactly where there is no box
-pub lowest_none : (p : Instance) (boxes : List BoxLeft) (n : ℕ) (lowest : Option ℤ) → n ≡ length boxes → IsLowestSoFar p boxes n lowest
+pub lowest_none : (p : Instance) (boxes : List BoxLeft) (n : ℕ) (lowest : Option ℤ) → n ≡ length boxes → IsLeastFloorSoFar p boxes n lowest
     → IsNone lowest ↔ (boxes ≡ [])
 lowest_none p boxes n None e l = ((λ _. no_boxes boxes (sym e ∙ l)), (λ _. refl))
 lowest_none p boxes n (Some low) e l = ((λ h. absurd (true≢false h)), (λ h. absurd (omega (arith, l.there, e, ap length h))))
 
 -- the least by place is the least of the boxes
-pub lowest_of : (p : Instance) (boxes : List BoxLeft) (n : ℕ) (lowest : Option ℤ) → n ≡ length boxes → IsLowestSoFar p boxes n lowest
-    → IfSome lowest (IsLowest p (areas_of boxes))
+pub lowest_of : (p : Instance) (boxes : List BoxLeft) (n : ℕ) (lowest : Option ℤ) → n ≡ length boxes → IsLeastFloorSoFar p boxes n lowest
+    → IfSome lowest (IsLeastFloor p (areas_of boxes))
 lowest_of p boxes n None e l = tt
 lowest_of p boxes n (Some low) e l =
     let area_at : (k : ℕ) (d : List Interval) → k < length boxes
@@ -124,7 +124,7 @@ left_in t x task inside good out = elim (task.covered x inside good) [
 ]
 
 -- each good point in no box handed has at least the least floor
-lowest_bound : (t : TaskState) (low : ℤ) → IsTask t → IsLowest t.problem t.boxes low → IsBound t low
+lowest_bound : (t : TaskState) (low : ℤ) → IsTask t → IsLeastFloor t.problem t.boxes low → BoundsTheRest t low
 lowest_bound t low task l = λ x inside good out.
     let r = box_with t.boxes x (left_in t x task inside good out) in
     let below : IsBelow r.0 t.whole = All-contains (λ (a : List Interval). IsBelow a t.whole) t.boxes r.0 task.below r.1 in
@@ -133,12 +133,12 @@ lowest_bound t low task l = λ x inside good out.
     at_most_trans _ _ _ (l.least r.0 r.1) (floor_bound t.problem r.0 x task.problem wide r.2)
 
 -- and so of a task's fields
-pub lowest_bounds : (t : TaskState) (lowest : Option ℤ) → IsTask t → IfSome lowest (IsLowest t.problem t.boxes) → IfSome lowest (IsBound t)
+pub lowest_bounds : (t : TaskState) (lowest : Option ℤ) → IsTask t → IfSome lowest (IsLeastFloor t.problem t.boxes) → IfSome lowest (BoundsTheRest t)
 lowest_bounds t None task l = tt
 lowest_bounds t (Some low) task l = lowest_bound t low task l
 
 -- the least floor is not too large
-pub lowest_small : (t : TaskState) (lowest : Option ℤ) → IsTask t → IfSome lowest (IsLowest t.problem t.boxes)
+pub lowest_small : (t : TaskState) (lowest : Option ℤ) → IsTask t → IfSome lowest (IsLeastFloor t.problem t.boxes)
     → IfSome lowest (λ low. unsigned_abs low ≤ 2 * 10 ^ 37)
 lowest_small t None task l = tt
 lowest_small t (Some low) task l =

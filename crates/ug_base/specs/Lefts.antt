@@ -32,13 +32,13 @@ abbrev pub floor_at : Instance → List BoxLeft → ℕ → ℤ
 floor_at p boxes k = box_floor p.objective (slice_index_or boxes k no_left).area
 
 -- among the first n boxes, the floor of one is this, and none has a lesser
-pub record IsLowestOf (p : Instance) (boxes : List BoxLeft) (n : ℕ) (low : ℤ) : Type 0 where
+pub record IsLeastFloorOf (p : Instance) (boxes : List BoxLeft) (n : ℕ) (low : ℤ) : Type 0 where
   pub at : ℕ
   pub there : at < n
   pub reached : floor_at p boxes at ≡ low
   pub least : (k : ℕ) → k < n → low ≤ℤ floor_at p boxes k
 
 -- the same, or there is none yet
-abbrev pub IsLowestSoFar : Instance → List BoxLeft → ℕ → Option ℤ → Type 0
-IsLowestSoFar p boxes n None = n ≡ 0
-IsLowestSoFar p boxes n (Some low) = IsLowestOf p boxes n low
+abbrev pub IsLeastFloorSoFar : Instance → List BoxLeft → ℕ → Option ℤ → Type 0
+IsLeastFloorSoFar p boxes n None = n ≡ 0
+IsLeastFloorSoFar p boxes n (Some low) = IsLeastFloorOf p boxes n low

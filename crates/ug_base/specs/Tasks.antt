@@ -43,13 +43,13 @@ lesser_of None given = given
 lesser_of (Some old) given = (if int_lt old given then old else given)
 
 -- the least floor of the boxes: it is the floor of one of them, and at most that of each
-pub record IsLowest (p : Instance) (boxes : List (List Interval)) (low : ℤ) : Type 0 where
+pub record IsLeastFloor (p : Instance) (boxes : List (List Interval)) (low : ℤ) : Type 0 where
   pub area : List Interval
   pub among : Contains boxes area
   pub reached : box_floor p.objective area ≡ low
   pub least : (other : List Interval) → Contains boxes other → low ≤ℤ box_floor p.objective other
 
 -- each good point of the whole box that is in no box handed has at least this value
-abbrev pub IsBound : TaskState → ℤ → Type 0
-IsBound t low = (x : List ℤ) → IsInside t.whole x → IsGood t.problem t.cutoff x → ¬ IsInOne t.handed x
+abbrev pub BoundsTheRest : TaskState → ℤ → Type 0
+BoundsTheRest t low = (x : List ℤ) → IsInside t.whole x → IsGood t.problem t.cutoff x → ¬ IsInOne t.handed x
     → low ≤ℤ value_of t.problem.objective x

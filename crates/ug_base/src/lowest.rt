@@ -1,7 +1,7 @@
 ghost use Rattle.std.specs.Prelude.{◌≡◌, ◌<◌, ◌+◌, ◌↔◌, [], All, IsNone, IfSome, length, slice_index_or};
 ghost use Rattle.ug_rows.specs.Sums.{box_floor};
-ghost use Rattle.ug_base.specs.Lefts.{CanBound, IsLowestOf, IsLowestSoFar, areas_of, no_left};
-ghost use Rattle.ug_base.specs.Tasks.{IsLowest, lesser_of};
+ghost use Rattle.ug_base.specs.Lefts.{CanBound, IsLeastFloorOf, IsLeastFloorSoFar, areas_of, no_left};
+ghost use Rattle.ug_base.specs.Tasks.{IsLeastFloor, lesser_of};
 
 use crate::left::BoxLeft;
 use ug_problem::Shared;
@@ -33,8 +33,8 @@ fn floor_of(problem: &Shared, left: &BoxLeft) -> i128
 fn lowest_with(problem: &Shared, boxes: &[BoxLeft], lowest: Option<i128>, k: usize) -> i128
     requires there { k < length boxes.now }
     requires can { CanBound problem.now (slice_index_or boxes.now k no_left) }
-    requires so_far { IsLowestSoFar problem.now boxes.now k lowest }
-    ensures { IsLowestOf problem.now boxes.now (k + 1) result }
+    requires so_far { IsLeastFloorSoFar problem.now boxes.now k lowest }
+    ensures { IsLeastFloorOf problem.now boxes.now (k + 1) result }
 {
     lesser(lowest, floor_of(problem, &boxes[k]))
 }
@@ -44,7 +44,7 @@ fn lowest_with(problem: &Shared, boxes: &[BoxLeft], lowest: Option<i128>, k: usi
 pub fn lowest_floor(problem: &Shared, boxes: &[BoxLeft]) -> Option<i128>
     requires { All (CanBound problem.now) boxes.now }
     ensures none { IsNone result ↔ (boxes.now ≡ []) }
-    ensures some { IfSome result (IsLowest problem.now (areas_of boxes.now)) }
+    ensures some { IfSome result (IsLeastFloor problem.now (areas_of boxes.now)) }
 {
     let mut lowest = None;
     for k in 0..boxes.len() {

@@ -6,7 +6,7 @@ ghost use Rattle.ug_base.specs.declared.step.Step.TheVariants.{Empty};
 ghost use Rattle.ug_base.specs.Covers.{AreCovered};
 ghost use Rattle.ug_base.specs.Hands.{DidHand, HandsLess};
 ghost use Rattle.ug_base.specs.Steps.{LeavesLess, TookStep};
-ghost use Rattle.ug_base.specs.Tasks.{AreBelow, IsBound, IsLowest, lesser_of};
+ghost use Rattle.ug_base.specs.Tasks.{AreBelow, BoundsTheRest, IsLeastFloor, lesser_of};
 ghost use Rattle.ug_problem.specs.Better.{AreAllHanded, HasNoGood, IsGap, IsSmallCutoff, cutoff_of};
 ghost use Rattle.ug_base.specs.Lefts.{KeepsFloor};
 
@@ -207,8 +207,8 @@ impl Task {
     #[tactic(auto, using(crate::proofs::Floors::lowest_bounds))]
     pub fn lowest(&self) -> Option<i128>
         ensures none { IsNone result ↔ (self.now.boxes ≡ []) }
-        ensures some { IfSome result (IsLowest self.now.problem self.now.boxes) }
-        ensures bound { IfSome result (IsBound self.now) }
+        ensures some { IfSome result (IsLeastFloor self.now.problem self.now.boxes) }
+        ensures bound { IfSome result (BoundsTheRest self.now) }
         ensures small { IfSome result (λ low. unsigned_abs low ≤ 2 * 10 ^ 37) }
     {
         lowest_floor(&self.problem, self.boxes.as_slice())

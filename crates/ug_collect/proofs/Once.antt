@@ -6,10 +6,10 @@ use Rattle.ug_ramp.proofs.Firsts.{first_not_ahead, none_first}
 use Rattle.ug_collect.specs.declared.member.Member.{Member}
 use Rattle.ug_collect.specs.declared.demand.Wanted.{Wanted}
 use Rattle.ug_collect.specs.declared.demand.Wanted.TheVariants.{Ask, Enough, Nothing}
-use Rattle.ug_collect.specs.Members.{CanBeAsked, IsAhead, IsFirstRank, NoneCanBeAsked, IsAnyCollecting, IsNoneCollecting}
+use Rattle.ug_collect.specs.Members.{CanBeAsked, IsAskedBefore, IsFirstRank, NoneCanBeAsked, IsAnyCollecting, IsNoneCollecting}
 use Rattle.ug_collect.specs.Wants.{IsWanted}
 
-same_rank : (a b : Member) → (IsAhead a b → ⊥) → (IsAhead b a → ⊥) → a.rank ≡ b.rank
+same_rank : (a b : Member) → (IsAskedBefore a b → ⊥) → (IsAskedBefore b a → ⊥) → a.rank ≡ b.rank
 same_rank a b h k =
     let floors : a.floor ≡ b.floor = same_int a.floor b.floor (λ l. h (inl l)) (λ l. k (inl l)) in
     same_nat a.rank b.rank (λ l. h (inr (floors, l))) (λ l. k (inr (sym floors, l)))
@@ -19,8 +19,8 @@ one_first : (members : List Member) (one other : ℕ)
 one_first members one other h k =
     sym h.named
     ∙ (same_rank h.member k.member
-    (first_not_ahead CanBeAsked IsAhead members h.member k.member h.first k.first)
-    (first_not_ahead CanBeAsked IsAhead members k.member h.member k.first h.first)
+    (first_not_ahead CanBeAsked IsAskedBefore members h.member k.member h.first k.first)
+    (first_not_ahead CanBeAsked IsAskedBefore members k.member h.member k.first h.first)
     ∙ k.named)
 
 one_count : (len high one other : ℕ) → len + one ≡ high → len + other ≡ high → one ≡ other
@@ -40,7 +40,7 @@ some_or_none members h k =
 
 ask_or_nothing : (members : List Member) (rank : ℕ)
     → IsFirstRank members rank → NoneCanBeAsked members → ⊥
-ask_or_nothing members rank h none = none_first CanBeAsked IsAhead members h.member none h.first
+ask_or_nothing members rank h none = none_first CanBeAsked IsAskedBefore members h.member none h.first
 
 pub wanted_once : (len low high : ℕ) (members : List Member) (one other : Wanted) → low ≤ high
     → IsWanted len low high members one → IsWanted len low high members other → one ≡ other

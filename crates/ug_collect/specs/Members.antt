@@ -14,23 +14,23 @@ abbrev pub NoneCanBeAsked : List Member → Type 0
 NoneCanBeAsked members = All (λ member. CanBeAsked member → ⊥) members
 
 -- member a is asked before member b: it has a lesser floor, or the same floor and a lower rank
-abbrev pub IsAhead : Member → Member → Type 0
-IsAhead a b = (a.floor <ℤ b.floor) ⊎ ((a.floor ≡ b.floor) × (a.rank < b.rank))
+abbrev pub IsAskedBefore : Member → Member → Type 0
+IsAskedBefore a b = (a.floor <ℤ b.floor) ⊎ ((a.floor ≡ b.floor) × (a.rank < b.rank))
 
 -- the member is one of these that can be asked, and none of these that can is asked before it
-abbrev pub IsFirst : List Member → Member → Type 0
-IsFirst members member = IsFirstBy CanBeAsked IsAhead members member
+abbrev pub IsAskedFirst : List Member → Member → Type 0
+IsAskedFirst members member = IsFirstBy CanBeAsked IsAskedBefore members member
 
 -- the rank is that of the member that is asked first
 pub record IsFirstRank (members : List Member) (rank : ℕ) : Type 0 where
   pub member : Member
-  pub first : IsFirst members member
+  pub first : IsAskedFirst members member
   pub named : member.rank ≡ rank
 
 -- the member that is asked first, if any can be asked
-abbrev pub IsFirstIfAny : List Member → Option Member → Type 0
-IsFirstIfAny members None = NoneCanBeAsked members
-IsFirstIfAny members (Some member) = IsFirst members member
+abbrev pub IsAskedFirstIfAny : List Member → Option Member → Type 0
+IsAskedFirstIfAny members None = NoneCanBeAsked members
+IsAskedFirstIfAny members (Some member) = IsAskedFirst members member
 
 -- some member is collecting
 abbrev pub IsAnyCollecting : List Member → Type 0

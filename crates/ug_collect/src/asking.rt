@@ -1,7 +1,7 @@
 ghost use Rattle.std.specs.Prelude.{◌≡◌, ◌≤◌, ◌<◌, ◌++◌, [], ◌∷◌, List, MatchBool, IfOk, OnErr};
 ghost use Rattle.ug_collect.specs.declared.member.Member.{Member};
 ghost use Rattle.ug_collect.specs.declared.demand.Wanted.{Wanted};
-ghost use Rattle.ug_collect.specs.Members.{CanBeAsked, IsAhead, IsFirst, IsFirstIfAny, IsAnyCollecting, IsNoneCollecting, AreRising, collecting_ranks};
+ghost use Rattle.ug_collect.specs.Members.{CanBeAsked, IsAskedBefore, IsAskedFirst, IsAskedFirstIfAny, IsAnyCollecting, IsNoneCollecting, AreRising, collecting_ranks};
 ghost use Rattle.ug_collect.specs.Wants.{IsFull, IsWanted, HasRisingRanks};
 
 use crate::demand::Wanted;
@@ -55,7 +55,7 @@ fn ask(len: u64, low: u64, high: u64, members: &[Member]) -> Wanted
 
 // The member that is asked first.
 fn first(members: &[Member]) -> Option<Member>
-    ensures { IsFirstIfAny members.now result }
+    ensures { IsAskedFirstIfAny members.now result }
 {
     let mut best = None;
     for member in members {
@@ -67,8 +67,8 @@ fn first(members: &[Member]) -> Option<Member>
 // The first of some members and one more.
 #[tactic(auto, using(crate::proofs::Asked::first_stays_idle))]
 fn first_of(best: Option<Member>, member: Member) -> Option<Member>
-    ensures { (members : List Member) → IsFirstIfAny members best
-        → IsFirstIfAny (members ++ member ∷ []) result }
+    ensures { (members : List Member) → IsAskedFirstIfAny members best
+        → IsAskedFirstIfAny (members ++ member ∷ []) result }
 {
     if !can_be_asked(member) {
         return best;
@@ -82,8 +82,8 @@ fn first_of(best: Option<Member>, member: Member) -> Option<Member>
 // The first of some members and one more that can be asked.
 #[tactic(auto, using(crate::proofs::Asked::first_stays_behind))]
 fn first_of_two(before: Member, member: Member) -> Member
-    ensures { (members : List Member) → IsFirst members before → CanBeAsked member
-        → IsFirst (members ++ member ∷ []) result }
+    ensures { (members : List Member) → IsAskedFirst members before → CanBeAsked member
+        → IsAskedFirst (members ++ member ∷ []) result }
 {
     if is_ahead(member, before) {
         member
@@ -99,7 +99,7 @@ fn can_be_asked(member: Member) -> bool
 }
 
 fn is_ahead(one: Member, other: Member) -> bool
-    ensures { MatchBool result (IsAhead one other) (IsAhead one other → ⊥) }
+    ensures { MatchBool result (IsAskedBefore one other) (IsAskedBefore one other → ⊥) }
 {
     if one.floor == other.floor {
         return one.rank < other.rank;

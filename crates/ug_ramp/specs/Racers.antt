@@ -16,20 +16,20 @@ abbrev pub HasMore : Racer → Racer → Type 0
 HasMore a b = (b.«open» < a.«open») ⊎ ((a.«open» ≡ b.«open») × (a.rank < b.rank))
 
 -- racer a is ahead of racer b: it has a greater floor, then more open nodes, then a lower rank
-abbrev pub IsAhead : Racer → Racer → Type 0
-IsAhead a b = (b.floor <ℤ a.floor) ⊎ ((a.floor ≡ b.floor) × HasMore a b)
+abbrev pub LeadsOver : Racer → Racer → Type 0
+LeadsOver a b = (b.floor <ℤ a.floor) ⊎ ((a.floor ≡ b.floor) × HasMore a b)
 
 -- the racer is one of these, has enough open nodes, and none of these with enough is ahead of it
-abbrev pub IsFirst : ℕ → List Racer → Racer → Type 0
-IsFirst w racers racer = IsFirstBy (HasEnough w) IsAhead racers racer
+abbrev pub IsLeader : ℕ → List Racer → Racer → Type 0
+IsLeader w racers racer = IsFirstBy (HasEnough w) LeadsOver racers racer
 
 -- the rank is that of the first of the racers
 pub record IsWinner (w : ℕ) (racers : List Racer) (rank : ℕ) : Type 0 where
   pub racer : Racer
-  pub first : IsFirst w racers racer
+  pub first : IsLeader w racers racer
   pub named : racer.rank ≡ rank
 
 -- the first of the racers, if any has enough open nodes
-abbrev pub IsFirstIfAny : ℕ → List Racer → Option Racer → Type 0
-IsFirstIfAny w racers None = All (IsShort w) racers
-IsFirstIfAny w racers (Some racer) = IsFirst w racers racer
+abbrev pub IsLeaderIfAny : ℕ → List Racer → Option Racer → Type 0
+IsLeaderIfAny w racers None = All (IsShort w) racers
+IsLeaderIfAny w racers (Some racer) = IsLeader w racers racer

@@ -1,6 +1,6 @@
 ghost use Rattle.std.specs.Prelude.{◌≡◌, ◌↔◌, ◌<◌, ◌++◌, [], ◌∷◌, ℕ, Option, List, All, IsNone, IfSome, MatchBool};
 ghost use Rattle.ug_ramp.specs.declared.racer.Racer.{Racer};
-ghost use Rattle.ug_ramp.specs.Racers.{HasEnough, HasMore, IsShort, IsAhead, IsFirst, IsWinner, IsFirstIfAny};
+ghost use Rattle.ug_ramp.specs.Racers.{HasEnough, HasMore, IsShort, LeadsOver, IsLeader, IsWinner, IsLeaderIfAny};
 
 use crate::racer::Racer;
 
@@ -21,7 +21,7 @@ pub fn winner(racers: &[Racer], w: u64) -> Option<u32>
 
 // The racer that no other with enough open nodes is ahead of.
 fn first(racers: &[Racer], w: u64) -> Option<Racer>
-    ensures { IsFirstIfAny w racers.now result }
+    ensures { IsLeaderIfAny w racers.now result }
 {
     let mut best = None;
     for racer in racers {
@@ -33,8 +33,8 @@ fn first(racers: &[Racer], w: u64) -> Option<Racer>
 // The first of some racers and one more.
 #[tactic(auto, using(crate::proofs::Winners::winner_stays_short, crate::proofs::Winners::winner_alone))]
 fn first_of(best: Option<Racer>, racer: Racer, w: u64) -> Option<Racer>
-    ensures { (racers : List Racer) → IsFirstIfAny w racers best
-        → IsFirstIfAny w (racers ++ racer ∷ []) result }
+    ensures { (racers : List Racer) → IsLeaderIfAny w racers best
+        → IsLeaderIfAny w (racers ++ racer ∷ []) result }
 {
     if racer.open < w {
         return best;
@@ -48,8 +48,8 @@ fn first_of(best: Option<Racer>, racer: Racer, w: u64) -> Option<Racer>
 // The first of some racers and one more that has enough open nodes.
 #[tactic(auto, using(crate::proofs::Winners::winner_stays, crate::proofs::Winners::winner_changes))]
 fn first_of_two(before: Racer, racer: Racer) -> Racer
-    ensures { (w : ℕ) (racers : List Racer) → IsFirst w racers before → HasEnough w racer
-        → IsFirst w (racers ++ racer ∷ []) result }
+    ensures { (w : ℕ) (racers : List Racer) → IsLeader w racers before → HasEnough w racer
+        → IsLeader w (racers ++ racer ∷ []) result }
 {
     if is_ahead(racer, before) {
         racer
@@ -59,7 +59,7 @@ fn first_of_two(before: Racer, racer: Racer) -> Racer
 }
 
 fn is_ahead(one: Racer, other: Racer) -> bool
-    ensures { MatchBool result (IsAhead one other) (IsAhead one other → ⊥) }
+    ensures { MatchBool result (LeadsOver one other) (LeadsOver one other → ⊥) }
 {
     if one.floor == other.floor {
         return has_more(one, other);

@@ -1,6 +1,6 @@
 use Rattle.std.proofs.Common.{take}
-use Rattle.ug_ramp.specs.Racers.{IsFirstIfAny}
+use Rattle.ug_ramp.specs.Racers.{IsLeaderIfAny}
 use Rattle.ug_ramp.proofs.race.first.Given as goal
 
 abbrev pub invariant-loop-racer : goal.invariant-loop-racer
-invariant-loop-racer l = IsFirstIfAny l.w (take l.racer-index l.racers) l.best
+invariant-loop-racer l = IsLeaderIfAny l.w (take l.racer-index l.racers) l.best

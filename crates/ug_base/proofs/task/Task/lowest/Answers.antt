@@ -1,7 +1,7 @@
 use Rattle.std.proofs.Common.{List, All, IfSome, subst, sym}
 use Rattle.ug_base.specs.declared.left.BoxLeft.{BoxLeft}
 use Rattle.ug_base.specs.Lefts.{CanBound, areas_of}
-use Rattle.ug_base.specs.Tasks.{IsLowest}
+use Rattle.ug_base.specs.Tasks.{IsLeastFloor}
 use Rattle.ug_base.specs.Views.{state_of}
 use Rattle.ug_base.proofs.Floors.{boxes_bound, lowest_small}
 use Rattle.ug_base.proofs.task.Task.lowest.Goals as goal
@@ -15,5 +15,5 @@ lowest_floor-requires c =
 pub returns-clause-small : goal.returns-clause-small
 returns-clause-small c =
     lowest_small (state_of c.self.inside) _ c.self.invariant.task
-    (subst (λ (boxes : List BoxLeft). IfSome c.lowest_floor.result (IsLowest c.self.inside.problem (areas_of boxes)))
+    (subst (λ (boxes : List BoxLeft). IfSome c.lowest_floor.result (IsLeastFloor c.self.inside.problem (areas_of boxes)))
     c.as_slice.ensures.value c.lowest_floor.ensures.some)
