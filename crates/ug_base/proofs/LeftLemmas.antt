@@ -1,10 +1,11 @@
 -- The boxes left, and the floors that are kept beside them.
-use Rattle.std.proofs.Common.{◌≡◌, ℕ, zero, suc, ◌-◌, List, [], ◌∷◌, ◌++◌, length, take, refl, sym, ap, ◌∙◌, subst}
+use Rattle.std.proofs.Common.{◌≡◌, ◌↔◌, ℕ, zero, suc, ◌-◌, List, [], ◌∷◌, ◌++◌, length, take, refl, sym, ap, ◌∙◌, subst, arith}
 use Rattle.std.proofs.lemmas.List.{length-map}
 use Rattle.std.proofs.lemmas.List.Elements.{All-append, All-cons, All-nil, All-take, All-tail}
+use Rattle.ug_rows.specs.declared.area.Interval.{Interval}
 use Rattle.ug_problem.specs.Instances.{Instance}
 use Rattle.ug_base.specs.declared.left.BoxLeft.{BoxLeft}
-use Rattle.ug_base.specs.Lefts.{KeepFloors, KeepsFloor, areas_of}
+use Rattle.ug_base.specs.Lefts.{KeepFloors, KeepsFloor, areas_of, new_left}
 use Rattle.ug_base.specs.Looks.{front_of}
 
 areas_take : (n : ℕ) (boxes : List BoxLeft) → areas_of (take n boxes) ≡ take n (areas_of boxes)
@@ -37,8 +38,20 @@ pub rest_floors : (p : Instance) (left : BoxLeft) (old boxes : List BoxLeft) →
 rest_floors p left old boxes e h = All-tail (KeepsFloor p) left boxes (subst (KeepFloors p) e h)
 
 -- and where two halves are put in its place
-pub halves_floors : (p : Instance) (old : List BoxLeft) (first second : BoxLeft) → KeepsFloor p first → KeepsFloor p second
-    → KeepFloors p old → KeepFloors p (front_of old ++ second ∷ first ∷ [])
-halves_floors p old first second f s h =
-    All-append (KeepsFloor p) (front_of old) (second ∷ first ∷ []) (front_floors p old h)
-    (All-cons (KeepsFloor p) second (first ∷ []) s (All-cons (KeepsFloor p) first [] f (All-nil (KeepsFloor p))))
+pub halves_floors : (p : Instance) (old : List BoxLeft) (first second : List Interval) → KeepFloors p old
+    → KeepFloors p (front_of old ++ new_left second ∷ new_left first ∷ [])
+halves_floors p old first second h =
+    All-append (KeepsFloor p) (front_of old) (new_left second ∷ new_left first ∷ []) (front_floors p old h)
+    (All-cons (KeepsFloor p) (new_left second) (new_left first ∷ []) tt
+    (All-cons (KeepsFloor p) (new_left first) [] tt (All-nil (KeepsFloor p))))
+
+areas_none : (boxes : List BoxLeft) → areas_of boxes ≡ [] → boxes ≡ []
+areas_none [] e = refl
+areas_none (left ∷ boxes) e = absurd (let n = ap length e in omega (arith, n))
+
+-- there is none of the one boxes exactly where there is none of the others
+pub none_left : (new old : List BoxLeft) → areas_of new ≡ areas_of old → (new ≡ []) ↔ (old ≡ [])
+none_left new old e = (
+  λ n. areas_none old (sym e ∙ ap areas_of n),
+  λ o. areas_none new (e ∙ ap areas_of o),
+)

@@ -1,17 +1,16 @@
 -- A step keeps what every task is, and leaves less to search.
 use Rattle.std.proofs.Common.{◌≡◌, ℤ, pos, ◌+ℤ◌, ◌≤ℤ◌, ◌+◌, ◌-◌, ◌<◌, ◌<ℤ◌, ◌⊎◌, inl, inr, List, [], ◌∷◌, ◌++◌, length, Option, Some, None, IfSome, refl, sym, ap, ◌∙◌, subst, arith}
 use Rattle.std.proofs.lemmas.Int.{ints}
-use Rattle.std.proofs.lemmas.List.{length-map}
 use Rattle.std.proofs.lemmas.List.Elements.{All-append, All-cons, All-nil, All-take}
 use Rattle.ug_rows.specs.declared.area.Interval.{Interval}
 use Rattle.ug_rows.specs.Boxes.{IsBelow, IsInside, IsInOne}
 use Rattle.ug_rows.specs.Rows.{value_of}
-use Rattle.ug_problem.specs.Instances.{Instance, bounds_of}
+use Rattle.ug_problem.specs.Instances.{Instance}
 use Rattle.ug_problem.specs.Feasible.{Feasible}
 use Rattle.ug_problem.specs.Limits.{IsProblem}
 use Rattle.ug_problem.proofs.Cutoffs.{cutoff_small, good_is_better}
 use Rattle.ug_base.specs.declared.left.BoxLeft.{BoxLeft}
-use Rattle.ug_base.specs.Lefts.{areas_of}
+use Rattle.ug_base.specs.Lefts.{areas_of, new_left}
 use Rattle.ug_base.proofs.LeftLemmas.{areas_behind, areas_front}
 use Rattle.ug_problem.specs.Better.{IsGap, IsGood, cutoff_of}
 use Rattle.ug_base.specs.declared.halves.Halves.{Halves}
@@ -157,14 +156,14 @@ after_solved t old new last seen x cutoff same task e s is dropped value =
     (found_task t last.area x task (last_of_fields t old last same e)
     (subst (IsSeen t.problem t.cutoff t.params last.area) is s)))
 
-pub after_halved : (t : TaskState) (old new : List BoxLeft) (last first second : BoxLeft) (seen : Seen) (halves : Halves)
+pub after_halved : (t : TaskState) (old new : List BoxLeft) (last : BoxLeft) (seen : Seen) (halves : Halves)
     → t.boxes ≡ areas_of old → IsTask t → old ≡ front_of old ++ last ∷ [] → IsSeen t.problem t.cutoff t.params last.area seen
-    → seen ≡ Halved halves → first.area ≡ halves.first → second.area ≡ halves.second → new ≡ front_of old ++ second ∷ first ∷ []
+    → seen ≡ Halved halves → new ≡ front_of old ++ new_left halves.second ∷ new_left halves.first ∷ []
     → IsTask (record t { boxes = areas_of new })
-after_halved t old new last first second seen halves same task e s is f g put =
+after_halved t old new last seen halves same task e s is put =
     let there : areas_of new ≡ front_of t.boxes ++ halves.second ∷ halves.first ∷ [] =
-    areas_behind new old (second ∷ first ∷ []) put ∙ ap (λ bs. front_of bs ++ second.area ∷ first.area ∷ []) (sym same)
-    ∙ ap (λ a. front_of t.boxes ++ a ∷ first.area ∷ []) g ∙ ap (λ a. front_of t.boxes ++ halves.second ∷ a ∷ []) f in
+    areas_behind new old (new_left halves.second ∷ new_left halves.first ∷ []) put
+    ∙ ap (λ bs. front_of bs ++ halves.second ∷ halves.first ∷ []) (sym same) in
     subst (λ bs. IsTask (record t { boxes = bs })) (sym there)
     (split_task t last.area halves task (last_of_fields t old last same e)
     (subst (IsSeen t.problem t.cutoff t.params last.area) is s))
@@ -206,21 +205,13 @@ left_dropped_less old new last e dropped =
     (dropped_less (areas_of old) last.area (areas_behind old old (last ∷ []) e))
 
 -- and one halved
-pub left_halved_less : (t : TaskState) (old new : List BoxLeft) (last first second : BoxLeft) (seen : Seen) (halves : Halves)
+pub left_halved_less : (t : TaskState) (old new : List BoxLeft) (last : BoxLeft) (seen : Seen) (halves : Halves)
     → old ≡ front_of old ++ last ∷ [] → IsSeen t.problem t.cutoff t.params last.area seen → seen ≡ Halved halves
-    → first.area ≡ halves.first → second.area ≡ halves.second → new ≡ front_of old ++ second ∷ first ∷ []
+    → new ≡ front_of old ++ new_left halves.second ∷ new_left halves.first ∷ []
     → measure_of (areas_of new) < measure_of (areas_of old)
-left_halved_less t old new last first second seen halves e s is f g put =
+left_halved_less t old new last seen halves e s is put =
     let halved : IsSeenHalved t.problem t.cutoff t.params last.area halves =
     subst (IsSeen t.problem t.cutoff t.params last.area) is s in
-    let less : weight_of second.area + weight_of first.area < weight_of last.area = rw (f, g) halved.less in
-    subst (λ bs. measure_of bs < measure_of (areas_of old)) (sym (areas_behind new old (second ∷ first ∷ []) put))
-    (halved_less (areas_of old) last.area first.area second.area (areas_behind old old (last ∷ []) e) less)
-
--- the halves are as wide as the problem
-pub second_width : (t : TaskState) (last : BoxLeft) (seen : Seen) (halves : Halves) → CanLook t.problem t.cutoff last.area
-    → IsSeen t.problem t.cutoff t.params last.area seen → seen ≡ Halved halves → length halves.second ≡ length t.problem.columns
-second_width t last seen halves can s is =
-    let halved : IsSeenHalved t.problem t.cutoff t.params last.area halves =
-    subst (IsSeen t.problem t.cutoff t.params last.area) is s in
-    halved.below_second.width ∙ can.below.width ∙ length-map t.problem.columns bounds_of
+    subst (λ bs. measure_of bs < measure_of (areas_of old))
+    (sym (areas_behind new old (new_left halves.second ∷ new_left halves.first ∷ []) put))
+    (halved_less (areas_of old) last.area halves.first halves.second (areas_behind old old (last ∷ []) e) halved.less)

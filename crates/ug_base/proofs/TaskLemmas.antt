@@ -65,3 +65,8 @@ lowered_task t given cutoff task h e =
         less = below_first t.cutoff given (value_of t.problem.objective x) good.less;
       });
     })
+
+-- a task whose boxes are the same but for the floors beside them
+pub same_task : (t : TaskState) (old new : List BoxLeft) → t.boxes ≡ areas_of old → areas_of new ≡ areas_of old → IsTask t
+    → IsTask (record t { boxes = areas_of new })
+same_task t old new same e task = subst (λ (bs : List (List Interval)). IsTask (record t { boxes = bs })) (same ∙ sym e) task

@@ -6,6 +6,10 @@ use Rattle.ug_rows.specs.Sums.{box_floor}
 use Rattle.ug_problem.specs.Instances.{Instance, root_of}
 use Rattle.ug_base.specs.declared.left.BoxLeft.{BoxLeft}
 
+-- the box as one left whose floor was not yet taken
+abbrev pub new_left : List Interval → BoxLeft
+new_left area = record { area = area; floor = None }
+
 -- the boxes themselves
 abbrev pub areas_of : List BoxLeft → List (List Interval)
 areas_of boxes = map (λ (left : BoxLeft). left.area) boxes

@@ -1,8 +1,10 @@
 ghost use Rattle.std.specs.Prelude.{◌≡◌, ◌<◌, ◌++◌, ◌∷◌, [], length, MatchOption, IfOk, OnOk, OnErr};
 ghost use Rattle.std.specs.Option.{option_copied};
 ghost use Rattle.ug_base.specs.Hands.{IsMoved};
+ghost use Rattle.ug_base.specs.Lefts.{new_left};
 ghost use Rattle.ug_base.specs.Looks.{front_of};
 
+use crate::halves::Halves;
 use crate::left::BoxLeft;
 use std::alloc::AllocError;
 use ug_rows::IntBox;
@@ -22,20 +24,24 @@ pub fn drop_last(boxes: &mut Vec<BoxLeft>)
     boxes.pop();
 }
 
+// A box left whose floor was not yet taken.
+fn without_floor(area: IntBox) -> BoxLeft
+    ensures { result ≡ new_left area }
+{
+    BoxLeft { area, floor: None }
+}
+
 /// Puts two halves in the last box's place, the first the last. After an error the boxes are as they were.
 #[tactic(auto, using(crate::proofs::LastBox::halves_put))]
-pub fn split_last(
-    boxes: &mut Vec<BoxLeft>,
-    first: BoxLeft,
-    second: BoxLeft,
-) -> Result<(), AllocError>
+pub fn split_last(boxes: &mut Vec<BoxLeft>, halves: Halves) -> Result<(), AllocError>
     requires { 0 < length boxes.old.items }
-    ensures ok { OnOk result (boxes.new.items ≡ front_of boxes.old.items ++ second ∷ first ∷ []) }
+    ensures ok { OnOk result (boxes.new.items
+        ≡ front_of boxes.old.items ++ new_left halves.second ∷ new_left halves.first ∷ []) }
     ensures err { OnErr result (boxes.new.items ≡ boxes.old.items) }
 {
     let at = boxes.len() - 1;
-    boxes.push(first)?;
-    boxes[at] = second;
+    boxes.push(without_floor(halves.first))?;
+    boxes[at] = without_floor(halves.second);
     Ok(())
 }
 

@@ -8,10 +8,8 @@ ghost use Rattle.ug_base.specs.Hands.{DidHand, HandsLess};
 ghost use Rattle.ug_base.specs.Steps.{LeavesLess, TookStep};
 ghost use Rattle.ug_base.specs.Tasks.{AreBelow, BoundsTheRest, IsLeastFloor, lesser_of};
 ghost use Rattle.ug_problem.specs.Better.{AreAllHanded, HasNoGood, IsGap, IsSmallCutoff, cutoff_of};
-ghost use Rattle.ug_base.specs.Lefts.{KeepsFloor};
 
 use crate::boxes::{drop_last, last_of, move_first, split_last};
-use crate::halves::Halves;
 use crate::handed::Handed;
 use crate::left::BoxLeft;
 use crate::look::{Seen, look};
@@ -67,26 +65,6 @@ fn cutoff_at(problem: &Shared, gap: i128, point: &Point) -> Option<i128>
     ensures { result ≡ Some (cutoff_of problem.now gap point.now) }
 {
     Some(problem.problem().cutoff(gap, point))
-}
-
-// The halves of a box, as boxes left: of the one that stays behind the floor is taken.
-fn left_of(problem: &Shared, halves: Halves) -> (BoxLeft, BoxLeft)
-    requires { length halves.second ≡ length problem.now.columns }
-    ensures first { result.0.area ≡ halves.first }
-    ensures second { result.1.area ≡ halves.second }
-    ensures first_floor { KeepsFloor problem.now result.0 }
-    ensures second_floor { KeepsFloor problem.now result.1 }
-{
-    let floor = problem.problem().floor(&halves.second);
-    let first = BoxLeft {
-        area: halves.first,
-        floor: None,
-    };
-    let second = BoxLeft {
-        area: halves.second,
-        floor: Some(floor),
-    };
-    (first, second)
 }
 
 impl Task {
@@ -161,8 +139,7 @@ impl Task {
                 Ok(Step::Found(point))
             }
             Seen::Halved(halves) => {
-                let (first, second) = left_of(&self.problem, halves);
-                split_last(&mut self.boxes, first, second)?;
+                split_last(&mut self.boxes, halves)?;
                 Ok(Step::Split)
             }
         }
@@ -203,15 +180,17 @@ impl Task {
         self.boxes.len() as u64
     }
 
-    /// The least value that the objective could have in a box left. It takes no memory.
+    /// The least value that the objective could have in a box left. It takes no memory. The floor of a box is taken once,
+    /// by the first call that finds it left, and kept beside it.
     #[tactic(auto, using(crate::proofs::Floors::lowest_bounds))]
-    pub fn lowest(&self) -> Option<i128>
-        ensures none { IsNone result ↔ (self.now.boxes ≡ []) }
-        ensures some { IfSome result (IsLeastFloor self.now.problem self.now.boxes) }
-        ensures bound { IfSome result (BoundsTheRest self.now) }
+    pub fn lowest(&mut self) -> Option<i128>
+        ensures same { self.new ≡ self.old }
+        ensures none { IsNone result ↔ (self.old.boxes ≡ []) }
+        ensures some { IfSome result (IsLeastFloor self.old.problem self.old.boxes) }
+        ensures bound { IfSome result (BoundsTheRest self.old) }
         ensures small { IfSome result (λ low. unsigned_abs low ≤ 2 * 10 ^ 37) }
     {
-        lowest_floor(&self.problem, self.boxes.as_slice())
+        lowest_floor(&self.problem, &mut self.boxes)
     }
 
     /// The boxes handed, in the order in which they were handed. It takes no memory.

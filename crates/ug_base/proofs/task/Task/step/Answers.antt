@@ -1,12 +1,11 @@
 use Rattle.std.proofs.Common.{rules, refl, sym, subst, ◌<◌}
 use Rattle.ug_base.specs.Points.{measure_of}
 use Rattle.ug_base.specs.Lefts.{KeepFloors, areas_of}
-use Rattle.ug_base.specs.Looks.{CanLook}
 use Rattle.ug_base.specs.Steps.{IsFound}
 use Rattle.ug_base.specs.Tasks.{TaskState}
 use Rattle.ug_base.specs.Views.{state_of}
 use Rattle.ug_base.proofs.LeftLemmas.{front_floors, halves_floors}
-use Rattle.ug_base.proofs.StepLemmas.{after_halved, after_hopeless, after_solved, found_step, last_of_fields, last_ready, left_halved_less, second_width}
+use Rattle.ug_base.proofs.StepLemmas.{after_halved, after_hopeless, after_solved, found_step, last_of_fields, last_ready, left_halved_less}
 use Rattle.ug_base.proofs.task.Task.step.Goals as goal
 
 pub look-requires : goal.look-requires
@@ -37,24 +36,14 @@ invariant_of-self-in-Solved c =
           (front_floors c.self.inside.problem c.self.inside.boxes.items c.self.invariant.floors);
     }
 
-pub left_of-first-requires : goal.left_of-first-requires
-left_of-first-requires c =
-    let t = state_of c.self.inside in
-    let can : CanLook t.problem t.cutoff c.in-Some.last.now.area =
-    last_ready t c.in-Some.last.now.area c.self.invariant.task
-    (last_of_fields t c.self.inside.boxes.items c.in-Some.last.now refl c.in-Some.ensures) in
-    second_width t c.in-Some.last.now c.in_ok-look.field-0 c.in-Halved.halves can c.in_ok-look.ensures c.in-Halved.is
-
 pub invariant_of-self-in-Halved : goal.invariant_of-self-in-Halved
 invariant_of-self-in-Halved c =
     let t = state_of c.self.inside in
     record {
-      task = after_halved t c.self.inside.boxes.items _ c.in-Some.last.now c.left_of-first.result.0 c.left_of-first.result.1
-          c.in_ok-look.field-0 c.in-Halved.halves refl c.self.invariant.task c.in-Some.ensures c.in_ok-look.ensures
-          c.in-Halved.is c.left_of-first.ensures.first c.left_of-first.ensures.second c.in_ok-split_last-in-Halved.ensures.ok;
+      task = after_halved t c.self.inside.boxes.items _ c.in-Some.last.now c.in_ok-look.field-0 c.in-Halved.halves refl
+          c.self.invariant.task c.in-Some.ensures c.in_ok-look.ensures c.in-Halved.is c.in_ok-split_last-in-Halved.ensures.ok;
       floors = subst (KeepFloors c.self.inside.problem) (sym c.in_ok-split_last-in-Halved.ensures.ok)
-          (halves_floors c.self.inside.problem c.self.inside.boxes.items c.left_of-first.result.0 c.left_of-first.result.1
-          c.left_of-first.ensures.first_floor c.left_of-first.ensures.second_floor c.self.invariant.floors);
+          (halves_floors c.self.inside.problem c.self.inside.boxes.items _ _ c.self.invariant.floors);
     }
 
 pub returns-in-Solved-clause-took : goal.returns-in-Solved-clause-took
@@ -73,6 +62,5 @@ pub returns-in_ok-split_last-in-Halved-clause-less :
 returns-in_ok-split_last-in-Halved-clause-less c =
     let t = state_of c.self.inside in
     subst (λ (s : TaskState). measure_of (areas_of c.split_last.new.boxes.items) < measure_of s.boxes) c.self.view_is
-    (left_halved_less t c.self.inside.boxes.items c.split_last.new.boxes.items c.in-Some.last.now c.left_of-first.result.0
-    c.left_of-first.result.1 c.in_ok-look.field-0 c.in-Halved.halves c.in-Some.ensures c.in_ok-look.ensures c.in-Halved.is
-    c.left_of-first.ensures.first c.left_of-first.ensures.second c.in_ok-split_last-in-Halved.ensures.ok)
+    (left_halved_less t c.self.inside.boxes.items c.split_last.new.boxes.items c.in-Some.last.now c.in_ok-look.field-0
+    c.in-Halved.halves c.in-Some.ensures c.in_ok-look.ensures c.in-Halved.is c.in_ok-split_last-in-Halved.ensures.ok)
