@@ -17,26 +17,37 @@ pub record IsInNode (root : List Interval) (nodes : List Node) (x : List ℤ) : 
   pub inside : IsInside (box_of root node) x
 
 -- what lies in one of the boxes lies in a node
-pub in_node : (root : List Interval) (nodes : List Node) (x : List ℤ) → IsInOne (boxes_of root nodes) x
-    → IsInNode root nodes x
+pub in_node : (root : List Interval) (nodes : List Node) (x : List ℤ)
+    → IsInOne (boxes_of root nodes) x → IsInNode root nodes x
 in_node root [] x h = absurd h
 in_node root (n ∷ nodes) x (inl h) = record { node = n; there = (0, omega arith, refl); inside = h }
 in_node root (n ∷ nodes) x (inr h) =
     let m = in_node root nodes x h in
-    record { node = m.node; there = (suc m.there.0, omega (arith, m.there.1), m.there.2); inside = m.inside }
+    record {
+      node = m.node;
+      there = (suc m.there.0, omega (arith, m.there.1), m.there.2);
+      inside = m.inside;
+    }
 
 -- and the other way round
 in_one : (root : List Interval) (nodes : List Node) (n : Node) (x : List ℤ) → Contains nodes n
     → IsInside (box_of root n) x → IsInOne (boxes_of root nodes) x
 in_one root [] n x h inside = absurd (omega (arith, h.1))
-in_one root (m ∷ nodes) n x (zero, l, e) inside = inl (subst (λ k. IsInside (box_of root k) x) (sym e) inside)
-in_one root (m ∷ nodes) n x (suc k, l, e) inside = inr (in_one root nodes n x (k, omega (arith, l), e) inside)
+in_one root (m ∷ nodes) n x (zero, l, e) inside =
+    inl (subst (λ k. IsInside (box_of root k) x) (sym e) inside)
+in_one root (m ∷ nodes) n x (suc k, l, e) inside =
+    inr (in_one root nodes n x (k, omega (arith, l), e) inside)
 
--- nodes are covered by those that have each better point of theirs
+-- each better point of the nodes' boxes lies in the others
+abbrev AreIn : Instance → ℤ → Option (List ℤ) → List Node → List Node → Type 0
+AreIn p gap best nodes others =
+    (n : Node) → Contains nodes n → (x : List ℤ) → Better p gap best x
+    → IsInside (box_of (root_of p) n) x → IsInNode (root_of p) others x
+
+-- so these are Covered where the nodes are
 pub covered_by : (p : Instance) (gap : ℤ) (best : Option (List ℤ)) (nodes others : List Node)
-    → ((n : Node) → Contains nodes n → (x : List ℤ) → Better p gap best x → IsInside (box_of (root_of p) n) x
-    → IsInNode (root_of p) others x)
-    → Covered p gap best (boxes_of (root_of p) nodes) → Covered p gap best (boxes_of (root_of p) others)
+    → AreIn p gap best nodes others → Covered p gap best (boxes_of (root_of p) nodes)
+    → Covered p gap best (boxes_of (root_of p) others)
 covered_by p gap best nodes others f c = record {
   incumbent = c.incumbent;
   points = λ x b.
@@ -47,7 +58,8 @@ covered_by p gap best nodes others f c = record {
 
 -- what lies in a node below a name lies in it where the node is held elsewhere
 pub moved : (root : List Interval) (nodes others : List Node) (name : Name) (x : List ℤ)
-    (n : IsInNodeBelow root nodes name x) → Contains others n.node → IsInNodeBelow root others name x
+    (n : IsInNodeBelow root nodes name x) → Contains others n.node
+    → IsInNodeBelow root others name x
 moved root nodes others name x n there =
     record { node = n.node; there = there; below = n.below; inside = n.inside }
 

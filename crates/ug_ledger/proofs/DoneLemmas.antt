@@ -16,7 +16,8 @@ use Rattle.ug_ledger.specs.Ledgers.{Current, IsCurrent, IsInNodeBelow, Ledger, h
 use Rattle.ug_ledger.specs.Sound.{AreTicketed, IsLedger, LosesNone}
 use Rattle.ug_ledger.specs.Moves.{HasDone, KeepsWork}
 use Rattle.ug_ledger.specs.Dones.{IsSearched}
-use Rattle.ug_ledger.specs.Laws.{DoneIsLedger, DoneIsSearched, DoneIsSound}
+use Rattle.ug_ledger.specs.LedgerLaws.{DoneIsLedger}
+use Rattle.ug_ledger.specs.SoundLaws.{DoneIsSearched, DoneIsSound}
 use Rattle.ug_ledger.proofs.BoxLemmas.{covered_by, in_box, moved}
 use Rattle.ug_ledger.proofs.LessLemmas.{less_ledger}
 use Rattle.ug_ledger.proofs.SoundLemmas.{is_ledger, is_sound, loses_none}
@@ -26,20 +27,26 @@ pub not_own : (l : Ledger) (r : ℕ) (c : Current) → AreTicketed l → IsCurre
     → Contains c.node.line (hand_name c.ticket i) → ⊥
 not_own l r c t h i k = ticket_not_itself c.ticket (t.after r c h (hand_name c.ticket i) k)
 
-done_keeps_work : (old new : Ledger) (r : ℕ) (c : Current) → HasDone old new r c → KeepsWork old new
-done_keeps_work old new r c m q d h n there hn below = elim (m.tickets q d h) [
+done_keeps_work : (old new : Ledger) (r : ℕ) (c : Current) → HasDone old new r c
+    → KeepsWork old new
+done_keeps_work old new r c m q d h there n hn below = elim (m.tickets q d h) [
   | inl e ↦ absurd (m.gone (subst (Contains new.held) e there))
   | inr k ↦ k
 ]
 
 pub done_ledger : DoneIsLedger
-done_ledger root old new r c m l = less_ledger root old new m.less (done_keeps_work old new r c m) l
+done_ledger root old new r c m l =
+    less_ledger root old new m.less (done_keeps_work old new r c m) l
 
 module _ (p : Instance) (gap : ℤ) (best : Option (List ℤ)) (old new : Ledger) (r : ℕ) (c : Current)
     (l : IsLedger (root_of p) old) (m : HasDone old new r c) where
+  -- the box of a node has the point
+  abbrev HasPoint : List ℤ → Node → Type 0
+  HasPoint x n = IsInside (box_of (root_of p) n) x
+
   -- a better point of the box that was searched lies in a node below it that stays
-  passed_on : IsSearched p gap best c → LosesNone p gap best old → (x : List ℤ) → Better p gap best x
-      → IsInside (box_of (root_of p) c.node) x
+  passed_on : IsSearched p gap best c → LosesNone p gap best old → (x : List ℤ)
+      → Better p gap best x → HasPoint x c.node
       → (i : ℕ) × IsInNodeBelow (root_of p) new.held (hand_name c.ticket i) x
   passed_on searched s x b inside =
       let at = in_box c.taken x (searched x b inside) in
@@ -53,8 +60,9 @@ module _ (p : Instance) (gap : ℤ) (best : Option (List ℤ)) (old new : Ledger
       (at.0, moved (root_of p) old.held new.held name x n stays)
 
   -- a name in the line of the node that went is in the lines of the nodes below it
-  in_line_below : (n : Node) → Contains new.held n → (i : ℕ) → Contains n.line (hand_name c.ticket i)
-      → (name : Name) → Contains c.node.line name → Contains n.line name
+  in_line_below : (n : Node) → Contains new.held n → (i : ℕ)
+      → Contains n.line (hand_name c.ticket i) → (name : Name) → Contains c.node.line name
+      → Contains n.line name
   in_line_below n h i below name k =
       let g = l.handed r c m.current n (m.less.held n h) i below in
       begins_has n.line c.node.line name (hand_name c.ticket i ∷ g.on.0, g.on.1) k
@@ -64,7 +72,7 @@ module _ (p : Instance) (gap : ℤ) (best : Option (List ℤ)) (old new : Ledger
   done_lossless searched s = record {
     covered = covered_by p gap best old.held new.held (λ n h x b inside. elim (m.others n h) [
       | inl e ↦
-          let o = (passed_on searched s x b (subst (λ k. IsInside (box_of (root_of p) k) x) e inside)).1 in
+          let o = (passed_on searched s x b (subst (HasPoint x) e inside)).1 in
           record { node = o.node; there = o.there; inside = o.inside }
       | inr k ↦ record { node = n; there = k; inside = inside }
     ]) s.covered;
@@ -73,7 +81,7 @@ module _ (p : Instance) (gap : ℤ) (best : Option (List ℤ)) (old new : Ledger
         let name = hand_name d.ticket i in
         elim (m.others n.node n.there) [
           | inl e ↦
-              let o = passed_on searched s x b (subst (λ k. IsInside (box_of (root_of p) k) x) e n.inside) in
+              let o = passed_on searched s x b (subst (HasPoint x) e n.inside) in
               let up = subst (λ (k : Node). Contains k.line name) e n.below in
               record {
                 node = o.1.node;
@@ -92,11 +100,12 @@ done_sound p gap best old new r c m searched s =
     (done_lossless p gap best old new r c l m searched (loses_none p gap best old s))
 
 -- what is below the incumbent's cutoff is below each cutoff that the incumbent backs
-backed_below : (cutoff best : Option ℤ) (v : ℤ) → IfSome cutoff (λ c. IsSomeAnd best (λ b. b ≤ℤ c))
-    → IfSome best (λ b. v <ℤ b) → IfSome cutoff (λ c. v <ℤ c)
+backed_below : (cutoff best : Option ℤ) (v : ℤ)
+    → IfSome cutoff (λ c. IsSomeAnd best (λ least. least ≤ℤ c))
+    → IfSome best (λ least. v <ℤ least) → IfSome cutoff (λ c. v <ℤ c)
 backed_below None best v h k = tt
 backed_below (Some c) None v h k = absurd h
-backed_below (Some c) (Some b) v h k = omega (arith, ints, h, k)
+backed_below (Some c) (Some least) v h k = omega (arith, ints, h, k)
 
 pub done_searched : DoneIsSearched
 done_searched p gap best cutoff c backed is_true x b inside =

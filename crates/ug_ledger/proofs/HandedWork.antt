@@ -1,4 +1,4 @@
--- A box that was handed under a current ticket: who works on what after it, and that no point is lost.
+-- A box that was handed under a current ticket: who works on what after it; no point is lost.
 use Rattle.std.proofs.Common.{inl, inr, ℕ, ℤ, ◌<◌, List, [], ◌∷◌, length, ap, sym, ◌∙◌, subst, arith}
 use Rattle.std.specs.Prelude.{Contains, Option}
 use Rattle.std.proofs.lemmas.Bool.{cases_eq}
@@ -16,10 +16,11 @@ use Rattle.ug_nodes.specs.Lines.{GoesOn}
 use Rattle.ug_nodes.specs.Nodes.{box_of}
 use Rattle.ug_ledger.specs.Ledgers.{Current, IsCurrent, IsInNodeBelow, Ledger, hand_name}
 use Rattle.ug_ledger.specs.Sound.{AreBacked, AreWorkedOn, IsLedger, IsWorkedOn, LosesNone}
-use Rattle.ug_ledger.specs.Moves.{HasHanded, handed_node, with_taken}
-use Rattle.ug_ledger.specs.Laws.{HandedIsLedger, HandedIsSound}
+use Rattle.ug_ledger.specs.Moves.{HasHanded, handed_node, next_hand, with_taken}
+use Rattle.ug_ledger.specs.LedgerLaws.{HandedIsLedger}
+use Rattle.ug_ledger.specs.SoundLaws.{HandedIsSound}
 use Rattle.ug_ledger.proofs.BoxLemmas.{covered_by, moved}
-use Rattle.ug_ledger.proofs.HandedLemmas.{cases, handed_handed, handed_nested, handed_ticketed, made_above_none, next_hand}
+use Rattle.ug_ledger.proofs.HandedLemmas.{cases, handed_handed, handed_nested, handed_ticketed, made_above_none}
 use Rattle.ug_ledger.proofs.LineLemmas.{goes_on_child}
 use Rattle.ug_ledger.proofs.NameLemmas.{one_line}
 use Rattle.ug_ledger.proofs.RankLemmas.{set_here, set_kept}
@@ -30,40 +31,42 @@ module _ (root : List Interval) (old new : Ledger) (r : ℕ) (c : Current) (chan
   abbrev made : Node
   made = handed_node c changes
 
-  -- the rank that handed has its ticket
-  hand_here : IsCurrent new r (with_taken c (box_of root made))
-  hand_here = set_here old new r (with_taken c (box_of root made)) m.there m.ranks
+  abbrev longer : Current
+  longer = with_taken c (box_of root made)
 
-  -- and what was worked on is
-  work_stays : (a : Node) (name : Name) → IsWorkedOn old a name.ticket → IsWorkedOn new a name.ticket
+  -- what was worked on is
+  work_stays : (a : Node) (name : Name) → IsWorkedOn old a name.ticket
+      → IsWorkedOn new a name.ticket
   work_stays a name o = elim (cases_eq o.rank r) [
     | inl e ↦
-        let same = same_Some o.work c (sym (subst (λ k. IsCurrent old k o.work) e o.current) ∙ m.current) in
+        let here : IsCurrent old r o.work = subst (λ k. IsCurrent old k o.work) e o.current in
+        let same = same_Some c o.work (sym m.current ∙ here) in
         record {
           rank = r;
-          work = with_taken c (box_of root made);
-          current = hand_here;
-          its_node = ap (λ (z : Current). z.node) (sym same) ∙ o.its_node;
-          its_ticket = ap (λ (z : Current). z.ticket) (sym same) ∙ o.its_ticket;
+          work = longer;
+          current = set_here old new r longer m.there m.ranks;
+          its_node = ap (λ (z : Current). z.node) same ∙ o.its_node;
+          its_ticket = ap (λ (z : Current). z.ticket) same ∙ o.its_ticket;
         }
     | inr ne ↦ record {
       rank = o.rank;
       work = o.work;
-      current = set_kept old new r (with_taken c (box_of root made)) m.there m.ranks o.rank o.work ne o.current;
+      current = set_kept old new r longer m.there m.ranks o.rank o.work ne o.current;
       its_node = o.its_node;
       its_ticket = o.its_ticket;
     }
   ]
 
   -- so are the ancestors of the new node
-  work_over : (a : Node) → Contains old.held a → (name : Name) → GoesOn made.line a.line name → IsWorkedOn new a name.ticket
+  work_over : (a : Node) → Contains old.held a → (name : Name) → GoesOn made.line a.line name
+      → IsWorkedOn new a name.ticket
   work_over a h name g =
       let its = l.ticketed.held r c m.current in
       elim (goes_on_child a.line c.node.line name (next_hand c) g) [
         | inl e ↦ record {
           rank = r;
-          work = with_taken c (box_of root made);
-          current = hand_here;
+          work = longer;
+          current = set_here old new r longer m.there m.ranks;
           its_node = one_line old.held l.ticketed.named c.node a its h (sym e.0);
           its_ticket = ap (λ (z : Name). z.ticket) (sym e.1);
         }
@@ -88,15 +91,20 @@ handed_ledger root old new r c changes m l = record {
   worked = handed_worked root old new r c changes m l;
 }
 
-module _ (p : Instance) (gap : ℤ) (best : Option (List ℤ)) (old new : Ledger) (r : ℕ) (c : Current) (changes : List Change)
-    (m : HasHanded (root_of p) old new r c changes) (l : IsLedger (root_of p) old) where
+module _ (p : Instance) (gap : ℤ) (best : Option (List ℤ)) (old new : Ledger) (r : ℕ) (c : Current)
+    (changes : List Change) (m : HasHanded (root_of p) old new r c changes)
+    (l : IsLedger (root_of p) old) where
   abbrev area : List Interval
   area = box_of (root_of p) (handed_node c changes)
 
-  -- a better point of a box taken is in a node below its hand
-  own_backed : AreBacked p gap best old → (i : ℕ) → i < length (with_taken c area).taken → (x : List ℤ)
-      → Better p gap best x → IsInside (box_at (with_taken c area).taken i) x
-      → IsInNodeBelow (root_of p) new.held (hand_name c.ticket i) x
+  -- the point lies in a held node below the hand
+  abbrev IsHeld : Ledger → List ℤ → ℕ → Current → Type 0
+  IsHeld held x i d = IsInNodeBelow (root_of p) held.held (hand_name d.ticket i) x
+
+  -- a better point of a box taken from the rank lies in one
+  own_backed : AreBacked p gap best old → (i : ℕ) → i < length (with_taken c area).taken
+      → (x : List ℤ) → Better p gap best x → IsInside (box_at (with_taken c area).taken i) x
+      → IsHeld new x i c
   own_backed backed i short x b inside = elim (cases_eq i (length c.taken)) [
     | inl e ↦ record {
       node = handed_node c changes;
@@ -107,23 +115,30 @@ module _ (p : Instance) (gap : ℤ) (best : Option (List ℤ)) (old new : Ledger
     }
     | inr ne ↦
         let before : i < length c.taken = omega (arith, ne, short, length_push c.taken area) in
-        let was = subst (λ z. IsInside z x) (get_or_append_left c.taken (area ∷ []) [] i before) inside in
+        let same = get_or_append_left c.taken (area ∷ []) [] i before in
+        let was = subst (λ z. IsInside z x) same inside in
         let n = backed r c m.current i before x b was in
         moved (root_of p) old.held new.held (hand_name c.ticket i) x n (m.kept n.node n.there)
   ]
+
+  -- a point of the box of hand i has such a node
+  abbrev IsSafe : List ℤ → ℕ → Current → Type 0
+  IsSafe x i d = i < length d.taken → IsInside (box_at d.taken i) x → IsHeld new x i d
 
   pub handed_lossless : LosesNone p gap best old → LosesNone p gap best new
   handed_lossless s = record {
     covered = covered_by p gap best old.held new.held
         (λ n h x b inside. record { node = n; there = m.kept n h; inside = inside }) s.covered;
-    backed = λ q d h i short x b inside. elim (cases (root_of p) old new r c changes m l q d h) [
-      | inl e ↦ subst (λ (z : Current). IsInNodeBelow (root_of p) new.held (hand_name z.ticket i) x) (sym e.1)
-          (own_backed s.backed i (subst (λ (z : Current). i < length z.taken) e.1 short) x b
-          (subst (λ (z : Current). IsInside (box_at z.taken i) x) e.1 inside))
-      | inr o ↦
-          let n = s.backed q d o.1 i short x b inside in
-          moved (root_of p) old.held new.held (hand_name d.ticket i) x n (m.kept n.node n.there)
-    ];
+    backed = λ q d h i short x b inside.
+        elim (cases (root_of p) old new r c changes m l q d h) [
+          | inl e ↦
+              let own : IsSafe x i (with_taken c area) = λ k at. own_backed s.backed i k x b at in
+              (subst (IsSafe x i) (sym e.1) own) short inside
+          | inr o ↦
+              let n = s.backed q d o.1 i short x b inside in
+              moved (root_of p) old.held new.held (hand_name d.ticket i) x n
+              (m.kept n.node n.there)
+        ];
   }
 
 pub handed_sound : HandedIsSound

@@ -9,6 +9,7 @@ pub mod TakenInLemmas
 pub mod GivenLemmas
 pub mod HandedLemmas
 pub mod HandedWork
+pub mod FactLemmas
 pub mod StartLemmas
 pub mod PrimitiveLemmas
 pub mod EndLemmas

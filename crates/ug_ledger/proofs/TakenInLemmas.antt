@@ -12,15 +12,17 @@ use Rattle.ug_nodes.proofs.LineLemmas.{ancestor_not_itself}
 use Rattle.ug_ledger.specs.Ledgers.{Current, IsCurrent, Ledger, hand_name}
 use Rattle.ug_ledger.specs.Sound.{IsLedger, LosesNone}
 use Rattle.ug_ledger.specs.Moves.{HasTakenIn, KeepsWork}
-use Rattle.ug_ledger.specs.Laws.{TakenInIsLedger, TakenInIsSound}
+use Rattle.ug_ledger.specs.LedgerLaws.{TakenInIsLedger}
+use Rattle.ug_ledger.specs.SoundLaws.{TakenInIsSound}
 use Rattle.ug_ledger.proofs.BoxLemmas.{covered_by, moved}
 use Rattle.ug_ledger.proofs.LessLemmas.{less_ledger}
 use Rattle.ug_ledger.proofs.LineLemmas.{fork}
 use Rattle.ug_ledger.proofs.NameLemmas.{one_line}
 use Rattle.ug_ledger.proofs.SoundLemmas.{is_ledger, is_sound, loses_none}
 
-taken_in_keeps_work : (old new : Ledger) (r : ℕ) (c : Current) → HasTakenIn old new r c → KeepsWork old new
-taken_in_keeps_work old new r c m q d h n there hn below = elim (m.tickets q d h) [
+taken_in_keeps_work : (old new : Ledger) (r : ℕ) (c : Current) → HasTakenIn old new r c
+    → KeepsWork old new
+taken_in_keeps_work old new r c m q d h there n hn below = elim (m.tickets q d h) [
   | inl e ↦ absurd (m.gone n hn (subst (λ (k : Node). IsAncestor k.line n.line) e below))
   | inr o ↦ elim o [
     | inl under ↦ absurd (m.gone d.node there under)
@@ -29,7 +31,8 @@ taken_in_keeps_work old new r c m q d h n there hn below = elim (m.tickets q d h
 ]
 
 pub taken_in_ledger : TakenInIsLedger
-taken_in_ledger root old new r c m l = less_ledger root old new m.less (taken_in_keeps_work old new r c m) l
+taken_in_ledger root old new r c m l =
+    less_ledger root old new m.less (taken_in_keeps_work old new r c m) l
 
 module _ (root : List Interval) (old new : Ledger) (r : ℕ) (c : Current)
     (l : IsLedger root old) (m : HasTakenIn old new r c) where
@@ -67,27 +70,27 @@ module _ (p : Instance) (gap : ℤ) (best : Option (List ℤ)) (old new : Ledger
     (l : IsLedger (root_of p) old) (m : HasTakenIn old new r c) where
   -- no point is lost by it
   pub taken_in_lossless : LosesNone p gap best old → LosesNone p gap best new
-  taken_in_lossless s = record {
-    covered = covered_by p gap best old.held new.held (λ n h x b inside. elim (m.others n h) [
-      | inl below ↦ record {
-        node = c.node;
-        there = node_stays (root_of p) old new r c l m;
-        inside = takes_in (root_of p) old new r c l m n h below x inside;
+  taken_in_lossless s =
+      let root = root_of p in
+      let stays = node_stays root old new r c l m in
+      let takes = takes_in root old new r c l m in
+      record {
+        covered = covered_by p gap best old.held new.held (λ n h x b inside. elim (m.others n h) [
+          | inl below ↦ record { node = c.node; there = stays; inside = takes n h below x inside }
+          | inr k ↦ record { node = n; there = k; inside = inside }
+        ]) s.covered;
+        backed = λ q d h i short x b inside.
+            let n = s.backed q d (m.less.current q d h) i short x b inside in
+            elim (m.others n.node n.there) [
+              | inl below ↦ record {
+                node = c.node;
+                there = stays;
+                below = below_too root old new r c l m q d h n.node n.there below i n.below;
+                inside = takes n.node n.there below x n.inside;
+              }
+              | inr k ↦ moved root old.held new.held (hand_name d.ticket i) x n k
+            ];
       }
-      | inr k ↦ record { node = n; there = k; inside = inside }
-    ]) s.covered;
-    backed = λ q d h i short x b inside.
-        let n = s.backed q d (m.less.current q d h) i short x b inside in
-        elim (m.others n.node n.there) [
-          | inl below ↦ record {
-            node = c.node;
-            there = node_stays (root_of p) old new r c l m;
-            below = below_too (root_of p) old new r c l m q d h n.node n.there below i n.below;
-            inside = takes_in (root_of p) old new r c l m n.node n.there below x n.inside;
-          }
-          | inr k ↦ moved (root_of p) old.held new.held (hand_name d.ticket i) x n k
-        ];
-  }
 
 pub taken_in_sound : TakenInIsSound
 taken_in_sound p gap best old new r c m s =

@@ -7,13 +7,13 @@ use Rattle.ug_nodes.specs.declared.name.Name.{Name}
 use Rattle.ug_nodes.specs.declared.node.Node.{Node}
 use Rattle.ug_nodes.specs.Nodes.{box_of}
 
--- a current ticket: the node that it was given for, and the boxes of the hands kept under it, in order
+-- a current ticket: the node given with it, and the boxes of the hands kept under it, in order
 pub record Current : Type 0 where
   pub ticket : Ticket
   pub node : Node
   pub taken : List (List Interval)
 
--- the nodes held, for what the ticket of each rank is current, if it has one, and the last ticket given
+-- the nodes held, for what the ticket of each rank is current, if any, and the last ticket given
 pub record Ledger : Type 0 where
   pub held : List Node
   pub ranks : List (Option Current)

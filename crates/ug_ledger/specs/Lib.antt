@@ -6,4 +6,7 @@ pub mod Dones
 pub mod Starts
 pub mod Primitive
 pub mod Answers
-pub mod Laws
+pub mod FactLaws
+pub mod LedgerLaws
+pub mod SoundLaws
+pub mod EndLaws

@@ -13,8 +13,8 @@ use Rattle.ug_nodes.specs.Nodes.{box_of}
 use Rattle.ug_ledger.specs.Ledgers.{Current, IsCurrent, IsGiven, IsInNodeBelow, Ledger, boxes_of, hand_name}
 use Rattle.ug_ledger.specs.Names.{AreNamed}
 
--- each held node has a name of its own, and a line of given tickets that rise strictly from number 0;
--- each current ticket is a given one of one rank alone, for a held node, and after all in its line
+-- each held node has a name of its own, and a line of given tickets that rise from number 0; each
+-- current ticket is a given one, of one rank alone, for a held node, and after all in its line
 pub record AreTicketed (l : Ledger) : Type 0 where
   pub named : AreNamed l.held
   pub rise : (n : Node) → Contains l.held n → DoTicketsRise n.line
@@ -45,7 +45,14 @@ AreHanded l =
     (r : ℕ) (c : Current) → IsCurrent l r c → (n : Node) → Contains l.held n
     → (i : ℕ) → Contains n.line (hand_name c.ticket i) → GoesThrough n.line c i
 
--- some rank works on the node, and this is its current ticket
+-- each better point in the box of a hand kept under a current ticket is in a held node below it
+abbrev pub AreBacked : Instance → ℤ → Option (List ℤ) → Ledger → Type 0
+AreBacked p gap best l =
+    (r : ℕ) (c : Current) → IsCurrent l r c → (i : ℕ) → i < length c.taken
+    → (x : List ℤ) → Better p gap best x → IsInside (box_at c.taken i) x
+    → IsInNodeBelow (root_of p) l.held (hand_name c.ticket i) x
+
+-- some rank works on the node, and its current ticket is this
 pub record IsWorkedOn (l : Ledger) (n : Node) (ticket : Ticket) : Type 0 where
   pub rank : ℕ
   pub work : Current
@@ -53,12 +60,21 @@ pub record IsWorkedOn (l : Ledger) (n : Node) (ticket : Ticket) : Type 0 where
   pub its_node : work.node ≡ n
   pub its_ticket : work.ticket ≡ ticket
 
--- where a held line goes on from that of a held node by a name, a rank works on that node, and the
--- name is of its ticket
+-- where a held line goes on from that of a held node by a name, a rank works on this node under the
+-- ticket of the name
 abbrev pub AreWorkedOn : Ledger → Type 0
 AreWorkedOn l =
     (a b : Node) → Contains l.held a → Contains l.held b → (name : Name)
     → GoesOn b.line a.line name → IsWorkedOn l a name.ticket
+
+-- a sound ledger, for a problem, a gap and an incumbent: its six parts
+pub record Sound (p : Instance) (gap : ℤ) (best : Option (List ℤ)) (l : Ledger) : Type 0 where
+  pub covered : Covered p gap best (boxes_of (root_of p) l.held)
+  pub ticketed : AreTicketed l
+  pub nested : AreNested (root_of p) l
+  pub handed : AreHanded l
+  pub backed : AreBacked p gap best l
+  pub worked : AreWorkedOn l
 
 -- what every ledger is, whatever was heard
 pub record IsLedger (root : List Interval) (l : Ledger) : Type 0 where
@@ -67,24 +83,8 @@ pub record IsLedger (root : List Interval) (l : Ledger) : Type 0 where
   pub handed : AreHanded l
   pub worked : AreWorkedOn l
 
--- each better point in the box of a hand kept under a current ticket lies in a held node below it
-abbrev pub AreBacked : Instance → ℤ → Option (List ℤ) → Ledger → Type 0
-AreBacked p gap best l =
-    (r : ℕ) (c : Current) → IsCurrent l r c → (i : ℕ) → i < length c.taken
-    → (x : List ℤ) → Better p gap best x → IsInside (box_at c.taken i) x
-    → IsInNodeBelow (root_of p) l.held (hand_name c.ticket i) x
-
--- no better point is lost
+-- and what a sound one is besides: no better point is lost
 pub record LosesNone (p : Instance) (gap : ℤ) (best : Option (List ℤ)) (l : Ledger)
     : Type 0 where
   pub covered : Covered p gap best (boxes_of (root_of p) l.held)
   pub backed : AreBacked p gap best l
-
--- a sound ledger: it is a ledger of the problem's root box, and no better point is lost
-pub record Sound (p : Instance) (gap : ℤ) (best : Option (List ℤ)) (l : Ledger) : Type 0 where
-  pub covered : Covered p gap best (boxes_of (root_of p) l.held)
-  pub ticketed : AreTicketed l
-  pub nested : AreNested (root_of p) l
-  pub handed : AreHanded l
-  pub backed : AreBacked p gap best l
-  pub worked : AreWorkedOn l

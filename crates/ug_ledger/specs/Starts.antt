@@ -5,7 +5,7 @@ use Rattle.ug_nodes.specs.declared.node.Node.{Node}
 use Rattle.ug_ledger.specs.Ledgers.{Current, IsCurrent, Ledger, hand_name}
 use Rattle.ug_ledger.specs.Names.{times}
 
--- starting nodes: no ticket was given yet, and each node has a name of its own, its line that alone
+-- starting nodes: no ticket was given yet, and the line of each is one name, that of no other
 pub record IsStart (l : Ledger) : Type 0 where
   pub unused : l.last.number ≡ 0
   pub none : (r : ℕ) (c : Current) → ¬ IsCurrent l r c

@@ -1,21 +1,25 @@
-ghost use Rattle.ug_ledger.specs.Laws.{NameIsOfOne, NamesHaveNumbers, NoneIsBelow, NoneIsCurrent, SoundIsBoth, TicketsHaveNumbers};
+ghost use Rattle.ug_ledger.specs.FactLaws.{NameIsOfOne, NamesCountFromOne, NoneIsBelow, NoneIsCurrent, SoundIsBoth, TicketsCountFromOne};
 
-/// A sound ledger is what every ledger is, whatever was heard, and loses no better point.
+/// A ledger is sound exactly where it is a ledger, which it is whatever was heard, and no better
+/// point is lost.
 pub fn sound_in_two_halves()
     ensures { SoundIsBoth }
 {}
 
-/// In a ledger a name tells its held node, and each name but the first of a line has a ticket with
-/// a number of 1 at least.
+/// A name tells its held node.
 pub fn names_tell_nodes()
-    ensures one { NameIsOfOne }
-    ensures numbers { NamesHaveNumbers }
+    ensures { NameIsOfOne }
 {}
 
-/// In a ledger each current ticket has a number of 1 at least, so none is current before the first was
-/// given; and nothing is held below a node for which no ticket is current.
-pub fn tickets_tell_work()
-    ensures numbers { TicketsHaveNumbers }
-    ensures before_the_first { NoneIsCurrent }
-    ensures below { NoneIsBelow }
+/// The tickets in held lines but for the first of each, and the current ones, have numbers of 1 at
+/// least. So none is current before the first was given.
+pub fn numbers_begin_at_one()
+    ensures lines { NamesCountFromOne }
+    ensures ranks { TicketsCountFromOne }
+    ensures before { NoneIsCurrent }
+{}
+
+/// Nothing is held below a node that no rank works on.
+pub fn open_nodes_are_leaves()
+    ensures { NoneIsBelow }
 {}

@@ -1,8 +1,8 @@
-//! What a coordinator's book holds, as a ledger of nodes and tickets, and the laws of its events.
+//! What a coordinator holds, as a ledger of nodes and tickets, and the laws of what happens to it.
 //! It stands on ug_nodes, ug_problem, ug_rows and ug_lists.
-//! specs/Sound.antt says in six parts when a ledger is sound, specs/Moves.antt what each event does.
-//! The laws: each event keeps these parts, with a premise only where a node was worked off; a sound
-//! ledger's primitive nodes are Covered; and where nothing is held, the incumbent is a right answer.
+//! specs/Sound.antt says in six parts when a ledger is sound, specs/Moves.antt what an event does.
+//! The laws: each event keeps the six, with a premise where a node was worked off and nowhere else;
+//! the primitive nodes of a sound ledger are Covered; where it holds nothing its answer is right.
 #![tactic(auto)]
 
 mod ends;
@@ -11,6 +11,8 @@ mod ledgers;
 mod sound;
 
 pub use ends::{begins_covered, covered_to_the_end};
-pub use facts::{names_tell_nodes, sound_in_two_halves, tickets_tell_work};
-pub use ledgers::{less_stays_a_ledger, more_stays_a_ledger};
-pub use sound::{a_true_done_is_searched, moves_keep_sound};
+pub use facts::{
+    names_tell_nodes, numbers_begin_at_one, open_nodes_are_leaves, sound_in_two_halves,
+};
+pub use ledgers::{less_is_a_ledger, more_is_a_ledger};
+pub use sound::{moves_keep_sound, true_done_is_searched};

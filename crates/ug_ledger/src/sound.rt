@@ -1,7 +1,7 @@
-ghost use Rattle.ug_ledger.specs.Laws.{DoneIsSearched, DoneIsSound, DroppedIsSound, EndedIsSound, GivenIsSound, HandedIsSound, ImprovedIsSound, TakenInIsSound};
+ghost use Rattle.ug_ledger.specs.SoundLaws.{DoneIsSearched, DoneIsSound, DroppedIsSound, EndedIsSound, GivenIsSound, HandedIsSound, ImprovedIsSound, TakenInIsSound};
 
-/// Each event keeps a sound ledger sound: a node that was worked off where the box of its ticket was
-/// searched, all others without any premise.
+/// Each event keeps a sound ledger sound: where a node was worked off, if its box was searched, and
+/// else without a premise.
 pub fn moves_keep_sound()
     ensures ended { EndedIsSound }
     ensures dropped { DroppedIsSound }
@@ -12,7 +12,7 @@ pub fn moves_keep_sound()
     ensures improved { ImprovedIsSound }
 {}
 
-/// A ticket's box was searched where its Done tells the truth, with a cutoff that the incumbent backs.
-pub fn a_true_done_is_searched()
+/// The box was searched where the ticket's Done is true, and the incumbent backs its cutoff.
+pub fn true_done_is_searched()
     ensures { DoneIsSearched }
 {}

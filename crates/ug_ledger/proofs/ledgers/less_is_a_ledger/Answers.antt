@@ -1,7 +1,7 @@
 use Rattle.ug_ledger.proofs.LessLemmas.{less_ledger, ended_ledger, dropped_ledger}
 use Rattle.ug_ledger.proofs.DoneLemmas.{done_ledger}
 use Rattle.ug_ledger.proofs.TakenInLemmas.{taken_in_ledger}
-use Rattle.ug_ledger.proofs.ledgers.less_stays_a_ledger.Goals as goal
+use Rattle.ug_ledger.proofs.ledgers.less_is_a_ledger.Goals as goal
 
 pub returns-clause-less : goal.returns-clause-less
 returns-clause-less c = less_ledger
