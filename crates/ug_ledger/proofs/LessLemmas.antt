@@ -1,17 +1,18 @@
 -- Fewer nodes and tickets: what is left is a ledger; ended tickets and dropped nodes lose no point.
-use Rattle.std.proofs.Common.{◌≡◌, ℤ, inl, inr, List, sym, subst}
+use Rattle.std.proofs.Common.{◌≡◌, ℤ, inl, inr, List, sym, ◌∙◌, subst}
 use Rattle.std.specs.Prelude.{Contains, Option, Some, None, slice_index_or}
 use Rattle.ug_rows.specs.Boxes.{IsInside}
 use Rattle.ug_problem.specs.Instances.{Instance, root_of}
 use Rattle.ug_problem.specs.Better.{Better}
 use Rattle.ug_nodes.specs.declared.name.Ticket.{Ticket}
 use Rattle.ug_nodes.specs.declared.node.Node.{Node}
-use Rattle.ug_nodes.specs.Lines.{GoesOn}
+use Rattle.ug_nodes.specs.Lines.{GoesOn, IsAncestor}
 use Rattle.ug_nodes.specs.Nodes.{box_of}
+use Rattle.ug_nodes.proofs.LineLemmas.{ancestor_not_itself}
 use Rattle.ug_ledger.specs.Ledgers.{IsGiven, Ledger, hand_name}
 use Rattle.ug_ledger.specs.Sound.{AreTicketed, AreWorkedOn, LosesNone}
 use Rattle.ug_ledger.specs.Moves.{HasDropped, HasEnded, IsLess, KeepsWork}
-use Rattle.ug_ledger.specs.LedgerLaws.{DroppedIsLedger, EndedIsLedger, LessIsLedger}
+use Rattle.ug_ledger.specs.LedgerLaws.{AloneKeepsWork, DroppedIsLedger, EndedIsLedger, LessIsLedger}
 use Rattle.ug_ledger.specs.SoundLaws.{DroppedIsSound, EndedIsSound}
 use Rattle.ug_ledger.proofs.BoxLemmas.{covered_by, moved}
 use Rattle.ug_ledger.proofs.NameLemmas.{fewer_named}
@@ -58,6 +59,12 @@ less_ledger root old new s keeps l = record {
   handed = λ r c h n k. l.handed r c (s.current r c h) n (s.held n k);
   worked = less_worked old new s keeps l.worked;
 }
+
+pub alone_keeps_work : AloneKeepsWork
+alone_keeps_work old new only alone r c h there n hn below =
+    let same = alone n hn ∙ sym (alone c.node there) in
+    absurd (ancestor_not_itself c.node.line
+    (subst (λ (m : Node). IsAncestor c.node.line m.line) same below))
 
 pub ended_ledger : EndedIsLedger
 ended_ledger root old new e l = less_ledger root old new e.less e.work l

@@ -1,8 +1,9 @@
 -- After each event there is a ledger again.
-use Rattle.std.specs.Prelude.{ℕ, ℤ, List, Option}
+use Rattle.std.specs.Prelude.{◌≡◌, ℕ, ℤ, List, Contains, Option}
 use Rattle.ug_rows.specs.declared.area.Interval.{Interval}
 use Rattle.ug_problem.specs.Instances.{Instance}
 use Rattle.ug_nodes.specs.declared.change.Change.{Change}
+use Rattle.ug_nodes.specs.declared.node.Node.{Node}
 use Rattle.ug_ledger.specs.Ledgers.{Current, Ledger}
 use Rattle.ug_ledger.specs.Sound.{IsLedger}
 use Rattle.ug_ledger.specs.Moves.{HasDone, HasDropped, HasEnded, HasGiven, HasHanded, HasTakenIn, IsLess, KeepsWork}
@@ -11,6 +12,12 @@ abbrev pub LessIsLedger : Type 0
 LessIsLedger =
     (root : List Interval) (old new : Ledger) → IsLess old new → KeepsWork old new
     → IsLedger root old → IsLedger root new
+
+-- where one node alone is held, as in a race, no ticket's end leaves work undone
+abbrev pub AloneKeepsWork : Type 0
+AloneKeepsWork =
+    (old new : Ledger) (only : Node) → ((n : Node) → Contains new.held n → n ≡ only)
+    → KeepsWork old new
 
 abbrev pub EndedIsLedger : Type 0
 EndedIsLedger =

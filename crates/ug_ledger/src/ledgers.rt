@@ -1,8 +1,9 @@
-ghost use Rattle.ug_ledger.specs.LedgerLaws.{DoneIsLedger, DroppedIsLedger, EndedIsLedger, GivenIsLedger, HandedIsLedger, LessIsLedger, TakenInIsLedger};
+ghost use Rattle.ug_ledger.specs.LedgerLaws.{AloneKeepsWork, DoneIsLedger, DroppedIsLedger, EndedIsLedger, GivenIsLedger, HandedIsLedger, LessIsLedger, TakenInIsLedger};
 
 /// Where less is held after an event, that is a ledger again, whatever was heard.
 pub fn less_is_a_ledger()
     ensures less { LessIsLedger }
+    ensures alone { AloneKeepsWork }
     ensures ended { EndedIsLedger }
     ensures dropped { DroppedIsLedger }
     ensures done { DoneIsLedger }

@@ -1,10 +1,13 @@
-use Rattle.ug_ledger.proofs.LessLemmas.{less_ledger, ended_ledger, dropped_ledger}
+use Rattle.ug_ledger.proofs.LessLemmas.{less_ledger, alone_keeps_work, ended_ledger, dropped_ledger}
 use Rattle.ug_ledger.proofs.DoneLemmas.{done_ledger}
 use Rattle.ug_ledger.proofs.TakenInLemmas.{taken_in_ledger}
 use Rattle.ug_ledger.proofs.ledgers.less_is_a_ledger.Goals as goal
 
 pub returns-clause-less : goal.returns-clause-less
 returns-clause-less c = less_ledger
+
+pub returns-clause-alone : goal.returns-clause-alone
+returns-clause-alone c = alone_keeps_work
 
 pub returns-clause-ended : goal.returns-clause-ended
 returns-clause-ended c = ended_ledger
