@@ -35,8 +35,8 @@ done_keeps_work old new r c m q d h there n hn below = elim (m.tickets q d h) [
 ]
 
 pub done_ledger : DoneIsLedger
-done_ledger root old new r c m l =
-    less_ledger root old new m.less (done_keeps_work old new r c m) l
+done_ledger root r c old new m l =
+    less_ledger root old new (m.less, done_keeps_work old new r c m) l
 
 module _ (p : Instance) (gap : ℤ) (best : Option (List ℤ)) (old new : Ledger) (r : ℕ) (c : Current)
     (l : IsLedger (root_of p) old) (m : HasDone old new r c) where
@@ -94,9 +94,9 @@ module _ (p : Instance) (gap : ℤ) (best : Option (List ℤ)) (old new : Ledger
   }
 
 pub done_sound : DoneIsSound
-done_sound p gap best old new r c m searched s =
+done_sound p gap best r c searched old new m s =
     let l = is_ledger p gap best old s in
-    is_sound p gap best new (done_ledger (root_of p) old new r c m l)
+    is_sound p gap best new (done_ledger (root_of p) r c old new m l)
     (done_lossless p gap best old new r c l m searched (loses_none p gap best old s))
 
 -- what is below the incumbent's cutoff is below each cutoff that the incumbent backs

@@ -108,7 +108,7 @@ module _ (old new : Ledger) (r : ℕ) (c : Current) (m : HasGiven old new r c) w
       }
 
 pub given_ledger : GivenIsLedger
-given_ledger root old new r c m l = record {
+given_ledger root r c old new m l = record {
   ticketed = given_ticketed old new r c m l.ticketed;
   nested = λ a b ha hb. l.nested a b (m.held a ha) (m.held b hb);
   handed = given_handed old new r c m l.ticketed l.handed;
@@ -137,6 +137,6 @@ module _ (p : Instance) (gap : ℤ) (best : Option (List ℤ)) (old new : Ledger
   }
 
 pub given_sound : GivenIsSound
-given_sound p gap best old new r c m s = is_sound p gap best new
-    (given_ledger (root_of p) old new r c m (is_ledger p gap best old s))
+given_sound p gap best r c old new m s = is_sound p gap best new
+    (given_ledger (root_of p) r c old new m (is_ledger p gap best old s))
     (given_lossless p gap best old new r c m (loses_none p gap best old s))

@@ -84,7 +84,7 @@ module _ (root : List Interval) (old new : Ledger) (r : ℕ) (c : Current) (chan
   ]
 
 pub handed_ledger : HandedIsLedger
-handed_ledger root old new r c changes m l = record {
+handed_ledger root r c changes old new m l = record {
   ticketed = handed_ticketed root old new r c changes m l;
   nested = handed_nested root old new r c changes m l;
   handed = handed_handed root old new r c changes m l;
@@ -142,7 +142,7 @@ module _ (p : Instance) (gap : ℤ) (best : Option (List ℤ)) (old new : Ledger
   }
 
 pub handed_sound : HandedIsSound
-handed_sound p gap best old new r c changes m s =
+handed_sound p gap best r c changes old new m s =
     let l = is_ledger p gap best old s in
-    is_sound p gap best new (handed_ledger (root_of p) old new r c changes m l)
+    is_sound p gap best new (handed_ledger (root_of p) r c changes old new m l)
     (handed_lossless p gap best old new r c changes m l (loses_none p gap best old s))

@@ -53,7 +53,7 @@ module _ (old new : Ledger) (s : IsLess old new) where
       }
 
 pub less_ledger : LessIsLedger
-less_ledger root old new s keeps l = record {
+less_ledger root old new (s, keeps) l = record {
   ticketed = less_ticketed old new s l.ticketed;
   nested = λ a b ha hb. l.nested a b (s.held a ha) (s.held b hb);
   handed = λ r c h n k. l.handed r c (s.current r c h) n (s.held n k);
@@ -67,11 +67,13 @@ alone_keeps_work old new only alone r c h there n hn below =
     (subst (λ (m : Node). IsAncestor c.node.line m.line) same below))
 
 pub ended_ledger : EndedIsLedger
-ended_ledger root old new e l = less_ledger root old new e.less e.work l
+ended_ledger root old new e l = less_ledger root old new (e.less, e.work) l
 
 pub dropped_ledger : DroppedIsLedger
-dropped_ledger p gap best root old new d l = less_ledger root old new d.less
-    (λ r c h there n hn below. subst (λ rs. slice_index_or rs r None ≡ Some c) (sym d.ranks) h) l
+dropped_ledger root p gap best old new d l =
+    let keeps : KeepsWork old new = λ r c h there n hn below.
+    subst (λ rs. slice_index_or rs r None ≡ Some c) (sym d.ranks) h in
+    less_ledger root old new (d.less, keeps) l
 
 module _ (p : Instance) (gap : ℤ) (best : Option (List ℤ)) (old new : Ledger) where
   -- a node with a better point stays
@@ -109,5 +111,5 @@ ended_sound p gap best old new e s = is_sound p gap best new
 
 pub dropped_sound : DroppedIsSound
 dropped_sound p gap best old new d s = is_sound p gap best new
-    (dropped_ledger p gap best (root_of p) old new d (is_ledger p gap best old s))
+    (dropped_ledger (root_of p) p gap best old new d (is_ledger p gap best old s))
     (dropped_lossless p gap best old new d (loses_none p gap best old s))

@@ -31,8 +31,8 @@ taken_in_keeps_work old new r c m q d h there n hn below = elim (m.tickets q d h
 ]
 
 pub taken_in_ledger : TakenInIsLedger
-taken_in_ledger root old new r c m l =
-    less_ledger root old new m.less (taken_in_keeps_work old new r c m) l
+taken_in_ledger root r c old new m l =
+    less_ledger root old new (m.less, taken_in_keeps_work old new r c m) l
 
 module _ (root : List Interval) (old new : Ledger) (r : ℕ) (c : Current)
     (l : IsLedger root old) (m : HasTakenIn old new r c) where
@@ -93,7 +93,7 @@ module _ (p : Instance) (gap : ℤ) (best : Option (List ℤ)) (old new : Ledger
       }
 
 pub taken_in_sound : TakenInIsSound
-taken_in_sound p gap best old new r c m s =
+taken_in_sound p gap best r c old new m s =
     let l = is_ledger p gap best old s in
-    is_sound p gap best new (taken_in_ledger (root_of p) old new r c m l)
+    is_sound p gap best new (taken_in_ledger (root_of p) r c old new m l)
     (taken_in_lossless p gap best old new r c l m (loses_none p gap best old s))

@@ -8,7 +8,7 @@ use Rattle.ug_nodes.specs.Names.{own_name}
 use Rattle.ug_ledger.specs.Ledgers.{Current, IsCurrent, Ledger}
 use Rattle.ug_ledger.specs.Sound.{IsLedger, LosesNone, Sound}
 
--- the six parts are two halves
+-- the six parts are two halves: what every ledger is, and that no better point is lost
 abbrev pub SoundIsBoth : Type 0
 SoundIsBoth =
     (p : Instance) (gap : ℤ) (best : Option (List ℤ)) (l : Ledger)

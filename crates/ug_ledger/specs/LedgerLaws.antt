@@ -1,4 +1,4 @@
--- After each event there is a ledger again.
+-- What keeps ledgers: after each event there is one again.
 use Rattle.std.specs.Prelude.{◌≡◌, ℕ, ℤ, List, Contains, Option}
 use Rattle.ug_rows.specs.declared.area.Interval.{Interval}
 use Rattle.ug_problem.specs.Instances.{Instance}
@@ -8,10 +8,13 @@ use Rattle.ug_ledger.specs.Ledgers.{Current, Ledger}
 use Rattle.ug_ledger.specs.Sound.{IsLedger}
 use Rattle.ug_ledger.specs.Moves.{HasDone, HasDropped, HasEnded, HasGiven, HasHanded, HasTakenIn, IsLess, KeepsWork}
 
+-- after the move there is a ledger where there was one before
+abbrev pub KeepsLedger : List Interval → (Ledger → Ledger → Type 0) → Type 0
+KeepsLedger root Move = (old new : Ledger) → Move old new → IsLedger root old → IsLedger root new
+
 abbrev pub LessIsLedger : Type 0
 LessIsLedger =
-    (root : List Interval) (old new : Ledger) → IsLess old new → KeepsWork old new
-    → IsLedger root old → IsLedger root new
+    (root : List Interval) → KeepsLedger root (λ old new. IsLess old new × KeepsWork old new)
 
 -- where one node alone is held, as in a race, no ticket's end leaves work undone
 abbrev pub AloneKeepsWork : Type 0
@@ -20,31 +23,29 @@ AloneKeepsWork =
     → KeepsWork old new
 
 abbrev pub EndedIsLedger : Type 0
-EndedIsLedger =
-    (root : List Interval) (old new : Ledger) → HasEnded old new
-    → IsLedger root old → IsLedger root new
+EndedIsLedger = (root : List Interval) → KeepsLedger root HasEnded
 
 abbrev pub DroppedIsLedger : Type 0
 DroppedIsLedger =
-    (p : Instance) (gap : ℤ) (best : Option (List ℤ)) (root : List Interval) (old new : Ledger)
-    → HasDropped p gap best old new → IsLedger root old → IsLedger root new
+    (root : List Interval) (p : Instance) (gap : ℤ) (best : Option (List ℤ))
+    → KeepsLedger root (HasDropped p gap best)
 
 abbrev pub DoneIsLedger : Type 0
 DoneIsLedger =
-    (root : List Interval) (old new : Ledger) (r : ℕ) (c : Current) → HasDone old new r c
-    → IsLedger root old → IsLedger root new
+    (root : List Interval) (r : ℕ) (c : Current)
+    → KeepsLedger root (λ old new. HasDone old new r c)
 
 abbrev pub TakenInIsLedger : Type 0
 TakenInIsLedger =
-    (root : List Interval) (old new : Ledger) (r : ℕ) (c : Current) → HasTakenIn old new r c
-    → IsLedger root old → IsLedger root new
+    (root : List Interval) (r : ℕ) (c : Current)
+    → KeepsLedger root (λ old new. HasTakenIn old new r c)
 
 abbrev pub GivenIsLedger : Type 0
 GivenIsLedger =
-    (root : List Interval) (old new : Ledger) (r : ℕ) (c : Current) → HasGiven old new r c
-    → IsLedger root old → IsLedger root new
+    (root : List Interval) (r : ℕ) (c : Current)
+    → KeepsLedger root (λ old new. HasGiven old new r c)
 
 abbrev pub HandedIsLedger : Type 0
 HandedIsLedger =
-    (root : List Interval) (old new : Ledger) (r : ℕ) (c : Current) (changes : List Change)
-    → HasHanded root old new r c changes → IsLedger root old → IsLedger root new
+    (root : List Interval) (r : ℕ) (c : Current) (changes : List Change)
+    → KeepsLedger root (λ old new. HasHanded root old new r c changes)
