@@ -1,5 +1,5 @@
 -- How a sound ledger begins, what may be saved of it, and what it answers in the end.
-use Rattle.std.specs.Prelude.{◌≡◌, ℤ, ◌↔◌, List, [], Contains, Option}
+use Rattle.std.specs.Prelude.{◌≡◌, ℤ, ◌≤ℤ◌, ◌↔◌, List, [], Contains, Option}
 use Rattle.ug_rows.specs.declared.area.Interval.{Interval}
 use Rattle.ug_problem.specs.Instances.{Instance, root_of}
 use Rattle.ug_problem.specs.Better.{Covered}
@@ -20,6 +20,12 @@ abbrev pub StartIsSound : Type 0
 StartIsSound =
     (p : Instance) (gap : ℤ) (best : Option (List ℤ)) (l : Ledger) → IsStart l
     → Sound p gap best l ↔ Covered p gap best (boxes_of (root_of p) l.held)
+
+-- what is Covered under a gap is so under a greater one
+abbrev pub CoveredUnderMore : Type 0
+CoveredUnderMore =
+    (p : Instance) (gap more : ℤ) (best : Option (List ℤ)) (boxes : List (List Interval))
+    → gap ≤ℤ more → Covered p gap best boxes → Covered p more best boxes
 
 -- nodes that have each primitive node of a sound ledger are Covered
 abbrev pub PrimitiveAreCovered : Type 0
