@@ -1,0 +1,15 @@
+pub mod LineLemmas
+pub mod BoxLemmas
+pub mod NameLemmas
+pub mod RankLemmas
+pub mod SoundLemmas
+pub mod LessLemmas
+pub mod DoneLemmas
+pub mod TakenInLemmas
+pub mod GivenLemmas
+pub mod HandedLemmas
+pub mod HandedWork
+pub mod FactLemmas
+pub mod StartLemmas
+pub mod PrimitiveLemmas
+pub mod EndLemmas

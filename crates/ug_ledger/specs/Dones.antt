@@ -1,0 +1,21 @@
+-- What a Done tells of its ticket, and when it is enough.
+use Rattle.std.specs.Prelude.{ℤ, ◌≤ℤ◌, List, Option, IfSome, IsSomeAnd}
+use Rattle.ug_rows.specs.Boxes.{IsInOne, IsInside}
+use Rattle.ug_problem.specs.Instances.{Instance, root_of}
+use Rattle.ug_problem.specs.Better.{AreAllHanded, Better, best_cutoff}
+use Rattle.ug_nodes.specs.Nodes.{box_of}
+use Rattle.ug_ledger.specs.Ledgers.{Current}
+
+-- a Done with this cutoff is true: each good point of the ticket's box is in a box taken
+abbrev pub IsTrueDone : Instance → Option ℤ → Current → Type 0
+IsTrueDone p cutoff c = AreAllHanded p cutoff (box_of (root_of p) c.node) c.taken
+
+-- the cutoff, if there is one, is at least the incumbent's, which is there
+abbrev pub IsBackedBy : Instance → ℤ → Option (List ℤ) → Option ℤ → Type 0
+IsBackedBy p gap best cutoff =
+    IfSome cutoff (λ v. IsSomeAnd (best_cutoff p gap best) (λ least. least ≤ℤ v))
+
+-- each better point of the ticket's box is in a box taken
+abbrev pub IsSearched : Instance → ℤ → Option (List ℤ) → Current → Type 0
+IsSearched p gap best c =
+    (x : List ℤ) → Better p gap best x → IsInside (box_of (root_of p) c.node) x → IsInOne c.taken x

@@ -1,0 +1,12 @@
+pub mod Ledgers
+pub mod Names
+pub mod Sound
+pub mod Moves
+pub mod Dones
+pub mod Starts
+pub mod Primitive
+pub mod Answers
+pub mod FactLaws
+pub mod LedgerLaws
+pub mod SoundLaws
+pub mod EndLaws

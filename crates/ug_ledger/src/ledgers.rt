@@ -1,0 +1,17 @@
+ghost use Rattle.ug_ledger.specs.LedgerLaws.{AloneKeepsWork, DoneIsLedger, DroppedIsLedger, EndedIsLedger, GivenIsLedger, HandedIsLedger, LessIsLedger, TakenInIsLedger};
+
+/// Where less is held after an event, that is a ledger again, whatever was heard.
+pub fn less_is_a_ledger()
+    ensures less { LessIsLedger }
+    ensures alone { AloneKeepsWork }
+    ensures ended { EndedIsLedger }
+    ensures dropped { DroppedIsLedger }
+    ensures done { DoneIsLedger }
+    ensures taken_in { TakenInIsLedger }
+{}
+
+/// So it is after an assignment, and after a hand.
+pub fn more_is_a_ledger()
+    ensures given { GivenIsLedger }
+    ensures handed { HandedIsLedger }
+{}
