@@ -1,5 +1,5 @@
-ghost use Rattle.std.specs.Prelude.{◌≡◌, ◌<◌, ◌^◌, length, replicate, slice_set, IfOk, OnOk, OnErr};
-ghost use Rattle.ug_ranks.specs.declared.state.State.TheVariants.{Absent, Idle, Racing, Active, Dead};
+ghost use Rattle.std.specs.Prelude.{◌≡◌, ◌<◌, ◌^◌, [], length, replicate, slice_set, IfOk, OnOk, OnErr};
+ghost use Rattle.ug_ranks.specs.declared.state.State.TheVariants.{Absent, Active, Dead, Idle, Racing};
 ghost use Rattle.ug_ranks.specs.States.{IsRacing, held_by, state_at};
 ghost use Rattle.ug_ranks.specs.Changes.{asked_for, grown, joined, noted, racer_of, won, work_of};
 
@@ -62,15 +62,7 @@ impl Ranks {
     }
 
     /// An idle rank works on this node, which has this floor.
-    pub fn give(
-        &mut self,
-        alloc: Global,
-        rank: u32,
-        ticket: Ticket,
-        node: Node,
-        floor: i128,
-        params: Params,
-    )
+    pub fn give(&mut self, rank: u32, ticket: Ticket, node: Node, floor: i128, params: Params)
         requires there { rank < length self.old }
         requires idle { state_at self.old rank ≡ Idle }
         ensures { self.new ≡ slice_set self.old rank (Active (work_of ticket node floor params)) }
@@ -80,7 +72,7 @@ impl Ranks {
             node,
             floor,
             params,
-            taken: Boxes::new(alloc),
+            taken: Boxes::new(*self.states.allocator()),
             open: 0,
             reported: 0,
             asked: 0,
@@ -103,14 +95,15 @@ impl Ranks {
         self.states[rank as usize] = State::Racing(racer);
     }
 
-    /// The race is over, and the node with this floor is a racer's own: it works on under its ticket,
-    /// with its params and its last report.
-    pub fn win(&mut self, alloc: Global, rank: u32, node: Node, floor: i128)
+    /// The race is over, and the node with this floor is a racer's own: it works on under its
+    /// ticket, with its params and its last report.
+    pub fn win(&mut self, rank: u32, node: Node, floor: i128)
         requires there { rank < length self.old }
         requires racing { IsRacing (state_at self.old rank) }
         ensures { self.new ≡ slice_set self.old rank (won node floor (state_at self.old rank)) }
     {
-        crown(&mut self.states[rank as usize], alloc, node, floor);
+        let taken = Boxes::new(*self.states.allocator());
+        crown(&mut self.states[rank as usize], node, floor, taken);
     }
 
     /// The rank is idle; the node that it worked on with its floor, if it did.
@@ -140,7 +133,7 @@ impl Ranks {
         note_report(&mut self.states[rank as usize], open, floor);
     }
 
-    /// A rank that works is asked for so many hands in all, or for none any more. At any other state
+    /// A rank that works is asked for so many hands, or for none any more. At any other state
     /// nothing changes.
     pub fn ask(&mut self, rank: u32, count: u32)
         requires { rank < length self.old }
@@ -149,9 +142,9 @@ impl Ranks {
         note_asked(&mut self.states[rank as usize], count);
     }
 
-    /// A rank that works handed this box: it is the last of those taken, and one hand fewer is asked,
-    /// if any was. At any other state nothing changes. After an error nothing has changed, and the box
-    /// is dropped.
+    /// A rank that works handed this box: it is the last of those taken, and one hand fewer is
+    /// asked, if any was. At any other state nothing changes. After an error nothing has changed,
+    /// and the box is dropped.
     pub fn take(&mut self, rank: u32, area: IntBox) -> Result<(), AllocError>
         requires { rank < length self.old }
         ensures ok { OnOk result
@@ -182,8 +175,10 @@ fn join(state: &mut State)
     }
 }
 
-fn crown(state: &mut State, alloc: Global, node: Node, floor: i128)
-    requires { IsRacing state.old }
+// A racer works on the node, with no box taken.
+fn crown(state: &mut State, node: Node, floor: i128, taken: Boxes)
+    requires racing { IsRacing state.old }
+    requires none { taken ≡ [] }
     ensures { state.new ≡ won node floor state.old }
 {
     if let State::Racing(racer) = state {
@@ -192,7 +187,7 @@ fn crown(state: &mut State, alloc: Global, node: Node, floor: i128)
             node,
             floor,
             params: racer.params,
-            taken: Boxes::new(alloc),
+            taken,
             open: racer.open,
             reported: racer.floor,
             asked: 0,

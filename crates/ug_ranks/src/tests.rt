@@ -60,7 +60,7 @@ fn works_as_it_was_told(rt: HostRuntime) -> Result<(), Fail> {
     ranks.idle(1);
     ranks.idle(2);
     assert!(rt; are(&ranks, b"aii") && ranks.free(0).is_none());
-    ranks.give(alloc, 1, ticket(1), node(alloc, 4)?, -3, params);
+    ranks.give(1, ticket(1), node(alloc, 4)?, -3, params);
     ranks.note(1, 8, -2);
     ranks.ask(1, 1);
     ranks.take(1, area(alloc, 0)?)?;
@@ -84,7 +84,7 @@ fn works_on_after_a_race(rt: HostRuntime) -> Result<(), Fail> {
     ranks.note(0, 20, 6);
     ranks.ask(0, 3);
     assert!(rt; are(&ranks, b"r"));
-    ranks.win(alloc, 0, node(alloc, 0)?, 1);
+    ranks.win(0, node(alloc, 0)?, 1);
     assert_eq!(rt; work(ranks.state(0)), Some((0, 20, 6, 0)));
     let held = ranks
         .free(0)
