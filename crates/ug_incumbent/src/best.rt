@@ -45,8 +45,8 @@ impl Best {
         self.point.as_ref()
     }
 
-    /// Takes the point for the incumbent, if it is better. After any other answer nothing has changed,
-    /// and the point is dropped. Values alone count, whatever gap a cutoff is taken with.
+    /// Takes the point for the incumbent, if it is better. After any other answer nothing has
+    /// changed, and the point is dropped. Values alone count, whatever gap a cutoff is taken with.
     pub fn offer(&mut self, problem: &Problem, point: Point) -> Offered
         requires { IfSome self.old (Feasible problem.now) }
         ensures answer { IsAnswer problem.now self.old point result }
