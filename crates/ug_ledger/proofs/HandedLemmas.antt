@@ -14,13 +14,14 @@ use Rattle.ug_nodes.specs.Names.{IsTicketBefore, no_name, own_name}
 use Rattle.ug_nodes.specs.Nodes.{box_of}
 use Rattle.ug_nodes.proofs.LineLemmas.{ancestor_not_itself, ancestor_of_child, begins_from_ancestor, begins_has, rises_push}
 use Rattle.ug_ledger.specs.Ledgers.{Current, IsCurrent, IsGiven, Ledger, hand_name}
-use Rattle.ug_ledger.specs.Names.{AreNamed, times}
+use Rattle.ug_ledger.specs.Names.{AreNamed}
 use Rattle.ug_ledger.specs.Sound.{AreHanded, AreNested, AreTicketed, GoesThrough, IsLedger}
 use Rattle.ug_ledger.specs.Moves.{HasHanded, handed_node, next_hand, with_taken}
 use Rattle.ug_ledger.proofs.DoneLemmas.{not_own}
 use Rattle.ug_ledger.proofs.LessLemmas.{still_given}
 use Rattle.ug_ledger.proofs.NameLemmas.{has_own, one_line, own_or_none, times_at_most, times_none}
 use Rattle.ug_ledger.proofs.RankLemmas.{set_cases}
+use Rattle.ug_primitive.specs.Primitive.{times}
 
 -- the line that the next hand makes goes through this hand
 goes_itself : (c : Current) (area : List Interval) (i : ℕ) → i ≡ length c.taken

@@ -1,13 +1,8 @@
--- How often a name is that of a node.
-use Rattle.std.specs.Prelude.{ℕ, ◌<◌, ◌≤◌, List, length, Contains, count_by}
+-- That nodes have names of their own.
+use Rattle.std.specs.Prelude.{ℕ, ◌<◌, ◌≤◌, List, length, Contains}
 use Rattle.ug_nodes.specs.declared.name.Name.{Name}
 use Rattle.ug_nodes.specs.declared.node.Node.{Node}
-use Rattle.ug_nodes.specs.Lines.{is_same_name}
-use Rattle.ug_nodes.specs.Names.{own_name}
-
--- how many of the nodes have this name
-abbrev pub times : Name → List Node → ℕ
-times name nodes = count_by (λ (n : Node). is_same_name (own_name n.line) name) nodes
+use Rattle.ug_primitive.specs.Primitive.{times}
 
 -- each node has a name, and no two have the same
 pub record AreNamed (nodes : List Node) : Type 0 where

@@ -1,0 +1,4 @@
+pub mod Found
+pub mod Fronts
+pub mod Kept
+pub mod Named

@@ -1,0 +1,49 @@
+use ug_branch::Params;
+use ug_lists::Items;
+use ug_nodes::{Node, Ticket};
+use ug_rows::IntBox;
+
+/// Boxes, in order.
+pub type Boxes = Items<IntBox>;
+
+/// A rank's part in a race, with its last report.
+#[derive(Clone, Copy, Debug)]
+pub struct Racer {
+    pub ticket: Ticket,
+    pub params: Params,
+    /// How many open nodes it has, 0 before its first report.
+    pub open: u64,
+    /// The least floor of its open nodes.
+    pub floor: i128,
+}
+
+/// What a rank works on, with its last report.
+#[derive(Debug, Drop)]
+pub struct Work {
+    pub ticket: Ticket,
+    pub node: Node,
+    /// The floor of the node, below which no point of its box has a value.
+    pub floor: i128,
+    pub params: Params,
+    /// The boxes of the hands that were kept.
+    pub taken: Boxes,
+    /// How many open nodes it has, 0 before its first report.
+    pub open: u64,
+    /// The least floor of its open nodes.
+    pub reported: i128,
+    /// How many hands it is still asked for.
+    pub asked: u32,
+}
+
+/// The state of a rank.
+#[derive(Debug, Drop)]
+pub enum State {
+    /// It has not joined yet.
+    Absent,
+    Idle,
+    /// It works on the root, as others do.
+    Racing(Racer),
+    /// It works on a node of its own.
+    Active(Work),
+    Dead,
+}
