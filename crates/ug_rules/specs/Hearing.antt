@@ -1,0 +1,234 @@
+-- What a report is answered, and what is done under the answer.
+use Rattle.std.specs.Prelude.{◌≡◌, ◌≢◌, if◌then◌else◌, ℕ, ℤ, ◌+◌, ◌<◌, ◌^◌, nat_lt, List, length, Option, Some, None, slice_set}
+use Rattle.ug_problem.specs.Instances.{root_of}
+use Rattle.ug_nodes.specs.declared.name.Ticket.{Ticket}
+use Rattle.ug_nodes.specs.declared.change.Change.{Change}
+use Rattle.ug_nodes.specs.Changes.{area_by}
+use Rattle.ug_nodes.specs.Outside.{IsFirstOutside, SpellBelow}
+use Rattle.ug_rows.specs.Sums.{box_floor}
+use Rattle.ug_pool.specs.Pools.{with_entry}
+use Rattle.ug_frames.specs.declared.report.Report.{Report}
+use Rattle.ug_frames.specs.declared.report.Report.TheVariants.{Ready, Solution, Hand, State as Reported, Done, Ended}
+use Rattle.ug_incumbent.specs.Offers.{IsBetter, IsBroken, IsNotBetter}
+use Rattle.ug_ranks.specs.declared.state.Work.{Work}
+use Rattle.ug_ranks.specs.declared.state.State.{State}
+use Rattle.ug_ranks.specs.declared.state.State.TheVariants.{Absent, Idle, Racing, Active, Dead}
+use Rattle.ug_ranks.specs.States.{state_at}
+use Rattle.ug_ranks.specs.Changes.{grown, joined, noted}
+use Rattle.ug_ledger.specs.Moves.{handed_node}
+use Rattle.ug_ledger.specs.Dones.{IsBackedBy}
+use Rattle.ug_rules.specs.declared.heard.Heard.{Heard}
+use Rattle.ug_rules.specs.declared.heard.Heard.TheVariants.{Kept, Stale, Early, Broken, NotBetter, InRace, Again, Gap, Outside, Unbacked, Short, Memory}
+use Rattle.ug_rules.specs.State.{BookState, current_for, cutoff_of_best}
+use Rattle.ug_rules.specs.Ranks.{racers_freed, ticket_at}
+use Rattle.ug_rules.specs.Deaths.{killed}
+
+-- one delivery more, up to the end of its count
+abbrev pub counted : BookState → BookState
+counted b = record b { heard = (if nat_lt (b.heard + 1) (2 ^ 64) then b.heard + 1 else b.heard) }
+
+-- which answer a point gets
+abbrev pub IsSolutionDue : BookState → List ℤ → Heard → Type 0
+IsSolutionDue b x Kept = IsBetter b.problem b.best x
+IsSolutionDue b x (Broken first) = IsBroken b.problem x first
+IsSolutionDue b x (NotBetter kept given) = IsNotBetter b.problem b.best x kept given
+IsSolutionDue b x Stale = ⊥
+IsSolutionDue b x Early = ⊥
+IsSolutionDue b x InRace = ⊥
+IsSolutionDue b x Again = ⊥
+IsSolutionDue b x (Gap want got) = ⊥
+IsSolutionDue b x (Outside column) = ⊥
+IsSolutionDue b x (Unbacked cutoff incumbent) = ⊥
+IsSolutionDue b x (Short told taken) = ⊥
+IsSolutionDue b x Memory = ⊥
+
+-- the hand is the next, and spells a box below that of the ticket's node
+pub record IsNextHand (b : BookState) (work : Work) (number : ℕ)
+    (changes : List Change) : Type 0 where
+  pub next : number ≡ length work.taken
+  pub below : SpellBelow (root_of b.problem) work.node.changes changes
+
+-- the hand is not the next
+pub record IsTooFar (work : Work) (number want got : ℕ) : Type 0 where
+  pub wanted : want ≡ length work.taken
+  pub told : got ≡ number
+  pub above : want < got
+
+-- the hand is the next, and this is the least column in which its box is none below that of the
+-- ticket's node
+pub record IsHandOutside (b : BookState) (work : Work) (number : ℕ) (changes : List Change)
+    (column : ℕ) : Type 0 where
+  pub next : number ≡ length work.taken
+  pub first : IsFirstOutside (root_of b.problem) work.node.changes changes column
+
+-- which answer a hand of a rank that works gets
+abbrev pub IsHandDue : BookState → Work → ℕ → List Change → Heard → Type 0
+IsHandDue b work number changes Kept = IsNextHand b work number changes
+IsHandDue b work number changes Again = number < length work.taken
+IsHandDue b work number changes (Gap want got) = IsTooFar work number want got
+IsHandDue b work number changes (Outside column) = IsHandOutside b work number changes column
+IsHandDue b work number changes Memory = IsNextHand b work number changes
+IsHandDue b work number changes Stale = ⊥
+IsHandDue b work number changes Early = ⊥
+IsHandDue b work number changes (Broken first) = ⊥
+IsHandDue b work number changes (NotBetter kept given) = ⊥
+IsHandDue b work number changes InRace = ⊥
+IsHandDue b work number changes (Unbacked cutoff incumbent) = ⊥
+IsHandDue b work number changes (Short told taken) = ⊥
+
+-- the cutoff of a Done is not backed by the incumbent, whose cutoff is named
+pub record IsUnbacked (b : BookState) (told : Option ℤ) (cutoff : ℤ)
+    (incumbent : Option ℤ) : Type 0 where
+  pub is_cutoff : told ≡ Some cutoff
+  pub is_incumbent : incumbent ≡ cutoff_of_best b
+  pub not_backed : ¬ IsBackedBy b.problem b.settings.gap b.best told
+
+-- the cutoff of a Done is backed, and its count is that of the hands taken
+pub record IsComplete (b : BookState) (told : Option ℤ) (count taken : ℕ) : Type 0 where
+  pub backed : IsBackedBy b.problem b.settings.gap b.best told
+  pub all : count ≡ taken
+
+-- the cutoff of a Done is backed, and its count is not that of the hands taken
+pub record IsShort (b : BookState) (told : Option ℤ) (count taken said kept : ℕ) : Type 0 where
+  pub backed : IsBackedBy b.problem b.settings.gap b.best told
+  pub said_is : said ≡ count
+  pub kept_is : kept ≡ taken
+  pub differ : count ≢ taken
+
+-- which answer a Done gets, with so many hands taken
+abbrev pub IsDoneDue : BookState → ℕ → Option ℤ → ℕ → Heard → Type 0
+IsDoneDue b taken told count Kept = IsComplete b told count taken
+IsDoneDue b taken told count (Unbacked cutoff incumbent) = IsUnbacked b told cutoff incumbent
+IsDoneDue b taken told count (Short said kept) = IsShort b told count taken said kept
+IsDoneDue b taken told count Stale = ⊥
+IsDoneDue b taken told count Early = ⊥
+IsDoneDue b taken told count (Broken first) = ⊥
+IsDoneDue b taken told count (NotBetter kept given) = ⊥
+IsDoneDue b taken told count InRace = ⊥
+IsDoneDue b taken told count Again = ⊥
+IsDoneDue b taken told count (Gap want got) = ⊥
+IsDoneDue b taken told count (Outside column) = ⊥
+IsDoneDue b taken told count Memory = ⊥
+
+-- which answer a report gets under the rank's current ticket, where it races
+abbrev pub IsRacerDue : BookState → Report → Heard → Type 0
+IsRacerDue b Ready answer = ⊥
+IsRacerDue b (Solution ticket x) answer = IsSolutionDue b x answer
+IsRacerDue b (Hand ticket number changes) answer = answer ≡ InRace
+IsRacerDue b (Reported ticket count floor) answer = answer ≡ Kept
+IsRacerDue b (Done ticket told count) answer = IsDoneDue b 0 told count answer
+IsRacerDue b Ended answer = ⊥
+
+-- and where it works
+abbrev pub IsWorkerDue : BookState → Work → Report → Heard → Type 0
+IsWorkerDue b work Ready answer = ⊥
+IsWorkerDue b work (Solution ticket x) answer = IsSolutionDue b x answer
+IsWorkerDue b work (Hand ticket number changes) answer = IsHandDue b work number changes answer
+IsWorkerDue b work (Reported ticket count floor) answer = answer ≡ Kept
+IsWorkerDue b work (Done ticket told count) answer = IsDoneDue b
+    (length work.taken) told count answer
+IsWorkerDue b work Ended answer = ⊥
+
+-- which answer a report gets under the current ticket of a rank in this state
+abbrev pub IsCurrentDue : BookState → State → Report → Heard → Type 0
+IsCurrentDue b Absent report answer = ⊥
+IsCurrentDue b Idle report answer = ⊥
+IsCurrentDue b (Racing racer) report answer = IsRacerDue b report answer
+IsCurrentDue b (Active work) report answer = IsWorkerDue b work report answer
+IsCurrentDue b Dead report answer = ⊥
+
+-- a report under a ticket: where that is the rank's current one it is judged, and else it is stale
+pub record IsDueUnder (b : BookState) (state : State) (ticket : Ticket) (report : Report)
+    (answer : Heard) : Type 0 where
+  pub current : ticket_at state ≡ Some ticket → IsCurrentDue b state report answer
+  pub other : ticket_at state ≢ Some ticket → answer ≡ Stale
+
+-- what Ready is answered in this state
+abbrev pub ready_answer : State → Heard
+ready_answer Absent = Kept
+ready_answer Idle = Early
+ready_answer (Racing racer) = Early
+ready_answer (Active work) = Early
+ready_answer Dead = Stale
+
+-- what Ended is answered in this state
+abbrev pub ended_answer : State → Heard
+ended_answer Absent = Early
+ended_answer Idle = Early
+ended_answer (Racing racer) = Early
+ended_answer (Active work) = Early
+ended_answer Dead = Stale
+
+-- which answer a report gets from a rank
+abbrev pub IsDue : BookState → ℕ → Report → Heard → Type 0
+IsDue b r Ready answer = answer ≡ ready_answer (state_at b.ranks r)
+IsDue b r (Solution ticket x) answer = IsDueUnder b (state_at b.ranks r) ticket
+    (Solution ticket x) answer
+IsDue b r (Hand ticket number changes) answer =
+    IsDueUnder b (state_at b.ranks r) ticket (Hand ticket number changes) answer
+IsDue b r (Reported ticket count floor) answer =
+    IsDueUnder b (state_at b.ranks r) ticket (Reported ticket count floor) answer
+IsDue b r (Done ticket told count) answer = IsDueUnder b (state_at b.ranks r) ticket
+    (Done ticket told count) answer
+IsDue b r Ended answer = answer ≡ ended_answer (state_at b.ranks r)
+
+-- the next hand of a rank that works is in the pool, with its floor, and its box is taken
+abbrev pub handed_by : Work → ℕ → List Change → BookState → BookState
+handed_by work r changes b = record b {
+  pool = with_entry (record {
+    floor = box_floor b.problem.objective (area_by (root_of b.problem) changes);
+    node = handed_node (current_for work) changes;
+  }) b.pool;
+  ranks = slice_set b.ranks r (grown (area_by (root_of b.problem) changes) (state_at b.ranks r));
+}
+
+-- a hand of a rank in this state is kept
+abbrev pub handed_at : State → ℕ → List Change → BookState → BookState
+handed_at Absent r changes b = b
+handed_at Idle r changes b = b
+handed_at (Racing racer) r changes b = b
+handed_at (Active work) r changes b = handed_by work r changes b
+handed_at Dead r changes b = b
+
+-- a Done of a rank in this state is kept: its node is gone, and in a race the root, which ends
+-- the race
+abbrev pub done_at : State → ℕ → BookState → BookState
+done_at Absent r b = b
+done_at Idle r b = b
+done_at (Racing racer) r b = record b { ranks = racers_freed b.ranks; raced = None }
+done_at (Active work) r b = record b { ranks = slice_set b.ranks r Idle }
+done_at Dead r b = b
+
+-- the report of a rank is kept
+abbrev pub kept : ℕ → Report → BookState → BookState
+kept r Ready b = record b { ranks = slice_set b.ranks r (joined (state_at b.ranks r)) }
+kept r (Solution ticket x) b = record b { best = Some x }
+kept r (Hand ticket number changes) b = handed_at (state_at b.ranks r) r changes b
+kept r (Reported ticket count floor) b =
+    record b { ranks = slice_set b.ranks r (noted count floor (state_at b.ranks r)) }
+kept r (Done ticket told count) b = done_at (state_at b.ranks r) r b
+kept r Ended b = b
+
+-- what was done under the answer
+abbrev pub after_hearing : Heard → ℕ → Report → BookState → BookState
+after_hearing Kept r report b = counted (kept r report b)
+after_hearing Stale r report b = counted b
+after_hearing Again r report b = counted b
+after_hearing (NotBetter was given) r report b = counted b
+after_hearing Memory r report b = b
+after_hearing Early r report b = counted (killed r b)
+after_hearing (Broken first) r report b = counted (killed r b)
+after_hearing InRace r report b = counted (killed r b)
+after_hearing (Gap want got) r report b = counted (killed r b)
+after_hearing (Outside column) r report b = counted (killed r b)
+after_hearing (Unbacked cutoff incumbent) r report b = counted (killed r b)
+after_hearing (Short said was) r report b = counted (killed r b)
+
+-- a State has an open node; of other reports nothing is asked
+abbrev pub IsHearable : Report → Type 0
+IsHearable Ready = Unit {0}
+IsHearable (Solution ticket x) = Unit {0}
+IsHearable (Hand ticket number changes) = Unit {0}
+IsHearable (Reported ticket count floor) = 0 < count
+IsHearable (Done ticket told count) = Unit {0}
+IsHearable Ended = Unit {0}

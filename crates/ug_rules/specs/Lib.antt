@@ -1,0 +1,9 @@
+pub mod State
+pub mod Ranks
+pub mod Deaths
+pub mod Hearing
+pub mod Deciding
+pub mod Books
+pub mod HearingLaws
+pub mod Room
+pub mod DecidingLaws

@@ -1,0 +1,24 @@
+//! The rules of the coordinator: what each event does to what a book has, as functions on lists.
+//! It stands on the small crates whose calls a book makes, and on ug_ledger.
+//! `Settings`, `Heard` and `Told` are the book's plain types. specs/State.antt is what a book has,
+//! specs/Hearing.antt which answer a report gets and what is done under it, specs/Deciding.antt the
+//! steps of a decision. The laws: whatever is heard or decided, what every book is stays, and no better
+//! point is lost; after a decision a book is settled.
+#![tactic(auto)]
+
+mod heard;
+mod laws_of_deciding;
+mod laws_of_hearing;
+mod settings;
+mod told;
+
+pub use heard::Heard;
+pub use laws_of_deciding::{
+    answers_are_right, decided_is_settled, deciding_keeps_books, parts_keep_books,
+};
+pub use laws_of_hearing::{
+    deaths_make_room, dones_keep_books, events_are_moves, events_keep_books, hearing_keeps_books,
+    hearing_takes_no_room, other_events_are_none, stops_have_places,
+};
+pub use settings::Settings;
+pub use told::Told;

@@ -1,0 +1,20 @@
+/// How a coordinator works.
+#[derive(Clone, Copy, Debug, PartialEq, Eq)]
+pub struct Settings {
+    /// How many ranks there are, at least 1.
+    pub solvers: u32,
+    /// Whether all ranks begin with the root, and one of them wins it.
+    pub racing: bool,
+    /// Below so many nodes in the pool open nodes are asked for.
+    pub low: u32,
+    /// So many nodes in the pool are enough; at least `low`.
+    pub high: u32,
+    /// How many deliveries lie between two saves.
+    pub every: u64,
+    /// How many deliveries are taken at most.
+    pub limit: u64,
+    /// How many open nodes a racer needs to win.
+    pub winner: u64,
+    /// The gap, multiplied by ten to the objective's scale.
+    pub gap: i128,
+}
