@@ -1,5 +1,5 @@
 -- That nodes have names of their own.
-use Rattle.std.specs.Prelude.{ℕ, ◌<◌, ◌≤◌, List, length, Contains}
+use Rattle.std.specs.Prelude.{◌<◌, ◌≤◌, List, length, Contains}
 use Rattle.ug_nodes.specs.declared.name.Name.{Name}
 use Rattle.ug_nodes.specs.declared.node.Node.{Node}
 use Rattle.ug_primitive.specs.Primitive.{times}
