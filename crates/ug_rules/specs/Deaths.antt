@@ -32,7 +32,9 @@ stop_at line r Absent = []
 stop_at line r Idle = []
 stop_at line r (Racing racer) = []
 stop_at line r (Active work) =
-    (if is_ancestor line work.node.line then record { rank = r; order = Stop work.ticket } ∷ [] else [])
+    (if is_ancestor line work.node.line
+    then record { rank = r; order = Stop work.ticket } ∷ []
+    else [])
 stop_at line r Dead = []
 
 -- the Stops of the ranks that work below the line's node, the lowest rank first

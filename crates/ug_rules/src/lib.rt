@@ -1,9 +1,8 @@
 //! The rules of the coordinator: what each event does to what a book has, as functions on lists.
-//! It stands on the small crates whose calls a book makes, and on ug_ledger.
-//! `Settings`, `Heard` and `Told` are the book's plain types. specs/State.antt is what a book has,
-//! specs/Hearing.antt which answer a report gets and what is done under it, specs/Deciding.antt the
-//! steps of a decision. The laws: whatever is heard or decided, what every book is stays, and no better
-//! point is lost; after a decision a book is settled.
+//! It stands on ug_ledger and on the small crates whose calls a book makes.
+//! `Settings`, `Heard` and `Told` are the book's plain types; specs/ has State (what a book has),
+//! Hearing (the answers), Deaths, Deciding, and Books (what every book is, and when it is sound).
+//! The laws: whatever is heard or decided, both stay; then a book is settled, or has a right answer.
 #![tactic(auto)]
 
 mod heard;
