@@ -15,8 +15,8 @@ pub fn deciding_keeps_books()
     ensures stands { StandsKeeps }
 {}
 
-/// After a decision no node in the pool is beyond the incumbent's cutoff, and no rank is idle beside
-/// a node that it could have.
+/// After a decision no node in the pool is beyond the incumbent's cutoff, and no rank is idle
+/// beside a node that it could have.
 pub fn decided_is_settled()
     ensures { DecidedIsSettled }
 {}

@@ -2,7 +2,7 @@
 //! It stands on ug_ledger and on the small crates whose calls a book makes.
 //! `Settings`, `Heard` and `Told` are the book's plain types; specs/ has State (what a book has),
 //! Hearing (the answers), Deaths, Deciding, and Books (what every book is, and when it is sound).
-//! The laws: whatever is heard or decided, both stay; then a book is settled, or has a right answer.
+//! The laws: whatever is heard or decided, both stay; a book that holds nothing has a right answer.
 #![tactic(auto)]
 
 mod heard;
