@@ -105,7 +105,7 @@ module _ (b : BookState) (entry : Entry) (h : IsBook b) (a : IsAlone b entry) wh
       (one (subst (λ es. Contains (nodes_in es) n) a.pool pool)) in_new)
       (λ work. absurd (omega (arith, (subst (λ ns. Contains ns n) a.none work).1)))
       (λ race. absurd (omega
-          (arith, (subst (λ raced. Contains (raced_node raced) n) a.raced race).1))) at
+      (arith, (subst (λ raced. Contains (raced_node raced) n) a.raced race).1))) at
     where
       one : Contains (entry.node ∷ []) n → entry.node ≡ n
       one (zero, l, same) = same
@@ -122,13 +122,13 @@ module _ (b : BookState) (entry : Entry) (h : IsBook b) (a : IsAlone b entry) wh
   none_current : (q : ℕ) (d : Current) → IsCurrent (ledger_of moved) q d → ⊥
   none_current q d at = elim
       (current_cases (Some entry) (state_at b.ranks q) d (current_is moved q d at)) [
-    | inl t ↦
-        let there = works_at b.ranks q t.work t.state in
-        omega (arith, (subst (λ ns. Contains ns t.work.node) a.none there).1)
-    | inr t ↦
-        let some = h.race.racing (are_racing b.ranks (q, ap is_racing t.state)) in
-        false≢true (subst (λ raced. IsSome raced) a.raced some)
-  ]
+        | inl t ↦
+            let there = works_at b.ranks q t.work t.state in
+            omega (arith, (subst (λ ns. Contains ns t.work.node) a.none there).1)
+        | inr t ↦
+            let some = h.race.racing (are_racing b.ranks (q, ap is_racing t.state)) in
+            false≢true (subst (λ raced. IsSome raced) a.raced some)
+      ]
 
   has_ended : HasEnded (ledger_of b) (ledger_of moved)
   has_ended = record {
@@ -174,15 +174,15 @@ module _ (b : BookState) (entry : Entry) (h : IsBook b) (a : IsAlone b entry) wh
     begun_book : IsBook after
     begun_book =
         let t = opens (ranks_that is_idle b.ranks) 0 moved entry in_race_moved
-            (idle_rise b.ranks) left in
+        (idle_rise b.ranks) left in
         race_open after entry t.opened
-            (some_open (ranks_that is_idle b.ranks) 0 moved entry in_race_moved
+        (some_open (ranks_that is_idle b.ranks) 0 moved entry in_race_moved
         (idle_rise b.ranks) left (omega (arith, begin.idle)))
 
     begun_sound : IsSoundBook b → IsSoundBook after
     begun_sound s =
         let t = opens (ranks_that is_idle b.ranks) 0 moved entry in_race_moved
-            (idle_rise b.ranks) left in
+        (idle_rise b.ranks) left in
         t.sound (moved_sound s)
 
 pub begun_keeps : (b : BookState) → IsBook b → is_race_due b ≡ true → Keeps b (race_begun b)

@@ -29,7 +29,7 @@ pub readied_keeps : (old new : BookState) → IsBook old → IsReadied old new �
 readied_keeps old new h t =
     let first = dropped_keeps old in
     let second = keeps_both old (dropped old) (announced (dropped old)) first
-        (announced_keeps (dropped old)) in
+    (announced_keeps (dropped old)) in
     keeps_both old (announced (dropped old)) new second
     (ended_keeps (announced (dropped old)) new (second.book h) t)
 
@@ -86,7 +86,7 @@ stands_keeps zero old new h t = subst (λ c. Keeps old c) (sym t) (keeps_itself 
 stands_keeps (suc zero) old new h t = subst (λ c. Keeps old c) (sym t) (dropped_keeps old)
 stands_keeps (suc (suc zero)) old new h t = subst (λ c. Keeps old c) (sym t)
     (keeps_both old (dropped old) (announced (dropped old)) (dropped_keeps old)
-        (announced_keeps (dropped old)))
+    (announced_keeps (dropped old)))
 stands_keeps (suc (suc (suc steps))) old new h t = given_out_keeps steps old new h t
 
 pub collected_keeps : (old new : BookState) → IsCollected old new → Keeps old new

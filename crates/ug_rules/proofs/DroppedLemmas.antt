@@ -149,7 +149,7 @@ dropped_book b h = book_changed b
       raced = h.floors.raced;
     })
     (dropped_ledger (root_of b.problem) b.problem b.settings.gap b.best (ledger_of b)
-        (ledger_of (dropped b))
+    (ledger_of (dropped b))
     (has_dropped b h) h.ledger)
     (record {
       raced = h.race.raced;

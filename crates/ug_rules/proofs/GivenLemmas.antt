@@ -65,7 +65,7 @@ module _ (b : BookState) (r : ℕ) (entry : Entry) (rest : List Entry)
   work_old n t = elim (cases_eq t.rank r) [
     | inl e ↦
         let here = subst (λ q. state_at (set b.ranks r (Active its_work)) q
-            ≡ Active t.work) e t.state in
+        ≡ Active t.work) e t.state in
         let same = sym (state_here b.ranks r (Active its_work) can.there) ∙ here in
         subst (λ m. Contains (held_nodes b) m) (ap node_in same ∙ t.node)
         (in_pool b entry.node first_there)
@@ -99,7 +99,7 @@ module _ (b : BookState) (r : ℕ) (entry : Entry) (rest : List Entry)
   work_kept n t =
       let ne : t.rank ≢ r = λ e.
       idle_is_free t.work (sym can.idle
-          ∙ subst (λ q. state_at b.ranks q ≡ Active t.work) e t.state) in
+      ∙ subst (λ q. state_at b.ranks q ≡ Active t.work) e t.state) in
       in_work after n (works_to (set b.ranks r (Active its_work)) n
       (others_kept b.ranks r (Active its_work) n t ne))
 

@@ -163,9 +163,9 @@ module _ (b : BookState) (r : ℕ) (entry : Entry) (h : IsInRace b entry) (i : I
       → Rise (IsIdleAt after.ranks) (r + 1) rs
   idle_after rs t = rise_weaker (IsIdleAt b.ranks) (IsIdleAt after.ranks) (r + 1) rs
       (λ q le at. record {
-    there = subst (λ n. q < n) (sym (length-set b.ranks r (Racing its))) at.there;
-    idle = state_there b.ranks r (Racing its) q (λ e. omega (arith, le, e)) ∙ at.idle;
-  }) t
+        there = subst (λ n. q < n) (sym (length-set b.ranks r (Racing its))) at.there;
+        idle = state_there b.ranks r (Racing its) q (λ e. omega (arith, le, e)) ∙ at.idle;
+      }) t
 
 -- what stays while these ranks take part
 pub record Opens (old new : BookState) (entry : Entry) : Type 0 where

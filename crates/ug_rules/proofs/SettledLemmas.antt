@@ -35,7 +35,7 @@ below_all (Some c) es =
     let left = filter (λ (entry : Entry). int_lt entry.floor c) es in
     All-weaker (Contains left) (IsBelowCutoff (Some c))
     (λ e h. below e (picked_old (λ entry. int_lt entry.floor c) es e h).1) left
-        (All-contains_itself left)
+    (All-contains_itself left)
   where
     below : (e : Entry) → int_lt e.floor c ≡ true → e.floor <ℤ c
     below e is = omega (arith, ints, is)
@@ -107,7 +107,7 @@ one_fewer b r e es can n some =
     let pool : length b.pool ≡ length es + 1 =
     ap (λ (xs : List Entry). length xs) can.pool ∙ omega arith in
     smaller n (length (ranks_that is_idle (set b.ranks r (Active w))))
-        (length (ranks_that is_idle b.ranks))
+    (length (ranks_that is_idle b.ranks))
     (length es) (length b.pool) (2 ^ 64 - 1 - (b.last + 1)) (2 ^ 64 - 1 - b.last)
     ranks (sym pool) (omega (arith, can.number)) some
   where
@@ -151,7 +151,7 @@ busy_begun b due = by b.pool refl
     by (entry ∷ rest) e =
         let a = alone_is b entry rest e (begin_is b due).one in
         inr (inl (raced_pool (ranks_that is_idle b.ranks) entry
-            (record b { pool = rest; raced = Some entry })
+        (record b { pool = rest; raced = Some entry })
         ∙ empty rest (omega (arith, ap (λ (xs : List Entry). length xs) (sym e ∙ a.pool)))))
 
 busy_assigned : (b : BookState) → is_race_due b ≡ false → is_race_awaited b ≡ false
@@ -195,11 +195,11 @@ busy_given b = elim (cases_Bool (is_race_due b)) [
 same_that : (test : State → Bool) → ((count : ℕ) (s : State) → test (asked_for count s) ≡ test s)
     → (k : ℕ) (ss : List State) (r count : ℕ)
     → of_ranks (rank_if test) k (set ss r (asked_for count (state_at ss r)))
-        ≡ of_ranks (rank_if test) k ss
+    ≡ of_ranks (rank_if test) k ss
 same_that test alike k [] r count = refl
 same_that test alike k (s ∷ ss) zero count = ap
     (λ (is : Bool). (if is then k ∷ [] else []) ++ of_ranks (rank_if test) (k + 1) ss)
-        (alike count s)
+    (alike count s)
 same_that test alike k (s ∷ ss) (suc r) count =
     ap (λ (qs : List ℕ). rank_if test k s ++ qs) (same_that test alike (k + 1) ss r count)
 
@@ -223,8 +223,11 @@ awaited_of b held absent =
     (b.settings.racing && (nat_eq b.last 0 && nat_eq (length held) 1)) && nat_lt 0 (length absent)
 
 busy_asked : (b : BookState) (r count : ℕ) (orders : List Told) → IsBusy b
-    → IsBusy (record b { ranks = slice_set b.ranks r
-        (asked_for count (state_at b.ranks r)); orders = orders })
+    → IsBusy (record b {
+      ranks = slice_set b.ranks r
+          (asked_for count (state_at b.ranks r));
+      orders = orders;
+    })
 unfolding awaited_of
 busy_asked b r count orders busy =
     let s = asked_for count (state_at b.ranks r) in

@@ -68,7 +68,7 @@ collected_sound_by : (demand : Wanted) (b : BookState) → IsSoundBook b
     → IsSoundBook (collected demand b)
 collected_sound_by (Ask r count) b h =
     sound_written b r (asked_for count (state_at b.ranks r))
-        (asked_alike count (state_at b.ranks r)) h
+    (asked_alike count (state_at b.ranks r)) h
 collected_sound_by (Enough ranks) b h = sound_stopped ranks b h
 collected_sound_by Nothing b h = h
 

@@ -125,7 +125,7 @@ module _ (b : BookState) (rank : ℕ) (its : Racer) (entry : Entry)
   wide : rank < length freed
   wide = subst (λ n. rank < n)
       (sym (length-map b.ranks
-          (λ (state : State). if is_racing state then Idle else state))) w.there
+      (λ (state : State). if is_racing state then Idle else state))) w.there
 
   winner_works : Contains (held_nodes after) entry.node
   winner_works = in_work after entry.node
@@ -187,7 +187,7 @@ module _ (b : BookState) (rank : ℕ) (its : Racer) (entry : Entry)
       idle (of_set f adds freed rank (Active its_work) wide) in
       let fewer = of_idled f adds is_racing b.ranks in
       let raced : f (raced_node b.raced)
-          ≡ f (entry.node ∷ []) = ap (λ raced. f (raced_node raced)) w.raced in
+      ≡ f (entry.node ∷ []) = ap (λ raced. f (raced_node raced)) w.raced in
       omega (arith, of_held f adds b, of_held f adds after, wrote, fewer, raced)
 
   won_current : (q : ℕ) (d : Current) → IsCurrent (ledger_of after) q d
@@ -197,7 +197,7 @@ module _ (b : BookState) (rank : ℕ) (its : Racer) (entry : Entry)
         let new : current_of None (Active its_work) ≡ Some d =
         ap (current_of None) (sym (state_here freed rank (Active its_work) wide))
         ∙ subst (λ k. current_of None (state_at ranks_after k) ≡ Some d) e
-            (current_is after q d h) in
+        (current_is after q d h) in
         let old : current_of b.raced (state_at b.ranks rank) ≡ Some d =
         ap (λ s. current_of b.raced s) w.state
         ∙ (ap (λ raced. current_of raced (Racing its)) w.raced ∙ new) in
@@ -205,7 +205,7 @@ module _ (b : BookState) (rank : ℕ) (its : Racer) (entry : Entry)
     | inr ne ↦
         let new = current_is after q d h in
         let freed_ = ap (current_of None) (sym (state_there freed rank (Active its_work) q ne))
-            ∙ new in
+        ∙ new in
         is_current b q d (without_race b.raced (state_at b.ranks q) d
         (idled_current is_racing refl None b.ranks q d freed_))
   ]

@@ -120,7 +120,7 @@ is_race_awaited b = is_race_set b && nat_lt 0 (length (ranks_that is_absent b.ra
 abbrev pub is_race_due : BookState → Bool
 is_race_due b =
     is_race_set b && (nat_eq (length (ranks_that is_absent b.ranks)) 0 && nat_lt 1
-        (length (ranks_that is_idle b.ranks)))
+    (length (ranks_that is_idle b.ranks)))
 
 -- the params with this number, below 8
 abbrev pub params_with : ℕ → Params

@@ -74,8 +74,13 @@ member_at r Absent = []
 member_at r Idle = []
 member_at r (Racing racer) = []
 member_at r (Active work) =
-    record { rank = r; «open» = work.«open»; floor = work.reported; collecting = not
-        (work.asked == 0) } ∷ []
+    record {
+      rank = r;
+      «open» = work.«open»;
+      floor = work.reported;
+      collecting = not
+          (work.asked == 0);
+    } ∷ []
 member_at r Dead = []
 
 -- the members that work, rising in rank
