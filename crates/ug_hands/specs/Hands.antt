@@ -1,0 +1,92 @@
+-- What a hand of a rank that works is answered, and what is done with it.
+use Rattle.std.specs.Prelude.{◌≡◌, ℕ, ◌<◌, List, ◌++◌, ◌∷◌, [], length, slice_set}
+use Rattle.ug_rows.specs.declared.area.Interval.{Interval}
+use Rattle.ug_rows.specs.declared.row.Objective.{Objective}
+use Rattle.ug_rows.specs.Sums.{box_floor}
+use Rattle.ug_problem.specs.Instances.{root_of}
+use Rattle.ug_nodes.specs.declared.name.Name.{Name}
+use Rattle.ug_nodes.specs.declared.change.Change.{Change}
+use Rattle.ug_nodes.specs.Changes.{area_by}
+use Rattle.ug_nodes.specs.Outside.{IsFirstOutside, SpellBelow}
+use Rattle.ug_pool.specs.Pools.{IsPut, Pooled}
+use Rattle.ug_ranks.specs.declared.state.Work.{Work}
+use Rattle.ug_ranks.specs.declared.state.State.{State}
+use Rattle.ug_ranks.specs.declared.state.State.TheVariants.{Absent, Idle, Racing, Active, Dead}
+use Rattle.ug_ranks.specs.States.{state_at}
+use Rattle.ug_ranks.specs.Changes.{grown}
+use Rattle.ug_ledger.specs.Moves.{handed_node, next_hand}
+use Rattle.ug_rules.specs.declared.heard.Heard.{Heard}
+use Rattle.ug_rules.specs.declared.heard.Heard.TheVariants.{Kept, Stale, Early, Broken, NotBetter, InRace, Again, Gap, Outside, Unbacked, Short, Memory}
+use Rattle.ug_rules.specs.State.{BookState, current_for}
+use Rattle.ug_rules.specs.Hearing.{IsHandDue, IsNextHand, IsTooFar}
+
+-- the hand is the next, and spells a box below that of the node that is worked on
+pub record IsNext (root : List Interval) (work : Work) (number : ℕ) (changes : List Change)
+    : Type 0 where
+  pub next : number ≡ length work.taken
+  pub below : SpellBelow root work.node.changes changes
+
+-- it is the next, and this is the least column in which it does not
+pub record IsOutside (root : List Interval) (work : Work) (number : ℕ) (changes : List Change)
+    (column : ℕ) : Type 0 where
+  pub next : number ≡ length work.taken
+  pub first : IsFirstOutside root work.node.changes changes column
+
+-- the hand is not taken, and gets this answer
+abbrev pub IsRefused : List Interval → Work → ℕ → List Change → Heard → Type 0
+IsRefused root work number changes Again = number < length work.taken
+IsRefused root work number changes (Gap want got) = IsTooFar work number want got
+IsRefused root work number changes (Outside column) = IsOutside root work number changes column
+IsRefused root work number changes Kept = ⊥
+IsRefused root work number changes Stale = ⊥
+IsRefused root work number changes Early = ⊥
+IsRefused root work number changes (Broken first) = ⊥
+IsRefused root work number changes (NotBetter kept given) = ⊥
+IsRefused root work number changes InRace = ⊥
+IsRefused root work number changes (Unbacked cutoff incumbent) = ⊥
+IsRefused root work number changes (Short told taken) = ⊥
+IsRefused root work number changes Memory = ⊥
+
+-- so it is by the rules, in a book of a problem with this root
+abbrev pub RefusedIsDue : Type 0
+RefusedIsDue =
+    (b : BookState) (work : Work) (number : ℕ) (changes : List Change) (answer : Heard)
+    → IsRefused (root_of b.problem) work number changes answer
+    → IsHandDue b work number changes answer
+
+abbrev pub NextIsNextHand : Type 0
+NextIsNextHand =
+    (b : BookState) (work : Work) (number : ℕ) (changes : List Change)
+    → IsNext (root_of b.problem) work number changes → IsNextHand b work number changes
+
+-- the rank works on a node of its own
+abbrev pub IsWorking : State → Type 0
+IsWorking Absent = ⊥
+IsWorking Idle = ⊥
+IsWorking (Racing racer) = ⊥
+IsWorking (Active work) = Unit {0}
+IsWorking Dead = ⊥
+
+-- the line of the next hand of a rank that works
+abbrev pub IsLineOfNext : State → List Name → Type 0
+IsLineOfNext Absent line = ⊥
+IsLineOfNext Idle line = ⊥
+IsLineOfNext (Racing racer) line = ⊥
+IsLineOfNext (Active work) line =
+    line ≡ work.node.line ++ next_hand (current_for work) ∷ []
+IsLineOfNext Dead line = ⊥
+
+-- the hand was taken: its node was put into the pool, and its box is noted
+pub record IsHandTaken (objective : Objective) (root : List Interval) (rank : ℕ)
+    (changes : List Change) (old : List State) (old_pool : Pooled) (new : List State)
+    (new_pool : Pooled) : Type 0 where
+  pub ranks : new ≡ slice_set old rank (grown (area_by root changes) (state_at old rank))
+  pub pool : (work : Work) → state_at old rank ≡ Active work
+      → IsPut (box_floor objective (area_by root changes)) (handed_node (current_for work) changes)
+      old_pool new_pool
+
+-- nothing was changed
+pub record IsNothingTaken (old : List State) (old_pool : Pooled) (new : List State)
+    (new_pool : Pooled) : Type 0 where
+  pub ranks : new ≡ old
+  pub pool : new_pool ≡ old_pool
