@@ -11,9 +11,9 @@ use ug_pool::Pool;
 use ug_ranks::{Ranks, State};
 use ug_rows::{IntBox, Objective};
 
-/// Takes a hand of a rank that works: a node with these changes is in the pool, with its floor, and
-/// its box is noted. The pool then has `spare` places at least. All memory is taken before anything
-/// changes, but for room in the pool.
+/// Takes a hand of a rank that works: a node with these changes is in the pool, in a place that was
+/// spare, with its floor, and its box is noted. All memory is taken before anything changes, so
+/// after an error nothing has.
 pub fn take(
     alloc: Global,
     ranks: &mut Ranks,
