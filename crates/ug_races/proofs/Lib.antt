@@ -1,2 +1,3 @@
 pub mod Freed
 pub mod Racers
+pub mod Won

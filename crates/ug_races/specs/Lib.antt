@@ -1,1 +1,2 @@
 pub mod Racers
+pub mod Races

@@ -31,14 +31,14 @@ use Rattle.ug_rules.proofs.RacerLemmas.{SomeRaces, are_racing, idled_fewer_races
 use Rattle.ug_rules.proofs.BookLemmas.{book_changed, floors_idled, no_race}
 
 -- racer number q of the states, counted from k
-record IsRacerFrom (k : ℕ) (ss : List State) (racer : Reported) : Type 0 where
-  place : ℕ
-  there : place < length ss
-  named : racer.rank ≡ k + place
-  its : Racer
-  state : state_at ss place ≡ Racing its
+pub record IsRacerFrom (k : ℕ) (ss : List State) (racer : Reported) : Type 0 where
+  pub place : ℕ
+  pub there : place < length ss
+  pub named : racer.rank ≡ k + place
+  pub its : Racer
+  pub state : state_at ss place ≡ Racing its
 
-racer_from : (k : ℕ) (ss : List State) (racer : Reported) → Contains (of_ranks racer_at k ss) racer
+pub racer_from : (k : ℕ) (ss : List State) (racer : Reported) → Contains (of_ranks racer_at k ss) racer
     → IsRacerFrom k ss racer
 racer_from k [] racer h = absurd (omega (arith, h.1))
 racer_from k (s ∷ ss) racer h =
