@@ -1,0 +1,4 @@
+pub mod Announced
+pub mod Counts
+pub mod Asked
+pub mod Wants

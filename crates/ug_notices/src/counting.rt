@@ -1,0 +1,36 @@
+ghost use Rattle.std.specs.Prelude.{◌≡◌, ◌≤◌, ◌+◌, ℕ, length};
+ghost use Rattle.ug_rules.specs.State.{node_at, nodes_of};
+ghost use Rattle.ug_rules.specs.Ranks.{is_joined, rank_if, ranks_that};
+
+use ug_ranks::{Ranks, State};
+
+/// Whether a rank in this state has joined and is not dead.
+pub fn is_joined(state: &State) -> bool
+    ensures { result ≡ is_joined state.now }
+{
+    matches!(state, State::Idle | State::Racing(_) | State::Active(_))
+}
+
+/// How many places are wanted to tell each rank that has joined, and to keep one for the Stop of
+/// each that works.
+pub fn places(ranks: &Ranks) -> usize
+    ensures { result ≡ length (ranks_that is_joined ranks.now) + length (nodes_of ranks.now) }
+{
+    let mut places = 0;
+    for state in ranks.as_slice() {
+        places += places_for(state);
+    }
+    places
+}
+
+fn places_for(state: &State) -> usize
+    ensures value { (r : ℕ) → result ≡ length (rank_if is_joined r state.now)
+        + length (node_at state.now) }
+    ensures few { result ≤ 2 }
+{
+    match state {
+        State::Active(_) => 2,
+        State::Idle | State::Racing(_) => 1,
+        State::Absent | State::Dead => 0,
+    }
+}
