@@ -1,0 +1,26 @@
+-- What is done where a race begins.
+use Rattle.std.specs.Prelude.{◌≡◌, ℕ, List, All}
+use Rattle.ug_nodes.specs.declared.change.Change.{Change}
+use Rattle.ug_pool.specs.declared.entry.Entry.{Entry}
+use Rattle.ug_rules.specs.State.{BookState}
+use Rattle.ug_rules.specs.Ranks.{is_idle, ranks_that}
+use Rattle.ug_rules.specs.Deciding.{race_begun, raced_by, raced_by_all}
+use Rattle.ug_giving.specs.declared.terms.Terms.{Terms}
+use Rattle.ug_giving.specs.Stocks.{AreTermsOf, Stock, with_stock}
+
+-- the rank takes part in a race for a node of these changes
+abbrev pub HasJoinedRace : Terms → ℕ → List Change → Stock → Stock → Type 0
+HasJoinedRace terms r changes old new =
+    (b : BookState) (entry : Entry) → AreTermsOf b terms → entry.node.changes ≡ changes
+    → with_stock b new ≡ raced_by r entry (with_stock b old)
+
+-- each idle rank does, where all of these boxes are of the node's changes
+abbrev pub HaveJoinedRace : Terms → List (List Change) → Stock → Stock → Type 0
+HaveJoinedRace terms boxes old new =
+    (b : BookState) (entry : Entry) → AreTermsOf b terms → All (λ box. entry.node.changes ≡ box) boxes
+    → with_stock b new ≡ raced_by_all (ranks_that is_idle old.ranks) entry (with_stock b old)
+
+-- the race began
+abbrev pub HasBegun : Terms → Stock → Stock → Type 0
+HasBegun terms old new =
+    (b : BookState) → AreTermsOf b terms → with_stock b new ≡ race_begun (with_stock b old)

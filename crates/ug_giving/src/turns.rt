@@ -1,0 +1,57 @@
+ghost use Rattle.std.specs.Prelude.{◌≡◌, ◌+◌, length, nat_eq};
+ghost use Rattle.ug_rules.specs.State.{nodes_of, raced_node};
+ghost use Rattle.ug_orders.specs.Queues.{Queued};
+ghost use Rattle.ug_giving.specs.Stocks.{stock_of};
+ghost use Rattle.ug_giving.specs.Counting.{AreCounted};
+ghost use Rattle.ug_giving.specs.Turns.{HasTurn};
+
+use crate::counting::Counts;
+use crate::terms::Terms;
+use ug_pool::{Entry, Pool};
+use ug_ranks::Ranks;
+
+/// What is to be given out.
+#[derive(Clone, Copy, Debug)]
+pub enum Turn {
+    /// The one node held, to all ranks.
+    Race,
+    /// Nothing, while a rank is absent that is to race.
+    Wait,
+    /// Nodes of the pool, to idle ranks.
+    Nodes,
+}
+
+/// What is to be given out now.
+pub fn turn_of(
+    terms: Terms,
+    last: u64,
+    ranks: &Ranks,
+    pool: &Pool,
+    raced: &Option<Entry>,
+    counts: Counts,
+) -> Turn
+    requires { AreCounted ranks.now counts }
+    ensures turn { (orders : Queued) → HasTurn terms
+        (stock_of pool.now ranks.now raced.now last orders) result }
+    ensures first { result ≡ Turn.Race → last ≡ 0 }
+{
+    if !terms.racing || last > 0 || !is_one_held(pool, raced, counts.working) {
+        return Turn::Nodes;
+    }
+    if counts.absent > 0 {
+        return Turn::Wait;
+    }
+    if counts.idle > 1 {
+        return Turn::Race;
+    }
+    Turn::Nodes
+}
+
+// Whether one node is held, where so many ranks work.
+fn is_one_held(pool: &Pool, raced: &Option<Entry>, working: usize) -> bool
+    ensures { result
+        ≡ nat_eq (length pool.now.entries + working + length (raced_node raced.now)) 1 }
+{
+    let raced = usize::from(raced.is_some());
+    pool.len().saturating_add(working).saturating_add(raced) == 1
+}
