@@ -12,6 +12,8 @@ mod giving;
 mod racing;
 mod telling;
 mod terms;
+#[cfg(test)]
+mod tests;
 mod turns;
 
 pub use giving::give_out;

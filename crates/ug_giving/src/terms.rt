@@ -1,5 +1,5 @@
 /// What is given out under.
-#[derive(Clone, Copy, Debug, PartialEq, Eq)]
+#[derive(Clone, Copy, Debug)]
 pub struct Terms {
     pub run: u64,
     /// Whether all ranks begin with the root.
