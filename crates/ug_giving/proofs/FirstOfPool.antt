@@ -13,4 +13,5 @@ none_first (entry ∷ es) e = absurd (none-some entry (sym e))
 pub same_first : (es rest : List Entry) (first entry : Entry) → Some first ≡ slice_get es 0
     → es ≡ entry ∷ rest → entry.node.changes ≡ first.node.changes
 same_first es rest first entry is e =
-    ap (λ (k : Entry). k.node.changes) (sym (same_Some first entry (is ∙ ap (λ (ks : List Entry). slice_get ks 0) e)))
+    let there = ap (λ (ks : List Entry). slice_get ks 0) e in
+    ap (λ (k : Entry). k.node.changes) (sym (same_Some first entry (is ∙ there)))

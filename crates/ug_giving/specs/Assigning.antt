@@ -50,11 +50,13 @@ pub record IsPartAssigned (steps : ℕ) (old new : BookState) : Type 0 where
   pub count : steps < assignments old
   pub given_ : new ≡ assigned_times steps old
 
+-- so it is of whatever book has these parts and terms
 abbrev pub HasAssignedAll : Terms → Stock → Stock → ℕ → Type 0
 HasAssignedAll terms old new steps =
     (b : BookState) → AreTermsOf b terms
     → IsAllAssigned steps (with_stock b old) (with_stock b new)
 
+-- and so is this
 abbrev pub HasAssignedPart : Terms → Stock → Stock → ℕ → Type 0
 HasAssignedPart terms old new steps =
     (b : BookState) → AreTermsOf b terms

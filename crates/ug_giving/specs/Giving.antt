@@ -20,6 +20,7 @@ abbrev pub HasGivenAll : Terms → Stock → Stock → ℕ → Type 0
 HasGivenAll terms old new steps =
     (b : BookState) → AreTermsOf b terms → IsAllGiven steps (with_stock b old) (with_stock b new)
 
+-- and so is this
 abbrev pub HasGivenPart : Terms → Stock → Stock → ℕ → Type 0
 HasGivenPart terms old new steps =
     (b : BookState) → AreTermsOf b terms → IsPartGiven steps (with_stock b old) (with_stock b new)

@@ -8,16 +8,20 @@ use Rattle.ug_rules.specs.Deciding.{race_begun, raced_by, raced_by_all}
 use Rattle.ug_giving.specs.declared.terms.Terms.{Terms}
 use Rattle.ug_giving.specs.Stocks.{AreTermsOf, Stock, with_stock}
 
+-- each of the boxes is of the entry's node
+abbrev pub AreBoxesOf : Entry → List (List Change) → Type 0
+AreBoxesOf entry boxes = All (λ box. entry.node.changes ≡ box) boxes
+
 -- the rank takes part in a race for a node of these changes
 abbrev pub HasJoinedRace : Terms → ℕ → List Change → Stock → Stock → Type 0
 HasJoinedRace terms r changes old new =
     (b : BookState) (entry : Entry) → AreTermsOf b terms → entry.node.changes ≡ changes
     → with_stock b new ≡ raced_by r entry (with_stock b old)
 
--- each idle rank does, where all of these boxes are of the node's changes
+-- each idle rank does, with these boxes
 abbrev pub HaveJoinedRace : Terms → List (List Change) → Stock → Stock → Type 0
 HaveJoinedRace terms boxes old new =
-    (b : BookState) (entry : Entry) → AreTermsOf b terms → All (λ box. entry.node.changes ≡ box) boxes
+    (b : BookState) (entry : Entry) → AreTermsOf b terms → AreBoxesOf entry boxes
     → with_stock b new ≡ raced_by_all (ranks_that is_idle old.ranks) entry (with_stock b old)
 
 -- the race began
