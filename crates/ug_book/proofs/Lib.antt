@@ -1,0 +1,8 @@
+pub mod Due
+pub mod Rooms
+pub mod Taken
+pub mod After
+pub mod Starts
+pub mod Nodes
+pub mod Decisions
+pub mod Runs

@@ -1,0 +1,75 @@
+-- How many nodes are out of the pool, and that a hand leaves their places.
+use Rattle.std.proofs.Common.{◌≡◌, ℕ, ◌+◌, ◌<◌, ◌≤◌, List, [], ◌∷◌, length, take, set, ap, refl, arith, Result, Ok, Err}
+use Rattle.std.specs.Prelude.{Option, OnOk, OnErr}
+use Rattle.std.proofs.lemmas.List.{length-append, length-take}
+use Rattle.ug_rows.specs.declared.area.Interval.{Interval}
+use Rattle.ug_rows.specs.declared.row.Objective.{Objective}
+use Rattle.ug_nodes.specs.declared.change.Change.{Change}
+use Rattle.ug_nodes.specs.Changes.{area_by}
+use Rattle.ug_pool.specs.declared.entry.Entry.{Entry}
+use Rattle.ug_pool.specs.Pools.{Pooled}
+use Rattle.ug_ranks.specs.declared.state.State.{State}
+use Rattle.ug_ranks.specs.declared.state.State.TheVariants.{Absent, Idle, Racing, Active, Dead}
+use Rattle.ug_ranks.specs.States.{state_at}
+use Rattle.ug_ranks.specs.Changes.{grown}
+use Rattle.ug_hands.specs.Hands.{IsHandTaken, IsNothingTaken, IsWorking}
+use Rattle.ug_rules.specs.State.{node_at, nodes_of, raced_node}
+use Rattle.ug_rules.proofs.RoomLemmas.{writing_counts}
+use Rattle.ug_book.specs.Hands.{HasPlaces}
+
+pub at_most_one : (s : State) → length (node_at s) ≤ 1
+at_most_one Absent = omega arith
+at_most_one Idle = omega arith
+at_most_one (Racing racer) = omega arith
+at_most_one (Active work) = omega arith
+at_most_one Dead = omega arith
+
+-- no more nodes are worked on than there are ranks
+pub few_work : (ss : List State) → length (nodes_of ss) ≤ length ss
+few_work [] = omega arith
+few_work (s ∷ ss) =
+    omega (arith, few_work ss, at_most_one s, length-append (node_at s) (nodes_of ss))
+
+pub few_first : (ss : List State) (k : ℕ) → length (nodes_of (take k ss)) ≤ length ss
+few_first ss k = omega (arith, few_work (take k ss), length-take k ss)
+
+-- a rank that hands works on the same node
+pub same_work : (ss : List State) (r : ℕ) (area : List Interval) → r < length ss
+    → length (nodes_of (set ss r (grown area (state_at ss r)))) ≡ length (nodes_of ss)
+same_work ss r area there =
+    omega (arith, writing_counts ss r (grown area (state_at ss r)) there, one (state_at ss r))
+  where
+    one : (s : State) → length (node_at (grown area s)) ≡ length (node_at s)
+    one Absent = refl
+    one Idle = refl
+    one (Racing racer) = refl
+    one (Active work) = refl
+    one Dead = refl
+
+-- with a place more than nodes are out, each still has one after a hand
+pub places_kept : {A E : Type 0} (result : Result A E) (objective : Objective)
+    (root : List Interval) (rank : ℕ) (changes : List Change) (old new : List State)
+    (old_pool new_pool : Pooled) (raced : Option Entry) → rank < length old
+    → IsWorking (state_at old rank)
+    → length (nodes_of old) + length (raced_node raced) + 1 ≤ old_pool.spare
+    → OnOk result (IsHandTaken objective root rank changes old old_pool new new_pool)
+    → OnErr result (IsNothingTaken old old_pool new new_pool) → HasPlaces new_pool new raced
+places_kept (Ok value) objective root rank changes old new old_pool new_pool raced there works room
+    ok err =
+    by (state_at old rank) refl works
+  where
+    area : List Interval
+    area = area_by root changes
+
+    by : (s : State) → state_at old rank ≡ s → IsWorking s → HasPlaces new_pool new raced
+    by (Active work) is w =
+        let same = ap (λ (ss : List State). length (nodes_of ss)) ok.ranks in
+        omega (arith, room, (ok.pool work is).spare, same, same_work old rank area there)
+    by Absent is w = absurd w
+    by Idle is w = absurd w
+    by (Racing racer) is w = absurd w
+    by Dead is w = absurd w
+places_kept (Err error) objective root rank changes old new old_pool new_pool raced there works room
+    ok err =
+    let same = ap (λ (ss : List State). length (nodes_of ss)) err.ranks in
+    let pool = ap (λ (p : Pooled). p.spare) err.pool in omega (arith, room, same, pool)

@@ -1,0 +1,33 @@
+-- What is read of a book.
+use Rattle.std.specs.Prelude.{◌≡◌, Bool, true, false, [], ◌∷◌}
+use Rattle.ug_problem.specs.declared.answer.Answer.{Answer}
+use Rattle.ug_problem.specs.declared.answer.Answer.TheVariants.{Optimal as IsOptimal, Infeasible as IsInfeasible}
+use Rattle.ug_ranks.specs.declared.state.State.{State}
+use Rattle.ug_ranks.specs.declared.state.State.TheVariants.{Absent, Idle, Racing, Active, Dead}
+use Rattle.ug_ledger.specs.Answers.{answer_of}
+use Rattle.ug_rules.specs.declared.told.Told.{Told}
+use Rattle.ug_rules.specs.State.{BookState, held_nodes}
+use Rattle.ug_book.specs.declared.reads.Answered.{Answered}
+use Rattle.ug_book.specs.declared.reads.Answered.TheVariants.{Optimal, Infeasible}
+
+-- the answer that is lent
+abbrev pub answered : Answered → Answer
+answered (Optimal point) = IsOptimal point.now
+answered Infeasible = IsInfeasible
+
+-- nothing is held, and the answer is the incumbent, or that there is none
+pub record IsAnswerOf (b : BookState) (a : Answered) : Type 0 where
+  pub none : held_nodes b ≡ []
+  pub answer : answered a ≡ answer_of b.best
+
+abbrev pub is_alive : State → Bool
+is_alive Absent = true
+is_alive Idle = true
+is_alive (Racing racer) = true
+is_alive (Active work) = true
+is_alive Dead = false
+
+-- the earliest order left, and nothing else changed
+pub record IsOrderTold (old new : BookState) (told : Told) : Type 0 where
+  pub first : old.orders ≡ told ∷ new.orders
+  pub rest : new ≡ record old { orders = new.orders }

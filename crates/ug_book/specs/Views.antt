@@ -1,0 +1,38 @@
+-- What contracts see of a book, and the room that it keeps.
+use Rattle.std.specs.Prelude.{◌≡◌, length}
+use Rattle.ug_rows.specs.Sums.{box_floor}
+use Rattle.ug_problem.specs.Instances.{root_of}
+use Rattle.ug_rules.specs.State.{BookState}
+use Rattle.ug_rules.specs.Books.{IsBook}
+use Rattle.ug_deaths.specs.Parts.{HasRoom, parts_of}
+use Rattle.ug_book.specs.declared.book.Book.TheInside.{Inside}
+
+-- what the fields of a book say
+abbrev pub state_of : Inside → BookState
+state_of b = record {
+  problem = b.problem;
+  run = b.run;
+  settings = b.settings;
+  best = b.best;
+  pool = b.pool.entries;
+  ranks = b.ranks;
+  raced = b.raced;
+  last = b.last;
+  orders = b.orders.orders;
+  heard = b.heard;
+  announced = b.announced;
+}
+
+-- the fields are those of a book, and there is room for each node that may go back to the pool, and
+-- for the Stop of each rank that works
+pub record IsRoomy (b : Inside) : Type 0 where
+  pub book : IsBook (state_of b)
+  pub floor : b.floor ≡ box_floor b.problem.objective (root_of b.problem)
+  pub room : HasRoom (parts_of b.pool b.ranks b.raced b.orders)
+
+-- what no call changes: the problem, the run, the settings, and how many ranks there are
+pub record IsSameRun (old new : BookState) : Type 0 where
+  pub problem : new.problem ≡ old.problem
+  pub run : new.run ≡ old.run
+  pub settings : new.settings ≡ old.settings
+  pub wide : length new.ranks ≡ length old.ranks

@@ -1,0 +1,38 @@
+use std::alloc::Global;
+use std::marker::Model;
+use ug_incumbent::Best;
+use ug_orders::Queue;
+use ug_pool::{Entry, Pool};
+use ug_problem::Shared;
+use ug_ranks::Ranks;
+use ug_rules::Settings;
+
+/// What a coordinator holds and knows.
+#[derive(Drop)]
+pub struct Book {
+    pub(crate) alloc: Global,
+    pub(crate) problem: Shared,
+    // The floor of the root box.
+    pub(crate) floor: i128,
+    pub(crate) run: u64,
+    pub(crate) settings: Settings,
+    pub(crate) best: Best,
+    pub(crate) pool: Pool,
+    pub(crate) ranks: Ranks,
+    pub(crate) raced: Option<Entry>,
+    pub(crate) last: u64,
+    pub(crate) orders: Queue,
+    pub(crate) heard: u64,
+    pub(crate) announced: Option<i128>,
+}
+
+impl Model for Book {
+    ghost use Rattle.ug_rules.specs.State.{BookState};
+    ghost use Rattle.ug_book.specs.Views.{IsRoomy, state_of};
+
+    ghost Value = { BookState };
+
+    ghost view = { state_of };
+
+    ghost invariant = { IsRoomy };
+}

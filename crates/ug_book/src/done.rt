@@ -1,0 +1,109 @@
+ghost use Rattle.std.specs.Prelude.{◌≡◌, ◌≤◌, ◌<◌, ◌+◌, ◌+ℤ◌, ℕ, length, IfSome, slice_set, MatchOption, MatchBool};
+ghost use Rattle.ug_problem.specs.Feasible.{Feasible};
+ghost use Rattle.ug_problem.specs.Better.{IsGap, best_cutoff};
+ghost use Rattle.ug_ledger.specs.Dones.{IsBackedBy};
+ghost use Rattle.ug_frames.specs.declared.report.Report.TheVariants.{Done};
+ghost use Rattle.ug_ranks.specs.States.{state_at};
+ghost use Rattle.ug_rules.specs.State.{BookState};
+ghost use Rattle.ug_rules.specs.Hearing.{IsDoneDue, IsDueUnder, done_at};
+ghost use Rattle.ug_book.specs.Heard.{taken_up};
+ghost use Rattle.ug_book.specs.Dones.{hands_taken, is_backed, is_working};
+
+use crate::joining::has_ticket;
+use ug_deaths::is_racing;
+use ug_incumbent::Best;
+use ug_nodes::Ticket;
+use ug_pool::Entry;
+use ug_problem::Problem;
+use ug_races::free_racers;
+use ug_ranks::{Ranks, State};
+use ug_rules::Heard;
+
+// A Done of a rank, under a ticket.
+pub fn hear_done(
+    incumbent: Option<i128>,
+    ranks: &mut Ranks,
+    raced: &mut Option<Entry>,
+    rank: u32,
+    ticket: Ticket,
+    cutoff: Option<i128>,
+    count: u64,
+) -> Heard
+    requires { rank < length ranks.old }
+    ensures due { (b : BookState) → best_cutoff b.problem b.settings.gap b.best ≡ incumbent
+        → IsDueUnder b (state_at ranks.old rank) ticket (Done ticket cutoff count) result }
+    ensures taken { (b : BookState) → record b { ranks = ranks.new; raced = raced.new }
+        ≡ taken_up result rank (Done ticket cutoff count)
+        (record b { ranks = ranks.old; raced = raced.old }) }
+{
+    if !has_ticket(ranks.state(rank), ticket) {
+        return Heard::Stale;
+    }
+    let taken = hands_taken(ranks.state(rank));
+    let answer = judge_done(incumbent, taken, cutoff, count);
+    if answer == Heard::Kept {
+        finish(ranks, raced, rank);
+    }
+    answer
+}
+
+// The answer to a Done under the current ticket of a rank, where so many hands were taken.
+fn judge_done(incumbent: Option<i128>, taken: u64, cutoff: Option<i128>, count: u64) -> Heard
+    ensures { (b : BookState) → best_cutoff b.problem b.settings.gap b.best ≡ incumbent
+        → IsDoneDue b taken cutoff count result }
+{
+    if let Some(least) = cutoff {
+        if !is_backed(least, incumbent) {
+            return Heard::Unbacked {
+                cutoff: least,
+                incumbent,
+            };
+        }
+    }
+    if count != taken {
+        return Heard::Short { told: count, taken };
+    }
+    Heard::Kept
+}
+
+// Whether there is an incumbent, and its cutoff is at most this one.
+fn is_backed(cutoff: i128, incumbent: Option<i128>) -> bool
+    ensures { result ≡ is_backed cutoff incumbent }
+{
+    match incumbent {
+        Some(least) => least <= cutoff,
+        None => false,
+    }
+}
+
+// How many hands were taken of a rank in this state.
+fn hands_taken(state: &State) -> u64
+    ensures { result ≡ hands_taken state.now }
+{
+    match state {
+        State::Active(work) => work.taken.len() as u64,
+        State::Absent | State::Idle | State::Racing(_) | State::Dead => 0,
+    }
+}
+
+// The rank's node is worked off; in a race that is the raced node, and the race is over.
+fn finish(ranks: &mut Ranks, raced: &mut Option<Entry>, rank: u32)
+    requires { rank < length ranks.old }
+    ensures { (b : BookState) → record b { ranks = ranks.new; raced = raced.new }
+        ≡ done_at (state_at ranks.old rank) rank
+        (record b { ranks = ranks.old; raced = raced.old }) }
+{
+    if is_racing(ranks.state(rank)) {
+        free_racers(ranks);
+        *raced = None;
+    } else if is_working(ranks.state(rank)) {
+        let _ = ranks.free(rank);
+    }
+}
+
+// Whether a rank in this state works on a node of its own.
+fn is_working(state: &State) -> bool
+    ensures { result ≡ is_working state.now }
+{
+    matches!(state, State::Active(_))
+}

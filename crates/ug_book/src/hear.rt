@@ -1,0 +1,135 @@
+ghost use Rattle.std.specs.Prelude.{◌≡◌, ◌<◌, length, slice_set};
+ghost use Rattle.ug_ranks.specs.States.{state_at};
+ghost use Rattle.ug_ranks.specs.Changes.{joined};
+ghost use Rattle.ug_rules.specs.Books.{IsSoundBook};
+ghost use Rattle.ug_rules.specs.Deaths.{killed};
+ghost use Rattle.ug_rules.specs.Hearing.{IsDue, IsHearable, after_hearing};
+ghost use Rattle.ug_rules.specs.HearingLaws.{IsTrueReport};
+ghost use Rattle.ug_rules.specs.State.{BookState};
+ghost use Rattle.ug_deaths.specs.Parts.{HasRoom, parts_of, with_parts};
+ghost use Rattle.ug_book.specs.Views.{IsSameRun};
+ghost use Rattle.ug_book.specs.Heard.{heard_after, is_deadly, killed_under};
+
+use crate::book::Book;
+use crate::report::take_report;
+use ug_deaths::die;
+use ug_frames::Report;
+use ug_orders::Queue;
+use ug_pool::{Entry, Pool};
+use ug_ranks::Ranks;
+use ug_rules::Heard;
+
+impl Book {
+    /// Hears a report of a rank, and answers what is due. After an answer that is a death the rank
+    /// is dead; after Memory, which comes of a hand alone, nothing has changed.
+    ///
+    /// A sound book stays sound, if a Done of the rank's ticket is true of its box.
+    pub fn hear(&mut self, rank: u32, report: Report) -> Heard
+        requires there { rank < length self.old.ranks }
+        requires hearable { IsHearable report }
+        ensures due { IsDue self.old rank report result }
+        ensures done { self.new ≡ after_hearing result rank report self.old }
+        ensures same { IsSameRun self.old self.new }
+        ensures sound { IsTrueReport self.old rank report → IsSoundBook self.old
+            → IsSoundBook self.new }
+    {
+        let answer = take_report(
+            self.alloc,
+            self.problem.problem(),
+            self.floor,
+            &self.settings,
+            &mut self.best,
+            &mut self.pool,
+            &mut self.ranks,
+            &mut self.raced,
+            rank,
+            report,
+        );
+        end_by(
+            answer,
+            &mut self.ranks,
+            &mut self.pool,
+            &mut self.orders,
+            &mut self.raced,
+            rank,
+        );
+        self.heard = heard_after(answer, self.heard);
+        answer
+    }
+
+    /// A rank that is absent or dead is idle. At any other state nothing changes.
+    pub fn join(&mut self, rank: u32)
+        requires { rank < length self.old.ranks }
+        ensures done { self.new ≡ record self.old {
+          ranks = slice_set self.old.ranks rank (joined (state_at self.old.ranks rank));
+        } }
+        ensures same { IsSameRun self.old self.new }
+        ensures sound { IsSoundBook self.old → IsSoundBook self.new }
+    {
+        self.ranks.idle(rank);
+    }
+
+    /// The rank died, or is taken for dead. It takes no memory.
+    pub fn gone(&mut self, rank: u32)
+        requires { rank < length self.old.ranks }
+        ensures done { self.new ≡ killed rank self.old }
+        ensures same { IsSameRun self.old self.new }
+        ensures sound { IsSoundBook self.old → IsSoundBook self.new }
+    {
+        die(
+            &mut self.ranks,
+            &mut self.pool,
+            &mut self.orders,
+            &mut self.raced,
+            rank,
+        );
+    }
+}
+
+// Carries out the death of the rank, if the answer is one.
+fn end_by(
+    answer: Heard,
+    ranks: &mut Ranks,
+    pool: &mut Pool,
+    orders: &mut Queue,
+    raced: &mut Option<Entry>,
+    rank: u32,
+)
+    requires there { rank < length ranks.old }
+    requires room { HasRoom (parts_of pool.old ranks.old raced.old orders.old) }
+    ensures ended { (b : BookState)
+        → with_parts b (parts_of pool.new ranks.new raced.new orders.new)
+        ≡ killed_under answer rank (with_parts b (parts_of pool.old ranks.old raced.old orders.old)) }
+    ensures room { HasRoom (parts_of pool.new ranks.new raced.new orders.new) }
+{
+    if is_deadly(answer) {
+        die(ranks, pool, orders, raced, rank);
+    }
+}
+
+// How many reports were heard after the answer to one more, of so many before.
+fn heard_after(answer: Heard, heard: u64) -> u64
+    ensures { result ≡ heard_after answer heard }
+{
+    if answer == Heard::Memory {
+        return heard;
+    }
+    heard.saturating_add(1)
+}
+
+// Whether the rank is dead after the answer.
+fn is_deadly(answer: Heard) -> bool
+    ensures { result ≡ is_deadly answer }
+{
+    match answer {
+        Heard::Kept | Heard::Stale | Heard::NotBetter { .. } | Heard::Again | Heard::Memory =>
+            false,
+        Heard::Early
+        | Heard::Broken(_)
+        | Heard::InRace
+        | Heard::Gap { .. }
+        | Heard::Outside { .. }
+        | Heard::Unbacked { .. }
+        | Heard::Short { .. } => true,
+    }
+}

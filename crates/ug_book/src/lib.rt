@@ -1,0 +1,27 @@
+//! The book: the coordinator's core for N ranks. It holds the pool, the ranks and the incumbent,
+//! hears reports, decides, gives orders and answers.
+//! It stands on ug_rules, which says what each event does, and on the small crates whose calls it
+//! makes. Each call does exactly what its rule says. Whatever is heard no better point is lost, with
+//! one premise on one report: that a Done is true of its ticket's box.
+#![tactic(auto)]
+
+mod book;
+mod decide;
+mod done;
+mod hand;
+mod hear;
+mod held;
+mod joining;
+mod note;
+mod parts;
+mod reads;
+mod report;
+mod room;
+mod solution;
+mod start;
+mod unfinished;
+
+pub use book::Book;
+pub use reads::Answered;
+pub use start::Boxes;
+pub use unfinished::Unfinished;

@@ -1,0 +1,138 @@
+ghost use Rattle.std.specs.Prelude.{◌≡◌, ◌≢◌, ◌↔◌, ◌<◌, [], length, Contains, IfOk, IfSome, IsTrue, MatchOption};
+ghost use Rattle.std.specs.Option.{option_copied};
+ghost use Rattle.std.specs.List.{AllPairs};
+ghost use Rattle.ug_problem.specs.Instances.{root_of};
+ghost use Rattle.ug_problem.specs.Better.{Covered};
+ghost use Rattle.ug_problem.specs.Right.{Right};
+ghost use Rattle.ug_nodes.specs.declared.node.Node.{Node};
+ghost use Rattle.ug_primitive.specs.Primitive.{IsNamedBefore, IsPrimitive, lent};
+ghost use Rattle.ug_ledger.specs.Ledgers.{boxes_of};
+ghost use Rattle.ug_ranks.specs.States.{state_at};
+ghost use Rattle.ug_rules.specs.State.{held_nodes};
+ghost use Rattle.ug_rules.specs.Books.{IsBook, IsSoundBook};
+ghost use Rattle.ug_book.specs.Reads.{IsAnswerOf, IsOrderTold, answered, is_alive};
+
+use crate::book::Book;
+use crate::held::held_nodes;
+use crate::room::nodes_out;
+use std::alloc::AllocError;
+use ug_nodes::Node;
+use ug_primitive::primitive;
+use ug_problem::Shared;
+use ug_ranks::State;
+use ug_rows::Point;
+use ug_rules::{Settings, Told};
+
+/// What a book answers that holds no node, the point lent.
+#[derive(Clone, Copy)]
+pub enum Answered<'a> {
+    /// The incumbent.
+    Optimal(&'a Point),
+    /// There is no incumbent.
+    Infeasible,
+}
+
+impl Book {
+    pub fn problem(&self) -> &Shared
+        ensures value { result.now ≡ self.now.problem }
+        ensures book { IsBook self.now }
+    {
+        &self.problem
+    }
+
+    pub fn run(&self) -> u64
+        ensures { result ≡ self.now.run }
+    {
+        self.run
+    }
+
+    pub fn settings(&self) -> &Settings
+        ensures value { result.now ≡ self.now.settings }
+        ensures ranks { length self.now.ranks ≡ self.now.settings.solvers }
+    {
+        &self.settings
+    }
+
+    /// The incumbent, if there is one.
+    pub fn best(&self) -> Option<&Point>
+        ensures { option_copied result ≡ self.now.best }
+    {
+        self.best.point()
+    }
+
+    /// How many reports were heard.
+    pub fn count(&self) -> u64
+        ensures { result ≡ self.now.heard }
+    {
+        self.heard
+    }
+
+    pub fn is_alive(&self, rank: u32) -> bool
+        requires { rank < length self.now.ranks }
+        ensures { result ≡ is_alive (state_at self.now.ranks rank) }
+    {
+        is_alive(self.ranks.state(rank))
+    }
+
+    /// The earliest order that waits, which leaves.
+    pub fn next_order(&mut self) -> Option<Told>
+        ensures told { MatchOption result
+            ((self.old.orders ≡ []) × (self.new ≡ self.old))
+            (IsOrderTold self.old self.new) }
+        ensures sound { IsSoundBook self.old → IsSoundBook self.new }
+    {
+        self.orders.next()
+    }
+
+    /// The nodes held, lent: the pool in its order, then those of the ranks, rising, then the one
+    /// that is raced.
+    pub fn held(&self) -> Result<Vec<&Node>, AllocError>
+        ensures { IfOk result (λ nodes. lent nodes.items ≡ held_nodes self.now) }
+    {
+        held_nodes(self.alloc, &self.pool, &self.ranks, &self.raced)
+    }
+
+    /// The nodes held none of whose ancestors is held, lent, in order of name. They have each
+    /// better point of a sound book.
+    pub fn primitive(&self) -> Result<Vec<&Node>, AllocError>
+        ensures each { IfOk result (λ nodes. (n : Node)
+            → Contains (lent nodes.items) n ↔ IsPrimitive (held_nodes self.now) n) }
+        ensures rising { IfOk result (λ nodes. AllPairs IsNamedBefore (lent nodes.items)) }
+        ensures covered { IsSoundBook self.now → IfOk result (λ nodes.
+            Covered self.now.problem self.now.settings.gap self.now.best
+            (boxes_of (root_of self.now.problem) (lent nodes.items))) }
+    {
+        let nodes = self.held()?;
+        primitive(self.alloc, nodes.as_slice())
+    }
+
+    /// The answer, where no node is held. That of a sound book is right.
+    pub fn answer(&self) -> Option<Answered<'_>>
+        ensures answer { MatchOption result
+            (held_nodes self.now ≢ [])
+            (IsAnswerOf self.now) }
+        ensures right { IsSoundBook self.now
+            → IfSome result (λ a. Right self.now.problem self.now.settings.gap (answered a)) }
+    {
+        if !self.is_empty() {
+            return None;
+        }
+        match self.best.point() {
+            Some(point) => Some(Answered::Optimal(point)),
+            None => Some(Answered::Infeasible),
+        }
+    }
+
+    // Whether no node is held.
+    fn is_empty(&self) -> bool
+        ensures { IsTrue result ↔ (held_nodes self.now ≡ []) }
+    {
+        self.pool.len() == 0 && nodes_out(&self.ranks, &self.raced) == 0
+    }
+}
+
+fn is_alive(state: &State) -> bool
+    ensures { result ≡ is_alive state.now }
+{
+    !matches!(state, State::Dead)
+}
