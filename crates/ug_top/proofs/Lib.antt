@@ -1,5 +1,6 @@
 mod Moved
 mod ValueLines
+mod SoloLemmas
 mod Steps
 mod EndLemmas
 mod BoxNumbers

@@ -1,5 +1,5 @@
 //! The top call: a text in, an answer out.
-//! It stands on ug_io, ug_mps, ug_problem and ug_base.
+//! It stands on ug_io, ug_mps, ug_problem, ug_base and ug_book.
 //! `run` does all that the program does: it reads the source, solves the problem that the bytes state and
 //! writes the lines of the answer to the sink. Its contract says what was written for each status, and when
 //! each status comes.
@@ -10,6 +10,7 @@ mod gather;
 mod lines;
 mod running;
 mod search;
+mod solo;
 mod status;
 mod write;
 
@@ -22,8 +23,14 @@ mod fault_texts;
 #[cfg(test)]
 mod long_texts;
 #[cfg(test)]
+mod replay;
+#[cfg(test)]
+mod schedules;
+#[cfg(test)]
 mod small_problems;
 #[cfg(test)]
 mod tests;
 #[cfg(test)]
 mod texts;
+#[cfg(test)]
+mod worked;

@@ -1,10 +1,13 @@
-ghost use Rattle.std.specs.Prelude.{◌≡◌, ◌++◌, length, IfOk, OnOk, pos};
+ghost use Rattle.std.specs.Prelude.{◌≡◌, [], ◌++◌, length, IfOk, OnOk, pos};
 ghost use Rattle.ug_problem.specs.Right.{Right};
+ghost use Rattle.ug_ledger.specs.Answers.{answer_of};
+ghost use Rattle.ug_rules.specs.State.{held_nodes};
 ghost use Rattle.ug_top.specs.Printed.{refused_line, kind_name, value_part, value_lines, AreAnswerLines, AreOptimalLines};
 
 use std::alloc::{AllocError, Global};
+use ug_book::{Answered, Book};
 use ug_mps::{Kind, MpsFault};
-use ug_problem::{Answer, Column, Problem};
+use ug_problem::{Column, Problem};
 use ug_rows::Point;
 
 /// The line of a refusal: the line of the fault, its kind and its word.
@@ -85,18 +88,17 @@ fn push_value_line(
     Ok(())
 }
 
-/// The lines of an answer: its value and the columns that are not 0, or `infeasible`.
-pub fn answer_lines(
-    alloc: Global,
-    problem: &Problem,
-    answer: &Answer,
-) -> Result<Vec<u8>, AllocError>
-    requires { Right problem.now (pos 0) answer.now }
-    ensures { IfOk result (λ text. AreAnswerLines problem.now answer.now text.items) }
+/// The lines of what the book answers: the value and the columns that are not 0, or `infeasible`.
+pub fn answer_lines(alloc: Global, book: &Book) -> Result<Vec<u8>, AllocError>
+    requires none { held_nodes book.now ≡ [] }
+    requires right { Right book.now.problem (pos 0) (answer_of book.now.best) }
+    ensures { IfOk result (λ text.
+        AreAnswerLines book.now.problem (answer_of book.now.best) text.items) }
 {
-    match answer {
-        Answer::Optimal(point) => optimal_lines(alloc, problem, point),
-        Answer::Infeasible => Vec::from_slice(alloc, b"infeasible\n"),
+    match book.answer() {
+        Some(Answered::Optimal(point)) => optimal_lines(alloc, book.problem().problem(), point),
+        Some(Answered::Infeasible) => Vec::from_slice(alloc, b"infeasible\n"),
+        None => unreachable!(),
     }
 }
 

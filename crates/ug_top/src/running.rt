@@ -154,6 +154,6 @@ fn end_of(alloc: Global, text: &[u8], boxed: Option<u32>) -> End
 fn answered(alloc: Global, problem: Problem) -> Result<Vec<u8>, AllocError>
     ensures { IfOk result (λ text. IsAnswerTo problem text.items) }
 {
-    let solved = solve(alloc, problem)?;
-    answer_lines(alloc, solved.task.problem(), &solved.answer)
+    let book = solve(alloc, problem)?;
+    answer_lines(alloc, &book)
 }

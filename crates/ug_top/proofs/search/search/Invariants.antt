@@ -1,9 +1,10 @@
 use Rattle.ug_base.specs.Points.{measure_of}
-use Rattle.ug_top.specs.Search.{IsUnderWay}
+use Rattle.ug_top.specs.Search.{IsSolo, IsUnderWay}
 use Rattle.ug_top.proofs.search.search.Given as goal
 
-abbrev pub invariant-loop-best : goal.invariant-loop-best
-invariant-loop-best l = IsUnderWay l.fn.task.problem l.best l.task
+abbrev pub invariant-loop-point : goal.invariant-loop-point
+invariant-loop-point l =
+    IsSolo l.initial.book.problem l.book × IsUnderWay l.initial.book.problem l.book.best l.task
 
-abbrev pub decreases-loop-best : goal.decreases-loop-best
-decreases-loop-best l = measure_of l.task.boxes
+abbrev pub decreases-loop-point : goal.decreases-loop-point
+decreases-loop-point l = measure_of l.task.boxes
