@@ -59,14 +59,12 @@ pub enum Report {
     Hand { ticket: Ticket, number: u64, changes: Vec<Change> },
     State { ticket: Ticket, open: u64, floor: i128 },
     Done { ticket: Ticket, cutoff: Option<i128>, count: u64 },
-    Ended,
 }
 
 #[derive(Clone, Copy, PartialEq, Eq)]
 pub enum Heard {
     Kept,
     Stale,
-    Early,
     Broken,
     NotBetter,
     Again,
@@ -218,14 +216,13 @@ impl<'a> Book<'a> {
     fn answer_to(&mut self, rank: u32, report: Report) -> Heard {
         let cutoff = self.cutoff();
         let State::Active(work) = &mut self.ranks[rank as usize] else {
-            return if matches!(report, Report::Ended) { Heard::Early } else { Heard::Stale };
+            return Heard::Stale;
         };
         let ticket = match &report {
             Report::Solution { ticket, .. }
             | Report::Hand { ticket, .. }
             | Report::State { ticket, .. }
             | Report::Done { ticket, .. } => *ticket,
-            Report::Ended => return Heard::Early,
         };
         if ticket != work.ticket {
             return Heard::Stale;
@@ -278,7 +275,6 @@ impl<'a> Book<'a> {
                 self.ranks[rank as usize] = State::Idle;
                 Heard::Kept
             }
-            Report::Ended => Heard::Early,
         }
     }
 
