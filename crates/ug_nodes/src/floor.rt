@@ -11,7 +11,7 @@ use crate::change::{Change, Changes};
 use ug_rows::{Extreme, IntBox, Interval, Objective, Term, add_end};
 
 /// The least value of an objective over the points of the box that the changes make of the root's,
-/// from the least over the root's. It makes no box, takes no memory, and searches the terms once
+/// from the least over the root's. It makes no box, takes no memory, and looks for one term
 /// for each change.
 pub fn floor_of_changes(
     objective: &Objective,
@@ -83,6 +83,21 @@ fn replaced(total: i128, term: Term, before: Interval, after: Interval) -> i128
 
 // The term of a column, if there is one.
 fn term_of(terms: &[Term], column: u32) -> Option<Term>
+    requires { DoColumnsRise terms.now }
+    ensures { MatchOption result
+        ((k : ℕ) → k < length terms.now → (term_at terms.now k).column ≢ column)
+        (λ term. IsAmong term terms.now × (term.column ≡ column)) }
+{
+    // Where each lower column has a term, this one's stands at the column's own place.
+    let own = column as usize;
+    if is_of(terms, own, column) {
+        return Some(terms[own]);
+    }
+    searched(terms, column)
+}
+
+// The same, by a search.
+fn searched(terms: &[Term], column: u32) -> Option<Term>
     requires { DoColumnsRise terms.now }
     ensures { MatchOption result
         ((k : ℕ) → k < length terms.now → (term_at terms.now k).column ≢ column)

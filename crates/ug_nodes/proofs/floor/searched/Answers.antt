@@ -1,0 +1,7 @@
+use Rattle.ug_rows.proofs.Replaced.{among_at}
+use Rattle.ug_nodes.proofs.floor.searched.Goals as goal
+
+pub returns-then-is_of : goal.returns-then-is_of
+returns-then-is_of c =
+    let here = c.is_of.ensures.0 c.if-is_of.true in
+    (among_at c.args.terms.now c.first_from-at.result here.0, here.1)
