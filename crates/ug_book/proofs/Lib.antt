@@ -1,5 +1,6 @@
 pub mod Due
 pub mod Rooms
+pub mod WhoWorks
 pub mod Taken
 pub mod After
 pub mod Starts

@@ -1,6 +1,6 @@
 -- How many nodes are out of the pool, and that a hand leaves their places.
-use Rattle.std.proofs.Common.{◌≡◌, ℕ, ◌+◌, ◌<◌, ◌≤◌, List, [], ◌∷◌, length, take, set, ap, refl, arith, Result, Ok, Err}
-use Rattle.std.specs.Prelude.{Option, OnOk, OnErr}
+use Rattle.std.proofs.Common.{◌≡◌, ℕ, ◌+◌, ◌<◌, ◌≤◌, List, length, take, set, ap, refl, arith, Result, Ok, Err}
+use Rattle.std.specs.Prelude.{Option, None, Some, OnOk, OnErr}
 use Rattle.std.proofs.lemmas.List.{length-append, length-take}
 use Rattle.ug_rows.specs.declared.area.Interval.{Interval}
 use Rattle.ug_rows.specs.declared.row.Objective.{Objective}
@@ -12,26 +12,19 @@ use Rattle.ug_ranks.specs.declared.state.State.{State}
 use Rattle.ug_ranks.specs.declared.state.State.TheVariants.{Absent, Idle, Racing, Active, Dead}
 use Rattle.ug_ranks.specs.States.{state_at}
 use Rattle.ug_ranks.specs.Changes.{grown}
+use Rattle.ug_deaths.proofs.Works.{few_work}
 use Rattle.ug_hands.specs.Hands.{IsHandTaken, IsNothingTaken, IsWorking}
 use Rattle.ug_rules.specs.State.{node_at, nodes_of, raced_node}
 use Rattle.ug_rules.proofs.RoomLemmas.{writing_counts}
 use Rattle.ug_book.specs.Hands.{HasPlaces}
 
-pub at_most_one : (s : State) → length (node_at s) ≤ 1
-at_most_one Absent = omega arith
-at_most_one Idle = omega arith
-at_most_one (Racing racer) = omega arith
-at_most_one (Active work) = omega arith
-at_most_one Dead = omega arith
-
--- no more nodes are worked on than there are ranks
-pub few_work : (ss : List State) → length (nodes_of ss) ≤ length ss
-few_work [] = omega arith
-few_work (s ∷ ss) =
-    omega (arith, few_work ss, at_most_one s, length-append (node_at s) (nodes_of ss))
-
 pub few_first : (ss : List State) (k : ℕ) → length (nodes_of (take k ss)) ≤ length ss
 few_first ss k = omega (arith, few_work (take k ss), length-take k ss)
+
+-- and at most one is raced
+pub few_raced : (raced : Option Entry) → length (raced_node raced) ≤ 1
+few_raced None = omega arith
+few_raced (Some entry) = omega arith
 
 -- a rank that hands works on the same node
 pub same_work : (ss : List State) (r : ℕ) (area : List Interval) → r < length ss

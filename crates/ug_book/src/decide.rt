@@ -1,4 +1,4 @@
-ghost use Rattle.std.specs.Prelude.{◌≡◌, IfErr, IfSome, OnOk};
+ghost use Rattle.std.specs.Prelude.{◌≡◌, ◌<◌, IfErr, IfSome, OnOk};
 ghost use Rattle.ug_problem.specs.Feasible.{Feasible};
 ghost use Rattle.ug_problem.specs.Better.{IsGap, best_cutoff};
 ghost use Rattle.ug_rules.specs.Books.{IsSoundBook};
@@ -25,6 +25,8 @@ impl Book {
         ensures settled { OnOk result (IsSettled self.new) }
         ensures same { IsSameRun self.old self.new }
         ensures stands { IfErr result (λ e. Stands e.stood self.old self.new) }
+        // The first step takes no memory.
+        ensures some { IfErr result (λ e. 0 < e.stood) }
         ensures sound { IsSoundBook self.old → IsSoundBook self.new }
     {
         let cutoff = current_cutoff(self.problem.problem(), &self.best, &self.settings);

@@ -7,9 +7,10 @@ ghost use Rattle.ug_ranks.specs.States.{state_at};
 ghost use Rattle.ug_rules.specs.State.{BookState};
 ghost use Rattle.ug_rules.specs.Hearing.{IsDoneDue, IsDueUnder, done_at};
 ghost use Rattle.ug_book.specs.Heard.{taken_up};
-ghost use Rattle.ug_book.specs.Dones.{hands_taken, is_backed, is_working};
+ghost use Rattle.ug_book.specs.Dones.{hands_taken, is_backed};
 
 use crate::joining::has_ticket;
+use crate::working::is_working;
 use ug_deaths::is_racing;
 use ug_incumbent::Best;
 use ug_nodes::Ticket;
@@ -99,11 +100,4 @@ fn finish(ranks: &mut Ranks, raced: &mut Option<Entry>, rank: u32)
     } else if is_working(ranks.state(rank)) {
         let _ = ranks.free(rank);
     }
-}
-
-// Whether a rank in this state works on a node of its own.
-fn is_working(state: &State) -> bool
-    ensures { result ≡ is_working state.now }
-{
-    matches!(state, State::Active(_))
 }

@@ -12,7 +12,6 @@ ghost use Rattle.ug_book.specs.Heard.{taken_up};
 ghost use Rattle.ug_book.specs.Hands.{HasPlaces, IsNotTaken, IsToBeTaken};
 
 use crate::joining::has_ticket;
-use crate::room::nodes_out;
 use std::alloc::{AllocError, Global};
 use ug_hands::{judge, take};
 use ug_nodes::{Changes, Ticket};
@@ -73,7 +72,8 @@ fn judge_hand(problem: &Problem, state: &State, number: u64, changes: &Changes) 
     }
 }
 
-// Takes a hand of a rank that works, with room for one node more than those that are out.
+// Takes a hand of a rank that works, with room for one node more than can be out: one of each
+// rank, and one that is raced. So none need be counted.
 fn take_hand(
     alloc: Global,
     problem: &Problem,
@@ -96,7 +96,7 @@ fn take_hand(
     ensures err { OnErr result ((ranks.new ≡ ranks.old) × (pool.new.entries ≡ pool.old.entries)) }
     ensures places { HasPlaces pool.new ranks.new raced.now }
 {
-    pool.reserve(nodes_out(ranks, raced) + 1)?;
+    pool.reserve(ranks.as_slice().len() + 2)?;
     take(
         alloc,
         ranks,

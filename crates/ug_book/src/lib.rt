@@ -16,10 +16,12 @@ mod note;
 mod parts;
 mod reads;
 mod report;
-mod room;
 mod solution;
 mod start;
+#[cfg(test)]
+mod tests;
 mod unfinished;
+mod working;
 
 pub use book::Book;
 pub use reads::Answered;

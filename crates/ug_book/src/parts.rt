@@ -37,6 +37,7 @@ pub fn make_parts(
     ensures stands { IfErr result (λ e. HasStood run settings.now cutoff
         (desk_of pool.old ranks.old raced.old last.old orders.old announced.old)
         (desk_of pool.new ranks.new raced.new last.new orders.new announced.new) e.stood) }
+    ensures some { IfErr result (λ e. 0 < e.stood) }
     ensures room { HasRoom (parts_of pool.new ranks.new raced.new orders.new) }
 {
     drop_hopeless(pool, cutoff);
@@ -80,7 +81,8 @@ fn drop_hopeless(pool: &mut Pool, cutoff: Option<i128>)
 
 // How many steps stand after the first three and so many more, which are no more than the ranks.
 fn standing(steps: u64) -> u64
-    ensures { steps ≤ 2 ^ 32 → result ≡ steps + 3 }
+    ensures value { steps ≤ 2 ^ 32 → result ≡ steps + 3 }
+    ensures some { 0 < result }
 {
     steps.saturating_add(3)
 }

@@ -14,7 +14,7 @@ ghost use Rattle.ug_book.specs.Reads.{IsAnswerOf, IsOrderTold, answered, is_aliv
 
 use crate::book::Book;
 use crate::held::held_nodes;
-use crate::room::nodes_out;
+use crate::working::is_any_working;
 use std::alloc::AllocError;
 use ug_nodes::Node;
 use ug_primitive::primitive;
@@ -127,7 +127,7 @@ impl Book {
     fn is_empty(&self) -> bool
         ensures { IsTrue result ↔ (held_nodes self.now ≡ []) }
     {
-        self.pool.len() == 0 && nodes_out(&self.ranks, &self.raced) == 0
+        self.pool.len() == 0 && self.raced.is_none() && !is_any_working(self.ranks.as_slice())
     }
 }
 

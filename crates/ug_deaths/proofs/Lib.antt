@@ -1,3 +1,4 @@
 pub mod Loops
 pub mod CallOff
 pub mod Rooms
+pub mod Works

@@ -3,11 +3,11 @@ use Rattle.std.proofs.Common.{◌≡◌, inl, inr, ℕ, zero, suc, ◌+◌, ◌<
 use Rattle.std.proofs.lemmas.Bool.{cases_Bool}
 use Rattle.std.proofs.lemmas.List.{length-append, take_all}
 use Rattle.ug_ranks.specs.declared.state.State.{State}
-use Rattle.ug_ranks.specs.declared.state.State.TheVariants.{Absent, Idle, Racing, Active, Dead}
 use Rattle.ug_ranks.specs.States.{state_at}
 use Rattle.ug_rules.specs.State.{node_at, nodes_of}
 use Rattle.ug_rules.specs.Ranks.{is_absent, is_idle, rank_if, ranks_that}
 use Rattle.ug_deaths.proofs.Loops.{more_told}
+use Rattle.ug_deaths.proofs.Works.{at_most_one_node}
 use Rattle.ug_giving.specs.declared.counting.Counts.{Counts}
 use Rattle.ug_giving.specs.Counting.{AreCounted}
 
@@ -52,13 +52,6 @@ at_most_one test s = elim (cases_Bool (test s)) [
   | inl is ↦ rw is (omega arith)
   | inr fails ↦ rw fails (omega arith)
 ]
-
-pub at_most_one_node : (s : State) → length (node_at s) ≤ 1
-at_most_one_node Absent = omega arith
-at_most_one_node Idle = omega arith
-at_most_one_node (Racing racer) = omega arith
-at_most_one_node (Active work) = omega arith
-at_most_one_node Dead = omega arith
 
 -- the first ranks are counted, and none of the counts is beyond their number
 pub record AreCountedTo (k : ℕ) (ss : List State) (counts : Counts) : Type 0 where

@@ -200,3 +200,14 @@ all_assigned terms old now steps r end p = λ b is. record {
       ]
       | inr empty ↦ omega (arith, empty)
     ]
+
+-- where the pool is empty none is given
+pub none_assigned : (terms : Terms) (old : Stock) → length old.pool.entries ≡ 0
+    → HasAssignedAll terms old old 0
+none_assigned terms old empty = λ b is. record {
+  count = omega (arith, empty);
+  given_ = refl;
+}
+
+pub nothing_moved : (old : Stock) → KeepsPlaces old old
+nothing_moved old = record { pool = omega arith; orders = λ h. h }

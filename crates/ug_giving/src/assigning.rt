@@ -54,7 +54,8 @@ fn give_first(
 }
 
 // The same, with a copy of the node's changes for the order, and so much room in the queue that
-// each rank that works then has a place for its Stop. After an error nothing has changed.
+// each rank has a place for its Stop then, whether it works or not: so none need be counted. After
+// an error nothing has changed.
 fn assign(
     terms: Terms,
     last: &mut u64,
@@ -62,14 +63,11 @@ fn assign(
     pool: &mut Pool,
     orders: &mut Queue,
     rank: u32,
-    working: usize,
 ) -> Result<(), AllocError>
     requires there { rank < length ranks.old }
     requires idle { state_at ranks.old rank ≡ Idle }
     requires some { 0 < length pool.old.entries }
     requires number { last.old < 2 ^ 64 - 1 }
-    requires working { working ≡ length (nodes_of ranks.old) }
-    requires small { working + 2 < 2 ^ 64 }
     ensures ok { OnOk result ((raced : Option Entry) → IsAssigned terms rank
         (stock_of pool.old ranks.old raced last.old orders.old)
         (stock_of pool.new ranks.new raced last.new orders.new)) }
@@ -78,7 +76,7 @@ fn assign(
         ≡ stock_of pool.old ranks.old raced last.old orders.old) }
 {
     let changes = first_changes(pool)?;
-    orders.reserve(working + 2)?;
+    orders.reserve(ranks.as_slice().len() + 2)?;
     give_first(terms, last, ranks, pool, orders, rank, changes);
     Ok(())
 }
@@ -93,16 +91,14 @@ fn can_be_assigned(ranks: &Ranks, pool: &Pool, last: u64, rank: u32) -> bool
 
 /// Gives the least node of the pool to the lowest idle rank, while there are a rank, a node and a
 /// ticket. Ok: how often. Err: memory ran out after so many times, and these stand.
+#[tactic(auto, using(crate::proofs::Progress::none_assigned, crate::proofs::Progress::nothing_moved))]
 pub fn assign_all(
     terms: Terms,
     last: &mut u64,
     ranks: &mut Ranks,
     pool: &mut Pool,
     orders: &mut Queue,
-    working: usize,
 ) -> Result<u64, Stopped>
-    requires working { working ≡ length (nodes_of ranks.old) }
-    requires small { working < 2 ^ 32 }
     ensures ok { IfOk result (λ steps. (raced : Option Entry) → HasAssignedAll terms
         (stock_of pool.old ranks.old raced last.old orders.old)
         (stock_of pool.new ranks.new raced last.new orders.new) steps) }
@@ -113,16 +109,39 @@ pub fn assign_all(
         (stock_of pool.old ranks.old raced last.old orders.old)
         (stock_of pool.new ranks.new raced last.new orders.new) }
 {
-    let mut working = working;
+    // The usual case, and then no rank is looked at.
+    if pool.len() == 0 {
+        return Ok(0);
+    }
+    assign_each(terms, last, ranks, pool, orders)
+}
+
+// The same, by a look at each rank.
+fn assign_each(
+    terms: Terms,
+    last: &mut u64,
+    ranks: &mut Ranks,
+    pool: &mut Pool,
+    orders: &mut Queue,
+) -> Result<u64, Stopped>
+    ensures ok { IfOk result (λ steps. (raced : Option Entry) → HasAssignedAll terms
+        (stock_of pool.old ranks.old raced last.old orders.old)
+        (stock_of pool.new ranks.new raced last.new orders.new) steps) }
+    ensures err { IfErr result (λ stopped. (raced : Option Entry) → HasAssignedPart terms
+        (stock_of pool.old ranks.old raced last.old orders.old)
+        (stock_of pool.new ranks.new raced last.new orders.new) stopped.steps) }
+    ensures places { (raced : Option Entry) → KeepsPlaces
+        (stock_of pool.old ranks.old raced last.old orders.old)
+        (stock_of pool.new ranks.new raced last.new orders.new) }
+{
     let mut steps = 0;
     for rank in 0..ranks.as_slice().len() as u32 {
         if !can_be_assigned(ranks, pool, *last, rank) {
             continue;
         }
-        let Ok(()) = assign(terms, last, ranks, pool, orders, rank, working) else {
+        let Ok(()) = assign(terms, last, ranks, pool, orders, rank) else {
             return Err(Stopped { steps });
         };
-        working += 1;
         steps += 1;
     }
     Ok(steps)

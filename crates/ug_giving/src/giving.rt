@@ -37,15 +37,15 @@ pub fn give_out(
         (stock_of pool.new ranks.new raced.new last.new orders.new) stopped.steps) }
     ensures room { HasRoom (parts_of pool.new ranks.new raced.new orders.new) }
 {
-    let counts = count(ranks);
-    match turn_of(terms, *last, ranks, pool, raced, counts) {
+    match turn_of(terms, *last, ranks, pool, raced) {
         Turn::Race => {
+            let counts = count(ranks);
             let Ok(()) = begin_race(alloc, terms, last, ranks, pool, raced, orders, counts) else {
                 return Err(Stopped { steps: 0 });
             };
             Ok(1)
         }
         Turn::Wait => Ok(0),
-        Turn::Nodes => assign_all(terms, last, ranks, pool, orders, counts.working),
+        Turn::Nodes => assign_all(terms, last, ranks, pool, orders),
     }
 }

@@ -1,11 +1,11 @@
-ghost use Rattle.std.specs.Prelude.{◌≡◌, ◌+◌, length, nat_eq};
+ghost use Rattle.std.specs.Prelude.{◌≡◌, ◌+◌, IsTrue, length, nat_eq};
 ghost use Rattle.ug_rules.specs.State.{nodes_of, raced_node};
 ghost use Rattle.ug_orders.specs.Queues.{Queued};
 ghost use Rattle.ug_giving.specs.Stocks.{stock_of};
 ghost use Rattle.ug_giving.specs.Counting.{AreCounted};
 ghost use Rattle.ug_giving.specs.Turns.{HasTurn};
 
-use crate::counting::Counts;
+use crate::counting::{Counts, count};
 use crate::terms::Terms;
 use ug_pool::{Entry, Pool};
 use ug_ranks::Ranks;
@@ -22,7 +22,20 @@ pub enum Turn {
 }
 
 /// What is to be given out now.
-pub fn turn_of(
+pub fn turn_of(terms: Terms, last: u64, ranks: &Ranks, pool: &Pool, raced: &Option<Entry>) -> Turn
+    ensures turn { (orders : Queued) → HasTurn terms
+        (stock_of pool.now ranks.now raced.now last orders) result }
+    ensures first { result ≡ Turn.Race → last ≡ 0 }
+{
+    // The ranks are counted at the begin of a run alone.
+    if !terms.racing || last > 0 {
+        return Turn::Nodes;
+    }
+    first_turn(terms, last, ranks, pool, raced, count(ranks))
+}
+
+// What is to be given out before any ticket was, where the ranks are to race.
+fn first_turn(
     terms: Terms,
     last: u64,
     ranks: &Ranks,
@@ -30,12 +43,13 @@ pub fn turn_of(
     raced: &Option<Entry>,
     counts: Counts,
 ) -> Turn
-    requires { AreCounted ranks.now counts }
-    ensures turn { (orders : Queued) → HasTurn terms
+    requires racing { IsTrue terms.racing }
+    requires first { last ≡ 0 }
+    requires counts { AreCounted ranks.now counts }
+    ensures { (orders : Queued) → HasTurn terms
         (stock_of pool.now ranks.now raced.now last orders) result }
-    ensures first { result ≡ Turn.Race → last ≡ 0 }
 {
-    if !terms.racing || last > 0 || !is_one_held(pool, raced, counts.working) {
+    if !is_one_held(pool, raced, counts.working) {
         return Turn::Nodes;
     }
     if counts.absent > 0 {

@@ -57,19 +57,6 @@ members_from k (s ∷ ss) = omega (
 pub members_work : (ss : List State) → length (members_in ss) ≡ length (nodes_of ss)
 members_work ss = members_from 0 ss
 
--- and no more than there are ranks
-pub few_work : (ss : List State) → length (nodes_of ss) ≤ length ss
-few_work [] = omega arith
-few_work (s ∷ ss) =
-    omega (arith, few_work ss, one_node s, length-append (node_at s) (nodes_of ss))
-  where
-    one_node : (t : State) → length (node_at t) ≤ 1
-    one_node Absent = omega arith
-    one_node Idle = omega arith
-    one_node (Racing racer) = omega arith
-    one_node (Active work) = omega arith
-    one_node Dead = omega arith
-
 -- the nodes worked on with one rank more
 nodes_more : (ss : List State) (k : ℕ) → k < length ss
     → length (nodes_of (take (k + 1) ss))

@@ -13,7 +13,8 @@ use Rattle.ug_ranks.specs.declared.state.State.{State}
 use Rattle.ug_ranks.specs.declared.state.State.TheVariants.{Absent, Idle, Racing, Active, Dead}
 use Rattle.ug_rules.specs.Ranks.{member_at, members_in, of_ranks}
 use Rattle.ug_notices.specs.Books.{CanBeTold}
-use Rattle.ug_notices.proofs.Counts.{few_work, members_work}
+use Rattle.ug_deaths.proofs.Works.{few_work}
+use Rattle.ug_notices.proofs.Counts.{members_work}
 
 -- the members are some of the ranks
 abbrev IsBelow : ℕ → Member → Type 0

@@ -1,4 +1,4 @@
-ghost use Rattle.std.specs.Prelude.{◌≡◌, ◌<◌, ◌≤◌, ◌+◌, ◌^◌, OnOk, OnErr, length};
+ghost use Rattle.std.specs.Prelude.{◌≡◌, ◌↔◌, ◌<◌, ◌≤◌, ◌+◌, ◌^◌, IsTrue, OnOk, OnErr, length};
 ghost use Rattle.ug_rules.specs.State.{BookState, nodes_of};
 ghost use Rattle.ug_rules.specs.Deciding.{IsCollected, collected};
 ghost use Rattle.ug_notices.specs.Books.{CanBeTold, with_told};
@@ -34,6 +34,9 @@ pub fn collect(
     ensures room { length (nodes_of ranks.new) ≤ orders.new.spare }
     ensures work { nodes_of ranks.new ≡ nodes_of ranks.old }
 {
+    if is_between(len, low, high) {
+        return Ok(());
+    }
     let members = members_of(alloc, ranks)?;
     let demand = wanted(
         alloc,
@@ -43,6 +46,14 @@ pub fn collect(
         members.as_slice(),
     )?;
     tell(ranks, orders, demand, members.len())
+}
+
+// Whether so many nodes are no fewer than the low mark and fewer than the high one, so that nothing is
+// wanted.
+fn is_between(len: u64, low: u32, high: u32) -> bool
+    ensures { IsTrue result ↔ ((low ≤ len) × (len < high)) }
+{
+    u64::from(low) <= len && len < u64::from(high)
 }
 
 // What is wanted is told, where so many ranks work.

@@ -10,8 +10,9 @@ pub fn members_of(alloc: Global, ranks: &Ranks) -> Result<Vec<Member>, AllocErro
     ensures members { IfOk result (λ members. members.items ≡ members_in ranks.now) }
     ensures count { length ranks.now < 2 ^ 32 }
 {
-    let mut members = Vec::new(alloc);
-    for rank in 0..ranks.as_slice().len() as u32 {
+    let count = ranks.as_slice().len();
+    let mut members = Vec::with_capacity(alloc, count)?;
+    for rank in 0..count as u32 {
         add_member(&mut members, rank, ranks.state(rank))?;
     }
     Ok(members)

@@ -1,4 +1,4 @@
-use Rattle.std.proofs.Common.{◌≤◌, ◌*◌, ◌^◌, ℤ, arith, ap, subst, sym, ◌∙◌}
+use Rattle.std.proofs.Common.{◌≤◌, ◌*◌, ◌^◌, ℤ, length, List, arith, ap, subst, sym, ◌∙◌}
 use Rattle.std.specs.Prelude.{unsigned_abs}
 use Rattle.std.proofs.lemmas.Int.{to_z-of_z}
 use mir.Syntax.{w128}
@@ -6,7 +6,9 @@ use Rattle.ug_rows.proofs.AreaLemmas.{below_itself}
 use Rattle.ug_problem.specs.Instances.{root_of}
 use Rattle.ug_problem.proofs.Floors.{floor_within}
 use Rattle.ug_pool.specs.Pools.{Pooled}
-use Rattle.ug_book.proofs.Rooms.{places_kept}
+use Rattle.ug_ranks.specs.declared.state.State.{State}
+use Rattle.ug_deaths.proofs.Works.{few_work}
+use Rattle.ug_book.proofs.Rooms.{few_raced, places_kept}
 use Rattle.ug_book.proofs.hand.take_hand.Goals as goal
 
 pub take-requires-clause-small : goal.take-requires-clause-small
@@ -21,4 +23,12 @@ returns-clause-places c =
     places_kept c.take.result c.objective.result.now c.root.result.now c.args.rank c.args.changes
     c.args.ranks.now c.take.new.ranks c.reserve.new.self c.take.new.pool c.args.raced.now
     c.requires.there c.requires.working
-    (omega (arith, ap (λ (q : Pooled). q.spare) c.in_ok-reserve.ensures.ok, c.nodes_out.ensures.value)) c.take.ensures.ok c.take.ensures.err
+    (omega (
+      arith,
+      ap (λ (q : Pooled). q.spare) c.in_ok-reserve.ensures.ok,
+      ap (λ (ss : List State). length ss) c.as_slice.ensures.value,
+      c.as_slice.ensures,
+      few_work c.args.ranks.now,
+      few_raced c.args.raced.now,
+    ))
+    c.take.ensures.ok c.take.ensures.err

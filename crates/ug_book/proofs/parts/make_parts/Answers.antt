@@ -96,7 +96,7 @@ returns-in_default-collect-clause-stands c = λ b under.
     c.in_default-collect.ensures.ranks refl
     (ap (λ (q : Queued). q.orders) c.in_default-collect.ensures.orders)
     ∙ given_.given_)
-    (c.standing.ensures few)
+    (c.standing.ensures.value few)
 
 pub returns-in-Ok-collect-clause-decided : goal.returns-in-Ok-collect-clause-decided
 returns-in-Ok-collect-clause-decided c = λ b under.
@@ -153,4 +153,4 @@ returns-in-Err-clause-stands c = λ b under.
     let count = lt_of c.in-Err.stopped.steps _ given_.count in
     let few = few_made b0 b1 b2 b3 cut told ended c.in-Err.stopped.steps count c.requires.few in
     some_made b0 b1 b2 b3 cut told ended c.in-Err.stopped.steps c.standing-in-Err.result b4 count
-    given_.given_ (c.standing-in-Err.ensures few)
+    given_.given_ (c.standing-in-Err.ensures.value few)

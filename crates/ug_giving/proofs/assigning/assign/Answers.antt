@@ -1,6 +1,8 @@
-use Rattle.std.proofs.Common.{◌∙◌, ap, arith}
+use Rattle.std.proofs.Common.{◌∙◌, ap, length, List, arith}
 use Rattle.ug_orders.specs.Queues.{Queued}
+use Rattle.ug_ranks.specs.declared.state.State.{State}
 use Rattle.ug_rules.specs.Deciding.{given_to}
+use Rattle.ug_deaths.proofs.Works.{few_work}
 use Rattle.ug_giving.specs.Stocks.{stock_of, with_stock}
 use Rattle.ug_giving.proofs.assigning.assign.Goals as goal
 
@@ -28,6 +30,8 @@ returns-clause-ok c = λ raced.
         spare,
         c.give_first.ensures.orders,
         c.give_first.ensures.ranks,
-        c.requires.working,
+        few_work c.args.ranks.now,
+        ap (λ (ss : List State). length ss) c.as_slice.ensures.value,
+        c.as_slice.ensures,
       );
     }

@@ -7,7 +7,7 @@ use Rattle.ug_rules.specs.State.{nodes_of}
 use Rattle.ug_rules.specs.Deciding.{collected, stopped_collecting}
 use Rattle.ug_notices.specs.Books.{CanBeTold, with_told}
 use Rattle.ug_notices.proofs.Asked.{asked_works}
-use Rattle.ug_notices.proofs.Counts.{few_work}
+use Rattle.ug_deaths.proofs.Works.{few_work}
 use Rattle.ug_notices.proofs.collecting.tell.Goals as goal
 
 pub overflow_add-working : goal.overflow_add-working

@@ -12,8 +12,8 @@ loop-rank-preserved c =
     let there : k < length ss = omega (
       arith,
       c.loop-rank-test.true,
-      ap (λ (xs : List State). length xs) c.as_slice.ensures.value,
-      c.as_slice.ensures,
+      ap (λ (xs : List State). length xs) c.as_slice-count.ensures.value,
+      c.as_slice-count.ensures,
     ) in
     c.in_ok-add_member.ensures
     ∙ (ap (λ (ms : List Member). ms ++ member_at k c.state.result.now) c.loop-rank.invariant

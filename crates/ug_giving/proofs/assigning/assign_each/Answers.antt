@@ -5,7 +5,7 @@ use Rattle.ug_ranks.specs.declared.state.State.{State}
 use Rattle.ug_giving.specs.Stocks.{Stock, stock_of}
 use Rattle.ug_giving.specs.Assigning.{HasAssignedPart, KeepsPlaces}
 use Rattle.ug_giving.proofs.Progress.{all_assigned, one_given, one_passed, part_assigned}
-use Rattle.ug_giving.proofs.assigning.assign_all.Goals as goal
+use Rattle.ug_giving.proofs.assigning.assign_each.Goals as goal
 
 pub can_be_assigned-requires : goal.can_be_assigned-requires
 can_be_assigned-requires c = omega (
@@ -24,19 +24,7 @@ loop-rank-preserved-then-not-can_be_assigned c = record {
       c.loop-rank.steps c.loop-rank.rank
       (λ can. false≢true (c.if-not-can_be_assigned.ensures.1 can))
       (c.loop-rank.invariant.made raced);
-  working = c.loop-rank.invariant.working;
-  small = c.loop-rank.invariant.small;
 }
-
-pub assign-requires-clause-small : goal.assign-requires-clause-small
-assign-requires-clause-small c = omega (
-  arith,
-  c.loop-rank-test.true,
-  c.as_slice.ensures,
-  c.requires.small,
-  c.loop-rank.invariant.small,
-  (c.loop-rank.invariant.made None).few,
-)
 
 pub returns-in_default-clause-err : goal.returns-in_default-clause-err
 returns-in_default-clause-err c = λ raced.
@@ -62,16 +50,6 @@ returns-in_default-clause-places c = λ raced.
     subst (λ (s : Stock). KeepsPlaces old s) (sym (c.in_default.ensures.err raced))
     (c.loop-rank.invariant.made raced).places
 
-pub overflow_add-working : goal.overflow_add-working
-overflow_add-working c = omega (
-  arith,
-  c.loop-rank-test.true,
-  c.as_slice.ensures,
-  c.requires.small,
-  c.loop-rank.invariant.small,
-  (c.loop-rank.invariant.made None).few,
-)
-
 pub overflow_add-steps : goal.overflow_add-steps
 overflow_add-steps c = omega (
   arith,
@@ -96,9 +74,6 @@ loop-rank-preserved c = record {
       ))
       (c.if-not-can_be_assigned.ensures.0 refl) (c.in-Ok.ensures.ok raced)
       (c.loop-rank.invariant.made raced);
-  working = omega
-      (arith, c.loop-rank.invariant.working, (c.in-Ok.ensures.ok None).working);
-  small = omega (arith, c.loop-rank.invariant.small);
 }
 
 pub returns-clause-ok : goal.returns-clause-ok

@@ -1,16 +1,12 @@
-use Rattle.std.proofs.Common.{◌≡◌, ◌+◌, length}
 use Rattle.std.specs.Prelude.{Option}
 use Rattle.ug_pool.specs.declared.entry.Entry.{Entry}
-use Rattle.ug_rules.specs.State.{nodes_of}
 use Rattle.ug_giving.specs.Stocks.{stock_of}
 use Rattle.ug_giving.proofs.Progress.{Progress}
-use Rattle.ug_giving.proofs.assigning.assign_all.Given as goal
+use Rattle.ug_giving.proofs.assigning.assign_each.Given as goal
 
 abbrev pub invariant-loop-rank : goal.invariant-loop-rank
 invariant-loop-rank l = record {
   made : (raced : Option Entry) → Progress l.terms
       (stock_of l.initial.pool l.initial.ranks raced l.initial.last l.initial.orders)
       (stock_of l.pool l.ranks raced l.last l.orders) l.steps l.rank;
-  working : l.working ≡ length (nodes_of l.ranks);
-  small : l.working ≡ l.initial.working + l.steps;
 }
