@@ -1,8 +1,8 @@
 //! The top call: a text in, an answer out.
-//! It stands on ug_io, ug_mps, ug_problem, ug_base and ug_book.
+//! It stands on ug_io for the outside, on ug_mps for what a text states, on ug_book for the coordinator
+//! and on ug_base, whose task is the work of its one rank.
 //! `run` does all that the program does: it reads the source, solves the problem that the bytes state and
-//! writes the lines of the answer to the sink. Its contract says what was written for each status, and when
-//! each status comes.
+//! writes the lines of the answer. Its contract says what was written for each status, and when each comes.
 #![tactic(auto)]
 
 mod command;
@@ -23,14 +23,8 @@ mod fault_texts;
 #[cfg(test)]
 mod long_texts;
 #[cfg(test)]
-mod replay;
-#[cfg(test)]
-mod schedules;
-#[cfg(test)]
 mod small_problems;
 #[cfg(test)]
 mod tests;
 #[cfg(test)]
 mod texts;
-#[cfg(test)]
-mod worked;
