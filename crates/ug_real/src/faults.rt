@@ -1,11 +1,29 @@
 ghost use Rattle.ug_io.specs.Outside.{Rose};
 
+use std::io;
 use ug_io::Failed;
 
-/// One fault more. The count stands still at its greatest value.
-pub fn rise(faults: &mut u64) -> Failed
-    ensures { Rose faults.old faults.new }
-{
-    *faults = faults.saturating_add(1);
-    Failed
+/// How many calls failed, and why the last of them did.
+#[derive(Drop)]
+pub struct Faults {
+    pub count: u64,
+    pub last: Option<io::Error>,
+}
+
+impl Faults {
+    pub fn new() -> Faults {
+        Faults {
+            count: 0,
+            last: None,
+        }
+    }
+
+    /// One fault more. The count stands still at its greatest value.
+    pub fn add(&mut self, error: io::Error) -> Failed
+        ensures { Rose self.old.count self.new.count }
+    {
+        self.count = self.count.saturating_add(1);
+        self.last = Some(error);
+        Failed
+    }
 }

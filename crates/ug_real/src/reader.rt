@@ -1,7 +1,8 @@
 ghost use Rattle.std.specs.Prelude.{None};
 
-use crate::faults::rise;
+use crate::faults::Faults;
 use std::fs::OpenOptions;
+use std::io;
 use std::io::Read;
 use std::rt::Files;
 use ug_io::{Failed, Source};
@@ -12,7 +13,7 @@ pub struct Reader<'a, R: Files> {
     rt: &'a R,
     path: &'a str,
     file: Option<R::File>,
-    faults: u64,
+    faults: Faults,
 }
 
 impl<'a, R: Files> Reader<'a, R> {
@@ -21,29 +22,34 @@ impl<'a, R: Files> Reader<'a, R> {
             rt,
             path,
             file: None,
-            faults: 0,
+            faults: Faults::new(),
         }
+    }
+
+    /// Why the last call failed that did, in the system's words.
+    pub fn error(&self) -> Option<&io::Error> {
+        self.faults.last.as_ref()
     }
 }
 
 impl<R: Files> Source for Reader<'_, R> {
     ghost left = { λ _. None };
 
-    ghost faults = { λ r. r.faults };
+    ghost faults = { λ r. r.faults.count };
 
     fn read(&mut self, buffer: &mut [u8]) -> Result<usize, Failed> {
         if self.file.is_none() {
             match OpenOptions::new().read(true).open(self.rt, self.path) {
                 Ok(file) => self.file = Some(file),
-                Err(_) => return Err(rise(&mut self.faults)),
+                Err(error) => return Err(self.faults.add(error)),
             }
         }
         match &mut self.file {
             Some(file) => match file.read(buffer) {
                 Ok(n) => Ok(n),
-                Err(_) => Err(rise(&mut self.faults)),
+                Err(error) => Err(self.faults.add(error)),
             },
-            None => Err(rise(&mut self.faults)),
+            None => Err(self.faults.add(io::Error::from(io::ErrorKind::NotFound))),
         }
     }
 }

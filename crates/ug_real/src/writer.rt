@@ -1,6 +1,7 @@
 ghost use Rattle.std.specs.Prelude.{None};
 
-use crate::faults::rise;
+use crate::faults::Faults;
+use std::io;
 use std::io::Write;
 use ug_io::{Failed, Sink};
 
@@ -8,25 +9,35 @@ use ug_io::{Failed, Sink};
 #[derive(Drop)]
 pub struct Writer<W: Write + Drop> {
     to: W,
-    faults: u64,
+    faults: Faults,
 }
 
 impl<W: Write + Drop> Writer<W> {
     pub fn new(to: W) -> Writer<W> {
-        Writer { to, faults: 0 }
+        Writer {
+            to,
+            faults: Faults::new(),
+        }
+    }
+
+    /// Why the last call failed that did, in the system's words.
+    pub fn error(&self) -> Option<&io::Error> {
+        self.faults.last.as_ref()
     }
 }
 
 impl<W: Write + Drop> Sink for Writer<W> {
     ghost written = { λ _. None };
 
-    ghost faults = { λ w. w.faults };
+    ghost faults = { λ w. w.faults.count };
 
     fn write(&mut self, bytes: &[u8]) -> Result<usize, Failed> {
         match self.to.write(bytes) {
-            Ok(0) if !bytes.is_empty() => Err(rise(&mut self.faults)),
+            Ok(0) if !bytes.is_empty() => {
+                Err(self.faults.add(io::Error::from(io::ErrorKind::WriteZero)))
+            }
             Ok(n) => Ok(n),
-            Err(_) => Err(rise(&mut self.faults)),
+            Err(error) => Err(self.faults.add(error)),
         }
     }
 }
