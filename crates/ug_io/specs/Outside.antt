@@ -2,9 +2,9 @@
 use Rattle.std.specs.Prelude.{◌≡◌, ℕ, ◌-◌, ◌<◌, ◌≤◌, ◌^◌, ◌⊎◌, List, [], ◌++◌, Option, IfSome}
 use Rattle.std.specs.Option.{option_map}
 
--- the count of faults rose; one that stands at its greatest value counts as risen
+-- the count of faults rose; one that stands at its greatest value stays, and counts as risen
 abbrev pub Rose : ℕ → ℕ → Type 0
-Rose old new = (old < new) ⊎ (2 ^ 64 - 1 ≤ old)
+Rose old new = (old < new) ⊎ ((2 ^ 64 - 1 ≤ old) × (new ≡ old))
 
 -- no fault rose: the count stayed, below its greatest value
 pub record IsCalm (old new : ℕ) : Type 0 where

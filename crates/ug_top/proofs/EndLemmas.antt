@@ -49,7 +49,17 @@ end_lines one boxed (Some bytes) text Memory h e = record { lines = refl; fault 
 -- a fault that rose leaves no calm
 not_calm : (old new : ℕ) → Rose old new → IsCalm old new → ⊥
 not_calm old new (inl h) c = let same = c.same in absurd (omega arith)
-not_calm old new (inr h) c = let small = c.small in absurd (omega arith)
+not_calm old new (inr h) c = absurd (omega (arith, h.0, c.small))
+
+-- a count that rose did not fall, nor did it where the work ended
+pub rose_rises : (old new : ℕ) → Rose old new → old ≤ new
+rose_rises old new (inl h) = omega (arith, h)
+rose_rises old new (inr h) = omega (arith, h.1)
+
+pub work_rises : (end : End) (old new : ℕ) → (end ≡ ReadFault → Rose old new) → (end ≡ ReadFault) ⊎ (new ≡ old)
+    → old ≤ new
+work_rises end old new fault (inl is) = rose_rises old new (fault is)
+work_rises end old new fault (inr same) = omega (arith, same)
 
 -- the end with the status of a read fault
 is_read_fault : (end : End) → status_of end ≡ statuses.ReadFault → end ≡ ReadFault

@@ -45,6 +45,10 @@ pub fn run<R, S: Source, K: Sink>(
     ensures write_fault { result ≡ Status.WriteFault → Rose (K.faults out.old) (K.faults out.new) }
     ensures sink { K.faults out.old < K.faults out.new → result ≡ Status.WriteFault }
 
+    // No count of faults falls.
+    ensures input_rises { S.faults input.old ≤ S.faults input.new }
+    ensures out_rises { K.faults out.old ≤ K.faults out.new }
+
     // Without a fault of the outside a first fault of the bytes is told, and a problem is answered.
     ensures refused { (file bytes : List ℕ) (boxed : Option ℕ) (f : MpsFault) → IsSolve words.now file boxed → S.left input.old ≡ Some bytes → FirstFault bytes boxed f
         → IsCalm (S.faults input.old) (S.faults input.new) → IsCalm (K.faults out.old) (K.faults out.new)
@@ -60,6 +64,7 @@ pub fn run<R, S: Source, K: Sink>(
 }
 
 // Reads the source, solves the problem that its bytes state under the box, and writes the lines of the answer.
+#[tactic(auto, using(crate::proofs::EndLemmas::rose_rises, crate::proofs::EndLemmas::work_rises))]
 fn obey<S: Source, K: Sink>(alloc: Global, boxed: Option<u32>, input: &mut S, out: &mut K) -> Status
     requires { IfSome boxed (λ u. u ≤ 10 ^ 9) }
     ensures lines { Wrote boxed (S.left input.old) (S.faults input.old) (S.faults input.new) (K.written out.old) (K.written out.new) result }
@@ -68,6 +73,8 @@ fn obey<S: Source, K: Sink>(alloc: Global, boxed: Option<u32>, input: &mut S, ou
     ensures source { S.faults input.old < S.faults input.new → (result ≡ Status.ReadFault) ⊎ (result ≡ Status.WriteFault) }
     ensures write_fault { result ≡ Status.WriteFault → Rose (K.faults out.old) (K.faults out.new) }
     ensures sink { K.faults out.old < K.faults out.new → result ≡ Status.WriteFault }
+    ensures input_rises { S.faults input.old ≤ S.faults input.new }
+    ensures out_rises { K.faults out.old ≤ K.faults out.new }
     ensures refused { (bytes : List ℕ) (f : MpsFault) → S.left input.old ≡ Some bytes → FirstFault bytes boxed f
         → IsCalm (S.faults input.old) (S.faults input.new) → IsCalm (K.faults out.old) (K.faults out.new)
         → (result ≡ Status.Refused) ⊎ (result ≡ Status.Memory) }
