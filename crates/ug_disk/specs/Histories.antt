@@ -1,4 +1,5 @@
--- A disk of two slots, and what became of it so far.
+-- A disk of two slots, and what became of it so far, call by call. A crash during a call leaves
+-- what it may leave before the call or after it.
 use Rattle.std.specs.Prelude.{◌≡◌, ◌⊎◌, ℕ, List, ◌∷◌, Option, IfSome}
 use Rattle.std.specs.Option.{option_map}
 use Rattle.ug_disk.specs.declared.slot.Slot.{Slot}

@@ -1,14 +1,14 @@
 use crate::slot::{Slot, Span};
 
 /// What is kept of a change of a slot, so that it can be told what the slot was before.
-#[derive(Debug, Drop)]
+#[derive(Drop)]
 pub struct Change {
     pub slot: Slot,
     pub kept: Kept,
 }
 
 /// What a change took from a slot.
-#[derive(Debug, Drop)]
+#[derive(Drop)]
 pub enum Kept {
     /// A write, or one that failed on its way: the bytes in its place, and the greatest length.
     Bytes {

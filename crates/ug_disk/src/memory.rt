@@ -17,7 +17,7 @@ use ug_io::Failed;
 /// Two slots of bytes in memory. It keeps what is pending and what each change took away, so it
 /// tells all that a disk tells. Its calls fail where its script says, or where memory is wanting,
 /// and all of them once it has stopped.
-#[derive(Debug, Drop)]
+#[derive(Drop)]
 pub struct MemoryDisk {
     alloc: Global,
     slots: StoredSlots,

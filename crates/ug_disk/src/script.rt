@@ -4,14 +4,14 @@ ghost use Rattle.ug_io.specs.Outside.{Rose};
 ghost use Rattle.ug_disk.specs.Scripts.{IsTurn};
 
 /// Which calls of a disk in memory fail, and after which calls it stops. Calls are counted from 1.
-#[derive(Debug, Drop)]
+#[derive(Drop)]
 pub struct Script {
     pub failing: Vec<u64>,
     pub stopping: Vec<u64>,
 }
 
 /// The calls of a disk in memory so far.
-#[derive(Debug, Drop)]
+#[derive(Drop)]
 pub struct Calls {
     pub script: Script,
     pub count: u64,

@@ -9,7 +9,7 @@ use std::marker::Model;
 use std::mem;
 
 /// A slot in memory.
-#[derive(Debug, Drop)]
+#[derive(Drop)]
 pub struct Stored {
     bytes: Vec<u8>,
     shortest: u64,
@@ -38,7 +38,7 @@ impl Model for Stored {
 }
 
 /// The two slots in memory.
-#[derive(Debug, Drop)]
+#[derive(Drop)]
 pub struct StoredSlots {
     pub zero: Stored,
     pub one: Stored,
