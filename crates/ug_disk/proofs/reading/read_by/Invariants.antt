@@ -1,0 +1,15 @@
+use Rattle.std.proofs.Common.{◌≡◌, ◌-◌, ◌^◌, ◌<◌, vec_len, length, take}
+use Rattle.ug_disk.specs.Histories.{Reads}
+use Rattle.ug_disk.proofs.reading.read_by.Given as goal
+
+abbrev pub invariant-loop-bytes : goal.invariant-loop-bytes
+invariant-loop-bytes g l = record {
+  same : g.D.Disk.told l.disk ≡ g.D.Disk.told l.initial.disk;
+  came : Reads (g.D.Disk.told l.initial.disk) l.slot (λ there. l.bytes.items ≡ take
+      (vec_len l.bytes) there);
+  room : 0 < length l.buffer;
+  calm : g.D.Disk.faults l.disk ≡ g.D.Disk.faults l.initial.disk;
+}
+
+abbrev pub decreases-loop-bytes : goal.decreases-loop-bytes
+decreases-loop-bytes g l = 2 ^ 64 - vec_len l.bytes

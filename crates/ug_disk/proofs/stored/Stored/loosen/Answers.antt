@@ -1,0 +1,12 @@
+use Rattle.std.proofs.Common.{rules, ◌+◌, length}
+use Rattle.ug_disk.proofs.Restores.{restores_loosened}
+use Rattle.ug_disk.proofs.stored.Stored.loosen.Goals as goal
+
+pub returns-clause-kept : goal.returns-clause-kept
+returns-clause-kept c =
+    let slot = c.self.inside in
+    restores_loosened slot.bytes.items slot.loose.items c.push.new.self.items slot.shortest
+    slot.longest
+    c.args.self.now c.args.at c.args.piece.now c.in_ok-copy.field-0.items
+    (record { from = c.args.at; end = c.args.at + length c.args.piece.now })
+    c.self.view_is (search rules) (search rules)

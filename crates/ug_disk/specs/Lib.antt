@@ -1,0 +1,6 @@
+pub mod Crashes
+pub mod Histories
+pub mod Laws
+pub mod Memories
+pub mod Scripts
+pub mod Slots

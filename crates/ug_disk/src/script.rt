@@ -1,0 +1,94 @@
+ghost use Rattle.std.specs.Prelude.{◌≡◌, ◌≤◌, ◌⊎◌, ◌↔◌, false, IsTrue};
+ghost use Rattle.std.specs.List.{Contains};
+ghost use Rattle.ug_io.specs.Outside.{Rose};
+ghost use Rattle.ug_disk.specs.Scripts.{IsTurn};
+
+/// Which calls of a disk in memory fail, and after which calls it stops. Calls are counted from 1.
+#[derive(Drop)]
+pub struct Script {
+    pub failing: Vec<u64>,
+    pub stopping: Vec<u64>,
+}
+
+/// The calls of a disk in memory so far.
+#[derive(Drop)]
+pub struct Calls {
+    pub script: Script,
+    pub count: u64,
+    pub faults: u64,
+    pub is_stopped: bool,
+}
+
+/// What becomes of a call.
+#[derive(Clone, Copy, Debug, PartialEq, Eq)]
+pub enum Turn {
+    /// It is made.
+    Goes,
+    /// It fails on its way.
+    Fails,
+    /// The disk has stopped, and nothing is done.
+    Stopped,
+}
+
+impl Calls {
+    /// No call yet.
+    pub fn new(script: Script) -> Calls
+        ensures { result ≡ record { script = script; count = 0; faults = 0; is_stopped = false } }
+    {
+        Calls {
+            script,
+            count: 0,
+            faults: 0,
+            is_stopped: false,
+        }
+    }
+
+    /// One call more, and what becomes of it.
+    pub fn next(&mut self) -> Turn
+        ensures turn { IsTurn self.old self.new.count result }
+        ensures stops { IsTrue self.new.is_stopped
+            ↔ (IsTrue self.old.is_stopped
+            ⊎ Contains self.old.script.stopping.items self.new.count) }
+        ensures goes { result ≡ Turn.Goes → self.new.faults ≡ self.old.faults }
+        ensures fails { (result ≡ Turn.Goes → ⊥) → Rose self.old.faults self.new.faults }
+        ensures never_falls { self.old.faults ≤ self.new.faults }
+    {
+        self.count = self.count.saturating_add(1);
+        let turn = self.turn();
+        let stops = self.script.stopping.contains(&self.count);
+        self.is_stopped |= stops;
+        if turn != Turn::Goes {
+            self.fail();
+        }
+        turn
+    }
+
+    // What becomes of the call of this number.
+    fn turn(&self) -> Turn
+        ensures { IsTurn self.now self.now.count result }
+    {
+        if self.is_stopped {
+            Turn::Stopped
+        } else if self.script.failing.contains(&self.count) {
+            Turn::Fails
+        } else {
+            Turn::Goes
+        }
+    }
+
+    /// One fault more.
+    pub fn fail(&mut self)
+        ensures rose { Rose self.old.faults self.new.faults }
+        ensures never_falls { self.old.faults ≤ self.new.faults }
+        ensures others { self.new ≡ record self.old { faults = self.new.faults } }
+    {
+        self.faults = self.faults.saturating_add(1);
+    }
+
+    /// Calls go on.
+    pub fn resume(&mut self)
+        ensures { self.new ≡ record self.old { is_stopped = false } }
+    {
+        self.is_stopped = false;
+    }
+}

@@ -1,0 +1,81 @@
+ghost use Rattle.std.specs.Prelude.{◌≡◌, ◌≤◌, length, IfOk, OnErr};
+ghost use Rattle.ug_disk.specs.Slots.{IsReal, synced, loosened, written};
+ghost use Rattle.ug_disk.specs.Histories.{slot_of};
+ghost use Rattle.ug_disk.specs.Memories.{HasChanged, slots_of};
+
+use crate::change::Change;
+use crate::slot::Slot;
+use crate::stored::{Stored, StoredSlots};
+use std::alloc::{AllocError, Global};
+
+impl StoredSlots {
+    /// Slots of these bytes, with nothing pending.
+    pub fn new(alloc: Global, zero: Vec<u8>, one: Vec<u8>) -> StoredSlots
+        ensures { slots_of result ≡ record { zero = synced zero.items; one = synced one.items } }
+    {
+        StoredSlots {
+            zero: Stored::new(alloc, zero),
+            one: Stored::new(alloc, one),
+        }
+    }
+
+    /// What a read of the slot gives.
+    pub fn bytes(&self, slot: Slot) -> &[u8]
+        ensures bytes { result.now ≡ (slot_of slot (slots_of self.now)).bytes }
+    {
+        match slot {
+            Slot::Zero => self.zero.bytes(),
+            Slot::One => self.one.bytes(),
+        }
+    }
+
+    /// Writes over the slot's bytes.
+    pub fn write(
+        &mut self,
+        alloc: Global,
+        slot: Slot,
+        at: u64,
+        piece: &[u8],
+    ) -> Result<Change, AllocError>
+        requires { at ≤ length (slot_of slot (slots_of self.old)).bytes }
+        ensures ok { IfOk result (HasChanged slot (written at piece.now) self.old self.new) }
+        ensures err { OnErr result (self.new ≡ self.old) }
+    {
+        let kept = match slot {
+            Slot::Zero => self.zero.write(alloc, at, piece)?,
+            Slot::One => self.one.write(alloc, at, piece)?,
+        };
+        Ok(Change { slot, kept })
+    }
+
+    /// What a write does that fails on its way.
+    pub fn loosen(
+        &mut self,
+        alloc: Global,
+        slot: Slot,
+        at: u64,
+        piece: &[u8],
+    ) -> Result<Change, AllocError>
+        requires { at ≤ length (slot_of slot (slots_of self.old)).bytes }
+        ensures ok { IfOk result (HasChanged slot (loosened at (length piece.now))
+            self.old self.new) }
+        ensures err { OnErr result (self.new ≡ self.old) }
+    {
+        let kept = match slot {
+            Slot::Zero => self.zero.loosen(alloc, at, piece)?,
+            Slot::One => self.one.loosen(alloc, at, piece)?,
+        };
+        Ok(Change { slot, kept })
+    }
+
+    /// Nothing is pending in the slot any more.
+    pub fn sync(&mut self, alloc: Global, slot: Slot) -> Change
+        ensures { HasChanged slot (λ state. synced state.bytes) self.old self.new result }
+    {
+        let kept = match slot {
+            Slot::Zero => self.zero.sync(alloc),
+            Slot::One => self.one.sync(alloc),
+        };
+        Change { slot, kept }
+    }
+}
