@@ -1,0 +1,195 @@
+-- A schedule that is played is a course of the rules.
+use Rattle.std.proofs.Common.{◌≡◌, ◌≢◌, ℕ, zero, suc, ◌+◌, ◌<◌, ◌≤◌, List, [], ◌∷◌, ◌++◌, length, take, refl, ap, sym, ◌∙◌, subst, arith}
+use Rattle.std.specs.Prelude.{Some, slice_get}
+use Rattle.std.proofs.lemmas.List.{append-nil, append_assoc, length-append}
+use Rattle.std.proofs.lemmas.Option.{none-some, same_Some, slice_get_past, slice_get_within}
+use Rattle.ug_frames.specs.declared.report.Report.{Report}
+use Rattle.ug_rules.specs.State.{BookState}
+use Rattle.ug_rules.specs.declared.heard.Heard.{Heard}
+use Rattle.ug_rules.specs.declared.heard.Heard.TheVariants.{Memory as NoMemory}
+use Rattle.ug_rules.specs.Hearing.{IsDue, after_hearing}
+use Rattle.ug_rules.specs.HearingLaws.{HasRisingChanges}
+use Rattle.ug_world.specs.declared.event.Event.{Event}
+use Rattle.ug_world.specs.declared.event.Event.TheVariants.{Send, Hear, Join, Gone, Decide}
+use Rattle.ug_world.specs.declared.playing.Halt.{Halt}
+use Rattle.ug_world.specs.declared.playing.Halt.TheVariants.{NoSuch, Memory}
+use Rattle.ug_world.specs.declared.schedule.Played.{Played}
+use Rattle.ug_world.specs.Events.{IsMissing, report_of, sent_by}
+use Rattle.ug_world.specs.Worlds.{Happens, IsCourse, IsHeard, World, end_of, opening}
+use Rattle.ug_world.specs.Plays.{AreAllThere, IsAfter, IsLeftBy, IsPlayed, IsStopped}
+use Rattle.ug_world.specs.Halts.{IsHalted, fault_of}
+
+-- the events happened, one after another, and lead to this world
+pub record IsUnderWay (b : BookState) (events : List Event) (world : World) : Type 0 where
+  pub course : List World
+  pub happened : IsCourse (opening b []) events course
+  pub ends : end_of (opening b []) course ≡ world
+  pub wide : length world.book.ranks ≡ length b.ranks
+
+-- ---- one event more
+
+course_more : (old new : World) (events : List Event) (event : Event) (course : List World)
+    → IsCourse old events course → Happens (end_of old course) event new
+    → IsCourse old (events ++ event ∷ []) (course ++ new ∷ [])
+course_more old new [] event [] t h = (h, tt)
+course_more old new (first ∷ events) event (next ∷ course) t h =
+    (t.0, course_more next new events event course t.1 h)
+course_more old new [] event (next ∷ course) t h = absurd t
+course_more old new (first ∷ events) event [] t h = absurd t
+
+end_more : (old new : World) (course : List World) → end_of old (course ++ new ∷ []) ≡ new
+end_more old new [] = refl
+end_more old new (next ∷ course) = end_more next new course
+
+pub under_way_more : (b : BookState) (old new : World) (events : List Event) (event : Event)
+    → IsUnderWay b events old → Happens old event new
+    → length new.book.ranks ≡ length old.book.ranks → IsUnderWay b (events ++ event ∷ []) new
+under_way_more b old new events event t h wide = record {
+  course = t.course ++ new ∷ [];
+  happened = course_more (opening b []) new events event t.course t.happened
+      (subst (λ w. Happens w event new) (sym t.ends) h);
+  ends = end_more (opening b []) new t.course;
+  wide = wide ∙ t.wide;
+}
+
+-- ---- what was sent
+
+sends : (old new : World) (event : Event) → Happens old event new
+    → new.sent ≡ old.sent ++ report_of event
+sends old new (Send report) e = ap (λ (w : World). w.sent) e
+sends old new (Hear place rank) t =
+    ap (λ (w : World). w.sent) t.done ∙ sym (append-nil old.sent)
+sends old new (Join rank) e = ap (λ (w : World). w.sent) e ∙ sym (append-nil old.sent)
+sends old new (Gone rank) e = ap (λ (w : World). w.sent) e ∙ sym (append-nil old.sent)
+sends old new Decide t = ap (λ (w : World). w.sent) t.rest ∙ sym (append-nil old.sent)
+
+pub sent_so : (old : World) (events : List Event) (course : List World)
+    → IsCourse old events course → (end_of old course).sent ≡ old.sent ++ sent_by events
+sent_so old [] [] t = sym (append-nil old.sent)
+sent_so old (event ∷ events) (new ∷ course) t =
+    sent_so new events course t.1
+    ∙ (ap (λ reports. reports ++ sent_by events) (sends old new event t.0)
+    ∙ append_assoc old.sent (report_of event) (sent_by events))
+sent_so old [] (new ∷ course) t = absurd t
+sent_so old (event ∷ events) [] t = absurd t
+
+-- ---- what was heard was sent
+
+-- event k hears at this place, and so many were sent earlier
+record IsMissingFrom (earlier : ℕ) (events : List Event) (k place : ℕ) : Type 0 where
+  rank : ℕ
+  hears : slice_get events k ≡ Some (Hear place rank)
+  few : earlier + length (sent_by (take k events)) ≤ place
+
+-- no event before the last of a course hears where nothing was sent
+none_from : (old : World) (events : List Event) (done : ℕ) (course : List World)
+    → IsCourse old (take done events) course → (k place : ℕ) → k < done
+    → IsMissingFrom (length old.sent) events k place → ⊥
+none_from old events zero course t k place l m = omega (arith, l)
+none_from old [] (suc done) course t k place l m = none-some _ m.hears
+none_from old (event ∷ events) (suc done) [] t k place l m = t
+none_from old (event ∷ events) (suc done) (new ∷ course) t zero place l m =
+    let is : event ≡ Hear place m.rank = same_Some event (Hear place m.rank) m.hears in
+    let heard = subst (λ e. Happens old e new) is t.0 in
+    let there = slice_get_within old.sent place heard.report heard.there in
+    omega (arith, there, m.few)
+none_from old (event ∷ events) (suc done) (new ∷ course) t (suc k) place l m =
+    let sent = ap (λ (reports : List Report). length reports) (sends old new event t.0) in
+    let parts = length-append old.sent (report_of event) in
+    let all = length-append (report_of event) (sent_by (take k events)) in
+    none_from new events done course t.1 k place (omega (arith, l)) (record {
+      rank = m.rank;
+      hears = m.hears;
+      few = omega (arith, m.few, sent, parts, all);
+    })
+
+pub none_before : (b : BookState) (events : List Event) (done : ℕ) (course : List World)
+    → IsCourse (opening b []) (take done events) course → (k place : ℕ) → k < done
+    → IsMissing events k place → ⊥
+none_before b events done course t k place l m =
+    none_from (opening b []) events done course t k place l
+    (record { rank = m.rank; hears = m.hears; few = omega (arith, m.few) })
+
+-- ---- the end of a play
+
+module _ (b : BookState) (events : List Event) (done : ℕ) (old : World)
+    (t : IsUnderWay b (take done events) old) where
+  -- the next event left what it left
+  pub after_so : (new : BookState) → IsLeftBy (slice_get events done) old.book new
+      → IsAfter b events done t.course new
+  after_so new left = record {
+    happened = t.happened;
+    stands = subst (λ w. IsLeftBy (slice_get events done) w.book new) (sym t.ends) left;
+  }
+
+  few_sent : length (sent_by (take done events)) ≡ length old.sent
+  few_sent = ap (λ (reports : List Report). length reports)
+      (sym (sent_so (opening b []) (take done events) t.course t.happened)
+      ∙ ap (λ (w : World). w.sent) t.ends)
+
+  -- it halted
+  pub halted_so : (new : World) (event : Event) (halt : Halt) → done < length events
+      → slice_get events done ≡ Some event → IsHalted old event new halt
+      → IsStopped b events (fault_of halt done new.book)
+  halted_so new event (NoSuch place) l is h =
+      let next = is ∙ ap Some h.0.hears in
+      record {
+        done = done;
+        course = t.course;
+        after = after_so new.book (subst (λ o. IsLeftBy o old.book new.book) (sym next)
+            (ap (λ (w : World). w.book) h.1));
+        missing = record {
+          rank = h.0.rank;
+          hears = next;
+          few = omega (arith, few_sent, h.0.few);
+        };
+        first = λ k other before. none_before b events done t.course t.happened k other before;
+      }
+  halted_so new event Memory l is h = record {
+    there = l;
+    course = t.course;
+    after = after_so new.book (subst (λ o. IsLeftBy o old.book new.book) (sym is) h);
+  }
+
+-- all of the events happened
+module _ (b : BookState) (events : List Event) (done : ℕ) (world : World)
+    (t : IsUnderWay b (take done events) world) (all : done ≡ length events) where
+  whole : IsUnderWay b (take (length events) events) world
+  whole = subst (λ n. IsUnderWay b (take n events) world) all t
+
+  pub played_so : (played : Played) → played.book ≡ world.book → played.replies ≡ world.replies
+      → IsPlayed b events played
+  played_so played book replies = record {
+    course = whole.course;
+    after = after_so b events (length events) world whole played.book
+        (subst (λ o. IsLeftBy o world.book played.book)
+        (sym (slice_get_past events (length events) (omega arith))) book);
+    replies = replies ∙ sym (ap (λ (w : World). w.replies) whole.ends);
+  }
+
+  pub all_there : AreAllThere events
+  all_there k place m =
+      none_before b events (length events) whole.course whole.happened k place
+      (slice_get_within events k (Hear place m.rank) m.hears) m
+
+-- ---- one report heard
+
+pub heard_so : (old : World) (place rank : ℕ) (report : Report) (answer : Heard)
+    (book : BookState) (replies : List Heard)
+    → slice_get old.sent place ≡ Some report → HasRisingChanges report
+    → IsDue old.book rank report answer → answer ≢ NoMemory
+    → book ≡ after_hearing answer rank report old.book → replies ≡ old.replies ++ answer ∷ []
+    → IsHeard old place rank (record old { book = book; replies = replies })
+heard_so old place rank report answer book replies there rising due enough is are = record {
+  report = report;
+  answer = answer;
+  there = there;
+  rising = rising;
+  due = due;
+  enough = enough;
+  done = ap (λ (b : BookState). record old { book = b; replies = replies }) is
+      ∙ ap (λ (all : List Heard). record old {
+        book = after_hearing answer rank report old.book;
+        replies = all;
+      }) are;
+}

@@ -1,0 +1,72 @@
+-- What a schedule that was played leaves.
+use Rattle.std.specs.Prelude.{◌≡◌, ℕ, ◌<◌, List, [], length, take, All, Option, Some, None, Result, Ok, Err, slice_get}
+use Rattle.ug_rules.specs.State.{BookState}
+use Rattle.ug_rules.specs.Deciding.{Stands}
+use Rattle.ug_world.specs.declared.event.Event.{Event}
+use Rattle.ug_world.specs.declared.event.Event.TheVariants.{Send, Hear, Join, Gone, Decide}
+use Rattle.ug_world.specs.declared.schedule.Played.{Played}
+use Rattle.ug_world.specs.declared.schedule.PlayFault.{PlayFault}
+use Rattle.ug_world.specs.declared.schedule.PlayFault.TheVariants.{NoSuch, Memory}
+use Rattle.ug_world.specs.Events.{IsMissing}
+use Rattle.ug_world.specs.Worlds.{IsCourse, World, end_of, opening}
+use Rattle.ug_world.specs.Honest.{IsHonest}
+use Rattle.ug_world.specs.Laws.{LosesNothing}
+
+-- what stands of the next event, where there is one: so many steps of a decision that memory ended,
+-- and nothing where a report is not sent or not heard; no rank fails to join or to die
+abbrev pub IsLeftBy : Option Event → BookState → BookState → Type 0
+IsLeftBy None old new = new ≡ old
+IsLeftBy (Some (Send report)) old new = new ≡ old
+IsLeftBy (Some (Hear place rank)) old new = new ≡ old
+IsLeftBy (Some (Join rank)) old new = ⊥
+IsLeftBy (Some (Gone rank)) old new = ⊥
+IsLeftBy (Some Decide) old new = (steps : ℕ) × Stands steps old new
+
+-- so many of the events happened to the book, with nothing sent earlier, and this is what stands
+pub record IsAfter (b : BookState) (events : List Event) (done : ℕ) (course : List World)
+    (left : BookState) : Type 0 where
+  pub happened : IsCourse (opening b []) (take done events) course
+  pub stands : IsLeftBy (slice_get events done) (end_of (opening b []) course).book left
+
+-- all of the events happened
+pub record IsPlayed (b : BookState) (events : List Event) (played : Played) : Type 0 where
+  pub course : List World
+  pub after : IsAfter b events (length events) course played.book
+  pub replies : played.replies ≡ (end_of (opening b []) course).replies
+
+-- so many events happened, and the next is the first that hears a report where none was sent
+pub record IsNoSuch (b : BookState) (events : List Event) (place : ℕ) (left : BookState)
+    : Type 0 where
+  pub done : ℕ
+  pub course : List World
+  pub after : IsAfter b events done course left
+  pub missing : IsMissing events done place
+  pub first : (k other : ℕ) → k < done → ¬ IsMissing events k other
+
+-- so many events happened, and memory ended the next
+pub record IsOutOfMemory (b : BookState) (events : List Event) (done : ℕ) (left : BookState)
+    : Type 0 where
+  pub there : done < length events
+  pub course : List World
+  pub after : IsAfter b events done course left
+
+-- why not all of the events happened
+abbrev pub IsStopped : BookState → List Event → PlayFault → Type 0
+IsStopped b events (NoSuch place left) = IsNoSuch b events place left
+IsStopped b events (Memory left done) = IsOutOfMemory b events done left
+
+-- no event hears a report where none was sent
+abbrev pub AreAllThere : List Event → Type 0
+AreAllThere events = (k place : ℕ) → ¬ IsMissing events k place
+
+-- the book that a play leaves
+abbrev pub book_left : Result Played PlayFault → BookState
+book_left (Ok played) = played.book
+book_left (Err (NoSuch place left)) = left
+book_left (Err (Memory left done)) = left
+
+-- as long as solvers are honest, no better point is lost, wherever the play stopped
+abbrev pub HonestLeave : BookState → List Event → BookState → Type 0
+HonestLeave b events left =
+    (done : ℕ) (course : List World) → IsAfter b events done course left
+    → All IsHonest course → LosesNothing left

@@ -1,0 +1,64 @@
+-- What is so between two events, and what an event does: the rules of the coordinator, and the list
+-- of what was sent.
+use Rattle.std.specs.Prelude.{◌≡◌, ◌≢◌, ℕ, List, [], ◌∷◌, ◌++◌, Some, slice_get}
+use Rattle.ug_frames.specs.declared.report.Report.{Report}
+use Rattle.ug_frames.specs.declared.report.Report.TheVariants.{Ready}
+use Rattle.ug_rules.specs.declared.heard.Heard.{Heard}
+use Rattle.ug_rules.specs.declared.heard.Heard.TheVariants.{Memory}
+use Rattle.ug_rules.specs.State.{BookState}
+use Rattle.ug_rules.specs.Deaths.{killed}
+use Rattle.ug_rules.specs.Deciding.{IsDecided}
+use Rattle.ug_rules.specs.Hearing.{IsDue, after_hearing, kept}
+use Rattle.ug_rules.specs.HearingLaws.{HasRisingChanges}
+use Rattle.ug_world.specs.declared.event.Event.{Event}
+use Rattle.ug_world.specs.declared.event.Event.TheVariants.{Send, Hear, Join, Gone, Decide}
+
+-- the book, the reports that were sent, and what those that were heard were answered, each with the
+-- earliest first
+pub record World : Type 0 where
+  pub book : BookState
+  pub sent : List Report
+  pub replies : List Heard
+
+-- before the first event: these reports were sent earlier, as those of earlier runs
+abbrev pub opening : BookState → List Report → World
+opening b earlier = record { book = b; sent = earlier; replies = [] }
+
+-- the report at this place, whose changes rise as their type has it, is heard from a rank and gets
+-- the answer that is due, which is not that memory ran out; it stays among those that were sent
+pub record IsHeard (old : World) (place rank : ℕ) (new : World) : Type 0 where
+  pub report : Report
+  pub answer : Heard
+  pub there : slice_get old.sent place ≡ Some report
+  pub rising : HasRisingChanges report
+  pub due : IsDue old.book rank report answer
+  pub enough : answer ≢ Memory
+  pub done : new ≡ record old {
+    book = after_hearing answer rank report old.book;
+    replies = old.replies ++ answer ∷ [];
+  }
+
+-- the coordinator decides
+pub record HasDecided (old new : World) : Type 0 where
+  pub decided : IsDecided old.book new.book
+  pub rest : new ≡ record old { book = new.book }
+
+-- what an event does. A rank that joins does what one does whose Ready is kept
+abbrev pub Happens : World → Event → World → Type 0
+Happens old (Send report) new = new ≡ record old { sent = old.sent ++ report ∷ [] }
+Happens old (Hear place rank) new = IsHeard old place rank new
+Happens old (Join rank) new = new ≡ record old { book = kept rank Ready old.book }
+Happens old (Gone rank) new = new ≡ record old { book = killed rank old.book }
+Happens old Decide new = HasDecided old new
+
+-- the worlds after each of the events, one after another
+abbrev pub IsCourse : World → List Event → List World → Type 0
+IsCourse old [] [] = Unit {0}
+IsCourse old (event ∷ events) (new ∷ course) = Happens old event new × IsCourse new events course
+IsCourse old [] (new ∷ course) = ⊥
+IsCourse old (event ∷ events) [] = ⊥
+
+-- the world at the end of a course
+abbrev pub end_of : World → List World → World
+end_of old [] = old
+end_of old (new ∷ course) = end_of new course

@@ -1,0 +1,176 @@
+ghost use Rattle.std.specs.Prelude.{◌≡◌, ◌<◌, [], length, slice_get, All, IfErr, IfOk, OnErr, OnOk, Some};
+ghost use Rattle.ug_frames.specs.declared.report.Report.{Report};
+ghost use Rattle.ug_rules.specs.Books.{IsBook};
+ghost use Rattle.ug_rules.specs.Deciding.{Stands};
+ghost use Rattle.ug_rules.specs.Hearing.{IsHearable};
+ghost use Rattle.ug_rules.specs.HearingLaws.{HasRisingChanges};
+ghost use Rattle.ug_world.specs.declared.playing.Halt.TheVariants.{NoSuch, Memory};
+ghost use Rattle.ug_world.specs.Events.{IsEvent};
+ghost use Rattle.ug_world.specs.Worlds.{Happens, HasDecided, IsHeard, opening};
+ghost use Rattle.ug_world.specs.Halts.{IsHalted, IsNotThere};
+
+use crate::event::Event;
+use std::alloc::{AllocError, AllocFailed, Global};
+use std::marker::Model;
+use ug_book::Book;
+use ug_frames::Report;
+use ug_rules::Heard;
+
+/// Why an event did not happen.
+#[derive(Clone, Copy, Debug)]
+pub enum Halt {
+    /// It hears the report at this place, where none was sent.
+    NoSuch { place: usize },
+    Memory,
+}
+
+impl From<AllocError> for Halt {
+    ghost from_gives = { λ _ halt. halt ≡ Memory };
+
+    fn from(_error: AllocError) -> Halt {
+        Halt::Memory
+    }
+}
+
+impl<T: Drop> From<AllocFailed<T>> for Halt {
+    ghost from_gives = { λ _ halt. halt ≡ Memory };
+
+    fn from(_failed: AllocFailed<T>) -> Halt {
+        Halt::Memory
+    }
+}
+
+/// A schedule that is played: the book, what was sent, and what those heard were answered.
+#[derive(Drop)]
+pub struct Playing {
+    book: Book,
+    sent: Vec<Report>,
+    replies: Vec<Heard>,
+}
+
+impl Model for Playing {
+    ghost use Rattle.std.specs.Prelude.{All};
+    ghost use Rattle.ug_rules.specs.Hearing.{IsHearable};
+    ghost use Rattle.ug_world.specs.Worlds.{World};
+
+    ghost Value = { World };
+
+    ghost view = { λ playing. record {
+      book = playing.book;
+      sent = playing.sent.items;
+      replies = playing.replies.items;
+    } };
+
+    ghost invariant = { λ playing. All IsHearable playing.sent.items };
+}
+
+impl Playing {
+    /// Nothing was sent yet. It takes no memory.
+    pub fn new(alloc: Global, book: Book) -> Playing
+        ensures value { result ≡ opening book [] }
+        ensures book { IsBook book }
+    {
+        // The problem tells that the book is one.
+        let _problem = book.problem();
+        Playing {
+            book,
+            sent: Vec::new(alloc),
+            replies: Vec::new(alloc),
+        }
+    }
+
+    /// The book and the replies.
+    pub fn end(self) -> (Book, Vec<Heard>)
+        ensures book { result.0 ≡ self.book }
+        ensures replies { result.1.items ≡ self.replies }
+    {
+        let Playing { book, replies, .. } = self;
+        (book, replies)
+    }
+
+    /// An event happens. After an error nothing has changed but that some steps of a decision may
+    /// stand.
+    pub fn happen(&mut self, event: &Event) -> Result<(), Halt>
+        requires { IsEvent (length self.old.book.ranks) event.now }
+        ensures happened { OnOk result (Happens self.old event.now self.new) }
+        ensures halted { IfErr result (IsHalted self.old event.now self.new) }
+        ensures wide { length self.new.book.ranks ≡ length self.old.book.ranks }
+    {
+        match event {
+            Event::Send { report } => self.send(report),
+            Event::Hear { place, rank } => self.hear(*place, *rank),
+            Event::Join { rank } => {
+                self.book.join(*rank);
+                Ok(())
+            }
+            Event::Gone { rank } => {
+                self.book.gone(*rank);
+                Ok(())
+            }
+            Event::Decide => self.decide(),
+        }
+    }
+
+    // A solver sends a report.
+    fn send(&mut self, report: &Report) -> Result<(), Halt>
+        requires { IsHearable report.now }
+        ensures sent { OnOk result (Happens self.old (Event.Send report.now) self.new) }
+        ensures err { IfErr result (λ halt. (halt ≡ Memory) × (self.new ≡ self.old)) }
+        ensures wide { length self.new.book.ranks ≡ length self.old.book.ranks }
+    {
+        let copy = report.clone()?;
+        self.sent.push(copy)?;
+        Ok(())
+    }
+
+    // The report at a place of those sent is heard from a rank.
+    fn hear(&mut self, place: usize, rank: u32) -> Result<(), Halt>
+        requires { rank < length self.old.book.ranks }
+        ensures heard { OnOk result (IsHeard self.old place rank self.new) }
+        ensures halted { IfErr result (IsHalted self.old (Event.Hear place rank) self.new) }
+        ensures wide { length self.new.book.ranks ≡ length self.old.book.ranks }
+    {
+        let report = copy_of(&self.sent, place)?;
+        self.replies.reserve(1)?;
+        let answer = self.book.hear(rank, report);
+        if answer == Heard::Memory {
+            return Err(Halt::Memory);
+        }
+        self.replies.push(answer)?;
+        Ok(())
+    }
+
+    // The coordinator decides.
+    fn decide(&mut self) -> Result<(), Halt>
+        ensures decided { OnOk result (HasDecided self.old self.new) }
+        ensures halted { IfErr result (IsHalted self.old Event.Decide self.new) }
+        ensures wide { length self.new.book.ranks ≡ length self.old.book.ranks }
+    {
+        if let Err(_unfinished) = self.book.decide() {
+            return Err(Halt::Memory);
+        }
+        Ok(())
+    }
+}
+
+// A copy of the report at a place of those sent.
+fn copy_of(sent: &[Report], place: usize) -> Result<Report, Halt>
+    ensures there { IfOk result (λ report. slice_get sent.now place ≡ Some report) }
+    ensures rising { IfOk result HasRisingChanges }
+    ensures halted { IfErr result (IsNotThere sent.now place) }
+{
+    let Some(report) = sent.get(place) else {
+        return Err(Halt::NoSuch { place });
+    };
+    know(report);
+    Ok(report.clone()?)
+}
+
+// The changes of a hand rise: their type has it so.
+fn know(report: &Report)
+    ensures { HasRisingChanges report.now }
+{
+    if let Report::Hand { changes, .. } = report {
+        let _changes = changes.as_slice();
+    }
+}

@@ -1,0 +1,71 @@
+ghost use Rattle.std.specs.Prelude.{◌≡◌, length, All, IfErr, IfOk, OnOk};
+ghost use Rattle.ug_rules.specs.Books.{IsSoundBook};
+ghost use Rattle.ug_world.specs.Events.{IsEvent};
+ghost use Rattle.ug_world.specs.Halts.{fault_of};
+ghost use Rattle.ug_world.specs.Plays.{AreAllThere, HonestLeave, IsPlayed, IsStopped, book_left};
+
+use crate::event::Event;
+use crate::playing::{Halt, Playing};
+use std::alloc::Global;
+use ug_book::Book;
+use ug_lists::Items;
+use ug_rules::Heard;
+
+/// What the reports that were heard were answered, the earliest first.
+pub type Replies = Items<Heard>;
+
+/// A schedule that was played to its end.
+#[derive(Drop)]
+pub struct Played {
+    pub book: Book,
+    pub replies: Replies,
+}
+
+/// Why a schedule was not played to its end.
+#[derive(Drop)]
+pub enum PlayFault {
+    /// An event hears the report at this place, where none was sent. The book is as it was then.
+    NoSuch { place: usize, book: Book },
+    /// Memory ended the event after so many that are done. The book is as it was then, but for the
+    /// steps of a decision that stand.
+    Memory { book: Book, done: usize },
+}
+
+/// Plays a schedule: makes the calls of the book that the events are, one after another. A report
+/// may be heard often, from any rank, or never. The orders stay in the book.
+///
+/// Solvers need not be honest. As long as they are, a sound book that has given no ticket stays
+/// sound, and each better point lies in one of its primitive nodes.
+pub fn play(alloc: Global, book: Book, events: &[Event]) -> Result<Played, PlayFault>
+    requires { All (IsEvent (length book.ranks)) events.now }
+    // The book and the replies are those of the rules, event by event.
+    ensures played { IfOk result (IsPlayed book events.now) }
+    ensures stopped { IfErr result (IsStopped book events.now) }
+    ensures there { OnOk result (AreAllThere events.now) }
+    ensures honest { IsSoundBook book → book.last ≡ 0
+        → HonestLeave book events.now (book_left result) }
+{
+    let mut playing = Playing::new(alloc, book);
+    for (done, event) in events.iter().enumerate() {
+        match playing.happen(event) {
+            Ok(()) => {}
+            Err(halt) => return Err(stop(playing, halt, done)),
+        }
+    }
+    let (book, replies) = playing.end();
+    Ok(Played {
+        book,
+        replies: Items::from_vec(replies),
+    })
+}
+
+// What a schedule leaves that was stopped after so many events.
+fn stop(playing: Playing, halt: Halt, done: usize) -> PlayFault
+    ensures { result ≡ fault_of halt done playing.book }
+{
+    let (book, _) = playing.end();
+    match halt {
+        Halt::NoSuch { place } => PlayFault::NoSuch { place, book },
+        Halt::Memory => PlayFault::Memory { book, done },
+    }
+}
