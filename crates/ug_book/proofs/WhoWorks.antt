@@ -1,14 +1,17 @@
--- Whether some rank works on a node.
+-- Whether some rank works on a node, or races for one.
 use Rattle.std.proofs.Common.{◌≡◌, ◌≢◌, true, false, List, [], ◌∷◌, ◌++◌, refl, length, ap, arith}
-use Rattle.std.specs.Prelude.{All, Any, IsTrue, Option, Some, None}
+use Rattle.std.specs.Prelude.{ℕ, All, Any, IsSome, IsTrue}
 use Rattle.std.specs.List.{list_any}
 use Rattle.std.proofs.lemmas.Bool.{true≢false, false≢true}
 use Rattle.std.proofs.lemmas.List.Folds.{list_any_none, list_any-from_Any}
 use Rattle.ug_nodes.specs.declared.node.Node.{Node}
-use Rattle.ug_pool.specs.declared.entry.Entry.{Entry}
 use Rattle.ug_ranks.specs.declared.state.State.{State}
 use Rattle.ug_ranks.specs.declared.state.State.TheVariants.{Absent, Idle, Racing, Active, Dead}
-use Rattle.ug_rules.specs.State.{BookState, held_nodes, nodes_in, nodes_of, raced_node}
+use Rattle.ug_ranks.specs.States.{state_at}
+use Rattle.ug_rules.specs.State.{BookState, nodes_of}
+use Rattle.ug_rules.specs.Ranks.{is_racing}
+use Rattle.ug_rules.specs.Books.{IsBook}
+use Rattle.ug_rules.proofs.RacerLemmas.{are_racing}
 use Rattle.ug_book.specs.Dones.{is_working}
 
 none_by : (ss : List State) → list_any is_working ss ≡ false → nodes_of ss ≡ []
@@ -35,3 +38,8 @@ some_by (Dead ∷ ss) e = some_by ss e
 -- and where some does there is one
 pub some_work : (ss : List State) → Any (λ s. IsTrue (is_working s)) ss → nodes_of ss ≢ []
 some_work ss any = some_by ss (list_any-from_Any is_working ss any)
+
+-- where a rank races there is a node that is raced
+pub raced_where_racing : (b : BookState) (rank : ℕ) → IsBook b
+    → is_racing (state_at b.ranks rank) ≡ true → IsSome b.raced
+raced_where_racing b rank book races = book.race.racing (are_racing b.ranks (rank, races))

@@ -4,4 +4,5 @@ pub mod Dones
 pub mod Hands
 pub mod Starts
 pub mod Reads
+pub mod Currents
 pub mod Decisions

@@ -6,6 +6,7 @@
 #![tactic(auto)]
 
 mod book;
+mod current;
 mod decide;
 mod done;
 mod hand;
@@ -24,6 +25,7 @@ mod unfinished;
 mod working;
 
 pub use book::Book;
+pub use current::CurrentWork;
 pub use reads::Answered;
 pub use start::Boxes;
 pub use unfinished::Unfinished;
