@@ -1,7 +1,7 @@
 -- How many nodes are out of the pool, and that a hand leaves their places.
 use Rattle.std.proofs.Common.{◌≡◌, ℕ, ◌+◌, ◌<◌, ◌≤◌, List, length, take, set, ap, refl, arith, Result, Ok, Err}
 use Rattle.std.specs.Prelude.{Option, None, Some, OnOk, OnErr}
-use Rattle.std.proofs.lemmas.List.{length-append, length-take}
+use Rattle.std.proofs.lemmas.List.{length-take}
 use Rattle.ug_rows.specs.declared.area.Interval.{Interval}
 use Rattle.ug_rows.specs.declared.row.Objective.{Objective}
 use Rattle.ug_nodes.specs.declared.change.Change.{Change}

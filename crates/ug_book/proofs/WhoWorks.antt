@@ -1,5 +1,5 @@
 -- Whether some rank works on a node, or races for one.
-use Rattle.std.proofs.Common.{◌≡◌, ◌≢◌, true, false, List, [], ◌∷◌, ◌++◌, refl, length, ap, arith}
+use Rattle.std.proofs.Common.{◌≡◌, ◌≢◌, true, false, List, [], ◌∷◌, refl, length, ap, arith}
 use Rattle.std.specs.Prelude.{ℕ, All, Any, IsSome, IsTrue}
 use Rattle.std.specs.List.{list_any}
 use Rattle.std.proofs.lemmas.Bool.{true≢false, false≢true}

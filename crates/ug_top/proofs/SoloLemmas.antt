@@ -1,44 +1,40 @@
 -- The book of one rank: where it starts, and what it is after each report.
-use Rattle.std.proofs.Common.{◌≡◌, inl, inr, ℕ, ℤ, pos, ◌≤ℤ◌, List, [], ◌∷◌, ◌++◌, length, ap, refl, sym, ◌∙◌, subst, arith}
+use Rattle.std.proofs.Common.{◌≡◌, inl, inr, ℤ, pos, ◌≤ℤ◌, List, [], ◌∷◌, ◌++◌, length, ap, refl, sym, ◌∙◌, subst, arith}
 use Rattle.std.proofs.lemmas.Bool.{false≢true}
 use Rattle.std.proofs.lemmas.Int.{ints}
 use Rattle.std.proofs.lemmas.List.Folds.{list_any-from_Any}
 use Rattle.std.specs.Prelude.{◌↔◌, IfSome, IsSomeAnd, map, Option, Some, None, slice_index_or, slice_set}
 use Rattle.ug_rows.specs.declared.area.Interval.{Interval}
-use Rattle.ug_rows.specs.Boxes.{IsInOne, IsInside}
-use Rattle.ug_rows.specs.Sums.{box_floor}
+use Rattle.ug_rows.specs.Boxes.{IsInside}
 use Rattle.ug_problem.specs.Instances.{Instance, root_of}
-use Rattle.ug_problem.specs.Better.{Better, Covered, HasNoGood, IsGood, best_cutoff}
+use Rattle.ug_problem.specs.Better.{Covered, HasNoGood, IsGood, best_cutoff}
 use Rattle.ug_problem.specs.Right.{Right}
 use Rattle.ug_nodes.specs.declared.change.Change.{Change}
 use Rattle.ug_nodes.specs.declared.name.Ticket.{Ticket}
-use Rattle.ug_nodes.specs.Changes.{AreChangesOf, area_by}
+use Rattle.ug_nodes.specs.Changes.{area_by}
 use Rattle.ug_nodes.specs.Nodes.{box_of}
 use Rattle.ug_pool.specs.declared.entry.Entry.{Entry}
 use Rattle.ug_collect.specs.declared.member.Member.{Member}
 use Rattle.ug_collect.specs.declared.demand.Wanted.{Wanted}
 use Rattle.ug_collect.specs.declared.demand.Wanted.TheVariants.{Ask, Enough, Nothing}
 use Rattle.ug_collect.specs.Wants.{IsWanted}
-use Rattle.ug_frames.specs.declared.report.Report.{Report}
-use Rattle.ug_frames.specs.declared.report.Report.TheVariants.{Done, Solution}
-use Rattle.ug_incumbent.specs.Offers.{IsBetter, IsNotBetter, best_value}
+use Rattle.ug_frames.specs.declared.report.Report.TheVariants.{Done}
 use Rattle.ug_ranks.specs.declared.state.Work.{Work}
 use Rattle.ug_ranks.specs.declared.state.State.{State}
 use Rattle.ug_ranks.specs.declared.state.State.TheVariants.{Active, Idle}
 use Rattle.ug_ranks.specs.States.{state_at}
 use Rattle.ug_ranks.specs.Changes.{joined, work_of}
-use Rattle.ug_ledger.specs.Ledgers.{Current, IsCurrent}
+use Rattle.ug_ledger.specs.Ledgers.{Current}
 use Rattle.ug_ledger.specs.Answers.{answer_of}
-use Rattle.ug_ledger.specs.Dones.{IsBackedBy, IsTrueDone}
+use Rattle.ug_ledger.specs.Dones.{IsBackedBy}
 use Rattle.ug_rules.specs.declared.heard.Heard.{Heard}
 use Rattle.ug_rules.specs.declared.heard.Heard.TheVariants.{Kept, Stale, Early, Broken, NotBetter, InRace, Again, Gap, Outside, Unbacked, Short, Memory}
 use Rattle.ug_rules.specs.declared.settings.Settings.{Settings}
-use Rattle.ug_rules.specs.declared.told.Told.{Told}
 use Rattle.ug_rules.specs.State.{BookState, current_for, current_of, held_nodes, nodes_in, nodes_of, raced_node}
 use Rattle.ug_rules.specs.Ranks.{members_in}
-use Rattle.ug_rules.specs.Books.{AreSettings, IsSoundBook}
-use Rattle.ug_rules.specs.Deciding.{IsCollected, IsDecided, IsRaceEnded, announced, collected, dropped, given, handouts, params_with}
-use Rattle.ug_rules.specs.Hearing.{IsDue, IsDueUnder, IsDoneDue, IsSolutionDue, after_hearing, counted, done_at}
+use Rattle.ug_rules.specs.Books.{IsSoundBook}
+use Rattle.ug_rules.specs.Deciding.{IsCollected, IsDecided, IsRaceEnded, collected, given, handouts, params_with}
+use Rattle.ug_rules.specs.Hearing.{IsDue, IsDueUnder, IsDoneDue, after_hearing, counted, done_at}
 use Rattle.ug_rules.specs.HearingLaws.{IsTrueReport}
 use Rattle.ug_rules.proofs.DecidedLemmas.{right_answer}
 use Rattle.ug_book.specs.Starts.{start_entry, started}

@@ -1,14 +1,13 @@
 -- Steps of the task of a whole problem.
-use Rattle.std.proofs.Common.{◌≡◌, ℤ, pos, ◌+ℤ◌, ◌<ℤ◌, List, [], Option, Some, None, IfSome, ap, ◌∙◌, subst, sym, arith}
+use Rattle.std.proofs.Common.{ℤ, pos, ◌+ℤ◌, ◌<ℤ◌, List, Option, Some, None, IfSome, subst, arith}
 use Rattle.std.proofs.lemmas.Int.{ints}
-use Rattle.std.specs.Option.{option_map}
 use Rattle.ug_rows.specs.Rows.{value_of}
-use Rattle.ug_problem.specs.Instances.{Instance, root_of}
-use Rattle.ug_problem.specs.Better.{HasNoGood, IsGood, best_cutoff, cutoff_of}
+use Rattle.ug_problem.specs.Instances.{Instance}
+use Rattle.ug_problem.specs.Better.{IsGood, best_cutoff}
 use Rattle.ug_problem.proofs.Cutoffs.{good_is_better}
 use Rattle.ug_incumbent.specs.Offers.{IsBetter, best_value}
 use Rattle.ug_base.specs.Tasks.{TaskState}
-use Rattle.ug_base.specs.Steps.{IsPruned, IsFound, IsSplit, IsEnded}
+use Rattle.ug_base.specs.Steps.{IsFound}
 use Rattle.ug_top.specs.Search.{IsUnderWay}
 
 less_at_once : (v w : ℤ) → (v +ℤ pos 0) <ℤ w → v <ℤ w

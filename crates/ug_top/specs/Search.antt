@@ -1,5 +1,5 @@
 -- The search of a problem by one rank, in a book of its own.
-use Rattle.std.specs.Prelude.{◌≡◌, ℕ, ℤ, pos, false, ◌-◌, ◌^◌, List, [], ◌∷◌, Option, None}
+use Rattle.std.specs.Prelude.{◌≡◌, ℤ, pos, false, ◌-◌, ◌^◌, List, [], ◌∷◌, Option, None}
 use Rattle.ug_problem.specs.Instances.{Instance, root_of}
 use Rattle.ug_problem.specs.Limits.{IsProblem}
 use Rattle.ug_problem.specs.Better.{best_cutoff}
