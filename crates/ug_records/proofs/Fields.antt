@@ -116,8 +116,13 @@ row_cut = record {
       let name = name_cut.cut x.name y.name _ _ tt tt apart in
       let low = sides x.row.low y.row.low _ _ good.low other.low name.1 in
       let high = sides x.row.high y.row.high _ _ good.high other.high low.1 in
-      let terms = terms_cut.cut x.row.terms y.row.terms r s good.terms other.terms high.1 in
-      (λ i. record { name = name.0 i; row = record { terms = terms.0 i; low = low.0 i; high = high.0 i } }, terms.1);
+      let terms = terms_cut.cut x.row.terms y.row.terms r s good.terms other.terms high.1 in (
+        λ i. record {
+          name = name.0 i;
+          row = record { terms = terms.0 i; low = low.0 i; high = high.0 i };
+        },
+        terms.1,
+      );
 }
 
 record IsGoodObjective (o : Objective) : Type 0 where
@@ -137,8 +142,15 @@ objective_cut = record {
       let one_scale : x.scale ≡ y.scale = cc scale.0 in
       let constant = number_cut.cut x.constant y.constant _ _ good.constant other.constant scale.1
       in
-      let terms = terms_cut.cut x.terms y.terms r s good.terms other.terms constant.1 in
-      (λ i. record { terms = terms.0 i; constant = constant.0 i; maximise = sense.0 i; scale = one_scale i }, terms.1);
+      let terms = terms_cut.cut x.terms y.terms r s good.terms other.terms constant.1 in (
+        λ i. record {
+          terms = terms.0 i;
+          constant = constant.0 i;
+          maximise = sense.0 i;
+          scale = one_scale i;
+        },
+        terms.1,
+      );
 }
 
 -- what a problem's fields are

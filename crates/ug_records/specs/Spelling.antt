@@ -49,11 +49,13 @@ column_fields c = name_field c.name ++ bound_field c.low ++ bound_field c.high
 
 -- a row: its name, its sides and its terms
 abbrev pub row_fields : NamedRow → List ℕ
-row_fields r = name_field r.name ++ side_field r.row.low ++ side_field r.row.high ++ terms_fields r.row.terms
+row_fields r = name_field r.name ++ side_field r.row.low ++ side_field r.row.high
+    ++ terms_fields r.row.terms
 
 -- the objective: sense, scale, constant and terms
 unfoldable pub objective_fields : Objective → List ℕ
-objective_fields o = sense_field o.maximise ++ o.scale ∷ [] ++ number_field o.constant ++ terms_fields o.terms
+objective_fields o = sense_field o.maximise ++ o.scale ∷ [] ++ number_field o.constant
+    ++ terms_fields o.terms
 
 -- the record: how many columns there are, and each; rows likewise; the objective
 abbrev pub record_of : Instance → List ℕ

@@ -20,7 +20,8 @@ pub fn to_record(alloc: Global, problem: &Problem) -> Result<Bytes, AllocError>
 
 fn put_columns(out: &mut Vec<u8>, problem: &Problem) -> Result<(), AllocError>
     ensures { OnOk result (out.new.items ≡ out.old.items
-        ++ (count_field (length problem.now.columns) ++ flat_map column_fields problem.now.columns)) }
+        ++ (count_field (length problem.now.columns)
+        ++ flat_map column_fields problem.now.columns)) }
 {
     let columns = problem.columns();
     put_count(out, columns.len() as u32)?;
@@ -44,7 +45,8 @@ fn put_rows(out: &mut Vec<u8>, problem: &Problem) -> Result<(), AllocError>
 
 #[tactic(auto, unfolding(crate::specs::Spelling::objective_fields))]
 fn put_objective(out: &mut Vec<u8>, problem: &Problem) -> Result<(), AllocError>
-    ensures { OnOk result (out.new.items ≡ out.old.items ++ objective_fields problem.now.objective) }
+    ensures { OnOk result (out.new.items
+        ≡ out.old.items ++ objective_fields problem.now.objective) }
 {
     let objective = problem.objective();
     out.push(u8::from(objective.maximise))?;
