@@ -1,13 +1,13 @@
 -- How the images that a crash may leave of a slot grow and shrink.
-use Rattle.std.proofs.Common.{◌≡◌, ◌⊎◌, inl, inr, ⊎_elim, ℕ, ◌+◌, ◌<◌, ◌≤◌, List, [], ◌∷◌, ◌++◌, length, take, drop, get_or, refl, ◌∙◌, arith, length-append}
-use Rattle.std.proofs.lemmas.List.{ext_get_or, length-take, length-drop, get_or_append_left, places}
+use Rattle.std.proofs.Common.{◌≡◌, ◌⊎◌, inl, inr, ⊎_elim, ℕ, ◌+◌, ◌<◌, ◌≤◌, List, [], ◌∷◌, ◌++◌, length, take, drop, get_or, refl, sym, subst, ◌∙◌, arith, length-append}
+use Rattle.std.proofs.lemmas.List.{ext_get_or, length-take, length-drop, get_or_append_left, get_or_push, length_push, places}
 use Rattle.std.proofs.lemmas.List.Quantifiers.{Any-push}
 use Rattle.std.proofs.lemmas.Bool.{cases_lt}
 use Rattle.ug_disk.specs.declared.slot.Span.{Span}
 use Rattle.ug_disk.specs.Slots.{SlotState, IsLoose, MayLeave, IsReal, synced, loosened, written, put_at}
 
 -- what is loose stays so
-loose_more : (spans : List Span) (span : Span) (place : ℕ) → IsLoose spans place
+pub loose_more : (spans : List Span) (span : Span) (place : ℕ) → IsLoose spans place
     → IsLoose (spans ++ span ∷ []) place
 loose_more spans span place loose = (
   loose.0,
@@ -16,6 +16,25 @@ loose_more spans span place loose = (
   get_or_append_left spans (span ∷ []) loose.1 loose.0 loose.2 ∙ loose.3,
   loose.4,
 )
+
+-- and more is what lies in the last place
+pub loose_either : (spans : List Span) (span : Span) (place : ℕ)
+    → IsLoose (spans ++ span ∷ []) place
+    → IsLoose spans place ⊎ ((span.from ≤ place) × (place < span.end))
+loose_either spans span place loose = elim (cases_lt loose.0 (length spans)) [
+  | inl before ↦ inl (
+    loose.0,
+    loose.1,
+    before,
+    sym (get_or_append_left spans (span ∷ []) loose.1 loose.0 before) ∙ loose.3,
+    loose.4,
+  )
+  | inr behind ↦ inr (
+      let last : length spans ≡ loose.0 = omega (arith, behind, loose.2, length_push spans span) in
+      let is : span ≡ loose.1 = sym (get_or_push spans span loose.1 loose.0 last) ∙ loose.3 in
+      subst (λ (s : Span). (s.from ≤ place) × (place < s.end)) (sym is) loose.4
+      )
+]
 
 -- after a sync a crash leaves what a read gives, and nothing else
 pub only_bytes : (bytes image : List ℕ) → MayLeave (synced bytes) image → image ≡ bytes

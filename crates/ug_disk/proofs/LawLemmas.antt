@@ -1,18 +1,18 @@
 -- The laws of the disk's model.
-use Rattle.std.proofs.Common.{◌≡◌, ◌⊎◌, inl, inr, ⊎_elim, ℕ, zero, suc, ◌+◌, ◌-◌, ◌<◌, ◌≤◌, List, [], ◌∷◌, length, take, drop, get_or, sym, ◌∙◌, ap, subst, arith}
+use Rattle.std.proofs.Common.{◌≡◌, ◌⊎◌, inl, inr, ⊎_elim, ℕ, ◌+◌, ◌-◌, ◌<◌, ◌≤◌, List, [], ◌∷◌, length, take, drop, get_or, sym, ◌∙◌, ap, subst, arith}
 use Rattle.std.proofs.lemmas.List.{ext_get_or, length-take, length-drop, get_or-take, get_or-drop}
 use Rattle.std.proofs.lemmas.List.Quantifiers.{Any-push}
 use Rattle.std.proofs.lemmas.Bool.{cases_lt}
 use Rattle.ug_disk.specs.declared.slot.Span.{Span}
 use Rattle.ug_disk.specs.Slots.{SlotState, IsLoose, MayLeave, IsReal, synced, loosened, written}
-use Rattle.ug_disk.specs.Laws.{IsTorn, WriteIsTorn, SyncLeavesOne, WriteEndsAsItGoes}
-use Rattle.ug_disk.proofs.Images.{only_bytes, bytes_left, within_writing, put_elsewhere}
+use Rattle.ug_disk.specs.Laws.{IsTorn, WriteIsTorn, SyncLeavesOne, WriteEndsAsItGoes, WriteLoosens}
+use Rattle.ug_disk.proofs.Images.{only_bytes, bytes_left, within_writing, put_elsewhere, loose_either, loose_more}
 
 loose_one : (span : Span) (place : ℕ) → IsLoose (span ∷ []) place
     → (span.from ≤ place) × (place < span.end)
-loose_one span place (zero, x, here, is, inside) = subst (λ (s : Span). (s.from ≤ place) ×
-    (place < s.end)) (sym is) inside
-loose_one span place (suc k, x, here, is, inside) = absurd (omega (arith, here))
+loose_one span place loose =
+    ⊎_elim (λ none. absurd (omega (arith, none.2))) (λ inside. inside)
+    (loose_either [] span place loose)
 
 -- outside of the place a byte is there
 kept_outside : (at n : ℕ) (bytes image : List ℕ) → MayLeave (loosened at n (synced bytes)) image
@@ -97,4 +97,12 @@ ends_as_it_goes at piece slot image real here = (
   within_writing at piece slot image real here,
   ends
       at piece slot image real here,
+)
+
+pub write_loosens : WriteLoosens
+write_loosens at n slot place = (
+  λ loose. loose_either slot.loose (record { from = at; end = at + n }) place loose,
+  λ either. ⊎_elim
+      (λ loose. loose_more slot.loose (record { from = at; end = at + n }) place loose)
+      (λ inside. Any-push _ slot.loose (record { from = at; end = at + n }) inside) either,
 )

@@ -1,6 +1,6 @@
 -- What the model of a disk comes to.
-use Rattle.std.specs.Prelude.{◌≡◌, ◌↔◌, ℕ, ◌+◌, ◌≤◌, max, List, length, take, drop}
-use Rattle.ug_disk.specs.Slots.{SlotState, MayLeave, IsReal, synced, loosened, written}
+use Rattle.std.specs.Prelude.{◌≡◌, ◌⊎◌, ◌↔◌, ℕ, ◌+◌, ◌<◌, ◌≤◌, max, List, length, take, drop}
+use Rattle.ug_disk.specs.Slots.{SlotState, IsLoose, MayLeave, IsReal, synced, loosened, written}
 
 -- Of bytes over which n others were being written at a place a crash left this image: all before
 -- the place and all behind it is there, and nothing beyond.
@@ -34,3 +34,9 @@ WriteEndsAsItGoes = (at : ℕ) (piece : List ℕ) (slot : SlotState) (image : Li
 abbrev pub WriteStaysReal : Type 0
 WriteStaysReal = (at : ℕ) (piece : List ℕ) (slot : SlotState)
     → IsReal slot → at ≤ length slot.bytes → IsReal (written at piece slot)
+
+-- while bytes are being written, what was loose is, and the places over which they are
+abbrev pub WriteLoosens : Type 0
+WriteLoosens = (at n : ℕ) (slot : SlotState) (place : ℕ)
+    → IsLoose (loosened at n slot).loose place
+    ↔ (IsLoose slot.loose place ⊎ ((at ≤ place) × (place < at + n)))

@@ -1,4 +1,4 @@
-ghost use Rattle.ug_disk.specs.Laws.{SyncLeavesOne, WriteAddsImages, WriteEndsAsItGoes, WriteIsTorn, WriteStaysReal};
+ghost use Rattle.ug_disk.specs.Laws.{SyncLeavesOne, WriteAddsImages, WriteEndsAsItGoes, WriteIsTorn, WriteLoosens, WriteStaysReal};
 
 /// While bytes are being written to a synced slot, a crash may leave any bytes in their place and
 /// all else as it was, and no other image.
@@ -17,4 +17,5 @@ pub fn writes_add_images()
     ensures adds { WriteAddsImages }
     ensures ends { WriteEndsAsItGoes }
     ensures real { WriteStaysReal }
+    ensures loose { WriteLoosens }
 {}

@@ -1,5 +1,5 @@
 use Rattle.ug_disk.proofs.Images.{grows, real_written}
-use Rattle.ug_disk.proofs.LawLemmas.{ends_as_it_goes}
+use Rattle.ug_disk.proofs.LawLemmas.{ends_as_it_goes, write_loosens}
 use Rattle.ug_disk.proofs.laws.writes_add_images.Goals as goal
 
 pub returns-clause-adds : goal.returns-clause-adds
@@ -10,3 +10,6 @@ returns-clause-ends c = ends_as_it_goes
 
 pub returns-clause-real : goal.returns-clause-real
 returns-clause-real c = real_written
+
+pub returns-clause-loose : goal.returns-clause-loose
+returns-clause-loose c = write_loosens

@@ -1,0 +1,5 @@
+use Rattle.ug_records.proofs.Fields.{records_are_unique}
+use Rattle.ug_records.proofs.laws.records_are_unique.Goals as goal
+
+pub returns : goal.returns
+returns c = records_are_unique
