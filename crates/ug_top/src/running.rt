@@ -18,12 +18,12 @@ use ug_io::{Failed, Sink, Source};
 use ug_mps::{MpsError, one_outcome, read};
 use ug_problem::Problem;
 
-/// Does all that the program does: reads the source, solves the problem that its bytes state, and writes the
-/// lines of the answer. `words` are those behind the program's own name. What the runtime may do beside is
-/// left open: one task asks nothing of it.
+/// Does all that the program does: reads the source, solves the problem that its bytes state, and
+/// writes the lines of the answer. `words` are those behind the program's name. What the runtime
+/// may do beside is left open: one task asks nothing of it.
 ///
-/// `Memory` alone has no cause: it may come in place of `Answered` and `Refused`, or before the outside fails. Every
-/// other status has its cause below.
+/// `Memory` alone has no cause: it may come in place of `Answered` and `Refused`, or before the
+/// outside fails. Every other status has its cause below.
 pub fn run<R, S: Source, K: Sink>(
     _rt: &R,
     alloc: Global,
@@ -31,18 +31,26 @@ pub fn run<R, S: Source, K: Sink>(
     input: &mut S,
     out: &mut K,
 ) -> Status
-    // The lines of the status were written; for an answer those of a right one to what the bytes state under the box.
-    ensures lines { (file : List ℕ) (boxed : Option ℕ) → IsSolve words.now file boxed → Wrote boxed (S.left input.old) (S.faults input.old) (S.faults input.new) (K.written out.old) (K.written out.new) result }
+    // The lines of the status were written; for an answer those of a right one to what the bytes
+    // state under the box.
+    ensures lines { (file : List ℕ) (boxed : Option ℕ) → IsSolve words.now file boxed
+        → Wrote boxed (S.left input.old) (S.faults input.old) (S.faults input.new)
+        (K.written out.old) (K.written out.new) result }
 
     ensures nothing { result ≡ Status.Usage → K.written out.new ≡ K.written out.old }
 
-    ensures usage { result ≡ Status.Usage → (file : List ℕ) (boxed : Option ℕ) → IsSolve words.now file boxed → ⊥ }
-    ensures command { ((file : List ℕ) (boxed : Option ℕ) → IsSolve words.now file boxed → ⊥) → result ≡ Status.Usage }
+    ensures usage { result ≡ Status.Usage
+        → (file : List ℕ) (boxed : Option ℕ) → IsSolve words.now file boxed → ⊥ }
+    ensures command { ((file : List ℕ) (boxed : Option ℕ) → IsSolve words.now file boxed → ⊥)
+        → result ≡ Status.Usage }
 
-    ensures read_fault { result ≡ Status.ReadFault → Rose (S.faults input.old) (S.faults input.new) }
-    ensures source { S.faults input.old < S.faults input.new → (result ≡ Status.ReadFault) ⊎ (result ≡ Status.WriteFault) }
+    ensures read_fault { result ≡ Status.ReadFault
+        → Rose (S.faults input.old) (S.faults input.new) }
+    ensures source { S.faults input.old < S.faults input.new
+        → (result ≡ Status.ReadFault) ⊎ (result ≡ Status.WriteFault) }
 
-    ensures write_fault { result ≡ Status.WriteFault → Rose (K.faults out.old) (K.faults out.new) }
+    ensures write_fault { result ≡ Status.WriteFault
+        → Rose (K.faults out.old) (K.faults out.new) }
     ensures sink { K.faults out.old < K.faults out.new → result ≡ Status.WriteFault }
 
     // No count of faults falls.
@@ -50,11 +58,15 @@ pub fn run<R, S: Source, K: Sink>(
     ensures out_rises { K.faults out.old ≤ K.faults out.new }
 
     // Without a fault of the outside a first fault of the bytes is told, and a problem is answered.
-    ensures refused { (file bytes : List ℕ) (boxed : Option ℕ) (f : MpsFault) → IsSolve words.now file boxed → S.left input.old ≡ Some bytes → FirstFault bytes boxed f
-        → IsCalm (S.faults input.old) (S.faults input.new) → IsCalm (K.faults out.old) (K.faults out.new)
+    ensures refused { (file bytes : List ℕ) (boxed : Option ℕ) (f : MpsFault)
+        → IsSolve words.now file boxed → S.left input.old ≡ Some bytes → FirstFault bytes boxed f
+        → IsCalm (S.faults input.old) (S.faults input.new)
+        → IsCalm (K.faults out.old) (K.faults out.new)
         → (result ≡ Status.Refused) ⊎ (result ≡ Status.Memory) }
-    ensures complete { (file bytes : List ℕ) (boxed : Option ℕ) (p : Instance) → IsSolve words.now file boxed → S.left input.old ≡ Some bytes → Reads bytes boxed p
-        → IsCalm (S.faults input.old) (S.faults input.new) → IsCalm (K.faults out.old) (K.faults out.new)
+    ensures complete { (file bytes : List ℕ) (boxed : Option ℕ) (p : Instance)
+        → IsSolve words.now file boxed → S.left input.old ≡ Some bytes → Reads bytes boxed p
+        → IsCalm (S.faults input.old) (S.faults input.new)
+        → IsCalm (K.faults out.old) (K.faults out.new)
         → (result ≡ Status.Answered) ⊎ (result ≡ Status.Memory) }
 {
     let Some(command) = command_of(words) else {
@@ -63,23 +75,32 @@ pub fn run<R, S: Source, K: Sink>(
     obey(alloc, command.boxed, input, out)
 }
 
-// Reads the source, solves the problem that its bytes state under the box, and writes the lines of the answer.
+// Reads the source, solves the problem that its bytes state under the box, and writes the lines of
+// the answer.
 #[tactic(auto, using(crate::proofs::EndLemmas::rose_rises, crate::proofs::EndLemmas::work_rises))]
 fn obey<S: Source, K: Sink>(alloc: Global, boxed: Option<u32>, input: &mut S, out: &mut K) -> Status
     requires { IfSome boxed (λ u. u ≤ 10 ^ 9) }
-    ensures lines { Wrote boxed (S.left input.old) (S.faults input.old) (S.faults input.new) (K.written out.old) (K.written out.new) result }
+    ensures lines { Wrote boxed (S.left input.old) (S.faults input.old) (S.faults input.new)
+        (K.written out.old) (K.written out.new) result }
     ensures usage { result ≢ Status.Usage }
-    ensures read_fault { result ≡ Status.ReadFault → Rose (S.faults input.old) (S.faults input.new) }
-    ensures source { S.faults input.old < S.faults input.new → (result ≡ Status.ReadFault) ⊎ (result ≡ Status.WriteFault) }
-    ensures write_fault { result ≡ Status.WriteFault → Rose (K.faults out.old) (K.faults out.new) }
+    ensures read_fault { result ≡ Status.ReadFault
+        → Rose (S.faults input.old) (S.faults input.new) }
+    ensures source { S.faults input.old < S.faults input.new
+        → (result ≡ Status.ReadFault) ⊎ (result ≡ Status.WriteFault) }
+    ensures write_fault { result ≡ Status.WriteFault
+        → Rose (K.faults out.old) (K.faults out.new) }
     ensures sink { K.faults out.old < K.faults out.new → result ≡ Status.WriteFault }
     ensures input_rises { S.faults input.old ≤ S.faults input.new }
     ensures out_rises { K.faults out.old ≤ K.faults out.new }
-    ensures refused { (bytes : List ℕ) (f : MpsFault) → S.left input.old ≡ Some bytes → FirstFault bytes boxed f
-        → IsCalm (S.faults input.old) (S.faults input.new) → IsCalm (K.faults out.old) (K.faults out.new)
+    ensures refused { (bytes : List ℕ) (f : MpsFault)
+        → S.left input.old ≡ Some bytes → FirstFault bytes boxed f
+        → IsCalm (S.faults input.old) (S.faults input.new)
+        → IsCalm (K.faults out.old) (K.faults out.new)
         → (result ≡ Status.Refused) ⊎ (result ≡ Status.Memory) }
-    ensures complete { (bytes : List ℕ) (p : Instance) → S.left input.old ≡ Some bytes → Reads bytes boxed p
-        → IsCalm (S.faults input.old) (S.faults input.new) → IsCalm (K.faults out.old) (K.faults out.new)
+    ensures complete { (bytes : List ℕ) (p : Instance)
+        → S.left input.old ≡ Some bytes → Reads bytes boxed p
+        → IsCalm (S.faults input.old) (S.faults input.new)
+        → IsCalm (K.faults out.old) (K.faults out.new)
         → (result ≡ Status.Answered) ⊎ (result ≡ Status.Memory) }
 {
     let end = work(alloc, input, boxed);
