@@ -1,3 +1,4 @@
 pub mod Fields
+pub mod Loops
 pub mod Numbers
 pub mod Parts

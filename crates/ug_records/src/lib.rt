@@ -3,9 +3,13 @@
 //! `to_record` gives the bytes that the spelling in specs/ names, field by field.
 #![tactic(auto)]
 
+mod fault;
 mod laws;
+mod leaves;
+mod lists;
 #[cfg(test)]
 mod tests;
+mod whole;
 mod writing;
 
 pub use laws::records_are_unique;
