@@ -1,5 +1,5 @@
 -- A record read from left to right, up to the first field that is cut short or breaks a rule.
-use Rattle.std.specs.Prelude.{ℕ, ℤ, zero, suc, ◌+◌, ◌-◌, ◌^◌, Bool, true, false, not, ◌&&◌, ◌||◌, List, [], ◌∷◌, length, take, drop, Option, Some, None, Result, Ok, Err, nat_lt, nat_le, ◌==◌, if◌then◌else◌, unsigned_abs, ◌≡◌}
+use Rattle.std.specs.Prelude.{ℕ, ℤ, zero, suc, ◌+◌, ◌-◌, ◌^◌, Bool, ◌&&◌, ◌||◌, List, [], ◌∷◌, length, take, drop, Option, Some, None, Result, Ok, Err, nat_lt, nat_le, ◌==◌, if◌then◌else◌, unsigned_abs, ◌≡◌}
 use Rattle.std.specs.List.{list_all}
 use Rattle.std.specs.Int.{w32, w128, from_be_bytes, cast_signed}
 use Rattle.ug_rows.specs.declared.row.Term.{Term}
@@ -110,7 +110,8 @@ column_at bytes = do
 
 -- so many values, one after the other, each read by what stands after the one before it, and what
 -- stands then
-unfoldable pub many_at : {S X : Type 0} → (S → List ℕ → Reading X) → (S → X → S) → ℕ → S → List ℕ → Reading (List X × S)
+unfoldable pub many_at : {S X : Type 0} → (S → List ℕ → Reading X) → (S → X → S) → ℕ → S → List ℕ
+    → Reading (List X × S)
 many_at next after zero state bytes = Ok (([], state), bytes)
 many_at next after (suc n) state bytes = do
   first ← next state bytes
@@ -122,7 +123,8 @@ unfoldable pub place_at : ℕ → ℕ → List ℕ → Reading ℕ
 place_at width least bytes =
     if nat_lt (length bytes) 4 then Err (length bytes)
     else (
-    if nat_le least (from_be_bytes w32 (take 4 bytes)) && nat_lt (from_be_bytes w32 (take 4 bytes)) width
+    if nat_le least (from_be_bytes w32 (take 4 bytes))
+    && nat_lt (from_be_bytes w32 (take 4 bytes)) width
     then Ok (from_be_bytes w32 (take 4 bytes), drop 4 bytes)
     else Err (length bytes)
     )
@@ -132,7 +134,8 @@ unfoldable pub factor_at : List ℕ → Reading ℤ
 factor_at bytes =
     if nat_lt (length bytes) 16 then Err (length bytes)
     else (
-    if nat_le 1 (unsigned_abs (number_of (take 16 bytes))) && nat_le (unsigned_abs (number_of (take 16 bytes))) (10 ^ 24)
+    if nat_le 1 (unsigned_abs (number_of (take 16 bytes)))
+    && nat_le (unsigned_abs (number_of (take 16 bytes))) (10 ^ 24)
     then Ok (number_of (take 16 bytes), drop 16 bytes)
     else Err (length bytes)
     )
@@ -146,11 +149,13 @@ term_at width least bytes = do
 
 -- so many columns
 abbrev pub columns_at : ℕ → List ℕ → Reading (List Column × Unit {0})
-columns_at n bytes = many_at (λ (state : Unit {0}). column_at) (λ state (column : Column). state) n tt bytes
+columns_at n bytes =
+    many_at (λ (state : Unit {0}). column_at) (λ state (column : Column). state) n tt bytes
 
 -- so many terms, each column behind the one before it
 abbrev pub terms_from : ℕ → ℕ → List ℕ → Reading (List Term × ℕ)
-terms_from width n bytes = many_at (λ least. term_at width least) (λ least (t : Term). t.column + 1) n 0 bytes
+terms_from width n bytes =
+    many_at (λ least. term_at width least) (λ least (t : Term). t.column + 1) n 0 bytes
 
 -- how many terms there are, of which so many may be, and they
 unfoldable pub terms_at : ℕ → ℕ → List ℕ → Reading (List Term)
@@ -166,7 +171,10 @@ row_at width room bytes = do
   low ← side_at name.1
   high ← side_at low.1
   terms ← terms_at width room high.1
-  Ok (record { name = name.0; row = record { terms = terms.0; low = low.0; high = high.0 } }, terms.1)
+  Ok (
+    record { name = name.0; row = record { terms = terms.0; low = low.0; high = high.0 } },
+    terms.1,
+  )
 
 -- so many rows, and how many terms may still be
 abbrev pub rows_at : ℕ → ℕ → ℕ → List ℕ → Reading (List NamedRow × ℕ)
@@ -180,14 +188,23 @@ objective_at width room bytes = do
   scale ← small_at 0 60 sense.1
   constant ← number_at (10 ^ 37) scale.1
   terms ← terms_at width room constant.1
-  Ok (record { terms = terms.0; constant = constant.0; maximise = sense.0 == 1; scale = scale.0 }, terms.1)
+  Ok (
+    record { terms = terms.0; constant = constant.0; maximise = sense.0 == 1; scale = scale.0 },
+    terms.1,
+  )
 
--- a whole record: columns, rows and objective, and nothing behind them
-unfoldable pub record_at : List ℕ → Result Instance ℕ
-record_at bytes = do
+-- columns, rows and objective
+unfoldable pub parts_at : List ℕ → Reading Instance
+parts_at bytes = do
   width ← count_at (10 ^ 4) bytes
   columns ← columns_at width.0 width.1
   height ← count_at (10 ^ 4) columns.1
   rows ← rows_at width.0 (10 ^ 6) height.0 height.1
   objective ← objective_at width.0 rows.0.1 rows.1
-  if length objective.1 == 0 then Ok (record { columns = columns.0.0; rows = rows.0.0; objective = objective.0 }) else Err (length objective.1)
+  Ok (record { columns = columns.0.0; rows = rows.0.0; objective = objective.0 }, objective.1)
+
+-- a whole record: the parts of a problem, and nothing behind them
+unfoldable pub record_at : List ℕ → Result Instance ℕ
+record_at bytes = do
+  parts ← parts_at bytes
+  if length parts.1 == 0 then Ok parts.0 else Err (length parts.1)

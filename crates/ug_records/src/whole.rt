@@ -1,5 +1,5 @@
 ghost use Rattle.std.specs.Prelude.{◌≡◌, ◌≤◌, ◌^◌, length};
-ghost use Rattle.ug_records.specs.Reading.{Gives, rows_at, objective_at, record_at};
+ghost use Rattle.ug_records.specs.Reading.{Gives, rows_at, objective_at, parts_at, record_at};
 ghost use Rattle.ug_problem.specs.Instances.{instance_of};
 
 use crate::fault::Fault;
@@ -55,18 +55,27 @@ pub fn objective_at(
     Ok((objective, rest))
 }
 
-/// The parts of the problem whose record the bytes are.
-#[tactic(auto, unfolding(crate::specs::Reading::record_at))]
-pub fn parts_of(alloc: Global, bytes: &[u8]) -> Result<(Columns, NamedRows, Objective), Fault>
-    ensures { Gives (λ x. instance_of x.0 x.1 x.2) result (record_at bytes.now) }
+/// The columns, the rows and the objective.
+#[tactic(auto, unfolding(crate::specs::Reading::parts_at))]
+fn parts_at(alloc: Global, bytes: &[u8]) -> Result<((Columns, NamedRows, Objective), &[u8]), Fault>
+    ensures { Gives (λ x. (instance_of x.0.0 x.0.1 x.0.2, x.1.now)) result (parts_at bytes.now) }
 {
     let (width, rest) = count_at(bytes, 10_000)?;
     let (columns, rest) = columns_at(alloc, rest, width)?;
     let (height, rest) = count_at(rest, 10_000)?;
     let ((rows, room), rest) = rows_at(alloc, rest, width, 1_000_000, height)?;
     let (objective, rest) = objective_at(alloc, rest, width, room)?;
+    Ok(((columns, rows, objective), rest))
+}
+
+/// The parts of the problem whose record the bytes are.
+#[tactic(auto, unfolding(crate::specs::Reading::record_at))]
+pub fn parts_of(alloc: Global, bytes: &[u8]) -> Result<(Columns, NamedRows, Objective), Fault>
+    ensures { Gives (λ x. instance_of x.0 x.1 x.2) result (record_at bytes.now) }
+{
+    let (parts, rest) = parts_at(alloc, bytes)?;
     if !rest.is_empty() {
         return Err(Fault::Bad(rest.len()));
     }
-    Ok((columns, rows, objective))
+    Ok(parts)
 }

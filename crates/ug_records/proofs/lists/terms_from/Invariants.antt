@@ -6,5 +6,6 @@ use Rattle.ug_records.proofs.lists.terms_from.Given as goal
 
 abbrev pub invariant-loop : goal.invariant-loop
 invariant-loop l =
-    with_front l.terms (many_at (λ least. term_at l.width least) (λ least (t : Term). t.column + 1) (l.count - l.counter) l.least l.rest)
+    with_front l.terms (many_at (λ least. term_at l.width least) (λ least (t : Term). t.column + 1)
+    (l.count - l.counter) l.least l.rest)
     ≡ terms_from l.width l.count l.bytes
