@@ -16,16 +16,16 @@ use Rattle.ug_records.specs.Laws.{RecordsAreUnique}
 use Rattle.ug_records.proofs.Parts.{AreCut, same_parts, lists_cut}
 use Rattle.ug_records.proofs.Numbers.{count_cut, bound_cut, number_cut}
 
-two : (a b r : List ℕ) → a ++ b ++ r ≡ a ++ (b ++ r)
+pub two : (a b r : List ℕ) → a ++ b ++ r ≡ a ++ (b ++ r)
 two a b r = append_assoc a b r
 
-three : (a b c r : List ℕ) → a ++ b ++ c ++ r ≡ a ++ (b ++ (c ++ r))
+pub three : (a b c r : List ℕ) → a ++ b ++ c ++ r ≡ a ++ (b ++ (c ++ r))
 three a b c r = append_assoc (a ++ b) c r ∙ two a b (c ++ r)
 
-four : (a b c d r : List ℕ) → a ++ b ++ c ++ d ++ r ≡ a ++ (b ++ (c ++ (d ++ r)))
+pub four : (a b c d r : List ℕ) → a ++ b ++ c ++ d ++ r ≡ a ++ (b ++ (c ++ (d ++ r)))
 four a b c d r = append_assoc (a ++ b ++ c) d r ∙ three a b c (d ++ r)
 
-five : (a b c d e r : List ℕ) → a ++ b ++ c ++ d ++ e ++ r ≡ a ++ (b ++ (c ++ (d ++ (e ++ r))))
+pub five : (a b c d e r : List ℕ) → a ++ b ++ c ++ d ++ e ++ r ≡ a ++ (b ++ (c ++ (d ++ (e ++ r))))
 five a b c d e r = append_assoc (a ++ b ++ c ++ d) e r ∙ four a b c d (e ++ r)
 
 -- any name

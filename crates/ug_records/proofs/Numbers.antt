@@ -8,15 +8,15 @@ use Rattle.std.proofs.Math.Nat.{mod-eq_of_lt, mod-one, div-one, pow-succ'}
 use Rattle.ug_records.specs.Spelling.{count_field, bound_field, number_field}
 use Rattle.ug_records.proofs.Parts.{AreCut, same_parts}
 
-length-bytes : (k n : ℕ) → length (bytes_high_first k n) ≡ k
+pub length-bytes : (k n : ℕ) → length (bytes_high_first k n) ≡ k
 length-bytes zero n = refl
 length-bytes (suc k) n = ap suc (length-bytes k n)
 
-byte_at_is : (k n : ℕ) → byte_at k n ≡ n / 256 ^ k % 256
+pub byte_at_is : (k n : ℕ) → byte_at k n ≡ n / 256 ^ k % 256
 byte_at_is zero n = ap (λ q. q % 256) (sym (div-one n))
 byte_at_is (suc k) n = refl
 
-positive : (k : ℕ) → 0 < 256 ^ k
+pub positive : (k : ℕ) → 0 < 256 ^ k
 positive zero = omega arith
 positive (suc k) = omega (arith, positive k, pow-succ' 256 k)
 

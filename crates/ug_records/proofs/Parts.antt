@@ -18,10 +18,10 @@ same_parts (x ∷ xs) (y ∷ ys) r s size same =
 pub record AreCut {X : Type 0} (Good : X → Type 0) (f : X → List ℕ) : Type 0 where
   pub cut : (x y : X) (r s : List ℕ) → Good x → Good y → f x ++ r ≡ f y ++ s → (x ≡ y) × (r ≡ s)
 
-head_of : {X : Type 0} → (P : X → Type 0) (x : X) (xs : List X) → All P (x ∷ xs) → P x
+pub head_of : {X : Type 0} → (P : X → Type 0) (x : X) (xs : List X) → All P (x ∷ xs) → P x
 head_of P x xs all = all zero x (omega arith)
 
-tail_of : {X : Type 0} → (P : X → Type 0) (x : X) (xs : List X) → All P (x ∷ xs) → All P xs
+pub tail_of : {X : Type 0} → (P : X → Type 0) (x : X) (xs : List X) → All P (x ∷ xs) → All P xs
 tail_of P x xs all = λ k d here. all (suc k) d (omega (arith, here))
 
 -- as many of them

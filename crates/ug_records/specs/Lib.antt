@@ -1,2 +1,4 @@
+pub mod Answers
 pub mod Laws
+pub mod Reading
 pub mod Spelling

@@ -1,0 +1,135 @@
+ghost use Rattle.std.specs.Prelude.{◌≡◌, ◌+◌, ◌≤◌, ◌^◌, length};
+ghost use Rattle.ug_records.specs.Reading.{Gives, column_at, place_at, factor_at, term_at, terms_at, terms_from, columns_at, row_at};
+
+use crate::fault::Fault;
+use crate::leaves::{bound_at, count_at, name_at, number_of, side_at};
+use std::alloc::Global;
+use ug_lists::Items;
+use ug_problem::{Column, Columns, NamedRow};
+use ug_rows::{Row, Term, Terms};
+
+/// A column: its name and its bounds.
+#[tactic(auto, unfolding(crate::specs::Reading::column_at))]
+pub fn column_at(alloc: Global, bytes: &[u8]) -> Result<(Column, &[u8]), Fault>
+    ensures { Gives (λ x. (x.0, x.1.now)) result (column_at bytes.now) }
+{
+    let (name, rest) = name_at(alloc, bytes)?;
+    let (low, rest) = bound_at(rest)?;
+    let (high, rest) = bound_at(rest)?;
+    Ok((Column { name, low, high }, rest))
+}
+
+/// So many columns.
+pub fn columns_at(alloc: Global, bytes: &[u8], count: u32) -> Result<(Columns, &[u8]), Fault>
+    ensures { Gives (λ x. ((x.0, tt), x.1.now)) result
+        (columns_at count bytes.now) }
+{
+    let mut columns = Items::new(alloc);
+    let mut rest = bytes;
+    for _ in 0..count {
+        let (column, after) = column_at(alloc, rest)?;
+        columns.push(column)?;
+        rest = after;
+    }
+    Ok((columns, rest))
+}
+
+/// The column of a term.
+#[tactic(auto, unfolding(crate::specs::Reading::place_at))]
+pub fn place_at(bytes: &[u8], width: u32, least: u64) -> Result<(u32, &[u8]), Fault>
+    ensures { Gives (λ x. (x.0, x.1.now)) result (place_at width least bytes.now) }
+{
+    if bytes.len() < 4 {
+        return Err(Fault::Bad(bytes.len()));
+    }
+    let (front, rest) = bytes.split_at(4);
+    let n = u32::from_be_bytes([front[0], front[1], front[2], front[3]]);
+    if least <= u64::from(n) && n < width {
+        Ok((n, rest))
+    } else {
+        Err(Fault::Bad(bytes.len()))
+    }
+}
+
+/// A factor: a number that is not 0, of at most 10^24.
+#[tactic(auto, unfolding(crate::specs::Reading::factor_at))]
+pub fn factor_at(bytes: &[u8]) -> Result<(i128, &[u8]), Fault>
+    ensures { Gives (λ x. (x.0, x.1.now)) result (factor_at bytes.now) }
+{
+    if bytes.len() < 16 {
+        return Err(Fault::Bad(bytes.len()));
+    }
+    let (front, rest) = bytes.split_at(16);
+    let n = number_of(front);
+    if 1 <= n.unsigned_abs() && n.unsigned_abs() <= MOST_FACTOR {
+        Ok((n, rest))
+    } else {
+        Err(Fault::Bad(bytes.len()))
+    }
+}
+
+const MOST_FACTOR: u128 = 1_000_000_000_000_000_000_000_000;
+
+/// A term: its column, behind that of the term before it, and its factor.
+#[tactic(auto, unfolding(crate::specs::Reading::term_at))]
+pub fn term_at(bytes: &[u8], width: u32, least: u64) -> Result<(Term, &[u8]), Fault>
+    ensures { Gives (λ x. (x.0, x.1.now)) result (term_at width least bytes.now) }
+{
+    let (column, rest) = place_at(bytes, width, least)?;
+    let (factor, rest) = factor_at(rest)?;
+    Ok((Term { column, factor }, rest))
+}
+
+/// So many terms.
+pub fn terms_from(
+    alloc: Global,
+    bytes: &[u8],
+    width: u32,
+    count: u32,
+) -> Result<((Terms, u64), &[u8]), Fault>
+    ensures { Gives (λ x. ((x.0.0, x.0.1), x.1.now)) result (terms_from width count bytes.now) }
+{
+    let mut terms = Items::new(alloc);
+    let mut least = 0;
+    let mut rest = bytes;
+    for _ in 0..count {
+        let (term, after) = term_at(rest, width, least)?;
+        terms.push(term)?;
+        least = u64::from(term.column) + 1;
+        rest = after;
+    }
+    Ok(((terms, least), rest))
+}
+
+/// How many terms there are, of which so many may be, and they.
+#[tactic(auto, unfolding(crate::specs::Reading::terms_at))]
+pub fn terms_at(alloc: Global, bytes: &[u8], width: u32, room: u64) -> Result<(Terms, &[u8]), Fault>
+    ensures { Gives (λ x. (x.0, x.1.now)) result (terms_at width room bytes.now) }
+{
+    let (count, rest) = count_at(bytes, room)?;
+    let ((terms, _), rest) = terms_from(alloc, rest, width, count)?;
+    Ok((terms, rest))
+}
+
+/// A row: its name, its sides and its terms.
+#[tactic(auto, unfolding(crate::specs::Reading::row_at))]
+pub fn row_at(
+    alloc: Global,
+    bytes: &[u8],
+    width: u32,
+    room: u64,
+) -> Result<(NamedRow, &[u8]), Fault>
+    ensures { Gives (λ x. (x.0, x.1.now)) result (row_at width room bytes.now) }
+{
+    let (name, rest) = name_at(alloc, bytes)?;
+    let (low, rest) = side_at(rest)?;
+    let (high, rest) = side_at(rest)?;
+    let (terms, rest) = terms_at(alloc, rest, width, room)?;
+    Ok((
+        NamedRow {
+            name,
+            row: Row { terms, low, high },
+        },
+        rest,
+    ))
+}
