@@ -24,29 +24,29 @@ pub and_true : (a b : Bool) → a ≡ true → b ≡ true → (a && b) ≡ true
 and_true a b p q = rw (p, q) refl
 
 -- two tests that were passed, or not
-passed : {A : Type 0} → (b t : Bool) (d : ℕ) (x y : A)
+pub passed : {A : Type 0} → (b t : Bool) (d : ℕ) (x y : A)
     → cond b (Err d) (cond t (Ok x) (Err d)) ≡ Ok y → (b ≡ false) × (t ≡ true) × (x ≡ y)
 passed true t d x y e = absurd cc
 passed false true d x y e = (refl, refl, ok_is x y e)
 passed false false d x y e = absurd cc
 
-stopped : {A : Type 0} → (b t : Bool) (d left : ℕ) (x : A)
+pub stopped : {A : Type 0} → (b t : Bool) (d left : ℕ) (x : A)
     → cond b (Err d) (cond t (Ok x) (Err d)) ≡ Err left → d ≡ left
 stopped true t d left x e = cc
 stopped false true d left x e = absurd cc
 stopped false false d left x e = cc
 
 -- a value of so many bytes, under a test
-record IsFixed {X : Type 0} (k : ℕ) (field : X → List ℕ) (value : List ℕ → X) (Good : X → Type 0)
+pub record IsFixed {X : Type 0} (k : ℕ) (field : X → List ℕ) (value : List ℕ → X) (Good : X → Type 0)
     (test : X → Bool) : Type 0 where
-  long : (x : X) → Good x → length (field x) ≡ k
-  back : (bytes : List ℕ) → length bytes ≡ k → IsBytes bytes → field (value bytes) ≡ bytes
-  again : (x : X) → Good x → value (field x) ≡ x
-  passes : (x : X) → Good x → test x ≡ true
-  good : (bytes : List ℕ) → length bytes ≡ k → IsBytes bytes → test (value bytes) ≡ true
+  pub long : (x : X) → Good x → length (field x) ≡ k
+  pub back : (bytes : List ℕ) → length bytes ≡ k → IsBytes bytes → field (value bytes) ≡ bytes
+  pub again : (x : X) → Good x → value (field x) ≡ x
+  pub passes : (x : X) → Good x → test x ≡ true
+  pub good : (bytes : List ℕ) → length bytes ≡ k → IsBytes bytes → test (value bytes) ≡ true
       → Good (value bytes)
 
-fixed : {X : Type 0} → (k : ℕ) (field : X → List ℕ) (value : List ℕ → X) (Good : X → Type 0)
+pub fixed : {X : Type 0} → (k : ℕ) (field : X → List ℕ) (value : List ℕ → X) (Good : X → Type 0)
     (test : X → Bool)
     → IsFixed k field value Good test
     → IsReader Good field (λ bytes. cond (ltb (length bytes) k) (Err (length bytes))
@@ -81,7 +81,7 @@ fixed k field value Good test is = record {
       omega (arith, same);
 }
 
-small_4 : (bytes : List ℕ) → length bytes ≡ 4 → IsBytes bytes → from_be_bytes w32 bytes < 2 ^ 32
+pub small_4 : (bytes : List ℕ) → length bytes ≡ 4 → IsBytes bytes → from_be_bytes w32 bytes < 2 ^ 32
 small_4 bytes size h = omega (arith, h 0, h 1, h 2, h 3)
 
 pub count_reader : (most : ℕ) → IsReader (λ n. (n ≤ most) × (n < 2 ^ 32)) count_field
@@ -127,21 +127,21 @@ bound_reader = fixed 4 bound_field (λ bytes. cast_signed w32 (from_be_bytes w32
       good = λ bytes size h e. leb-true _ _ e;
     })
 
-number_back : (bytes : List ℕ) → length bytes ≡ 16 → IsBytes bytes
+pub number_back : (bytes : List ℕ) → length bytes ≡ 16 → IsBytes bytes
     → number_field (number_of bytes) ≡ bytes
 unfolding number_field number_of
 number_back bytes size h = ap (to_be_bytes w128)
     (of_z-to_z w128 (from_be_bytes w128 bytes) (bytes_small_16 bytes size h))
     ∙ be_bytes_16 bytes size h
 
-number_again : (z : ℤ) → unsigned_abs z ≤ 10 ^ 37 → number_of (number_field z) ≡ z
+pub number_again : (z : ℤ) → unsigned_abs z ≤ 10 ^ 37 → number_of (number_field z) ≡ z
 unfolding number_field number_of
 number_again z good =
     let fits = fits_signed_from_abs w128 z (omega (arith, good)) in
     ap (cast_signed w128) (from_be_bytes_16 (cast_unsigned w128 z) (omega (arith, Fits-of_z fits)))
     ∙ to_z-of_z w128 z fits
 
-number_long : (z : ℤ) → length (number_field z) ≡ 16
+pub number_long : (z : ℤ) → length (number_field z) ≡ 16
 unfolding number_field
 number_long z = refl
 
@@ -172,12 +172,12 @@ factor_reader = fixed 16 number_field number_of
           (leb-true _ _ b.0, leb-true _ _ b.1);
     })
 
-single : {A : Type 0} → (t : Bool) (d : ℕ) (x y : A) → cond t (Ok x) (Err d) ≡ Ok y
+pub single : {A : Type 0} → (t : Bool) (d : ℕ) (x y : A) → cond t (Ok x) (Err d) ≡ Ok y
     → (t ≡ true) × (x ≡ y)
 single true d x y e = (refl, ok_is x y e)
 single false d x y e = absurd cc
 
-single_stops : {A : Type 0} → (t : Bool) (d left : ℕ) (x : A) → cond t (Ok x) (Err d) ≡ Err left
+pub single_stops : {A : Type 0} → (t : Bool) (d left : ℕ) (x : A) → cond t (Ok x) (Err d) ≡ Err left
     → d ≡ left
 single_stops true d left x e = absurd cc
 single_stops false d left x e = cc
