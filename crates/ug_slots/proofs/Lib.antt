@@ -1,0 +1,4 @@
+pub mod Behind
+pub mod Going
+pub mod Shutting
+pub mod Syncing
