@@ -1,0 +1,11 @@
+pub mod Feasibles
+pub mod Values
+pub mod Plain
+pub mod Tested
+pub mod Changed
+pub mod Named
+pub mod Bests
+pub mod Entire
+pub mod Shorts
+pub mod Wholes
+pub mod Verdicts

@@ -1,0 +1,5 @@
+pub mod Images
+pub mod Spelling
+pub mod Reading
+pub mod Answers
+pub mod Laws

@@ -1,0 +1,52 @@
+ghost use Rattle.std.specs.Prelude.{◌≡◌};
+ghost use Rattle.ug_records.specs.Reading.{Gives};
+ghost use Rattle.ug_image.specs.Reading.{fields_at, image_at};
+
+use crate::best::best_at;
+use crate::image::Image;
+use crate::leaves::{deliveries_at, gap_at, long_at};
+use crate::nodes::nodes_at;
+use crate::record::problem_at;
+use std::alloc::Global;
+use ug_records::{Fault, small_at};
+
+// The fields of an image, and what stands behind them.
+#[tactic(auto, unfolding(crate::specs::Reading::fields_at))]
+fn fields_at(alloc: Global, bytes: &[u8]) -> Result<(Image, &[u8]), Fault>
+    ensures { Gives (λ x. (x.0, x.1.now)) result (fields_at bytes.now) }
+{
+    let (version, rest) = small_at(bytes, 1, 3)?;
+    let (run, rest) = long_at(rest, 1)?;
+    let (sequence, rest) = long_at(rest, 1)?;
+    let (problem, rest) = problem_at(alloc, rest)?;
+    let (best, rest) = best_at(alloc, rest, problem.problem())?;
+    let (deliveries, rest) = deliveries_at(rest, version)?;
+    let (gap, rest) = gap_at(rest, version)?;
+    let (count, rest) = long_at(rest, 0)?;
+    let root = problem.problem().root();
+    let (nodes, rest) = nodes_at(alloc, rest, version, run, root, count)?;
+    Ok((
+        Image {
+            run,
+            sequence,
+            problem,
+            best,
+            deliveries,
+            gap,
+            nodes,
+        },
+        rest,
+    ))
+}
+
+/// The image that the bytes spell.
+#[tactic(auto, unfolding(crate::specs::Reading::image_at))]
+pub fn image_of(alloc: Global, bytes: &[u8]) -> Result<Image, Fault>
+    ensures { Gives (λ x. x) result (image_at bytes.now) }
+{
+    let (image, rest) = fields_at(alloc, bytes)?;
+    if !rest.is_empty() {
+        return Err(Fault::Bad(rest.len()));
+    }
+    Ok(image)
+}
