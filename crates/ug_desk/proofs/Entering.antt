@@ -1,0 +1,104 @@
+-- A history that is longer by one call.
+use Rattle.std.proofs.Common.{◌≡◌, ℕ, ◌+◌, ◌-◌, ◌^◌, min, List, [], ◌∷◌, ◌++◌, length, refl, sym, ◌∙◌, ap, subst, arith}
+use Rattle.std.proofs.lemmas.List.{length-append, length-set}
+use Rattle.std.specs.Prelude.{ℤ, Result, Ok, Err, IfOk, IfErr, OnErr}
+use Rattle.ug_nodes.specs.declared.name.Ticket.{Ticket}
+use Rattle.ug_rules.specs.State.{BookState}
+use Rattle.ug_rules.specs.Books.{IsSoundBook}
+use Rattle.ug_book.specs.Views.{IsSameRun}
+use Rattle.ug_book.specs.declared.unfinished.Unfinished.{Unfinished}
+use Rattle.ug_desk.specs.declared.took.Took.{Took}
+use Rattle.ug_desk.specs.declared.took.Took.TheVariants.{Work, Wait, Over}
+use Rattle.ug_desk.specs.declared.took.Untaken.{Untaken}
+use Rattle.ug_desk.specs.declared.reply.Reply.{Reply}
+use Rattle.ug_desk.specs.Openings.{Standing, own_ticket}
+use Rattle.ug_desk.specs.Takes.{HasAnswered, IsCutShort, tickets_after}
+use Rattle.ug_desk.specs.Reports.{HasNotStated, HasStated}
+use Rattle.ug_desk.specs.Histories.{Call, Entry, Replays, Step, stated, taken}
+use Rattle.ug_desk.specs.Entries.{HasEntered, IsLocked, LockedState, one_more}
+
+replays_more : (old mid new : Standing) (history : List Entry) (entry : Entry)
+    → Replays old history mid → Step entry.pass entry.call mid new
+    → Replays old (history ++ entry ∷ []) new
+replays_more old mid new [] entry t s =
+    (new, subst (λ k. Step entry.pass entry.call k new) t s, refl)
+replays_more old mid new (first ∷ history) entry t s =
+    (t.0, t.1, replays_more t.0 mid new history entry t.2 s)
+
+count_more : (count length_ : ℕ) → count ≡ min length_ (2 ^ 64 - 1)
+    → one_more count ≡ min (length_ + 1) (2 ^ 64 - 1)
+count_more count length_ is = omega (arith, is)
+
+-- what no call changes is changed by none of two
+along : (a b c : BookState) → IsSameRun a b → IsSameRun b c → IsSameRun a c
+along a b c s t = record {
+  problem = t.problem ∙ s.problem;
+  run = t.run ∙ s.run;
+  settings = t.settings ∙ s.settings;
+  wide = t.wide ∙ s.wide;
+}
+
+-- an entry more leads to what stands then
+pub entered : (old new : LockedState) (r : ℕ) (call : Call) → IsLocked old
+    → HasEntered r call old new → IsSameRun old.now.book new.now.book
+    → (IsSoundBook old.now.book → IsSoundBook new.now.book)
+    → length new.now.tickets ≡ length old.now.tickets → IsLocked new
+entered old new r call l t same sound wide =
+    let entry : Entry = record { pass = r; call = call } in
+    let longer : length (l.history ++ entry ∷ []) ≡ length l.history + 1 =
+    length-append l.history (entry ∷ []) in
+    subst (λ o. IsLocked (record { opening = o; now = new.now; count = new.count })) (sym t.opening)
+    (record {
+      history = l.history ++ entry ∷ [];
+      replays = replays_more _ old.now new.now l.history entry l.replays t.step;
+      counted = t.count
+          ∙ (count_more old.count (length l.history) l.counted
+          ∙ ap (λ n. min n (2 ^ 64 - 1)) (sym longer));
+      same = along _ old.now.book new.now.book l.same same;
+      sound = λ covered. sound (l.sound covered);
+      wide = wide ∙ (l.wide ∙ sym same.wide);
+    })
+
+-- where the book alone changed
+pub entered_by : (l : LockedState) (b : BookState) (count r : ℕ) (call : Call) → IsLocked l
+    → Step r call l.now (record { book = b; tickets = l.now.tickets }) → IsSameRun l.now.book b
+    → (IsSoundBook l.now.book → IsSoundBook b) → count ≡ one_more l.count
+    → IsLocked (record {
+      opening = l.opening;
+      now = record { book = b; tickets = l.now.tickets };
+      count = count;
+    })
+entered_by l b count r call is step same sound counted =
+    entered l _ r call is (record { step = step; opening = refl; count = counted }) same sound refl
+
+-- a step by the answer of the call
+pub stated_step : (result : Result Reply Unfinished) (r left : ℕ) (floor : ℤ) (s : Standing)
+    (b : BookState)
+    → IfOk result (λ reply. HasStated r (own_ticket s r) left floor reply s.book b)
+    → IfErr result (λ (e : Unfinished). HasNotStated r (own_ticket s r) left floor e.stood s.book b)
+    → Step r (stated left floor result) s (record { book = b; tickets = s.tickets })
+stated_step (Ok reply) r left floor s b ok err = record { book = ok; tickets = refl }
+stated_step (Err e) r left floor s b ok err = record { book = err; tickets = refl }
+
+pub taken_step : (result : Result Took Untaken) (r : ℕ) (s : Standing) (b : BookState)
+    (tickets : List Ticket) → IfOk result (λ took. HasAnswered r took s.book b)
+    → IfErr result (λ end. IsCutShort r end s.book b)
+    → IfOk result (λ took. tickets ≡ tickets_after took r s.tickets)
+    → OnErr result (tickets ≡ s.tickets)
+    → Step r (taken result) s (record { book = b; tickets = tickets })
+taken_step (Ok took) r s b tickets ok err changed same = record { answered = ok; tickets = changed }
+taken_step (Err e) r s b tickets ok err changed same = record { book = err; tickets = same }
+
+wide_after : (took : Took) (r : ℕ) (tickets : List Ticket)
+    → length (tickets_after took r tickets) ≡ length tickets
+wide_after (Work task) r tickets = length-set tickets r task.ticket
+wide_after Wait r tickets = refl
+wide_after Over r tickets = refl
+
+-- there are as many tickets as before
+pub taken_wide : (result : Result Took Untaken) (r : ℕ) (old new : List Ticket)
+    → IfOk result (λ took. new ≡ tickets_after took r old) → OnErr result (new ≡ old)
+    → length new ≡ length old
+taken_wide (Ok took) r old new changed same =
+    ap (λ (ts : List Ticket). length ts) changed ∙ wide_after took r old
+taken_wide (Err e) r old new changed same = ap (λ (ts : List Ticket). length ts) same

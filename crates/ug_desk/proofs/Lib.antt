@@ -1,0 +1,8 @@
+pub mod Columns
+pub mod Agreeing
+pub mod Works
+pub mod Joined
+pub mod Ends
+pub mod Entering
+pub mod Beginnings
+pub mod Saving

@@ -1,0 +1,6 @@
+use Rattle.ug_desk.proofs.Beginnings.{begun}
+use Rattle.ug_desk.proofs.locked.Locked.new.Goals as goal
+
+pub invariant_of-result : goal.invariant_of-result
+invariant_of-result c =
+    begun c.args.opening c.args.book c.in_ok-tickets.tickets.items c.requires c.in_ok-tickets.ensures

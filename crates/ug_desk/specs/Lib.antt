@@ -1,0 +1,13 @@
+pub mod Areas
+pub mod Openings
+pub mod Decided
+pub mod Takes
+pub mod Reports
+pub mod Dones
+pub mod Answers
+pub mod Histories
+pub mod Entries
+pub mod Passes
+pub mod Views
+pub mod Snapshots
+pub mod SnapshotViews

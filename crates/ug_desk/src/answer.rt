@@ -1,0 +1,46 @@
+ghost use Rattle.std.specs.Prelude.{◌≡◌, ◌<◌, ◌≤◌, true, length, IfOk, MatchBool};
+ghost use Rattle.ug_ranks.specs.States.{state_at};
+ghost use Rattle.ug_rules.specs.Ranks.{is_joined};
+ghost use Rattle.ug_desk.specs.Takes.{IsAnswer, IsOver, IsUnderWay};
+
+use crate::task::make_task;
+use crate::took::Took;
+use std::alloc::{AllocError, Global};
+use ug_book::Book;
+
+/// What the book gives a rank that has joined.
+#[tactic(auto, using(crate::proofs::Works::current_changes, crate::proofs::Works::at_work))]
+pub fn answer(alloc: Global, book: &Book, rank: u32) -> Result<Took, AllocError>
+    requires there { rank < length book.now.ranks }
+    requires joined { is_joined (state_at book.now.ranks rank) ≡ true }
+    ensures { IfOk result (IsAnswer book.now rank) }
+{
+    // The problem tells that the book is one.
+    let _problem = book.problem();
+    if is_over(book) {
+        return Ok(Took::Over);
+    }
+    match book.current(rank) {
+        Some(work) => {
+            let task = make_task(alloc, book, work.ticket, work.params, work.node)?;
+            Ok(Took::Work(task))
+        }
+        None => Ok(Took::Wait),
+    }
+}
+
+// Whether no node is held, or as many deliveries were heard as may be.
+fn is_over(book: &Book) -> bool
+    ensures { MatchBool result (IsOver book.now) (IsUnderWay book.now) }
+{
+    book.answer().is_some() || is_spent(book)
+}
+
+/// Whether as many deliveries were heard as may be.
+pub fn is_spent(book: &Book) -> bool
+    ensures { MatchBool result
+        (book.now.settings.limit ≤ book.now.heard)
+        (book.now.heard < book.now.settings.limit) }
+{
+    book.settings().limit <= book.count()
+}

@@ -1,0 +1,78 @@
+ghost use Rattle.std.specs.Prelude.{◌≡◌, replicate, IfOk};
+ghost use Rattle.std.specs.Option.{option_copied};
+ghost use Rattle.ug_primitive.specs.Primitive.{lent};
+ghost use Rattle.ug_desk.specs.Openings.{IsMade, changes_in, opening_book};
+
+use crate::opening::Opening;
+use std::alloc::{AllocError, Global};
+use ug_book::{Book, Boxes};
+use ug_nodes::{Changes, Node, Ticket};
+use ug_rows::Point;
+
+/// What a book was made of that is as it was made.
+pub fn opening_of(alloc: Global, book: &Book) -> Result<Opening, AllocError>
+    requires { IsMade book.now }
+    ensures { IfOk result (λ opening. opening_book opening ≡ book.now) }
+{
+    let nodes = book.primitive()?;
+    Ok(Opening {
+        problem: book.problem().share()?,
+        run: book.run(),
+        best: copied(book.best())?,
+        boxes: boxes_of(alloc, nodes.as_slice())?,
+        settings: *book.settings(),
+    })
+}
+
+/// A copy of a point that is lent, if one is.
+pub fn copied(point: Option<&Point>) -> Result<Option<Point>, AllocError>
+    ensures { IfOk result (λ copy. copy ≡ option_copied point.entry) }
+{
+    match point {
+        Some(point) => Ok(Some(point.clone()?)),
+        None => Ok(None),
+    }
+}
+
+// The boxes of the nodes, each as its changes.
+#[tactic(auto, using(crate::proofs::Beginnings::one_box_more))]
+fn boxes_of(alloc: Global, nodes: &[&Node]) -> Result<Boxes, AllocError>
+    ensures { IfOk result (λ boxes. boxes ≡ changes_in (lent nodes.now)) }
+{
+    let mut boxes = Boxes::new(alloc);
+    for node in nodes {
+        boxes.push(copy_of(&node.changes)?)?;
+    }
+    Ok(boxes)
+}
+
+/// A copy of changes.
+pub fn copy_of(changes: &Changes) -> Result<Changes, AllocError>
+    ensures { IfOk result (λ copy. copy ≡ changes.now) }
+{
+    changes.clone()
+}
+
+/// A copy of an opening.
+pub fn copy_opening(opening: &Opening) -> Result<Opening, AllocError>
+    ensures { IfOk result (λ copy. copy ≡ opening.now) }
+{
+    Ok(Opening {
+        problem: opening.problem.share()?,
+        run: opening.run,
+        best: copied(opening.best.as_ref())?,
+        boxes: opening.boxes.clone()?,
+        settings: opening.settings,
+    })
+}
+
+/// A ticket for each of so many passes.
+pub fn tickets(alloc: Global, passes: u32, ticket: Ticket) -> Result<Vec<Ticket>, AllocError>
+    ensures { IfOk result (λ tickets. tickets.items ≡ replicate passes ticket) }
+{
+    let mut tickets = Vec::with_capacity(alloc, passes as usize)?;
+    for _ in 0..passes {
+        tickets.push(ticket)?;
+    }
+    Ok(tickets)
+}

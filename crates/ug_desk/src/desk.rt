@@ -1,0 +1,154 @@
+ghost use Rattle.std.specs.Prelude.{◌≡◌, ℕ, ◌<◌, [], length, slice_index, IfOk};
+ghost use Rattle.ug_desk.specs.Openings.{IsMade};
+
+use crate::begin::opening_of;
+use crate::locked::Locked;
+use crate::pass::Pass;
+use crate::reply::Reply;
+use crate::snapshot::Snapshot;
+use crate::took::{Took, Untaken};
+use std::alloc::{AllocError, Global};
+use std::sync::{Condvar, Mutex, Wait};
+use ug_base::Task;
+use ug_book::{Book, Unfinished};
+use ug_rows::{IntBox, Point};
+use ug_rules::Heard;
+
+/// One book that threads share, each through passes of its own. What a call does is said by the
+/// call of `Locked` of the same name, which is lent what is behind the lock. A pass of another desk
+/// has no work here.
+#[derive(Drop)]
+pub struct Desk {
+    lock: Mutex<Locked>,
+    // How many calls were not answered Wait, and what wakes those that rest.
+    stirred: Mutex<u64>,
+    bell: Condvar,
+    passes: u32,
+}
+
+impl Desk {
+    /// A desk over a book that is as it was made, and a pass for each of its ranks.
+    pub fn new(alloc: Global, book: Book) -> Result<(Desk, Vec<Pass>), AllocError>
+        requires { IsMade book }
+        ensures count { IfOk result (λ made. length made.1.items ≡ length book.ranks) }
+        ensures each { IfOk result (λ made. (r : ℕ) → r < length made.1.items
+            → slice_index made.1.items r ≡ r) }
+    {
+        let count = book.settings().solvers;
+        let passes = passes(alloc, count)?;
+        let opening = opening_of(alloc, &book)?;
+        let locked = Locked::new(alloc, opening, book)?;
+        let desk = Desk {
+            lock: Mutex::new(locked),
+            stirred: Mutex::new(0),
+            bell: Condvar::new(),
+            passes: count,
+        };
+        Ok((desk, passes))
+    }
+
+    /// Joins the pass's rank where it is absent or dead, decides, and answers what there is for it.
+    pub fn take<R: Wait>(&self, rt: &R, pass: &mut Pass) -> Result<Took, Untaken> {
+        let took = self.lock.lock(rt).take_for(pass);
+        if !matches!(took, Ok(Took::Wait)) {
+            self.stir(rt);
+        }
+        took
+    }
+
+    /// A point that was found. It takes no memory.
+    pub fn solution<R: Wait>(&self, rt: &R, pass: &mut Pass, point: Point) -> Heard {
+        let heard = self.lock.lock(rt).solution_for(pass, point);
+        self.stir(rt);
+        heard
+    }
+
+    /// A box that is handed. One of another width is Stale.
+    pub fn hand<R: Wait>(&self, rt: &R, pass: &mut Pass, number: u64, area: &IntBox) -> Heard {
+        let heard = self.lock.lock(rt).hand_for(pass, number, area);
+        self.stir(rt);
+        heard
+    }
+
+    /// How many boxes are left, and the least of their floors.
+    pub fn state<R: Wait>(
+        &self,
+        rt: &R,
+        pass: &mut Pass,
+        left: u64,
+        floor: i128,
+    ) -> Result<Reply, Unfinished>
+        requires { 0 < left }
+    {
+        let reply = self.lock.lock(rt).state_for(pass, left, floor);
+        self.stir(rt);
+        reply
+    }
+
+    /// A task of which no box is left. It takes no memory.
+    pub fn done<R: Wait>(&self, rt: &R, pass: &mut Pass, task: Task) -> Heard
+        requires { task.boxes ≡ [] }
+    {
+        let heard = self.lock.lock(rt).done_for(pass, &task);
+        self.stir(rt);
+        heard
+    }
+
+    /// The rank is gone, in the middle of a task. It takes no memory.
+    pub fn give_up<R: Wait>(&self, rt: &R, pass: &mut Pass, task: Task) {
+        self.lock.lock(rt).give_up_for(pass, &task);
+        self.stir(rt);
+    }
+
+    /// The rank is gone. It takes no memory.
+    pub fn leave<R: Wait>(&self, rt: &R, pass: &mut Pass) {
+        self.lock.lock(rt).leave_for(pass);
+        self.stir(rt);
+    }
+
+    /// What is held now, to be saved.
+    pub fn snapshot<R: Wait>(&self, rt: &R, pass: &mut Pass) -> Result<Snapshot, AllocError> {
+        self.lock.lock(rt).snapshot_for(pass)
+    }
+
+    /// How many calls were not answered Wait.
+    pub fn stirred<R: Wait>(&self, rt: &R) -> u64 {
+        *self.stirred.lock(rt)
+    }
+
+    /// Sleeps until the count of such calls is another.
+    pub fn rest<R: Wait>(&self, rt: &R, seen: u64) {
+        let _woken = self
+            .bell
+            .wait_while(rt, self.stirred.lock(rt), |stirred| *stirred == seen);
+    }
+
+    /// What is behind the lock, where all passes are handed in. Else all is handed back.
+    pub fn close(self, passes: Vec<Pass>) -> Result<Locked, (Desk, Vec<Pass>)> {
+        if passes.len() != self.passes as usize {
+            return Err((self, passes));
+        }
+        Ok(self.lock.into_inner())
+    }
+
+    // One call more that was not answered Wait, which wakes those that rest.
+    fn stir<R: Wait>(&self, rt: &R) {
+        let mut stirred = self.stirred.lock(rt);
+        *stirred = stirred.wrapping_add(1);
+        drop(stirred);
+        self.bell.notify_all();
+    }
+}
+
+// A pass for each rank.
+fn passes(alloc: Global, count: u32) -> Result<Vec<Pass>, AllocError>
+    ensures count { IfOk result (λ passes. length passes.items ≡ count) }
+    ensures each { IfOk result (λ passes. (r : ℕ) → r < length passes.items
+        → slice_index passes.items r ≡ r) }
+{
+    let mut passes = Vec::with_capacity(alloc, count as usize)?;
+    for rank in 0..count {
+        passes.push(Pass::new(rank))?;
+    }
+    Ok(passes)
+}

@@ -1,0 +1,58 @@
+ghost use Rattle.std.specs.Prelude.{◌≡◌, ◌<◌, [], length};
+ghost use Rattle.ug_rules.specs.Books.{IsSoundBook};
+ghost use Rattle.ug_book.specs.Views.{IsSameRun};
+ghost use Rattle.ug_desk.specs.Answers.{IsTold, told_on};
+ghost use Rattle.ug_desk.specs.Dones.{HasDone, IsOfTicket};
+
+use crate::agree::found;
+use ug_base::Task;
+use ug_book::Book;
+use ug_frames::Report;
+use ug_rules::Heard;
+
+/// The end of a task of the rank's ticket, of which no box is left. It takes no memory.
+pub fn done(book: &mut Book, rank: u32, task: &Task) -> Heard
+    requires there { rank < length book.old.ranks }
+    requires ticket { IsOfTicket book.old rank task.now }
+    requires none { task.now.boxes ≡ [] }
+    ensures done { HasDone rank task.now result book.old book.new }
+    ensures same { IsSameRun book.old book.new }
+    ensures sound { IsSoundBook book.old → IsSoundBook book.new }
+{
+    // The task tells that each good point lies in a box handed.
+    let _left = task.left();
+    let handed = task.handed();
+    let taken = book.taken(rank);
+    let found = found(handed, taken) as u64;
+    let count = count_told(handed.len() as u64, taken.len() as u64, found);
+    let heard = book.hear(
+        rank,
+        Report::Done {
+            ticket: task.ticket(),
+            cutoff: task.cutoff(),
+            count,
+        },
+    );
+    told_on(heard, handed.len() as u64, found)
+}
+
+// The count of a Done, where so many hands were found: with as many taken it is theirs, so that one
+// that differs makes it short.
+fn count_told(handed: u64, taken: u64, found: u64) -> u64
+    ensures { IsTold handed taken found result }
+{
+    if handed == taken { found } else { handed }
+}
+
+// The answer, where a short one names the hands of the task, and those found.
+fn told_on(heard: Heard, handed: u64, found: u64) -> Heard
+    ensures { result ≡ told_on handed found heard }
+{
+    match heard {
+        Heard::Short { .. } => Heard::Short {
+            told: handed,
+            taken: found,
+        },
+        _ => heard,
+    }
+}

@@ -1,0 +1,225 @@
+ghost use Rattle.std.specs.Prelude.{◌≡◌, ◌<◌, [], length, IfOk, OnErr, OnOk};
+ghost use Rattle.ug_desk.specs.Openings.{opening_book, opening_standing, own_ticket};
+ghost use Rattle.ug_desk.specs.Histories.{taken, offered, handed, stated, given_up, left, copied};
+ghost use Rattle.ug_desk.specs.Entries.{HasEnded, HasEntered, HasEnteredAlive, IsLocked, one_more};
+ghost use Rattle.ug_desk.specs.Snapshots.{IsSnapshotOf};
+
+use crate::begin::{copied, copy_opening, tickets};
+use crate::done::done;
+use crate::hand::hand;
+use crate::opening::Opening;
+use crate::reply::Reply;
+use crate::saved::saved_of;
+use crate::snapshot::Snapshot;
+use crate::state::state;
+use crate::take::{note, take};
+use crate::ticket::is_of_ticket;
+use crate::took::{Took, Untaken};
+use std::alloc::{AllocError, Global};
+use std::marker::Model;
+use ug_base::Task;
+use ug_book::{Book, Unfinished};
+use ug_frames::Report;
+use ug_nodes::Ticket;
+use ug_rows::{IntBox, Point};
+use ug_rules::Heard;
+
+/// The value behind the lock of a desk.
+#[derive(Drop)]
+pub struct Locked {
+    alloc: Global,
+    opening: Opening,
+    book: Book,
+    // The ticket of the last work of each pass.
+    tickets: Vec<Ticket>,
+    // How many calls the history has, which stands in proofs alone.
+    count: u64,
+}
+
+impl Model for Locked {
+    ghost use Rattle.ug_desk.specs.Entries.{LockedState, IsLocked};
+    ghost use Rattle.ug_desk.specs.Views.{state_of};
+
+    ghost Value = { LockedState };
+
+    ghost view = { state_of };
+
+    ghost invariant = { λ l. IsLocked (state_of l) };
+}
+
+impl Locked {
+    /// The book is as it was made, and the history has no call.
+    pub fn new(alloc: Global, opening: Opening, book: Book) -> Result<Locked, AllocError>
+        requires { opening_book opening ≡ book }
+        ensures { IfOk result (λ locked. locked ≡ record {
+          opening = opening;
+          now = opening_standing opening;
+          count = 0;
+        }) }
+    {
+        let first = Ticket {
+            run: opening.run,
+            number: 0,
+        };
+        let tickets = tickets(alloc, opening.settings.solvers, first)?;
+        Ok(Locked {
+            alloc,
+            opening,
+            book,
+            tickets,
+            count: 0,
+        })
+    }
+
+    /// What the book was made of.
+    pub fn opening(&self) -> &Opening
+        ensures { result.now ≡ self.now.opening }
+    {
+        &self.opening
+    }
+
+    /// The book. It is the replay of a history from the opening, and sound where that is covered.
+    pub fn book(&self) -> &Book
+        ensures value { result.now ≡ self.now.now.book }
+        ensures locked { IsLocked self.now }
+    {
+        &self.book
+    }
+
+    /// The book, for one who has read that it is sound.
+    pub fn into_book(self) -> Book
+        ensures value { result ≡ self.now.book }
+        ensures locked { IsLocked self }
+    {
+        self.book
+    }
+
+    /// The pass's rank joins where it is absent or dead, the book decides, and the pass gets a new
+    /// task of the rank's ticket, if it has one.
+    pub fn take(&mut self, rank: u32) -> Result<Took, Untaken>
+        requires { rank < length self.old.now.book.ranks }
+        ensures { HasEntered rank (taken result) self.old self.new }
+    {
+        let took = take(self.alloc, &mut self.book, rank);
+        note(&mut self.tickets, rank, &took);
+        self.count = one_more(self.count);
+        took
+    }
+
+    /// A point that was found under the ticket of the pass's last work. It takes no memory.
+    pub fn solution(&mut self, rank: u32, point: Point) -> Heard
+        requires { rank < length self.old.now.book.ranks }
+        ensures { HasEntered rank (offered point result) self.old self.new }
+    {
+        let ticket = self.ticket(rank);
+        let heard = self.book.hear(rank, Report::Solution { ticket, point });
+        self.count = one_more(self.count);
+        heard
+    }
+
+    /// A box that is handed under the ticket of the pass's last work.
+    pub fn hand(&mut self, rank: u32, number: u64, area: &IntBox) -> Heard
+        requires there { rank < length self.old.now.book.ranks }
+        requires width { length area.now ≡ length self.old.now.book.problem.columns }
+        ensures { HasEntered rank (handed number area.now result) self.old self.new }
+    {
+        let ticket = self.ticket(rank);
+        let heard = hand(self.alloc, &mut self.book, rank, ticket, number, area);
+        self.count = one_more(self.count);
+        heard
+    }
+
+    /// How many boxes are left under the ticket of the pass's last work, and the least of their
+    /// floors. A racer's book then decides.
+    pub fn state(&mut self, rank: u32, left: u64, floor: i128) -> Result<Reply, Unfinished>
+        requires there { rank < length self.old.now.book.ranks }
+        requires some { 0 < left }
+        ensures { HasEntered rank (stated left floor result) self.old self.new }
+    {
+        let ticket = self.ticket(rank);
+        let reply = state(&mut self.book, rank, ticket, left, floor);
+        self.count = one_more(self.count);
+        reply
+    }
+
+    /// A task of which no box is left. It is Stale where it is not of the rank's ticket. It takes
+    /// no memory.
+    pub fn done(&mut self, rank: u32, task: &Task) -> Heard
+        requires there { rank < length self.old.now.book.ranks }
+        requires none { task.now.boxes ≡ [] }
+        ensures { HasEnded rank task.now result self.old self.new }
+    {
+        if !is_of_ticket(&self.book, rank, task) {
+            return Heard::Stale;
+        }
+        let heard = done(&mut self.book, rank, task);
+        self.count = one_more(self.count);
+        heard
+    }
+
+    /// The rank is gone, in the middle of a task. It takes no memory.
+    pub fn give_up(&mut self, rank: u32, _task: &Task)
+        requires { rank < length self.old.now.book.ranks }
+        ensures { HasEnteredAlive rank (given_up _task.now) self.old self.new }
+    {
+        if self.book.is_alive(rank) {
+            self.book.gone(rank);
+            self.count = one_more(self.count);
+        }
+    }
+
+    /// The rank is gone. It takes no memory.
+    pub fn leave(&mut self, rank: u32)
+        requires { rank < length self.old.now.book.ranks }
+        ensures { HasEnteredAlive rank left self.old self.new }
+    {
+        if self.book.is_alive(rank) {
+            self.book.gone(rank);
+            self.count = one_more(self.count);
+        }
+    }
+
+    /// What is held now, to be saved. After an error nothing has changed.
+    pub fn snapshot(&mut self, rank: u32) -> Result<Snapshot, AllocError>
+        requires { rank < length self.old.now.book.ranks }
+        ensures made { IfOk result (IsSnapshotOf self.old self.new.count) }
+        ensures ok { OnOk result (HasEntered rank copied self.old self.new) }
+        ensures err { OnErr result (self.new ≡ self.old) }
+    {
+        let snapshot = self.copy()?;
+        self.count = one_more(self.count);
+        Ok(snapshot)
+    }
+
+    // What is held now, with one call more.
+    fn copy(&self) -> Result<Snapshot, AllocError>
+        ensures { IfOk result (IsSnapshotOf self.now (one_more self.now.count)) }
+    {
+        let opening = copy_opening(&self.opening)?;
+        let best = copied(self.book.best())?;
+        let nodes = self.book.primitive()?;
+        let nodes = saved_of(self.alloc, nodes.as_slice())?;
+        Ok(Snapshot {
+            opening,
+            best,
+            deliveries: self.book.count(),
+            nodes,
+            count: one_more(self.count),
+        })
+    }
+
+    // The ticket of the last work of a pass.
+    fn ticket(&self, rank: u32) -> Ticket
+        requires { rank < length self.now.now.book.ranks }
+        ensures { result ≡ own_ticket self.now.now rank }
+    {
+        self.tickets[rank as usize]
+    }
+}
+
+// One call more, up to the end of the count.
+fn one_more(count: u64) -> u64
+    ensures { result ≡ one_more count }
+{
+    count.saturating_add(1)
+}
