@@ -91,10 +91,8 @@ fn reads_three_versions_and_names_the_field_that_is_cut_short(rt: HostRuntime) -
         assert!(rt; place(decode(alloc, &other)) == Some(0));
     }
     for (left, at) in CUTS {
-        assert!(rt;
-            place(decode(alloc, &NOTHING[..left])) == Some(at),
-            "{left}"
-        );
+        let cut = NOTHING.get(..left).unwrap_or(&[]);
+        assert!(rt; place(decode(alloc, cut)) == Some(at), "{left}");
     }
     Ok(())
 }
