@@ -1,0 +1,4 @@
+pub mod Finding
+pub mod Giving
+pub mod Keeping
+pub mod Saving

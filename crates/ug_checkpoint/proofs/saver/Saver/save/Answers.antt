@@ -1,0 +1,84 @@
+use Rattle.std.proofs.Common.{List, ℕ, subst}
+use Rattle.ug_disk.specs.Crashes.{Leaves}
+use Rattle.ug_slots.specs.Keepers.{last_of, target_of}
+use Rattle.ug_slots.specs.Runs.{Becomes, OnlyOpens, IsOldOrNew, MaySave, HasSaved}
+use Rattle.ug_checkpoint.proofs.Finding.{has_new}
+use Rattle.ug_checkpoint.proofs.Keeping.{kept_saved, kept_failed}
+use Rattle.ug_checkpoint.proofs.Saving.{safe, safe_before, finds}
+use Rattle.ug_checkpoint.proofs.saver.Saver.save.Goals as goal
+
+pub returns-in_err-buffer-clause-any_moment : goal.returns-in_err-buffer-clause-any_moment
+returns-in_err-buffer-clause-any_moment g c =
+    let saver = c.args.self.now in
+    let image = c.args.image.now in
+    safe_before (last_of saver.keeper) saver.sequence (g.D.Disk.told c.args.disk.now) image
+    (λ slot. has_new image slot c.requires.image c.requires.fits) c.requires.next
+    (c.requires.kept.rests, c.requires.kept.images)
+
+pub returns-in_err-body-clause-any_moment : goal.returns-in_err-body-clause-any_moment
+returns-in_err-body-clause-any_moment g c =
+    let saver = c.args.self.now in
+    let image = c.args.image.now in
+    safe_before (last_of saver.keeper) saver.sequence (g.D.Disk.told c.args.disk.now) image
+    (λ slot. has_new image slot c.requires.image c.requires.fits) c.requires.next
+    (c.requires.kept.rests, c.requires.kept.images)
+
+pub returns-in_err-save-clause-any_moment : goal.returns-in_err-save-clause-any_moment
+returns-in_err-save-clause-any_moment g c =
+    let saver = c.args.self.now in
+    let image = c.args.image.now in
+    let old = g.D.Disk.told c.args.disk.now in
+    let new = g.D.Disk.told c.save.new.disk in
+    safe (last_of saver.keeper) saver.sequence old new image
+    (λ slot. has_new image slot c.requires.image c.requires.fits) c.requires.next
+    (c.requires.kept.rests, c.requires.kept.images)
+    (subst (λ (b : List ℕ). Leaves (OnlyOpens old (target_of saver.keeper) (IsOldOrNew b)) old new)
+    c.in_ok-body.ensures.rest c.save.ensures.any_moment)
+
+pub returns-in_err-save-clause-kept : goal.returns-in_err-save-clause-kept
+returns-in_err-save-clause-kept g c =
+    let saver = c.args.self.now in
+    let image = c.args.image.now in
+    let old = g.D.Disk.told c.args.disk.now in
+    let new = g.D.Disk.told c.save.new.disk in
+    kept_failed saver.keeper c.save.new.self old new saver.sequence image
+    (λ slot. has_new image slot c.requires.image c.requires.fits) c.requires.kept
+    c.save.ensures.knows c.in_err-save.ensures.kept
+    (subst (λ (b : List ℕ). Becomes old new (target_of saver.keeper) (MaySave b))
+    c.in_ok-body.ensures.rest c.save.ensures.now)
+
+pub returns-clause-any_moment : goal.returns-clause-any_moment
+returns-clause-any_moment g c =
+    let saver = c.args.self.now in
+    let image = c.args.image.now in
+    let old = g.D.Disk.told c.args.disk.now in
+    let new = g.D.Disk.told c.save.new.disk in
+    safe (last_of saver.keeper) saver.sequence old new image
+    (λ slot. has_new image slot c.requires.image c.requires.fits) c.requires.next
+    (c.requires.kept.rests, c.requires.kept.images)
+    (subst (λ (b : List ℕ). Leaves (OnlyOpens old (target_of saver.keeper) (IsOldOrNew b)) old new)
+    c.in_ok-body.ensures.rest c.save.ensures.any_moment)
+
+pub returns-clause-acknowledged : goal.returns-clause-acknowledged
+returns-clause-acknowledged g c =
+    let saver = c.args.self.now in
+    let image = c.args.image.now in
+    let old = g.D.Disk.told c.args.disk.now in
+    let new = g.D.Disk.told c.save.new.disk in
+    finds (last_of saver.keeper) saver.sequence old new image
+    (λ slot. has_new image slot c.requires.image c.requires.fits) c.requires.next
+    (c.requires.kept.rests, c.requires.kept.images)
+    (subst (λ (b : List ℕ). Becomes old new (target_of saver.keeper) (HasSaved b))
+    c.in_ok-body.ensures.rest c.in_ok-save.ensures.saved)
+
+pub returns-clause-kept : goal.returns-clause-kept
+returns-clause-kept g c =
+    let saver = c.args.self.now in
+    let image = c.args.image.now in
+    let old = g.D.Disk.told c.args.disk.now in
+    let new = g.D.Disk.told c.save.new.disk in
+    kept_saved saver.keeper c.save.new.self old new saver.sequence image
+    (λ slot. has_new image slot c.requires.image c.requires.fits) c.requires.kept
+    c.save.ensures.knows c.in_ok-save.ensures.last
+    (subst (λ (b : List ℕ). Becomes old new (target_of saver.keeper) (HasSaved b))
+    c.in_ok-body.ensures.rest c.in_ok-save.ensures.saved)

@@ -1,0 +1,22 @@
+//! Checkpoints: images of a run in the two slots of a disk, saved in turn and found again.
+//! It stands on ug_slots for the saving of bytes, on ug_image and ug_blocks for an image's bytes.
+//! `load` finds the image with the greater sequence of the slots that are open, or names the first
+//! field that is bad. `Saver::save` keeps that at each moment a crash leaves two slots in which a
+//! load finds what it could find before, the last acknowledged image, or the whole new one.
+#![tactic(auto)]
+
+mod body;
+mod error;
+mod found;
+mod laws;
+mod loading;
+mod saver;
+mod stored;
+#[cfg(test)]
+mod tests;
+
+pub use error::{LoadError, SaveError};
+pub use found::Found;
+pub use laws::recovery_is_one;
+pub use loading::load;
+pub use saver::Saver;

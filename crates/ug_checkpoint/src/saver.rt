@@ -1,0 +1,108 @@
+ghost use Rattle.std.specs.Prelude.{◌≡◌, ◌≤◌, ◌<◌, ◌^◌, Option, None, Some, MatchOption, length, IfOk, OnOk, OnErr, IsErrOf};
+ghost use Rattle.std.specs.Option.{option_copied};
+ghost use Rattle.ug_io.specs.Outside.{Rose};
+ghost use Rattle.ug_disk.specs.Histories.{History};
+ghost use Rattle.ug_disk.specs.Crashes.{Leaves};
+ghost use Rattle.ug_image.specs.Images.{IsImage};
+ghost use Rattle.ug_image.specs.Spelling.{spelled};
+ghost use Rattle.ug_checkpoint.specs.Recovery.{HasFound};
+
+use crate::body::Body;
+use crate::error::SaveError;
+use crate::found::Found;
+use std::alloc::{AllocError, Global};
+use ug_disk::Disk;
+use ug_image::Image;
+use ug_slots::Keeper;
+
+/// How many bytes are written at once.
+const BLOCK: usize = 65_536;
+
+/// Saves images, each over the one before the last.
+#[derive(Drop)]
+pub struct Saver {
+    keeper: Keeper,
+    sequence: u64,
+}
+
+impl Saver {
+    ghost use Rattle.ug_checkpoint.specs.Savers.{sequence_of, last_slot, next_slot};
+    ghost use Rattle.ug_checkpoint.specs.Savers.{IsKept, IsSafe, Finds};
+
+    /// A saver of the slots as a load left them that found this.
+    pub fn new(found: Option<&Found>) -> Saver
+        ensures sequence { MatchOption found.entry (sequence_of result ≡ 0)
+            (λ found. sequence_of result ≡ found.now.image.sequence) }
+        ensures last { MatchOption found.entry (last_slot result ≡ None)
+            (λ found. last_slot result ≡ Some found.now.slot) }
+        ensures kept { (old new : Option History)
+            → HasFound old new (option_copied found.entry) → IsKept result new }
+    {
+        match found {
+            Some(found) => Saver {
+                keeper: Keeper::new(Some(found.slot)),
+                sequence: found.image.sequence,
+            },
+            None => Saver {
+                keeper: Keeper::new(None),
+                sequence: 0,
+            },
+        }
+    }
+
+    /// The sequence of the last acknowledged image, 0 before any.
+    pub fn sequence(&self) -> u64
+        ensures { result ≡ sequence_of self.now }
+    {
+        self.sequence
+    }
+
+    /// Saves an image. At `Ok` it is acknowledged: each crash leaves it from then on. At `Err` the
+    /// last acknowledged one stays.
+    pub fn save<D: Disk>(
+        &mut self,
+        alloc: Global,
+        disk: &mut D,
+        image: &Image,
+    ) -> Result<(), SaveError>
+        requires kept { IsKept self.old (D.told disk.old) }
+        requires image { IsImage image.now }
+        requires next { sequence_of self.old < image.now.sequence }
+        requires fits { length (spelled image.now) < 2 ^ 63 }
+
+        // At each moment, also where it fails, recovery finds the last acknowledged image, the new
+        // one, or what it could find before.
+        ensures any_moment { Leaves (IsSafe (last_slot self.old) (D.told disk.old)
+            (record { slot = next_slot self.old; image = image.now }))
+            (D.told disk.old) (D.told disk.new) }
+
+        ensures acknowledged { OnOk result (Finds (D.told disk.new)
+            (record { slot = next_slot self.old; image = image.now })) }
+        ensures kept { IsKept self.new (D.told disk.new) }
+        ensures last { OnOk result (last_slot self.new ≡ Some (next_slot self.old)) }
+        ensures sequence { OnOk result (sequence_of self.new ≡ image.now.sequence) }
+        ensures err_last { OnErr result (last_slot self.new ≡ last_slot self.old) }
+        ensures err_sequence { OnErr result (sequence_of self.new ≡ sequence_of self.old) }
+
+        ensures never_falls { D.faults disk.old ≤ D.faults disk.new }
+        ensures fault { IsErrOf result SaveError.Fault
+            → Rose (D.faults disk.old) (D.faults disk.new) }
+        ensures memory { IsErrOf result SaveError.Memory → D.told disk.new ≡ D.told disk.old }
+        ensures calm { (IsErrOf result SaveError.Fault → ⊥)
+            → D.faults disk.new ≡ D.faults disk.old }
+    {
+        let mut buffer = zeros(alloc, BLOCK)?;
+        let mut body = Body::new(alloc, image)?;
+        self.keeper.save(disk, &mut body, &mut buffer)?;
+        self.sequence = image.sequence;
+        Ok(())
+    }
+}
+
+// This many zeros, more than none.
+fn zeros(alloc: Global, n: usize) -> Result<Vec<u8>, AllocError>
+    requires { 0 < n }
+    ensures { IfOk result (λ v. 0 < length v.items) }
+{
+    vec![in alloc; 0u8; n]
+}
