@@ -70,7 +70,7 @@ has_new image slot is small has =
       };
     }
 
-has_one : (slot : List ℕ) (a b : Image) → Has slot a → Has slot b → a ≡ b
+pub has_one : (slot : List ℕ) (a b : Image) → Has slot a → Has slot b → a ≡ b
 has_one slot a b first second =
     let told = image_is_told (stored slot) a first.spells in
     let also = image_is_told (stored slot) b second.spells in cc

@@ -1,4 +1,5 @@
 pub mod Finding
 pub mod Giving
+pub mod Having
 pub mod Keeping
 pub mod Saving

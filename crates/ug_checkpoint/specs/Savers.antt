@@ -6,7 +6,7 @@ use Rattle.ug_disk.specs.Histories.{History, slot_of}
 use Rattle.ug_disk.specs.Crashes.{MayLeaveBoth}
 use Rattle.ug_slots.specs.Gates.{IsSynced, Opens}
 use Rattle.ug_slots.specs.Keepers.{Knows, last_of, target_of}
-use Rattle.ug_slots.specs.Runs.{Stands, CouldLeave, other}
+use Rattle.ug_slots.specs.Runs.{Becomes, Stands, CouldLeave, other}
 use Rattle.ug_image.specs.declared.image.Image.{Image}
 use Rattle.ug_checkpoint.specs.declared.found.Found.{Found}
 use Rattle.ug_checkpoint.specs.declared.saver.Saver.{Saver}
@@ -74,3 +74,20 @@ pub record IsSafe (last : Option Slot) (told : Option History) (new : Found) (ze
 abbrev pub Finds : Option History → Found → Type 0
 Finds told found = IfSome told (λ history. (zero one : List ℕ)
     → MayLeaveBoth history.now zero one → Recovered zero one (Some found))
+
+-- a read of the slot gives the image, where it is told
+abbrev pub IsWritten : Slot → Image → Option History → Type 0
+IsWritten slot image told = Stands told slot (λ state. Has state.bytes image)
+
+-- whatever became of the slot, the other stands as it did
+abbrev pub IsLeftAlone : Slot → Option History → Option History → Type 0
+IsLeftAlone slot old new = Becomes old new slot (λ before after. Unit {0})
+
+-- each image that recovery could find at this moment has P, and so has the last acknowledged one
+pub record AllHave (P : Image → Type 0) (slot : Option Slot) (now : History) : Type 0 where
+  pub could : (found : Found) → CouldFind (Some now) (Some found) → P found.image
+  pub last : (found : Found) → IsLast slot (Some now) (Some found) → P found.image
+
+-- each image that recovery finds in slots of these bytes has P
+abbrev pub FindsOnly : (Image → Type 0) → List ℕ → List ℕ → Type 0
+FindsOnly P zero one = (found : Found) → Recovered zero one (Some found) → P found.image

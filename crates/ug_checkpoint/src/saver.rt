@@ -27,7 +27,7 @@ pub struct Saver {
 
 impl Saver {
     ghost use Rattle.ug_checkpoint.specs.Savers.{sequence_of, last_slot, next_slot};
-    ghost use Rattle.ug_checkpoint.specs.Savers.{IsKept, IsSafe, Finds};
+    ghost use Rattle.ug_checkpoint.specs.Savers.{IsKept, IsSafe, IsLeftAlone, IsWritten, Finds};
 
     /// A saver of the slots as a load left them that found this.
     pub fn new(found: Option<&Found>) -> Saver
@@ -78,6 +78,9 @@ impl Saver {
 
         ensures acknowledged { OnOk result (Finds (D.told disk.new)
             (record { slot = next_slot self.old; image = image.now })) }
+        ensures written { OnOk result
+            (IsWritten (next_slot self.old) image.now (D.told disk.new)) }
+        ensures alone { IsLeftAlone (next_slot self.old) (D.told disk.old) (D.told disk.new) }
         ensures kept { IsKept self.new (D.told disk.new) }
         ensures last { OnOk result (last_slot self.new ≡ Some (next_slot self.old)) }
         ensures sequence { OnOk result (sequence_of self.new ≡ image.now.sequence) }

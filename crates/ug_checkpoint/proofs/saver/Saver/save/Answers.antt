@@ -1,7 +1,9 @@
 use Rattle.std.proofs.Common.{List, ℕ, subst}
 use Rattle.ug_disk.specs.Crashes.{Leaves}
 use Rattle.ug_slots.specs.Keepers.{last_of, target_of}
+use Rattle.ug_slots.proofs.Going.{becomes_is, becomes_same, stands_after, stands_all}
 use Rattle.ug_slots.specs.Runs.{Becomes, OnlyOpens, IsOldOrNew, MaySave, HasSaved}
+use Rattle.ug_checkpoint.specs.Bodies.{Has, body_of}
 use Rattle.ug_checkpoint.proofs.Finding.{has_new}
 use Rattle.ug_checkpoint.proofs.Keeping.{kept_saved, kept_failed}
 use Rattle.ug_checkpoint.proofs.Saving.{safe, safe_before, finds}
@@ -82,3 +84,36 @@ returns-clause-kept g c =
     c.save.ensures.knows c.in_ok-save.ensures.last
     (subst (λ (b : List ℕ). Becomes old new (target_of saver.keeper) (HasSaved b))
     c.in_ok-body.ensures.rest c.in_ok-save.ensures.saved)
+
+pub returns-in_err-buffer-clause-alone : goal.returns-in_err-buffer-clause-alone
+returns-in_err-buffer-clause-alone g c =
+    let told = g.D.Disk.told c.args.disk.now in
+    let slot = target_of c.args.self.now.keeper in
+    becomes_same (λ a b. Unit {0}) told slot (stands_all (λ s. Unit {0}) told slot (λ s. tt))
+
+pub returns-in_err-body-clause-alone : goal.returns-in_err-body-clause-alone
+returns-in_err-body-clause-alone g c =
+    let told = g.D.Disk.told c.args.disk.now in
+    let slot = target_of c.args.self.now.keeper in
+    becomes_same (λ a b. Unit {0}) told slot (stands_all (λ s. Unit {0}) told slot (λ s. tt))
+
+pub returns-in_err-save-clause-alone : goal.returns-in_err-save-clause-alone
+returns-in_err-save-clause-alone g c =
+    becomes_is _ (λ a b. Unit {0}) (g.D.Disk.told c.args.disk.now) (g.D.Disk.told c.save.new.disk)
+    (target_of c.args.self.now.keeper) c.save.ensures.now (λ a b r. tt)
+
+pub returns-clause-alone : goal.returns-clause-alone
+returns-clause-alone g c =
+    becomes_is _ (λ a b. Unit {0}) (g.D.Disk.told c.args.disk.now) (g.D.Disk.told c.save.new.disk)
+    (target_of c.args.self.now.keeper) c.save.ensures.now (λ a b r. tt)
+
+pub returns-clause-written : goal.returns-clause-written
+returns-clause-written g c =
+    let image = c.args.image.now in
+    let old = g.D.Disk.told c.args.disk.now in
+    let new = g.D.Disk.told c.save.new.disk in
+    let slot = target_of c.args.self.now.keeper in
+    stands_after (HasSaved (body_of image)) (λ state. Has state.bytes image) old new slot
+    (subst (λ (b : List ℕ). Becomes old new slot (HasSaved b))
+    c.in_ok-body.ensures.rest c.in_ok-save.ensures.saved)
+    (λ before after saved. has_new image after.bytes c.requires.image c.requires.fits saved.1)
