@@ -1,0 +1,181 @@
+-- A run that goes on from what was loaded.
+use Rattle.std.proofs.Common.{◌≡◌, ℕ, suc, zero, ℤ, ◌+ℤ◌, ◌<ℤ◌, ◌≤ℤ◌, List, [], ◌∷◌, map, Option, None, Some, IfSome, IfErr, Result, Ok, Err, refl, sym, ◌∙◌, ap, subst, arith}
+use Rattle.std.proofs.lemmas.Int.{ints}
+use Rattle.std.specs.Prelude.{All}
+use Rattle.ug_disk.specs.Histories.{History}
+use Rattle.ug_rows.specs.declared.area.Interval.{Interval}
+use Rattle.ug_rows.specs.Rows.{value_of}
+use Rattle.ug_problem.specs.Instances.{Instance, root_of}
+use Rattle.ug_problem.specs.Better.{Covered}
+use Rattle.ug_problem.specs.Feasible.{Feasible}
+use Rattle.ug_nodes.specs.declared.change.Change.{Change}
+use Rattle.ug_nodes.specs.Changes.{AreChangesOf, area_by}
+use Rattle.ug_rules.specs.declared.settings.Settings.{Settings}
+use Rattle.ug_rules.specs.State.{BookState}
+use Rattle.ug_book.specs.Starts.{started}
+use Rattle.ug_image.specs.declared.image.SavedNode.{SavedNode}
+use Rattle.ug_image.specs.Images.{AreSavedNodes, IsImage}
+use Rattle.ug_checkpoint.specs.declared.found.Found.{Found}
+use Rattle.ug_checkpoint.specs.Recovery.{HasFound}
+use Rattle.ug_restart.specs.Moments.{IsCovered, boxes_in}
+use Rattle.ug_restart.specs.Openings.{CoversWhatIsFound, IsNotSaved}
+use Rattle.ug_restart.specs.Starts.{IsGoneOn, IsNotGoneOn, IsSpent, boxes_saved, next_run}
+use Rattle.ug_restart.specs.declared.fault.StartFault.{StartFault}
+use Rattle.ug_restart.specs.declared.fault.StartFault.TheVariants.{Memory, DiskFault, BadImage, NoCheckpoint, OtherProblem, SmallerGap, Spent}
+use Rattle.ug_restart.proofs.Composes.{chosen_has, loaded_could}
+
+-- what was loaded is an image
+pub image_of_loaded : (old mid : Option History) (found : Found) → HasFound old mid (Some found)
+    → IsImage found.image
+image_of_loaded old mid found has =
+    let there = chosen_has has.zero has.one has.is.in_zero has.is.in_one found has.is.has_zero
+    has.is.has_one has.is.greater in
+    there.spells.is
+
+-- the book that goes on from what was loaded
+pub going_on : (p : Instance) (settings : Settings) (old mid : Option History) (found : Found)
+    (run : ℕ) (best : Option (List ℤ)) (boxes : List (List Change)) (book : BookState)
+    → HasFound old mid (Some found) → found.image.problem ≡ p
+    → found.image.gap ≤ℤ settings.gap → ¬ IsSpent (Some found) → run ≡ next_run (Some found)
+    → best ≡ found.image.best → boxes ≡ boxes_saved found.image.nodes
+    → book ≡ started p run best boxes settings → IsGoneOn p settings old book
+going_on p settings old mid found run best boxes book has problem gap room ran same kept made =
+    record {
+      found = found;
+      could = loaded_could old mid (Some found) has;
+      problem = problem;
+      gap = gap;
+      room = room;
+      is = subst (λ r. book ≡ started p r found.image.best (boxes_saved found.image.nodes) settings)
+          ran
+          (subst (λ b. book ≡ started p run b (boxes_saved found.image.nodes) settings) same
+          (subst (λ b. book ≡ started p run best b settings) kept made));
+    }
+
+-- the incumbent that was loaded is feasible
+pub feasible_loaded : (p : Instance) (old mid : Option History) (found : Found)
+    (best : Option (List ℤ)) → HasFound old mid (Some found) → found.image.problem ≡ p
+    → best ≡ found.image.best → IfSome best (Feasible p)
+feasible_loaded p old mid found best has problem same =
+    subst (λ b. IfSome b (Feasible p)) (sym same)
+    (subst (λ q. IfSome found.image.best (Feasible q)) problem
+    (image_of_loaded old mid found has).best)
+
+-- each box that was saved is that of a saved node
+each_box : (run : ℕ) (root : List Interval) (nodes : List SavedNode) → AreSavedNodes run root nodes
+    → All (AreChangesOf root) (boxes_saved nodes)
+each_box run root [] are k d below = absurd (omega (arith, below))
+each_box run root (node ∷ nodes) are zero d below = (are zero (omega arith)).changes
+each_box run root (node ∷ nodes) are (suc k) d below =
+    each_box run root nodes (λ j low. are (suc j) (omega (arith, low))) k d (omega (arith, below))
+
+pub boxes_loaded : (p : Instance) (old mid : Option History) (found : Found)
+    (boxes : List (List Change)) → HasFound old mid (Some found) → found.image.problem ≡ p
+    → boxes ≡ boxes_saved found.image.nodes → All (AreChangesOf (root_of p)) boxes
+boxes_loaded p old mid found boxes has problem same =
+    subst (All (AreChangesOf (root_of p))) (sym same)
+    (subst (λ q. All (AreChangesOf (root_of q)) (boxes_saved found.image.nodes)) problem
+    (each_box found.image.run (root_of found.image.problem) found.image.nodes
+    (image_of_loaded old mid found has).nodes))
+
+boxes_are : (root : List Interval) (nodes : List SavedNode)
+    → boxes_in root nodes ≡ map (area_by root) (boxes_saved nodes)
+boxes_are root [] = refl
+boxes_are root (node ∷ nodes) = ap (λ bs. area_by root node.changes ∷ bs) (boxes_are root nodes)
+
+less_by : (a b c d : ℤ) → a ≤ℤ b → (c +ℤ b) <ℤ d → (c +ℤ a) <ℤ d
+less_by a b c d low less = omega (arith, ints, low, less)
+
+-- a point that is better by more than a gap is so by more than a smaller one
+less_than_best : (p : Instance) (gap more : ℤ) (best : Option (List ℤ)) (x : List ℤ) → gap ≤ℤ more
+    → IfSome best (λ y. (value_of p.objective x +ℤ more) <ℤ value_of p.objective y)
+    → IfSome best (λ y. (value_of p.objective x +ℤ gap) <ℤ value_of p.objective y)
+less_than_best p gap more None x low less = tt
+less_than_best p gap more (Some y) x low less =
+    less_by gap more (value_of p.objective x) (value_of p.objective y) low less
+
+covered_by_more : (p : Instance) (gap more : ℤ) (best : Option (List ℤ))
+    (boxes : List (List Interval)) → gap ≤ℤ more → Covered p gap best boxes
+    → Covered p more best boxes
+covered_by_more p gap more best boxes low covered = record {
+  incumbent = covered.incumbent;
+  points = λ x better. covered.points x (record {
+    feasible = better.feasible;
+    less = less_than_best p gap more best x low better.less;
+  });
+}
+
+pub covered_on : (p : Instance) (gap : ℤ) (found : Found) → found.image.problem ≡ p
+    → found.image.gap ≤ℤ gap → IsCovered found.image
+    → Covered p gap found.image.best (map (area_by (root_of p)) (boxes_saved found.image.nodes))
+covered_on p gap found problem low covered =
+    subst (Covered p gap found.image.best) (boxes_are (root_of p) found.image.nodes)
+    (covered_by_more p found.image.gap gap found.image.best
+    (boxes_in (root_of p) found.image.nodes) low
+    (subst (λ q. Covered q found.image.gap found.image.best (boxes_in (root_of q)
+    found.image.nodes)) problem covered))
+
+-- what goes on from an image that is Covered is Covered
+pub covered_loaded : (p : Instance) (gap : ℤ) (old mid : Option History) (found : Found)
+    (best : Option (List ℤ)) (boxes : List (List Change)) → HasFound old mid (Some found)
+    → found.image.problem ≡ p → found.image.gap ≤ℤ gap → best ≡ found.image.best
+    → boxes ≡ boxes_saved found.image.nodes → CoversWhatIsFound old
+    → Covered p gap best (map (area_by (root_of p)) boxes)
+covered_loaded p gap old mid found best boxes has problem low same kept covers =
+    subst (λ b. Covered p gap b (map (area_by (root_of p)) boxes)) (sym same)
+    (subst (λ b. Covered p gap found.image.best (map (area_by (root_of p)) b)) (sym kept)
+    (covered_on p gap found problem low (covers found (loaded_could old mid (Some found) has))))
+
+-- a restart is refused for what holds of the fault that it tells
+pub refused_as : {A : Type 0} → (P : StartFault → Type 0) (result : Result A StartFault)
+    (told fault : StartFault) → result ≡ Err told → told ≡ fault → P fault → IfErr result P
+refused_as P result told fault is same holds =
+    subst (λ r. IfErr r P) (sym is) (subst P (sym same) holds)
+
+pub smaller_gap : (p : Instance) (settings : Settings) (old mid : Option History) (found : Found)
+    (fault : StartFault) → HasFound old mid (Some found) → found.image.problem ≡ p
+    → (fault ≡ SmallerGap found.image.gap settings.gap) × (settings.gap <ℤ found.image.gap)
+    → IsNotGoneOn p settings old mid fault
+smaller_gap p settings old mid found fault has problem less =
+    subst (IsNotGoneOn p settings old mid) (sym less.0) (record {
+      found = found;
+      has = has;
+      is = (problem, refl, refl, less.1);
+    })
+
+pub spent : (p : Instance) (settings : Settings) (old mid : Option History) (found : Found)
+    (fault : StartFault) → HasFound old mid (Some found) → found.image.problem ≡ p
+    → found.image.gap ≤ℤ settings.gap → (fault ≡ Spent) × IsSpent (Some found)
+    → IsNotGoneOn p settings old mid fault
+spent p settings old mid found fault has problem low is =
+    subst (IsNotGoneOn p settings old mid) (sym is.0) (record {
+      found = found;
+      has = has;
+      is = (problem, low, is.1);
+    })
+
+pub not_saved_on : (p : Instance) (settings : Settings) (old new : Option History)
+    (fault : StartFault) → IsNotSaved fault → IsNotGoneOn p settings old new fault
+not_saved_on p settings old new Memory not = tt
+not_saved_on p settings old new DiskFault not = tt
+not_saved_on p settings old new (BadImage slot at) not = absurd not
+not_saved_on p settings old new NoCheckpoint not = absurd not
+not_saved_on p settings old new (OtherProblem at kept read) not = absurd not
+not_saved_on p settings old new (SmallerGap kept asked) not = absurd not
+not_saved_on p settings old new Spent not = absurd not
+
+same_told : {A : Type 0} → (a b : StartFault) → ◌≡◌ {A = Result A StartFault} (Err a) (Err b)
+    → a ≡ b
+same_told a b same = cc same
+
+-- a start that says that the disk failed was told so by its first save
+pub failed_as : {A : Type 0} → (result : Result A StartFault)
+    (saved : Result (Unit {0}) StartFault) (told fault : StartFault) → result ≡ Err told
+    → told ≡ fault → saved ≡ Err fault → result ≡ Err DiskFault → saved ≡ Err DiskFault
+failed_as result saved told fault is same was failed =
+    was ∙ ap Err (sym same ∙ same_told told DiskFault (sym is ∙ failed))
+
+-- a save that went well did not say that the disk failed
+pub not_failed_ok : (done : Unit {0})
+    → ◌≡◌ {A = Result (Unit {0}) StartFault} (Ok done) (Err DiskFault) → ⊥
+not_failed_ok done same = absurd cc

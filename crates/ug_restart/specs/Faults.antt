@@ -1,0 +1,16 @@
+-- Which fault of a start stands for one of a load or of a save.
+use Rattle.ug_checkpoint.specs.declared.error.LoadError.{LoadError}
+use Rattle.ug_checkpoint.specs.declared.error.LoadError.TheVariants as load
+use Rattle.ug_checkpoint.specs.declared.error.SaveError.{SaveError}
+use Rattle.ug_checkpoint.specs.declared.error.SaveError.TheVariants as save
+use Rattle.ug_restart.specs.declared.fault.StartFault.{StartFault}
+use Rattle.ug_restart.specs.declared.fault.StartFault.TheVariants.{Memory, DiskFault, BadImage}
+
+abbrev pub fault_of_load : LoadError → StartFault
+fault_of_load load.Memory = Memory
+fault_of_load load.Fault = DiskFault
+fault_of_load (load.BadImage slot at) = BadImage slot at
+
+abbrev pub fault_of_save : SaveError → StartFault
+fault_of_save save.Memory = Memory
+fault_of_save save.Fault = DiskFault

@@ -1,0 +1,5 @@
+pub mod Moments
+pub mod Faults
+pub mod Starts
+pub mod Compares
+pub mod Openings

@@ -1,0 +1,45 @@
+-- What stands on the disk when a run has begun.
+use Rattle.std.specs.Prelude.{◌≡◌, ◌⊎◌, ℕ, List, Option, Some}
+use Rattle.ug_disk.specs.Histories.{History}
+use Rattle.ug_rules.specs.State.{BookState}
+use Rattle.ug_checkpoint.specs.declared.found.Found.{Found}
+use Rattle.ug_checkpoint.specs.declared.saver.Saver.{Saver}
+use Rattle.ug_checkpoint.specs.Recovery.{Recovered}
+use Rattle.ug_checkpoint.specs.Savers.{CouldFind, Finds, IsLast, IsWritten, last_slot, sequence_of}
+use Rattle.ug_slots.specs.Runs.{CouldLeave}
+use Rattle.ug_restart.specs.Moments.{IsCovered, IsImageOf}
+use Rattle.ug_restart.specs.Starts.{IsFirstImage}
+use Rattle.ug_restart.specs.declared.fault.StartFault.{StartFault}
+use Rattle.ug_restart.specs.declared.fault.StartFault.TheVariants.{Memory, DiskFault, BadImage, NoCheckpoint, OtherProblem, SmallerGap, Spent}
+
+-- Whatever a crash leaves, recovery finds an image of this book, and the saver knows its sequence
+-- and its slot.
+pub record IsAcknowledgedStart (told : Option History) (book : BookState) (saver : Saver)
+    : Type 0 where
+  pub found : Found
+  pub finds : Finds told found
+  pub image : IsImageOf book (sequence_of saver) found.image
+  pub last : last_slot saver ≡ Some found.slot
+  pub written : IsWritten found.slot found.image told
+
+-- each image that recovery could find then is Covered
+abbrev pub CoversWhatIsFound : Option History → Type 0
+CoversWhatIsFound told = (found : Found) → CouldFind told (Some found) → IsCovered found.image
+
+-- What the first save of a book may leave: recovery finds what it could find before, the last
+-- acknowledged image, or an image of the book. Before it begins a crash leaves what it could.
+abbrev pub IsSafeFirst : Saver → Option History → BookState → List ℕ → List ℕ → Type 0
+IsSafeFirst saver told book zero one = CouldLeave told zero one
+    ⊎ ((found : Option Found) × Recovered zero one found
+    × ((CouldFind told found ⊎ IsLast (last_slot saver) told found)
+    ⊎ ((new : Found) × (found ≡ Some new) × IsFirstImage book new)))
+
+-- why the first image is not saved
+abbrev pub IsNotSaved : StartFault → Type 0
+IsNotSaved Memory = Unit {0}
+IsNotSaved DiskFault = Unit {0}
+IsNotSaved (BadImage slot at) = ⊥
+IsNotSaved NoCheckpoint = ⊥
+IsNotSaved (OtherProblem at kept read) = ⊥
+IsNotSaved (SmallerGap kept asked) = ⊥
+IsNotSaved Spent = ⊥

@@ -1,0 +1,74 @@
+ghost use Rattle.std.specs.Prelude.{◌≡◌, ◌≤◌, ◌<◌, ◌<ℤ◌, ◌≤ℤ◌, ◌+◌, ◌^◌, IfOk, IfErr, OnOk, IsErrOf};
+ghost use Rattle.std.specs.Option.{option_copied};
+ghost use Rattle.ug_io.specs.Outside.{Rose};
+ghost use Rattle.ug_disk.specs.Crashes.{Leaves};
+ghost use Rattle.ug_checkpoint.specs.Savers.{IsKept, sequence_of};
+ghost use Rattle.ug_restart.specs.Starts.{IsSpent, next_run};
+ghost use Rattle.ug_restart.specs.Openings.{IsAcknowledgedStart, IsNotSaved, IsSafeFirst};
+ghost use Rattle.ug_restart.specs.declared.fault.StartFault.TheVariants.{Spent, SmallerGap};
+
+use crate::fault::StartFault;
+use crate::moment::image_of;
+use std::alloc::Global;
+use ug_book::Book;
+use ug_checkpoint::{Found, Saver};
+use ug_disk::Disk;
+use ug_rules::Settings;
+
+/// The most that a stored run or sequence may be, and 1.
+const SPENT: u64 = 1 << 62;
+
+/// The run after the one that was found, or the first.
+pub fn next_run(found: Option<&Found>) -> Result<u64, StartFault>
+    ensures run { IfOk result (λ run. run ≡ next_run (option_copied found.entry)) }
+    ensures room { OnOk result (¬ IsSpent (option_copied found.entry)) }
+    ensures spent { IfErr result (λ e. (e ≡ Spent) × IsSpent (option_copied found.entry)) }
+{
+    match found {
+        None => Ok(1),
+        Some(found) => {
+            if found.image.run >= SPENT || found.image.sequence >= SPENT {
+                return Err(StartFault::Spent);
+            }
+            Ok(found.image.run + 1)
+        }
+    }
+}
+
+/// Whether the gap that is asked for is at least the one that was kept.
+pub fn check_gap(found: &Found, settings: &Settings) -> Result<(), StartFault>
+    ensures ok { OnOk result (found.now.image.gap ≤ℤ settings.now.gap) }
+    ensures err { IfErr result (λ e. (e ≡ SmallerGap found.now.image.gap settings.now.gap)
+        × (settings.now.gap <ℤ found.now.image.gap)) }
+{
+    let (kept, asked) = (found.image.gap, settings.gap);
+    if asked < kept {
+        return Err(StartFault::SmallerGap { kept, asked });
+    }
+    Ok(())
+}
+
+/// Saves the first image of the book.
+pub fn save_first<D: Disk>(
+    alloc: Global,
+    disk: &mut D,
+    book: &Book,
+    saver: &mut Saver,
+) -> Result<(), StartFault>
+    requires kept { IsKept saver.old (D.told disk.old) }
+    requires room { sequence_of saver.old < 2 ^ 62 }
+    ensures acknowledged { OnOk result (IsAcknowledgedStart (D.told disk.new) book.now saver.new) }
+    ensures kept { IsKept saver.new (D.told disk.new) }
+    ensures refused { IfErr result IsNotSaved }
+    ensures any_moment { Leaves (IsSafeFirst saver.old (D.told disk.old) book.now)
+        (D.told disk.old) (D.told disk.new) }
+    ensures never_falls { D.faults disk.old ≤ D.faults disk.new }
+    ensures fault { IsErrOf result StartFault.DiskFault
+        → Rose (D.faults disk.old) (D.faults disk.new) }
+    ensures calm { (IsErrOf result StartFault.DiskFault → ⊥)
+        → D.faults disk.new ≡ D.faults disk.old }
+{
+    let image = image_of(alloc, book, saver.sequence() + 1)?;
+    saver.save(alloc, disk, &image)?;
+    Ok(())
+}

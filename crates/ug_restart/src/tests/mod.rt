@@ -1,0 +1,5 @@
+//! How runs begin and go on, and which field of a slot is named.
+
+mod fields;
+mod slots;
+mod starts;
