@@ -1,3 +1,4 @@
+ghost use Rattle.std.specs.Prelude.{◌≡◌, ◌≤◌, Ok, IfOk, OnOk, OnErr};
 ghost use Rattle.ug_io.specs.Outside.{Rose};
 
 use std::io;
@@ -25,5 +26,18 @@ impl Faults {
         self.count = self.count.saturating_add(1);
         self.last = Some(error);
         Failed
+    }
+
+    /// What a call gave, its error counted.
+    pub fn counted<T: Drop>(&mut self, got: io::Result<T>) -> Result<T, Failed>
+        ensures given { IfOk result (λ x. got ≡ Ok x) }
+        ensures never_falls { self.old.count ≤ self.new.count }
+        ensures failed { OnErr result (Rose self.old.count self.new.count) }
+        ensures calm { OnOk result (self.new.count ≡ self.old.count) }
+    {
+        match got {
+            Ok(x) => Ok(x),
+            Err(error) => Err(self.add(error)),
+        }
     }
 }
