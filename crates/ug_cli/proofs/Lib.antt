@@ -1,0 +1,3 @@
+pub mod Exclusive
+pub mod Parses
+pub mod Spelled

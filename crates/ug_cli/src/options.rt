@@ -1,0 +1,145 @@
+ghost use Rattle.std.specs.Prelude.{◌≡◌, false, IfOk};
+ghost use Rattle.clap.specs.Words.{app_of, rule_of, with_rule};
+ghost use Rattle.clap.specs.declared.builder.command.Command.TheViews.{out-Command};
+ghost use Rattle.ug_cli.specs.Options.{bare as bare_app, bounds_rules, ranks_rules, ug, with_rules};
+ghost use Rattle.ug_cli.specs.Options.{defaulted as defaulted_rule, demanded as demanded_rule};
+ghost use Rattle.ug_cli.specs.Options.{flag as flag_rule, optional as optional_rule};
+ghost use Rattle.ug_cli.specs.Options.{gen as gen_app, restart as restart_app, show as show_app};
+ghost use Rattle.ug_cli.specs.Options.{positional as positional_rule, solve as solve_app};
+
+use clap::{Arg, ArgAction, Command};
+use std::alloc::{AllocError, Global};
+
+// A word that has to be there, in its place.
+fn positional<'a>(alloc: Global, name: &'a str) -> Arg<'a>
+    ensures rule { rule_of result ≡ positional_rule name.now }
+    ensures local { result.global ≡ false }
+{
+    Arg::new(alloc, name).required(true)
+}
+
+// An option that may be left out.
+fn optional<'a>(alloc: Global, name: &'a str) -> Arg<'a>
+    ensures rule { rule_of result ≡ optional_rule name.now }
+    ensures local { result.global ≡ false }
+{
+    Arg::new(alloc, name).long(name)
+}
+
+// An option that has to be there.
+fn demanded<'a>(alloc: Global, name: &'a str) -> Arg<'a>
+    ensures rule { rule_of result ≡ demanded_rule name.now }
+    ensures local { result.global ≡ false }
+{
+    Arg::new(alloc, name).long(name).required(true)
+}
+
+// An option that has this word where it is left out.
+fn defaulted<'a>(alloc: Global, name: &'a str, word: &'a str) -> Arg<'a>
+    ensures rule { rule_of result ≡ defaulted_rule name.now word.now }
+    ensures local { result.global ≡ false }
+{
+    Arg::new(alloc, name).long(name).default_value(word)
+}
+
+// An option without a word.
+fn flag<'a>(alloc: Global, name: &'a str) -> Arg<'a>
+    ensures rule { rule_of result ≡ flag_rule name.now }
+    ensures local { result.global ≡ false }
+{
+    Arg::new(alloc, name).long(name).action(ArgAction::SetTrue)
+}
+
+// The command with one argument more.
+fn add<'a>(command: Command<'a>, arg: Arg<'a>) -> Result<Command<'a>, AllocError>
+    requires command { (out-Command command).has_globals ≡ false }
+    requires arg { arg.global ≡ false }
+    ensures app { IfOk result (λ c. app_of c
+        ≡ with_rule (app_of command.entry) (rule_of arg.entry)) }
+    ensures local { IfOk result (λ c. (out-Command c).has_globals ≡ false) }
+{
+    command.arg(arg)
+}
+
+// The command with the numbers of the ranks.
+fn with_ranks<'a>(alloc: Global, command: Command<'a>) -> Result<Command<'a>, AllocError>
+    requires { (out-Command command).has_globals ≡ false }
+    ensures app { IfOk result (λ c. app_of c ≡ with_rules (app_of command.entry) ranks_rules) }
+    ensures local { IfOk result (λ c. (out-Command c).has_globals ≡ false) }
+{
+    let command = add(command, defaulted(alloc, "mode", "threads"))?;
+    let command = add(command, defaulted(alloc, "solvers", "1"))?;
+    let command = add(command, flag(alloc, "racing"))?;
+    let command = add(command, optional(alloc, "low"))?;
+    add(command, optional(alloc, "high"))
+}
+
+// The command with the numbers of the bounds.
+fn with_bounds<'a>(alloc: Global, command: Command<'a>) -> Result<Command<'a>, AllocError>
+    requires { (out-Command command).has_globals ≡ false }
+    ensures app { IfOk result (λ c. app_of c ≡ with_rules (app_of command.entry) bounds_rules) }
+    ensures local { IfOk result (λ c. (out-Command c).has_globals ≡ false) }
+{
+    let command = add(command, defaulted(alloc, "every", "100"))?;
+    let command = add(command, defaulted(alloc, "limit", "1099511627776"))?;
+    let command = add(command, optional(alloc, "box"))?;
+    let command = add(command, defaulted(alloc, "gap", "0"))?;
+    add(command, defaulted(alloc, "sockets", "."))
+}
+
+fn solve<'a>(alloc: Global) -> Result<Command<'a>, AllocError>
+    ensures app { IfOk result (λ c. app_of c ≡ solve_app) }
+    ensures local { IfOk result (λ c. (out-Command c).has_globals ≡ false) }
+{
+    let command = add(Command::new(alloc, "solve"), positional(alloc, "file"))?;
+    let command = add(command, optional(alloc, "checkpoint"))?;
+    with_bounds(alloc, with_ranks(alloc, command)?)
+}
+
+fn restart<'a>(alloc: Global) -> Result<Command<'a>, AllocError>
+    ensures app { IfOk result (λ c. app_of c ≡ restart_app) }
+    ensures local { IfOk result (λ c. (out-Command c).has_globals ≡ false) }
+{
+    let command = add(Command::new(alloc, "restart"), positional(alloc, "file"))?;
+    let command = add(command, demanded(alloc, "checkpoint"))?;
+    with_bounds(alloc, with_ranks(alloc, command)?)
+}
+
+fn show<'a>(alloc: Global) -> Result<Command<'a>, AllocError>
+    ensures app { IfOk result (λ c. app_of c ≡ show_app) }
+    ensures local { IfOk result (λ c. (out-Command c).has_globals ≡ false) }
+{
+    add(Command::new(alloc, "show"), demanded(alloc, "checkpoint"))
+}
+
+fn generate<'a>(alloc: Global) -> Result<Command<'a>, AllocError>
+    ensures app { IfOk result (λ c. app_of c ≡ gen_app) }
+    ensures local { IfOk result (λ c. (out-Command c).has_globals ≡ false) }
+{
+    let command = add(Command::new(alloc, "gen"), positional(alloc, "seed"))?;
+    let command = add(command, positional(alloc, "size"))?;
+    add(command, defaulted(alloc, "solvers", "1"))
+}
+
+// The program before its commands.
+fn bare<'a>(alloc: Global) -> Command<'a>
+    ensures { app_of result ≡ bare_app }
+{
+    Command::new(alloc, "ug")
+        .no_binary_name(true)
+        .disable_help_flag(true)
+        .disable_version_flag(true)
+        .disable_help_subcommand(true)
+        .subcommand_required(true)
+}
+
+/// The whole command line.
+pub fn command<'a>(alloc: Global) -> Result<Command<'a>, AllocError>
+    ensures { IfOk result (λ c. app_of c ≡ ug) }
+{
+    bare(alloc)
+        .subcommand(solve(alloc)?)?
+        .subcommand(restart(alloc)?)?
+        .subcommand(show(alloc)?)?
+        .subcommand(generate(alloc)?)
+}

@@ -1,0 +1,75 @@
+/// How many solvers there are, and how many open nodes the pool is to hold.
+#[derive(Clone, Copy, Debug, PartialEq, Eq)]
+pub struct Ranks {
+    pub solvers: u32,
+    /// Whether the solvers begin with a race.
+    pub racing: bool,
+    /// Below this many open nodes, nodes are collected.
+    pub low: u32,
+    /// At this many, no more are.
+    pub high: u32,
+}
+
+/// How often is saved, and how far is gone.
+#[derive(Clone, Copy, Debug, PartialEq, Eq)]
+pub struct Bounds {
+    /// A checkpoint is saved at each delivery whose number is a multiple of this.
+    pub every: u32,
+    /// After this many deliveries the run ends.
+    pub limit: u64,
+    /// The bound of a column that has none in the file.
+    pub boxed: Option<u32>,
+    /// How far from the best an answer may be, in the units that are printed.
+    pub gap: u64,
+}
+
+/// How a file is solved, in threads.
+#[derive(Clone, Copy, Debug, PartialEq, Eq)]
+pub struct Settings<'a> {
+    pub ranks: Ranks,
+    pub bounds: Bounds,
+    /// The folder of the sockets.
+    pub sockets: &'a str,
+}
+
+/// Solve a file.
+#[derive(Clone, Copy, Debug, PartialEq, Eq)]
+pub struct Solve<'a> {
+    pub file: &'a str,
+    /// The folder of the checkpoint, where one is to be kept.
+    pub checkpoint: Option<&'a str>,
+    pub settings: Settings<'a>,
+}
+
+/// Go on from a checkpoint.
+#[derive(Clone, Copy, Debug, PartialEq, Eq)]
+pub struct Restart<'a> {
+    pub file: &'a str,
+    /// The folder of the checkpoint.
+    pub checkpoint: &'a str,
+    pub settings: Settings<'a>,
+}
+
+/// Print a checkpoint.
+#[derive(Clone, Copy, Debug, PartialEq, Eq)]
+pub struct Show<'a> {
+    /// The folder of the checkpoint.
+    pub checkpoint: &'a str,
+}
+
+/// Solve a made instance.
+#[derive(Clone, Copy, Debug, PartialEq, Eq)]
+pub struct Gen {
+    pub seed: u32,
+    pub size: u32,
+    pub solvers: u32,
+}
+
+/// What the words ask for, with defaults filled in.
+#[derive(Clone, Copy, Debug, PartialEq, Eq)]
+pub enum Plan<'a> {
+    Solve(Solve<'a>),
+    Restart(Restart<'a>),
+    Show(Show<'a>),
+    Gen(Gen),
+}

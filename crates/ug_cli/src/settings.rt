@@ -1,0 +1,74 @@
+ghost use Rattle.std.specs.Prelude.{ℕ, Option, IfSome, IfNone, codes};
+ghost use Rattle.clap.specs.Words.{found_of, rows_of};
+ghost use Rattle.ug_cli.specs.Numbers.{IsGivenIf};
+ghost use Rattle.ug_cli.specs.Taken.{AreBounds, AreRanks, AreSettings, word_of};
+
+use crate::given::{given, given_if, given_or, has_word, text_of};
+use crate::plan::{Bounds, Ranks, Settings};
+use clap::ArgMatches;
+
+fn ranks_of(matches: &ArgMatches<'_>) -> Option<Ranks>
+    ensures found { IfSome result (AreRanks (rows_of (found_of matches.now))) }
+    ensures none { IfNone result ((ranks : Ranks)
+        → AreRanks (rows_of (found_of matches.now)) ranks → ⊥) }
+{
+    let solvers = given(matches, "solvers", 1, 256)?;
+    let low = given_or(matches, "low", 1, 65_536, solvers)?;
+    let high = given_or(matches, "high", 1, 131_072, (3 * low).div_ceil(2))?;
+    Some(Ranks {
+        solvers: solvers as u32,
+        racing: has_word(matches, "racing", "true"),
+        low: low as u32,
+        high: high as u32,
+    })
+}
+
+// The bound of the columns that have none.
+fn box_of(matches: &ArgMatches<'_>) -> Option<Option<u32>>
+    ensures found { IfSome result
+        (IsGivenIf 0 1000000000 (word_of (codes "box") (rows_of (found_of matches.now)))) }
+    ensures none { IfNone result ((number : Option ℕ)
+        → IsGivenIf 0 1000000000 (word_of (codes "box") (rows_of (found_of matches.now))) number
+        → ⊥) }
+{
+    match given_if(matches, "box", 0, 1_000_000_000)? {
+        Some(number) => Some(Some(number as u32)),
+        None => Some(None),
+    }
+}
+
+fn bounds_of(matches: &ArgMatches<'_>) -> Option<Bounds>
+    ensures found { IfSome result (AreBounds (rows_of (found_of matches.now))) }
+    ensures none { IfNone result ((bounds : Bounds)
+        → AreBounds (rows_of (found_of matches.now)) bounds → ⊥) }
+{
+    let every = given(matches, "every", 1, 4_294_967_295)?;
+    let limit = given(matches, "limit", 0, 1_099_511_627_776)?;
+    let boxed = box_of(matches)?;
+    let gap = given(matches, "gap", 0, 1_000_000_000_000_000_000)?;
+    Some(Bounds {
+        every: every as u32,
+        limit,
+        boxed,
+        gap,
+    })
+}
+
+/// The settings of a solve.
+pub fn settings_of<'a>(matches: &ArgMatches<'a>) -> Option<Settings<'a>>
+    ensures found { IfSome result (AreSettings (rows_of (found_of matches.now))) }
+    ensures none { IfNone result ((settings : Settings)
+        → AreSettings (rows_of (found_of matches.now)) settings → ⊥) }
+{
+    if !has_word(matches, "mode", "threads") {
+        return None;
+    }
+    let ranks = ranks_of(matches)?;
+    let bounds = bounds_of(matches)?;
+    let sockets = text_of(matches, "sockets")?;
+    Some(Settings {
+        ranks,
+        bounds,
+        sockets,
+    })
+}
