@@ -60,7 +60,8 @@ impl<R: Files<File = File>> Access<'_, R> {
     fn sync(&mut self, slot: Slot) -> io::Result<()> {
         match self {
             Access::Writing(files) => files.sync(slot),
-            Access::Reading(_) => Err(reads_alone()),
+            // Nothing was written here that could wait to reach the disk.
+            Access::Reading(_) => Ok(()),
         }
     }
 }
@@ -78,8 +79,8 @@ impl<'a, R: Files<File = File>> FileDisk<'a, R> {
 
     /// The slots of a folder for reading alone, also while another program writes them. Nothing is
     /// made, and a file that is not there is an empty slot. A slot is copied at the first call on it,
-    /// as two readings in a row gave it. A write is a fault, and so is a sync: what a crash would
-    /// leave is for the program that writes.
+    /// as two readings in a row gave it. A write is a fault, and a sync has nothing to do: what a crash
+    /// would leave is for the program that writes.
     pub fn reading(rt: &'a R, alloc: Global, folder: &'a str) -> FileDisk<'a, R> {
         FileDisk {
             access: Access::Reading(SlotCopies::new(rt, alloc, folder)),
