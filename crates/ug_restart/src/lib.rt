@@ -1,7 +1,7 @@
 //! How a run begins on a disk, new or from its last checkpoint, and what it saves.
 //! It stands on ug_checkpoint and ug_book.
-//! `begin` and `restart` give a book under a run number that no run on this disk had before, once
-//! an image of it is acknowledged: so no ticket of an earlier run is current in it. The book is
+//! `begin` and `restart` give a book under a run number above the one that is found there, once an
+//! image of it is acknowledged: so no ticket of the run that is found is current in it. The book is
 //! sound, that of a restart where the image was Covered. `image_of` is the image of a moment.
 #![tactic(auto)]
 
