@@ -77,7 +77,7 @@ heard_holds n old new place rank l t true_ h =
       wide = m.wide;
     })
 
-event_holds : (n : ℕ) (old new : World) (event : Event) → IsEvent n event
+pub event_holds : (n : ℕ) (old new : World) (event : Event) → IsEvent n event
     → Happens old event new → AreTrue old.book old.sent → Holds n old → Holds n new
 event_holds n old new (Send report) is e true_ h =
     subst (λ w. Holds n w) (sym e) (record {
@@ -107,7 +107,7 @@ event_holds n old new Decide is t true_ h =
     (decided_carries old.sent old.book new.book h.book t.decided))
 
 -- the world before the first event, where no ticket was given
-opening_holds : (b : BookState) (earlier : List Report) → IsBook b → IsSoundBook b → b.last ≡ 0
+pub opening_holds : (b : BookState) (earlier : List Report) → IsBook b → IsSoundBook b → b.last ≡ 0
     → Holds (length b.ranks) (opening b earlier)
 opening_holds b earlier book sound unused = record {
   book = book;
@@ -132,7 +132,7 @@ course_holds n old (event ∷ events) (new ∷ course) are t honest true_ h =
 course_holds n old [] (new ∷ course) are t honest true_ h = absurd t
 course_holds n old (event ∷ events) [] are t honest true_ h = absurd t
 
-loses_nothing : (b : BookState) → IsSoundBook b → LosesNothing b
+pub loses_nothing : (b : BookState) → IsSoundBook b → LosesNothing b
 loses_nothing b sound = record {
   sound = sound;
   covered = λ nodes all. primitive_covered b.problem b.settings.gap b.best (ledger_of b) nodes
@@ -156,7 +156,7 @@ end_holds n old (new ∷ course) h all =
     end_holds n new course (All-head (Holds n) new course all) (All-tail (Holds n) new course all)
 
 -- what stands of the next event is sound too
-left_sound : (next : Option Event) (old new : BookState) → IsBook old → IsSoundBook old
+pub left_sound : (next : Option Event) (old new : BookState) → IsBook old → IsSoundBook old
     → IsLeftBy next old new → IsSoundBook new
 left_sound None old new book sound e = subst IsSoundBook (sym e) sound
 left_sound (Some (Send report)) old new book sound e = subst IsSoundBook (sym e) sound

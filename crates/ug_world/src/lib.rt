@@ -8,14 +8,9 @@
 mod event;
 mod law;
 mod playing;
-#[cfg(test)]
-mod problems;
 mod schedule;
-#[cfg(test)]
-mod schedules;
-#[cfg(test)]
-mod tests;
 
 pub use event::Event;
 pub use law::honest_solvers_lose_nothing;
+pub use playing::{Halt, Playing};
 pub use schedule::{PlayFault, Played, Replies, play};

@@ -1,6 +1,7 @@
 ghost use Rattle.std.specs.Prelude.{◌≡◌, ◌<◌, [], length, slice_get, All, IfErr, IfOk, OnErr, OnOk, Some};
 ghost use Rattle.ug_frames.specs.declared.report.Report.{Report};
 ghost use Rattle.ug_rules.specs.Books.{IsBook};
+ghost use Rattle.ug_book.specs.Views.{IsSameRun};
 ghost use Rattle.ug_rules.specs.Deciding.{Stands};
 ghost use Rattle.ug_rules.specs.Hearing.{IsHearable};
 ghost use Rattle.ug_rules.specs.HearingLaws.{HasRisingChanges};
@@ -79,6 +80,23 @@ impl Playing {
         }
     }
 
+    /// The book.
+    pub fn book(&self) -> &Book
+        ensures { result.now ≡ self.now.book }
+    {
+        &self.book
+    }
+
+    /// Another book takes the place of this one, as after a restart. What was sent stays sent.
+    pub fn replace(&mut self, book: Book)
+        ensures value { self.new ≡ record self.old { book = book } }
+        ensures book { IsBook book }
+    {
+        // The problem tells that the book is one.
+        let _lent = book.problem();
+        self.book = book;
+    }
+
     /// The book and the replies.
     pub fn end(self) -> (Book, Vec<Heard>)
         ensures book { result.0 ≡ self.book }
@@ -95,6 +113,7 @@ impl Playing {
         ensures happened { OnOk result (Happens self.old event.now self.new) }
         ensures halted { IfErr result (IsHalted self.old event.now self.new) }
         ensures wide { length self.new.book.ranks ≡ length self.old.book.ranks }
+        ensures same { IsSameRun self.old.book self.new.book }
     {
         match event {
             Event::Send { report } => self.send(report),
@@ -117,6 +136,7 @@ impl Playing {
         ensures sent { OnOk result (Happens self.old (Event.Send report.now) self.new) }
         ensures err { IfErr result (λ halt. (halt ≡ Memory) × (self.new ≡ self.old)) }
         ensures wide { length self.new.book.ranks ≡ length self.old.book.ranks }
+        ensures same { IsSameRun self.old.book self.new.book }
     {
         let copy = report.clone()?;
         self.sent.push(copy)?;
@@ -129,6 +149,7 @@ impl Playing {
         ensures heard { OnOk result (IsHeard self.old place rank self.new) }
         ensures halted { IfErr result (IsHalted self.old (Event.Hear place rank) self.new) }
         ensures wide { length self.new.book.ranks ≡ length self.old.book.ranks }
+        ensures same { IsSameRun self.old.book self.new.book }
     {
         let report = copy_of(&self.sent, place)?;
         self.replies.reserve(1)?;
@@ -145,6 +166,7 @@ impl Playing {
         ensures decided { OnOk result (HasDecided self.old self.new) }
         ensures halted { IfErr result (IsHalted self.old Event.Decide self.new) }
         ensures wide { length self.new.book.ranks ≡ length self.old.book.ranks }
+        ensures same { IsSameRun self.old.book self.new.book }
     {
         if let Err(_unfinished) = self.book.decide() {
             return Err(Halt::Memory);
