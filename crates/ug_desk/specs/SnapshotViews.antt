@@ -4,10 +4,4 @@ use Rattle.ug_desk.specs.Snapshots.{SnapshotState}
 
 -- what its fields say
 abbrev pub snapshot_of : Inside → SnapshotState
-snapshot_of s = record {
-  opening = s.opening;
-  best = s.best;
-  deliveries = s.deliveries;
-  nodes = s.nodes;
-  count = s.count;
-}
+snapshot_of s = record { opening = s.opening; image = s.image; count = s.count }

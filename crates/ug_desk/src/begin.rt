@@ -24,8 +24,8 @@ pub fn opening_of(alloc: Global, book: &Book) -> Result<Opening, AllocError>
     })
 }
 
-/// A copy of a point that is lent, if one is.
-pub fn copied(point: Option<&Point>) -> Result<Option<Point>, AllocError>
+// A copy of a point that is lent, if one is.
+fn copied(point: Option<&Point>) -> Result<Option<Point>, AllocError>
     ensures { IfOk result (λ copy. copy ≡ option_copied point.entry) }
 {
     match point {
@@ -46,8 +46,8 @@ fn boxes_of(alloc: Global, nodes: &[&Node]) -> Result<Boxes, AllocError>
     Ok(boxes)
 }
 
-/// A copy of changes.
-pub fn copy_of(changes: &Changes) -> Result<Changes, AllocError>
+// A copy of changes.
+fn copy_of(changes: &Changes) -> Result<Changes, AllocError>
     ensures { IfOk result (λ copy. copy ≡ changes.now) }
 {
     changes.clone()

@@ -4,12 +4,11 @@ ghost use Rattle.ug_desk.specs.Histories.{taken, offered, handed, stated, given_
 ghost use Rattle.ug_desk.specs.Entries.{HasEnded, HasEntered, HasEnteredAlive, IsLocked, one_more};
 ghost use Rattle.ug_desk.specs.Snapshots.{IsSnapshotOf};
 
-use crate::begin::{copied, copy_opening, tickets};
+use crate::begin::{copy_opening, tickets};
 use crate::done::done;
 use crate::hand::hand;
 use crate::opening::Opening;
 use crate::reply::Reply;
-use crate::saved::saved_of;
 use crate::snapshot::Snapshot;
 use crate::state::state;
 use crate::take::{note, take};
@@ -21,6 +20,7 @@ use ug_base::Task;
 use ug_book::{Book, Unfinished};
 use ug_frames::Report;
 use ug_nodes::Ticket;
+use ug_restart::image_of;
 use ug_rows::{IntBox, Point};
 use ug_rules::Heard;
 
@@ -196,14 +196,10 @@ impl Locked {
         ensures { IfOk result (IsSnapshotOf self.now (one_more self.now.count)) }
     {
         let opening = copy_opening(&self.opening)?;
-        let best = copied(self.book.best())?;
-        let nodes = self.book.primitive()?;
-        let nodes = saved_of(self.alloc, nodes.as_slice())?;
+        let image = image_of(self.alloc, &self.book, 1)?;
         Ok(Snapshot {
             opening,
-            best,
-            deliveries: self.book.count(),
-            nodes,
+            image,
             count: one_more(self.count),
         })
     }

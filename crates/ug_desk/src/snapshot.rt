@@ -1,19 +1,16 @@
-ghost use Rattle.std.specs.Prelude.{◌≡◌, IfOk};
-ghost use Rattle.std.specs.Option.{option_copied};
+ghost use Rattle.std.specs.Prelude.{◌≡◌};
 ghost use Rattle.ug_desk.specs.Snapshots.{IsSnapshot};
 
 use crate::opening::Opening;
-use crate::saved::Saved;
 use std::marker::Model;
-use ug_rows::Point;
+use ug_image::Image;
 
-/// What a desk held at a moment, to be saved: where its opening is covered, so are its nodes.
+/// What a desk held at a moment, to be saved: where its opening is covered, so is its image.
 #[derive(Drop)]
 pub struct Snapshot {
     pub(crate) opening: Opening,
-    pub(crate) best: Option<Point>,
-    pub(crate) deliveries: u64,
-    pub(crate) nodes: Saved,
+    // Under sequence 1: whoever saves it gives it the one that is next.
+    pub(crate) image: Image,
     pub(crate) count: u64,
 }
 
@@ -31,8 +28,7 @@ impl Model for Snapshot {
 impl Snapshot {
     /// What the desk began with.
     pub fn opening(&self) -> &Opening
-        ensures value { result.now ≡ self.now.opening }
-        ensures covered { IsSnapshot self.now }
+        ensures { result.now ≡ self.now.opening }
     {
         &self.opening
     }
@@ -44,12 +40,11 @@ impl Snapshot {
         self.count
     }
 
-    /// The incumbent, the deliveries and the nodes of then.
-    pub fn into_parts(self) -> (Option<Point>, u64, Saved)
-        ensures best { result.0 ≡ self.best }
-        ensures deliveries { result.1 ≡ self.deliveries }
-        ensures nodes { result.2 ≡ self.nodes }
+    /// The image of then, under sequence 1.
+    pub fn into_image(self) -> Image
+        ensures value { result ≡ self.image }
+        ensures snapshot { IsSnapshot self }
     {
-        (self.best, self.deliveries, self.nodes)
+        self.image
     }
 }

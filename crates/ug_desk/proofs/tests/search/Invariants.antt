@@ -1,5 +1,0 @@
-use Rattle.ug_base.specs.Points.{measure_of}
-use Rattle.ug_desk.proofs.tests.search.Given as goal
-
-abbrev pub decreases-loop : goal.decreases-loop
-decreases-loop l = measure_of l.task.boxes

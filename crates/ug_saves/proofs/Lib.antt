@@ -1,0 +1,4 @@
+pub mod Covering
+pub mod Going
+pub mod Making
+mod Lasts
