@@ -1,0 +1,3 @@
+mod Starting
+mod Endings
+mod Outcomes

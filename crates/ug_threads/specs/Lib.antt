@@ -1,0 +1,4 @@
+pub mod Ends
+pub mod Workers
+pub mod Listening
+pub mod Outcomes

@@ -1,0 +1,33 @@
+-- What a solve promises.
+use Rattle.std.specs.Prelude.{◌≡◌, ◌≢◌, ◌≤◌, ◌⊎◌, ◌+◌, ℕ, [], Option}
+use Rattle.ug_disk.specs.Histories.{History}
+use Rattle.ug_rules.specs.State.{BookState, held_nodes}
+use Rattle.ug_rules.specs.Books.{IsSoundBook}
+use Rattle.ug_restart.specs.declared.outcome.End.{End}
+use Rattle.ug_restart.specs.declared.outcome.Outcome.{Outcome}
+use Rattle.ug_saves.specs.Saves.{IsOfBook}
+use Rattle.ug_saves.specs.Moments.{FindsOne}
+use Rattle.ug_threads.specs.Ends.{IfAnswered, IfBook, IfLimited, IsLimited, IsReplayOf, IsRight, IsStranded}
+
+-- how it ended, by its book
+pub record HasEnded (given : BookState) (end : End) : Type 0 where
+  pub replayed : IfBook end (IsReplayOf given)
+  pub sound : IsSoundBook given → IfBook end IsSoundBook
+  pub answered : IfAnswered end (λ b. held_nodes b ≡ [])
+  pub right : IsSoundBook given → IfAnswered end IsRight
+  pub limited : IfLimited end IsLimited
+  pub stranded : IsStranded end → ⊥
+
+-- the disk was not touched, and no save is counted
+pub record IsUntouched (outcome : Outcome) (old new : Option History) (faults after : ℕ)
+    : Type 0 where
+  pub told : new ≡ old
+  pub calm : after ≡ faults
+  pub missed : outcome.missed ≡ 0
+  pub unsaved : outcome.unsaved ≡ 0
+
+-- where the run ended with a book, recovery finds an image of it, whatever a crash leaves; or a
+-- save is counted
+abbrev pub IsSavedOrCounted : Outcome → Option History → Type 0
+IsSavedOrCounted outcome told = IfBook outcome.end (λ b.
+    (1 ≤ outcome.missed + outcome.unsaved) ⊎ FindsOne (IsOfBook b) told)

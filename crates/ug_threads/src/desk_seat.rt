@@ -1,0 +1,100 @@
+ghost use Rattle.std.specs.Prelude.{◌≡◌, ◌<◌, []};
+
+use crate::seat::Seat;
+use crossbeam_channel::Sender;
+use std::sync::Wait;
+use ug_base::Task;
+use ug_book::Unfinished;
+use ug_desk::{Desk, Pass, Reply, Snapshot, Took, Untaken};
+use ug_gate::{Gate, Moment};
+use ug_rows::{IntBox, Point};
+use ug_rules::Heard;
+
+/// A seat at a desk that threads share, with what a worker brings along.
+#[derive(Drop)]
+pub struct DeskSeat<'a, R, G> {
+    pub rt: &'a R,
+    pub desk: &'a Desk,
+    pub pass: &'a mut Pass,
+    pub gate: &'a G,
+    /// Where snapshots go, if they are wanted.
+    pub sender: Option<Sender<Snapshot>>,
+    /// After how many deliveries one is wanted.
+    pub every: u64,
+    /// How many calls had been made before the last `take` that were not answered Wait.
+    pub seen: u64,
+}
+
+// Sends a snapshot where one is due. One for which memory is wanting is no save.
+fn send_if_due<R: Wait>(
+    rt: &R,
+    desk: &Desk,
+    pass: &mut Pass,
+    sender: &Option<Sender<Snapshot>>,
+    every: u64,
+) {
+    let Some(sender) = sender else {
+        return;
+    };
+    if pass.heard().checked_rem(every) != Some(0) {
+        return;
+    }
+    if let Ok(snapshot) = desk.snapshot(rt, pass) {
+        let _ = sender.send(rt, snapshot);
+    }
+}
+
+impl<'a, R: Wait, G: Gate> Seat for DeskSeat<'a, R, G> {
+    fn take(&mut self) -> Result<Took, Untaken> {
+        self.seen = self.desk.stirred(self.rt);
+        self.gate.pass(self.pass.rank(), Moment::Asking);
+        let took = self.desk.take(self.rt, self.pass);
+        self.gate.pass(self.pass.rank(), Moment::Answered);
+        took
+    }
+
+    fn solution(&mut self, point: Point) -> Heard {
+        self.gate.pass(self.pass.rank(), Moment::Asking);
+        let heard = self.desk.solution(self.rt, self.pass, point);
+        self.gate.pass(self.pass.rank(), Moment::Answered);
+        send_if_due(self.rt, self.desk, self.pass, &self.sender, self.every);
+        heard
+    }
+
+    fn hand(&mut self, number: u64, area: &IntBox) -> Heard {
+        self.gate.pass(self.pass.rank(), Moment::Asking);
+        let heard = self.desk.hand(self.rt, self.pass, number, area);
+        self.gate.pass(self.pass.rank(), Moment::Answered);
+        send_if_due(self.rt, self.desk, self.pass, &self.sender, self.every);
+        heard
+    }
+
+    fn state(&mut self, left: u64, floor: i128) -> Result<Reply, Unfinished> {
+        self.gate.pass(self.pass.rank(), Moment::Asking);
+        let reply = self.desk.state(self.rt, self.pass, left, floor);
+        self.gate.pass(self.pass.rank(), Moment::Answered);
+        send_if_due(self.rt, self.desk, self.pass, &self.sender, self.every);
+        reply
+    }
+
+    fn done(&mut self, task: Task) -> Heard {
+        self.gate.pass(self.pass.rank(), Moment::Asking);
+        let heard = self.desk.done(self.rt, self.pass, task);
+        self.gate.pass(self.pass.rank(), Moment::Answered);
+        send_if_due(self.rt, self.desk, self.pass, &self.sender, self.every);
+        heard
+    }
+
+    fn give_up(&mut self, task: Task) {
+        self.desk.give_up(self.rt, self.pass, task);
+    }
+
+    fn leave(&mut self) {
+        self.desk.leave(self.rt, self.pass);
+    }
+
+    fn rest(&mut self) -> bool {
+        self.desk.rest(self.rt, self.seen);
+        true
+    }
+}

@@ -1,0 +1,48 @@
+//! How a run has ended, by its book.
+
+ghost use Rattle.std.specs.Prelude.{◌≡◌, ◌↔◌, [], Some, IfSome, IsTrue};
+ghost use Rattle.ug_rules.specs.State.{held_nodes};
+ghost use Rattle.ug_rules.specs.Books.{IsSoundBook};
+ghost use Rattle.ug_threads.specs.Ends.{IfAnswered, IfBook, IfLimited, IsEnding, IsLimited, IsRight, IsStranded};
+
+use ug_book::Book;
+use ug_desk::{Locked, Opening};
+use ug_restart::End;
+
+/// The book of what was behind a lock, if it began with this opening.
+pub fn of_opening(locked: Locked, opening: &Opening) -> Option<Book>
+    ensures { IfSome result (IsEnding opening.now) }
+{
+    if !locked.opening().is(opening) {
+        return None;
+    }
+    Some(locked.into_book())
+}
+
+/// How a run ended, by its ending book, if it has one.
+pub fn end_of(ended: Option<Book>) -> End
+    ensures same { IfBook result (λ book. ended ≡ Some book) }
+    ensures answered { IfAnswered result (λ book. held_nodes book ≡ []) }
+    ensures right { IfAnswered result (λ book. IsSoundBook book → IsRight book) }
+    ensures limited { IfLimited result IsLimited }
+    ensures stranded { IsStranded result → ⊥ }
+{
+    let Some(book) = ended else {
+        return End::Memory;
+    };
+    if is_answered(&book) {
+        return End::Answered(book);
+    }
+    if book.settings().limit <= book.count() {
+        return End::Limited(book);
+    }
+    End::Memory
+}
+
+// Whether no node is held.
+fn is_answered(book: &Book) -> bool
+    ensures none { IsTrue result ↔ (held_nodes book.now ≡ []) }
+    ensures right { IsTrue result → IsSoundBook book.now → IsRight book.now }
+{
+    book.answer().is_some()
+}

@@ -1,0 +1,159 @@
+//! A solve by threads that share a desk.
+
+ghost use Rattle.std.specs.Prelude.{◌≡◌, IfSome};
+ghost use Rattle.ug_rules.specs.Books.{IsBook};
+ghost use Rattle.ug_desk.specs.Openings.{IsMade, opening_book};
+ghost use Rattle.ug_threads.specs.Ends.{IsEnding};
+
+use crate::alone::alone;
+use crate::crew::{passes, places, start};
+use crate::ending::of_opening;
+use crate::listener::{Listener, listen};
+use crossbeam_channel::{Receiver, Sender, unbounded};
+use std::alloc::{AllocError, Global};
+use std::sync::{Mutex, Wait};
+use std::thread;
+use std::thread::Threads;
+use ug_book::Book;
+use ug_desk::{Desk, Opening, Pass, Snapshot};
+use ug_gate::Gate;
+
+/// What a solve comes to: its ending book, if memory sufficed, and who took the snapshots.
+#[derive(Drop)]
+pub struct Solved<T> {
+    pub book: Option<Book>,
+    pub listener: T,
+}
+
+/// Solves by threads. Where there is no desk, or what was behind its lock began with another
+/// opening, which the lock's type does not rule out, the caller solves alone, from the opening.
+pub fn solve<R: Threads + Wait + Sync, G: Gate, T: Listener + Drop>(
+    rt: &R,
+    alloc: Global,
+    book: Book,
+    opening: &Opening,
+    gate: &G,
+    every: Option<u64>,
+    listener: T,
+) -> Solved<T>
+    requires made { IsMade book }
+    requires opening { IsBook (opening_book opening.now) }
+    requires ready { T.ready listener }
+    ensures ended { IfSome result.book (IsEnding opening.now) }
+    ensures ready { T.ready result.listener }
+    ensures moves { T.moves listener result.listener }
+{
+    let solved = at_desk(rt, alloc, book, opening, gate, every, listener);
+    if solved.book.is_some() {
+        return solved;
+    }
+    Solved {
+        book: alone(rt, alloc, opening),
+        listener: solved.listener,
+    }
+}
+
+// Solves by threads at a desk. There is no book where memory is wanting for desk or threads.
+fn at_desk<R: Threads + Wait + Sync, G: Gate, T: Listener + Drop>(
+    rt: &R,
+    alloc: Global,
+    book: Book,
+    opening: &Opening,
+    gate: &G,
+    every: Option<u64>,
+    listener: T,
+) -> Solved<T>
+    requires made { IsMade book }
+    requires ready { T.ready listener }
+    ensures ended { IfSome result.book (IsEnding opening.now) }
+    ensures ready { T.ready result.listener }
+    ensures moves { T.moves listener result.listener }
+{
+    let Ok(room) = make_room(alloc, book) else {
+        return Solved {
+            book: None,
+            listener,
+        };
+    };
+    let Room {
+        desk,
+        places,
+        sender,
+        receiver,
+    } = room;
+    let listener = run(
+        rt,
+        &desk,
+        places.as_slice(),
+        gate,
+        sender,
+        &receiver,
+        every,
+        listener,
+    );
+    Solved {
+        book: closed(alloc, desk, places, opening),
+        listener,
+    }
+}
+
+// What threads share.
+#[derive(Drop)]
+struct Room {
+    desk: Desk,
+    places: Vec<Mutex<Pass>>,
+    sender: Sender<Snapshot>,
+    receiver: Receiver<Snapshot>,
+}
+
+fn make_room(alloc: Global, book: Book) -> Result<Room, AllocError>
+    requires { IsMade book }
+{
+    let (sender, receiver) = unbounded(alloc)?;
+    let (desk, passes) = Desk::new(alloc, book)?;
+    let places = places(alloc, passes)?;
+    Ok(Room {
+        desk,
+        places,
+        sender,
+        receiver,
+    })
+}
+
+// Runs the workers to their end, while the caller listens.
+fn run<R: Threads + Wait + Sync, G: Gate, T: Listener + Drop>(
+    rt: &R,
+    desk: &Desk,
+    places: &[Mutex<Pass>],
+    gate: &G,
+    sender: Sender<Snapshot>,
+    receiver: &Receiver<Snapshot>,
+    every: Option<u64>,
+    listener: T,
+) -> T
+    requires { T.ready listener }
+    ensures ready { T.ready result }
+    ensures moves { T.moves listener result }
+{
+    thread::scope(
+        thread::scope_env(),
+        rt,
+        move |scope| -> T
+            requires { T.ready listener }
+            ensures ready { T.ready result }
+            ensures moves { T.moves listener result }
+        {
+            start(scope, rt, desk, places, gate, sender, every);
+            listen(rt, listener, receiver)
+        },
+    )
+}
+
+// The book of a desk that is closed, if it began with this opening.
+fn closed(alloc: Global, desk: Desk, places: Vec<Mutex<Pass>>, opening: &Opening) -> Option<Book>
+    ensures { IfSome result (IsEnding opening.now) }
+{
+    let passes = passes(alloc, places).ok()?;
+    let locked = desk.close(passes).ok()?;
+    of_opening(locked, opening)
+}
