@@ -1,5 +1,4 @@
 mod Moved
-mod ValueLines
 mod SoloLemmas
 mod Steps
 mod EndLemmas

@@ -1,11 +1,13 @@
 -- How the work ends, before anything is written.
-use Rattle.std.specs.Prelude.{◌≡◌, ℕ, pos, ◌⊎◌, List, Option, IfSome, codes}
+use Rattle.std.specs.Prelude.{◌≡◌, ℕ, pos, ◌⊎◌, List, Option, IfSome}
 use Rattle.ug_problem.specs.Instances.{Instance}
 use Rattle.ug_problem.specs.Right.{Right}
 use Rattle.ug_problem.specs.declared.answer.Answer as answers
 use Rattle.ug_mps.specs.declared.fault.MpsFault.{MpsFault}
 use Rattle.ug_mps.specs.Reads.{Reads, FirstFault}
-use Rattle.ug_top.specs.Printed.{line, AreAnswerLines, refused_line}
+use Rattle.ug_print.specs.Lines.{memory_line, read_fault_line}
+use Rattle.ug_print.specs.Answers.{AreAnswerLines}
+use Rattle.ug_print.specs.Refusals.{refused_line}
 use Rattle.ug_top.specs.Ran.{AreLines}
 use Rattle.ug_top.specs.declared.status.Status.{Status}
 use Rattle.ug_top.specs.declared.status.Status.TheVariants as statuses
@@ -23,12 +25,12 @@ status_of Memory = statuses.Memory
 abbrev pub text_of : End → List ℕ
 text_of (Answered text) = text.items
 text_of (Refused text) = text.items
-text_of ReadFault = line (codes "read fault")
-text_of Memory = line (codes "memory")
+text_of ReadFault = read_fault_line
+text_of Memory = memory_line
 
 -- the text is the lines of a right answer to the problem, without a gap
 abbrev pub IsAnswerTo : Instance → List ℕ → Type 0
-IsAnswerTo p text = (answer : answers.Answer) × Right p (pos 0) answer × AreAnswerLines p answer text
+IsAnswerTo p text = (answer : answers.Answer) × Right p (pos 0) answer × AreAnswerLines 0 p answer text
 
 -- what a text comes to: an answer to the problem that it states, the line of its first fault, or want of memory
 abbrev pub IsEndOf : List ℕ → Option ℕ → End → Type 0

@@ -1,12 +1,14 @@
 -- What a run did, by its status.
-use Rattle.std.specs.Prelude.{◌≡◌, ◌≢◌, ℕ, pos, ◌<◌, List, [], Option, IfSome, codes}
+use Rattle.std.specs.Prelude.{◌≡◌, ◌≢◌, ℕ, pos, ◌<◌, List, [], Option, IfSome}
 use Rattle.ug_problem.specs.Instances.{Instance}
 use Rattle.ug_problem.specs.Right.{Right}
 use Rattle.ug_problem.specs.declared.answer.Answer.{Answer}
 use Rattle.ug_mps.specs.declared.fault.MpsFault.{MpsFault}
 use Rattle.ug_mps.specs.Reads.{Reads, FirstFault}
 use Rattle.ug_io.specs.Outside.{Rose, Takes, TakesFront}
-use Rattle.ug_top.specs.Printed.{line, AreAnswerLines, refused_line}
+use Rattle.ug_print.specs.Lines.{memory_line, read_fault_line}
+use Rattle.ug_print.specs.Answers.{AreAnswerLines}
+use Rattle.ug_print.specs.Refusals.{refused_line}
 use Rattle.ug_top.specs.declared.status.Status.{Status}
 use Rattle.ug_top.specs.declared.status.Status.TheVariants.{Answered, Usage, Refused, ReadFault, WriteFault, Memory}
 
@@ -25,7 +27,7 @@ pub record AreRightLines (boxed : Option ℕ) (told : Option (List ℕ)) (text :
   pub answer : Answer
   pub reads : IfSome told (λ bytes. Reads bytes boxed problem)
   pub right : Right problem (pos 0) answer
-  pub lines : AreAnswerLines problem answer text
+  pub lines : AreAnswerLines 0 problem answer text
 
 -- the line of the first fault of the bytes under the box, where they are told
 pub record IsRefusedLine (boxed : Option ℕ) (told : Option (List ℕ)) (text : List ℕ) : Type 0 where
@@ -38,9 +40,9 @@ abbrev pub AreLines : Option ℕ → Option (List ℕ) → Status → List ℕ �
 AreLines boxed told Answered text = AreRightLines boxed told text
 AreLines boxed told Usage text = text ≡ []
 AreLines boxed told Refused text = IsRefusedLine boxed told text
-AreLines boxed told ReadFault text = text ≡ line (codes "read fault")
+AreLines boxed told ReadFault text = text ≡ read_fault_line
 AreLines boxed told WriteFault text = ⊥
-AreLines boxed told Memory text = text ≡ line (codes "memory")
+AreLines boxed told Memory text = text ≡ memory_line
 
 -- what the work came to before a line was written: the status and its lines, a read fault exactly where the source's faults rose
 pub record IsDue (boxed : Option ℕ) (told : Option (List ℕ)) (faults faults' : ℕ) (status : Status) (text : List ℕ) : Type 0 where

@@ -9,13 +9,13 @@ ghost use Rattle.ug_top.specs.Ends.{status_of, text_of, AreEndLines, IsEndOf, Is
 
 use crate::command::command_of;
 use crate::gather::{GatherError, gather};
-use crate::lines::{answer_lines, refusal};
 use crate::search::solve;
 use crate::status::Status;
 use crate::write::write_all;
 use std::alloc::{AllocError, Global};
 use ug_io::{Failed, Sink, Source};
 use ug_mps::{MpsError, one_outcome, read};
+use ug_print::{answer_lines, memory, read_fault, refusal};
 use ug_problem::Problem;
 
 /// Does all that the program does: reads the source, solves the problem that its bytes state, and
@@ -137,8 +137,8 @@ impl End {
         match self {
             End::Answered(text) => text.as_slice(),
             End::Refused(text) => text.as_slice(),
-            End::ReadFault => b"read fault\n",
-            End::Memory => b"memory\n",
+            End::ReadFault => read_fault(),
+            End::Memory => memory(),
         }
     }
 }
@@ -183,5 +183,5 @@ fn answered(alloc: Global, problem: Problem) -> Result<Vec<u8>, AllocError>
     ensures { IfOk result (λ text. IsAnswerTo problem text.items) }
 {
     let book = solve(alloc, problem)?;
-    answer_lines(alloc, &book)
+    answer_lines(alloc, &book, 0)
 }

@@ -2,7 +2,7 @@ use Rattle.std.proofs.Common.{subst}
 use Rattle.std.proofs.lemmas.Result.{IfOk-weaker}
 use Rattle.ug_problem.specs.Instances.{Instance}
 use Rattle.ug_ledger.specs.Answers.{answer_of}
-use Rattle.ug_top.specs.Printed.{AreAnswerLines}
+use Rattle.ug_print.specs.Answers.{AreAnswerLines}
 use Rattle.ug_top.proofs.running.answered.Goals as goal
 
 -- the answer is the book's
@@ -13,6 +13,6 @@ returns c =
     (λ text lines. (
       answer,
       c.in_ok-book.ensures.right,
-      subst (λ (p : Instance). AreAnswerLines p answer text.items) c.in_ok-book.ensures.problem lines,
+      subst (λ (p : Instance). AreAnswerLines 0 p answer text.items) c.in_ok-book.ensures.problem lines,
     ))
     c.answer_lines.ensures

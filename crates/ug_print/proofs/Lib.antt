@@ -1,0 +1,3 @@
+mod ValueLines
+mod NodeLines
+mod Widths

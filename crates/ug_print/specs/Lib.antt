@@ -1,0 +1,6 @@
+pub mod Lines
+pub mod Answers
+pub mod Limited
+pub mod Refusals
+pub mod Faults
+pub mod Checkpoints

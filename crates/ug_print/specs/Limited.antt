@@ -1,0 +1,36 @@
+-- The line of a run that was limited, and those of saves that were not made.
+use Rattle.std.specs.Prelude.{◌≡◌, ℕ, ℤ, List, [], ◌++◌, length, Option, Some, None, codes, ◌==◌, if◌then◌else◌}
+use Rattle.std.specs.Fmt.{decimal}
+use Rattle.ug_rows.specs.Rows.{value_of}
+use Rattle.ug_problem.specs.Instances.{Instance}
+use Rattle.ug_problem.specs.Printed.{IsPrinted}
+use Rattle.ug_nodes.specs.declared.node.Node.{Node}
+use Rattle.ug_rules.specs.State.{BookState}
+use Rattle.ug_restart.specs.Moments.{ArePrimitive}
+use Rattle.ug_print.specs.Lines.{line, further, named_line}
+
+-- the value of the best point as it is printed, and `none` where there is none
+abbrev pub IsBestWord : Instance → Option (List ℤ) → List ℕ → Type 0
+IsBestWord p None word = word ≡ codes "none"
+IsBestWord p (Some x) word = IsPrinted p.objective (value_of p.objective x) word
+
+-- `open`, the best value and a count of nodes
+abbrev pub open_line : List ℕ → ℕ → List ℕ
+open_line best count = line (codes "open" ++ further best ++ further (decimal count))
+
+-- the line of a book that goes on: the value of its incumbent, and how many primitive nodes it has
+pub record IsOpenLine (b : BookState) (text : List ℕ) : Type 0 where
+  pub best : List ℕ
+  pub nodes : List Node
+  pub value : IsBestWord b.problem b.best best
+  pub primitive : ArePrimitive b nodes
+  pub is : text ≡ open_line best (length nodes)
+
+-- the line of a count that is not 0
+abbrev pub count_part : List ℕ → ℕ → List ℕ
+count_part name count = if count == 0 then [] else named_line name (decimal count)
+
+-- how many saves the disk failed, and how many were refused for memory, where there are any
+abbrev pub count_lines : ℕ → ℕ → List ℕ
+count_lines missed unsaved =
+    count_part (codes "missed") missed ++ count_part (codes "unsaved") unsaved

@@ -1,0 +1,25 @@
+//! The lines that the program prints, each of which a definition in specs/ pins.
+//! It stands on ug_book for what a run answers, on ug_restart for why none begins, on ug_image for
+//! what a checkpoint has, and on ug_mps for why a text is refused.
+//! Each function makes or adds whole lines and takes memory for nothing but them and their numbers;
+//! what is written where memory is wanting takes none.
+#![tactic(auto)]
+
+mod answers;
+mod best;
+mod checkpoints;
+mod counts;
+mod faults;
+mod fixed;
+mod limited;
+mod nodes;
+mod refusals;
+mod words;
+
+pub use answers::answer_lines;
+pub use checkpoints::checkpoint_lines;
+pub use counts::push_counts;
+pub use faults::fault_line;
+pub use fixed::{memory, read_fault};
+pub use limited::open_line;
+pub use refusals::refusal;
