@@ -15,8 +15,6 @@ mod lowest;
 mod lows;
 mod step;
 mod task;
-#[cfg(test)]
-mod tests;
 
 pub use handed::Handed;
 pub use step::Step;

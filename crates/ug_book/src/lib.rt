@@ -19,8 +19,6 @@ mod reads;
 mod report;
 mod solution;
 mod start;
-#[cfg(test)]
-mod tests;
 mod unfinished;
 mod working;
 

@@ -12,8 +12,6 @@ mod laws;
 mod loading;
 mod saver;
 mod stored;
-#[cfg(test)]
-mod tests;
 
 pub use error::{LoadError, SaveError};
 pub use found::Found;

@@ -12,8 +12,6 @@ mod options;
 mod plan;
 mod reading;
 mod settings;
-#[cfg(test)]
-mod tests;
 mod usage;
 
 pub use laws::crossed_is_not_taken;

@@ -8,8 +8,6 @@
 mod asking;
 mod demand;
 mod member;
-#[cfg(test)]
-mod tests;
 
 pub use asking::wanted;
 pub use demand::Wanted;

@@ -15,8 +15,6 @@ mod slot;
 mod stored;
 mod stored_slots;
 mod synced;
-#[cfg(test)]
-mod tests;
 
 pub use disk::Disk;
 pub use laws::{sync_leaves_one, write_is_torn, writes_add_images};

@@ -7,8 +7,6 @@
 
 mod order;
 mod report;
-#[cfg(test)]
-mod tests;
 
 pub use order::Order;
 pub use report::Report;

@@ -8,7 +8,5 @@
 mod draws;
 mod making;
 mod parts;
-#[cfg(test)]
-mod tests;
 
 pub use making::make;

@@ -12,8 +12,6 @@ mod giving;
 mod racing;
 mod telling;
 mod terms;
-#[cfg(test)]
-mod tests;
 mod turns;
 
 pub use giving::give_out;

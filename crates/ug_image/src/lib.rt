@@ -15,8 +15,6 @@ mod laws;
 mod leaves;
 mod nodes;
 mod record;
-#[cfg(test)]
-mod tests;
 
 pub use decoding::decode;
 pub use error::ImageError;

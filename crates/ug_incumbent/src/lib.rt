@@ -7,8 +7,6 @@
 
 mod best;
 mod offered;
-#[cfg(test)]
-mod tests;
 
 pub use best::Best;
 pub use offered::Offered;

@@ -13,8 +13,6 @@ mod name;
 mod node;
 mod outside;
 mod spelling;
-#[cfg(test)]
-mod tests;
 
 pub use change::{Change, Changes};
 pub use floor::floor_of_changes;

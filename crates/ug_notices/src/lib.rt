@@ -10,8 +10,6 @@ mod asking;
 mod collecting;
 mod counting;
 mod members;
-#[cfg(test)]
-mod tests;
 
 pub use announcing::announce;
 pub use collecting::collect;

@@ -8,7 +8,5 @@
 mod held;
 mod lines;
 mod primitives;
-#[cfg(test)]
-mod tests;
 
 pub use primitives::primitive;

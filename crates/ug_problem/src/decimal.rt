@@ -3,8 +3,6 @@ mod power;
 mod reading;
 mod rounding;
 mod scaling;
-#[cfg(test)]
-mod tests;
 
 ghost use Rattle.std.specs.Prelude.{◌≡◌, ◌≤◌, ℕ, ℤ, ◌↔◌, ◌≤ℤ◌, codes, pos, negsuc, None, Some, true, false};
 ghost use Rattle.ug_problem.specs.Decimals.{IsDecimal, decimal_of};

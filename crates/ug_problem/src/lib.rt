@@ -16,8 +16,6 @@ mod print;
 mod problem;
 mod same;
 mod shared;
-#[cfg(test)]
-mod tests;
 
 pub use answer::{Answer, Broken};
 pub use column::{Column, Columns, NamedRow, NamedRows};

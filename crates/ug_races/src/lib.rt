@@ -8,8 +8,6 @@
 mod ending;
 mod freeing;
 mod reports;
-#[cfg(test)]
-mod tests;
 mod winning;
 
 pub use ending::crown;

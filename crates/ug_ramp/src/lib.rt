@@ -7,8 +7,6 @@
 
 mod race;
 mod racer;
-#[cfg(test)]
-mod tests;
 
 pub use race::winner;
 pub use racer::Racer;

@@ -7,8 +7,6 @@
 
 mod ranks;
 mod state;
-#[cfg(test)]
-mod tests;
 
 pub use ranks::Ranks;
 pub use state::{Boxes, Racer, State, Work};

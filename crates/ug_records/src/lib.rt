@@ -11,8 +11,6 @@ mod laws;
 mod leaves;
 mod lists;
 mod reading;
-#[cfg(test)]
-mod tests;
 mod whole;
 mod writing;
 

@@ -11,8 +11,6 @@ mod moment;
 mod opening;
 mod outcome;
 mod start;
-#[cfg(test)]
-mod tests;
 
 pub use fault::StartFault;
 pub use moment::image_of;

@@ -12,8 +12,6 @@ mod keeper;
 mod loading;
 mod pieces;
 mod saving;
-#[cfg(test)]
-mod tests;
 
 pub use keeper::Keeper;
 pub use loading::{Both, read_both};

@@ -1,0 +1,37 @@
+//! Tests of the book, of the small crates that it is made of, and of the desk.
+//! They stand apart from the crates that they test, from ug_ramp to ug_book, ug_world and ug_desk.
+//! Each call on its usual path, the cases that rules are easily misread in, long schedules against
+//! replies that were worked out elsewhere, and many threads on one desk. Nothing here is proved but
+//! that the tests are safe and end.
+#![tactic(auto)]
+
+#[cfg(test)]
+mod collecting;
+#[cfg(test)]
+mod desks;
+#[cfg(test)]
+mod frames;
+#[cfg(test)]
+mod giving;
+#[cfg(test)]
+mod incumbent;
+#[cfg(test)]
+mod notices;
+#[cfg(test)]
+mod orders;
+#[cfg(test)]
+mod primitives;
+#[cfg(test)]
+mod races;
+#[cfg(test)]
+mod ramp;
+#[cfg(test)]
+mod ranks;
+#[cfg(test)]
+mod schedules;
+#[cfg(test)]
+mod square;
+#[cfg(test)]
+mod world_problems;
+#[cfg(test)]
+mod worlds;

@@ -1,0 +1,94 @@
+use std::alloc::{AllocError, Global};
+use std::test::Fail;
+use ug_branch::Params;
+use ug_nodes::{Changes, Line, Name, Node, Ticket};
+use ug_ranks::{Ranks, State};
+use ug_rows::{IntBox, Interval};
+
+fn ticket(number: u64) -> Ticket {
+    Ticket { run: 1, number }
+}
+
+fn node(alloc: Global, hand: u64) -> Result<Node, AllocError> {
+    let ticket = ticket(0);
+    let line = Line::start(alloc, Name { ticket, hand })?;
+    let changes = Changes::new(Vec::new(alloc));
+    Ok(Node { line, changes })
+}
+
+fn area(alloc: Global, low: i32) -> Result<IntBox, AllocError> {
+    let side = Interval { low, high: 9 };
+    Ok(IntBox::from_vec(Vec::from_slice(alloc, &[side])?))
+}
+
+// A letter for each state.
+fn letter(state: &State) -> u8 {
+    match state {
+        State::Absent => b'a',
+        State::Idle => b'i',
+        State::Racing(_) => b'r',
+        State::Active(_) => b'w',
+        State::Dead => b'd',
+    }
+}
+
+// Whether the ranks are in these states, a letter for each.
+fn are(ranks: &Ranks, letters: &[u8]) -> bool {
+    let states = ranks.as_slice();
+    states.len() == letters.len()
+        && states
+            .iter()
+            .zip(letters)
+            .all(|(state, wanted)| letter(state) == *wanted)
+}
+
+// How many boxes a rank took, its last report, and how many hands it is still asked for.
+fn work(state: &State) -> Option<(usize, u64, i128, u32)> {
+    match state {
+        State::Active(work) => Some((work.taken.len(), work.open, work.reported, work.asked)),
+        _ => None,
+    }
+}
+
+#[test]
+fn works_as_it_was_told(rt: HostRuntime) -> Result<(), Fail> {
+    let alloc = rt.alloc();
+    let params = Params::new(0);
+    let mut ranks = Ranks::new(alloc, 3)?;
+    assert!(rt; are(&ranks, b"aaa"));
+    ranks.idle(1);
+    ranks.idle(2);
+    assert!(rt; are(&ranks, b"aii") && ranks.free(0).is_none());
+    ranks.give(1, ticket(1), node(alloc, 4)?, -3, params);
+    ranks.note(1, 8, -2);
+    ranks.ask(1, 1);
+    ranks.take(1, area(alloc, 0)?)?;
+    ranks.take(1, area(alloc, 5)?)?;
+    assert!(rt; are(&ranks, b"iwi"));
+    assert_eq!(rt; work(ranks.state(1)), Some((2, 8, -2, 0)));
+    let held = ranks
+        .kill(1)
+        .map(|(node, floor)| (node.line.name().hand, floor));
+    assert_eq!(rt; held, Some((4, -3)));
+    assert!(rt; are(&ranks, b"idi"));
+    Ok(())
+}
+
+#[test]
+fn works_on_after_a_race(rt: HostRuntime) -> Result<(), Fail> {
+    let alloc = rt.alloc();
+    let mut ranks = Ranks::new(alloc, 1)?;
+    ranks.idle(0);
+    ranks.race(0, ticket(1), Params::new(5));
+    ranks.note(0, 20, 6);
+    ranks.ask(0, 3);
+    assert!(rt; are(&ranks, b"r"));
+    ranks.win(0, node(alloc, 0)?, 1);
+    assert_eq!(rt; work(ranks.state(0)), Some((0, 20, 6, 0)));
+    let held = ranks
+        .free(0)
+        .map(|(node, floor)| (node.line.name().hand, floor));
+    assert_eq!(rt; held, Some((0, 1)));
+    assert!(rt; are(&ranks, b"i"));
+    Ok(())
+}

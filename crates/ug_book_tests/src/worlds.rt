@@ -1,0 +1,288 @@
+//! Schedules that are played against the replies of a model.
+
+ghost use Rattle.std.specs.Prelude.{◌≡◌, [], ◌∷◌, length, All, IfOk, IfSome};
+ghost use Rattle.ug_rules.specs.Books.{AreSettings};
+ghost use Rattle.ug_rules.specs.Hearing.{IsHearable};
+ghost use Rattle.ug_world.specs.Events.{IsEvent};
+
+use crate::schedules::SCHEDULES;
+use crate::world_problems::{cube, square};
+use std::alloc::{AllocError, Global};
+use std::test::Fail;
+use ug_book::{Book, Boxes};
+use ug_frames::Report;
+use ug_nodes::{Change, Changes, Ticket};
+use ug_problem::{Problem, Shared};
+use ug_rows::Point;
+use ug_rules::Settings;
+use ug_world::{Event, PlayFault, Played, play};
+
+// The numbers among the words.
+fn numbers(alloc: Global, words: &str) -> Result<Vec<i128>, AllocError> {
+    let mut numbers = Vec::new(alloc);
+    for word in words.split_whitespace() {
+        if let Ok(number) = word.parse::<i128>() {
+            numbers.push(number)?;
+        }
+    }
+    Ok(numbers)
+}
+
+// The number at a place, or 0.
+fn at(numbers: &[i128], place: usize) -> i128 {
+    match numbers.get(place) {
+        Some(number) => *number,
+        None => 0,
+    }
+}
+
+fn count(numbers: &[i128], place: usize) -> u64 {
+    u64::try_from(at(numbers, place)).unwrap_or(0)
+}
+
+fn small(numbers: &[i128], place: usize) -> u32 {
+    u32::try_from(at(numbers, place)).unwrap_or(0)
+}
+
+fn bound(number: i128) -> i32 {
+    i32::try_from(number).unwrap_or(0)
+}
+
+fn settings(numbers: &[i128]) -> Option<Settings>
+    ensures { IfSome result AreSettings }
+{
+    let solvers = small(numbers, 1);
+    let low = small(numbers, 3);
+    let high = small(numbers, 4);
+    if solvers == 0 || high < low {
+        return None;
+    }
+    Some(Settings {
+        solvers,
+        racing: at(numbers, 2) == 1,
+        low,
+        high,
+        every: 1,
+        limit: 1000,
+        winner: count(numbers, 5),
+        gap: i128::from(small(numbers, 6)),
+    })
+}
+
+// The root alone, which has no change.
+fn root(alloc: Global) -> Result<Boxes, AllocError>
+    ensures { IfOk result (λ boxes. boxes ≡ [] ∷ []) }
+{
+    let mut boxes = Boxes::new(alloc);
+    boxes.push(Changes::new(Vec::new(alloc)))?;
+    Ok(boxes)
+}
+
+fn book(alloc: Global, problem: Problem, settings: Settings) -> Result<Book, AllocError>
+    requires { AreSettings settings }
+{
+    let boxes = root(alloc)?;
+    Book::new(alloc, Shared::own(problem), 1, None, boxes, settings)
+}
+
+// The book with these settings and this problem.
+fn begin(alloc: Global, numbers: &[i128]) -> Option<Book> {
+    let settings = settings(numbers)?;
+    let problem = if at(numbers, 0) == 2 {
+        square(alloc)
+    } else {
+        cube(alloc)
+    };
+    book(alloc, problem.ok()?, settings).ok()
+}
+
+// The changes behind a ticket and a number.
+fn changes(alloc: Global, numbers: &[i128]) -> Option<Changes> {
+    let mut changes = Vec::new(alloc);
+    for part in numbers.chunks_exact(3).skip(1) {
+        changes
+            .push(Change {
+                column: small(part, 0),
+                low: bound(at(part, 1)),
+                high: bound(at(part, 2)),
+            })
+            .ok()?;
+    }
+    Changes::checked(changes)
+}
+
+// The point behind a ticket.
+fn point(alloc: Global, numbers: &[i128]) -> Option<Point> {
+    let mut values = Vec::new(alloc);
+    for number in numbers.iter().skip(2) {
+        values.push(bound(*number)).ok()?;
+    }
+    Some(Point::from_vec(values))
+}
+
+fn report(alloc: Global, kind: &str, numbers: &[i128]) -> Option<Report>
+    ensures { IfSome result IsHearable }
+{
+    let ticket = Ticket {
+        run: count(numbers, 0),
+        number: count(numbers, 1),
+    };
+    match kind {
+        "Ready" => Some(Report::Ready),
+        "Ended" => Some(Report::Ended),
+        "Solution" => Some(Report::Solution {
+            ticket,
+            point: point(alloc, numbers)?,
+        }),
+        "Hand" => Some(Report::Hand {
+            ticket,
+            number: count(numbers, 2),
+            changes: changes(alloc, numbers)?,
+        }),
+        "State" => Some(Report::State {
+            ticket,
+            open: count(numbers, 2).max(1),
+            floor: at(numbers, 3),
+        }),
+        _ => Some(Report::Done {
+            ticket,
+            cutoff: numbers.get(3).copied(),
+            count: count(numbers, 2),
+        }),
+    }
+}
+
+// The event that these words say.
+fn event(alloc: Global, words: &str, ranks: u32) -> Option<Event>
+    ensures { IfSome result (IsEvent ranks) }
+{
+    let kind = words.split_whitespace().next()?;
+    let numbers = numbers(alloc, words).ok()?;
+    let first = small(&numbers, 0);
+    let rank = if kind == "hear" {
+        small(&numbers, 1)
+    } else {
+        first
+    };
+    match kind {
+        "decide" => Some(Event::Decide),
+        "join" if rank < ranks => Some(Event::Join { rank }),
+        "gone" if rank < ranks => Some(Event::Gone { rank }),
+        "hear" if rank < ranks => Some(Event::Hear {
+            place: first as usize,
+            rank,
+        }),
+        _ => Some(Event::Send {
+            report: report(alloc, kind, &numbers)?,
+        }),
+    }
+}
+
+fn events(alloc: Global, text: &str, ranks: u32) -> Option<Vec<Event>>
+    ensures { IfSome result (λ events. All (IsEvent ranks) events.items) }
+{
+    let mut events = Vec::new(alloc);
+    for words in text.split(';').skip(1) {
+        let event = event(alloc, words, ranks)?;
+        events.push(event).ok()?;
+    }
+    Some(events)
+}
+
+// How many nodes a book holds, and its incumbent.
+fn end(alloc: Global, book: &Book) -> Result<String, AllocError> {
+    let held = book.held()?.len();
+    match book.best() {
+        Some(point) => format!(in alloc; "held {held}; best {:?}", point.as_slice()),
+        None => format!(in alloc; "held {held}; best none"),
+    }
+}
+
+// What a schedule leaves that was played to its end, in the words of the table.
+fn played(alloc: Global, played: &Played) -> Result<String, AllocError> {
+    let mut text = String::new(alloc);
+    for reply in played.replies.as_slice() {
+        let part = format!(in alloc; "{reply:?}; ")?;
+        text.push_str(&part)?;
+    }
+    let part = end(alloc, &played.book)?;
+    text.push_str(&part)?;
+    Ok(text)
+}
+
+// And one that was not.
+fn stopped(alloc: Global, fault: &PlayFault) -> Result<String, AllocError> {
+    match fault {
+        PlayFault::NoSuch { place, book } => {
+            let end = end(alloc, book)?;
+            format!(in alloc; "NoSuch {place}; {end}")
+        }
+        PlayFault::Memory { book, done } => {
+            let end = end(alloc, book)?;
+            format!(in alloc; "Memory {done}; {end}")
+        }
+    }
+}
+
+// Whether the texts have the same parts.
+fn agree(told: &str, wanted: &str) -> bool {
+    let mut parts = wanted.split(';');
+    for part in told.split(';') {
+        match parts.next() {
+            Some(other) if part.trim() == other.trim() => {}
+            _ => return false,
+        }
+    }
+    parts.next().is_none()
+}
+
+// The book with which a schedule begins.
+fn opening(alloc: Global, schedule: &str) -> Option<Book> {
+    let numbers = numbers(alloc, schedule.split(';').next()?).ok()?;
+    begin(alloc, &numbers)
+}
+
+fn ranks(book: &Book) -> u32
+    ensures { result ≡ length book.now.ranks }
+{
+    book.settings().solvers
+}
+
+// What the events leave of the book.
+fn outcome(alloc: Global, book: Book, events: &[Event]) -> Result<String, AllocError>
+    requires { All (IsEvent (length book.ranks)) events.now }
+{
+    match play(alloc, book, events) {
+        Ok(end) => played(alloc, &end),
+        Err(fault) => stopped(alloc, &fault),
+    }
+}
+
+// What a schedule leaves.
+fn left(alloc: Global, schedule: &str) -> Option<String> {
+    let book = opening(alloc, schedule)?;
+    let events = events(alloc, schedule, ranks(&book))?;
+    outcome(alloc, book, &events).ok()
+}
+
+// Whether the schedule leaves what it says.
+fn does(alloc: Global, schedule: &str) -> Option<bool> {
+    let (schedule, wanted) = schedule.split_once('=')?;
+    let told = left(alloc, schedule)?;
+    Some(agree(&told, wanted))
+}
+
+#[test]
+fn schedules_leave_what_a_model_says(rt: HostRuntime) -> Result<(), Fail> {
+    let mut others = Vec::new(rt.alloc());
+    let mut all: usize = 0;
+    for (place, schedule) in SCHEDULES.split("\n\n").enumerate() {
+        if does(rt.alloc(), schedule) != Some(true) {
+            others.push(place)?;
+        }
+        all = all.saturating_add(1);
+    }
+    assert_eq!(rt; others.as_slice(), [].as_slice());
+    assert_eq!(rt; all, 53);
+    Ok(())
+}

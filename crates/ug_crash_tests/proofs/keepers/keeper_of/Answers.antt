@@ -1,0 +1,11 @@
+use Rattle.std.proofs.Common.{Some}
+use Rattle.ug_disk.specs.Memories.{history_of}
+use Rattle.ug_crash_tests.proofs.keepers.keeper_of.Goals as goal
+
+pub save-requires-clause-knows : goal.save-requires-clause-knows
+save-requires-clause-knows c =
+    c.new-keeper.ensures.knows (Some (history_of c.args.disk.now)) c.requires.synced
+
+pub returns-else-is_open : goal.returns-else-is_open
+returns-else-is_open c =
+    c.new-keeper.ensures.knows (Some (history_of c.args.disk.now)) c.requires.synced

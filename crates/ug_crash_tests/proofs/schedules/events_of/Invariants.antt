@@ -1,0 +1,6 @@
+use Rattle.std.specs.Prelude.{All}
+use Rattle.ug_crashes.specs.Events.{IsDiskEvent}
+use Rattle.ug_crash_tests.proofs.schedules.events_of.Given as goal
+
+abbrev pub invariant-loop-letter : goal.invariant-loop-letter
+invariant-loop-letter l = All IsDiskEvent l.events.items

@@ -1,0 +1,168 @@
+ghost use Rattle.std.specs.Prelude.{Some, IfOk};
+ghost use Rattle.ug_disk.specs.Memories.{history_of};
+ghost use Rattle.ug_checkpoint.specs.Savers.{IsKept};
+
+use std::alloc::{AllocError, Global};
+use std::test::Fail;
+use ug_blocks::length;
+use ug_checkpoint::{LoadError, SaveError, Saver, load};
+use ug_disk::{MemoryDisk, Script, Slot};
+use ug_image::{ImageError, decode};
+
+// A slot with the image of a run of a problem that has neither columns nor rows: the gate, 104
+// bytes, version 3, run 1, the sequence, a record of 30 bytes, no best point, no deliveries, gap 0,
+// and one node, whose name is of ticket 0 and hand 0, without changes.
+fn slot_of(sequence: u8) -> [u8; 113] {
+    let mut slot = [0u8; 113];
+    slot[0] = 1;
+    slot[8] = 104;
+    slot[9] = 3;
+    slot[17] = 1;
+    slot[25] = sequence;
+    slot[29] = 30;
+    slot[92] = 1;
+    slot
+}
+
+// A disk of these slots, whose calls fail as listed.
+fn disk_of(
+    alloc: Global,
+    zero: &[u8],
+    one: &[u8],
+    failing: &[u64],
+) -> Result<MemoryDisk, AllocError> {
+    let script = Script {
+        failing: failing.to_vec(alloc)?,
+        stopping: Vec::new(alloc),
+    };
+    Ok(MemoryDisk::new(alloc, zero.to_vec(alloc)?, one.to_vec(alloc)?, script))
+}
+
+// Which slot and which sequence a load finds.
+type Answer = Result<Option<(Slot, u64)>, LoadError>;
+
+fn answer_of(alloc: Global, disk: &mut MemoryDisk) -> Answer {
+    match load(alloc, disk) {
+        Ok(Some(found)) => Ok(Some((found.slot, found.image.sequence))),
+        Ok(None) => Ok(None),
+        Err(error) => Err(error),
+    }
+}
+
+// The same with another byte at a place.
+fn changed(sequence: u8, at: usize, byte: u8) -> [u8; 113] {
+    let mut slot = slot_of(sequence);
+    if at < 113 {
+        slot[at] = byte;
+    }
+    slot
+}
+
+// Of each slot the sequence, a place and the byte there; how many bytes slot 0 has; what is found.
+type Case = ((u8, usize, u8), (u8, usize, u8), usize, Answer);
+
+const CASES: [Case; 10] = [
+    ((2, 0, 1), (1, 0, 1), 113, Ok(Some((Slot::Zero, 2)))),
+    ((1, 0, 1), (2, 0, 1), 113, Ok(Some((Slot::One, 2)))),
+    ((3, 0, 1), (3, 0, 1), 113, Ok(Some((Slot::Zero, 3)))),
+    ((2, 0, 0), (1, 0, 1), 113, Ok(Some((Slot::One, 1)))),
+    ((2, 0, 1), (3, 0, 2), 113, Ok(Some((Slot::Zero, 2)))),
+    ((2, 0, 1), (1, 0, 0), 1, Ok(None)),
+    (
+        (2, 0, 1),
+        (1, 0, 0),
+        2,
+        Err(LoadError::BadImage {
+            slot: Slot::Zero,
+            at: 1,
+        }),
+    ),
+    (
+        (2, 0, 1),
+        (1, 0, 1),
+        112,
+        Err(LoadError::BadImage {
+            slot: Slot::Zero,
+            at: 1,
+        }),
+    ),
+    (
+        (2, 0, 1),
+        (1, 9, 0),
+        113,
+        Err(LoadError::BadImage {
+            slot: Slot::One,
+            at: 9,
+        }),
+    ),
+    (
+        (2, 69, 128),
+        (1, 9, 0),
+        113,
+        Err(LoadError::BadImage {
+            slot: Slot::Zero,
+            at: 69,
+        }),
+    ),
+];
+
+#[test]
+fn load_finds_the_greater_sequence(rt: HostRuntime) -> Result<(), Fail> {
+    let alloc = rt.alloc();
+    for (zero, one, len, answer) in CASES {
+        let zero = changed(zero.0, zero.1, zero.2);
+        let one = changed(one.0, one.1, one.2);
+        let mut disk = disk_of(alloc, &zero[..len.min(113)], &one, &[])?;
+        assert_eq!(rt; answer_of(alloc, &mut disk), answer);
+    }
+    Ok(())
+}
+
+// A saver of the slots as a load leaves them.
+fn opened(alloc: Global, disk: &mut MemoryDisk) -> Result<Saver, LoadError>
+    ensures { IfOk result (λ saver. IsKept saver (Some (history_of disk.new))) }
+{
+    let found = load(alloc, disk)?;
+    Ok(Saver::new(found.as_ref()))
+}
+
+// Saves the image of this sequence, if it is above the last one.
+fn saved(
+    alloc: Global,
+    disk: &mut MemoryDisk,
+    saver: &mut Saver,
+    sequence: u8,
+) -> Result<Result<(), SaveError>, ImageError>
+    requires { IsKept saver.old (Some (history_of disk.old)) }
+    ensures { IsKept saver.new (Some (history_of disk.new)) }
+{
+    let image = decode(alloc, &slot_of(sequence)[9..])?;
+    if saver.sequence() < image.sequence && length(&image) < 1 << 63 {
+        return Ok(saver.save(alloc, disk, &image));
+    }
+    Ok(Err(SaveError::Memory))
+}
+
+#[test]
+fn saves_go_to_the_slots_in_turn(rt: HostRuntime) -> Result<(), Fail> {
+    let alloc = rt.alloc();
+    // The tenth call is the opening of the first save's gate.
+    let mut disk = disk_of(alloc, &[], &[], &[10])?;
+    let mut saver = opened(alloc, &mut disk)?;
+    assert_eq!(rt;
+        saved(alloc, &mut disk, &mut saver, 1)?,
+        Err(SaveError::Fault)
+    );
+    assert_eq!(rt; saver.sequence(), 0);
+    assert_eq!(rt; saved(alloc, &mut disk, &mut saver, 1)?, Ok(()));
+    assert_eq!(rt; saved(alloc, &mut disk, &mut saver, 2)?, Ok(()));
+    assert_eq!(rt; disk.bytes(Slot::Zero), slot_of(1).as_slice());
+    assert_eq!(rt; disk.bytes(Slot::One), slot_of(2).as_slice());
+    assert_eq!(rt; answer_of(alloc, &mut disk), Ok(Some((Slot::One, 2))));
+    let mut saver = opened(alloc, &mut disk)?;
+    assert_eq!(rt; saver.sequence(), 2);
+    assert_eq!(rt; saved(alloc, &mut disk, &mut saver, 3)?, Ok(()));
+    assert_eq!(rt; disk.bytes(Slot::Zero), slot_of(3).as_slice());
+    assert_eq!(rt; answer_of(alloc, &mut disk), Ok(Some((Slot::Zero, 3))));
+    Ok(())
+}

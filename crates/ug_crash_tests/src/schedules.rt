@@ -1,0 +1,221 @@
+ghost use Rattle.std.specs.Prelude.{Some, All, IfSome};
+ghost use Rattle.ug_disk.specs.Memories.{history_of};
+ghost use Rattle.ug_checkpoint.specs.Savers.{IsKept};
+ghost use Rattle.ug_crashes.specs.Events.{IsDiskEvent};
+
+use crate::slots::{nothing, settings, slot_of};
+use std::alloc::Global;
+use std::test::Fail;
+use ug_book::{Answered, Book};
+use ug_checkpoint::Saver;
+use ug_crashes::{DiskEvent, Halted, PlayDiskFault, PlayedDisk, play_disk};
+use ug_disk::{MemoryDisk, Script, Slot};
+use ug_frames::Report;
+use ug_nodes::Ticket;
+use ug_problem::Shared;
+use ug_restart::{StartFault, begin};
+use ug_rows::Point;
+use ug_rules::Heard;
+use ug_world::Event;
+
+// A run that has begun on a disk of two empty slots, which stops after one of its calls.
+#[derive(Drop)]
+struct Begun {
+    book: Book,
+    saver: Saver,
+    disk: MemoryDisk,
+}
+
+fn run_on_a_disk(alloc: Global, gap: u8, stop: u64) -> Option<Begun>
+    ensures { IfSome result (λ b. IsKept b.saver (Some (history_of b.disk))) }
+{
+    let script = Script {
+        failing: Vec::new(alloc),
+        stopping: [stop].to_vec(alloc).ok()?,
+    };
+    let mut disk = MemoryDisk::new(alloc, Vec::new(alloc), Vec::new(alloc), script);
+    let problem = Shared::own(nothing(alloc, false).ok()?);
+    let (book, saver) = begin(alloc, &mut disk, problem, settings(gap)).ok()?;
+    Some(Begun { book, saver, disk })
+}
+
+// A report under the first ticket of a run: the point without values, or that nothing is left below
+// its value.
+fn report(alloc: Global, run: u64, is_done: bool) -> DiskEvent
+    ensures { IsDiskEvent result }
+{
+    let ticket = Ticket { run, number: 1 };
+    let report = if is_done {
+        Report::Done {
+            ticket,
+            cutoff: Some(0),
+            count: 0,
+        }
+    } else {
+        Report::Solution {
+            ticket,
+            point: Point::from_vec(Vec::new(alloc)),
+        }
+    };
+    DiskEvent::World(Event::Send { report })
+}
+
+// Power fails and leaves of slot 0 the first image of run 1 without a gap, or another byte, and of
+// slot 1 nothing.
+fn crash(alloc: Global, is_first: bool) -> Option<DiskEvent>
+    ensures { IfSome result IsDiskEvent }
+{
+    let slot = slot_of(1, 1, 0);
+    let zero = if is_first {
+        slot.as_slice()
+    } else {
+        [9u8].as_slice()
+    };
+    Some(DiskEvent::Crash {
+        zero: zero.to_vec(alloc).ok()?,
+        one: Vec::new(alloc),
+        settings: settings(0),
+    })
+}
+
+// What a letter of a schedule stands for; a digit hears the report that was sent as that one.
+fn event_of(alloc: Global, letter: u8, run: u64) -> Option<DiskEvent>
+    ensures { IfSome result IsDiskEvent }
+{
+    Some(match letter {
+        b'j' => DiskEvent::World(Event::Join { rank: 0 }),
+        b'J' => DiskEvent::World(Event::Join { rank: 5 }),
+        b'd' => DiskEvent::World(Event::Decide),
+        b'n' => DiskEvent::Note,
+        b's' => DiskEvent::Save,
+        b'f' => report(alloc, run, false),
+        b'e' => report(alloc, run, true),
+        b'x' => DiskEvent::Stop {
+            settings: settings(0),
+        },
+        b'X' => DiskEvent::Stop {
+            settings: settings(3),
+        },
+        b'c' => return crash(alloc, true),
+        b'C' => return crash(alloc, false),
+        _ => DiskEvent::World(Event::Hear {
+            place: usize::from(letter.saturating_sub(b'0')),
+            rank: 0,
+        }),
+    })
+}
+
+fn push_event(alloc: Global, events: &mut Vec<DiskEvent>, letter: u8, run: u64) -> Option<()>
+    requires { All IsDiskEvent events.old.items }
+    ensures { IfSome result (λ pushed. All IsDiskEvent events.new.items) }
+{
+    let event = event_of(alloc, letter, run)?;
+    events.push(event).ok()?;
+    Some(())
+}
+
+// A schedule; after an `r` reports are sent under the first ticket of the next run.
+fn events_of(alloc: Global, text: &str) -> Option<Vec<DiskEvent>>
+    ensures { IfSome result (λ events. All IsDiskEvent events.items) }
+{
+    let mut events = Vec::new(alloc);
+    let mut run = 1u64;
+    for letter in text.as_bytes() {
+        if *letter == b'r' {
+            run = run.saturating_add(1);
+        } else {
+            push_event(alloc, &mut events, *letter, run)?;
+        }
+    }
+    Some(events)
+}
+
+fn play(
+    alloc: Global,
+    text: &str,
+    gap: u8,
+    stop: u64,
+) -> Option<Result<PlayedDisk, PlayDiskFault>> {
+    let Begun { book, saver, disk } = run_on_a_disk(alloc, gap, stop)?;
+    let events = events_of(alloc, text)?;
+    Some(play_disk(alloc, book, saver, disk, &events))
+}
+
+// The run at the end and how many reports were heard, or why and where the schedule stopped.
+type Answer = Result<(u64, usize), (Halted, usize)>;
+
+fn answer_of(played: &Result<PlayedDisk, PlayDiskFault>) -> Answer {
+    match played {
+        Ok(played) => Ok((played.book.run(), played.replies.len())),
+        Err(fault) => Err((fault.why, fault.done)),
+    }
+}
+
+const NO_GREATER_GAP: Halted = Halted::Refused(StartFault::SmallerGap { kept: 3, asked: 0 });
+
+const SCHEDULES: [(&str, u8, Answer); 10] = [
+    ("jdnsfe0x1rjdfe23nsx", 0, Ok((3, 4))),
+    ("jd0", 0, Err((Halted::NoSuch { place: 0 }, 2))),
+    ("J", 0, Err((Halted::NoRank { rank: 5 }, 0))),
+    ("c", 0, Ok((2, 0))),
+    ("C", 0, Err((Halted::NotAllowed { slot: Slot::Zero }, 0))),
+    ("nsc", 0, Err((Halted::NotAllowed { slot: Slot::One }, 2))),
+    ("x", 3, Err((NO_GREATER_GAP, 1))),
+    ("xjd", 3, Err((NO_GREATER_GAP, 1))),
+    ("xX", 3, Ok((2, 0))),
+    ("sXXX", 0, Ok((4, 0))),
+];
+
+#[test]
+fn schedules_end_or_say_why_not(rt: HostRuntime) -> Result<(), Fail> {
+    let alloc = rt.alloc();
+    for (text, gap, wanted) in SCHEDULES {
+        let Some(played) = play(alloc, text, gap, u64::MAX) else {
+            panic!(rt; "no memory");
+        };
+        assert_eq!(rt; answer_of(&played), wanted, "{text}");
+    }
+    Ok(())
+}
+
+// Whether the point without values is the answer, after these replies.
+fn is_answered(played: &PlayedDisk) -> bool {
+    let replies = [Heard::Kept, Heard::Stale, Heard::Kept, Heard::Kept];
+    played.replies.as_slice() == replies.as_slice()
+        && matches!(played.book.answer(), Some(Answered::Optimal(_)))
+}
+
+#[test]
+fn report_of_an_earlier_run_is_stale(rt: HostRuntime) -> Result<(), Fail> {
+    let Some(Ok(played)) = play(rt.alloc(), "jdnsfe0x1rjdfe23nsx", 0, u64::MAX) else {
+        panic!(rt; "it stopped");
+    };
+    assert!(rt; is_answered(&played));
+    Ok(())
+}
+
+// How many calls of the disk there were when the run had begun, and at the end of a schedule.
+fn calls_of(alloc: Global, text: &str) -> Option<(u64, u64)> {
+    let begun = run_on_a_disk(alloc, 0, u64::MAX)?;
+    match play(alloc, text, 0, u64::MAX)? {
+        Ok(played) => Some((begun.disk.calls(), played.disk.calls())),
+        Err(_) => None,
+    }
+}
+
+#[test]
+fn run_goes_on_wherever_the_disk_stops(rt: HostRuntime) -> Result<(), Fail> {
+    let alloc = rt.alloc();
+    let Some((begun, all)) = calls_of(alloc, "nsx") else {
+        panic!(rt; "it stopped");
+    };
+    assert!(rt; begun < all);
+    for stop in begun.saturating_add(1)..all.saturating_add(1) {
+        let Some(Ok(played)) = play(alloc, "nsxx", 0, stop) else {
+            panic!(rt; "it stopped");
+        };
+        assert!(rt; played.book.run() == 2 || played.book.run() == 3, "{stop}");
+        assert!(rt; played.book.answer().is_none());
+    }
+    Ok(())
+}

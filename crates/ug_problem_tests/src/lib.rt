@@ -1,0 +1,20 @@
+//! Tests of problems and of what is worked out of one problem alone.
+//! They stand apart from the crates that they test, from ug_problem to ug_base and ug_gen.
+//! Numbers and their scales, limits, records and images byte for byte, changes and boxes, the steps
+//! of a task, made instances. Nothing here is proved but that the tests are safe and end.
+#![tactic(auto)]
+
+#[cfg(test)]
+mod decimals;
+#[cfg(test)]
+mod images;
+#[cfg(test)]
+mod made;
+#[cfg(test)]
+mod nodes;
+#[cfg(test)]
+mod problems;
+#[cfg(test)]
+mod records;
+#[cfg(test)]
+mod tasks;

@@ -1,0 +1,131 @@
+use crate::answer::{Answer, answer_of};
+use crate::cases::{CHOICE, KNAPSACK, ODD, RAMP, SQUARE};
+use crate::family::Member;
+use crate::problems::Small;
+use crate::solving::{settings, solved, solved_on, solved_without, sound_disk};
+use crate::trying::least_by_trying;
+use std::sync::Wait;
+use std::test::Fail;
+use std::thread::Threads;
+use ug_checkpoint::load;
+use ug_gate::{Coming, Hold, HoldingGate, Moment, OpenGate, YieldingGate};
+use ug_restart::{End, Outcome};
+
+fn coming(rank: u32, moment: Moment, number: u64) -> Coming {
+    Coming {
+        rank,
+        moment,
+        number,
+    }
+}
+
+// Rank 1 asks only once rank 0, which then has the root, asks again, and rank 0 only once rank 1
+// was answered.
+#[test]
+fn two_threads_overlap(rt: HostRuntime) -> Result<(), Fail> {
+    let turns = 1_000_000_000;
+    let first = Hold {
+        at: coming(1, Moment::Asking, 1),
+        until: coming(0, Moment::Asking, 2),
+        turns,
+    };
+    let second = Hold {
+        at: coming(0, Moment::Asking, 2),
+        until: coming(1, Moment::Answered, 1),
+        turns,
+    };
+    let gate = HoldingGate::new(rt.alloc(), 2, &[first, second])?;
+    let answer = solved(&rt, rt.alloc(), &KNAPSACK, 2, false, &gate);
+    assert_eq!(rt; answer, Answer::Value(-13));
+    assert_eq!(rt; gate.missed(), 0);
+    Ok(())
+}
+
+// Whether each number of solvers finds the answer, racing or not.
+fn all_find<R: Threads + Wait + Sync + AllocGlobal>(
+    rt: &R,
+    small: &Small<'_>,
+    answer: Answer,
+) -> bool {
+    for solvers in [1, 2, 3, 8] {
+        for racing in [false, true] {
+            if solved(rt, rt.alloc(), small, solvers, racing, &OpenGate) != answer {
+                return false;
+            }
+        }
+    }
+    true
+}
+
+#[test]
+fn any_number_of_threads_finds_the_value(rt: HostRuntime) -> Result<(), Fail> {
+    let cases = [
+        (SQUARE, Answer::Value(5)),
+        (KNAPSACK, Answer::Value(-13)),
+        (ODD, Answer::Infeasible),
+        (CHOICE, Answer::Value(-93)),
+        (RAMP, Answer::Value(-7)),
+    ];
+    for (small, answer) in &cases {
+        assert_eq!(rt; least_by_trying(rt.alloc(), small)?, *answer);
+        assert!(rt; all_find(&rt, small, *answer));
+    }
+    Ok(())
+}
+
+#[test]
+fn any_number_of_threads_finds_what_trying_finds(rt: HostRuntime) -> Result<(), Fail> {
+    for number in 0..40 {
+        let member = Member::new(number);
+        let rows = member.rows();
+        let small = Small {
+            columns: &member.columns,
+            rows: &rows,
+            objective: &member.objective,
+        };
+        let answer = least_by_trying(rt.alloc(), &small)?;
+        assert!(rt; all_find(&rt, &small, answer), "problem {number}");
+    }
+    Ok(())
+}
+
+#[test]
+fn threads_in_any_order_find_one_value(rt: HostRuntime) {
+    for number in 0..100 {
+        let gate = YieldingGate::new(number);
+        let found = solved(&rt, rt.alloc(), &KNAPSACK, 4, false, &gate);
+        assert_eq!(rt; found, Answer::Value(-13));
+    }
+}
+
+// A run that is told to hear no more than it has heard ends so, unless its task was done by then.
+#[test]
+fn run_ends_at_its_limit(rt: HostRuntime) {
+    for limit in 0..=5 {
+        let settings = settings(3, false, limit);
+        let Some(outcome) = solved_without(&rt, rt.alloc(), &KNAPSACK, settings, &OpenGate) else {
+            panic!(rt; "no outcome");
+        };
+        if let End::Limited(book) = &outcome.end {
+            assert!(rt; book.count() >= limit && book.answer().is_none());
+        } else {
+            assert!(rt; limit > 0);
+            assert_eq!(rt; answer_of(&outcome), Answer::Value(-13));
+        }
+    }
+}
+
+#[test]
+fn ending_book_is_found_on_the_disk(rt: HostRuntime) {
+    let mut disk = sound_disk(rt.alloc());
+    let Some(outcome) = solved_on(&rt, rt.alloc(), &KNAPSACK, &mut disk) else {
+        panic!(rt; "no outcome");
+    };
+    assert_eq!(rt; answer_of(&outcome), Answer::Value(-13));
+    assert_eq!(rt; (outcome.missed, outcome.unsaved), (0, 0));
+    let Ok(Some(found)) = load(rt.alloc(), &mut disk) else {
+        panic!(rt; "no checkpoint");
+    };
+    assert!(rt; found.image.nodes.is_empty() && found.image.best.is_some());
+    assert_eq!(rt; found.image.run, 1);
+}

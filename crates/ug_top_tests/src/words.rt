@@ -1,0 +1,176 @@
+use std::alloc::{AllocError, Global};
+use std::test::Fail;
+use ug_cli::{Bounds, Gen, Plan, Ranks, Restart, Settings, Show, Solve, Usage, read_words};
+
+// The words of a line, which blanks part; `''` is an empty word.
+fn words_of(alloc: Global, line: &str) -> Result<Vec<String>, AllocError> {
+    let mut words = Vec::new(alloc);
+    for word in line.split(' ') {
+        let text = if word == "''" { "" } else { word };
+        words.push(String::from_str(alloc, text)?)?;
+    }
+    Ok(words)
+}
+
+// The settings with these ranks, and otherwise what they are by default.
+fn settings_with(solvers: u32, low: u32, high: u32) -> Settings<'static> {
+    Settings {
+        ranks: Ranks {
+            solvers,
+            racing: false,
+            low,
+            high,
+        },
+        bounds: Bounds {
+            every: 100,
+            limit: 1_099_511_627_776,
+            boxed: None,
+            gap: 0,
+        },
+        sockets: ".",
+    }
+}
+
+// Words, and the file, the solvers, the low and the high that they give to a solve.
+const SOLVED: [(&str, &str, u32, u32, u32); 5] = [
+    ("solve m", "m", 1, 1, 2),
+    ("solve --solvers 3 m", "m", 3, 3, 5),
+    ("solve m --low 7", "m", 1, 7, 11),
+    ("solve m --low 5 --high 5", "m", 1, 5, 5),
+    ("solve --low=2 -- --help", "--help", 1, 2, 3),
+];
+
+const GREATEST: &str = "solve m --mode threads --solvers 256 --racing --low 65536 --high=131072 \
+    --every 4294967295 --limit 0 --box 1000000000 --gap 1000000000000000000 --checkpoint c \
+    --sockets run";
+
+const ALL: Solve<'static> = Solve {
+    file: "m",
+    checkpoint: Some("c"),
+    settings: Settings {
+        ranks: Ranks {
+            solvers: 256,
+            racing: true,
+            low: 65_536,
+            high: 131_072,
+        },
+        bounds: Bounds {
+            every: 4_294_967_295,
+            limit: 0,
+            boxed: Some(1_000_000_000),
+            gap: 1_000_000_000_000_000_000,
+        },
+        sockets: "run",
+    },
+};
+
+const MADE: Gen = Gen {
+    seed: 2_147_483_646,
+    size: 40,
+    solvers: 4,
+};
+
+const REFUSED: [&str; 45] = [
+    "''",
+    "prove m",
+    "solve",
+    "solve m n",
+    "solve m --mode processes",
+    "worker --socket s",
+    "solve m --solvers 0",
+    "solve m --solvers 257",
+    "solve m --solvers +3",
+    "solve m --solvers 007",
+    "solve m --solvers 1e3",
+    "solve m --solvers ''",
+    "solve m --solvers -1",
+    "solve m --solvers",
+    "solve m --solvers 1 --solvers 1",
+    "solve m --racing --racing",
+    "solve m --racing=true",
+    "solve m --low 0",
+    "solve m --low 65537",
+    "solve m --high 0",
+    "solve m --high 131073",
+    "solve m --every 0",
+    "solve m --every 4294967296",
+    "solve m --limit 1099511627777",
+    "solve m --limit 00",
+    "solve m --box 1000000001",
+    "solve m --gap 1000000000000000001",
+    "solve m --gap 18446744073709551616",
+    "solve m --gap 99999999999999999999",
+    "solve m --color",
+    "solve m -r",
+    "solve m --rac",
+    "solve m --low 5 --high 4 --every 0",
+    "restart m",
+    "restart --checkpoint c",
+    "show",
+    "show c",
+    "show --checkpoint c m",
+    "gen 1",
+    "gen 0 1",
+    "gen 2147483647 1",
+    "gen 1 41",
+    "--help",
+    "solve --help",
+    "help",
+];
+
+const CROSSED: [(&str, u32, u32); 3] = [
+    ("solve m --low 5 --high 4", 5, 4),
+    ("solve m --solvers 4 --high 3", 4, 3),
+    ("restart m --checkpoint c --low 2 --high 1", 2, 1),
+];
+
+// Whether the words of the line give this plan.
+fn gives(alloc: Global, line: &str, plan: Plan<'_>) -> Result<bool, AllocError> {
+    let words = words_of(alloc, line)?;
+    Ok(read_words(alloc, &words) == Ok(plan))
+}
+
+// Whether the words of the line are refused so.
+fn fails(alloc: Global, line: &str, usage: Usage) -> Result<bool, AllocError> {
+    let words = words_of(alloc, line)?;
+    Ok(read_words(alloc, &words) == Err(usage))
+}
+
+#[test]
+fn words_are_read_as_plans(rt: HostRuntime) -> Result<(), Fail> {
+    let alloc = rt.alloc();
+    for (line, file, solvers, low, high) in SOLVED {
+        let plan = Plan::Solve(Solve {
+            file,
+            checkpoint: None,
+            settings: settings_with(solvers, low, high),
+        });
+        assert!(rt; gives(alloc, line, plan)?, "{line}");
+    }
+    assert!(rt; gives(alloc, GREATEST, Plan::Solve(ALL))?);
+    let restart = Plan::Restart(Restart {
+        file: "m",
+        checkpoint: "c",
+        settings: settings_with(1, 1, 2),
+    });
+    assert!(rt; gives(alloc, "restart m --checkpoint c", restart)?);
+    let show = Plan::Show(Show { checkpoint: "c" });
+    assert!(rt; gives(alloc, "show --checkpoint c", show)?);
+    assert!(rt; gives(alloc, "gen 2147483646 40 --solvers 4", Plan::Gen(MADE))?);
+    Ok(())
+}
+
+#[test]
+fn other_words_are_refused(rt: HostRuntime) -> Result<(), Fail> {
+    let alloc = rt.alloc();
+    for line in REFUSED {
+        assert!(rt; fails(alloc, line, Usage::Words)?, "{line}");
+    }
+    for (line, low, high) in CROSSED {
+        assert!(rt;
+            fails(alloc, line, Usage::HighBelowLow { low, high })?,
+            "{line}"
+        );
+    }
+    Ok(())
+}
