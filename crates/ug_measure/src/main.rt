@@ -1,7 +1,7 @@
-//! A program for measuring: `ug_measure book N` drives a book of 256 ranks through N made messages.
-//! It stands on ug_book and ug_mps, and prints how many messages were answered how.
-//! Which messages come is the same in every run: a few points, hands where nodes were asked for, many
-//! reports of open nodes, and now and then a Done, a death or a message of an older ticket.
+//! A program for measuring: `ug_measure book N` drives a book of 256 ranks through N made messages and
+//! prints how many were answered how; `image N` makes a book of N nodes of ten changes each and the
+//! image of it, `save N` saves that too, to a disk in memory, and `load N` loads it again.
+//! It stands on ug_book, ug_mps and ug_restart. What it does is the same in every run.
 //! It is proved to be safe and to end, and no more.
 #![tactic(auto)]
 
@@ -9,49 +9,89 @@ mod answers;
 mod driver;
 mod random;
 mod ranks;
+mod saving;
 mod start;
 
 use crate::answers::Answers;
 use crate::driver::drive;
+use crate::saving::{Stage, save_nodes};
 use std::process::ExitCode;
 use std::rt::Env;
 use std::{env, io};
 
-// How many messages the words ask for.
-fn messages<R: Env + AllocGlobal>(rt: &R) -> Option<u64> {
+// What is measured.
+#[derive(Clone, Copy)]
+enum Task {
+    Book { messages: u64 },
+    Save { nodes: u32, stage: Stage },
+}
+
+fn stage_of(word: &str) -> Option<Stage> {
+    match word {
+        "image" => Some(Stage::Image),
+        "save" => Some(Stage::Save),
+        "load" => Some(Stage::Load),
+        _ => None,
+    }
+}
+
+// What the words ask for.
+fn wanted<R: Env + AllocGlobal>(rt: &R) -> Option<Task> {
     let words: Vec<String> = env::args(rt).ok()?.skip(1).collect(rt.alloc()).ok()?;
-    if words.len() != 2 || words.get(0)?.as_str() != "book" {
+    if words.len() != 2 {
         return None;
     }
-    words.get(1)?.as_str().parse::<u64>().ok()
+    let count = words.get(1)?.as_str();
+    if words.get(0)?.as_str() == "book" {
+        let messages = count.parse::<u64>().ok()?;
+        return Some(Task::Book { messages });
+    }
+    let stage = stage_of(words.get(0)?.as_str())?;
+    let nodes = count.parse::<u32>().ok()?;
+    Some(Task::Save { nodes, stage })
 }
 
 fn main(rt: HostRuntime) -> ExitCode {
-    let Some(count) = messages(&rt) else {
-        let _ = eprintln!(rt; "usage: ug_measure book N");
-        return ExitCode::from(2);
-    };
-    match drive(rt.alloc(), count) {
-        Ok(answers) => {
-            let Answers {
-                kept,
-                stale,
-                other,
-                deaths,
-                decisions,
-                books,
-            } = answers;
-            let _ = println!(rt; "kept {kept}");
-            let _ = println!(rt; "stale {stale}");
-            let _ = println!(rt; "other {other}");
-            let _ = println!(rt; "deaths {deaths}");
-            let _ = println!(rt; "decisions {decisions}");
-            let _ = println!(rt; "books {books}");
-            ExitCode::from(0)
-        }
-        Err(_) => {
-            let _ = println!(rt; "memory");
-            ExitCode::from(9)
+    match wanted(&rt) {
+        Some(Task::Book { messages }) => match drive(rt.alloc(), messages) {
+            Ok(answers) => {
+                let Answers {
+                    kept,
+                    stale,
+                    other,
+                    deaths,
+                    decisions,
+                    books,
+                } = answers;
+                let _ = println!(rt; "kept {kept}");
+                let _ = println!(rt; "stale {stale}");
+                let _ = println!(rt; "other {other}");
+                let _ = println!(rt; "deaths {deaths}");
+                let _ = println!(rt; "decisions {decisions}");
+                let _ = println!(rt; "books {books}");
+                ExitCode::from(0)
+            }
+            Err(_) => {
+                let _ = println!(rt; "memory");
+                ExitCode::from(9)
+            }
+        },
+        Some(Task::Save { nodes, stage }) => match save_nodes(rt.alloc(), nodes, stage) {
+            Ok(size) => {
+                let (nodes, bytes, loaded) = (size.nodes, size.bytes, size.loaded);
+                let _ = println!(rt; "nodes {nodes}");
+                let _ = println!(rt; "bytes {bytes}");
+                let _ = println!(rt; "loaded {loaded}");
+                ExitCode::from(0)
+            }
+            Err(_) => {
+                let _ = println!(rt; "memory");
+                ExitCode::from(9)
+            }
+        },
+        None => {
+            let _ = eprintln!(rt; "usage: ug_measure book|image|save|load N");
+            ExitCode::from(2)
         }
     }
 }

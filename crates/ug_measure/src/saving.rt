@@ -1,0 +1,156 @@
+ghost use Rattle.std.specs.Prelude.{All, IfOk};
+ghost use Rattle.ug_nodes.specs.Changes.{AreChangesOf};
+ghost use Rattle.ug_image.specs.Images.{IsImage};
+
+use crate::start::problem;
+use std::alloc::{AllocError, Global};
+use ug_blocks::length;
+use ug_book::{Book, Boxes};
+use ug_checkpoint::{Saver, load};
+use ug_disk::{MemoryDisk, Script};
+use ug_image::Image;
+use ug_nodes::{Change, Changes, area_of};
+use ug_restart::image_of;
+use ug_rows::IntBox;
+use ug_rules::Settings;
+
+/// How far a save goes.
+#[derive(Clone, Copy, PartialEq, Eq)]
+pub enum Stage {
+    /// The image of a book is made.
+    Image,
+    /// And it is saved.
+    Save,
+    /// And it is loaded again.
+    Load,
+}
+
+/// What was saved.
+#[derive(Clone, Copy)]
+pub struct Size {
+    pub nodes: usize,
+    pub bytes: u64,
+    /// How many nodes were loaded.
+    pub loaded: usize,
+}
+
+/// Saves the image of a book of so many nodes, each of ten changes, and loads it.
+pub fn save_nodes(alloc: Global, count: u32, stage: Stage) -> Result<Size, AllocError> {
+    let image = image(alloc, count)?;
+    let loaded = if stage == Stage::Image {
+        0
+    } else {
+        saved(alloc, &image, stage)?
+    };
+    Ok(Size {
+        nodes: image.nodes.len(),
+        bytes: length(&image),
+        loaded,
+    })
+}
+
+// The image of a book of so many nodes.
+fn image(alloc: Global, count: u32) -> Result<Image, AllocError>
+    ensures { IfOk result IsImage }
+{
+    let book = book_of(alloc, count)?;
+    image_of(alloc, &book, 1)
+}
+
+// Saves the image on a new disk, and says how many nodes are loaded again.
+fn saved(alloc: Global, image: &Image, stage: Stage) -> Result<usize, AllocError>
+    requires { IsImage image.now }
+{
+    let mut disk = new_disk(alloc);
+    save(alloc, &mut disk, image)?;
+    if stage == Stage::Save {
+        return Ok(0);
+    }
+    loaded(alloc, &mut disk)
+}
+
+// A disk of two empty slots, whose calls end.
+fn new_disk(alloc: Global) -> MemoryDisk {
+    let script = Script {
+        failing: Vec::new(alloc),
+        stopping: Vec::new(alloc),
+    };
+    MemoryDisk::new(alloc, Vec::new(alloc), Vec::new(alloc), script)
+}
+
+// A book of one solver with so many boxes.
+fn book_of(alloc: Global, count: u32) -> Result<Book, AllocError> {
+    let problem = problem(alloc)?;
+    let boxes = boxes_of(alloc, problem.problem().root(), count)?;
+    let settings = Settings {
+        solvers: 1,
+        racing: false,
+        low: 1,
+        high: 2,
+        every: 1,
+        limit: u64::MAX,
+        winner: 20,
+        gap: 0,
+    };
+    Book::new(alloc, problem, 1, None, boxes, settings)
+}
+
+fn boxes_of(alloc: Global, root: &IntBox, count: u32) -> Result<Boxes, AllocError>
+    ensures { IfOk result (All (AreChangesOf root.now)) }
+{
+    let mut boxes = Boxes::new(alloc);
+    for number in 0..count {
+        boxes.push(changes_of(alloc, root, number)?)?;
+    }
+    Ok(boxes)
+}
+
+// Ten changes of the root of a hundred columns from 0 to 7, by the bits of a number.
+fn changes_of(alloc: Global, root: &IntBox, number: u32) -> Result<Changes, AllocError>
+    ensures { IfOk result (AreChangesOf root.now) }
+{
+    let mut list = Vec::new(alloc);
+    for place in 0..10u32 {
+        let bit = (number >> place) & 1;
+        list.push(Change {
+            column: place * 10 + bit,
+            low: if (number >> (place + 10)) & 1 == 1 {
+                1
+            } else {
+                0
+            },
+            high: 6,
+        })?;
+    }
+    let Some(changes) = Changes::checked(list) else {
+        return Err(AllocError);
+    };
+    match area_of(alloc, root, &changes) {
+        Ok(_) => Ok(changes),
+        Err(_) => Err(AllocError),
+    }
+}
+
+fn save(alloc: Global, disk: &mut MemoryDisk, image: &Image) -> Result<(), AllocError>
+    requires { IsImage image.now }
+{
+    let Ok(None) = load(alloc, disk) else {
+        return Err(AllocError);
+    };
+    let mut saver = Saver::new(None);
+    if image.sequence == 0 || length(image) >= 1 << 63 {
+        return Err(AllocError);
+    }
+    match saver.save(alloc, disk, image) {
+        Ok(()) => Ok(()),
+        Err(_) => Err(AllocError),
+    }
+}
+
+// How many nodes are loaded.
+fn loaded(alloc: Global, disk: &mut MemoryDisk) -> Result<usize, AllocError> {
+    match load(alloc, disk) {
+        Ok(Some(found)) => Ok(found.image.nodes.len()),
+        _ => Err(AllocError),
+    }
+}
