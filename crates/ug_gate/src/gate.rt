@@ -7,10 +7,34 @@ pub enum Moment {
     Answered,
 }
 
-/// A stopping point that threads share. A pass through it ends.
+/// How a run stands.
+#[derive(Debug, Drop)]
+pub struct Standing {
+    /// How many reports were heard.
+    pub heard: u64,
+    /// The value of the incumbent as it is printed, if there is one.
+    pub best: Option<Vec<u8>>,
+    /// How many nodes are left that have no other above them.
+    pub nodes: usize,
+}
+
+/// What the threads of a run pass, and to whom they tell how it stands. Each call of it ends. A gate
+/// that wants to be told nothing has `pass` alone.
 pub trait Gate: Sync {
     /// The worker of a rank has come to a moment.
     fn pass(&self, rank: u32, moment: Moment);
+
+    /// The run begins, on a problem of so many columns and rows and with so many solvers.
+    fn begin(&self, _columns: usize, _rows: usize, _solvers: u32) {}
+
+    /// Whether it is to be told how the run stands, after so many reports, the last of which was of
+    /// a better point or not.
+    fn wants(&self, _heard: u64, _is_better: bool) -> bool {
+        false
+    }
+
+    /// It is told how the run stands.
+    fn tell(&self, _standing: &Standing) {}
 }
 
 /// The real gate, which does nothing.

@@ -32,6 +32,7 @@ pub fn passes(alloc: Global, places: Vec<Mutex<Pass>>) -> Result<Vec<Pass>, Allo
 pub fn start<'s, E, R: Threads + Wait + Sync, G: Gate>(
     scope: &'s Scope<'s, E>,
     rt: &'s R,
+    alloc: Global,
     desk: &'s Desk,
     places: &'s [Mutex<Pass>],
     gate: &'s G,
@@ -41,14 +42,14 @@ pub fn start<'s, E, R: Threads + Wait + Sync, G: Gate>(
     let mut started = 0u32;
     for place in places {
         let own = sender_for(&sender, every);
-        match scope.spawn(move || sit(rt, desk, place, gate, own, every)) {
+        match scope.spawn(move || sit(rt, alloc, desk, place, gate, own, every)) {
             Ok(_) => started = started.saturating_add(1),
             Err(_) => desk.leave(rt, &mut place.lock(rt)),
         }
     }
     if started == 0 {
         if let Some(place) = places.first() {
-            sit(rt, desk, place, gate, Some(sender), every);
+            sit(rt, alloc, desk, place, gate, Some(sender), every);
         }
     }
 }
@@ -62,6 +63,7 @@ fn sender_for(sender: &Sender<Snapshot>, every: Option<u64>) -> Option<Sender<Sn
 // A worker with the pass of this place.
 fn sit<R: Wait, G: Gate>(
     rt: &R,
+    alloc: Global,
     desk: &Desk,
     place: &Mutex<Pass>,
     gate: &G,
@@ -71,6 +73,7 @@ fn sit<R: Wait, G: Gate>(
     let mut pass = place.lock(rt);
     let mut seat = DeskSeat {
         rt,
+        alloc,
         desk,
         pass: &mut pass,
         gate,

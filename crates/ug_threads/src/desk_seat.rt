@@ -1,12 +1,14 @@
 ghost use Rattle.std.specs.Prelude.{◌≡◌, ◌<◌, []};
 
 use crate::seat::Seat;
+use crate::standing::standing_of;
 use crossbeam_channel::Sender;
+use std::alloc::Global;
 use std::sync::Wait;
 use ug_base::Task;
 use ug_book::Unfinished;
 use ug_desk::{Desk, Pass, Reply, Snapshot, Took, Untaken};
-use ug_gate::{Gate, Moment};
+use ug_gate::{Gate, Moment, Standing};
 use ug_rows::{IntBox, Point};
 use ug_rules::Heard;
 
@@ -14,6 +16,7 @@ use ug_rules::Heard;
 #[derive(Drop)]
 pub struct DeskSeat<'a, R, G> {
     pub rt: &'a R,
+    pub alloc: Global,
     pub desk: &'a Desk,
     pub pass: &'a mut Pass,
     pub gate: &'a G,
@@ -25,7 +28,8 @@ pub struct DeskSeat<'a, R, G> {
     pub seen: u64,
 }
 
-// Sends a snapshot where one is due. One for which memory is wanting is no save.
+// Sends a snapshot where one is due, unless others wait to be saved. One for which memory is wanting
+// is no save.
 fn send_if_due<R: Wait>(
     rt: &R,
     desk: &Desk,
@@ -36,12 +40,18 @@ fn send_if_due<R: Wait>(
     let Some(sender) = sender else {
         return;
     };
-    if pass.heard().checked_rem(every) != Some(0) {
+    if pass.heard().checked_rem(every) != Some(0) || sender.is_full() {
         return;
     }
     if let Ok(snapshot) = desk.snapshot(rt, pass) {
-        let _ = sender.send(rt, snapshot);
+        let _ = sender.try_send(rt, snapshot);
     }
+}
+
+// How the run stands now, if memory suffices.
+fn standing<R: Wait>(rt: &R, alloc: Global, desk: &Desk, pass: &mut Pass) -> Option<Standing> {
+    let snapshot = desk.snapshot(rt, pass).ok()?;
+    standing_of(alloc, &snapshot.into_image())
 }
 
 impl<'a, R: Wait, G: Gate> Seat for DeskSeat<'a, R, G> {
@@ -58,6 +68,11 @@ impl<'a, R: Wait, G: Gate> Seat for DeskSeat<'a, R, G> {
         let heard = self.desk.solution(self.rt, self.pass, point);
         self.gate.pass(self.pass.rank(), Moment::Answered);
         send_if_due(self.rt, self.desk, self.pass, &self.sender, self.every);
+        if self.gate.wants(self.pass.heard(), heard == Heard::Kept) {
+            if let Some(standing) = standing(self.rt, self.alloc, self.desk, self.pass) {
+                self.gate.tell(&standing);
+            }
+        }
         heard
     }
 
@@ -74,6 +89,11 @@ impl<'a, R: Wait, G: Gate> Seat for DeskSeat<'a, R, G> {
         let reply = self.desk.state(self.rt, self.pass, left, floor);
         self.gate.pass(self.pass.rank(), Moment::Answered);
         send_if_due(self.rt, self.desk, self.pass, &self.sender, self.every);
+        if self.gate.wants(self.pass.heard(), false) {
+            if let Some(standing) = standing(self.rt, self.alloc, self.desk, self.pass) {
+                self.gate.tell(&standing);
+            }
+        }
         reply
     }
 

@@ -13,6 +13,7 @@ mod listener;
 mod saving;
 mod seat;
 mod solve;
+mod standing;
 mod together;
 mod worker;
 

@@ -13,6 +13,7 @@ ghost use Rattle.ug_threads.specs.Outcomes.{HasEnded, IsSavedOrCounted, IsUntouc
 use crate::ending::end_of;
 use crate::listener::{Saving, Silent};
 use crate::saving::save_end;
+use crate::standing::tell_begin;
 use crate::together::solve;
 use std::alloc::Global;
 use std::sync::Wait;
@@ -61,6 +62,7 @@ pub fn solve_threads<R: Threads + Wait + Sync, D: Disk, G: Gate>(
     ensures missed { 0 < result.missed → Rose (D.faults disk.old) (D.faults disk.new) }
     ensures calm { result.missed ≡ 0 → D.faults disk.new ≡ D.faults disk.old }
 {
+    tell_begin(gate, &book);
     match saver {
         None => silently(rt, alloc, book, gate),
         Some(saver) => with_saver(rt, alloc, book, saver, disk, gate),

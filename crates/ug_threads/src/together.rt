@@ -9,7 +9,7 @@ use crate::alone::alone;
 use crate::crew::{passes, places, start};
 use crate::ending::of_opening;
 use crate::listener::{Listener, listen};
-use crossbeam_channel::{Receiver, Sender, unbounded};
+use crossbeam_channel::{Receiver, Sender, bounded};
 use std::alloc::{AllocError, Global};
 use std::sync::{Mutex, Wait};
 use std::thread;
@@ -17,6 +17,9 @@ use std::thread::Threads;
 use ug_book::Book;
 use ug_desk::{Desk, Opening, Pass, Snapshot};
 use ug_gate::Gate;
+
+/// How many snapshots may wait to be saved. Where so many do, no other is made.
+const WAITING: usize = 2;
 
 /// What a solve comes to: its ending book, if memory sufficed, and who took the snapshots.
 #[derive(Drop)]
@@ -83,6 +86,7 @@ fn at_desk<R: Threads + Wait + Sync, G: Gate, T: Listener + Drop>(
     } = room;
     let listener = run(
         rt,
+        alloc,
         &desk,
         places.as_slice(),
         gate,
@@ -109,7 +113,7 @@ struct Room {
 fn make_room(alloc: Global, book: Book) -> Result<Room, AllocError>
     requires { IsMade book }
 {
-    let (sender, receiver) = unbounded(alloc)?;
+    let (sender, receiver) = bounded(alloc, WAITING)?;
     let (desk, passes) = Desk::new(alloc, book)?;
     let places = places(alloc, passes)?;
     Ok(Room {
@@ -123,6 +127,7 @@ fn make_room(alloc: Global, book: Book) -> Result<Room, AllocError>
 // Runs the workers to their end, while the caller listens.
 fn run<R: Threads + Wait + Sync, G: Gate, T: Listener + Drop>(
     rt: &R,
+    alloc: Global,
     desk: &Desk,
     places: &[Mutex<Pass>],
     gate: &G,
@@ -143,7 +148,7 @@ fn run<R: Threads + Wait + Sync, G: Gate, T: Listener + Drop>(
             ensures ready { T.ready result }
             ensures moves { T.moves listener result }
         {
-            start(scope, rt, desk, places, gate, sender, every);
+            start(scope, rt, alloc, desk, places, gate, sender, every);
             listen(rt, listener, receiver)
         },
     )
