@@ -40,3 +40,13 @@ ArePointLines gap p x text = (value : List ℕ) × IsPrinted p.objective (value_
 abbrev pub AreAnswerLines : ℕ → Instance → Answer → List ℕ → Type 0
 AreAnswerLines gap p (Optimal x) text = ArePointLines gap p x text
 AreAnswerLines gap p Infeasible text = text ≡ line (codes "infeasible")
+
+-- the first of them
+abbrev pub IsValueLine : ℕ → Instance → List ℤ → List ℕ → Type 0
+IsValueLine gap p x text = (value : List ℕ) × IsPrinted p.objective (value_of p.objective x) value
+    × (text ≡ claim_line gap value)
+
+-- the first line of an answer: what is claimed and the value, or `infeasible`
+abbrev pub IsAnswerLine : ℕ → Instance → Answer → List ℕ → Type 0
+IsAnswerLine gap p (Optimal x) text = IsValueLine gap p x text
+IsAnswerLine gap p Infeasible text = text ≡ line (codes "infeasible")

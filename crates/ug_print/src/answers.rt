@@ -1,7 +1,7 @@
 ghost use Rattle.std.specs.Prelude.{◌≡◌, [], ◌++◌, length, IfOk, OnOk};
 ghost use Rattle.ug_ledger.specs.Answers.{answer_of};
 ghost use Rattle.ug_rules.specs.State.{held_nodes};
-ghost use Rattle.ug_print.specs.Answers.{claim_under, claim_line, value_part, value_lines, AreAnswerLines, ArePointLines};
+ghost use Rattle.ug_print.specs.Answers.{AreAnswerLines, ArePointLines, IsAnswerLine, IsValueLine, claim_line, claim_under, value_lines, value_part};
 
 use crate::words::{push_number, push_word};
 use std::alloc::{AllocError, Global};
@@ -23,6 +23,29 @@ pub fn answer_lines(alloc: Global, book: &Book, gap: u64) -> Result<Vec<u8>, All
         Some(Answered::Infeasible) => Vec::from_slice(alloc, b"infeasible\n"),
         None => unreachable!(),
     }
+}
+
+/// The first line of what a book answers that holds no node: `optimal` and the value; or
+/// `infeasible`.
+pub fn answer_line(alloc: Global, book: &Book) -> Result<Vec<u8>, AllocError>
+    requires { held_nodes book.now ≡ [] }
+    ensures { IfOk result (λ text.
+        IsAnswerLine 0 book.now.problem (answer_of book.now.best) text.items) }
+{
+    match book.answer() {
+        Some(Answered::Optimal(point)) => value_line(alloc, book.problem().problem(), point),
+        Some(Answered::Infeasible) => Vec::from_slice(alloc, b"infeasible\n"),
+        None => unreachable!(),
+    }
+}
+
+// The first line of a point, without a gap.
+fn value_line(alloc: Global, problem: &Problem, point: &Point) -> Result<Vec<u8>, AllocError>
+    requires { length point.now ≡ length problem.now.columns }
+    ensures { IfOk result (λ text. IsValueLine 0 problem.now point.now text.items) }
+{
+    let value = problem.print_value(alloc, problem.value(point))?;
+    claim_line(alloc, 0, value.as_slice())
 }
 
 // The lines of a point under a gap.

@@ -16,7 +16,7 @@ mod nodes;
 mod refusals;
 mod words;
 
-pub use answers::answer_lines;
+pub use answers::{answer_line, answer_lines};
 pub use checkpoints::checkpoint_lines;
 pub use counts::push_counts;
 pub use faults::fault_line;
