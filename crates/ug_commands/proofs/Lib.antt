@@ -1,0 +1,6 @@
+mod Moved
+mod Scales
+mod Texts
+mod Tellings
+mod Stored
+mod Accounts
