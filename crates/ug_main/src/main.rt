@@ -1,18 +1,29 @@
-//! The program `ug`: solves the bounded integer program of an MPS file.
-//! It stands on ug_top and ug_real.
-//! `main` makes the real objects, a reader of the file and a writer to standard output, and ends with the
-//! status of `run`, whose contract says what was printed.
-//! On standard error it writes the usage line where the words are no command, and why a file failed.
+//! The program `ug`: solves bounded integer programs of MPS files with many solvers, and goes on from
+//! checkpoints.
+//! It stands on ug_top, on ug_cli for the words, and on ug_real.
+//! `main` makes the real objects, a reader of the file, a writer to standard output and the folder of
+//! the checkpoint, and ends with the status of `run`, whose contract says what was printed.
+//! On standard error it writes the usage line where the words are no command, why a run failed, and,
+//! where that is a terminal or `UG_PROGRESS` is set, how it gets on.
 #![tactic(auto)]
 
+mod paths;
+mod progress;
 mod words;
 
+use crate::paths::{Paths, paths_of};
+use crate::progress::Progress;
 use crate::words::Behind;
+use std::fs::File;
+use std::io::{Eprint, IsTerminal, Print};
 use std::process::ExitCode;
-use std::rt::Env;
+use std::rt::{Env, Files};
+use std::sync::Wait;
+use std::thread::Threads;
 use std::{env, io};
-use ug_real::{Reader, Writer};
-use ug_top::{Status, command_of, run};
+use ug_cli::read_words;
+use ug_real::{FileDisk, Reader, Writer};
+use ug_top::{Status, run};
 
 // The words behind the program's own name. A word that is not UTF-8 is no command.
 fn words_of<R: Env + AllocGlobal>(rt: &R) -> Result<Vec<String>, Status> {
@@ -32,23 +43,63 @@ fn status_of(error: &io::Error) -> Status {
     }
 }
 
-// Runs the command, with the file that it names as the source. Where reading or writing failed, the
-// system's words for it go to standard error.
-fn solve(rt: &HostRuntime, words: &[String]) -> Status {
-    let file = command_of(words).map_or("", |command| command.file);
+// Does what the words ask for. Why it failed goes to standard error: the system's words where a call
+// did, else what is the matter with the checkpoint.
+fn obey<R>(rt: &R, words: &[String], is_told: bool) -> Status
+where
+    R: Files<File = File> + Print + Eprint + AllocGlobal + Threads + Wait + Sync,
+{
+    let plan = read_words(rt.alloc(), words).ok();
+    let Paths {
+        file,
+        folder,
+        is_shown,
+    } = paths_of(plan.as_ref());
     let mut input = Reader::new(rt, file);
     let mut out = Writer::new(io::writer(rt));
-    let status = run(rt, rt.alloc(), words, &mut input, &mut out);
+    let mut disk = if is_shown {
+        FileDisk::reading(rt, rt.alloc(), folder)
+    } else {
+        FileDisk::new(rt, rt.alloc(), folder)
+    };
+    let status = run(
+        rt,
+        rt.alloc(),
+        words,
+        &mut input,
+        &mut out,
+        &mut disk,
+        &Progress::new(rt, is_told),
+    );
     match status {
         Status::ReadFault => explain(rt, file, input.error()),
         Status::WriteFault => explain(rt, "standard output", out.error()),
-        _ => {}
+        Status::DiskFault => explain(rt, folder, disk.error()),
+        _ => advise(rt, folder, status),
     }
     status
 }
 
+// Says what is the matter with the checkpoint in this folder.
+fn advise<R: Eprint>(rt: &R, folder: &str, status: Status) {
+    let advice = match status {
+        Status::NoCheckpoint => "there is no checkpoint here",
+        Status::OtherProblem => "the checkpoint is of another problem; each has its own folder",
+        Status::BadImage => "a slot of the checkpoint is damaged, or no slot of ug",
+        Status::Spent => "the numbers of the checkpoint are used up; begin in a new folder",
+        Status::SmallerGap => "the checkpoint was made with a greater gap; ask for one as great",
+        _ => return,
+    };
+    let _ = eprintln!(rt; "ug: {folder}: {advice}");
+}
+
+// Whether standard error is a terminal, or the environment asks for lines of progress.
+fn wants_progress(rt: &HostRuntime) -> bool {
+    rt.stderr().is_terminal() || env::var(rt, "UG_PROGRESS").is_ok()
+}
+
 // Says why a call on this file failed.
-fn explain(rt: &HostRuntime, file: &str, error: Option<&io::Error>) {
+fn explain<R: Eprint>(rt: &R, file: &str, error: Option<&io::Error>) {
     if let Some(error) = error {
         let _ = eprintln!(rt; "ug: {file}: {error}");
     }
@@ -56,11 +107,11 @@ fn explain(rt: &HostRuntime, file: &str, error: Option<&io::Error>) {
 
 fn main(rt: HostRuntime) -> ExitCode {
     let status = match words_of(&rt) {
-        Ok(words) => solve(&rt, &words),
+        Ok(words) => obey(&rt, &words, wants_progress(&rt)),
         Err(status) => status,
     };
     if status == Status::Usage {
-        let _ = eprintln!(rt; "usage: ug solve FILE [--box U]");
+        let _ = eprintln!(rt; "usage: ug solve|restart|gen|show");
     }
     ExitCode::from(status.code())
 }

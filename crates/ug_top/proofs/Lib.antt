@@ -1,5 +1,2 @@
 mod Moved
-mod SoloLemmas
-mod Steps
-mod EndLemmas
-mod BoxNumbers
+mod Runs

@@ -1,57 +1,99 @@
 -- What a run did, by its status.
-use Rattle.std.specs.Prelude.{◌≡◌, ◌≢◌, ℕ, pos, ◌<◌, List, [], Option, IfSome}
+use Rattle.std.specs.Prelude.{◌≡◌, ◌≢◌, ◌⊎◌, ℕ, List, [], Option, None, Some, IfSome}
+use Rattle.clap.specs.Walk.{Text}
 use Rattle.ug_problem.specs.Instances.{Instance}
-use Rattle.ug_problem.specs.Right.{Right}
-use Rattle.ug_problem.specs.declared.answer.Answer.{Answer}
 use Rattle.ug_mps.specs.declared.fault.MpsFault.{MpsFault}
 use Rattle.ug_mps.specs.Reads.{Reads, FirstFault}
 use Rattle.ug_io.specs.Outside.{Rose, Takes, TakesFront}
-use Rattle.ug_print.specs.Lines.{memory_line, read_fault_line}
-use Rattle.ug_print.specs.Answers.{AreAnswerLines}
-use Rattle.ug_print.specs.Refusals.{refused_line}
-use Rattle.ug_top.specs.declared.status.Status.{Status}
-use Rattle.ug_top.specs.declared.status.Status.TheVariants.{Answered, Usage, Refused, ReadFault, WriteFault, Memory}
+use Rattle.ug_print.specs.Lines.{memory_line}
+use Rattle.ug_cli.specs.Taken.{TakenWords}
+use Rattle.ug_cli.specs.declared.plan.Plan.{Plan}
+use Rattle.ug_cli.specs.declared.plan.Plan.TheVariants as plans
+use Rattle.ug_commands.specs.Outside.{Outside}
+use Rattle.ug_commands.specs.Ends.{AreLinesOf, IsAccounted, IsDiskless, IsLeftAlone, status_of, text_of}
+use Rattle.ug_commands.specs.declared.ended.Ended.{Ended}
+use Rattle.ug_commands.specs.declared.status.Status.{Status}
+use Rattle.ug_commands.specs.declared.status.Status.TheVariants.{Usage, Refused, ReadFault, WriteFault, Memory}
 
--- the exit status
-abbrev pub code_of : Status → ℕ
-code_of Answered = 0
-code_of Usage = 2
-code_of Refused = 3
-code_of ReadFault = 4
-code_of WriteFault = 5
-code_of Memory = 9
+-- the first fault of the text was told, unless the source failed or memory was wanting
+abbrev pub IsToldOf : Status → Type 0
+IsToldOf status = (status ≡ Refused) ⊎ ((status ≡ ReadFault) ⊎ (status ≡ Memory))
 
--- the lines of a right answer, without a gap, to the problem that the bytes state under the box, where they are told
-pub record AreRightLines (boxed : Option ℕ) (told : Option (List ℕ)) (text : List ℕ) : Type 0 where
-  pub problem : Instance
-  pub answer : Answer
-  pub reads : IfSome told (λ bytes. Reads bytes boxed problem)
-  pub right : Right problem (pos 0) answer
-  pub lines : AreAnswerLines 0 problem answer text
+-- Where the source's bytes are told: of one with a first fault that is told, and one that states a
+-- problem is not refused.
+pub record IsComplete (boxed : Option ℕ) (left : Option (List ℕ)) (status : Status) : Type 0 where
+  pub fault : IfSome left (λ bytes. (f : MpsFault) → FirstFault bytes boxed f → IsToldOf status)
+  pub problem : IfSome left (λ bytes. (p : Instance) → Reads bytes boxed p → status ≢ Refused)
 
--- the line of the first fault of the bytes under the box, where they are told
-pub record IsRefusedLine (boxed : Option ℕ) (told : Option (List ℕ)) (text : List ℕ) : Type 0 where
-  pub fault : MpsFault
-  pub first : IfSome told (λ bytes. FirstFault bytes boxed fault)
-  pub is : text ≡ refused_line fault
+-- so it is of a plan that reads a file
+abbrev pub IsCompleteOf : Plan → Option (List ℕ) → Status → Type 0
+IsCompleteOf (plans.Solve solve) left status = IsComplete solve.settings.bounds.boxed left status
+IsCompleteOf (plans.Restart restart) left status =
+    IsComplete restart.settings.bounds.boxed left status
+IsCompleteOf (plans.Show show) left status = Unit {0}
+IsCompleteOf (plans.Gen gen) left status = Unit {0}
 
--- the lines of a status
-abbrev pub AreLines : Option ℕ → Option (List ℕ) → Status → List ℕ → Type 0
-AreLines boxed told Answered text = AreRightLines boxed told text
-AreLines boxed told Usage text = text ≡ []
-AreLines boxed told Refused text = IsRefusedLine boxed told text
-AreLines boxed told ReadFault text = text ≡ read_fault_line
-AreLines boxed told WriteFault text = ⊥
-AreLines boxed told Memory text = text ≡ memory_line
+-- the words ask for a plan, and what is due is what it comes to; without a checkpoint the disk is
+-- left alone
+pub record IsWorked (words : List Text) (old new : Outside) (status : Status) (text : List ℕ)
+    : Type 0 where
+  pub plan : Plan
+  pub taken : TakenWords words plan
+  pub lines : AreLinesOf plan old new status text
+  pub accounted : IsAccounted old new status
+  pub alone : IsDiskless plan → IsLeftAlone old.slots new.slots old.stores new.stores
+  pub complete : IsCompleteOf plan old.left status
 
--- what the work came to before a line was written: the status and its lines, a read fault exactly where the source's faults rose
-pub record IsDue (boxed : Option ℕ) (told : Option (List ℕ)) (faults faults' : ℕ) (status : Status) (text : List ℕ) : Type 0 where
-  pub lines : AreLines boxed told status text
-  pub work : status ≢ Usage
-  pub fault : status ≡ ReadFault → Rose faults faults'
-  pub source : faults < faults' → status ≡ ReadFault
+-- the words ask for no plan, and nothing is due
+pub record IsNoPlan (words : List Text) (status : Status) (text : List ℕ) : Type 0 where
+  pub none : (plan : Plan) → TakenWords words plan → ⊥
+  pub usage : status ≡ Usage
+  pub nothing : text ≡ []
 
--- the lines of the status were written; where the sink failed, a front of those that were due
-abbrev pub Wrote : Option ℕ → Option (List ℕ) → ℕ → ℕ → Option (List ℕ) → Option (List ℕ) → Status → Type 0
-Wrote boxed told faults faults' old new WriteFault = (status : Status) × (text : List ℕ) × IsDue boxed told faults faults' status text × TakesFront old new text
-Wrote boxed told faults faults' old new status = (text : List ℕ) × AreLines boxed told status text × Takes old new text
+-- memory was wanting when the words were read
+pub record IsUnread (status : Status) (text : List ℕ) : Type 0 where
+  pub memory : status ≡ Memory
+  pub line : text ≡ memory_line
+
+-- where no plan is carried out, nothing is read or saved
+pub record IsIdle (words : List Text) (old new : Outside) (status : Status) (text : List ℕ)
+    : Type 0 where
+  pub untouched : new ≡ old
+  pub why : IsNoPlan words status text ⊎ IsUnread status text
+
+-- the status and the lines of what the words ask for; none where they ask for nothing
+abbrev pub due_status : Option Ended → Status
+due_status None = Usage
+due_status (Some ended) = status_of ended
+
+abbrev pub due_text : Option Ended → List ℕ
+due_text None = []
+due_text (Some ended) = text_of ended
+
+-- this status and these lines are due
+abbrev pub IsDue : List Text → Outside → Outside → Status → List ℕ → Type 0
+IsDue words old new status text =
+    IsWorked words old new status text ⊎ IsIdle words old new status text
+
+-- the lines were written
+pub record IsWritten (due status : Status) (text : List ℕ) (written after : Option (List ℕ))
+    (writes risen : ℕ) : Type 0 where
+  pub is : status ≡ due
+  pub all : Takes written after text
+  pub calm : risen ≡ writes
+
+-- a front of the lines was, and then the sink failed
+pub record IsCutShort (status : Status) (text : List ℕ) (written after : Option (List ℕ))
+    (writes risen : ℕ) : Type 0 where
+  pub is : status ≡ WriteFault
+  pub front : TakesFront written after text
+  pub fault : Rose writes risen
+
+-- What was due is written, or the status is a write fault.
+pub record HasRun (words : List Text) (old new : Outside) (written after : Option (List ℕ))
+    (writes risen : ℕ) (status : Status) : Type 0 where
+  pub due_status : Status
+  pub text : List ℕ
+  pub due : IsDue words old new due_status text
+  pub wrote : IsWritten due_status status text written after writes risen
+      ⊎ IsCutShort status text written after writes risen

@@ -348,7 +348,7 @@ fn faults_of_texts(rt: HostRuntime) -> Result<(), Fail> {
         for case in table.lines() {
             if let Some((edits, fault)) = case.split_once(" -> ") {
                 let text = edited(alloc, KNAP, edits)?;
-                let told = outcome(alloc, text.as_str(), None)?;
+                let told = outcome(&rt, alloc, text.as_str(), None)?;
                 assert_eq!(rt; told, due(alloc, 3, &["refused ", fault])?, "{case}");
             }
         }
@@ -386,7 +386,7 @@ fn knapsacks_that_are_read(rt: HostRuntime) -> Result<(), Fail> {
             if let Some((edits, lines)) = case.split_once(" -> ") {
                 let status = if lines.starts_with("refused") { 3 } else { 0 };
                 let text = edited(alloc, KNAP, edits)?;
-                let told = outcome(alloc, text.as_str(), boxed)?;
+                let told = outcome(&rt, alloc, text.as_str(), boxed)?;
                 assert_eq!(rt; told, due(alloc, status, &[lines])?, "{case}");
             }
         }
@@ -401,7 +401,7 @@ fn knapsacks_cut_short(rt: HostRuntime) -> Result<(), Fail> {
     for (count, line) in KNAP.lines().enumerate() {
         let fault = format!(in alloc; "refused {count} NoEnd")?;
         assert_eq!(rt;
-            outcome(alloc, text.as_str(), None)?,
+            outcome(&rt, alloc, text.as_str(), None)?,
             due(alloc, 3, &[fault.as_str()])?
         );
         text.push_str(line)?;

@@ -5,11 +5,15 @@
 #![tactic(auto)]
 
 #[cfg(test)]
+mod commands;
+#[cfg(test)]
 mod fault_texts;
 #[cfg(test)]
 mod folders;
 #[cfg(test)]
 mod long_texts;
+#[cfg(test)]
+mod running;
 #[cfg(test)]
 mod runs;
 #[cfg(test)]

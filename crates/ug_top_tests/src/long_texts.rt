@@ -3,7 +3,9 @@
 
 use crate::texts::{due, run_over};
 use std::alloc::Global;
+use std::sync::Wait;
 use std::test::Fail;
+use std::thread::Threads;
 
 // Lines from 0 up to this count, each with its number between the two parts.
 fn push_lines(
@@ -20,10 +22,17 @@ fn push_lines(
 }
 
 // A text with these lines at its end, and what a run in a box of 0 is to tell.
-fn compare(alloc: Global, text: &str, end: &str, status: u8, told: &str) -> Result<bool, Fail> {
+fn compare<R: Threads + Wait + Sync>(
+    rt: &R,
+    alloc: Global,
+    text: &str,
+    end: &str,
+    status: u8,
+    told: &str,
+) -> Result<bool, Fail> {
     let mut whole = String::from_str(alloc, text)?;
     whole.push_str(end)?;
-    Ok(run_over(alloc, whole.as_bytes(), Some("0"))? == due(alloc, status, &[told])?)
+    Ok(run_over(rt, alloc, whole.as_bytes(), Some("0"))? == due(alloc, status, &[told])?)
 }
 
 #[test]
@@ -31,12 +40,31 @@ fn rows_at_their_limit(rt: HostRuntime) -> Result<(), Fail> {
     let alloc = rt.alloc();
     let mut text = String::from_str(alloc, "ROWS\n")?;
     push_lines(alloc, &mut text, " N R", 10_000, "\n")?;
-    assert!(rt; compare(alloc, text.as_str(), "ENDATA\n", 0, "optimal 0")?);
-    assert!(rt; compare(alloc, text.as_str(), " N R\n", 3, "refused 10002 TooMany")?);
-    // Ahead of it stand the other faults of the line.
-    assert!(rt; compare(alloc, text.as_str(), " X R\n", 3, "refused 10002 RowKind X")?);
+    assert!(rt; compare(&rt, alloc, text.as_str(), "ENDATA\n", 0, "optimal 0")?);
     assert!(rt;
         compare(
+            &rt,
+            alloc,
+            text.as_str(),
+            " N R\n",
+            3,
+            "refused 10002 TooMany"
+        )?
+    );
+    // Ahead of it stand the other faults of the line.
+    assert!(rt;
+        compare(
+            &rt,
+            alloc,
+            text.as_str(),
+            " X R\n",
+            3,
+            "refused 10002 RowKind X"
+        )?
+    );
+    assert!(rt;
+        compare(
+            &rt,
             alloc,
             text.as_str(),
             " L R7\n",
@@ -52,11 +80,21 @@ fn columns_at_their_limit(rt: HostRuntime) -> Result<(), Fail> {
     let alloc = rt.alloc();
     let mut text = String::from_str(alloc, "ROWS\n N Z\nCOLUMNS\n M 'MARKER' 'INTORG'\n")?;
     push_lines(alloc, &mut text, " C", 10_000, " Z 1\n")?;
-    assert!(rt; compare(alloc, text.as_str(), "ENDATA\n", 0, "optimal 0")?);
-    assert!(rt; compare(alloc, text.as_str(), " C Z 1\n", 3, "refused 10005 TooMany")?);
+    assert!(rt; compare(&rt, alloc, text.as_str(), "ENDATA\n", 0, "optimal 0")?);
+    assert!(rt;
+        compare(
+            &rt,
+            alloc,
+            text.as_str(),
+            " C Z 1\n",
+            3,
+            "refused 10005 TooMany"
+        )?
+    );
     // Ahead of it stand the other faults of the line.
     assert!(rt;
         compare(
+            &rt,
             alloc,
             text.as_str(),
             " C Z x\n",
@@ -66,6 +104,7 @@ fn columns_at_their_limit(rt: HostRuntime) -> Result<(), Fail> {
     );
     assert!(rt;
         compare(
+            &rt,
             alloc,
             text.as_str(),
             " C Y 1\n",
@@ -75,6 +114,7 @@ fn columns_at_their_limit(rt: HostRuntime) -> Result<(), Fail> {
     );
     assert!(rt;
         compare(
+            &rt,
             alloc,
             text.as_str(),
             " C7 Z 1\n",

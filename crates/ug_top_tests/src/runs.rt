@@ -1,48 +1,68 @@
+//! Sources and sinks that fail, and words that are no command.
+
+use crate::running::{sound_disk, told, told_of, words_of};
 use std::alloc::Global;
+use std::sync::Wait;
 use std::test::Fail;
+use std::thread::Threads;
+use ug_gate::OpenGate;
 use ug_io::{MemorySink, MemorySource, Script, ScriptedSource};
-use ug_top::{command_of, run};
+use ug_top::run;
 
-const NIL: &str = "ROWS\n N Z\nENDATA\n";
+const EMPTY: &str = "ROWS\n N Z\nENDATA\n";
 
-// The words of the command, with a file of this name.
-fn words(alloc: Global, file: &str) -> Result<Vec<String>, Fail> {
-    let mut words = Vec::new(alloc);
-    words.push(String::from_str(alloc, "solve")?)?;
-    words.push(String::from_str(alloc, file)?)?;
-    Ok(words)
+// A source of this text, of whose calls this one fails and which gives so many bytes at most.
+fn failing<'a>(
+    alloc: Global,
+    text: &'a str,
+    call: u64,
+    most: usize,
+) -> Result<ScriptedSource<'a>, Fail> {
+    Ok(ScriptedSource {
+        rest: text.as_bytes(),
+        script: Script::new([call].to_vec(alloc)?, most),
+    })
 }
 
 #[test]
-fn faults(rt: HostRuntime) -> Result<(), Fail> {
+fn source_that_fails(rt: HostRuntime) -> Result<(), Fail> {
     let alloc = rt.alloc();
     // The first read fails.
-    let mut input = ScriptedSource {
-        rest: NIL.as_bytes(),
-        script: Script::new([1].to_vec(alloc)?, 5),
-    };
-    let mut out = MemorySink::new(alloc, Script::new(Vec::new(alloc), 7));
-    let status = run(&rt, alloc, &words(alloc, "f")?, &mut input, &mut out);
-    assert_eq!(rt; status.code(), 4);
-    assert_eq!(rt; out.bytes(), b"read fault\n".as_slice());
+    let mut input = failing(alloc, EMPTY, 1, 5)?;
+    let told = told_of(&rt, alloc, "solve f", &mut input, &mut sound_disk(alloc))?;
+    assert_eq!(rt; told.as_slice(), b"\x04read fault\n".as_slice());
     // The source would fail behind the ENDATA line, where nothing is read.
-    let mut input = ScriptedSource {
-        rest: b"ROWS\n N Z\nENDATA\nmore\n",
-        script: Script::new([3].to_vec(alloc)?, 9),
+    let mut input = failing(alloc, "ROWS\n N Z\nENDATA\nmore\n", 3, 9)?;
+    let told = told_of(&rt, alloc, "solve f", &mut input, &mut sound_disk(alloc))?;
+    assert_eq!(rt; told.as_slice(), b"\0optimal 0\n".as_slice());
+    Ok(())
+}
+
+// What was written, and the status, where this write fails, each of which takes up to six bytes.
+fn cut_short<R: Threads + Wait + Sync>(
+    rt: &R,
+    alloc: Global,
+    call: u64,
+) -> Result<(u8, Vec<u8>), Fail> {
+    let mut input = MemorySource {
+        rest: EMPTY.as_bytes(),
     };
-    let mut out = MemorySink::new(alloc, Script::new(Vec::new(alloc), 7));
-    let status = run(&rt, alloc, &words(alloc, "f")?, &mut input, &mut out);
-    assert_eq!(rt; status.code(), 0);
-    assert_eq!(rt; out.bytes(), b"optimal 0\n".as_slice());
-    // The first write fails, or one in mid-stream.
+    let mut out = MemorySink::new(alloc, Script::new([call].to_vec(alloc)?, 6));
+    let words = words_of(alloc, "solve f")?;
+    let mut disk = sound_disk(alloc);
+    let status = run(
+        rt, alloc, &words, &mut input, &mut out, &mut disk, &OpenGate,
+    );
+    Ok((status.code(), out.bytes().to_vec(alloc)?))
+}
+
+#[test]
+fn sink_that_fails(rt: HostRuntime) -> Result<(), Fail> {
+    let alloc = rt.alloc();
     for (call, written) in [(1, ""), (2, "optima")] {
-        let mut input = MemorySource {
-            rest: NIL.as_bytes(),
-        };
-        let mut out = MemorySink::new(alloc, Script::new([call].to_vec(alloc)?, 6));
-        let status = run(&rt, alloc, &words(alloc, "f")?, &mut input, &mut out);
-        assert_eq!(rt; status.code(), 5);
-        assert_eq!(rt; out.bytes(), written.as_bytes());
+        let (status, bytes) = cut_short(&rt, alloc, call)?;
+        assert_eq!(rt; status, 5);
+        assert_eq!(rt; bytes.as_slice(), written.as_bytes());
     }
     Ok(())
 }
@@ -50,79 +70,22 @@ fn faults(rt: HostRuntime) -> Result<(), Fail> {
 #[test]
 fn words_that_are_no_command(rt: HostRuntime) -> Result<(), Fail> {
     let alloc = rt.alloc();
-    let mut input = MemorySource {
-        rest: NIL.as_bytes(),
-    };
-    let mut out = MemorySink::new(alloc, Script::new(Vec::new(alloc), 7));
-    let status = run(&rt, alloc, &words(alloc, "--box")?, &mut input, &mut out);
-    assert_eq!(rt; status.code(), 2);
-    assert_eq!(rt; out.bytes(), b"".as_slice());
-    Ok(())
-}
-
-// The words of this line, which stand behind a blank each but the first.
-fn words_of_line(alloc: Global, line: &str) -> Result<Vec<String>, Fail> {
-    let mut words = Vec::new(alloc);
-    for word in line.split(' ') {
-        words.push(String::from_str(alloc, word)?)?;
-    }
-    Ok(words)
-}
-
-#[test]
-fn commands(rt: HostRuntime) -> Result<(), Fail> {
-    let alloc = rt.alloc();
-    let commands = [
-        ("solve f", None),
-        ("solve f --box 5", Some(5)),
-        ("solve f --box=5", Some(5)),
-        ("solve --box 5 f", Some(5)),
-        ("solve --box=5 f", Some(5)),
-        ("solve f --box 0", Some(0)),
-        ("solve --box=1000000000 f", Some(1_000_000_000)),
-    ];
-    for (line, boxed) in commands {
-        match command_of(&words_of_line(alloc, line)?) {
-            Some(command) => {
-                assert_eq!(rt; command.file, "f");
-                assert_eq!(rt; command.boxed, boxed);
-            }
-            None => assert!(rt; false),
-        }
-    }
-    Ok(())
-}
-
-#[test]
-fn lines_that_are_no_command(rt: HostRuntime) -> Result<(), Fail> {
-    let alloc = rt.alloc();
     let lines = [
-        "",
+        "''",
         "solve",
         "check f",
-        "solve f g",
-        "solve -f",
-        "solve --box 5",
-        "solve --box=5",
         "solve f --box",
-        "solve f --box ",
-        "solve f --box=",
-        "solve f --boxed=5",
-        "solve f -box 5",
-        "solve f --box 05",
-        "solve f --box 00",
-        "solve f --box +5",
-        "solve f --box=-5",
-        "solve f --box 5x",
-        "solve f --box 1000000001",
-        "solve f --box 4294967296",
-        "solve f --box 5 --box 5",
-        "solve --box=5 f --box=5",
-        "solve --box f 5",
-        "--box 5 solve f",
+        "solve f --solvers 0",
+        "solve f --low 5 --high 4",
+        "solve f --mode processes",
+        "restart f",
+        "show",
+        "gen 0 3",
+        "worker --socket s",
     ];
     for line in lines {
-        assert!(rt; command_of(&words_of_line(alloc, line)?).is_none());
+        let told = told(&rt, alloc, line, EMPTY.as_bytes(), &mut sound_disk(alloc))?;
+        assert_eq!(rt; told.as_slice(), b"\x02".as_slice(), "{line}");
     }
     Ok(())
 }

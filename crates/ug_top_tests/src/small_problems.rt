@@ -2,13 +2,14 @@
 
 ghost use Rattle.std.specs.Prelude.{◌≡◌, length};
 
+use crate::texts::run_over;
 use std::alloc::Global;
+use std::sync::Wait;
 use std::test::Fail;
-use ug_io::{MemorySink, MemorySource, Script};
+use std::thread::Threads;
 use ug_mps::read;
 use ug_problem::Problem;
 use ug_rows::{Interval, Point};
-use ug_top::run;
 
 // More points than any of the problems has.
 const MOST_POINTS: u32 = 10_000;
@@ -68,17 +69,15 @@ fn first_line(alloc: Global, text: &str) -> Result<Option<Vec<u8>>, Fail> {
     Ok(Some(line))
 }
 
-// What a run wrote, up to its first line feed.
-fn first_line_of_run(alloc: Global, text: &str) -> Result<Vec<u8>, Fail> {
-    let mut words = Vec::new(alloc);
-    words.push(String::from_str(alloc, "solve")?)?;
-    words.push(String::from_str(alloc, "f")?)?;
-    let mut input = MemorySource {
-        rest: text.as_bytes(),
-    };
-    let mut out = MemorySink::new(alloc, Script::new(Vec::new(alloc), 7));
-    run(&alloc, alloc, &words, &mut input, &mut out);
-    let line = out.bytes().split(|b| *b == b'\n').next().unwrap_or(b"");
+// What a solve wrote, up to its first line feed.
+fn first_line_of_run<R: Threads + Wait + Sync>(
+    rt: &R,
+    alloc: Global,
+    text: &str,
+) -> Result<Vec<u8>, Fail> {
+    let told = run_over(rt, alloc, text.as_bytes(), None)?;
+    let lines = told.get(1..).unwrap_or(b"");
+    let line = lines.split(|b| *b == b'\n').next().unwrap_or(b"");
     Ok(line.to_vec(alloc)?)
 }
 
@@ -120,7 +119,7 @@ fn small_problems(rt: HostRuntime) -> Result<(), Fail> {
                     panic!(rt; "the text states no problem");
                 };
                 assert_eq!(rt;
-                    first_line_of_run(alloc, text.as_str())?.as_slice(),
+                    first_line_of_run(&rt, alloc, text.as_str())?.as_slice(),
                     line.as_slice()
                 );
             }

@@ -4,10 +4,11 @@
 //! a word of 256 letters, `^` one of 255, and `#` is the marker that sets integer on. A text may be edits of another:
 //! `21: UP D A 4/` puts this in the place of line 21, `9:` takes line 9 out, and `&` stands between edits.
 
+use crate::running::{sound_disk, told};
 use std::alloc::Global;
+use std::sync::Wait;
 use std::test::Fail;
-use ug_io::{MemorySink, MemorySource, Script};
-use ug_top::run;
+use std::thread::Threads;
 
 // ---- the notation
 
@@ -19,8 +20,8 @@ fn push_letters(bytes: &mut Vec<u8>, count: u32) -> Result<(), Fail> {
     Ok(())
 }
 
-// The bytes that the notation stands for.
-fn written(alloc: Global, notation: &str) -> Result<Vec<u8>, Fail> {
+/// The bytes that the notation stands for.
+pub fn written(alloc: Global, notation: &str) -> Result<Vec<u8>, Fail> {
     let mut bytes = Vec::new(alloc);
     for byte in notation.bytes() {
         match byte {
@@ -61,35 +62,38 @@ pub fn edited(alloc: Global, base: &str, edits: &str) -> Result<String, Fail> {
     Ok(text)
 }
 
-// The words of the command, with a box if one is given.
-fn words(alloc: Global, boxed: Option<&str>) -> Result<Vec<String>, Fail> {
-    let mut words = Vec::new(alloc);
-    words.push(String::from_str(alloc, "solve")?)?;
-    words.push(String::from_str(alloc, "f")?)?;
+// The line of the command, with a box if one is given.
+fn command(alloc: Global, boxed: Option<&str>) -> Result<String, Fail> {
+    let mut line = String::from_str(alloc, "solve f")?;
     if let Some(number) = boxed {
-        words.push(String::from_str(alloc, "--box")?)?;
-        words.push(String::from_str(alloc, number)?)?;
+        line.push_str(" --box ")?;
+        line.push_str(number)?;
     }
-    Ok(words)
+    Ok(line)
 }
 
-// The status of a run over the bytes, and behind it what the run wrote.
-pub fn run_over(alloc: Global, text: &[u8], boxed: Option<&str>) -> Result<Vec<u8>, Fail> {
-    let mut input = MemorySource { rest: text };
-    let mut out = MemorySink::new(alloc, Script::new(Vec::new(alloc), 64));
-    let status = run(&alloc, alloc, &words(alloc, boxed)?, &mut input, &mut out);
-    let mut told = Vec::new(alloc);
-    told.push(status.code())?;
-    told.extend_from_slice(out.bytes())?;
-    Ok(told)
+/// The status of a solve of the bytes, and behind it what was written.
+pub fn run_over<R: Threads + Wait + Sync>(
+    rt: &R,
+    alloc: Global,
+    text: &[u8],
+    boxed: Option<&str>,
+) -> Result<Vec<u8>, Fail> {
+    let line = command(alloc, boxed)?;
+    told(rt, alloc, line.as_str(), text, &mut sound_disk(alloc))
 }
 
-// The same for a text in the notation.
-pub fn outcome(alloc: Global, text: &str, boxed: Option<&str>) -> Result<Vec<u8>, Fail> {
-    run_over(alloc, written(alloc, text)?.as_slice(), boxed)
+/// The same for a text in the notation.
+pub fn outcome<R: Threads + Wait + Sync>(
+    rt: &R,
+    alloc: Global,
+    text: &str,
+    boxed: Option<&str>,
+) -> Result<Vec<u8>, Fail> {
+    run_over(rt, alloc, written(alloc, text)?.as_slice(), boxed)
 }
 
-// This status, and behind it these lines.
+/// This status, and behind it these lines.
 pub fn due(alloc: Global, status: u8, lines: &[&str]) -> Result<Vec<u8>, Fail> {
     let mut told = Vec::new(alloc);
     told.push(status)?;
@@ -158,7 +162,7 @@ fn texts_that_are_read(rt: HostRuntime) -> Result<(), Fail> {
         if let Some((text, told)) = case.split_once(" -> ") {
             let status = if told.starts_with("refused") { 3 } else { 0 };
             assert_eq!(rt;
-                outcome(alloc, text, None)?,
+                outcome(&rt, alloc, text, None)?,
                 due(alloc, status, &[told])?,
                 "{case}"
             );
@@ -383,12 +387,17 @@ A column's pairs on one line or on two.
 ";
 
 // Runs over both senses, and tells of the least and of the greatest value.
-fn extremes(alloc: Global, edits: &str, boxed: Option<&str>) -> Result<(Vec<u8>, Vec<u8>), Fail> {
+fn extremes<R: Threads + Wait + Sync>(
+    rt: &R,
+    alloc: Global,
+    edits: &str,
+    boxed: Option<&str>,
+) -> Result<(Vec<u8>, Vec<u8>), Fail> {
     let text = edited(alloc, ONE, edits)?;
-    let least = outcome(alloc, text.as_str(), boxed)?;
+    let least = outcome(rt, alloc, text.as_str(), boxed)?;
     let mut reversed = String::from_str(alloc, "OBJSENSE/ MAX/")?;
     reversed.push_str(text.as_str())?;
-    Ok((least, outcome(alloc, reversed.as_str(), boxed)?))
+    Ok((least, outcome(rt, alloc, reversed.as_str(), boxed)?))
 }
 
 // Compares the least and the greatest value of the column with those of the case.
@@ -404,7 +413,7 @@ fn texts_of_one_column(rt: HostRuntime) -> Result<(), Fail> {
         for case in table.lines() {
             if let Some((edits, values)) = case.split_once(" -> ") {
                 assert_eq!(rt;
-                    extremes(alloc, edits, None)?,
+                    extremes(&rt, alloc, edits, None)?,
                     told_of_both(alloc, values)?,
                     "{case}"
                 );
@@ -414,7 +423,7 @@ fn texts_of_one_column(rt: HostRuntime) -> Result<(), Fail> {
     for case in BOXED.lines() {
         if let Some((edits, values)) = case.split_once(" -> ") {
             assert_eq!(rt;
-                extremes(alloc, edits, Some("50"))?,
+                extremes(&rt, alloc, edits, Some("50"))?,
                 told_of_both(alloc, values)?,
                 "{case}"
             );
@@ -446,7 +455,7 @@ fn senses(rt: HostRuntime) -> Result<(), Fail> {
         if let Some((edits, value)) = case.split_once(" -> ") {
             let text = edited(alloc, ONE, edits)?;
             assert_eq!(rt;
-                outcome(alloc, text.as_str(), None)?,
+                outcome(&rt, alloc, text.as_str(), None)?,
                 due_at(alloc, value)?,
                 "{case}"
             );

@@ -1,16 +1,7 @@
+use crate::running::words_of;
 use std::alloc::{AllocError, Global};
 use std::test::Fail;
 use ug_cli::{Bounds, Gen, Plan, Ranks, Restart, Settings, Show, Solve, Usage, read_words};
-
-// The words of a line, which blanks part; `''` is an empty word.
-fn words_of(alloc: Global, line: &str) -> Result<Vec<String>, AllocError> {
-    let mut words = Vec::new(alloc);
-    for word in line.split(' ') {
-        let text = if word == "''" { "" } else { word };
-        words.push(String::from_str(alloc, text)?)?;
-    }
-    Ok(words)
-}
 
 // The settings with these ranks, and otherwise what they are by default.
 fn settings_with(solvers: u32, low: u32, high: u32) -> Settings<'static> {

@@ -1,0 +1,24 @@
+use ug_cli::Plan;
+
+/// The file and the folder that a plan names, and whether the folder is only shown.
+#[derive(Clone, Copy)]
+pub struct Paths<'a> {
+    pub file: &'a str,
+    pub folder: &'a str,
+    pub is_shown: bool,
+}
+
+/// The paths of a plan. What it does not name is empty.
+pub fn paths_of<'a>(plan: Option<&Plan<'a>>) -> Paths<'a> {
+    let (file, folder, is_shown) = match plan {
+        Some(Plan::Solve(solve)) => (solve.file, solve.checkpoint.unwrap_or(""), false),
+        Some(Plan::Restart(restart)) => (restart.file, restart.checkpoint, false),
+        Some(Plan::Show(show)) => ("", show.checkpoint, true),
+        Some(Plan::Gen(_)) | None => ("", "", false),
+    };
+    Paths {
+        file,
+        folder,
+        is_shown,
+    }
+}

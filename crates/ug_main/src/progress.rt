@@ -1,0 +1,73 @@
+use std::io::Eprint;
+use std::sync::atomic::{AtomicU64, Ordering};
+use ug_gate::{Gate, Moment, Standing};
+
+/// Tells on standard error how a run gets on, where that is wanted: a line when it begins, one at
+/// each better incumbent, and one after 1000, 2000, 5000, 10000 and so on reports.
+#[derive(Drop)]
+pub struct Progress<'a, R> {
+    rt: &'a R,
+    is_on: bool,
+    // After so many reports the next line comes.
+    next: AtomicU64,
+}
+
+impl<'a, R> Progress<'a, R> {
+    pub fn new(rt: &'a R, is_on: bool) -> Progress<'a, R> {
+        Progress {
+            rt,
+            is_on,
+            next: AtomicU64::new(1000),
+        }
+    }
+
+    // Whether so many reports are as many as the next line waits for. Of several threads that ask
+    // one is told so.
+    fn has_come(&self, heard: u64) -> bool {
+        let next = self.next.load(Ordering::SeqCst);
+        heard >= next
+            && self
+                .next
+                .compare_exchange(next, after(heard), Ordering::SeqCst, Ordering::SeqCst)
+                .is_ok()
+    }
+}
+
+// The least of 2000, 5000, 10000, 20000 and so on that is above a count.
+fn after(heard: u64) -> u64 {
+    let mut next = 1000u64;
+    for step in 0..57u32 {
+        if next > heard {
+            return next;
+        }
+        next = if step % 3 == 1 {
+            next.saturating_mul(5) / 2
+        } else {
+            next.saturating_mul(2)
+        };
+    }
+    u64::MAX
+}
+
+impl<'a, R: Eprint + Sync> Gate for Progress<'a, R> {
+    fn pass(&self, _rank: u32, _moment: Moment) {}
+
+    fn begin(&self, columns: usize, rows: usize, solvers: u32) {
+        if self.is_on {
+            let _ = eprintln!(self.rt; "ug: {columns} columns, {rows} rows, {solvers} solvers");
+        }
+    }
+
+    fn wants(&self, heard: u64, is_better: bool) -> bool {
+        self.is_on && (self.has_come(heard) || is_better)
+    }
+
+    fn tell(&self, standing: &Standing) {
+        let Standing { heard, best, nodes } = standing;
+        let best = best
+            .as_deref()
+            .and_then(|value| str::from_utf8(value).ok())
+            .unwrap_or("none");
+        let _ = eprintln!(self.rt; "ug: {heard} reports: best {best}, {nodes} nodes held");
+    }
+}

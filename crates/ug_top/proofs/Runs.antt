@@ -1,0 +1,145 @@
+-- What is due of a run, and that it is complete.
+use Rattle.std.proofs.Common.{◌≡◌, inl, inr, ℕ, ◌≤◌, ◌^◌, List, Option, None, Some, IfSome, refl, sym, subst}
+use Rattle.clap.specs.Walk.{Row, Text}
+use Rattle.ug_problem.specs.Instances.{Instance}
+use Rattle.ug_mps.specs.declared.fault.MpsFault.{MpsFault}
+use Rattle.ug_mps.specs.Reads.{FirstFault}
+use Rattle.ug_mps.specs.Laws.{HasOneOutcome}
+use Rattle.ug_restart.specs.declared.fault.StartFault.{StartFault}
+use Rattle.ug_restart.specs.declared.outcome.Outcome.{Outcome}
+use Rattle.ug_cli.specs.Numbers.{IsGiven, IsGivenIf}
+use Rattle.ug_cli.specs.Taken.{AskedIn, AreSettings, IsGen, TakenWords}
+use Rattle.ug_cli.specs.declared.plan.Gen.{Gen}
+use Rattle.ug_cli.specs.declared.plan.Plan.{Plan}
+use Rattle.ug_cli.specs.declared.plan.Plan.TheVariants as plans
+use Rattle.ug_cli.specs.declared.plan.Settings.{Settings as Asked}
+use Rattle.ug_commands.specs.Outside.{Outside}
+use Rattle.ug_commands.specs.Ends.{AreFileLines, AreLinesOf, AreSolveLines, IsPlannedOf}
+use Rattle.ug_commands.specs.Lines.{States}
+use Rattle.ug_commands.specs.Plans.{IsPlanned, IsPlannedGen}
+use Rattle.ug_commands.specs.declared.status.Status.{Status}
+use Rattle.ug_commands.specs.declared.status.Status.TheVariants as statuses
+use Rattle.ug_top.specs.Ran.{IsComplete, IsCompleteOf, IsToldOf}
+
+abbrev OneOutcome : Type 0
+OneOutcome = (text : List ℕ) (boxed : Option ℕ) → HasOneOutcome text boxed
+
+-- ---- the numbers of a plan are within their limits
+
+given_least : (least most : ℕ) (word : Option Text) (n : ℕ) → IsGiven least most word n → least ≤ n
+given_least least most None n t = absurd t
+given_least least most (Some word) n t = t.low
+
+given_most : (least most : ℕ) (word : Option Text) (n : ℕ) → IsGiven least most word n → n ≤ most
+given_most least most None n t = absurd t
+given_most least most (Some word) n t = t.high
+
+box_small : (word : Option Text) (boxed : Option ℕ) → IsGivenIf 0 1000000000 word boxed
+    → IfSome boxed (λ u. u ≤ 10 ^ 9)
+box_small None boxed t = subst (λ b. IfSome b (λ u. u ≤ 10 ^ 9)) (sym t) tt
+box_small (Some word) None t = absurd t
+box_small (Some word) (Some u) t = t.high
+
+planned : (rows : List Row) (asked : Asked) → AreSettings rows asked
+    → asked.ranks.low ≤ asked.ranks.high → IsPlanned asked
+planned rows asked t order = record {
+  some = given_least 1 256 _ asked.ranks.solvers t.ranks.solvers;
+  few = given_most 1 256 _ asked.ranks.solvers t.ranks.solvers;
+  marks = order;
+  boxed = box_small _ asked.bounds.boxed t.bounds.boxed;
+}
+
+planned_gen : (rows : List Row) (gen : Gen) → IsGen rows gen → IsPlannedGen gen
+planned_gen rows gen t = record {
+  least_seed = given_least 1 2147483646 _ gen.seed t.seed;
+  greatest_seed = given_most 1 2147483646 _ gen.seed t.seed;
+  least_size = given_least 1 40 _ gen.size t.size;
+  greatest_size = given_most 1 40 _ gen.size t.size;
+  some = given_least 1 256 _ gen.solvers t.solvers;
+  few = given_most 1 256 _ gen.solvers t.solvers;
+}
+
+asked_planned : (command : Option (Text × List Row)) (words : List Text) (plan : Plan)
+    → AskedIn command plan → TakenWords words plan → IsPlannedOf plan
+asked_planned None words plan asks t = absurd asks
+asked_planned (Some command) words (plans.Solve solve) asks t =
+    planned command.1 solve.settings asks.1.settings t.order
+asked_planned (Some command) words (plans.Restart restart) asks t =
+    planned command.1 restart.settings asks.1.settings t.order
+asked_planned (Some command) words (plans.Show show) asks t = tt
+asked_planned (Some command) words (plans.Gen gen) asks t = planned_gen command.1 gen asks.1
+
+pub taken_planned : (words : List Text) (plan : Plan) → TakenWords words plan → IsPlannedOf plan
+taken_planned words plan t = asked_planned _ words plan t.asked.asks t
+
+-- ---- a text that states a problem is not refused, and one with a fault is told
+
+stated : OneOutcome → (boxed : Option ℕ) (left : Option (List ℕ)) (status : Status) (p : Instance)
+    → (status ≡ statuses.Refused → ⊥) → States left boxed p → IsComplete boxed left status
+stated one boxed None status p not states = record { fault = tt; problem = tt }
+stated one boxed (Some bytes) status p not states = record {
+  fault = λ f first. absurd ((one bytes boxed).apart p f states first);
+  problem = λ q reads is. not is;
+}
+
+untold : (boxed : Option ℕ) (left : Option (List ℕ)) (status : Status) → IsToldOf status
+    → (status ≡ statuses.Refused → ⊥) → IsComplete boxed left status
+untold boxed None status told not = record { fault = tt; problem = tt }
+untold boxed (Some bytes) status told not = record {
+  fault = λ f first. told;
+  problem = λ p reads is. not is;
+}
+
+refused : OneOutcome → (boxed : Option ℕ) (left : Option (List ℕ)) (f : MpsFault)
+    → IfSome left (λ bytes. FirstFault bytes boxed f) → IsComplete boxed left statuses.Refused
+refused one boxed None f first = record { fault = tt; problem = tt }
+refused one boxed (Some bytes) f first = record {
+  fault = λ g other. inl refl;
+  problem = λ p reads. absurd ((one bytes boxed).apart p f reads first);
+}
+
+module _ (one : OneOutcome) (Ran : Instance → Outcome → Type 0)
+    (Not : Instance → StartFault → Type 0) (asked : Asked) (left : Option (List ℕ))
+    (text : List ℕ) where
+  file_complete : (status : Status) → AreFileLines Ran Not asked left status text
+      → IsComplete asked.bounds.boxed left status
+  file_complete statuses.Answered t =
+      stated one asked.bounds.boxed left statuses.Answered t.problem (λ e. absurd (cc e)) t.states
+  file_complete statuses.Limited t =
+      stated one asked.bounds.boxed left statuses.Limited t.problem (λ e. absurd (cc e)) t.states
+  file_complete statuses.Refused t = refused one asked.bounds.boxed left t.fault t.first
+  file_complete statuses.ReadFault t =
+      untold asked.bounds.boxed left statuses.ReadFault (inr (inl refl)) (λ e. absurd (cc e))
+  file_complete statuses.Memory t =
+      untold asked.bounds.boxed left statuses.Memory (inr (inr refl)) (λ e. absurd (cc e))
+  file_complete statuses.DiskFault t =
+      stated one asked.bounds.boxed left statuses.DiskFault t.problem (λ e. absurd (cc e)) t.states
+  file_complete statuses.NoCheckpoint t = stated one asked.bounds.boxed left
+      statuses.NoCheckpoint t.problem (λ e. absurd (cc e)) t.states
+  file_complete statuses.OtherProblem t = stated one asked.bounds.boxed left
+      statuses.OtherProblem t.problem (λ e. absurd (cc e)) t.states
+  file_complete statuses.BadImage t =
+      stated one asked.bounds.boxed left statuses.BadImage t.problem (λ e. absurd (cc e)) t.states
+  file_complete statuses.Spent t =
+      stated one asked.bounds.boxed left statuses.Spent t.problem (λ e. absurd (cc e)) t.states
+  file_complete statuses.SmallerGap t =
+      stated one asked.bounds.boxed left statuses.SmallerGap t.problem (λ e. absurd (cc e)) t.states
+  file_complete statuses.Usage t = absurd t
+  file_complete statuses.WriteFault t = absurd t
+
+solve_complete : OneOutcome → {A : Type 0} (folder : Option A) (asked : Asked) (old new : Outside)
+    (status : Status) (text : List ℕ) → AreSolveLines folder asked old new status text
+    → IsComplete asked.bounds.boxed old.left status
+solve_complete one None asked old new status text t =
+    file_complete one _ _ asked old.left text status t
+solve_complete one (Some folder) asked old new status text t =
+    file_complete one _ _ asked old.left text status t
+
+pub lines_complete : OneOutcome → (plan : Plan) (old new : Outside) (status : Status)
+    (text : List ℕ) → AreLinesOf plan old new status text → IsCompleteOf plan old.left status
+lines_complete one (plans.Solve solve) old new status text t =
+    solve_complete one solve.checkpoint solve.settings old new status text t
+lines_complete one (plans.Restart restart) old new status text t =
+    file_complete one _ _ restart.settings old.left text status t
+lines_complete one (plans.Show show) old new status text t = tt
+lines_complete one (plans.Gen gen) old new status text t = tt

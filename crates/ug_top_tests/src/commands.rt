@@ -1,0 +1,319 @@
+//! Commands, one after another over one disk, and what each of them tells. The notation of texts and
+//! lines is that of texts.rt.
+
+use crate::running::{disk_with, sound_disk, told};
+use crate::texts::{due, written};
+use std::alloc::Global;
+use std::sync::Wait;
+use std::test::Fail;
+use std::thread::Threads;
+use ug_disk::{Disk, MemoryDisk, Slot};
+
+const EMPTY: &str = "ROWS/ N Z/ENDATA/";
+
+const ONE_MORE: &str = "ROWS/ N Z/RHS/ S Z 1/ENDATA/";
+
+const KNAPSACK: &str =
+    "NAME T1/OBJSENSE MAX/ROWS/ N Z/ L P/ L Q/ L R/COLUMNS/#/ A Z 5 P 2/ A Q 4 R 3\
+    / B Z 4 P 3/ B Q 1 R 4/ C Z 3 P 1/ C Q 2 R 2/RHS/ S P 5 Q 11/ S R 8/BOUNDS/ UP D A 10\
+    / UP D B 10/ UP D C 10/ENDATA/";
+
+// The greatest value of one column from 0 to 3.
+const RAMP: &str = "OBJSENSE MAX/ROWS/ N Z/COLUMNS/#/ X Z 1/BOUNDS/ UP D X 3/ENDATA/";
+
+const FRACTIONS: &str =
+    "ROWS/ N Z/ G P/COLUMNS/#/ X Z 0.5 P 1/ Y Z 1.25 P 1/RHS/ P 3/BOUNDS/ UP X 2\
+    / UP Y 5/ENDATA/";
+
+// What is told of the command over the text.
+fn tells<R: Threads + Wait + Sync, D: Disk>(
+    rt: &R,
+    alloc: Global,
+    line: &str,
+    text: &str,
+    disk: &mut D,
+) -> Result<Vec<u8>, Fail> {
+    told(rt, alloc, line, written(alloc, text)?.as_slice(), disk)
+}
+
+// The first image of the empty problem: run 1 and sequence 1, no incumbent, and the root.
+fn first_slot() -> [u8; 113] {
+    let mut slot = [0u8; 113];
+    for (at, byte) in [
+        (0, 1),
+        (8, 0x68),
+        (9, 3),
+        (17, 1),
+        (25, 1),
+        (29, 0x1e),
+        (92, 1),
+    ] {
+        slot[at] = byte;
+    }
+    slot
+}
+
+// A disk whose slot 0 has the first image with another byte at this place, and whose slot 1 is empty.
+fn changed(alloc: Global, at: usize, byte: u8) -> Result<MemoryDisk, Fail> {
+    let mut slot = first_slot();
+    if let Some(place) = slot.get_mut(at) {
+        *place = byte;
+    }
+    slot_only(alloc, &slot)
+}
+
+// A disk of which slot 0 alone has bytes.
+fn slot_only(alloc: Global, zero: &[u8]) -> Result<MemoryDisk, Fail> {
+    let zero = zero.to_vec(alloc)?;
+    Ok(disk_with(alloc, zero, Vec::new(alloc), Vec::new(alloc)))
+}
+
+#[test]
+fn solvers_find_the_optimum(rt: HostRuntime) -> Result<(), Fail> {
+    let alloc = rt.alloc();
+    let lines = [
+        "solve f",
+        "solve f --solvers 4",
+        "solve f --solvers 4 --racing",
+        "solve f --solvers 2 --mode threads --low 1 --high 1",
+        "solve f --solvers 3 --checkpoint d --every 1",
+    ];
+    for line in lines {
+        let told = tells(&rt, alloc, line, KNAPSACK, &mut sound_disk(alloc))?;
+        assert_eq!(rt; told, due(alloc, 0, &["optimal 13;A 2;C 1"])?, "{line}");
+    }
+    Ok(())
+}
+
+const STOPPED: [(&str, &str, u8, &str); 6] = [
+    (
+        "show --checkpoint d",
+        "",
+        0,
+        "run 1;sequence 2;best none;heard 0;gap 0;nodes 1;node 0 0 0",
+    ),
+    (
+        "restart f --checkpoint d",
+        ONE_MORE,
+        11,
+        "other problem 10 0 255",
+    ),
+    ("restart f --checkpoint d", EMPTY, 0, "optimal 0"),
+    (
+        "show --checkpoint d",
+        "",
+        0,
+        "run 2;sequence 4;best 0;heard 2;gap 0;nodes 0",
+    ),
+    ("restart f --checkpoint d", EMPTY, 0, "optimal 0"),
+    (
+        "show --checkpoint d",
+        "",
+        0,
+        "run 3;sequence 6;best 0;heard 0;gap 0;nodes 0",
+    ),
+];
+
+#[test]
+fn stopped_run_is_shown_and_goes_on(rt: HostRuntime) -> Result<(), Fail> {
+    let alloc = rt.alloc();
+    let mut disk = sound_disk(alloc);
+    let line = "solve f --checkpoint d --limit 0";
+    let told = tells(&rt, alloc, line, EMPTY, &mut disk)?;
+    assert_eq!(rt; told, due(alloc, 8, &["open none 1"])?);
+    let mut slot = first_slot();
+    assert_eq!(rt; disk.bytes(Slot::Zero), slot.as_slice());
+    slot[25] = 2;
+    assert_eq!(rt; disk.bytes(Slot::One), slot.as_slice());
+    for (line, text, status, lines) in STOPPED {
+        let told = tells(&rt, alloc, line, text, &mut disk)?;
+        assert_eq!(rt; told, due(alloc, status, &[lines])?, "{line}");
+    }
+    Ok(())
+}
+
+#[test]
+fn each_run_has_the_next_number(rt: HostRuntime) -> Result<(), Fail> {
+    let alloc = rt.alloc();
+    let optimum = due(alloc, 0, &["optimal 13;A 2;C 1"])?;
+    for every in ["", " --every 1"] {
+        let mut disk = sound_disk(alloc);
+        for (run, command) in ["solve f --limit 3", "restart f --limit 1", "restart f"]
+            .iter()
+            .enumerate()
+        {
+            let line = format!(in alloc; "{command} --checkpoint d{every}")?;
+            let told = tells(&rt, alloc, line.as_str(), KNAPSACK, &mut disk)?;
+            let is_open = run < 2 && told.starts_with(b"\x08open ");
+            assert!(rt; is_open || told == optimum, "{line}");
+            let shown = tells(&rt, alloc, "show --checkpoint d", "", &mut disk)?;
+            let first = format!(in alloc; "\0run {}\n", run.saturating_add(1))?;
+            assert!(rt; shown.starts_with(first.as_bytes()), "{line}");
+        }
+    }
+    Ok(())
+}
+
+const GAPS: [(&str, &str, u8, &str); 9] = [
+    ("solve f --gap 2", RAMP, 0, "within 2 3;X 3"),
+    ("solve f --gap 3", RAMP, 0, "within 3 0"),
+    ("solve f --gap 3 --checkpoint d", RAMP, 0, "within 3 0"),
+    (
+        "restart f --gap 2 --checkpoint d",
+        RAMP,
+        16,
+        "smaller gap 3 2",
+    ),
+    ("restart f --gap 3 --checkpoint d", RAMP, 0, "within 3 0"),
+    (
+        "solve f --gap 1 --checkpoint d",
+        FRACTIONS,
+        0,
+        "within 1 2.25;X 2;Y 1",
+    ),
+    (
+        "restart f --checkpoint d",
+        FRACTIONS,
+        16,
+        "smaller gap 100 0",
+    ),
+    (
+        "solve f --gap 1000000000000000000 --checkpoint d",
+        "ROWS/ N Z/ E P/COLUMNS/#/ X P 2/RHS/ P 7/BOUNDS/ UP X 10/ENDATA/",
+        0,
+        "infeasible",
+    ),
+    ("solve f --gap 5", EMPTY, 0, "within 5 0"),
+];
+
+#[test]
+fn gap_is_kept_and_printed(rt: HostRuntime) -> Result<(), Fail> {
+    let alloc = rt.alloc();
+    let mut disk = sound_disk(alloc);
+    for (line, text, status, lines) in GAPS {
+        let told = tells(&rt, alloc, line, text, &mut disk)?;
+        assert_eq!(rt; told, due(alloc, status, &[lines])?, "{line}");
+    }
+    Ok(())
+}
+
+#[test]
+fn gap_of_a_slot_is_in_units_of_the_scaled_objective(rt: HostRuntime) -> Result<(), Fail> {
+    let alloc = rt.alloc();
+    let mut disk = sound_disk(alloc);
+    tells(
+        &rt,
+        alloc,
+        "solve f --gap 1 --checkpoint d",
+        FRACTIONS,
+        &mut disk,
+    )?;
+    let shown = tells(&rt, alloc, "show --checkpoint d", "", &mut disk)?;
+    let gap = shown.split(|byte| *byte == b'\n').nth(4);
+    assert_eq!(rt; gap, Some(b"gap 100".as_slice()));
+
+    let mut disk = changed(alloc, 84, 3)?;
+    let shown = tells(&rt, alloc, "show --checkpoint d", "", &mut disk)?;
+    let lines = "run 1;sequence 1;best none;heard 0;gap 3;nodes 1;node 0 0 0";
+    assert_eq!(rt; shown, due(alloc, 0, &[lines])?);
+    let told = tells(&rt, alloc, "restart f --checkpoint d", EMPTY, &mut disk)?;
+    assert_eq!(rt; told, due(alloc, 16, &["smaller gap 3 0"])?);
+    Ok(())
+}
+
+// Slots of which recovery makes nothing: the bytes of slot 0, a command, and what it tells.
+const UNUSABLE: [(&[u8], &str, u8, &str); 6] = [
+    (b"", "restart f --checkpoint d", 10, "no checkpoint"),
+    (b"", "show --checkpoint d", 10, "no checkpoint"),
+    (b"\x01", "restart f --checkpoint d", 10, "no checkpoint"),
+    (b"\x01\0", "show --checkpoint d", 12, "bad image 0 1"),
+    (b"\x01\0", "restart f --checkpoint d", 12, "bad image 0 1"),
+    (b"\x01\0", "solve f --checkpoint d", 12, "bad image 0 1"),
+];
+
+#[test]
+fn slot_that_is_no_image_is_told(rt: HostRuntime) -> Result<(), Fail> {
+    let alloc = rt.alloc();
+    for (zero, line, status, lines) in UNUSABLE {
+        let mut disk = slot_only(alloc, zero)?;
+        let told = tells(&rt, alloc, line, EMPTY, &mut disk)?;
+        assert_eq!(rt; told, due(alloc, status, &[lines])?, "{line}");
+    }
+    Ok(())
+}
+
+#[test]
+fn run_or_sequence_of_two_to_the_62_is_spent(rt: HostRuntime) -> Result<(), Fail> {
+    let alloc = rt.alloc();
+    for at in [10, 18] {
+        for line in ["restart f --checkpoint d", "solve f --checkpoint d"] {
+            let mut disk = changed(alloc, at, 0x40)?;
+            let told = tells(&rt, alloc, line, EMPTY, &mut disk)?;
+            assert_eq!(rt; told, due(alloc, 15, &["spent"])?, "{line}");
+        }
+    }
+    Ok(())
+}
+
+// What is told of a solve with a checkpoint, of whose disk this call fails.
+fn told_where_it_fails<R: Threads + Wait + Sync>(
+    rt: &R,
+    alloc: Global,
+    call: u64,
+) -> Result<Vec<u8>, Fail> {
+    let failing = [call].to_vec(alloc)?;
+    let mut disk = disk_with(alloc, Vec::new(alloc), Vec::new(alloc), failing);
+    tells(rt, alloc, "solve f --checkpoint d", EMPTY, &mut disk)
+}
+
+#[test]
+fn disk_that_fails_is_a_fault_first_and_a_missed_save_later(rt: HostRuntime) -> Result<(), Fail> {
+    let alloc = rt.alloc();
+    let fault = due(alloc, 6, &["disk fault"])?;
+    let missed = due(alloc, 0, &["optimal 0;missed 1"])?;
+    let mut calls = [0u32, 0, 0];
+    for call in 1..40 {
+        let told = told_where_it_fails(&rt, alloc, call)?;
+        if told == fault && calls[1] == 0 {
+            calls[0] = calls[0].saturating_add(1);
+        } else if told == missed && calls[2] == 0 {
+            calls[1] = calls[1].saturating_add(1);
+        } else {
+            assert_eq!(rt; told, due(alloc, 0, &["optimal 0"])?, "{call}");
+            calls[2] = calls[2].saturating_add(1);
+        }
+    }
+    // Six calls of a save at least are behind six of the first one, and some load before.
+    assert!(rt; calls[0] > 6 && calls[1] >= 6 && calls[2] > 0);
+    Ok(())
+}
+
+#[test]
+fn instances_are_made_and_solved(rt: HostRuntime) -> Result<(), Fail> {
+    let alloc = rt.alloc();
+    for (line, lines) in [
+        ("gen 1 3", "optimal 24"),
+        ("gen 1 4", "optimal 93"),
+        ("gen 1 4 --solvers 3", "optimal 93"),
+    ] {
+        let told = tells(&rt, alloc, line, "", &mut sound_disk(alloc))?;
+        assert_eq!(rt; told, due(alloc, 0, &[lines])?, "{line}");
+    }
+    let one = tells(
+        &rt,
+        alloc,
+        "gen 7 24 --solvers 1",
+        "",
+        &mut sound_disk(alloc),
+    )?;
+    let four = tells(
+        &rt,
+        alloc,
+        "gen 7 24 --solvers 4",
+        "",
+        &mut sound_disk(alloc),
+    )?;
+    assert!(rt; one.starts_with(b"\0optimal "));
+    assert_eq!(rt; one, four);
+    Ok(())
+}

@@ -1,0 +1,63 @@
+//! Runs of the program's words over texts and disks in memory.
+
+use std::alloc::{AllocError, Global};
+use std::sync::Wait;
+use std::test::Fail;
+use std::thread::Threads;
+use ug_disk::{Disk, MemoryDisk};
+use ug_gate::OpenGate;
+use ug_io::{MemorySink, MemorySource, Script, Source};
+use ug_top::run;
+
+/// The words of a line, which blanks part; `''` is an empty word.
+pub fn words_of(alloc: Global, line: &str) -> Result<Vec<String>, AllocError> {
+    let mut words = Vec::new(alloc);
+    for word in line.split(' ') {
+        let text = if word == "''" { "" } else { word };
+        words.push(String::from_str(alloc, text)?)?;
+    }
+    Ok(words)
+}
+
+/// A disk of two slots of these bytes, of whose calls some fail.
+pub fn disk_with(alloc: Global, zero: Vec<u8>, one: Vec<u8>, failing: Vec<u64>) -> MemoryDisk {
+    let script = ug_disk::Script {
+        failing,
+        stopping: Vec::new(alloc),
+    };
+    MemoryDisk::new(alloc, zero, one, script)
+}
+
+/// A disk with nothing on it, of whose calls none fails.
+pub fn sound_disk(alloc: Global) -> MemoryDisk {
+    disk_with(alloc, Vec::new(alloc), Vec::new(alloc), Vec::new(alloc))
+}
+
+/// The status of a run of the words of the line over a source and a disk, and behind it what was
+/// written.
+pub fn told_of<R: Threads + Wait + Sync, S: Source, D: Disk>(
+    rt: &R,
+    alloc: Global,
+    line: &str,
+    input: &mut S,
+    disk: &mut D,
+) -> Result<Vec<u8>, Fail> {
+    let words = words_of(alloc, line)?;
+    let mut out = MemorySink::new(alloc, Script::new(Vec::new(alloc), 64));
+    let status = run(rt, alloc, &words, input, &mut out, disk, &OpenGate);
+    let mut told = Vec::new(alloc);
+    told.push(status.code())?;
+    told.extend_from_slice(out.bytes())?;
+    Ok(told)
+}
+
+/// The same over a text.
+pub fn told<R: Threads + Wait + Sync, D: Disk>(
+    rt: &R,
+    alloc: Global,
+    line: &str,
+    text: &[u8],
+    disk: &mut D,
+) -> Result<Vec<u8>, Fail> {
+    told_of(rt, alloc, line, &mut MemorySource { rest: text }, disk)
+}
