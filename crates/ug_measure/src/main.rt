@@ -1,11 +1,12 @@
 //! A program for measuring: `ug_measure book N` drives a book of 256 ranks through N made messages and
 //! prints how many were answered how; `image N` makes a book of N nodes of ten changes each and the
-//! image of it, `save N` saves that too, to a disk in memory, and `load N` loads it again.
-//! It stands on ug_book, ug_mps and ug_restart. What it does is the same in every run.
+//! image of it, `save N` saves that too, to a disk in memory, and `load N` loads it again; `desk N`
+//! tells a desk N times what is left. It stands on ug_book, ug_mps, ug_restart and ug_desk. What it does is the same in every run.
 //! It is proved to be safe and to end, and no more.
 #![tactic(auto)]
 
 mod answers;
+mod calls;
 mod driver;
 mod random;
 mod ranks;
@@ -13,6 +14,7 @@ mod saving;
 mod start;
 
 use crate::answers::Answers;
+use crate::calls::call_desk;
 use crate::driver::drive;
 use crate::saving::{Stage, save_nodes};
 use std::process::ExitCode;
@@ -24,6 +26,7 @@ use std::{env, io};
 enum Task {
     Book { messages: u64 },
     Save { nodes: u32, stage: Stage },
+    Desk { calls: u64 },
 }
 
 fn stage_of(word: &str) -> Option<Stage> {
@@ -45,6 +48,10 @@ fn wanted<R: Env + AllocGlobal>(rt: &R) -> Option<Task> {
     if words.get(0)?.as_str() == "book" {
         let messages = count.parse::<u64>().ok()?;
         return Some(Task::Book { messages });
+    }
+    if words.get(0)?.as_str() == "desk" {
+        let calls = count.parse::<u64>().ok()?;
+        return Some(Task::Desk { calls });
     }
     let stage = stage_of(words.get(0)?.as_str())?;
     let nodes = count.parse::<u32>().ok()?;
@@ -89,8 +96,21 @@ fn main(rt: HostRuntime) -> ExitCode {
                 ExitCode::from(9)
             }
         },
+        Some(Task::Desk { calls }) => match call_desk(&rt, rt.alloc(), calls) {
+            Ok(replies) => {
+                let (going, other, snapshots) = (replies.going, replies.other, replies.snapshots);
+                let _ = println!(rt; "going {going}");
+                let _ = println!(rt; "other {other}");
+                let _ = println!(rt; "snapshots {snapshots}");
+                ExitCode::from(0)
+            }
+            Err(_) => {
+                let _ = println!(rt; "memory");
+                ExitCode::from(9)
+            }
+        },
         None => {
-            let _ = eprintln!(rt; "usage: ug_measure book|image|save|load N");
+            let _ = eprintln!(rt; "usage: ug_measure book|image|save|load|desk N");
             ExitCode::from(2)
         }
     }
