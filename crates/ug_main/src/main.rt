@@ -21,7 +21,7 @@ use std::rt::{Env, Files};
 use std::sync::Wait;
 use std::thread::Threads;
 use std::{env, io};
-use ug_cli::read_words;
+use ug_cli::{Usage, read_words};
 use ug_real::{FileDisk, Reader, Writer};
 use ug_top::{Status, run};
 
@@ -43,13 +43,25 @@ fn status_of(error: &io::Error) -> Status {
     }
 }
 
+// Ends before a run has begun. Want of memory is told as a run tells it.
+fn unbegun<R: Print>(rt: &R, status: Status) -> Status {
+    if status == Status::Memory {
+        let _ = println!(rt; "memory");
+    }
+    status
+}
+
 // Does what the words ask for. Why it failed goes to standard error: the system's words where a call
 // did, else what is the matter with the checkpoint.
 fn obey<R>(rt: &R, words: &[String], is_told: bool) -> Status
 where
     R: Files<File = File> + Print + Eprint + AllocGlobal + Threads + Wait + Sync,
 {
-    let plan = read_words(rt.alloc(), words).ok();
+    let plan = match read_words(rt.alloc(), words) {
+        Ok(plan) => Some(plan),
+        Err(Usage::Memory) => return unbegun(rt, Status::Memory),
+        Err(_) => None,
+    };
     let Paths {
         file,
         folder,
@@ -108,7 +120,7 @@ fn explain<R: Eprint>(rt: &R, file: &str, error: Option<&io::Error>) {
 fn main(rt: HostRuntime) -> ExitCode {
     let status = match words_of(&rt) {
         Ok(words) => obey(&rt, &words, wants_progress(&rt)),
-        Err(status) => status,
+        Err(status) => unbegun(&rt, status),
     };
     if status == Status::Usage {
         let _ = eprintln!(rt; "usage: ug solve|restart|gen|show");
