@@ -7,12 +7,19 @@
 //! where that is a terminal or `UG_PROGRESS` is set, how it gets on.
 #![tactic(auto)]
 
+ghost use Rattle.ug_cli.specs.Taken.{texts};
+ghost use Rattle.ug_main.specs.Files.{HasRunOnFiles};
+
+mod front;
 mod paths;
 mod progress;
+mod refusals;
 mod words;
 
+use crate::front::Front;
 use crate::paths::{Paths, paths_of};
 use crate::progress::Progress;
+use crate::refusals::explain_refusal;
 use crate::words::Behind;
 use std::fs::File;
 use std::io::{Eprint, IsTerminal, Print};
@@ -51,24 +58,32 @@ fn unbegun<R: Print>(rt: &R, status: Status) -> Status {
     status
 }
 
-// Does what the words ask for. Why it failed goes to standard error: the system's words where a call
-// did, else what is the matter with the checkpoint.
+// Finds the files that the words name, and does what the words ask for.
 fn obey<R>(rt: &R, words: &[String], is_told: bool) -> Status
 where
     R: Files<File = File> + Print + Eprint + AllocGlobal + Threads + Wait + Sync,
 {
-    let plan = match read_words(rt.alloc(), words) {
-        Ok(plan) => Some(plan),
-        Err(Usage::Memory) => return unbegun(rt, Status::Memory),
-        Err(_) => None,
-    };
+    match read_words(rt.alloc(), words) {
+        Ok(plan) => work(rt, words, paths_of(Some(&plan)), is_told),
+        Err(Usage::Memory) => unbegun(rt, Status::Memory),
+        Err(_) => work(rt, words, paths_of(None), is_told),
+    }
+}
+
+// Does what the words ask for, with these files. Why it failed goes to standard error: the system's
+// words where a call did, else what is the matter with the text or the checkpoint.
+fn work<R>(rt: &R, words: &[String], paths: Paths<'_>, is_told: bool) -> Status
+where
+    R: Files<File = File> + Print + Eprint + AllocGlobal + Threads + Wait + Sync,
+    ensures { HasRunOnFiles (texts words.now) result }
+{
     let Paths {
         file,
         folder,
         is_shown,
-    } = paths_of(plan.as_ref());
+    } = paths;
     let mut input = Reader::new(rt, file);
-    let mut out = Writer::new(io::writer(rt));
+    let mut out = Front::new(Writer::new(io::writer(rt)));
     let mut disk = if is_shown {
         FileDisk::reading(rt, rt.alloc(), folder)
     } else {
@@ -85,7 +100,8 @@ where
     );
     match status {
         Status::ReadFault => explain(rt, file, input.error()),
-        Status::WriteFault => explain(rt, "standard output", out.error()),
+        Status::WriteFault => explain(rt, "standard output", out.sink.error()),
+        Status::Refused => explain_refusal(rt, file, out.kept()),
         Status::DiskFault => explain(rt, folder, disk.error()),
         _ => advise(rt, folder, status),
     }

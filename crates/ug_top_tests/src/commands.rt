@@ -14,7 +14,7 @@ const EMPTY: &str = "ROWS/ N Z/ENDATA/";
 const ONE_MORE: &str = "ROWS/ N Z/RHS/ S Z 1/ENDATA/";
 
 const KNAPSACK: &str =
-    "NAME T1/OBJSENSE MAX/ROWS/ N Z/ L P/ L Q/ L R/COLUMNS/#/ A Z 5 P 2/ A Q 4 R 3\
+    "NAME BASE/OBJSENSE MAX/ROWS/ N Z/ L P/ L Q/ L R/COLUMNS/#/ A Z 5 P 2/ A Q 4 R 3\
     / B Z 4 P 3/ B Q 1 R 4/ C Z 3 P 1/ C Q 2 R 2/RHS/ S P 5 Q 11/ S R 8/BOUNDS/ UP D A 10\
     / UP D B 10/ UP D C 10/ENDATA/";
 
@@ -285,6 +285,39 @@ fn disk_that_fails_is_a_fault_first_and_a_missed_save_later(rt: HostRuntime) -> 
     }
     // Six calls of a save at least are behind six of the first one, and some load before.
     assert!(rt; calls[0] > 6 && calls[1] >= 6 && calls[2] > 0);
+    Ok(())
+}
+
+// Of a solve that saves after each report, of whose disk this call fails: what is told, and whether
+// recovery then finds the book with which it ended.
+fn saved_where_it_fails<R: Threads + Wait + Sync>(
+    rt: &R,
+    alloc: Global,
+    call: u64,
+) -> Result<(Vec<u8>, bool), Fail> {
+    let failing = [call].to_vec(alloc)?;
+    let mut disk = disk_with(alloc, Vec::new(alloc), Vec::new(alloc), failing);
+    let line = "solve f --checkpoint d --every 1";
+    let told = tells(rt, alloc, line, KNAPSACK, &mut disk)?;
+    let shown = tells(rt, alloc, "show --checkpoint d", "", &mut disk)?;
+    let is_ended = shown.starts_with(b"\0run 1\n") && shown.ends_with(b"\nnodes 0\n");
+    Ok((told, is_ended))
+}
+
+// The first save behind that of the root's image is of a snapshot, however the solver gets on.
+#[test]
+fn missed_save_of_a_snapshot_is_followed_by_the_last_save(rt: HostRuntime) -> Result<(), Fail> {
+    let alloc = rt.alloc();
+    let missed = due(alloc, 0, &["optimal 13;A 2;C 1;missed 1"])?;
+    let mut met = 0u32;
+    for call in 1..40 {
+        let (told, is_ended) = saved_where_it_fails(&rt, alloc, call)?;
+        if told == missed && met < 6 {
+            assert!(rt; is_ended, "{call}");
+            met = met.saturating_add(1);
+        }
+    }
+    assert_eq!(rt; met, 6);
     Ok(())
 }
 

@@ -7,7 +7,7 @@
 use crate::texts::{due, edited, outcome};
 use std::test::Fail;
 
-const KNAP: &str = "NAME T1
+const KNAP: &str = "NAME BASE
 OBJSENSE MAX
 ROWS
  N Z
@@ -103,8 +103,8 @@ A sense that is none, or a second one, or two on a line.
 2:OBJSENSE MAX/ MAX/ -> 3 Words
 2:OBJSENSE/ MAX/ MIN/ -> 4 Words
 A data line where no section takes one.
-1: NAME T1/ -> 1 Words
-1:NAME T1/ X/ -> 2 Words
+1: NAME BASE/ -> 1 Words
+1:NAME BASE/ X/ -> 2 Words
 ";
 
 // Faults of single words.
@@ -358,7 +358,7 @@ fn faults_of_texts(rt: HostRuntime) -> Result<(), Fail> {
 
 // Edits of the knapsack that are read after all.
 const READ: &str = "
-1:NAME T1/ -> optimal 13;A 2;C 1
+1:NAME BASE/ -> optimal 13;A 2;C 1
 24:ENDATA -> optimal 13;A 2;C 1
 24:ENDATA/ENDATA/ X \0/ -> optimal 13;A 2;C 1
 19: S R -1/ -> infeasible

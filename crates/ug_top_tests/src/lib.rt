@@ -1,5 +1,5 @@
-//! Tests of the top call, of the command line's words, and of the folder of a checkpoint.
-//! They stand apart from the crates that they test, ug_top, ug_cli and ug_real.
+//! Tests of the top call and of the command line's words.
+//! They stand apart from the crates that they test, ug_top and ug_cli.
 //! Texts and their answers, small problems against plain enumeration, outsides that fail at each of
 //! their calls, lists of words. Nothing here is proved but that the tests are safe and end.
 #![tactic(auto)]
@@ -8,8 +8,6 @@
 mod commands;
 #[cfg(test)]
 mod fault_texts;
-#[cfg(test)]
-mod folders;
 #[cfg(test)]
 mod long_texts;
 #[cfg(test)]

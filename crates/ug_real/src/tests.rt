@@ -1,8 +1,8 @@
+use crate::FileDisk;
 use std::alloc::Global;
 use std::io;
 use std::test::Fail;
 use ug_disk::{Disk, Slot, read_all};
-use ug_real::FileDisk;
 
 // All bytes of the slot, where no call failed.
 fn bytes_of<D: Disk>(alloc: Global, disk: &mut D, slot: Slot) -> Option<Vec<u8>> {
