@@ -45,7 +45,7 @@ from_zero : (n : ℕ) → 0 + n ≡ n
 from_zero n = omega arith
 
 -- the lines of whole lines, and those of what follows them
-lines_behind : (front tail : List ℕ) → AreLines front → lines_of (front ++ tail) ≡ lines_of front ++ lines_after (length front) (pieces tail)
+pub lines_behind : (front tail : List ℕ) → AreLines front → lines_of (front ++ tail) ≡ lines_of front ++ lines_after (length front) (pieces tail)
 lines_behind front tail (inl e) = subst (λ f. lines_of (f ++ tail) ≡ lines_of f ++ lines_after (length f) (pieces tail)) (sym e) refl
 lines_behind front tail (inr (start, e)) =
     let whole : List ℕ = start ++ 10 ∷ [] in

@@ -6,7 +6,9 @@ use Rattle.std.proofs.lemmas.Bool.{cases_Bool, cond-true, cond-false, false≢tr
 use Rattle.std.proofs.lemmas.List.{drop_at}
 use borrow.Author.Tests.{ltb-true}
 use Rattle.ug_lines.specs.Words.{is_blank, is_word_byte, is_legible}
-use Rattle.ug_mps.specs.Ending.{begins_legibly, StopsFirst, NoneOf}
+use Rattle.ug_mps.specs.declared.ending.Tail.{Tail}
+use Rattle.ug_mps.specs.declared.ending.Tail.TheVariants as tails
+use Rattle.ug_mps.specs.Ending.{begins_legibly, StopsFirst, NoneOf, HasNoFeed, IsUnended}
 use Rattle.ug_mps.proofs.Bytes.{false_from, not_true, not_false}
 use Rattle.ug_mps.proofs.FirstLines.{line_byte, line_return}
 
@@ -79,6 +81,10 @@ found_none test xs e =
 pub cut_drop : (test : ℕ → Bool) (xs : List ℕ) (at : ℕ) (c : CutAt test xs at) → drop at xs ≡ c.byte ∷ c.rest
 cut_drop test xs at c = ap (drop at) c.parts ∙ drop_at c.open_ (c.byte ∷ c.rest) at c.there
 
+pub no_feed_both : (xs ys : List ℕ) → HasNoFeed xs → HasNoFeed ys → HasNoFeed (xs ++ ys)
+no_feed_both [] ys p q = q
+no_feed_both (x ∷ xs) ys p q = (p.0, no_feed_both xs ys p.1 q)
+
 -- ---- the rest of an ENDATA line
 
 abbrev may : ℕ → Bool
@@ -116,3 +122,23 @@ stop_legible xs more at e =
     ∙ ap begins_legibly (append_assoc c.open_ (c.byte ∷ c.rest) more)
     ∙ legible_more c.open_ ((c.byte ∷ c.rest) ++ more) c.none
     ∙ ap (λ l. begins_legibly (l ++ more)) (sym (cut_drop _ xs at c))
+
+-- ---- whether it has its end
+
+may_no_feed : (xs : List ℕ) → NoneOf (λ b. not (is_blank b || is_word_byte b)) xs → HasNoFeed xs
+may_no_feed [] n = tt
+may_no_feed (x ∷ xs) n = (may_not x 10 refl (not_false (may x) n.0), may_no_feed xs n.1)
+
+-- bytes without a line feed stand before
+pub unended_behind : (t : Tail) (xs ys : List ℕ) → HasNoFeed xs → IsUnended t ys → IsUnended t (xs ++ ys)
+unended_behind (tails.Open a) xs ys n h = no_feed_both xs ys n h
+unended_behind tails.Legible xs ys n h = tt
+unended_behind tails.Bad xs ys n h = tt
+
+pub none_unended : (xs : List ℕ) → None ≡ position (λ b. not (is_blank b || is_word_byte b)) xs → HasNoFeed xs
+none_unended xs e = may_no_feed xs (found_none _ xs e)
+
+pub stop_unended : (t : Tail) (xs : List ℕ) (at : ℕ) → Some at ≡ position (λ b. not (is_blank b || is_word_byte b)) xs → IsUnended t (drop at xs) → IsUnended t xs
+stop_unended t xs at e h =
+    let c = found_at (λ b. not (is_blank b || is_word_byte b)) xs at e in
+    subst (IsUnended t) (sym c.parts) (unended_behind t c.open_ (c.byte ∷ c.rest) (may_no_feed c.open_ c.none) (subst (IsUnended t) (cut_drop _ xs at c) h))

@@ -1,6 +1,6 @@
 -- How far a text has to be read: its ENDATA line, what follows the word on that line, and what the bytes so far show.
-use Rattle.std.specs.Prelude.{◌≡◌, ℕ, ◌+◌, ◌≤◌, ◌==◌, ◌⊎◌, ◌||◌, ◌&&◌, Bool, true, false, List, [], ◌∷◌, ◌++◌, length, take, drop, codes, if◌then◌else◌}
-use Rattle.ug_lines.specs.Lines.{content_of}
+use Rattle.std.specs.Prelude.{◌≡◌, ℕ, ◌+◌, ◌<◌, ◌≤◌, ◌==◌, ◌⊎◌, ◌||◌, ◌&&◌, Bool, true, false, List, [], ◌∷◌, ◌++◌, length, take, drop, codes, if◌then◌else◌}
+use Rattle.ug_lines.specs.Lines.{Line, content_of, lines_of}
 use Rattle.ug_lines.specs.Words.{is_blank, is_word_byte, is_legible}
 use Rattle.ug_mps.specs.declared.ending.Head.{Head}
 use Rattle.ug_mps.specs.declared.ending.Head.TheVariants as heads
@@ -10,6 +10,21 @@ use Rattle.ug_mps.specs.declared.ending.Seen.{Seen}
 use Rattle.ug_mps.specs.declared.ending.Seen.TheVariants as seens
 use Rattle.ug_mps.specs.Faults.{is_word_end, is_end_line}
 use Rattle.ug_mps.specs.Laws.{StatesSame}
+
+-- ---- line feeds
+
+-- the test is true of none of the bytes
+abbrev pub NoneOf : (ℕ → Bool) → List ℕ → Type 0
+NoneOf test [] = Unit {0}
+NoneOf test (b ∷ bs) = (test b ≡ false) × NoneOf test bs
+
+-- no line feed stands in these bytes
+abbrev pub HasNoFeed : List ℕ → Type 0
+HasNoFeed bytes = NoneOf (λ b. b == 10) bytes
+
+-- these bytes are whole lines
+abbrev pub AreLines : List ℕ → Type 0
+AreLines bytes = (bytes ≡ []) ⊎ ((front : List ℕ) × (bytes ≡ front ++ 10 ∷ []))
 
 -- ---- the first line of bytes
 
@@ -72,6 +87,12 @@ legible_by (tails.Open after_return) bytes = begins_legibly (after_if after_retu
 legible_by tails.Legible bytes = true
 legible_by tails.Bad bytes = false
 
+-- the line has no end in these bytes, where more are wanted
+abbrev pub IsUnended : Tail → List ℕ → Type 0
+IsUnended (tails.Open after_return) bytes = HasNoFeed bytes
+IsUnended tails.Legible bytes = Unit {0}
+IsUnended tails.Bad bytes = Unit {0}
+
 -- what stands behind ENDATA for the rest of its line: nothing, or a blank and a byte that may not stand there
 abbrev pub mark : Bool → List ℕ
 mark true = []
@@ -79,26 +100,28 @@ mark false = 32 ∷ 0 ∷ []
 
 -- ---- where the last line begins
 
--- the test is true of none of the bytes
-abbrev pub NoneOf : (ℕ → Bool) → List ℕ → Type 0
-NoneOf test [] = Unit {0}
-NoneOf test (b ∷ bs) = (test b ≡ false) × NoneOf test bs
+-- none of these lines is ENDATA
+abbrev pub AreOthers : List Line → Type 0
+AreOthers [] = Unit {0}
+AreOthers (line ∷ lines) = (is_end_line line.content ≡ false) × AreOthers lines
 
--- no line feed stands in these bytes
-abbrev pub HasNoFeed : List ℕ → Type 0
-HasNoFeed bytes = NoneOf (λ b. b == 10) bytes
+-- no ended line of the bytes is ENDATA
+pub record HasNoEnd (bytes : List ℕ) : Type 0 where
+  pub front : List ℕ
+  pub open_ : List ℕ
+  pub parts : bytes ≡ front ++ open_
+  pub whole : AreLines front
+  pub others : AreOthers (lines_of front)
+  pub no_feed : HasNoFeed open_
 
--- these bytes are whole lines
-abbrev pub AreLines : List ℕ → Type 0
-AreLines bytes = (bytes ≡ []) ⊎ ((front : List ℕ) × (bytes ≡ front ++ 10 ∷ []))
-
--- a line begins at `line`, within the limit, and no line feed follows before `from`
+-- a line begins at `line`, within the limit, no line before it is ENDATA, and no line feed follows before `from`
 pub record IsLineAt (bytes : List ℕ) (line from : ℕ) : Type 0 where
   pub front : List ℕ
   pub open_ : List ℕ
   pub rest : List ℕ
   pub parts : bytes ≡ front ++ (open_ ++ rest)
   pub whole : AreLines front
+  pub others : AreOthers (lines_of front)
   pub no_feed : HasNoFeed open_
   pub begins : length front ≡ line
   pub looked : line + length open_ ≡ from
@@ -114,24 +137,53 @@ pub record IsFeedAt (bytes : List ℕ) (from at : ℕ) : Type 0 where
 
 -- ---- what the bytes so far show of all
 
--- the bytes up to `cut`, and a mark for the rest of the line, state what all bytes do
+-- the first line that is ENDATA: no line before it is, and its word ends at `cut`
+pub record IsFirstEnd (bytes : List ℕ) (cut : ℕ) : Type 0 where
+  pub front : List ℕ
+  pub rest : List ℕ
+  pub parts : bytes ≡ front ++ (codes "ENDATA" ++ rest)
+  pub whole : AreLines front
+  pub others : AreOthers (lines_of front)
+  pub ends : ends_word rest ≡ true
+  pub there : length front + 6 ≡ cut
+
+-- the first ENDATA line has its word end at `cut`; up to there, with a mark for the rest of the line, the bytes state what all do
 pub record IsEndedAt (bytes : List ℕ) (cut : ℕ) : Type 0 where
   pub within : cut ≤ length bytes
+  pub first : IsFirstEnd bytes cut
   pub same : (more : List ℕ) → StatesSame (take cut bytes ++ mark (begins_legibly (drop cut bytes ++ more))) (bytes ++ more)
+
+-- behind lines within the limit, none of them ENDATA, a line passes it that is not ENDATA, whatever follows
+pub record PassesLimit (bytes : List ℕ) : Type 0 where
+  pub front : List ℕ
+  pub tail : List ℕ
+  pub parts : bytes ≡ front ++ tail
+  pub whole : AreLines front
+  pub others : AreOthers (lines_of front)
+  pub within : length front ≤ 268435456
+  pub far : 268435456 < length front + length (first_piece tail)
+  pub other : (more : List ℕ) → is_end_line (first_line (tail ++ more)) ≡ false
 
 -- whatever follows, the bytes state what all do
 abbrev pub AreEnough : List ℕ → Type 0
 AreEnough bytes = (more : List ℕ) → StatesSame bytes (bytes ++ more)
 
--- what the bytes show where all were looked at: their ENDATA line, that they are enough, or where their last line begins; then they
--- are at most a few above the limit
+-- no line up to the last, which begins at `line` and has no end, is ENDATA, and the last does not show yet that it is; the bytes are at
+-- most a few above the limit
+pub record IsOpen (bytes : List ℕ) (line : ℕ) : Type 0 where
+  pub last : IsLineAt bytes line (length bytes)
+  pub other : BeginsEnd (drop line bytes) → ⊥
+  pub few : length bytes ≤ 268435456 + 7
+
+-- what the bytes show where all were looked at: their ENDATA line, that they passed the limit without one, or that neither shows yet,
+-- and where their last line begins
 abbrev pub IsSeen : List ℕ → Seen → Type 0
 IsSeen bytes (seens.Ended cut) = IsEndedAt bytes cut
-IsSeen bytes seens.Passed = AreEnough bytes
-IsSeen bytes (seens.Open line) = IsLineAt bytes line (length bytes) × (length bytes ≤ 268435456 + 7)
+IsSeen bytes seens.Passed = PassesLimit bytes × AreEnough bytes
+IsSeen bytes (seens.Open line) = IsOpen bytes line
 
 -- the same, where they were looked at up to a line feed
 abbrev pub IsSeenTo : List ℕ → ℕ → Seen → Type 0
 IsSeenTo bytes at (seens.Ended cut) = IsEndedAt bytes cut
-IsSeenTo bytes at seens.Passed = AreEnough bytes
+IsSeenTo bytes at seens.Passed = PassesLimit bytes × AreEnough bytes
 IsSeenTo bytes at (seens.Open line) = IsLineAt bytes line line × (line ≡ at + 1) × (line ≤ length bytes)

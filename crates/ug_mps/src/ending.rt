@@ -1,7 +1,7 @@
 ghost use Rattle.std.specs.Prelude.{◌≡◌, ◌==◌, ◌+◌, ◌∷◌, ◌++◌, ◌≤◌, ◌||◌, ℕ, List, length, drop, MatchOption, not};
 ghost use Rattle.std.specs.List.{position};
 ghost use Rattle.ug_lines.specs.Words.{is_blank, is_word_byte};
-ghost use Rattle.ug_mps.specs.Ending.{IsHead, IsBehind, IsLineAt, IsFeedAt, IsSeen, IsSeenTo, HasNoFeed, StopsFirst, begins_legibly, after_if, legible_by};
+ghost use Rattle.ug_mps.specs.Ending.{IsHead, IsBehind, IsLineAt, IsFeedAt, IsSeen, IsSeenTo, HasNoFeed, StopsFirst, IsUnended, begins_legibly, after_if, legible_by};
 
 use crate::line::LIMIT;
 use ug_lines::is_blank;
@@ -27,8 +27,8 @@ pub enum Tail {
     Bad,
 }
 
-/// What the bytes of a text show so far: the line ENDATA, whose word ends at the place told; that they are enough; or
-/// where their last line begins, if more bytes are wanted.
+/// What the bytes of a text show so far: the first line ENDATA, whose word ends at the place told; that they pass the limit
+/// without one; or, where neither shows yet, the place at which their last line begins.
 #[derive(Clone, Copy, Debug, PartialEq, Eq)]
 pub enum Seen {
     Ended(usize),
@@ -90,7 +90,8 @@ fn head_of(line: &[u8]) -> Head
 
 // What the bytes behind a carriage return show.
 fn after_return(bytes: &[u8]) -> Tail
-    ensures { (more : List ℕ) → begins_legibly (13 ∷ (bytes.now ++ more)) ≡ legible_by result more }
+    ensures legible { (more : List ℕ) → begins_legibly (13 ∷ (bytes.now ++ more)) ≡ legible_by result more }
+    ensures unended { IsUnended result bytes.now }
 {
     match bytes {
         [] => Tail::Open(true),
@@ -107,7 +108,8 @@ fn after_return(bytes: &[u8]) -> Tail
 // What the bytes from one on that may not stand in a line show.
 fn after_stop(bytes: &[u8]) -> Tail
     requires { StopsFirst bytes.now }
-    ensures { (more : List ℕ) → begins_legibly (bytes.now ++ more) ≡ legible_by result more }
+    ensures legible { (more : List ℕ) → begins_legibly (bytes.now ++ more) ≡ legible_by result more }
+    ensures unended { IsUnended result bytes.now }
 {
     match bytes {
         [] => Tail::Open(false),
@@ -139,7 +141,8 @@ fn stop(bytes: &[u8]) -> Option<usize>
 
 // What the next bytes of an ENDATA line show, where no carriage return stands before them.
 fn after_all(bytes: &[u8]) -> Tail
-    ensures { (more : List ℕ) → begins_legibly (bytes.now ++ more) ≡ legible_by result more }
+    ensures legible { (more : List ℕ) → begins_legibly (bytes.now ++ more) ≡ legible_by result more }
+    ensures unended { IsUnended result bytes.now }
 {
     match stop(bytes) {
         Some(at) => after_stop(behind(bytes, at)),
@@ -147,9 +150,11 @@ fn after_all(bytes: &[u8]) -> Tail
     }
 }
 
-/// Reads on over the rest of an ENDATA line: what its next bytes show of it.
+/// Reads on over the rest of an ENDATA line: what its next bytes show of it. It is open only where no line feed is among
+/// them.
 pub fn tail_of(after: bool, bytes: &[u8]) -> Tail
-    ensures { (more : List ℕ) → begins_legibly (after_if after (bytes.now ++ more)) ≡ legible_by result more }
+    ensures legible { (more : List ℕ) → begins_legibly (after_if after (bytes.now ++ more)) ≡ legible_by result more }
+    ensures unended { IsUnended result bytes.now }
 {
     if after {
         after_return(bytes)

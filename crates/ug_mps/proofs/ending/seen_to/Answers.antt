@@ -9,10 +9,11 @@ returns-in-Ends c =
 
 pub returns-then-at-lt-LIMIT : goal.returns-then-at-lt-LIMIT
 returns-then-at-lt-LIMIT c =
-    let n = next_line c.args.bytes.now c.args.line c.args.at (line_to c.args.bytes.now c.args.line c.args.from c.args.at c.requires.line c.requires.feed) c.if-at-lt-LIMIT.true in
+    let n = next_line c.args.bytes.now c.args.line c.args.at c.head_of.result (line_to c.args.bytes.now c.args.line c.args.from c.args.at c.requires.line c.requires.feed)
+    c.in_default.not-Ends (subst (λ t. IsHead t c.head_of.result) c.behind.ensures c.head_of.ensures) c.if-at-lt-LIMIT.true in
     (n.0, refl, n.1)
 
 pub returns-else-at-lt-LIMIT : goal.returns-else-at-lt-LIMIT
 returns-else-at-lt-LIMIT c =
-    passed_to c.args.bytes.now c.args.line c.args.at c.head_of.result
-    (line_to c.args.bytes.now c.args.line c.args.from c.args.at c.requires.line c.requires.feed) c.in_default.not-Ends (subst (λ t. IsHead t c.head_of.result) c.behind.ensures c.head_of.ensures) (omega (arith, c.if-at-lt-LIMIT.false))
+    passed_to c.args.bytes.now c.args.line c.args.at c.head_of.result (line_to c.args.bytes.now c.args.line c.args.from c.args.at c.requires.line c.requires.feed)
+    c.in_default.not-Ends (subst (λ t. IsHead t c.head_of.result) c.behind.ensures c.head_of.ensures) (omega (arith, c.if-at-lt-LIMIT.false)) c.requires.line.within
