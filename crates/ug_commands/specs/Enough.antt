@@ -1,8 +1,10 @@
--- How much of the bytes is enough to see what they state.
-use Rattle.std.specs.Prelude.{ℕ, Bool, List, Option}
+-- How much of the bytes is enough to see what they state, and how far they are read.
+use Rattle.std.specs.Prelude.{◌≡◌, ℕ, ◌<◌, ◌≤◌, Bool, List, ◌++◌, length, Option}
 use Rattle.std.specs.Option.{option_map}
+use Rattle.ug_io.specs.Outside.{Gives}
 use Rattle.ug_mps.specs.declared.ending.Tail.{Tail}
-use Rattle.ug_mps.specs.Ending.{legible_by}
+use Rattle.ug_mps.specs.declared.ending.Tail.TheVariants as tails
+use Rattle.ug_mps.specs.Ending.{HasNoEnd, HasNoFeed, IsUnended, legible_by}
 use Rattle.ug_mps.specs.Laws.{StatesSame}
 
 -- what the text states, all the bytes state
@@ -12,3 +14,38 @@ IsEnough bytes text = StatesSame text bytes
 -- the ENDATA line is legible, by what was seen of it and the bytes that are left, where they are told
 abbrev pub legible_left : Option (List ℕ) → Tail → Option Bool
 legible_left left tail = option_map (λ bytes. legible_by tail bytes) left
+
+-- ---- how far is read
+
+-- what a source gave, less the piece of its last call, keeps to the rule
+pub record GivesWhile (rule : List ℕ → Type 0) (old new : Option (List ℕ)) : Type 0 where
+  pub before : List ℕ
+  pub last : List ℕ
+  pub taken : Gives old new (before ++ last)
+  pub kept : rule before
+  pub piece : length last ≤ 65536
+
+-- reading stops with the line ENDATA: what was read, less the piece of the last call, does not yet
+-- hold the whole line
+abbrev pub StopsAtEnd : Option (List ℕ) → Option (List ℕ) → Type 0
+StopsAtEnd old new = GivesWhile HasNoEnd old new
+
+-- the rest of the line is read on over up to its line feed, and not at all where its end was seen
+abbrev pub StopsAtFeed : Tail → Option (List ℕ) → Option (List ℕ) → Type 0
+StopsAtFeed (tails.Open after) old new = GivesWhile HasNoFeed old new
+StopsAtFeed tails.Legible old new = new ≡ old
+StopsAtFeed tails.Bad old new = new ≡ old
+
+-- so is what follows these bytes of it
+pub record StopsBehind (bytes : List ℕ) (old new : Option (List ℕ)) : Type 0 where
+  pub tail : Tail
+  pub unended : IsUnended tail bytes
+  pub stops : StopsAtFeed tail old new
+
+-- one piece of the line came: where more are wanted it has a byte, and no end of the line
+pub record PieceCame (tail : Tail) (old new : Option (List ℕ)) : Type 0 where
+  pub piece : List ℕ
+  pub taken : Gives old new piece
+  pub unended : IsUnended tail piece
+  pub some : (after : Bool) → tail ≡ tails.Open after → 0 < length piece
+  pub few : length piece ≤ 65536

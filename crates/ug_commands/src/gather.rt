@@ -1,8 +1,8 @@
-ghost use Rattle.std.specs.Prelude.{◌≡◌, ◌<◌, ◌≤◌, ◌++◌, length, take, drop, IfOk, OnOk, OnErr, IfSome, IsErrOf};
-ghost use Rattle.ug_io.specs.Outside.{Rose};
-ghost use Rattle.ug_mps.specs.Ending.{begins_legibly, legible_by, mark};
+ghost use Rattle.std.specs.Prelude.{◌≡◌, ◌<◌, ◌≤◌, ◌^◌, ◌++◌, length, take, drop, IfOk, OnOk, OnErr, IfSome, IsErrOf};
+ghost use Rattle.ug_io.specs.Outside.{Rose, Gives, IsAtEnd};
+ghost use Rattle.ug_mps.specs.Ending.{HasNoEnd, begins_legibly, legible_by, mark};
 ghost use Rattle.ug_mps.specs.declared.ending.Tail.TheVariants as Tail;
-ghost use Rattle.ug_commands.specs.Enough.{IsEnough, legible_left};
+ghost use Rattle.ug_commands.specs.Enough.{IsEnough, PieceCame, StopsAtEnd, StopsAtFeed, StopsBehind, legible_left};
 ghost use Rattle.ug_commands.specs.declared.gather.GatherError.TheVariants.{Memory, Fault};
 
 use std::alloc::{AllocError, Global};
@@ -41,10 +41,12 @@ impl From<Failed> for GatherError {
 /// The bytes that are left, up to the word ENDATA of the line that it begins, or to where another
 /// line passes the limit: they state what all bytes state. The rest of the ENDATA line is read on
 /// over and not kept; where a byte of it may not stand there, a blank and such a byte stand for it.
+/// No call of the source comes after the one that brought the end of that line.
 #[tactic(auto, using(crate::proofs::Moved::gives_more))]
 pub fn gather<S: Source>(alloc: Global, input: &mut S) -> Result<Vec<u8>, GatherError>
     ensures enough { IfOk result (λ bytes. IfSome (S.left input.old)
         (λ whole. IsEnough whole bytes.items)) }
+    ensures stops { OnOk result (StopsAtEnd (S.left input.old) (S.left input.new)) }
     ensures fault { IsErrOf result GatherError.Fault
         → Rose (S.faults input.old) (S.faults input.new) }
     ensures calm { OnOk result (S.faults input.new ≡ S.faults input.old) }
@@ -62,13 +64,38 @@ pub fn gather<S: Source>(alloc: Global, input: &mut S) -> Result<Vec<u8>, Gather
             Seen::Open(begins) => line = begins,
         }
         buffer.truncate(room(bytes.len()));
-        let n = input.read(&mut buffer)?;
+        from = bytes.len();
+        let n = read_on(input, &mut buffer, &mut bytes)?;
         if n == 0 {
             return Ok(bytes);
         }
-        from = bytes.len();
-        bytes.extend_from_slice(&buffer[..n])?;
     }
+}
+
+// Reads the next piece of a text of which no ended line is ENDATA, and says how many bytes it has:
+// with none it is the end.
+fn read_on<S: Source>(
+    input: &mut S,
+    buffer: &mut [u8],
+    bytes: &mut Vec<u8>,
+) -> Result<usize, GatherError>
+    requires open_ { HasNoEnd bytes.old.items }
+    requires room { 0 < length buffer.old }
+    ensures room { length buffer.new ≡ length buffer.old }
+    ensures came { IfOk result (λ n. n ≤ length buffer.new) }
+    ensures bytes { IfOk result (λ n. bytes.new.items ≡ bytes.old.items ++ take n buffer.new) }
+    ensures taken { IfOk result
+        (λ n. Gives (S.left input.old) (S.left input.new) (take n buffer.new)) }
+    ensures end { IfOk result (λ n. n ≡ 0 → IsAtEnd (S.left input.old)) }
+    ensures fault { IsErrOf result GatherError.Fault
+        → Rose (S.faults input.old) (S.faults input.new) }
+    ensures calm { OnOk result (S.faults input.new ≡ S.faults input.old) }
+    ensures memory { IsErrOf result GatherError.Memory
+        → S.faults input.new ≡ S.faults input.old }
+{
+    let n = input.read(buffer)?;
+    bytes.extend_from_slice(&buffer[..n])?;
+    Ok(n)
 }
 
 // The bytes up to `cut`, where the word ENDATA ends, and a mark for the rest of its line, which is
@@ -83,6 +110,8 @@ fn ended<S: Source>(
     ensures text { IfOk result (λ text. IfSome (S.left input.old)
         (λ more. text.items
         ≡ take cut bytes.items ++ mark (begins_legibly (drop cut bytes.items ++ more)))) }
+    ensures stops { OnOk result
+        (StopsBehind (drop cut bytes.items) (S.left input.old) (S.left input.new)) }
     ensures fault { IsErrOf result GatherError.Fault
         → Rose (S.faults input.old) (S.faults input.new) }
     ensures calm { OnOk result (S.faults input.new ≡ S.faults input.old) }
@@ -90,31 +119,38 @@ fn ended<S: Source>(
         → S.faults input.new ≡ S.faults input.old }
 {
     let mut bytes = bytes;
+    let mut buffer = zeros(alloc, PIECE)?;
     let tail = tail_of(false, bytes.split_at(cut).1);
     bytes.truncate(cut);
-    if !pass(alloc, input, tail)? {
+    if !pass(input, &mut buffer, tail)? {
         bytes.extend_from_slice(b" \0")?;
     }
     Ok(bytes)
 }
 
-// Reads on over the rest of the ENDATA line, and says whether it is legible.
-fn pass<S: Source>(alloc: Global, input: &mut S, tail: Tail) -> Result<bool, GatherError>
+// Reads on over the rest of the ENDATA line, and says whether it is legible. Memory is said to be
+// wanting only where more bytes of the line came than can be counted.
+#[tactic(auto, using(crate::proofs::Moved::passed_start, crate::proofs::Moved::passed_on))]
+fn pass<S: Source>(input: &mut S, buffer: &mut [u8], tail: Tail) -> Result<bool, GatherError>
+    requires some { 0 < length buffer.old }
+    requires few { length buffer.old ≤ 65536 }
     ensures legible { IfOk result (λ legible. IfSome (S.left input.old)
         (λ more. legible ≡ legible_by tail more)) }
+    ensures stops { OnOk result (StopsAtFeed tail (S.left input.old) (S.left input.new)) }
     ensures fault { IsErrOf result GatherError.Fault
         → Rose (S.faults input.old) (S.faults input.new) }
     ensures calm { OnOk result (S.faults input.new ≡ S.faults input.old) }
     ensures memory { IsErrOf result GatherError.Memory
         → S.faults input.new ≡ S.faults input.old }
+    ensures endless { IsErrOf result GatherError.Memory
+        → IfSome (S.left input.old) (λ more. 2 ^ 63 ≤ length more) }
 {
-    let mut buffer = zeros(alloc, PIECE)?;
     let mut tail = tail;
     for _ in 0..u64::MAX {
         match tail {
             Tail::Legible => return Ok(true),
             Tail::Bad => return Ok(false),
-            Tail::Open(after) => tail = pass_piece(input, &mut buffer, after)?,
+            Tail::Open(after) => tail = pass_piece(input, buffer, after)?,
         }
     }
     Err(GatherError::Memory)
@@ -122,9 +158,11 @@ fn pass<S: Source>(alloc: Global, input: &mut S, tail: Tail) -> Result<bool, Gat
 
 // Reads the next bytes of the ENDATA line: what is then seen of it.
 fn pass_piece<S: Source>(input: &mut S, buffer: &mut [u8], after: bool) -> Result<Tail, Failed>
-    requires { 0 < length buffer.old }
+    requires some { 0 < length buffer.old }
+    requires few { length buffer.old ≤ 65536 }
     ensures tail { IfOk result (λ tail. legible_left (S.left input.old) (Tail.Open after)
         ≡ legible_left (S.left input.new) tail) }
+    ensures came { IfOk result (λ tail. PieceCame tail (S.left input.old) (S.left input.new)) }
     ensures failed { OnErr result (Rose (S.faults input.old) (S.faults input.new)) }
     ensures calm { OnOk result (S.faults input.new ≡ S.faults input.old) }
     ensures room { length buffer.new ≡ length buffer.old }
@@ -144,10 +182,9 @@ fn room(count: usize) -> usize
     if count < MOST { MOST - count } else { 1 }
 }
 
-// This many zeros, more than none.
+// This many zeros.
 fn zeros(alloc: Global, n: usize) -> Result<Vec<u8>, AllocError>
-    requires { 0 < n }
-    ensures { IfOk result (λ v. 0 < length v.items) }
+    ensures { IfOk result (λ v. length v.items ≡ n) }
 {
     vec![in alloc; 0u8; n]
 }

@@ -13,7 +13,7 @@ use Rattle.ug_mps.specs.declared.ending.Seen.{Seen}
 use Rattle.ug_mps.specs.declared.ending.Seen.TheVariants as seens
 use Rattle.ug_mps.specs.Faults.{is_word_end, is_end_line}
 use Rattle.ug_mps.specs.Laws.{StatesSame}
-use Rattle.ug_mps.specs.Ending.{first_piece, first_line, begins_legibly, ends_word, BeginsEnd, IsHead, mark, HasNoFeed, AreLines, AreOthers, IsLineAt, IsFeedAt, IsEndedAt, PassesLimit, AreEnough, IsSeen, IsSeenTo}
+use Rattle.ug_mps.specs.Ending.{first_piece, first_line, begins_legibly, ends_word, BeginsEnd, IsHead, mark, HasNoFeed, AreLines, AreOthers, HasNoEnd, IsLineAt, IsFeedAt, IsEndedAt, PassesLimit, AreEnough, IsSeen, IsSeenTo}
 use Rattle.ug_mps.proofs.Closing.{CloseSame, same_last}
 use Rattle.ug_mps.proofs.FirstLines.{line_behind, lines_behind, lines_first, piece_open}
 use Rattle.ug_mps.proofs.EndLines.{close_end, close_long}
@@ -298,6 +298,40 @@ last_of bytes line l =
       count = l.looked;
       left = ap (drop line) l.parts ∙ drop_at l.front (l.open_ ++ l.rest) line l.begins ∙ tail;
       within = l.within;
+    }
+
+-- where the bytes were looked at up to here, no ended line of them is ENDATA
+pub no_end_of : (bytes : List ℕ) (line : ℕ) → IsLineAt bytes line (length bytes) → HasNoEnd bytes
+no_end_of bytes line l =
+    let last = last_of bytes line l in
+    record { front = last.front; open_ = last.open_; parts = last.parts; whole = last.whole; others = last.others; no_feed = last.no_feed }
+
+-- more bytes without a line feed
+pub no_end_behind : (bytes more : List ℕ) → HasNoEnd bytes → HasNoFeed more → HasNoEnd (bytes ++ more)
+no_end_behind bytes more h n = record {
+  front = h.front;
+  open_ = h.open_ ++ more;
+  parts = ap (λ l. l ++ more) h.parts ∙ append_assoc h.front h.open_ more;
+  whole = h.whole;
+  others = h.others;
+  no_feed = no_feed_both h.open_ more h.no_feed n;
+}
+
+-- where no line feed follows the word of the first ENDATA, no ended line of the bytes is ENDATA
+pub no_end_yet : (bytes : List ℕ) (cut : ℕ) → IsEndedAt bytes cut → HasNoFeed (drop cut bytes) → HasNoEnd bytes
+no_end_yet bytes cut e n =
+    let f = e.first in
+    let is : bytes ≡ (f.front ++ codes "ENDATA") ++ f.rest = f.parts ∙ sym (append_assoc f.front (codes "ENDATA") f.rest) in
+    let len : length (f.front ++ codes "ENDATA") ≡ cut = length-append f.front (codes "ENDATA") ∙ f.there in
+    let left : drop cut bytes ≡ f.rest = ap (drop cut) is ∙ drop_at (f.front ++ codes "ENDATA") f.rest cut len in
+    let word : HasNoFeed (codes "ENDATA") = (refl, (refl, (refl, (refl, (refl, (refl, tt)))))) in
+    record {
+      front = f.front;
+      open_ = codes "ENDATA" ++ f.rest;
+      parts = f.parts;
+      whole = f.whole;
+      others = f.others;
+      no_feed = no_feed_both (codes "ENDATA") f.rest word (subst HasNoFeed left n);
     }
 
 pub ended_last : (bytes : List ℕ) (line : ℕ) → IsLast bytes line → BeginsEnd (drop line bytes) → IsEndedAt bytes (line + 6)
