@@ -1,5 +1,5 @@
 -- Words.
-use Rattle.std.specs.Prelude.{ℕ, ◌==◌, ◌||◌, ◌&&◌, not, Bool, false, List, [], ◌∷◌, length, filter, nat_le}
+use Rattle.std.specs.Prelude.{◌≡◌, ℕ, ◌==◌, ◌||◌, ◌&&◌, not, Bool, false, List, [], ◌∷◌, length, filter, nat_le}
 use Rattle.std.specs.List.{slice_split, list_all}
 
 -- space and tab
@@ -17,6 +17,11 @@ is_legible line = list_all (λ b. is_blank b || is_word_byte b) line
 -- the words of a line: its parts between blanks that are not empty
 abbrev pub words_of : List ℕ → List (List ℕ)
 words_of line = filter (λ word. not (length word == 0)) (slice_split is_blank line)
+
+-- nothing, or a byte that is no blank, stands first
+abbrev pub BeginsWord : List ℕ → Type 0
+BeginsWord [] = Unit {0}
+BeginsWord (b ∷ bs) = is_blank b ≡ false
 
 -- no word is above 255 bytes
 abbrev pub are_short : List (List ℕ) → Bool

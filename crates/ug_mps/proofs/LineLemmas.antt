@@ -1,5 +1,5 @@
 -- What a line's words do to the draft.
-use Rattle.std.proofs.Common.{◌≡◌, ℕ, ◌<◌, ◌≤◌, ◌==◌, ◌&&◌, ◌||◌, not, cond, Bool, true, false, List, [], ◌∷◌, ◌++◌, length, filter, Option, Some, None, Result, MatchResult, nat_le, refl, ap, subst, ◌∙◌, arith, inl, inr}
+use Rattle.std.proofs.Common.{◌≡◌, ℕ, ◌<◌, ◌≤◌, ◌==◌, ◌&&◌, ◌||◌, not, cond, Bool, true, false, List, [], ◌∷◌, ◌++◌, length, filter, take, zero, suc, sym, Option, Some, None, Result, MatchResult, nat_le, refl, ap, subst, ◌∙◌, arith, inl, inr}
 use Rattle.std.specs.Prelude.{option_and_then, codes, if◌then◌else◌, ⊤}
 use Rattle.std.specs.List.{AllByRecursion, list_all, slice_split, onto_first}
 use Rattle.std.specs.Option.{option_map}
@@ -12,7 +12,7 @@ use Rattle.ug_lines.specs.declared.section.Section.TheVariants.{Name, Objsense, 
 use Rattle.ug_lines.specs.declared.kinds.BoundKind.{BoundKind}
 use Rattle.ug_lines.specs.Words.{is_blank, is_word_byte, is_legible, words_of, are_short, is_data, is_comment}
 use Rattle.ug_lines.specs.Lines.{Line}
-use Rattle.ug_lines.specs.Kinds.{bound_kind_of, takes_number}
+use Rattle.ug_lines.specs.Kinds.{section_of_word, bound_kind_of, takes_number}
 use Rattle.ug_lines.specs.Shapes.{Shape, sense_of, row_of, pairs_of, column_of, coefficients_of, sides_of, numbered_bound_of, bare_bound_of, bound_of_kind, bound_of, shape_of}
 use Rattle.ug_lines.specs.Shapes as shapes
 use Rattle.ug_problem.specs.Instances.{IsName, IsWordByte}
@@ -20,8 +20,8 @@ use Rattle.ug_mps.specs.declared.draft.Draft.{Draft}
 use Rattle.ug_mps.specs.declared.fault.MpsError.{MpsError}
 use Rattle.ug_mps.specs.declared.fault.Kind.TheVariants as kinds
 use Rattle.ug_mps.specs.Entries.{Entry}
-use Rattle.ug_mps.specs.Faults.{Complaint, or_fault, too_long, shape_in, bad_words, semi_continuous, bad_bound_kind}
-use Rattle.ug_mps.specs.Says.{data_fault, formed_fault, formed_says, words_fault, words_say, line_fault, line_says}
+use Rattle.ug_mps.specs.Faults.{Complaint, or_fault, too_long, shape_in, fault_where, may_follow, bad_section, bad_words, semi_continuous, bad_bound_kind}
+use Rattle.ug_mps.specs.Says.{data_fault, formed_fault, formed_says, words_fault, words_say, section_says, line_fault, line_says}
 use Rattle.ug_mps.specs.History.{section_of}
 use Rattle.ug_mps.specs.Drafts.{Drafts, IsFaultOf, shaped_fault, shaped_says, belongs, IsWorded}
 use Rattle.ug_mps.specs.Taking.{AreWords, IsFirst}
@@ -233,6 +233,78 @@ pub type_by_first : (s : Option Section) (w : List ℕ) (ws : List (List ℕ)) (
 type_by_first s w [] o f h = absurd f
 type_by_first s w (x ∷ ws) o f h = rw f (h ws)
 
+-- ---- six words decide
+
+pub words_taken : (n : ℕ) (ws : List (List ℕ)) → AreWords ws → AreWords (take n ws)
+words_taken zero ws a = tt
+words_taken (suc n) [] a = tt
+words_taken (suc n) (w ∷ ws) a = (a.0, words_taken n ws a.1)
+
+none_both : (t : Bool) (x y : Option Shape) → x ≡ None → y ≡ None → (if t then x else y) ≡ None
+none_both true x y p q = p
+none_both false x y p q = q
+
+-- no bound has six words
+no_bound : (kind : Option BoundKind) (b c d e f : List ℕ) (more : List (List ℕ))
+    → option_and_then (λ k. bound_of_kind k (b ∷ c ∷ d ∷ e ∷ f ∷ more)) kind ≡ None
+no_bound None b c d e f more = refl
+no_bound (Some k) b c d e f more =
+    none_both (takes_number k) (numbered_bound_of k (b ∷ c ∷ d ∷ e ∷ f ∷ more)) (bare_bound_of k (b ∷ c ∷ d ∷ e ∷ f ∷ more)) refl refl
+
+-- nor has any other line
+no_shape : (s : Option Section) (a b c d e f : List ℕ) (more : List (List ℕ)) → shape_in s (a ∷ b ∷ c ∷ d ∷ e ∷ f ∷ more) ≡ None
+no_shape None a b c d e f more = refl
+no_shape (Some Name) a b c d e f more = refl
+no_shape (Some Objsense) a b c d e f more = refl
+no_shape (Some Rows) a b c d e f more = refl
+no_shape (Some Columns) a b c d e f more = refl
+no_shape (Some Rhs) a b c d e f more = refl
+no_shape (Some Ranges) a b c d e f more = refl
+no_shape (Some Bounds) a b c d e f more = no_bound (bound_kind_of a) b c d e f more
+no_shape (Some Endata) a b c d e f more = refl
+
+and_none : (t : Bool) → (t && false) ≡ false
+and_none true = refl
+and_none false = refl
+
+-- so the words are at fault
+shapeless : (h : List Entry) (s : Option Section) (ws : List (List ℕ)) → shape_in s ws ≡ None
+    → data_fault h s ws ≡ or_fault (semi_continuous s ws) (or_fault (bad_bound_kind s ws) (Some (record { kind = kinds.Words; word = None })))
+shapeless h s ws n = rw (n, and_none (are_short ws)) refl
+
+-- where the words of a header are at fault and what it says does not depend on a third word behind it
+may_many : (s : Option Section) (b c : List ℕ) (vs ws : List (List ℕ)) → may_follow s (b ∷ c ∷ vs) ≡ may_follow s (b ∷ c ∷ ws)
+may_many None b c vs ws = refl
+may_many (Some s) b c vs ws = refl
+
+says_many : (s : Option Section) (b c : List ℕ) (vs ws : List (List ℕ)) → section_says s (b ∷ c ∷ vs) ≡ section_says s (b ∷ c ∷ ws)
+says_many None b c vs ws = refl
+says_many (Some s) b c vs ws = refl
+
+six_fault : (h : List Entry) (data_line : Bool) (ws : List (List ℕ)) → words_fault h data_line (take 6 ws) ≡ words_fault h data_line ws
+six_fault h data_line [] = refl
+six_fault h data_line (a ∷ []) = refl
+six_fault h data_line (a ∷ b ∷ []) = refl
+six_fault h data_line (a ∷ b ∷ c ∷ []) = refl
+six_fault h data_line (a ∷ b ∷ c ∷ d ∷ []) = refl
+six_fault h data_line (a ∷ b ∷ c ∷ d ∷ e ∷ []) = refl
+six_fault h true (a ∷ b ∷ c ∷ d ∷ e ∷ f ∷ more) =
+    shapeless h (section_of h) (a ∷ b ∷ c ∷ d ∷ e ∷ f ∷ []) (no_shape (section_of h) a b c d e f [])
+    ∙ sym (shapeless h (section_of h) (a ∷ b ∷ c ∷ d ∷ e ∷ f ∷ more) (no_shape (section_of h) a b c d e f more))
+six_fault h false (a ∷ b ∷ c ∷ d ∷ e ∷ f ∷ more) =
+    ap (λ t. or_fault (bad_section h (a ∷ [])) (fault_where kinds.Words (not t))) (may_many (section_of_word a) b c (d ∷ e ∷ f ∷ []) (d ∷ e ∷ f ∷ more))
+
+six_say : (h : List Entry) (n : ℕ) (data_line : Bool) (ws : List (List ℕ)) → words_say h n data_line (take 6 ws) ≡ words_say h n data_line ws
+six_say h n data_line [] = refl
+six_say h n data_line (a ∷ []) = refl
+six_say h n data_line (a ∷ b ∷ []) = refl
+six_say h n data_line (a ∷ b ∷ c ∷ []) = refl
+six_say h n data_line (a ∷ b ∷ c ∷ d ∷ []) = refl
+six_say h n data_line (a ∷ b ∷ c ∷ d ∷ e ∷ []) = refl
+six_say h n true (a ∷ b ∷ c ∷ d ∷ e ∷ f ∷ more) =
+    ap (formed_says h (section_of h) n) (no_shape (section_of h) a b c d e f [] ∙ sym (no_shape (section_of h) a b c d e f more))
+six_say h n false (a ∷ b ∷ c ∷ d ∷ e ∷ f ∷ more) = says_many (section_of_word a) b c (d ∷ e ∷ f ∷ []) (d ∷ e ∷ f ∷ more)
+
 -- ---- a line
 
 module _ (h : List Entry) (n : ℕ) (line : Line) where
@@ -251,9 +323,12 @@ module _ (h : List Entry) (n : ℕ) (line : Line) where
   pub legible_says : is_comment line.content ≡ false → line_says h n line ≡ words_say h n (is_data line.content) (words_of line.content)
   legible_says t = rw t refl
 
-  -- the words were taken, so the line was
+  -- the first words were taken, so the line was
   pub line_taken : (new : Draft) (r : Result ⊤ MpsError) (data_line : Bool) (ws : List (List ℕ)) → too_long line ≡ None → is_comment line.content ≡ false → is_legible line.content ≡ true
-      → data_line ≡ is_data line.content → ws ≡ words_of line.content
+      → data_line ≡ is_data line.content → ws ≡ take 6 (words_of line.content)
       → MatchResult r (λ _. (words_fault h data_line ws ≡ None) × Drafts (words_say h n data_line ws ++ h) new) (λ e. IsFaultOf n (words_fault h data_line ws) e)
       → MatchResult r (λ _. (line_fault h line ≡ None) × Drafts (line_says h n line ++ h) new) (λ e. IsFaultOf n (line_fault h line) e)
-  line_taken new r data_line ws e t f d w took = rw (legible_fault e t f, legible_says t, ← d, ← w) took
+  line_taken new r data_line ws e t f d w took =
+      let fault : words_fault h data_line ws ≡ words_fault h data_line (words_of line.content) = ap (words_fault h data_line) w ∙ six_fault h data_line (words_of line.content) in
+      let says : words_say h n data_line ws ≡ words_say h n data_line (words_of line.content) = ap (words_say h n data_line) w ∙ six_say h n data_line (words_of line.content) in
+      rw (legible_fault e t f, legible_says t, ← d, ← fault, ← says) took

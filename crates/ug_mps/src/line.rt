@@ -16,6 +16,9 @@ use ug_lines::{
 /// The bytes that a text may have before its ENDATA line.
 pub const LIMIT: usize = 268_435_456;
 
+// So many words of a line decide what it is: where it has more than these, it is the same with any others behind them.
+const MOST_WORDS: usize = 6;
+
 // Whether nothing, or a blank, stands first.
 fn is_word_end(bytes: &[u8]) -> bool
     ensures { result ≡ is_word_end bytes.now }
@@ -148,6 +151,7 @@ pub fn take_line(
     if !is_legible(content) {
         return Err(bare_fault(line, Kind::Byte));
     }
-    let words = words_of(alloc, content)?;
-    take_words(alloc, draft, line, is_data(content), &words)
+    let mut places: [&[u8]; MOST_WORDS] = [b""; MOST_WORDS];
+    let count = words_of(content, &mut places);
+    take_words(alloc, draft, line, is_data(content), &places[..count])
 }
