@@ -61,6 +61,38 @@ impl Names {
         self.places.get(name).copied()
     }
 
+    // The place of the last name, if it is this one.
+    #[tactic(auto, using(crate::proofs::NamesLemmas::places_distinct))]
+    fn last_place(&self, name: &[u8]) -> Option<u32>
+        requires { length self.now < 2 ^ 32 }
+        ensures found { IfSome result (StandsAt self.now name.now) }
+        ensures distinct { AreDistinct self.now }
+    {
+        match self.names.last() {
+            Some(last) => {
+                if last.as_slice() == name {
+                    Some((self.names.len() - 1) as u32)
+                } else {
+                    None
+                }
+            }
+            None => None,
+        }
+    }
+
+    /// The place of a name that is likely to be the last: it is compared before it is looked up.
+    pub fn find_last(&self, name: &[u8]) -> Option<u32>
+        requires { length self.now < 2 ^ 32 }
+        ensures found { IfSome result (StandsAt self.now name.now) }
+        ensures none { IsNone result ↔ ¬ Contains self.now name.now }
+        ensures distinct { AreDistinct self.now }
+    {
+        match self.last_place(name) {
+            Some(at) => Some(at),
+            None => self.find(name),
+        }
+    }
+
     /// Adds a name at the end, and says its place. After an error the names are as they were.
     #[tactic(auto, using(crate::proofs::NamesLemmas::places_push))]
     pub fn add(&mut self, alloc: Global, name: &[u8]) -> Result<u32, AllocError>

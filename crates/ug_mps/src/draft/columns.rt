@@ -115,6 +115,17 @@ impl Columns {
         self.names.find(name)
     }
 
+    // The place of a column that is likely to be the last.
+    fn find_last(&self, name: &[u8]) -> Option<u32>
+        ensures found { IfSome result (StandsAt self.now.names name.now) }
+        ensures none { IsNone result ↔ ¬ Contains self.now.names name.now }
+        ensures distinct { AreDistinct self.now.names }
+        ensures same { length self.now.drafts ≡ length self.now.names }
+    {
+        let _ = &self.drafts;
+        self.names.find_last(name)
+    }
+
     /// The place of the column for one more line of it: the last column goes on, and a new one stands behind it. It is
     /// `None` where the column began before the last one.
     pub fn place(&self, name: &[u8]) -> Option<Place>
@@ -122,7 +133,7 @@ impl Columns {
         ensures new { IfSome result (λ p. IsTrue p.new → IsNew self.now.names name.now p.at) }
     {
         let count = self.len();
-        match self.find(name) {
+        match self.find_last(name) {
             Some(at) => {
                 if at as usize + 1 == count {
                     Some(Place { at, new: false })
