@@ -7,10 +7,10 @@ ghost use Rattle.ug_commands.specs.declared.gather.GatherError.TheVariants.{Memo
 
 use std::alloc::{AllocError, Global};
 use ug_io::{Failed, Source};
-use ug_mps::{Seen, Tail, see, tail_of};
+use ug_mps::{LIMIT, Seen, Tail, see, tail_of};
 
 /// How many bytes show that a text is too long: one more than it may have before its ENDATA line.
-const MOST: usize = 268_435_457;
+const MOST: usize = LIMIT + 1;
 
 /// How many bytes are asked for at once.
 const PIECE: usize = 65_536;

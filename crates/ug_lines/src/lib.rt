@@ -15,7 +15,7 @@ pub use kinds::{
     BoundKind, RowKind, bound_kind_of, is_in_any_case, is_semi_continuous, marker_of, row_kind_of,
     sense_of,
 };
-pub use lines::{content, cut};
+pub use lines::{content, cut, line_feed};
 pub use section::{Section, section_of};
 pub use shape::{LineShape, NamedWord, NamedWords, shape_of};
-pub use words::{are_short, is_blank, is_comment, is_data, is_legible, words_of};
+pub use words::{are_short, is_blank, is_comment, is_data, is_legible, is_word_byte, words_of};

@@ -2,8 +2,8 @@ ghost use Rattle.std.specs.Prelude.{◌≡◌, ◌==◌, ◌<◌, ◌∷◌, ◌
 ghost use Rattle.std.specs.List.{position};
 ghost use Rattle.ug_lines.specs.Lines.{pieces, content_of};
 
-// Where the first line feed stands.
-fn line_feed(text: &[u8]) -> Option<usize>
+/// Where the first line feed stands.
+pub fn line_feed(text: &[u8]) -> Option<usize>
     ensures { result ≡ position (λ b. b == 10) text.now }
 {
     text.iter().position(|b| *b == b'\n')

@@ -10,7 +10,7 @@ pub fn is_blank(byte: u8) -> bool
 }
 
 /// A byte that a word may hold.
-fn is_word_byte(byte: u8) -> bool
+pub fn is_word_byte(byte: u8) -> bool
     ensures { result ≡ is_word_byte byte }
 {
     matches!(byte, 33..=126 | 128..)

@@ -4,7 +4,7 @@ ghost use Rattle.ug_lines.specs.Words.{is_blank, is_word_byte};
 ghost use Rattle.ug_mps.specs.Ending.{IsHead, IsBehind, IsLineAt, IsFeedAt, IsSeen, IsSeenTo, HasNoFeed, StopsFirst, IsUnended, begins_legibly, after_if, legible_by};
 
 use crate::line::LIMIT;
-use ug_lines::is_blank;
+use ug_lines::{is_blank, is_word_byte, line_feed};
 
 /// The word that ends a text.
 const WORD: &[u8] = b"ENDATA";
@@ -129,7 +129,7 @@ fn after_stop(bytes: &[u8]) -> Tail
 fn may_stand(byte: u8) -> bool
     ensures { result ≡ (is_blank byte || is_word_byte byte) }
 {
-    is_blank(byte) || matches!(byte, 33..=126 | 128..)
+    is_blank(byte) || is_word_byte(byte)
 }
 
 // Where the first byte stands that may not stand in a line.
@@ -161,13 +161,6 @@ pub fn tail_of(after: bool, bytes: &[u8]) -> Tail
     } else {
         after_all(bytes)
     }
-}
-
-// Where the first line feed stands.
-fn line_feed(bytes: &[u8]) -> Option<usize>
-    ensures { result ≡ position (λ b. b == 10) bytes.now }
-{
-    bytes.iter().position(|b| *b == b'\n')
 }
 
 // Where the first line feed from `from` on stands.

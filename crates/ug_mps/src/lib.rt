@@ -20,4 +20,5 @@ mod role;
 pub use ending::{Seen, Tail, see, tail_of};
 pub use fault::{Kind, MpsError, MpsFault};
 pub use laws::{least_scale, one_outcome, worked_texts};
+pub use line::LIMIT;
 pub use reading::read;

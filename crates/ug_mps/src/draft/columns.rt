@@ -100,6 +100,7 @@ impl Columns {
         ensures drafts { result ≡ length self.now.drafts }
         ensures few { result ≤ 10000 }
     {
+        // A contract knows what ties names and drafts together only where both are named.
         let _ = &self.names;
         self.drafts.len()
     }
@@ -111,6 +112,7 @@ impl Columns {
         ensures distinct { AreDistinct self.now.names }
         ensures same { length self.now.drafts ≡ length self.now.names }
     {
+        // A contract knows what ties names and drafts together only where both are named.
         let _ = &self.drafts;
         self.names.find(name)
     }
@@ -122,6 +124,7 @@ impl Columns {
         ensures distinct { AreDistinct self.now.names }
         ensures same { length self.now.drafts ≡ length self.now.names }
     {
+        // A contract knows what ties names and drafts together only where both are named.
         let _ = &self.drafts;
         self.names.find_last(name)
     }

@@ -13,21 +13,11 @@ use ug_lines::row_kind_of;
 /// The rows that a text may have.
 const MOST_ROWS: usize = 10_000;
 
-// Whether a row is the objective.
-fn is_objective(role: Role) -> bool
-    ensures { result ≡ is_objective role }
-{
-    match role {
-        Role::Objective => true,
-        _ => false,
-    }
-}
-
 // Whether there is an objective, once there is this row.
 fn has_objective_with(has_objective: bool, role: Role) -> bool
     ensures { result ≡ (has_objective || is_objective role) }
 {
-    has_objective || is_objective(role)
+    has_objective || role.is_objective()
 }
 
 impl Draft {

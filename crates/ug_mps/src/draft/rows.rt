@@ -146,6 +146,7 @@ impl Rows {
         ensures distinct { AreDistinct self.now.names }
         ensures same { length self.now.drafts ≡ length self.now.names }
     {
+        // A contract knows what ties names and drafts together only where both are named.
         let _ = &self.drafts;
         self.names.find(name)
     }
@@ -156,6 +157,7 @@ impl Rows {
         ensures value { result.now ≡ row_at self.now.drafts at }
         ensures distinct { AreDistinct self.now.names }
     {
+        // A contract knows what ties names and drafts together only where both are named.
         let _ = self.names.len();
         &self.drafts[at as usize]
     }
@@ -199,6 +201,7 @@ impl Rows {
         }) }
         ensures distinct { AreDistinct self.old.names }
     {
+        // A contract knows what ties names and drafts together only where both are named.
         let _ = self.names.len();
         self.drafts[at as usize].put(part, number)
     }
