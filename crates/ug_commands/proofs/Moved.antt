@@ -9,6 +9,9 @@ use Rattle.ug_mps.specs.Ending.{HasNoEnd, HasNoFeed, IsEndedAt, IsLineAt, IsUnen
 use Rattle.ug_mps.specs.Laws.{StatesSame}
 use Rattle.ug_mps.proofs.EndingLemmas.{no_end_of, no_end_behind, no_end_yet}
 use Rattle.ug_mps.proofs.LineTails.{no_feed_both}
+use Rattle.ug_commands.specs.declared.ended.Ended.{Ended}
+use Rattle.ug_commands.specs.declared.ended.Ended.TheVariants.{Lines, ReadFault, Memory}
+use Rattle.ug_commands.specs.Unread.{HasStopped}
 use Rattle.ug_commands.specs.Enough.{IsEnough, PieceCame, StopsAtEnd, StopsAtFeed, StopsBehind}
 
 -- first some bytes came, then more
@@ -176,3 +179,9 @@ pub enough_last : (a b : Option (List ℕ)) (xs ys zs : List ℕ) (n : ℕ) → 
     → IfSome a (λ whole. IsEnough whole ys)
 enough_last a b xs ys zs n z e g at =
     subst (λ l. IfSome a (λ whole. IsEnough whole l)) (sym (e ∙ ap (λ k. xs ++ take k zs) z ∙ append-nil xs)) (enough_at_end a b xs g at)
+
+-- so it did for each way in which the text is not read
+pub has_stopped : (a b : Option (List ℕ)) (e : Ended) → StopsAtEnd a b → HasStopped a b e
+has_stopped a b (Lines status told) h = h
+has_stopped a b ReadFault h = tt
+has_stopped a b Memory h = tt

@@ -6,6 +6,7 @@ use Rattle.ug_print.specs.Refusals.{refused_line}
 use Rattle.ug_commands.specs.declared.ended.Ended.{Ended}
 use Rattle.ug_commands.specs.declared.ended.Ended.TheVariants.{Lines, ReadFault, Memory}
 use Rattle.ug_commands.specs.declared.status.Status.TheVariants as statuses
+use Rattle.ug_commands.specs.Enough.{StopsAtEnd}
 use Rattle.ug_commands.specs.Lines.{IsRefusedLine}
 
 -- the text has a first fault, which is told; or memory was wanting
@@ -21,3 +22,9 @@ IsUnread boxed left (Lines status told) =
     (status ≡ statuses.Refused) × IsRefusedLine boxed left told.items
 IsUnread boxed left ReadFault = Unit {0}
 IsUnread boxed left Memory = Unit {0}
+
+-- where a fault is told, reading stopped with the line ENDATA
+abbrev pub HasStopped : Option (List ℕ) → Option (List ℕ) → Ended → Type 0
+HasStopped old new (Lines status told) = StopsAtEnd old new
+HasStopped old new ReadFault = Unit {0}
+HasStopped old new Memory = Unit {0}

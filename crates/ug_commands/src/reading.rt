@@ -1,8 +1,9 @@
 ghost use Rattle.std.specs.Prelude.{◌≡◌, ◌≤◌, ◌<◌, ◌^◌, ◌⊎◌, IfSome, IfOk, IfErr, OnOk};
 ghost use Rattle.ug_io.specs.Outside.{Rose};
 ghost use Rattle.ug_mps.specs.Reads.{Reads};
+ghost use Rattle.ug_commands.specs.Enough.{StopsAtEnd};
 ghost use Rattle.ug_commands.specs.Lines.{States};
-ghost use Rattle.ug_commands.specs.Unread.{IsTextUnread, IsUnread};
+ghost use Rattle.ug_commands.specs.Unread.{HasStopped, IsTextUnread, IsUnread};
 ghost use Rattle.ug_commands.specs.declared.ended.Ended.TheVariants.{ReadFault};
 
 use crate::ended::Ended;
@@ -15,7 +16,7 @@ use ug_print::refusal;
 use ug_problem::{Problem, Shared};
 
 /// The problem that the source states under the box; or how the command ends that read no problem.
-#[tactic(auto, using(crate::proofs::Texts::told_problem, crate::proofs::Texts::told_unread))]
+#[tactic(auto, using(crate::proofs::Texts::told_problem, crate::proofs::Texts::told_unread, crate::proofs::Moved::has_stopped))]
 pub fn read_problem<S: Source>(
     alloc: Global,
     boxed: Option<u32>,
@@ -24,6 +25,8 @@ pub fn read_problem<S: Source>(
     requires { IfSome boxed (λ u. u ≤ 10 ^ 9) }
     ensures states { IfOk result (States (S.left input.old) boxed) }
     ensures unread { IfErr result (IsUnread boxed (S.left input.old)) }
+    ensures stops { OnOk result (StopsAtEnd (S.left input.old) (S.left input.new)) }
+    ensures stopped { IfErr result (HasStopped (S.left input.old) (S.left input.new)) }
     ensures fault { IfErr result (λ e. e ≡ ReadFault
         → Rose (S.faults input.old) (S.faults input.new)) }
     ensures calm { IfErr result (λ e. (e ≡ ReadFault) ⊎ (S.faults input.new ≡ S.faults input.old)) }

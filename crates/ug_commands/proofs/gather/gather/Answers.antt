@@ -1,6 +1,6 @@
 use Rattle.std.proofs.Common.{length, drop, subst}
 use Rattle.ug_mps.specs.Ending.{IsEndedAt, IsLineAt}
-use Rattle.ug_commands.specs.Enough.{StopsAtEnd, StopsBehind}
+use Rattle.ug_commands.specs.Enough.{StopsBehind}
 use Rattle.ug_commands.proofs.Moved.{enough_last, stops_here, stops_behind, stops_last, on_ok}
 use Rattle.ug_commands.proofs.gather.gather.Goals as goal
 

@@ -1,4 +1,4 @@
-use Rattle.std.proofs.Common.{◌≡◌, ◌<◌, ◌≤◌, length}
+use Rattle.std.proofs.Common.{◌≡◌, length}
 use Rattle.ug_commands.specs.Enough.{legible_left}
 use Rattle.ug_commands.proofs.Moved.{Passed}
 use Rattle.ug_commands.proofs.gather.pass.Given as goal
