@@ -1,5 +1,5 @@
 -- Bytes that came from a source, in two calls, and where what came is enough.
-use Rattle.std.proofs.Common.{◌≡◌, ℕ, ◌+◌, ◌-◌, ◌^◌, ◌≤◌, Bool, List, [], ◌++◌, length, Option, Some, None, IfSome, ap, refl, sym, subst, ◌∙◌, arith, append_assoc, append-nil, take, drop, Result, Ok, Err, OnOk}
+use Rattle.std.proofs.Common.{◌≡◌, ℕ, ◌+◌, ◌-◌, ◌^◌, ◌≤◌, inl, Bool, List, [], ◌++◌, length, Option, Some, None, IfSome, ap, refl, sym, subst, ◌∙◌, arith, append_assoc, append-nil, take, drop, Result, Ok, Err, OnOk}
 use Rattle.std.specs.Option.{option_map}
 use Rattle.ug_io.specs.Outside.{Gives, IsAtEnd}
 use Rattle.std.proofs.lemmas.List.{length-append, length-drop, take-append-drop, take_at}
@@ -185,3 +185,16 @@ pub has_stopped : (a b : Option (List ℕ)) (e : Ended) → StopsAtEnd a b → H
 has_stopped a b (Lines status told) h = h
 has_stopped a b ReadFault h = tt
 has_stopped a b Memory h = tt
+
+-- nothing was read
+stops_at_once : (a : Option (List ℕ)) → StopsAtEnd a a
+stops_at_once a = record {
+  before = [];
+  last = [];
+  taken = gives_none a;
+  kept = record { front = []; open_ = []; parts = refl; whole = inl refl; others = tt; no_feed = tt };
+  piece = omega arith;
+}
+
+pub stops_unread : (a : Option (List ℕ)) (e : Ended) → HasStopped a a e
+stops_unread a e = has_stopped a a e (stops_at_once a)

@@ -23,7 +23,7 @@ IsUnread boxed left (Lines status told) =
 IsUnread boxed left ReadFault = Unit {0}
 IsUnread boxed left Memory = Unit {0}
 
--- where a fault is told, reading stopped with the line ENDATA
+-- where lines are told, reading stopped with the line ENDATA
 abbrev pub HasStopped : Option (List ℕ) → Option (List ℕ) → Ended → Type 0
 HasStopped old new (Lines status told) = StopsAtEnd old new
 HasStopped old new ReadFault = Unit {0}

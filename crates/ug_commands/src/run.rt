@@ -3,6 +3,7 @@ ghost use Rattle.ug_commands.specs.Outside.{outside};
 ghost use Rattle.ug_commands.specs.Plans.{IsPlanned};
 ghost use Rattle.ug_commands.specs.Ends.{AreLinesOf, AreRestartLines, AreSolveLines, BeginsAlways, HasNotBegun, HasNotGoneOn, HasRunAlone, HasRunOn, HasRunSaved, IsAccounted, IsDiskless, IsLeftAlone, IsPlannedOf, IsStored, status_of, text_of};
 ghost use Rattle.ug_commands.specs.Outcomes.{TellsRun};
+ghost use Rattle.ug_commands.specs.Unread.{HasStopped};
 
 use crate::ended::Ended;
 use crate::made::run_made;
@@ -22,6 +23,7 @@ use ug_runs::{go_on, solve_new, solve_saved};
 
 /// Does what the plan asks for, up to the lines, which it does not write: it reads the source, runs,
 /// and saves to the disk, each as far as the plan has it.
+#[tactic(auto, using(crate::proofs::Moved::has_stopped, crate::proofs::Moved::stops_unread))]
 pub fn run_plan<R: Threads + Wait + Sync, S: Source, D: Disk, G: Gate>(
     rt: &R,
     alloc: Global,
@@ -41,6 +43,7 @@ pub fn run_plan<R: Threads + Wait + Sync, S: Source, D: Disk, G: Gate>(
         (status_of result) }
     ensures alone { IsDiskless plan.now → IsLeftAlone (D.told disk.old) (D.told disk.new)
         (D.faults disk.old) (D.faults disk.new) }
+    ensures stopped { HasStopped (S.left input.old) (S.left input.new) result }
 {
     match plan {
         Plan::Solve(solve) => run_solve(rt, alloc, solve, input, disk, gate),
@@ -51,6 +54,7 @@ pub fn run_plan<R: Threads + Wait + Sync, S: Source, D: Disk, G: Gate>(
 }
 
 // Reads the problem and solves it.
+#[tactic(auto, using(crate::proofs::Moved::has_stopped, crate::proofs::Moved::stops_unread))]
 fn run_solve<R: Threads + Wait + Sync, S: Source, D: Disk, G: Gate>(
     rt: &R,
     alloc: Global,
@@ -70,6 +74,7 @@ fn run_solve<R: Threads + Wait + Sync, S: Source, D: Disk, G: Gate>(
         (status_of result) }
     ensures alone { solve.now.checkpoint ≡ None → IsLeftAlone (D.told disk.old) (D.told disk.new)
         (D.faults disk.old) (D.faults disk.new) }
+    ensures stopped { HasStopped (S.left input.old) (S.left input.new) result }
 {
     let problem = match read_problem(alloc, solve.settings.bounds.boxed, input) {
         Ok(problem) => problem,
@@ -82,6 +87,7 @@ fn run_solve<R: Threads + Wait + Sync, S: Source, D: Disk, G: Gate>(
 }
 
 // Reads the problem and goes on with it.
+#[tactic(auto, using(crate::proofs::Moved::has_stopped, crate::proofs::Moved::stops_unread))]
 fn run_restart<R: Threads + Wait + Sync, S: Source, D: Disk, G: Gate>(
     rt: &R,
     alloc: Global,
@@ -99,6 +105,7 @@ fn run_restart<R: Threads + Wait + Sync, S: Source, D: Disk, G: Gate>(
         (outside (S.left input.old) (S.faults input.old) (D.told disk.old) (D.faults disk.old))
         (outside (S.left input.new) (S.faults input.new) (D.told disk.new) (D.faults disk.new))
         (status_of result) }
+    ensures stopped { HasStopped (S.left input.old) (S.left input.new) result }
 {
     let problem = match read_problem(alloc, restart.settings.bounds.boxed, input) {
         Ok(problem) => problem,
