@@ -14,12 +14,15 @@ use Rattle.ug_cli.specs.declared.plan.Plan.{Plan}
 use Rattle.ug_cli.specs.declared.plan.Plan.TheVariants as plans
 use Rattle.ug_cli.specs.declared.plan.Settings.{Settings as Asked}
 use Rattle.ug_commands.specs.Outside.{Outside}
-use Rattle.ug_commands.specs.Ends.{AreFileLines, AreLinesOf, AreSolveLines, IsPlannedOf}
+use Rattle.ug_commands.specs.Ends.{AreFileLines, AreLinesOf, AreSolveLines, IsPlannedOf, status_of}
 use Rattle.ug_commands.specs.Lines.{States}
 use Rattle.ug_commands.specs.Plans.{IsPlanned, IsPlannedGen}
+use Rattle.ug_commands.specs.Unread.{HasStopped}
+use Rattle.ug_commands.specs.declared.ended.Ended.{Ended}
+use Rattle.ug_commands.specs.declared.ended.Ended.TheVariants as ends
 use Rattle.ug_commands.specs.declared.status.Status.{Status}
 use Rattle.ug_commands.specs.declared.status.Status.TheVariants as statuses
-use Rattle.ug_top.specs.Ran.{IsComplete, IsCompleteOf, IsToldOf}
+use Rattle.ug_top.specs.Ran.{IsComplete, IsCompleteOf, IsReadTo, IsToldOf}
 
 abbrev OneOutcome : Type 0
 OneOutcome = (text : List ℕ) (boxed : Option ℕ) → HasOneOutcome text boxed
@@ -143,3 +146,11 @@ lines_complete one (plans.Restart restart) old new status text t =
     file_complete one _ _ restart.settings old.left text status t
 lines_complete one (plans.Show show) old new status text t = tt
 lines_complete one (plans.Gen gen) old new status text t = tt
+
+-- ---- how far the source is read
+
+pub read_to : (old new : Outside) (ended : Ended) → HasStopped old.left new.left ended
+    → IsReadTo old new (status_of ended)
+read_to old new (ends.Lines status told) stops = inr (inr stops)
+read_to old new ends.ReadFault stops = inl refl
+read_to old new ends.Memory stops = inr (inl refl)

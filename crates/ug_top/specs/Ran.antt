@@ -10,6 +10,7 @@ use Rattle.ug_cli.specs.Taken.{TakenWords}
 use Rattle.ug_cli.specs.declared.plan.Plan.{Plan}
 use Rattle.ug_cli.specs.declared.plan.Plan.TheVariants as plans
 use Rattle.ug_commands.specs.Outside.{Outside}
+use Rattle.ug_commands.specs.Enough.{StopsAtEnd}
 use Rattle.ug_commands.specs.Ends.{AreLinesOf, IsAccounted, IsDiskless, IsLeftAlone, status_of, text_of}
 use Rattle.ug_commands.specs.declared.ended.Ended.{Ended}
 use Rattle.ug_commands.specs.declared.status.Status.{Status}
@@ -33,6 +34,10 @@ IsCompleteOf (plans.Restart restart) left status =
 IsCompleteOf (plans.Show show) left status = Unit {0}
 IsCompleteOf (plans.Gen gen) left status = Unit {0}
 
+-- reading stopped with the line ENDATA, unless the source failed or memory was wanting
+abbrev pub IsReadTo : Outside → Outside → Status → Type 0
+IsReadTo old new status = (status ≡ ReadFault) ⊎ ((status ≡ Memory) ⊎ StopsAtEnd old.left new.left)
+
 -- the words ask for a plan, and what is due is what it comes to; without a checkpoint the disk is
 -- left alone
 pub record IsWorked (words : List Text) (old new : Outside) (status : Status) (text : List ℕ)
@@ -43,6 +48,7 @@ pub record IsWorked (words : List Text) (old new : Outside) (status : Status) (t
   pub accounted : IsAccounted old new status
   pub alone : IsDiskless plan → IsLeftAlone old.slots new.slots old.stores new.stores
   pub complete : IsCompleteOf plan old.left status
+  pub read : IsReadTo old new status
 
 -- the words ask for no plan, and nothing is due
 pub record IsNoPlan (words : List Text) (status : Status) (text : List ℕ) : Type 0 where

@@ -1,7 +1,7 @@
 use Rattle.std.proofs.Common.{inl}
 use Rattle.ug_commands.specs.Outside.{outside}
 use Rattle.ug_commands.specs.Ends.{status_of, text_of}
-use Rattle.ug_top.proofs.Runs.{lines_complete, taken_planned}
+use Rattle.ug_top.proofs.Runs.{lines_complete, read_to, taken_planned}
 use Rattle.ug_top.proofs.running.carry_out.Goals as goal
 
 pub run_plan-requires-after_bounds : goal.run_plan-requires-after_bounds
@@ -20,4 +20,10 @@ returns-in-Ok g c = inl (record {
       (outside (g.S.Source.left c.run_plan.new.input) (g.S.Source.faults c.run_plan.new.input)
       (g.D.Disk.told c.run_plan.new.disk) (g.D.Disk.faults c.run_plan.new.disk))
       (status_of c.run_plan.result) (text_of c.run_plan.result) c.run_plan.ensures.lines;
+  read = read_to
+      (outside (g.S.Source.left c.args.input.now) (g.S.Source.faults c.args.input.now)
+      (g.D.Disk.told c.args.disk.now) (g.D.Disk.faults c.args.disk.now))
+      (outside (g.S.Source.left c.run_plan.new.input) (g.S.Source.faults c.run_plan.new.input)
+      (g.D.Disk.told c.run_plan.new.disk) (g.D.Disk.faults c.run_plan.new.disk))
+      c.run_plan.result c.run_plan.ensures.stopped;
 })
