@@ -1,9 +1,20 @@
-ghost use Rattle.std.specs.Prelude.{◌≡◌};
-
 use ug_io::{Failed, Sink};
 
 /// How many bytes are kept.
 const KEPT: usize = 64;
+
+// Puts bytes behind those that are there, as far as there is room. How many there are then.
+fn put(kept: &mut [u8], many: usize, bytes: &[u8]) -> usize {
+    let mut end = many;
+    for byte in bytes {
+        let Some(place) = kept.get_mut(end) else {
+            return end;
+        };
+        *place = *byte;
+        end = end.saturating_add(1);
+    }
+    end
+}
 
 /// A sink, of which the first bytes that it took are kept.
 #[derive(Drop)]
@@ -26,19 +37,6 @@ impl<S: Sink + Drop> Front<S> {
     pub fn kept(&self) -> &[u8] {
         self.kept.get(..self.many).unwrap_or(&[])
     }
-
-    // Keeps these bytes too, as far as there is room.
-    fn keep(&mut self, bytes: &[u8])
-        ensures { self.new.sink ≡ self.old.sink }
-    {
-        for byte in bytes {
-            let Some(place) = self.kept.get_mut(self.many) else {
-                return;
-            };
-            *place = *byte;
-            self.many = self.many.saturating_add(1);
-        }
-    }
 }
 
 impl<S: Sink + Drop> Sink for Front<S> {
@@ -49,7 +47,8 @@ impl<S: Sink + Drop> Sink for Front<S> {
     fn write(&mut self, bytes: &[u8]) -> Result<usize, Failed> {
         match self.sink.write(bytes) {
             Ok(taken) => {
-                self.keep(bytes.get(..taken).unwrap_or(&[]));
+                let taken_bytes = bytes.get(..taken).unwrap_or(&[]);
+                self.many = put(&mut self.kept, self.many, taken_bytes);
                 Ok(taken)
             }
             Err(failed) => Err(failed),
