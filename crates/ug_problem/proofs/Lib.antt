@@ -2,6 +2,8 @@ pub mod Bounds
 pub mod Cutoffs
 pub mod Floors
 pub mod Fractions
+pub mod Gathered
+pub mod Kept
 pub mod Linear
 pub mod Numerals
 pub mod OneText

@@ -8,3 +8,4 @@ pub mod Better
 pub mod Printed
 pub mod Right
 pub mod Shared
+pub mod Standings

@@ -16,6 +16,7 @@ mod print;
 mod problem;
 mod same;
 mod shared;
+mod standings;
 
 pub use answer::{Answer, Broken};
 pub use column::{Column, Columns, NamedRow, NamedRows};
@@ -27,3 +28,4 @@ pub use laws::better_is_below_the_cutoff;
 pub use print::prints_one_text;
 pub use problem::Problem;
 pub use shared::Shared;
+pub use standings::Standing;

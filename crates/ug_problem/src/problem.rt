@@ -1,4 +1,4 @@
-ghost use Rattle.std.specs.Prelude.{◌≡◌, List, ℤ, pos, ◌*◌, ◌^◌, ◌≤◌, ◌-ℤ◌, ◌≤ℤ◌, ◌↔◌, length, map, IsNone, IsTrue, IfSome, IfOk, OnOk, IfErr, unsigned_abs};
+ghost use Rattle.std.specs.Prelude.{◌≡◌, List, ℤ, pos, ◌*◌, ◌^◌, ◌<◌, ◌≤◌, ◌-ℤ◌, ◌≤ℤ◌, ◌↔◌, length, map, IsNone, IsTrue, IfSome, IfOk, OnOk, IfErr, unsigned_abs};
 ghost use Rattle.std.specs.Int.{int_max};
 ghost use Rattle.ug_rows.specs.Boxes.{IsBelow, IsInside};
 ghost use Rattle.ug_rows.specs.Rows.{value_of};
@@ -8,6 +8,7 @@ ghost use Rattle.ug_problem.specs.Feasible.{Feasible, IsFirstBroken};
 ghost use Rattle.ug_problem.specs.Instances.{IsFormed, bounds_of, instance_of, root_of};
 ghost use Rattle.ug_problem.specs.Limits.{IsProblem, IsRefused};
 ghost use Rattle.ug_problem.specs.Printed.{IsPrinted};
+ghost use Rattle.ug_problem.specs.Standings.{AreStandings};
 
 use crate::answer::Broken;
 use crate::column::{Column, Columns, NamedRow, NamedRows};
@@ -16,6 +17,7 @@ use crate::feasible::find_broken;
 use crate::limits::check_limits;
 use crate::print::{shown, spell};
 use crate::same::{same_columns, same_objective, same_rows};
+use crate::standings::{Standing, Standings, copied_standings, gather, standings_of};
 use std::alloc::{AllocError, Global};
 use std::marker::Model;
 use ug_lists::Text;
@@ -28,19 +30,22 @@ pub struct Problem {
     rows: NamedRows,
     objective: Objective,
     root: IntBox,
+    standings: Standings,
 }
 
 impl Model for Problem {
     ghost use Rattle.std.specs.Prelude.{◌≡◌};
     ghost use Rattle.ug_problem.specs.Instances.{Instance, root_of};
     ghost use Rattle.ug_problem.specs.Limits.{IsProblem};
+    ghost use Rattle.ug_problem.specs.Standings.{AreKept};
 
     ghost Value = { Instance };
 
     ghost view = { λ p. record { columns = p.columns; rows = p.rows; objective = p.objective } };
 
     ghost invariant = { λ p. IsProblem (record { columns = p.columns; rows = p.rows; objective = p.objective })
-        × (p.root ≡ root_of (record { columns = p.columns; rows = p.rows; objective = p.objective })) };
+        × (p.root ≡ root_of (record { columns = p.columns; rows = p.rows; objective = p.objective }))
+        × AreKept (record { columns = p.columns; rows = p.rows; objective = p.objective }) p.standings };
 }
 
 // The bounds of each column.
@@ -90,7 +95,7 @@ fn greater(a: i128, b: i128) -> i128
 }
 
 impl Problem {
-    /// The problem of these parts. It takes memory for the box of all bounds alone.
+    /// The problem of these parts. It takes memory for the box of all bounds, and for where each column stands.
     pub fn new(
         alloc: Global,
         columns: Columns,
@@ -104,11 +109,13 @@ impl Problem {
     {
         check_limits(columns.as_slice(), rows.as_slice(), &objective)?;
         let root = IntBox::from_vec(bounds(alloc, columns.as_slice())?);
+        let standings = gather(alloc, columns.as_slice(), rows.as_slice(), &objective)?;
         Ok(Problem {
             columns,
             rows,
             objective,
             root,
+            standings,
         })
     }
 
@@ -144,6 +151,15 @@ impl Problem {
         &self.root
     }
 
+    /// Which rows a column stands in, in rising order, and with what factors. It takes no memory.
+    pub fn standings(&self, column: usize) -> &[Standing]
+        requires { column < length self.now.columns }
+        ensures value { AreStandings self.now column result.now }
+        ensures problem { IsProblem self.now }
+    {
+        standings_of(&self.standings, column)
+    }
+
     /// A copy of the problem.
     pub fn copy(&self) -> Result<Problem, AllocError>
         ensures { IfOk result (λ p. p ≡ self.now) }
@@ -153,6 +169,7 @@ impl Problem {
             rows: copied_rows(&self.rows)?,
             objective: copied_objective(&self.objective)?,
             root: self.root.clone()?,
+            standings: copied_standings(&self.standings)?,
         })
     }
 

@@ -1,0 +1,67 @@
+-- Which rows a column stands in, and with what factors. The objective is the row behind the last.
+use Rattle.std.specs.Prelude.{◌≡◌, ℕ, ◌+◌, ◌<◌, ◌≤◌, List, [], ◌∷◌, ◌++◌, length, map, slice_index_or, nat_eq, if◌then◌else◌}
+use Rattle.ug_rows.specs.declared.row.Term.{Term}
+use Rattle.ug_rows.specs.Rows.{IsAmong, no_term}
+use Rattle.ug_problem.specs.declared.column.NamedRow.{NamedRow}
+use Rattle.ug_problem.specs.declared.standings.Standing.{Standing}
+use Rattle.ug_problem.specs.Instances.{Instance}
+
+-- the terms of each row
+abbrev pub terms_of_rows : List NamedRow → List (List Term)
+terms_of_rows rows = map (λ (named : NamedRow). named.row.terms) rows
+
+-- the terms of each row, and behind them those of the objective
+abbrev pub all_terms : Instance → List (List Term)
+all_terms p = terms_of_rows p.rows ++ p.objective.terms ∷ []
+
+-- the terms of row r
+abbrev pub terms_of : Instance → ℕ → List Term
+terms_of p r = slice_index_or (all_terms p) r []
+
+-- a standing that stands for one that is not there
+abbrev pub no_standing : Standing
+no_standing = record { row = 0; factor = no_term.factor }
+
+-- standing k
+abbrev pub standing_at : List Standing → ℕ → Standing
+standing_at standings k = slice_index_or standings k no_standing
+
+-- the term that a standing of column j says
+abbrev pub term_of : ℕ → Standing → Term
+term_of j standing = record { column = j; factor = standing.factor }
+
+-- where column j stands: the rows rise, each has this term, and each row with a term of the column is there
+pub record AreStandings (p : Instance) (j : ℕ) (standings : List Standing) : Type 0 where
+  pub rising : (i k : ℕ) → i < k → k < length standings → (standing_at standings i).row < (standing_at standings k).row
+  pub within : (k : ℕ) → k < length standings → (standing_at standings k).row ≤ length p.rows
+  pub each : (k : ℕ) → k < length standings
+      → IsAmong (term_of j (standing_at standings k)) (terms_of p (standing_at standings k).row)
+  pub all : (r : ℕ) (t : Term) → IsAmong t (terms_of p r) → t.column ≡ j
+      → (k : ℕ) × (k < length standings) × ((standing_at standings k).row ≡ r)
+
+-- where column j stands in row r with these terms
+abbrev pub standings_in : ℕ → ℕ → List Term → List Standing
+standings_in j r [] = []
+standings_in j r (t ∷ ts) =
+    (if nat_eq t.column j
+    then record { row = r; factor = t.factor } ∷ standings_in j r ts
+    else standings_in j r ts)
+
+-- where column j stands in rows with these terms, the first of them row r
+abbrev pub standings_over : ℕ → ℕ → List (List Term) → List Standing
+standings_over j r [] = []
+standings_over j r (ts ∷ rows) = standings_in j r ts ++ standings_over j (r + 1) rows
+
+-- the standings of column j
+abbrev pub standings_at : List (List Standing) → ℕ → List Standing
+standings_at lists j = slice_index_or lists j []
+
+-- each column's standings so far are those in the rows so far
+pub record AreGathered (rows : List (List Term)) (columns : ℕ) (lists : List (List Standing)) : Type 0 where
+  pub width : length lists ≡ columns
+  pub each : (j : ℕ) → j < columns → standings_at lists j ≡ standings_over j 0 rows
+
+-- each column's standings are kept
+pub record AreKept (p : Instance) (lists : List (List Standing)) : Type 0 where
+  pub width : length lists ≡ length p.columns
+  pub each : (j : ℕ) → j < length p.columns → AreStandings p j (standings_at lists j)

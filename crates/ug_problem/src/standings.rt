@@ -1,0 +1,173 @@
+//! Which rows each column stands in, and with what factors.
+
+ghost use Rattle.std.specs.Prelude.{◌≡◌, ℕ, ◌+◌, ◌<◌, ◌≤◌, ◌^◌, [], ◌∷◌, ◌++◌, length, slice_set, take, All, IfOk, OnOk};
+ghost use Rattle.ug_rows.specs.Rows.{term_at};
+ghost use Rattle.ug_problem.specs.Instances.{AreTerms, IsRow, instance_of};
+ghost use Rattle.ug_problem.specs.Limits.{IsProblem};
+ghost use Rattle.ug_problem.specs.Standings.{AreGathered, AreKept, standings_at, standings_in, standings_over, terms_of_rows};
+
+use crate::column::{Column, NamedRow};
+use std::alloc::{AllocError, Global};
+use ug_lists::Items;
+use ug_rows::{Objective, Term};
+
+/// Where a column stands: in a row, or in the objective as the row behind the last, with this factor.
+#[derive(Clone, Copy, Debug, PartialEq, Eq)]
+pub struct Standing {
+    pub row: u32,
+    pub factor: i128,
+}
+
+/// For each column, in their order, where it stands.
+pub type Standings = Items<Items<Standing>>;
+
+// The standing that a term of a row says.
+fn standing_of(row: u32, term: Term) -> Standing
+    ensures { result ≡ record { row = row; factor = term.factor } }
+{
+    Standing {
+        row,
+        factor: term.factor,
+    }
+}
+
+// Adds a standing to the list of a column.
+fn add_standing(
+    lists: &mut [Items<Standing>],
+    column: usize,
+    standing: Standing,
+) -> Result<(), AllocError>
+    requires { column < length lists.old }
+    ensures { OnOk result (lists.new ≡ slice_set lists.old column (standings_at lists.old column ++ standing ∷ [])) }
+{
+    lists[column].push(standing)
+}
+
+// Adds the terms of one row to the lists of their columns.
+#[tactic(auto, using(crate::proofs::Gathered::term_added))]
+fn add_terms(lists: &mut [Items<Standing>], row: u32, terms: &[Term]) -> Result<(), AllocError>
+    requires { (k : ℕ) → k < length terms.now → (term_at terms.now k).column < length lists.old }
+    ensures { OnOk result ((j : ℕ) → j < length lists.old → standings_at lists.new j ≡ standings_at lists.old j ++ standings_in j row terms.now) }
+{
+    for term in terms {
+        add_standing(lists, term.column as usize, standing_of(row, *term))?;
+    }
+    Ok(())
+}
+
+// An empty list for each column.
+#[tactic(auto, using(crate::proofs::Gathered::nothing_gathered))]
+fn empty_lists(alloc: Global, columns: usize) -> Result<Vec<Items<Standing>>, AllocError>
+    ensures { IfOk result (λ lists. AreGathered [] columns lists.items) }
+{
+    let mut lists = Vec::with_capacity(alloc, columns)?;
+    for _ in 0..columns {
+        lists.push(Items::new(alloc))?;
+    }
+    Ok(lists)
+}
+
+// Adds the terms of row r.
+#[tactic(auto, using(crate::proofs::Gathered::named_gathered))]
+fn add_row(lists: &mut [Items<Standing>], rows: &[NamedRow], r: usize) -> Result<(), AllocError>
+    requires there { r < length rows.now }
+    requires few { length rows.now ≤ 10 ^ 4 }
+    requires rows { All (IsRow (length lists.old)) rows.now }
+    requires so_far { AreGathered (terms_of_rows (take r rows.now)) (length lists.old) lists.old }
+    ensures { OnOk result (AreGathered (terms_of_rows (take (r + 1) rows.now)) (length lists.old) lists.new) }
+{
+    let named = &rows[r];
+    add_terms(lists, r as u32, named.row.terms.as_slice())?;
+    Ok(())
+}
+
+// Adds the terms of all rows.
+fn add_rows(lists: &mut [Items<Standing>], rows: &[NamedRow]) -> Result<(), AllocError>
+    requires few { length rows.now ≤ 10 ^ 4 }
+    requires empty { AreGathered [] (length lists.old) lists.old }
+    requires rows { All (IsRow (length lists.old)) rows.now }
+    ensures { OnOk result (AreGathered (terms_of_rows rows.now) (length lists.old) lists.new) }
+{
+    for r in 0..rows.len() {
+        add_row(lists, rows, r)?;
+    }
+    Ok(())
+}
+
+// Adds the terms of the objective, as those of the row behind the last.
+#[tactic(auto, using(crate::proofs::Gathered::last_gathered))]
+fn add_objective(
+    lists: &mut [Items<Standing>],
+    rows: &[NamedRow],
+    objective: &Objective,
+) -> Result<(), AllocError>
+    requires few { length rows.now ≤ 10 ^ 4 }
+    requires objective { AreTerms (length lists.old) objective.now.terms }
+    requires so_far { AreGathered (terms_of_rows rows.now) (length lists.old) lists.old }
+    ensures { OnOk result (AreGathered (terms_of_rows rows.now ++ objective.now.terms ∷ []) (length lists.old) lists.new) }
+{
+    add_terms(lists, rows.len() as u32, objective.terms.as_slice())?;
+    Ok(())
+}
+
+// Adds all terms.
+fn add_all(
+    lists: &mut [Items<Standing>],
+    rows: &[NamedRow],
+    objective: &Objective,
+) -> Result<(), AllocError>
+    requires few { length rows.now ≤ 10 ^ 4 }
+    requires empty { AreGathered [] (length lists.old) lists.old }
+    requires rows { All (IsRow (length lists.old)) rows.now }
+    requires objective { AreTerms (length lists.old) objective.now.terms }
+    ensures { OnOk result (AreGathered (terms_of_rows rows.now ++ objective.now.terms ∷ []) (length lists.old) lists.new) }
+{
+    add_rows(lists, rows)?;
+    add_objective(lists, rows, objective)
+}
+
+// The standings of so many columns.
+fn gather_lists(
+    alloc: Global,
+    columns: usize,
+    rows: &[NamedRow],
+    objective: &Objective,
+) -> Result<Standings, AllocError>
+    requires few { length rows.now ≤ 10 ^ 4 }
+    requires rows { All (IsRow columns) rows.now }
+    requires objective { AreTerms columns objective.now.terms }
+    ensures { IfOk result (AreGathered (terms_of_rows rows.now ++ objective.now.terms ∷ []) columns) }
+{
+    let mut lists = empty_lists(alloc, columns)?;
+    add_all(lists.as_mut_slice(), rows, objective)?;
+    Ok(Items::from_vec(lists))
+}
+
+/// Where each column stands.
+pub fn gather(
+    alloc: Global,
+    columns: &[Column],
+    rows: &[NamedRow],
+    objective: &Objective,
+) -> Result<Standings, AllocError>
+    requires { IsProblem (instance_of columns.now rows.now objective.now) }
+    ensures { IfOk result (AreKept (instance_of columns.now rows.now objective.now)) }
+{
+    let lists = gather_lists(alloc, columns.len(), rows, objective)?;
+    Ok(lists)
+}
+
+/// The standings of a column.
+pub fn standings_of(lists: &Standings, column: usize) -> &[Standing]
+    requires { column < length lists.now }
+    ensures { result.now ≡ standings_at lists.now column }
+{
+    lists.as_slice()[column].as_slice()
+}
+
+/// A copy.
+pub fn copied_standings(lists: &Standings) -> Result<Standings, AllocError>
+    ensures { IfOk result (λ copy. copy ≡ lists.now) }
+{
+    lists.clone()
+}
