@@ -8,5 +8,7 @@ pub mod Answers
 pub mod Bodies
 pub mod Still
 pub mod Rooms
+pub mod Running
 pub mod Measures
 pub mod Machine
+pub mod Bits

@@ -196,7 +196,7 @@ at_least_moved : (reason : Reason) (f : ℤ) (j : ℕ) (s : ℤ) (area new : Lis
 at_least_moved reason (pos n) j s area new e = at_least_raised reason n j s area new e
 at_least_moved reason (negsuc n) j s area new e = at_least_lowered reason n j s area new e
 
-small_put : (terms : List Term) (area : List Interval) (j : ℕ) (side : Interval) → j < length area
+pub small_put : (terms : List Term) (area : List Interval) (j : ℕ) (side : Interval) → j < length area
     → HaveSmallColumns terms area → HasSmallEnds side → HaveSmallColumns terms (set area j side)
 small_put terms area j side there small one k within = elim (cases_eq (term_at terms k).column j) [
   | inl e ↦

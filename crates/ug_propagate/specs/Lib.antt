@@ -1,3 +1,5 @@
 pub mod Rounds
 pub mod Claims
 pub mod Steps
+pub mod Running
+pub mod Awake

@@ -6,6 +6,7 @@
 //! program that the definition is has the same contract, and is there for tests alone.
 #![tactic(auto)]
 
+mod awake;
 mod columns;
 mod fast;
 mod look;
@@ -15,9 +16,11 @@ mod plain;
 mod propagation;
 mod quotient;
 mod rounds;
+mod sums;
 #[cfg(test)]
 mod tests;
 mod tight;
 
 pub use propagation::tighten;
+pub use sums::Sums;
 pub use tight::{Reason, Side, Tight};

@@ -1,0 +1,66 @@
+-- Running sums: the least and the greatest sum of each row and of the objective over a box. The objective, without its
+-- constant, is the row behind the last.
+use Rattle.std.specs.Prelude.{◌≡◌, ℕ, ℤ, pos, ◌+◌, ◌+ℤ◌, ◌-ℤ◌, ◌*ℤ◌, ◌<◌, ◌≤◌, List, length, slice_index_or, slice_set, Option, Some, None}
+use Rattle.ug_rows.specs.declared.area.Interval.{Interval}
+use Rattle.ug_rows.specs.declared.row.Term.{Term}
+use Rattle.ug_rows.specs.Sums.{end_of, least_sum, greatest_sum}
+use Rattle.ug_rows.specs.declared.sums.Extreme.TheVariants.{Least, Greatest}
+use Rattle.ug_rows.specs.Boxes.{HasSmallEnds}
+use Rattle.ug_problem.specs.Instances.{Instance, row_at}
+use Rattle.ug_problem.specs.Standings.{terms_of}
+use Rattle.ug_propagate.specs.declared.sums.Extremes.{Extremes}
+use Rattle.ug_propagate.specs.Steps.{HaveSmallColumns}
+
+-- a box, and for each row its sums
+pub record SumsState : Type 0 where
+  pub area : List Interval
+  pub sums : List Extremes
+
+-- sums that stand for those of a row that is not there
+abbrev pub no_extremes : Extremes
+no_extremes = record { least = pos 0; greatest = pos 0 }
+
+-- the sums of row r
+abbrev pub extremes_at : List Extremes → ℕ → Extremes
+extremes_at sums r = slice_index_or sums r no_extremes
+
+-- these are the sums of the terms over the box
+pub record IsSummed (terms : List Term) (area : List Interval) (ends : Extremes) : Type 0 where
+  pub small : HaveSmallColumns terms area
+  pub least : ends.least ≡ least_sum terms area
+  pub greatest : ends.greatest ≡ greatest_sum terms area
+
+-- these are the sums of the problem's rows and of its objective over the box
+pub record AreSums (p : Instance) (area : List Interval) (sums : List Extremes) : Type 0 where
+  pub width : length area ≡ length p.columns
+  pub count : length sums ≡ length p.rows + 1
+  pub each : (r : ℕ) → r ≤ length p.rows → IsSummed (terms_of p r) area (extremes_at sums r)
+
+-- these are the sums of the first n rows over the box
+pub record AreFirstSums (p : Instance) (area : List Interval) (n : ℕ) (sums : List Extremes) : Type 0 where
+  pub count : length sums ≡ n
+  pub each : (r : ℕ) → r < n → IsSummed (terms_of p r) area (extremes_at sums r)
+
+-- the running sums are those of the problem over their box
+abbrev pub IsRunning : Instance → SumsState → Type 0
+IsRunning p state = AreSums p state.area state.sums
+
+-- the row is there, or it is the objective
+abbrev pub IsNamedRow : Instance → Option ℕ → Type 0
+IsNamedRow p None = Unit {0}
+IsNamedRow p (Some r) = r < length p.rows
+
+-- the terms of the row, of the objective where there is none
+abbrev pub terms_named : Instance → Option ℕ → List Term
+terms_named p None = p.objective.terms
+terms_named p (Some r) = (row_at p r).terms
+
+-- the sums of row r, in which a column has this factor, are those after the column's interval was replaced
+pub record HasMoved (factor : ℤ) (before after : Interval) (r : ℕ) (old new : List Extremes) : Type 0 where
+  pub ends : Extremes
+  pub put : new ≡ slice_set old r ends
+  pub least : ends.least
+      ≡ (extremes_at old r).least +ℤ ((factor *ℤ end_of Least factor after) -ℤ (factor *ℤ end_of Least factor before))
+  pub greatest : ends.greatest
+      ≡ (extremes_at old r).greatest +ℤ ((factor *ℤ end_of Greatest factor after) -ℤ (factor *ℤ end_of Greatest factor before))
+  pub small : HasSmallEnds after

@@ -1,0 +1,66 @@
+//! Rows that are awake: one bit a row.
+
+ghost use Rattle.std.specs.Prelude.{◌≡◌, ◌≢◌, ℕ, ◌+◌, ◌*◌, ◌/◌, ◌%◌, ◌^◌, ◌<◌, ◌≤◌, length, slice_index, Some, None};
+ghost use Rattle.std.specs.Int.{bit_at};
+ghost use Rattle.ug_propagate.specs.Awake.{HasBit, IsFound, IsFoundIn, IsNext, NoneFrom, bit_of};
+
+/// Wakes a row.
+pub fn wake(words: &mut [u64], r: usize)
+    requires { r < 64 * length words.old }
+    ensures { HasBit r 1 words.old words.new }
+{
+    let at = r / 64;
+    words[at] = words[at] | (1 << (r % 64));
+}
+
+/// Lets a row rest.
+pub fn rest(words: &mut [u64], r: usize)
+    requires { r < 64 * length words.old }
+    ensures { HasBit r 0 words.old words.new }
+{
+    let at = r / 64;
+    words[at] = words[at] & !(1 << (r % 64));
+}
+
+// The first place of a 1 in a word from this one on.
+#[tactic(auto, using(crate::proofs::Bits::none_in, crate::proofs::Bits::some_in))]
+fn next_in(word: u64, low: usize) -> Option<usize>
+    requires { low < 64 }
+    ensures { IsFoundIn word low result }
+{
+    let left = word >> low;
+    if left == 0 {
+        return None;
+    }
+    Some(low + left.trailing_zeros() as usize)
+}
+
+// The first row of this word or a later one that is awake.
+#[tactic(auto, using(crate::proofs::Bits::word_passed, crate::proofs::Bits::word_found, crate::proofs::Bits::words_passed))]
+fn first_from(words: &[u64], from: usize) -> Option<usize>
+    requires { length words.now ≤ 10 ^ 6 }
+    ensures { IsFound words.now (64 * from) result }
+{
+    for at in from..words.len() {
+        if let Some(bit) = next_in(words[at], 0) {
+            return Some(64 * at + bit);
+        }
+    }
+    None
+}
+
+/// The first row from this one on that is awake.
+#[tactic(auto, using(crate::proofs::Bits::past_words, crate::proofs::Bits::next_here, crate::proofs::Bits::next_later))]
+pub fn next(words: &[u64], from: usize) -> Option<usize>
+    requires { length words.now ≤ 10 ^ 6 }
+    ensures { IsFound words.now from result }
+{
+    let at = from / 64;
+    if at >= words.len() {
+        return None;
+    }
+    match next_in(words[at], from % 64) {
+        Some(bit) => Some(64 * at + bit),
+        None => first_from(words, at + 1),
+    }
+}

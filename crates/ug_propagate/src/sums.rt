@@ -1,0 +1,254 @@
+ghost use Rattle.std.specs.Prelude.{◌≡◌, ℕ, ◌+◌, ◌<◌, ◌≤◌, ◌*◌, ◌^◌, ◌+ℤ◌, ◌-ℤ◌, ◌*ℤ◌, ◌≤ℤ◌, length, slice_set, slice_index_or, take, unsigned_abs, IfOk, OnOk};
+ghost use Rattle.ug_rows.specs.Boxes.{HasSmallEnds, interval_at};
+ghost use Rattle.ug_rows.specs.Rows.{IsLinear};
+ghost use Rattle.ug_rows.specs.Sums.{end_of, least_sum, greatest_sum};
+ghost use Rattle.ug_rows.specs.declared.sums.Extreme.TheVariants.{Least, Greatest};
+ghost use Rattle.ug_problem.specs.Instances.{no_row};
+ghost use Rattle.ug_problem.specs.Limits.{IsProblem};
+ghost use Rattle.ug_problem.specs.Standings.{AreStandings, terms_of};
+ghost use Rattle.ug_propagate.specs.Steps.{IsMeasured};
+ghost use Rattle.ug_propagate.specs.Running.{AreFirstSums, AreSums, HasMoved, IsNamedRow, IsRunning, IsSummed, extremes_at, terms_named};
+
+use crate::measure::{Ends, change, measure, plus};
+use std::alloc::{AllocError, Global};
+use std::marker::Model;
+use ug_problem::{NamedRow, Problem, Standing};
+use ug_rows::{Extreme, IntBox, Interval, Term, end_at};
+
+/// The least and the greatest sum of a row over a box.
+#[derive(Clone, Copy, Debug)]
+pub struct Extremes {
+    pub least: i128,
+    pub greatest: i128,
+}
+
+// The terms of a row.
+fn row_terms(rows: &[NamedRow], r: usize) -> &[Term]
+    requires { r < length rows.now }
+    ensures { result.now ≡ (slice_index_or rows.now r no_row).row.terms }
+{
+    rows[r].row.terms.as_slice()
+}
+
+// The row, counted from 0; the objective is the row behind the last.
+#[tactic(auto, using(crate::proofs::Running::named_inner, crate::proofs::Running::named_last))]
+fn row_index(problem: &Problem, row: Option<u32>) -> usize
+    requires { IsNamedRow problem.now row }
+    ensures there { result ≤ length problem.now.rows }
+    ensures terms { terms_of problem.now result ≡ terms_named problem.now row }
+{
+    match row {
+        Some(r) => r as usize,
+        None => problem.rows().len(),
+    }
+}
+
+/// The terms of row r; the objective is the row behind the last.
+#[tactic(auto, using(crate::proofs::Running::terms_inner, crate::proofs::Running::terms_last))]
+pub fn terms_at(problem: &Problem, r: usize) -> &[Term]
+    requires { r ≤ length problem.now.rows }
+    ensures value { result.now ≡ terms_of problem.now r }
+    ensures problem { IsProblem problem.now }
+{
+    let rows = problem.rows();
+    if r < rows.len() {
+        row_terms(rows, r)
+    } else {
+        problem.objective().terms.as_slice()
+    }
+}
+
+/// The sums of row r over a box, and a number that no span of a term is above.
+
+pub fn measured(problem: &Problem, r: usize, area: &[Interval]) -> Ends
+    requires there { r ≤ length problem.now.rows }
+    requires width { length area.now ≡ length problem.now.columns }
+    ensures { IsMeasured (terms_of problem.now r) area.now result }
+{
+    measure(terms_at(problem, r), area)
+}
+
+// How the product of a factor at an end changes with its column's interval.
+fn end_change(extreme: Extreme, factor: i128, before: Interval, after: Interval) -> i128
+    requires { unsigned_abs factor ≤ 10 ^ 24 }
+    ensures value { result ≡ (factor *ℤ end_of extreme factor after) -ℤ (factor *ℤ end_of extreme factor before) }
+    ensures small { unsigned_abs result ≤ 10 ^ 24 * 2 ^ 32 }
+    ensures after { HasSmallEnds after }
+{
+    let old = end_at(extreme, factor, before);
+    let new = end_at(extreme, factor, after);
+    change(factor, old, new)
+}
+
+// The sums of a row after the interval of one of its columns was replaced.
+fn moved(sums: Extremes, factor: i128, before: Interval, after: Interval) -> Extremes
+    requires least { unsigned_abs sums.least ≤ 3 * 10 ^ 37 }
+    requires greatest { unsigned_abs sums.greatest ≤ 3 * 10 ^ 37 }
+    requires factor { unsigned_abs factor ≤ 10 ^ 24 }
+    ensures least { result.least ≡ sums.least +ℤ ((factor *ℤ end_of Least factor after) -ℤ (factor *ℤ end_of Least factor before)) }
+    ensures greatest { result.greatest ≡ sums.greatest +ℤ ((factor *ℤ end_of Greatest factor after) -ℤ (factor *ℤ end_of Greatest factor before)) }
+    ensures after { HasSmallEnds after }
+{
+    Extremes {
+        least: plus(
+            sums.least,
+            end_change(Extreme::Least, factor, before, after),
+        ),
+        greatest: plus(
+            sums.greatest,
+            end_change(Extreme::Greatest, factor, before, after),
+        ),
+    }
+}
+
+// The sums of one row after the interval of one of its columns was replaced.
+fn shift_row(sums: &mut [Extremes], standing: Standing, before: Interval, after: Interval)
+    requires there { standing.row < length sums.old }
+    requires least { unsigned_abs (extremes_at sums.old standing.row).least ≤ 3 * 10 ^ 37 }
+    requires greatest { unsigned_abs (extremes_at sums.old standing.row).greatest ≤ 3 * 10 ^ 37 }
+    requires factor { unsigned_abs standing.factor ≤ 10 ^ 24 }
+    ensures { HasMoved standing.factor before after standing.row sums.old sums.new }
+{
+    let at = standing.row as usize;
+    sums[at] = moved(sums[at], standing.factor, before, after);
+}
+
+// Brings the sums to the box in which a column has another interval. It touches the rows of the column alone.
+fn shift(
+    problem: &Problem,
+    column: usize,
+    area: &[Interval],
+    side: Interval,
+    sums: &mut [Extremes],
+)
+    requires there { column < length area.now }
+    requires sums { AreSums problem.now area.now sums.old }
+    ensures { AreSums problem.now (slice_set area.now column side) sums.new }
+{
+    let standings = problem.standings(column);
+    let before = area[column];
+    for standing in standings {
+        shift_row(sums, *standing, before, side);
+    }
+}
+
+// The sums of row r over a box.
+fn sums_of(problem: &Problem, r: usize, area: &[Interval]) -> Extremes
+    requires there { r ≤ length problem.now.rows }
+    requires width { length area.now ≡ length problem.now.columns }
+    ensures { IsSummed (terms_of problem.now r) area.now result }
+{
+    let ends = measured(problem, r, area);
+    Extremes {
+        least: ends.least,
+        greatest: ends.greatest,
+    }
+}
+
+// The sums of the first rows over a box, and those of one row more.
+fn add_sums(
+    problem: &Problem,
+    area: &[Interval],
+    sums: &mut Vec<Extremes>,
+    r: usize,
+) -> Result<(), AllocError>
+    requires there { r ≤ length problem.now.rows }
+    requires width { length area.now ≡ length problem.now.columns }
+    requires so_far { AreFirstSums problem.now area.now r sums.old.items }
+    ensures { OnOk result (AreFirstSums problem.now area.now (r + 1) sums.new.items) }
+{
+    let ends = sums_of(problem, r, area);
+    sums.push(ends)?;
+    Ok(())
+}
+
+// The sums of all rows and of the objective over a box.
+fn all_sums(
+    alloc: Global,
+    problem: &Problem,
+    area: &[Interval],
+) -> Result<Vec<Extremes>, AllocError>
+    requires { length area.now ≡ length problem.now.columns }
+    ensures { IfOk result (λ sums. AreSums problem.now area.now sums.items) }
+{
+    let count = problem.rows().len() + 1;
+    let mut sums = Vec::with_capacity(alloc, count)?;
+    for r in 0..count {
+        add_sums(problem, area, &mut sums, r)?;
+    }
+    Ok(sums)
+}
+
+/// The least and the greatest sum of each row of a problem, and of its objective without the constant, over a box that
+/// may change a column at a time.
+#[derive(Debug, Drop)]
+pub struct Sums {
+    sides: Vec<Interval>,
+    sums: Vec<Extremes>,
+}
+
+impl Model for Sums {
+    ghost use Rattle.ug_propagate.specs.Steps.{IsMeasured};
+ghost use Rattle.ug_propagate.specs.Running.{SumsState};
+
+    ghost Value = { SumsState };
+
+    ghost view = { λ s. record { area = s.sides.items; sums = s.sums.items } };
+}
+
+impl Sums {
+    /// The sums over this box. It alone takes memory.
+    pub fn new(alloc: Global, problem: &Problem, area: &IntBox) -> Result<Sums, AllocError>
+        requires { length area.now ≡ length problem.now.columns }
+        ensures area { IfOk result (λ s. s.area ≡ area.now) }
+        ensures sums { IfOk result (IsRunning problem.now) }
+    {
+        let sides = Vec::from_slice(alloc, area.as_slice())?;
+        let sums = all_sums(alloc, problem, sides.as_slice())?;
+        Ok(Sums { sides, sums })
+    }
+
+    /// Replaces the interval of a column. It touches the rows in which the column stands, and no others.
+    pub fn set(&mut self, problem: &Problem, column: u32, low: i32, high: i32)
+        requires there { column < length problem.now.columns }
+        requires sums { IsRunning problem.now self.old }
+        ensures area { self.new.area ≡ slice_set self.old.area column (record { low = low; high = high }) }
+        ensures sums { IsRunning problem.now self.new }
+    {
+        let at = column as usize;
+        let side = Interval { low, high };
+        shift(
+            problem,
+            at,
+            self.sides.as_slice(),
+            side,
+            self.sums.as_mut_slice(),
+        );
+        self.sides[at] = side;
+    }
+
+    /// The least sum of a row, or of the objective without its constant.
+    pub fn least(&self, problem: &Problem, row: Option<u32>) -> i128
+        requires there { IsNamedRow problem.now row }
+        requires sums { IsRunning problem.now self.now }
+        ensures { result ≡ least_sum (terms_named problem.now row) self.now.area }
+    {
+        self.sums[row_index(problem, row)].least
+    }
+
+    /// The greatest sum of a row, or of the objective without its constant.
+    pub fn greatest(&self, problem: &Problem, row: Option<u32>) -> i128
+        requires there { IsNamedRow problem.now row }
+        requires sums { IsRunning problem.now self.now }
+        ensures { result ≡ greatest_sum (terms_named problem.now row) self.now.area }
+    {
+        self.sums[row_index(problem, row)].greatest
+    }
+
+    /// The box.
+    pub fn sides(&self) -> &[Interval]
+        ensures { result.now ≡ self.now.area }
+    {
+        self.sides.as_slice()
+    }
+}
