@@ -12,3 +12,5 @@ pub mod Running
 pub mod Measures
 pub mod Machine
 pub mod Bits
+pub mod Stepping
+pub mod Fresh

@@ -14,6 +14,8 @@ use Rattle.ug_rows.proofs.Replaced.{product_new, sum_small, sum_with}
 use Rattle.ug_propagate.specs.declared.look.Look.{Look}
 use Rattle.ug_propagate.specs.declared.measure.Ends.{Ends}
 use Rattle.ug_propagate.specs.declared.measure.Room.{Room}
+use Rattle.ug_propagate.specs.declared.sums.Extremes.{Extremes}
+use Rattle.ug_propagate.specs.Running.{IsSummed}
 use Rattle.ug_propagate.specs.declared.tight.Tight.{Tight}
 use Rattle.ug_propagate.specs.declared.tight.Tight.TheVariants.{Kept, Empty}
 use Rattle.ug_propagate.specs.declared.tight.Reason.{Reason}
@@ -63,6 +65,25 @@ pub room_is : (width : ℕ) (look : Look) (terms : List Term) (area : List Inter
 room_is width look terms area ends room ready m h l =
     room_of width look terms area room ready m.small (h ∙ ap (λ (s : ℤ). high_of look.high -ℤ s) m.least)
     (l ∙ ap (λ (s : ℤ). s -ℤ low_of look.low) m.greatest)
+
+-- the room that running sums leave
+pub room_summed : (width : ℕ) (look : Look) (terms : List Term) (area : List Interval) (ends : Extremes) (room : Room)
+    → IsLookable width look terms → IsSummed terms area ends
+    → room.high ≡ high_of look.high -ℤ ends.least → room.low ≡ ends.greatest -ℤ low_of look.low → IsRoomOf look terms area room
+room_summed width look terms area ends room ready m h l =
+    room_of width look terms area room ready m.small (h ∙ ap (λ (s : ℤ). high_of look.high -ℤ s) m.least)
+    (l ∙ ap (λ (s : ℤ). s -ℤ low_of look.low) m.greatest)
+
+-- which are at most 3 * 10^37
+pub least_small : (width : ℕ) (terms : List Term) (area : List Interval) (ends : Extremes) → IsLinear width terms
+    → IsSummed terms area ends → unsigned_abs ends.least ≤ 3 * 10 ^ 37
+least_small width terms area ends linear m =
+    subst (λ (v : ℤ). unsigned_abs v ≤ 3 * 10 ^ 37) (sym m.least) (sum_small Least width terms area linear m.small)
+
+pub greatest_small : (width : ℕ) (terms : List Term) (area : List Interval) (ends : Extremes) → IsLinear width terms
+    → IsSummed terms area ends → unsigned_abs ends.greatest ≤ 3 * 10 ^ 37
+greatest_small width terms area ends linear m =
+    subst (λ (v : ℤ). unsigned_abs v ≤ 3 * 10 ^ 37) (sym m.greatest) (sum_small Greatest width terms area linear m.small)
 
 taken_high : (room high sum least most : ℤ) → room ≡ high -ℤ sum → most ≡ room +ℤ least → high -ℤ (sum -ℤ least) ≡ most
 taken_high room high sum least most e f = omega (arith, ints)

@@ -3,3 +3,5 @@ pub mod Claims
 pub mod Steps
 pub mod Running
 pub mod Awake
+pub mod Cuts
+pub mod Working

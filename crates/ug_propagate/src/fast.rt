@@ -21,8 +21,8 @@ impl RowRule for Fast {
     }
 }
 
-// How far the product of the term goes over the box.
-fn span(term: Term, area: &[Interval]) -> i128
+/// How far the product of the term goes over the box.
+pub fn span(term: Term, area: &[Interval]) -> i128
     requires { IsTermOf (length area.now) term }
     ensures value { result ≡ span_of term area.now }
     ensures small { unsigned_abs result ≤ 10 ^ 24 * 2 ^ 32 }

@@ -8,8 +8,10 @@
 
 mod awake;
 mod columns;
+mod cut;
 mod fast;
 mod look;
+mod looking;
 mod measure;
 #[cfg(test)]
 mod plain;
@@ -20,6 +22,7 @@ mod sums;
 #[cfg(test)]
 mod tests;
 mod tight;
+mod working;
 
 pub use propagation::tighten;
 pub use sums::Sums;

@@ -3,9 +3,11 @@ ghost use Rattle.ug_rows.specs.Boxes.{HasSmallEnds};
 ghost use Rattle.ug_rows.specs.Rows.{IsLinear};
 ghost use Rattle.ug_rows.specs.Sums.{end_of};
 ghost use Rattle.ug_rows.specs.declared.sums.Extreme.TheVariants.{Least, Greatest};
+ghost use Rattle.ug_propagate.specs.Running.{IsSummed};
 ghost use Rattle.ug_propagate.specs.Steps.{IsMeasured, IsLookable, IsRoomOf, high_of, low_of};
 
 use crate::look::Look;
+use crate::sums::Extremes;
 use ug_rows::{Extreme, Interval, Term, add_end};
 
 /// The least and the greatest sum of a row over a box, and a number that no span of a term is above.
@@ -154,6 +156,20 @@ fn low_or_none(low: Option<i128>) -> i128
 pub fn room_within(look: Look, terms: &[Term], ends: Ends, area: &[Interval]) -> Room
     requires ready { IsLookable (length area.now) look terms.now }
     requires measured { IsMeasured terms.now area.now ends }
+    requires least { unsigned_abs ends.least ≤ 3 * 10 ^ 37 }
+    requires greatest { unsigned_abs ends.greatest ≤ 3 * 10 ^ 37 }
+    ensures { IsRoomOf look terms.now area.now result }
+{
+    Room {
+        high: minus(high_or_none(look.high), ends.least),
+        low: minus(ends.greatest, low_or_none(look.low)),
+    }
+}
+
+/// The room that running sums leave within the sides of the row.
+pub fn room_between(look: Look, terms: &[Term], ends: Extremes, area: &[Interval]) -> Room
+    requires ready { IsLookable (length area.now) look terms.now }
+    requires summed { IsSummed terms.now area.now ends }
     requires least { unsigned_abs ends.least ≤ 3 * 10 ^ 37 }
     requires greatest { unsigned_abs ends.greatest ≤ 3 * 10 ^ 37 }
     ensures { IsRoomOf look terms.now area.now result }

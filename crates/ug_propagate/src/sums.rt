@@ -215,16 +215,40 @@ impl Sums {
         ensures area { self.new.area ≡ slice_set self.old.area column (record { low = low; high = high }) }
         ensures sums { IsRunning problem.now self.new }
     {
-        let at = column as usize;
-        let side = Interval { low, high };
+        self.put(problem, column as usize, Interval { low, high });
+    }
+
+    /// Replaces the interval of a column by this one.
+    pub fn put(&mut self, problem: &Problem, column: usize, side: Interval)
+        requires there { column < length problem.now.columns }
+        requires sums { IsRunning problem.now self.old }
+        ensures area { self.new.area ≡ slice_set self.old.area column side }
+        ensures sums { IsRunning problem.now self.new }
+    {
         shift(
             problem,
-            at,
+            column,
             self.sides.as_slice(),
             side,
             self.sums.as_mut_slice(),
         );
-        self.sides[at] = side;
+        self.sides[column] = side;
+    }
+
+    /// The sums of row r.
+    pub fn ends(&self, r: usize) -> Extremes
+        requires { r < length self.now.sums }
+        ensures { result ≡ extremes_at self.now.sums r }
+    {
+        self.sums[r]
+    }
+
+    /// The interval of a column.
+    pub fn side(&self, column: usize) -> Interval
+        requires { column < length self.now.area }
+        ensures { result ≡ interval_at self.now.area column }
+    {
+        self.sides[column]
     }
 
     /// The least sum of a row, or of the objective without its constant.
@@ -243,6 +267,13 @@ impl Sums {
         ensures { result ≡ greatest_sum (terms_named problem.now row) self.now.area }
     {
         self.sums[row_index(problem, row)].greatest
+    }
+
+    /// The intervals of the box. It takes no memory.
+    pub fn into_sides(self) -> Vec<Interval>
+        ensures { result.items ≡ self.area }
+    {
+        self.sides
     }
 
     /// The box.

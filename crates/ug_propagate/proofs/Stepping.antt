@@ -1,0 +1,226 @@
+-- What a change of one column keeps of a working box.
+use Rattle.std.proofs.Common.{◌≡◌, ◌≢◌, refl, sym, subst, ◌∙◌, ap, inl, inr, ℕ, zero, suc, ◌+◌, ◌*◌, ◌^◌, ◌<◌, ◌≤◌, ℤ, pos, negsuc, ◌+ℤ◌, ◌-ℤ◌, ◌*ℤ◌, ◌≤ℤ◌, List, [], ◌∷◌, ◌++◌, length, get_or, set, Option, append_assoc, arith}
+use Rattle.std.proofs.lemmas.Int.{ints}
+use Rattle.std.proofs.lemmas.Bool.{cases_eq}
+use Rattle.std.proofs.lemmas.List.{append-nil, get_or-set_other, get_or-set_same, set-get_or, set-set}
+use Rattle.ug_rows.specs.declared.area.Interval.{Interval}
+use Rattle.ug_rows.specs.declared.row.Term.{Term}
+use Rattle.ug_rows.specs.declared.sums.Extreme.{Extreme}
+use Rattle.ug_rows.specs.declared.sums.Extreme.TheVariants.{Least, Greatest}
+use Rattle.ug_rows.specs.Boxes.{HasSmallEnds, IsClosedWithin, interval_at, no_interval}
+use Rattle.ug_rows.specs.Rows.{term_at}
+use Rattle.ug_rows.specs.Sums.{end_of, end_product, least_sum, greatest_sum}
+use Rattle.ug_rows.proofs.EndBounds.{mul_neg, mul_pos}
+use Rattle.ug_rows.proofs.Replaced.{among_at, sum_without}
+use Rattle.ug_problem.specs.Instances.{Instance}
+use Rattle.ug_problem.specs.Standings.{terms_of}
+use Rattle.ug_propagate.specs.declared.look.Look.{Look}
+use Rattle.ug_propagate.specs.declared.look.Looked.TheVariants.{Same}
+use Rattle.ug_propagate.specs.declared.measure.Room.{Room}
+use Rattle.ug_propagate.specs.declared.working.Change.{Change}
+use Rattle.ug_propagate.specs.declared.tight.Tight.TheVariants.{Kept}
+use Rattle.ug_propagate.specs.Awake.{bit_of}
+use Rattle.ug_propagate.specs.Rounds.{row_step}
+use Rattle.ug_propagate.proofs.Still.{row_within, terms_still}
+use Rattle.ug_propagate.specs.Steps.{IsLookable, IsRoomOf, IsTermOf, high_of, low_of, row_of, span_of}
+use Rattle.ug_propagate.specs.Working.{AreReached, AreResting, FitsWhereSame, HasBits, HasChanged, IsAtRest, IsBox, IsLater, IsStep, WorkState, look_for, reach_at, undone}
+
+undone_append : (area : List Interval) (xs ys : List Change) → undone area (xs ++ ys) ≡ undone (undone area ys) xs
+undone_append area [] ys = refl
+undone_append area (x ∷ xs) ys = ap (λ (a : List Interval). set a x.column x.before) (undone_append area xs ys)
+
+later_same : (work : WorkState) → IsLater work work
+later_same work = record { more = []; trail = sym (append-nil work.trail); back = refl }
+
+later_trans : (a b c : WorkState) → IsLater a b → IsLater b c → IsLater a c
+later_trans a b c h k = record {
+  more = h.more ++ k.more;
+  trail = k.trail ∙ ap (λ (t : List Change). t ++ k.more) h.trail ∙ append_assoc a.trail h.more k.more;
+  back = undone_append c.sums.area h.more k.more ∙ ap (λ (x : List Interval). undone x h.more) k.back ∙ h.back;
+}
+
+later_change : (p : Instance) (j : ℕ) (side : Interval) (old new : WorkState) → HasChanged p j side old new → IsLater old new
+later_change p j side old new h =
+    let area : List Interval = old.sums.area in
+    let before : Interval = interval_at area j in
+    record {
+      more = record { column = j; before = before } ∷ [];
+      trail = h.trail;
+      back = ap (λ (a : List Interval). set a j before) h.area ∙ set-set area j side before ∙ set-get_or area j no_interval;
+    }
+
+spread : (g l m n : ℤ) → g ≤ℤ m → n ≤ℤ l → (g -ℤ l) ≤ℤ (m -ℤ n)
+spread g l m n h k = omega (arith, ints)
+
+-- the span of a factor over an interval within another is at most that over the other
+span_inner : (f : ℤ) (inner outer : Interval) → IsClosedWithin inner outer
+    → ((f *ℤ end_of Greatest f inner) -ℤ (f *ℤ end_of Least f inner)) ≤ℤ ((f *ℤ end_of Greatest f outer) -ℤ (f *ℤ end_of Least f outer))
+span_inner (pos n) inner outer h =
+    spread _ _ _ _ (mul_pos n inner.high outer.high h.high) (mul_pos n outer.low inner.low h.low)
+span_inner (negsuc n) inner outer h =
+    spread _ _ _ _ (mul_neg n outer.low inner.low h.low) (mul_neg n inner.high outer.high h.high)
+
+at_most_trans : (a b c : ℤ) → a ≤ℤ b → b ≤ℤ c → a ≤ℤ c
+at_most_trans a b c h k = omega (arith, ints)
+
+-- so no span grows where one column is cut
+pub span_cut : (t : Term) (area : List Interval) (j : ℕ) (side : Interval) (most : ℤ) → j < length area
+    → IsClosedWithin side (interval_at area j) → span_of t area ≤ℤ most → span_of t (set area j side) ≤ℤ most
+span_cut t area j side most there closed h = elim (cases_eq t.column j) [
+  | inl same ↦
+      let at : interval_at (set area j side) t.column ≡ side =
+      ap (λ (k : ℕ). interval_at (set area j side) k) same ∙ get_or-set_same area j side no_interval there in
+      let was : interval_at area j ≡ interval_at area t.column = ap (λ (k : ℕ). interval_at area k) (sym same) in
+      let span : Interval → ℤ = λ (s : Interval). (t.factor *ℤ end_of Greatest t.factor s) -ℤ (t.factor *ℤ end_of Least t.factor s) in
+      let P : Interval → Type 0 = λ (s : Interval). span s ≤ℤ most in
+      let Q : Interval → Type 0 = λ (s : Interval). IsClosedWithin side s in
+      subst P (sym at) (at_most_trans (span side) (span (interval_at area t.column)) most
+      (span_inner t.factor side (interval_at area t.column) (subst Q was closed)) h)
+  | inr other ↦
+      let at : interval_at (set area j side) t.column ≡ interval_at area t.column =
+      get_or-set_other area j t.column side no_interval other in
+      let P : Interval → Type 0 = λ (s : Interval).
+      ((t.factor *ℤ end_of Greatest t.factor s) -ℤ (t.factor *ℤ end_of Least t.factor s)) ≤ℤ most in
+      subst P (sym at) h
+]
+
+reach_cut : (p : Instance) (area : List Interval) (reach : List ℤ) (j : ℕ) (side : Interval) → j < length area
+    → IsClosedWithin side (interval_at area j) → AreReached p area reach → AreReached p (set area j side) reach
+reach_cut p area reach j side there closed h = record {
+  count = h.count;
+  each = λ r k inner within.
+      span_cut (term_at (terms_of p r) k) area j side (reach_at reach r) there closed (h.each r k inner within);
+}
+
+-- a row without a term of the column stays at rest
+rest_other : (look : Look) (ts : List Term) (area : List Interval) (j : ℕ) (side : Interval)
+    → ((k : ℕ) → k < length ts → (term_at ts k).column ≢ j) → IsAtRest look ts area → IsAtRest look ts (set area j side)
+rest_other look ts area j side other h =
+    let same : (k : ℕ) → k < length ts → interval_at (set area j side) (term_at ts k).column ≡ interval_at area (term_at ts k).column =
+    λ (k : ℕ) (there : k < length ts). get_or-set_other area j (term_at ts k).column side no_interval (other k there) in
+    record {
+      room = h.room;
+      is = record {
+        small = λ k there. subst HasSmallEnds (sym (same k there)) (h.is.small k there);
+        high = h.is.high ∙ ap (λ (s : ℤ). high_of look.high -ℤ s) (sym (sum_without Least ts area j side other));
+        low = h.is.low ∙ ap (λ (s : ℤ). s -ℤ low_of look.low) (sym (sum_without Greatest ts area j side other));
+        high_size = h.is.high_size;
+        low_size = h.is.low_size;
+      };
+      high = h.high;
+      low = h.low;
+      each = λ k there.
+          let t : Term = term_at ts k in
+          let P : Interval → Type 0 = λ (s : Interval).
+          (((t.factor *ℤ end_of Greatest t.factor s) -ℤ (t.factor *ℤ end_of Least t.factor s)) ≤ℤ h.room.high)
+          × (((t.factor *ℤ end_of Greatest t.factor s) -ℤ (t.factor *ℤ end_of Least t.factor s)) ≤ℤ h.room.low) in
+          subst P (sym (same k there)) (h.each k there);
+    }
+
+resting_change : (p : Instance) (j : ℕ) (side : Interval) (old new : WorkState) → HasChanged p j side old new → (cutoff : Option ℤ)
+    → AreResting p cutoff old.sums.area old.awake → AreResting p cutoff new.sums.area new.awake
+resting_change p j side old new h cutoff resting r there asleep =
+    let w = h.woke in
+    let other : (k : ℕ) → k < length (terms_of p r) → (term_at (terms_of p r) k).column ≢ j =
+    λ (k : ℕ) (within : k < length (terms_of p r)) (same : (term_at (terms_of p r) k).column ≡ j).
+    let at = w.are.all r (term_at (terms_of p r) k) (among_at (terms_of p r) k within) same in
+    w.woken.others r at.0 asleep at.1 at.2 in
+    let before : IsAtRest (look_for p cutoff r) (terms_of p r) old.sums.area = resting r there (w.woken.asleep r asleep) in
+    let P : List Interval → Type 0 = λ (a : List Interval). IsAtRest (look_for p cutoff r) (terms_of p r) a in
+    subst P (sym h.area) (rest_other (look_for p cutoff r) (terms_of p r) old.sums.area j side other before)
+
+bits_woken : (p : Instance) (old new : List ℕ) → length new ≡ length old → HasBits p old → HasBits p new
+bits_woken p old new same h = record { enough = omega (arith, h.enough, same); few = omega (arith, h.few, same) }
+
+pub step_same : (p : Instance) (work : WorkState) → IsBox p work → IsStep p work work
+step_same p work box = record { box = box; later = later_same work; resting = λ cutoff h. h }
+
+pub step_trans : (p : Instance) (a b c : WorkState) → IsStep p a b → IsStep p b c → IsStep p a c
+step_trans p a b c h k = record {
+  box = k.box;
+  later = later_trans a b c h.later k.later;
+  resting = λ cutoff r. k.resting cutoff (h.resting cutoff r);
+}
+
+-- a column that is cut
+pub step_change : (p : Instance) (j : ℕ) (side : Interval) (old new : WorkState) → IsBox p old → j < length p.columns
+    → IsClosedWithin side (interval_at old.sums.area j) → HasChanged p j side old new → IsStep p old new
+step_change p j side old new box there closed h =
+    let P : List Interval → Type 0 = λ (a : List Interval). AreReached p a old.reach in
+    let Q : List ℤ → Type 0 = λ (r : List ℤ). AreReached p new.sums.area r in
+    let within : j < length old.sums.area = omega (arith, there, box.sums.width) in
+    record {
+      box = record {
+        sums = h.sums;
+        reach = subst Q (sym h.reach)
+            (subst P (sym h.area) (reach_cut p old.sums.area old.reach j side within closed box.reach));
+        bits = bits_woken p old.awake new.awake h.woke.woken.width box.bits;
+      };
+      later = later_change p j side old new h;
+      resting = resting_change p j side old new h;
+    }
+
+-- the box is as wide as it was
+width_later : (p : Instance) (old new : WorkState) → IsBox p old → IsStep p old new → length old.sums.area ≡ length new.sums.area
+width_later p old new box step = box.sums.width ∙ sym step.box.sums.width
+
+pub lookable_later : (p : Instance) (old new : WorkState) (look : Look) (ts : List Term) → IsBox p old → IsStep p old new
+    → IsLookable (length old.sums.area) look ts → IsLookable (length new.sums.area) look ts
+lookable_later p old new look ts box step h = subst (λ (n : ℕ). IsLookable n look ts) (width_later p old new box step) h
+
+pub term_later : (p : Instance) (old new : WorkState) (t : Term) → IsBox p old → IsStep p old new
+    → IsTermOf (length old.sums.area) t → IsTermOf (length new.sums.area) t
+term_later p old new t box step h = subst (λ (n : ℕ). IsTermOf n t) (width_later p old new box step) h
+
+-- nothing was changed at the first i terms, and they fit within the room
+pub record IsUnchanged (ts : List Term) (i : ℕ) (old new : WorkState) (room now : Room) : Type 0 where
+  pub work : new ≡ old
+  pub room_is : now ≡ room
+  pub fit : (k : ℕ) → k < i → (span_of (term_at ts k) old.sums.area ≤ℤ room.high) × (span_of (term_at ts k) old.sums.area ≤ℤ room.low)
+
+pub unchanged_first : (ts : List Term) (work : WorkState) (room : Room) → IsUnchanged ts 0 work work room room
+unchanged_first ts work room = record { work = refl; room_is = refl; fit = λ k less. absurd (omega arith) }
+
+pub unchanged_more : (ts : List Term) (i : ℕ) (old mid new : WorkState) (room now : Room) → IsUnchanged ts i old mid room now → new ≡ mid
+    → FitsWhereSame Same (term_at ts i) mid.sums.area now → IsUnchanged ts (i + 1) old new room now
+unchanged_more ts i old mid new room now h same fits =
+    let P : WorkState → Room → Type 0 = λ (w : WorkState) (r : Room).
+    (span_of (term_at ts i) w.sums.area ≤ℤ r.high) × (span_of (term_at ts i) w.sums.area ≤ℤ r.low) in
+    record {
+      work = same ∙ h.work;
+      room_is = h.room_is;
+      fit = λ k less. elim (cases_eq k i) [
+        | inl e ↦
+            let here : P old room = subst (λ (r : Room). P old r) h.room_is (subst (λ (w : WorkState). P w now) h.work fits) in
+            let Q : ℕ → Type 0 = λ (n : ℕ).
+            (span_of (term_at ts n) old.sums.area ≤ℤ room.high) × (span_of (term_at ts n) old.sums.area ≤ℤ room.low) in
+            subst Q (sym e) here
+        | inr ne ↦ h.fit k (omega arith)
+      ];
+    }
+
+-- a row whose widest span is within the room of both sides is at rest
+pub reach_rests : (p : Instance) (r : ℕ) (look : Look) (ts : List Term) (work : WorkState) (room : Room) → IsBox p work
+    → r ≤ length p.rows → ts ≡ terms_of p r → IsRoomOf look ts work.sums.area room → pos 0 ≤ℤ room.high → pos 0 ≤ℤ room.low
+    → reach_at work.reach r ≤ℤ room.high → reach_at work.reach r ≤ℤ room.low → IsAtRest look ts work.sums.area
+reach_rests p r look ts work room box there same is high low up down =
+    let area : List Interval = work.sums.area in
+    let P : List Term → Type 0 = λ (us : List Term). (k : ℕ) → k < length us → span_of (term_at us k) area ≤ℤ reach_at work.reach r in
+    let reached : P ts = subst P (sym same) (λ k within. box.reach.each r k there within) in
+    record {
+      room = room;
+      is = is;
+      high = high;
+      low = low;
+      each = λ k within. (
+        at_most_trans (span_of (term_at ts k) area) (reach_at work.reach r) room.high (reached k within) up,
+        at_most_trans (span_of (term_at ts k) area) (reach_at work.reach r) room.low (reached k within) down,
+      );
+    }
+
+-- a look at a row that is at rest gives the box itself
+pub rest_is : (look : Look) (ts : List Term) (area : List Interval) → ((k : ℕ) → k < length ts → (term_at ts k).factor ≢ pos 0)
+    → IsAtRest look ts area → row_step look.row (row_of look ts) area ≡ Kept area
+rest_is look ts area nonzero h =
+    row_within look ts area h.room h.is h.high h.low
+    ∙ terms_still look ts ts area h.room h.is nonzero (λ k there. (h.each k there).0) (λ k there. (h.each k there).1)

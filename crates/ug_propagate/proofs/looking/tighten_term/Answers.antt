@@ -1,0 +1,13 @@
+use Rattle.std.proofs.Common.{List, subst, sym}
+use Rattle.ug_rows.specs.declared.area.Interval.{Interval}
+use Rattle.ug_propagate.specs.Working.{FitsWhereSame}
+use Rattle.ug_propagate.specs.declared.look.Looked.TheVariants.{Same}
+use Rattle.ug_propagate.proofs.Still.{term_still}
+use Rattle.ug_propagate.proofs.looking.tighten_term.Goals as goal
+
+pub returns-then-fits-clause-value : goal.returns-then-fits-clause-value
+returns-then-fits-clause-value c =
+    let P : List Interval → Type 0 = λ (a : List Interval). FitsWhereSame Same c.args.term a c.args.room in
+    let fit : P c.args.work.now.sums.area = subst P c.sides.ensures (c.fits.ensures c.if-fits.true) in
+    sym (term_still c.args.look c.args.terms.now c.args.term c.args.work.now.sums.area c.args.room c.requires.room
+    c.requires.term.nonzero fit.0 fit.1)

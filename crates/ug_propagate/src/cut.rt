@@ -1,0 +1,90 @@
+ghost use Rattle.std.specs.Prelude.{◌≡◌, ◌≤◌, ◌<◌, ◌^◌, length, unsigned_abs};
+ghost use Rattle.ug_rows.specs.Boxes.{interval_at};
+ghost use Rattle.ug_propagate.specs.Rounds.{keep_at_least, keep_at_most, lower_high, raise_low};
+ghost use Rattle.ug_propagate.specs.Steps.{IsTermOf};
+ghost use Rattle.ug_propagate.specs.Cuts.{IsInnerCut, cut_of};
+
+use crate::quotient::{ceiling_div, floor_div};
+use crate::tight::Reason;
+use ug_rows::{Interval, Term};
+
+/// What a bound makes of the interval of a column.
+#[derive(Clone, Copy, Debug)]
+pub enum Cut {
+    /// It is as it was.
+    Whole,
+    /// Nothing is left of it.
+    Nothing,
+    /// This is left of it.
+    To(Interval),
+}
+
+// The column keeps to at most `most`.
+fn cut_below(reason: Reason, column: usize, most: i128, area: &[Interval]) -> Cut
+    requires { column < length area.now }
+    ensures value { cut_of reason column area.now result ≡ lower_high reason column most area.now }
+    ensures inner { IsInnerCut (interval_at area.now column) result }
+{
+    let side = area[column];
+    if i128::from(side.high) <= most {
+        return Cut::Whole;
+    }
+    if most < i128::from(side.low) {
+        return Cut::Nothing;
+    }
+    Cut::To(Interval {
+        low: side.low,
+        high: most as i32,
+    })
+}
+
+// The column keeps to at least `least`.
+fn cut_above(reason: Reason, column: usize, least: i128, area: &[Interval]) -> Cut
+    requires { column < length area.now }
+    ensures value { cut_of reason column area.now result ≡ raise_low reason column least area.now }
+    ensures inner { IsInnerCut (interval_at area.now column) result }
+{
+    let side = area[column];
+    if least <= i128::from(side.low) {
+        return Cut::Whole;
+    }
+    if i128::from(side.high) < least {
+        return Cut::Nothing;
+    }
+    Cut::To(Interval {
+        low: least as i32,
+        high: side.high,
+    })
+}
+
+/// The product of the term and its column keeps to at most `most`.
+#[tactic(auto, using(crate::proofs::Bodies::at_most_cases))]
+pub fn cut_at_most(reason: Reason, term: Term, most: i128, area: &[Interval]) -> Cut
+    requires term { IsTermOf (length area.now) term }
+    requires most { unsigned_abs most ≤ 10 ^ 38 }
+    ensures value { cut_of reason term.column area.now result ≡ keep_at_most reason term.factor term.column most area.now }
+    ensures inner { IsInnerCut (interval_at area.now term.column) result }
+{
+    let column = term.column as usize;
+    if term.factor > 0 {
+        cut_below(reason, column, floor_div(most, term.factor), area)
+    } else {
+        cut_above(reason, column, ceiling_div(most, term.factor), area)
+    }
+}
+
+/// The product of the term and its column keeps to at least `least`.
+#[tactic(auto, using(crate::proofs::Bodies::at_least_cases))]
+pub fn cut_at_least(reason: Reason, term: Term, least: i128, area: &[Interval]) -> Cut
+    requires term { IsTermOf (length area.now) term }
+    requires least { unsigned_abs least ≤ 10 ^ 38 }
+    ensures value { cut_of reason term.column area.now result ≡ keep_at_least reason term.factor term.column least area.now }
+    ensures inner { IsInnerCut (interval_at area.now term.column) result }
+{
+    let column = term.column as usize;
+    if term.factor > 0 {
+        cut_above(reason, column, ceiling_div(least, term.factor), area)
+    } else {
+        cut_below(reason, column, floor_div(least, term.factor), area)
+    }
+}

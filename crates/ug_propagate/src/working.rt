@@ -1,0 +1,242 @@
+//! A working box.
+
+ghost use Rattle.std.specs.Prelude.{◌≡◌, ℕ, [], ◌∷◌, ◌++◌, ◌+◌, ◌*◌, ◌^◌, ◌<◌, ◌≤◌, length, OnOk, OnErr, IfOk};
+ghost use Rattle.ug_problem.specs.Standings.{AreStandings, standing_at};
+ghost use Rattle.ug_rows.specs.Boxes.{interval_at};
+ghost use Rattle.ug_propagate.specs.Awake.{HasBit, IsFound};
+ghost use Rattle.ug_propagate.specs.Cuts.{IsInnerCut, cut_of};
+ghost use Rattle.ug_propagate.specs.Steps.{outcome_of};
+ghost use Rattle.ug_propagate.specs.Running.{IsRunning, extremes_at};
+ghost use Rattle.ug_propagate.specs.Working.{AreAwake, AreFirstReached, AreOnes, AreReached, AreWoken, HasBits, HasChanged, IsBox, IsStep, WokeColumn, reach_at};
+
+use crate::awake::{next, rest, wake};
+use crate::cut::Cut;
+use crate::sums::{Extremes, Sums, measured};
+use crate::tight::Reason;
+use std::alloc::{AllocError, Global};
+use std::marker::Model;
+use ug_problem::{Problem, Standing};
+use ug_rows::{IntBox, Interval};
+
+/// A column that was changed, and what its interval was before.
+#[derive(Clone, Copy, Debug)]
+pub struct Change {
+    pub column: u32,
+    pub before: Interval,
+}
+
+/// A box that is tightened in place, with its running sums, the rows that are awake, and what was changed.
+#[derive(Drop)]
+pub struct Working {
+    sums: Sums,
+    reach: Vec<i128>,
+    awake: Vec<u64>,
+    trail: Vec<Change>,
+}
+
+impl Model for Working {
+    ghost use Rattle.ug_propagate.specs.Working.{WorkState};
+
+    ghost Value = { WorkState };
+
+    ghost view = { λ w. record { sums = w.sums; reach = w.reach.items; awake = w.awake.items; trail = w.trail.items } };
+}
+
+// Wakes the rows of these standings.
+fn wake_rows(standings: &[Standing], awake: &mut [u64])
+    requires { (k : ℕ) → k < length standings.now → (standing_at standings.now k).row < 64 * length awake.old }
+    ensures { AreWoken standings.now awake.old awake.new }
+{
+    for standing in standings {
+        wake(awake, standing.row as usize);
+    }
+}
+
+// Puts what a column was on the trail. After an error the trail is as it was.
+fn note(trail: &mut Vec<Change>, column: u32, before: Interval) -> Result<(), AllocError>
+    ensures ok { OnOk result (trail.new.items ≡ trail.old.items ++ record { column = column; before = before } ∷ []) }
+    ensures err { OnErr result (trail.new.items ≡ trail.old.items) }
+{
+    trail.push(Change { column, before })?;
+    Ok(())
+}
+
+// Wakes the rows of a column.
+fn wake_column(problem: &Problem, column: usize, awake: &mut Vec<u64>)
+    requires there { column < length problem.now.columns }
+    requires bits { HasBits problem.now awake.old.items }
+    ensures { WokeColumn problem.now column awake.old.items awake.new.items }
+{
+    wake_rows(problem.standings(column), awake.as_mut_slice());
+}
+
+// So many words in which each bit is 1.
+#[tactic(auto, using(crate::proofs::Fresh::all_ones))]
+fn ones(alloc: Global, words: usize) -> Result<Vec<u64>, AllocError>
+    ensures { IfOk result (λ awake. AreOnes words awake.items) }
+{
+    let mut awake = Vec::with_capacity(alloc, words)?;
+    for _ in 0..words {
+        awake.push(u64::MAX)?;
+    }
+    Ok(awake)
+}
+
+// The widest spans of the first rows, and that of one row more.
+#[tactic(auto, using(crate::proofs::Fresh::reached_push))]
+fn add_reach(
+    problem: &Problem,
+    area: &[Interval],
+    reach: &mut Vec<i128>,
+    r: usize,
+) -> Result<(), AllocError>
+    requires there { r ≤ length problem.now.rows }
+    requires width { length area.now ≡ length problem.now.columns }
+    requires so_far { AreFirstReached problem.now area.now r reach.old.items }
+    ensures { OnOk result (AreFirstReached problem.now area.now (r + 1) reach.new.items) }
+{
+    let ends = measured(problem, r, area);
+    reach.push(ends.widest)?;
+    Ok(())
+}
+
+// The widest span of each row and of the objective over a box.
+#[tactic(auto, using(crate::proofs::Fresh::reached_whole))]
+fn all_reach(
+    alloc: Global,
+    problem: &Problem,
+    area: &[Interval],
+) -> Result<Vec<i128>, AllocError>
+    requires { length area.now ≡ length problem.now.columns }
+    ensures { IfOk result (λ reach. AreReached problem.now area.now reach.items) }
+{
+    let count = problem.rows().len() + 1;
+    let mut reach = Vec::with_capacity(alloc, count)?;
+    for r in 0..count {
+        add_reach(problem, area, &mut reach, r)?;
+    }
+    Ok(reach)
+}
+
+// A bit for each row and for the objective, all of them 1.
+#[tactic(auto, using(crate::proofs::Fresh::ones_enough))]
+fn all_awake(alloc: Global, problem: &Problem) -> Result<Vec<u64>, AllocError>
+    ensures bits { IfOk result (λ awake. HasBits problem.now awake.items) }
+    ensures awake { IfOk result (λ awake. AreAwake problem.now awake.items) }
+{
+    ones(alloc, problem.rows().len() / 64 + 1)
+}
+
+impl Working {
+    /// The working box of this box, with nothing changed and each row awake.
+    pub fn new(alloc: Global, problem: &Problem, area: &IntBox) -> Result<Working, AllocError>
+        requires { length area.now ≡ length problem.now.columns }
+        ensures area { IfOk result (λ w. w.sums.area ≡ area.now) }
+        ensures work { IfOk result (IsBox problem.now) }
+        ensures awake { IfOk result (λ w. AreAwake problem.now w.awake) }
+        ensures trail { IfOk result (λ w. w.trail ≡ []) }
+    {
+        let sums = Sums::new(alloc, problem, area)?;
+        let reach = all_reach(alloc, problem, sums.sides())?;
+        let awake = all_awake(alloc, problem)?;
+        Ok(Working {
+            sums,
+            reach,
+            awake,
+            trail: Vec::new(alloc),
+        })
+    }
+
+    /// The first row from this one on that is awake.
+    pub fn next(&self, from: usize) -> Option<usize>
+        requires { length self.now.awake ≤ 10 ^ 6 }
+        ensures { IsFound self.now.awake from result }
+    {
+        next(self.awake.as_slice(), from)
+    }
+
+    /// Lets a row rest.
+    pub fn rest(&mut self, r: usize)
+        requires { r < 64 * length self.old.awake }
+        ensures bit { HasBit r 0 self.old.awake self.new.awake }
+        ensures others { self.new ≡ record self.old { awake = self.new.awake } }
+        ensures width { length self.new.awake ≡ length self.old.awake }
+    {
+        rest(self.awake.as_mut_slice(), r);
+    }
+
+    /// The intervals of the box. It takes no memory.
+    pub fn into_sides(self) -> Vec<Interval>
+        ensures { result.items ≡ self.sums.area }
+    {
+        self.sums.into_sides()
+    }
+
+    /// The box.
+    pub fn sides(&self) -> &[Interval]
+        ensures { result.now ≡ self.now.sums.area }
+    {
+        self.sums.sides()
+    }
+
+    /// The sums of row r.
+    pub fn ends(&self, r: usize) -> Extremes
+        requires { r < length self.now.sums.sums }
+        ensures { result ≡ extremes_at self.now.sums.sums r }
+    {
+        self.sums.ends(r)
+    }
+
+    /// The number that no span of a term of row r is above.
+    pub fn reach(&self, r: usize) -> i128
+        requires { r < length self.now.reach }
+        ensures { result ≡ reach_at self.now.reach r }
+    {
+        self.reach[r]
+    }
+
+    /// Gives a column another interval, and wakes its rows. After an error nothing was changed.
+    pub fn change(
+        &mut self,
+        problem: &Problem,
+        column: u32,
+        side: Interval,
+    ) -> Result<(), AllocError>
+        requires there { column < length problem.now.columns }
+        requires sums { IsRunning problem.now self.old.sums }
+        requires bits { HasBits problem.now self.old.awake }
+        ensures ok { OnOk result (HasChanged problem.now column side self.old self.new) }
+        ensures err { OnErr result (self.new ≡ self.old) }
+    {
+        let at = column as usize;
+        note(&mut self.trail, column, self.sums.side(at))?;
+        self.sums.put(problem, at, side);
+        wake_column(problem, at, &mut self.awake);
+        Ok(())
+    }
+
+    /// The box with this left of a column.
+    #[tactic(auto, using(crate::proofs::Stepping::step_same, crate::proofs::Stepping::step_change))]
+    pub fn take(
+        &mut self,
+        problem: &Problem,
+        reason: Reason,
+        column: u32,
+        cut: Cut,
+    ) -> Result<Option<Reason>, AllocError>
+        requires there { column < length problem.now.columns }
+        requires work { IsBox problem.now self.old }
+        requires inner { IsInnerCut (interval_at self.old.sums.area column) cut }
+        ensures step { IsStep problem.now self.old self.new }
+        ensures value { IfOk result (λ told. outcome_of told self.new.sums.area ≡ cut_of reason column self.old.sums.area cut) }
+    {
+        match cut {
+            Cut::Whole => Ok(None),
+            Cut::Nothing => Ok(Some(reason)),
+            Cut::To(side) => {
+                self.change(problem, column, side)?;
+                Ok(None)
+            }
+        }
+    }
+}
