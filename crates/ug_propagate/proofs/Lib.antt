@@ -14,3 +14,4 @@ pub mod Machine
 pub mod Bits
 pub mod Stepping
 pub mod Fresh
+pub mod Waiting

@@ -1,5 +1,5 @@
 -- Running sums, and how they change with one column of the box.
-use Rattle.std.proofs.Common.{◌≡◌, ◌≢◌, refl, sym, subst, ◌∙◌, ap, inl, inr, ℕ, zero, suc, ◌+◌, ◌*◌, ◌^◌, ◌<◌, ◌≤◌, ◌⊎◌, ℤ, pos, ◌+ℤ◌, ◌-ℤ◌, ◌*ℤ◌, unsigned_abs, List, [], ◌∷◌, ◌++◌, length, map, get_or, set, arith}
+use Rattle.std.proofs.Common.{◌≡◌, ◌≢◌, refl, sym, subst, ◌∙◌, ap, inl, inr, ℕ, suc, ◌+◌, ◌*◌, ◌^◌, ◌<◌, ◌≤◌, ◌⊎◌, ℤ, ◌+ℤ◌, ◌-ℤ◌, ◌*ℤ◌, unsigned_abs, List, [], ◌∷◌, ◌++◌, length, set, arith}
 use Rattle.std.proofs.lemmas.Int.{ints}
 use Rattle.std.proofs.lemmas.Bool.{cases_eq}
 use Rattle.std.proofs.lemmas.List.{get_or-set_other, get_or-set_same, get_or-map, get_or_append_left, get_or_at, get_or_push, length_push, length-map, length-set}
@@ -19,7 +19,6 @@ use Rattle.ug_problem.specs.Standings.{AreStandings, standing_at, term_of, terms
 use Rattle.ug_problem.proofs.Linear.{linear_row, linear_objective}
 use Rattle.ug_propagate.specs.declared.sums.Extremes.{Extremes}
 use Rattle.ug_propagate.specs.Running.{AreFirstSums, AreSums, HasMoved, IsSummed, extremes_at, no_extremes}
-use Rattle.ug_propagate.specs.Steps.{HaveSmallColumns}
 use Rattle.ug_propagate.proofs.Rooms.{small_put}
 
 -- the terms of a row
@@ -157,7 +156,7 @@ summed_new width j ts t area side old ends linear among column there small h lea
     let at : t.column < length area = omega (arith, column, there) in
     let before : interval_at area t.column ≡ interval_at area j = ap (λ (c : ℕ). interval_at area c) column in
     let change : (e : Extreme) → end_sum e ts (set area t.column side)
-        ≡ (end_sum e ts area -ℤ (t.factor *ℤ end_of e t.factor (interval_at area j))) +ℤ (t.factor *ℤ end_of e t.factor side) =
+    ≡ (end_sum e ts area -ℤ (t.factor *ℤ end_of e t.factor (interval_at area j))) +ℤ (t.factor *ℤ end_of e t.factor side) =
     λ (e : Extreme). sum_with e width ts t area side linear among
     ∙ ap (λ (v : ℤ). (end_sum e ts area -ℤ end_product e t area) +ℤ v) (product_new e t area side at)
     ∙ ap (λ (s : Interval). (end_sum e ts area -ℤ (t.factor *ℤ end_of e t.factor s)) +ℤ (t.factor *ℤ end_of e t.factor side)) before in
@@ -174,10 +173,13 @@ step_other : (p : Instance) (j : ℕ) (area : List Interval) (side : Interval) (
 step_other p j area side standings i r ends ne (inl passed) =
     inl ((passed.0.0, omega (arith, passed.0.1), passed.0.2), passed.1)
 step_other p j area side standings i r ends ne (inr ahead) =
-    inr ((λ k less. elim (cases_eq k i) [
-      | inl e ↦ λ same. ne (ap (λ (n : ℕ). (standing_at standings n).row) (sym e) ∙ same)
-      | inr other ↦ ahead.0 k (omega arith)
-    ]), ahead.1)
+    inr (
+      (λ k less. elim (cases_eq k i) [
+        | inl e ↦ λ same. ne (ap (λ (n : ℕ). (standing_at standings n).row) (sym e) ∙ same)
+        | inr other ↦ ahead.0 k (omega arith)
+      ]),
+      ahead.1,
+    )
 
 pub shift_step : (p : Instance) (j : ℕ) (area : List Interval) (side : Interval) (standings : List Standing) (i : ℕ)
     (sums new : List Extremes) → IsProblem p → AreStandings p j standings → i < length standings → j < length area
@@ -231,8 +233,8 @@ shift_done p j area side standings r i ends are all there (inl passed) = passed.
 shift_done p j area side standings r i ends are all there (inr ahead) =
     summed_other j (terms_of p r) area side ends
     (λ k within same.
-        let at = are.all r (term_at (terms_of p r) k) (among_at (terms_of p r) k within) same in
-        ahead.0 at.0 (omega (arith, at.1)) at.2)
+    let at = are.all r (term_at (terms_of p r) k) (among_at (terms_of p r) k within) same in
+    ahead.0 at.0 (omega (arith, at.1)) at.2)
     ahead.1
 
 pub shift_ends : (p : Instance) (j : ℕ) (area : List Interval) (side : Interval) (standings : List Standing) (i : ℕ)

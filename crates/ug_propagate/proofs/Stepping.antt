@@ -1,15 +1,14 @@
 -- What a change of one column keeps of a working box.
-use Rattle.std.proofs.Common.{◌≡◌, ◌≢◌, refl, sym, subst, ◌∙◌, ap, inl, inr, ℕ, zero, suc, ◌+◌, ◌*◌, ◌^◌, ◌<◌, ◌≤◌, ℤ, pos, negsuc, ◌+ℤ◌, ◌-ℤ◌, ◌*ℤ◌, ◌≤ℤ◌, List, [], ◌∷◌, ◌++◌, length, get_or, set, Option, append_assoc, arith}
+use Rattle.std.proofs.Common.{◌≡◌, ◌≢◌, refl, sym, subst, ◌∙◌, ap, inl, inr, ℕ, ◌+◌, ◌<◌, ◌≤◌, ℤ, pos, negsuc, ◌-ℤ◌, ◌*ℤ◌, ◌≤ℤ◌, List, [], ◌∷◌, ◌++◌, length, set, Option, append_assoc, arith}
 use Rattle.std.proofs.lemmas.Int.{ints}
 use Rattle.std.proofs.lemmas.Bool.{cases_eq}
 use Rattle.std.proofs.lemmas.List.{append-nil, get_or-set_other, get_or-set_same, set-get_or, set-set}
 use Rattle.ug_rows.specs.declared.area.Interval.{Interval}
 use Rattle.ug_rows.specs.declared.row.Term.{Term}
-use Rattle.ug_rows.specs.declared.sums.Extreme.{Extreme}
 use Rattle.ug_rows.specs.declared.sums.Extreme.TheVariants.{Least, Greatest}
 use Rattle.ug_rows.specs.Boxes.{HasSmallEnds, IsClosedWithin, interval_at, no_interval}
 use Rattle.ug_rows.specs.Rows.{term_at}
-use Rattle.ug_rows.specs.Sums.{end_of, end_product, least_sum, greatest_sum}
+use Rattle.ug_rows.specs.Sums.{end_of}
 use Rattle.ug_rows.proofs.EndBounds.{mul_neg, mul_pos}
 use Rattle.ug_rows.proofs.Replaced.{among_at, sum_without}
 use Rattle.ug_problem.specs.Instances.{Instance}
@@ -19,7 +18,6 @@ use Rattle.ug_propagate.specs.declared.look.Looked.TheVariants.{Same}
 use Rattle.ug_propagate.specs.declared.measure.Room.{Room}
 use Rattle.ug_propagate.specs.declared.working.Change.{Change}
 use Rattle.ug_propagate.specs.declared.tight.Tight.TheVariants.{Kept}
-use Rattle.ug_propagate.specs.Awake.{bit_of}
 use Rattle.ug_propagate.specs.Rounds.{row_step}
 use Rattle.ug_propagate.proofs.Still.{row_within, terms_still}
 use Rattle.ug_propagate.specs.Steps.{IsLookable, IsRoomOf, IsTermOf, high_of, low_of, row_of, span_of}
@@ -29,10 +27,10 @@ undone_append : (area : List Interval) (xs ys : List Change) → undone area (xs
 undone_append area [] ys = refl
 undone_append area (x ∷ xs) ys = ap (λ (a : List Interval). set a x.column x.before) (undone_append area xs ys)
 
-later_same : (work : WorkState) → IsLater work work
+pub later_same : (work : WorkState) → IsLater work work
 later_same work = record { more = []; trail = sym (append-nil work.trail); back = refl }
 
-later_trans : (a b c : WorkState) → IsLater a b → IsLater b c → IsLater a c
+pub later_trans : (a b c : WorkState) → IsLater a b → IsLater b c → IsLater a c
 later_trans a b c h k = record {
   more = h.more ++ k.more;
   trail = k.trail ∙ ap (λ (t : List Change). t ++ k.more) h.trail ∙ append_assoc a.trail h.more k.more;

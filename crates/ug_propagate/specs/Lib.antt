@@ -5,3 +5,4 @@ pub mod Running
 pub mod Awake
 pub mod Cuts
 pub mod Working
+pub mod Waiting

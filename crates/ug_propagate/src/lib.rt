@@ -2,14 +2,12 @@
 //! It stands on ug_rows and ug_problem.
 //! `tighten` gives what 32 rounds leave of a box, as specs/Rounds.antt says; every feasible point of the box
 //! with a value below the cutoff is left, and where nothing is left it names the row that shows it.
-//! It looks at a row once where no term of it can tighten, and keeps the row's sums up where one can; the slow
-//! program that the definition is has the same contract, and is there for tests alone.
+//! The sums of the rows are kept up with each column that changes, and a row that a look would not change waits until
+//! one of its columns does; the slow program that the definition is looks at all rows, and is there for tests alone.
 #![tactic(auto)]
 
 mod awake;
-mod columns;
 mod cut;
-mod fast;
 mod look;
 mod looking;
 mod measure;
@@ -17,7 +15,9 @@ mod measure;
 mod plain;
 mod propagation;
 mod quotient;
+#[cfg(test)]
 mod rounds;
+mod settle;
 mod sums;
 #[cfg(test)]
 mod tests;

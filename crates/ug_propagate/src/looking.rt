@@ -13,9 +13,8 @@ ghost use Rattle.ug_propagate.specs.declared.tight.Side.TheVariants.{High, Low};
 ghost use Rattle.ug_propagate.specs.declared.tight.Tight.TheVariants.{Kept};
 
 use crate::cut::{Cut, cut_at_least, cut_at_most};
-use crate::fast::span;
 use crate::look::{Look, Looked};
-use crate::measure::{Room, minus, plus, product, room_between};
+use crate::measure::{Room, minus, plus, product, room_between, span};
 use crate::tight::{Reason, Side};
 use crate::working::Working;
 use std::alloc::AllocError;

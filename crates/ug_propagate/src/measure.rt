@@ -4,11 +4,11 @@ ghost use Rattle.ug_rows.specs.Rows.{IsLinear};
 ghost use Rattle.ug_rows.specs.Sums.{end_of};
 ghost use Rattle.ug_rows.specs.declared.sums.Extreme.TheVariants.{Least, Greatest};
 ghost use Rattle.ug_propagate.specs.Running.{IsSummed};
-ghost use Rattle.ug_propagate.specs.Steps.{IsMeasured, IsLookable, IsRoomOf, high_of, low_of};
+ghost use Rattle.ug_propagate.specs.Steps.{IsMeasured, IsLookable, IsRoomOf, IsTermOf, high_of, low_of, span_of};
 
 use crate::look::Look;
 use crate::sums::Extremes;
-use ug_rows::{Extreme, Interval, Term, add_end};
+use ug_rows::{Extreme, Interval, Term, add_end, end_at};
 
 /// The least and the greatest sum of a row over a box, and a number that no span of a term is above.
 #[derive(Clone, Copy, Debug)]
@@ -71,6 +71,18 @@ pub fn change(factor: i128, before: i32, after: i32) -> i128
     ensures small { unsigned_abs result ≤ 10 ^ 24 * 2 ^ 32 }
 {
     times(factor, apart(before, after))
+}
+
+/// How far the product of the term goes over the box.
+pub fn span(term: Term, area: &[Interval]) -> i128
+    requires { IsTermOf (length area.now) term }
+    ensures value { result ≡ span_of term area.now }
+    ensures small { unsigned_abs result ≤ 10 ^ 24 * 2 ^ 32 }
+{
+    let side = area[term.column as usize];
+    let near = end_at(Extreme::Least, term.factor, side);
+    let far = end_at(Extreme::Greatest, term.factor, side);
+    change(term.factor, near, far)
 }
 
 /// The product of a term at an end of its column's interval, whose ends are i32 numbers.
@@ -149,20 +161,6 @@ fn low_or_none(low: Option<i128>) -> i128
     match low {
         Some(low) => low,
         None => -NO_SIDE,
-    }
-}
-
-/// The room that the sums leave within the sides of the row.
-pub fn room_within(look: Look, terms: &[Term], ends: Ends, area: &[Interval]) -> Room
-    requires ready { IsLookable (length area.now) look terms.now }
-    requires measured { IsMeasured terms.now area.now ends }
-    requires least { unsigned_abs ends.least ≤ 3 * 10 ^ 37 }
-    requires greatest { unsigned_abs ends.greatest ≤ 3 * 10 ^ 37 }
-    ensures { IsRoomOf look terms.now area.now result }
-{
-    Room {
-        high: minus(high_or_none(look.high), ends.least),
-        low: minus(ends.greatest, low_or_none(look.low)),
     }
 }
 

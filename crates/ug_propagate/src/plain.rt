@@ -1,29 +1,19 @@
-ghost use Rattle.std.specs.Prelude.{◌≡◌, ◌≤◌, ◌*◌, ◌^◌, ◌-ℤ◌, length, unsigned_abs, IfOk};
+ghost use Rattle.std.specs.Prelude.{◌≡◌, ◌<◌, ◌≤◌, ◌*◌, ◌^◌, ◌-ℤ◌, length, unsigned_abs, IfOk};
 ghost use Rattle.ug_rows.specs.Rows.{IsLinear};
-ghost use Rattle.ug_propagate.specs.Claims.{CanTighten, IsTightened};
-ghost use Rattle.ug_propagate.specs.Rounds.{end_of_others, exceeds, falls_short, over_low, over_terms, row_step, term_step, under_high};
-ghost use Rattle.ug_propagate.specs.Steps.{IsLookable, IsTermOf, outcome_of, row_of};
+ghost use Rattle.ug_propagate.specs.Cuts.{cut_of};
+ghost use Rattle.ug_propagate.specs.Claims.{CanTighten};
+ghost use Rattle.ug_propagate.specs.Rounds.{end_of_others, exceeds, falls_short, last_round, over_low, over_terms, rounds, rounds_of, row_step, term_step, under_high};
+ghost use Rattle.ug_propagate.specs.Steps.{IsLookable, IsStill, IsTermOf, looked_of, outcome_of, row_of};
 ghost use Rattle.ug_propagate.specs.declared.tight.Tight.TheVariants.{Kept};
 
-use crate::columns::{product_above, product_below};
-use crate::look::{Look, Looked, RowRule};
-use crate::propagation::tighten_by;
+use crate::cut::{Cut, cut_at_least, cut_at_most};
+use crate::look::{Look, Looked};
+use crate::propagation::told_of_crossed;
+use crate::rounds::run_all;
 use crate::tight::{Reason, Side, Tight};
 use std::alloc::{AllocError, Global};
 use ug_problem::Problem;
-use ug_rows::{Extreme, IntBox, Interval, Term, add_end, sum_of_ends};
-
-/// The rule as it is defined: each sum is taken anew for each term, and no look ends early.
-pub struct Plain;
-
-impl RowRule for Plain {
-    fn look(look: Look, terms: &[Term], area: &mut [Interval]) -> Looked {
-        match tighten_row(look, terms, area) {
-            Some(reason) => Looked::Emptied(reason),
-            None => Looked::Changed,
-        }
-    }
-}
+use ug_rows::{Extreme, IntBox, Interval, Term, add_end, has_point, sum_of_ends};
 
 // The least or the greatest sum of the other terms.
 #[tactic(auto, using(crate::proofs::Bodies::sizes))]
@@ -49,6 +39,21 @@ fn less_others(extreme: Extreme, side: i128, terms: &[Term], term: Term, sides: 
     side - ends_of_others(extreme, terms, term, sides)
 }
 
+// The box with this left of a column.
+fn put(reason: Reason, column: usize, cut: Cut, area: &mut [Interval]) -> Option<Reason>
+    requires { column < length area.old }
+    ensures { outcome_of result area.new ≡ cut_of reason column area.old cut }
+{
+    match cut {
+        Cut::Whole => None,
+        Cut::Nothing => Some(reason),
+        Cut::To(side) => {
+            area[column] = side;
+            None
+        }
+    }
+}
+
 fn tighten_under_high(
     look: Look,
     terms: &[Term],
@@ -67,7 +72,8 @@ fn tighten_under_high(
         row: look.row,
         side: Side::High,
     };
-    product_below(reason, term, most, area)
+    let cut = cut_at_most(reason, term, most, area);
+    put(reason, term.column as usize, cut, area)
 }
 
 fn tighten_over_low(look: Look, terms: &[Term], term: Term, area: &mut [Interval]) -> Option<Reason>
@@ -83,7 +89,8 @@ fn tighten_over_low(look: Look, terms: &[Term], term: Term, area: &mut [Interval
         row: look.row,
         side: Side::Low,
     };
-    product_above(reason, term, least, area)
+    let cut = cut_at_least(reason, term, least, area);
+    put(reason, term.column as usize, cut, area)
 }
 
 // One term: its column is tightened under the high side, then under the low side.
@@ -148,7 +155,37 @@ fn tighten_row(look: Look, terms: &[Term], area: &mut [Interval]) -> Option<Reas
     tighten_terms(look, terms, area)
 }
 
+/// The look at a row as it is defined: each sum is taken anew for each term, and no look ends early.
+pub fn look_at_row(look: Look, terms: &[Term], area: &mut [Interval]) -> Looked
+    requires { IsLookable (length area.old) look terms.now }
+    ensures value { looked_of result area.new ≡ row_step look.row (row_of look terms.now) area.old }
+    ensures still { IsStill result area.old area.new }
+{
+    match tighten_row(look, terms, area) {
+        Some(reason) => Looked::Emptied(reason),
+        None => Looked::Changed,
+    }
+}
+
+// The rounds of a box that has a point.
+fn tighten_sides(
+    alloc: Global,
+    problem: &Problem,
+    cutoff: Option<i128>,
+    area: &[Interval],
+) -> Result<Tight, AllocError>
+    requires { CanTighten problem.now cutoff area.now }
+    ensures { IfOk result (λ t. t ≡ last_round problem.now cutoff (rounds_of 32 problem.now cutoff (Kept area.now))) }
+{
+    let mut sides = Vec::from_slice(alloc, area)?;
+    match run_all(problem, cutoff, sides.as_mut_slice()) {
+        Some(reason) => Ok(Tight::Empty(reason)),
+        None => Ok(Tight::Kept(IntBox::from_vec(sides))),
+    }
+}
+
 /// What bound propagation makes of a box, by the slow program that the definition is.
+#[tactic(auto, using(crate::proofs::Bodies::rounds_some, crate::proofs::Bodies::rounds_none))]
 pub fn tighten_plain(
     alloc: Global,
     problem: &Problem,
@@ -156,7 +193,12 @@ pub fn tighten_plain(
     area: &IntBox,
 ) -> Result<Tight, AllocError>
     requires { CanTighten problem.now cutoff area.now }
-    ensures { IfOk result (IsTightened problem.now cutoff area.now) }
+    ensures { IfOk result (λ t. t ≡ rounds problem.now cutoff area.now) }
 {
-    tighten_by::<Plain>(alloc, problem, cutoff, area)
+    let sides = area.as_slice();
+    if has_point(sides) {
+        tighten_sides(alloc, problem, cutoff, sides)
+    } else {
+        told_of_crossed(alloc, problem.rows(), cutoff, sides)
+    }
 }

@@ -4,16 +4,15 @@ ghost use Rattle.ug_propagate.specs.Claims.{CanTighten, IsTightened};
 ghost use Rattle.ug_propagate.specs.Rounds.{crossed, last_round, rounds, rounds_of};
 ghost use Rattle.ug_propagate.specs.declared.tight.Tight.TheVariants.{Kept};
 
-use crate::fast::Fast;
-use crate::look::RowRule;
-use crate::rounds::run_all;
+use crate::settle::settle;
 use crate::tight::{Reason, Side, Tight};
+use crate::working::Working;
 use std::alloc::{AllocError, Global};
 use ug_problem::{NamedRow, Problem};
 use ug_rows::{IntBox, Interval, has_point};
 
-// What is said of a box without points: the row that is looked at first, if there is one.
-fn told_of_crossed(
+/// What is said of a box without points: the row that is looked at first, if there is one.
+pub fn told_of_crossed(
     alloc: Global,
     rows: &[NamedRow],
     cutoff: Option<i128>,
@@ -33,52 +32,39 @@ fn told_of_crossed(
 }
 
 // The rounds of a box that has a point.
-fn tighten_sides<R: RowRule>(
-    alloc: Global,
-    problem: &Problem,
-    cutoff: Option<i128>,
-    area: &[Interval],
-) -> Result<Tight, AllocError>
-    requires { CanTighten problem.now cutoff area.now }
-    ensures { IfOk result (λ t. t ≡ last_round problem.now cutoff (rounds_of 32 problem.now cutoff (Kept area.now))) }
-{
-    let mut sides = Vec::from_slice(alloc, area)?;
-    match run_all::<R>(problem, cutoff, sides.as_mut_slice()) {
-        Some(reason) => Ok(Tight::Empty(reason)),
-        None => Ok(Tight::Kept(IntBox::from_vec(sides))),
-    }
-}
-
-#[tactic(auto, using(crate::proofs::Bodies::rounds_some, crate::proofs::Bodies::rounds_none))]
-fn tighten_area<R: RowRule>(
-    alloc: Global,
-    problem: &Problem,
-    cutoff: Option<i128>,
-    area: &[Interval],
-) -> Result<Tight, AllocError>
-    requires { CanTighten problem.now cutoff area.now }
-    ensures problem { IsProblem problem.now }
-    ensures value { IfOk result (λ t. t ≡ rounds problem.now cutoff area.now) }
-{
-    let rows = problem.rows();
-    if has_point(area) {
-        tighten_sides::<R>(alloc, problem, cutoff, area)
-    } else {
-        told_of_crossed(alloc, rows, cutoff, area)
-    }
-}
-
-/// What bound propagation makes of a box by a rule for rows, for points with a value below the cutoff.
-pub fn tighten_by<R: RowRule>(
+fn tighten_sides(
     alloc: Global,
     problem: &Problem,
     cutoff: Option<i128>,
     area: &IntBox,
 ) -> Result<Tight, AllocError>
     requires { CanTighten problem.now cutoff area.now }
-    ensures { IfOk result (IsTightened problem.now cutoff area.now) }
+    ensures { IfOk result (λ t. t ≡ last_round problem.now cutoff (rounds_of 32 problem.now cutoff (Kept area.now))) }
 {
-    tighten_area::<R>(alloc, problem, cutoff, area.as_slice())
+    let mut work = Working::new(alloc, problem, area)?;
+    match settle(&mut work, problem, cutoff)? {
+        Some(reason) => Ok(Tight::Empty(reason)),
+        None => Ok(Tight::Kept(IntBox::from_vec(work.into_sides()))),
+    }
+}
+
+#[tactic(auto, using(crate::proofs::Bodies::rounds_some, crate::proofs::Bodies::rounds_none))]
+fn tighten_area(
+    alloc: Global,
+    problem: &Problem,
+    cutoff: Option<i128>,
+    area: &IntBox,
+) -> Result<Tight, AllocError>
+    requires { CanTighten problem.now cutoff area.now }
+    ensures problem { IsProblem problem.now }
+    ensures value { IfOk result (λ t. t ≡ rounds problem.now cutoff area.now) }
+{
+    let rows = problem.rows();
+    if has_point(area.as_slice()) {
+        tighten_sides(alloc, problem, cutoff, area)
+    } else {
+        told_of_crossed(alloc, rows, cutoff, area.as_slice())
+    }
 }
 
 /// What bound propagation makes of a box, for points with a value below the cutoff.
@@ -91,5 +77,5 @@ pub fn tighten(
     requires { CanTighten problem.now cutoff area.now }
     ensures { IfOk result (IsTightened problem.now cutoff area.now) }
 {
-    tighten_by::<Fast>(alloc, problem, cutoff, area)
+    tighten_area(alloc, problem, cutoff, area)
 }

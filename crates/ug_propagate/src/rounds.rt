@@ -1,10 +1,13 @@
+//! The rounds as they are defined: each looks at all rows. They are there for tests alone.
+
 ghost use Rattle.std.specs.Prelude.{◌≡◌, ◌≤◌, ◌*◌, ◌^◌, ◌↔◌, length, unsigned_abs, IfSome, IsTrue};
 ghost use Rattle.ug_propagate.specs.Rounds.{last_round, over_objective, over_rows, round, rounds_of};
 ghost use Rattle.ug_propagate.specs.Claims.{CanTighten};
 ghost use Rattle.ug_propagate.specs.Steps.{IsStill, looked_of, outcome_of};
 ghost use Rattle.ug_propagate.specs.declared.tight.Tight.TheVariants.{Kept};
 
-use crate::look::{Look, Looked, RowRule};
+use crate::look::{Look, Looked};
+use crate::plain::look_at_row;
 use crate::tight::Reason;
 use ug_problem::Problem;
 use ug_rows::{Interval, is_fixed};
@@ -13,7 +16,7 @@ const MOST_ROUNDS: u32 = 32;
 
 // The rows in order.
 #[tactic(auto, using(crate::proofs::Bodies::ready_row, crate::proofs::Fixed::empty_rows))]
-fn tighten_rows<R: RowRule>(problem: &Problem, area: &mut [Interval]) -> Looked
+fn tighten_rows(problem: &Problem, area: &mut [Interval]) -> Looked
     requires { length area.old ≡ length problem.now.columns }
     ensures value { looked_of result area.new ≡ over_rows 0 problem.now.rows (Kept area.old) }
     ensures still { IsStill result area.old area.new }
@@ -26,7 +29,7 @@ fn tighten_rows<R: RowRule>(problem: &Problem, area: &mut [Interval]) -> Looked
             low: named.row.low,
             high: named.row.high,
         };
-        match R::look(look, named.row.terms.as_slice(), area) {
+        match look_at_row(look, named.row.terms.as_slice(), area) {
             Looked::Emptied(reason) => return Looked::Emptied(reason),
             Looked::Changed => changed = true,
             Looked::Same => {}
@@ -41,11 +44,7 @@ fn tighten_rows<R: RowRule>(problem: &Problem, area: &mut [Interval]) -> Looked
 
 // The objective, where there is a cutoff.
 #[tactic(auto, using(crate::proofs::Bodies::ready_objective))]
-fn tighten_objective<R: RowRule>(
-    problem: &Problem,
-    cutoff: Option<i128>,
-    area: &mut [Interval],
-) -> Looked
+fn tighten_objective(problem: &Problem, cutoff: Option<i128>, area: &mut [Interval]) -> Looked
     requires { CanTighten problem.now cutoff area.old }
     ensures value { looked_of result area.new ≡ over_objective problem.now.objective cutoff (Kept area.old) }
     ensures still { IsStill result area.old area.new }
@@ -59,20 +58,20 @@ fn tighten_objective<R: RowRule>(
         low: None,
         high: Some(cutoff - 1 - objective.constant),
     };
-    R::look(look, objective.terms.as_slice(), area)
+    look_at_row(look, objective.terms.as_slice(), area)
 }
 
 // One round: the rows, then the objective.
 #[tactic(auto, using(crate::proofs::Bodies::round_empty, crate::proofs::Bodies::round_kept))]
-fn run_round<R: RowRule>(problem: &Problem, cutoff: Option<i128>, area: &mut [Interval]) -> Looked
+fn run_round(problem: &Problem, cutoff: Option<i128>, area: &mut [Interval]) -> Looked
     requires { CanTighten problem.now cutoff area.old }
     ensures value { looked_of result area.new ≡ round problem.now cutoff (Kept area.old) }
     ensures still { IsStill result area.old area.new }
 {
-    match tighten_rows::<R>(problem, area) {
+    match tighten_rows(problem, area) {
         Looked::Emptied(reason) => Looked::Emptied(reason),
-        Looked::Same => tighten_objective::<R>(problem, cutoff, area),
-        Looked::Changed => match tighten_objective::<R>(problem, cutoff, area) {
+        Looked::Same => tighten_objective(problem, cutoff, area),
+        Looked::Changed => match tighten_objective(problem, cutoff, area) {
             Looked::Emptied(reason) => Looked::Emptied(reason),
             _ => Looked::Changed,
         },
@@ -80,16 +79,12 @@ fn run_round<R: RowRule>(problem: &Problem, cutoff: Option<i128>, area: &mut [In
 }
 
 // At most 32 rounds, until one changes nothing.
-fn run_rounds<R: RowRule>(
-    problem: &Problem,
-    cutoff: Option<i128>,
-    area: &mut [Interval],
-) -> Option<Reason>
+fn run_rounds(problem: &Problem, cutoff: Option<i128>, area: &mut [Interval]) -> Option<Reason>
     requires { CanTighten problem.now cutoff area.old }
     ensures { outcome_of result area.new ≡ rounds_of 32 problem.now cutoff (Kept area.old) }
 {
     for i in 0..MOST_ROUNDS {
-        match run_round::<R>(problem, cutoff, area) {
+        match run_round(problem, cutoff, area) {
             Looked::Emptied(reason) => return Some(reason),
             Looked::Same => return None,
             Looked::Changed => {}
@@ -100,16 +95,12 @@ fn run_rounds<R: RowRule>(
 
 // One more round, where all columns are fixed.
 #[tactic(auto, using(crate::proofs::Bodies::last_fixed, crate::proofs::Bodies::last_open))]
-fn run_last<R: RowRule>(
-    problem: &Problem,
-    cutoff: Option<i128>,
-    area: &mut [Interval],
-) -> Option<Reason>
+fn run_last(problem: &Problem, cutoff: Option<i128>, area: &mut [Interval]) -> Option<Reason>
     requires { CanTighten problem.now cutoff area.old }
     ensures { outcome_of result area.new ≡ last_round problem.now cutoff (Kept area.old) }
 {
     if is_fixed(area) {
-        match run_round::<R>(problem, cutoff, area) {
+        match run_round(problem, cutoff, area) {
             Looked::Emptied(reason) => Some(reason),
             _ => None,
         }
@@ -119,16 +110,12 @@ fn run_last<R: RowRule>(
 }
 
 /// At most 32 rounds, and one more where all columns are fixed.
-pub fn run_all<R: RowRule>(
-    problem: &Problem,
-    cutoff: Option<i128>,
-    area: &mut [Interval],
-) -> Option<Reason>
+pub fn run_all(problem: &Problem, cutoff: Option<i128>, area: &mut [Interval]) -> Option<Reason>
     requires { CanTighten problem.now cutoff area.old }
     ensures { outcome_of result area.new ≡ last_round problem.now cutoff (rounds_of 32 problem.now cutoff (Kept area.old)) }
 {
-    if let Some(reason) = run_rounds::<R>(problem, cutoff, area) {
+    if let Some(reason) = run_rounds(problem, cutoff, area) {
         return Some(reason);
     }
-    run_last::<R>(problem, cutoff, area)
+    run_last(problem, cutoff, area)
 }

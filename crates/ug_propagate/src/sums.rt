@@ -114,13 +114,7 @@ fn shift_row(sums: &mut [Extremes], standing: Standing, before: Interval, after:
 }
 
 // Brings the sums to the box in which a column has another interval. It touches the rows of the column alone.
-fn shift(
-    problem: &Problem,
-    column: usize,
-    area: &[Interval],
-    side: Interval,
-    sums: &mut [Extremes],
-)
+fn shift(problem: &Problem, column: usize, area: &[Interval], side: Interval, sums: &mut [Extremes])
     requires there { column < length area.now }
     requires sums { AreSums problem.now area.now sums.old }
     ensures { AreSums problem.now (slice_set area.now column side) sums.new }
@@ -189,7 +183,7 @@ pub struct Sums {
 
 impl Model for Sums {
     ghost use Rattle.ug_propagate.specs.Steps.{IsMeasured};
-ghost use Rattle.ug_propagate.specs.Running.{SumsState};
+    ghost use Rattle.ug_propagate.specs.Running.{SumsState};
 
     ghost Value = { SumsState };
 

@@ -102,11 +102,7 @@ fn add_reach(
 
 // The widest span of each row and of the objective over a box.
 #[tactic(auto, using(crate::proofs::Fresh::reached_whole))]
-fn all_reach(
-    alloc: Global,
-    problem: &Problem,
-    area: &[Interval],
-) -> Result<Vec<i128>, AllocError>
+fn all_reach(alloc: Global, problem: &Problem, area: &[Interval]) -> Result<Vec<i128>, AllocError>
     requires { length area.now ≡ length problem.now.columns }
     ensures { IfOk result (λ reach. AreReached problem.now area.now reach.items) }
 {

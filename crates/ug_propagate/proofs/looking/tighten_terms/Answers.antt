@@ -1,6 +1,6 @@
 use Rattle.std.proofs.Common.{◌≡◌, ◌∙◌, ◌+◌, subst, sym, true, false}
 use Rattle.ug_propagate.specs.declared.look.Looked.{Looked}
-use Rattle.ug_propagate.specs.declared.look.Looked.TheVariants.{Same, Changed}
+use Rattle.ug_propagate.specs.declared.look.Looked.TheVariants.{Same}
 use Rattle.ug_propagate.specs.declared.measure.Room.{Room}
 use Rattle.ug_propagate.specs.Rounds.{term_step}
 use Rattle.ug_propagate.specs.Steps.{IsRoomOf, looked_of, row_of}
@@ -43,12 +43,12 @@ loop-term-preserved c =
     let Q : Room → Type 0 = λ (r : Room). IsRoomOf c.args.look c.args.terms.now new.sums.area r in
     elim c.match-branch-2.branch [
       | in-Changed w ↦ record {
-          step = step;
-          so_far = terms_go c.args.look.row row c.args.terms.now c.loop-term.term-index mid.sums.area new.sums.area _
-              c.loop-term-test.true (subst P w.in-Changed.is c.in_ok-reason.ensures.value) c.loop-term.invariant.so_far;
-          room = subst Q (sym w.now-is) w.room_of-now.ensures;
-          same = λ e. absurd (let h : true ≡ false = sym w.changed-is ∙ e in cc);
-        }
+        step = step;
+        so_far = terms_go c.args.look.row row c.args.terms.now c.loop-term.term-index mid.sums.area new.sums.area _
+            c.loop-term-test.true (subst P w.in-Changed.is c.in_ok-reason.ensures.value) c.loop-term.invariant.so_far;
+        room = subst Q (sym w.now-is) w.room_of-now.ensures;
+        same = λ e. absurd (let h : true ≡ false = sym w.changed-is ∙ e in cc);
+      }
       | in-Same w ↦
           let same : new ≡ mid = subst (λ (l : Looked). IsSame l mid new) w.in-Same.is c.in_ok-reason.ensures.same in
           let fits : FitsWhereSame Same here mid.sums.area c.loop-term.now =

@@ -1,7 +1,6 @@
-use Rattle.std.proofs.Common.{◌≡◌, ℕ, ◌<◌, ◌≤ℤ◌, drop, false}
-use Rattle.ug_rows.specs.Rows.{term_at}
+use Rattle.std.proofs.Common.{◌≡◌, drop, false}
 use Rattle.ug_propagate.specs.Rounds.{over_terms}
-use Rattle.ug_propagate.specs.Steps.{IsRoomOf, row_of, span_of}
+use Rattle.ug_propagate.specs.Steps.{IsRoomOf, row_of}
 use Rattle.ug_propagate.specs.Working.{IsStep}
 use Rattle.ug_propagate.specs.declared.tight.Tight.TheVariants.{Kept}
 use Rattle.ug_propagate.proofs.Stepping.{IsUnchanged}

@@ -4,4 +4,4 @@ use Rattle.ug_propagate.specs.declared.tight.Tight.TheVariants.{Kept}
 use Rattle.ug_propagate.proofs.rounds.run_rounds.Given as goal
 
 abbrev pub invariant-loop-i : goal.invariant-loop-i
-invariant-loop-i g l = rounds_of (32 - l.i) l.problem l.cutoff (Kept l.area) ≡ rounds_of 32 l.problem l.cutoff (Kept l.fn.area)
+invariant-loop-i l = rounds_of (32 - l.i) l.problem l.cutoff (Kept l.area) ≡ rounds_of 32 l.problem l.cutoff (Kept l.fn.area)

@@ -9,7 +9,7 @@ use Rattle.ug_propagate.proofs.Bodies.{item_is, rows_stop}
 use Rattle.ug_propagate.proofs.rounds.tighten_rows.Goals as goal
 
 pub returns-in-Emptied-clause-value : goal.returns-in-Emptied-clause-value
-returns-in-Emptied-clause-value g c =
+returns-in-Emptied-clause-value c =
     let item : NamedRow = c.index-rows-r.result in
     let step : Row → Tight = λ (row : Row). row_step (Some c.loop-r.r) row c.loop-r.area in
     let with_terms : List Term → Row = λ (ts : List Term). record { terms = ts; low = item.row.low; high = item.row.high } in

@@ -1,7 +1,6 @@
 use Rattle.std.proofs.Common.{ℕ, List, length, subst, sym}
 use Rattle.ug_rows.specs.declared.row.Term.{Term}
 use Rattle.ug_rows.specs.Rows.{IsLinear}
-use Rattle.ug_problem.specs.Standings.{terms_of}
 use Rattle.ug_propagate.proofs.Running.{linear_terms}
 use Rattle.ug_propagate.proofs.sums.measured.Goals as goal
 

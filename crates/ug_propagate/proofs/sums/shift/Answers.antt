@@ -1,4 +1,4 @@
-use Rattle.std.proofs.Common.{length, arith}
+use Rattle.std.proofs.Common.{arith}
 use Rattle.ug_propagate.proofs.Running.{next_ready, shift_ends, shift_step}
 use Rattle.ug_propagate.proofs.sums.shift.Goals as goal
 
