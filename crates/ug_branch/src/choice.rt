@@ -23,9 +23,9 @@ pub fn choose(params: Params, area: &IntBox) -> Option<Branch>
     branch_of(params, area.as_slice())
 }
 
-// Where to halve the box with these intervals.
+/// The same of the box with these intervals.
 #[tactic(auto, using(crate::proofs::ChoiceLemmas::is_chosen, crate::proofs::ChoiceLemmas::is_not_fixed))]
-fn branch_of(params: Params, sides: &[Interval]) -> Option<Branch>
+pub fn branch_of(params: Params, sides: &[Interval]) -> Option<Branch>
     requires { length sides.now ≤ 10 ^ 4 }
     ensures none { IsNone result ↔ HasNoneOpen sides.now }
     ensures chosen { IfSome result (IsChosen params sides.now) }

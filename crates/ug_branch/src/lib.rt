@@ -8,5 +8,5 @@
 mod choice;
 mod params;
 
-pub use choice::{Branch, choose};
+pub use choice::{Branch, branch_of, choose};
 pub use params::{End, Half, Params, Pick};

@@ -1,6 +1,6 @@
 -- A working box as it is made: how far each row reaches, and all rows awake.
-use Rattle.std.proofs.Common.{◌≡◌, sym, subst, ◌∙◌, ap, inl, inr, ℕ, ◌+◌, ◌-◌, ◌/◌, ◌%◌, ◌^◌, ◌<◌, ℤ, pos, ◌≤ℤ◌, List, [], ◌∷◌, ◌++◌, length, get_or, arith}
-use Rattle.std.proofs.lemmas.Bool.{cases_eq}
+use Rattle.std.proofs.Common.{Option, replicate, ◌≡◌, sym, subst, ◌∙◌, ap, inl, inr, ℕ, ◌+◌, ◌-◌, ◌/◌, ◌%◌, ◌^◌, ◌<◌, ℤ, pos, ◌≤ℤ◌, List, [], ◌∷◌, ◌++◌, length, get_or, arith}
+use Rattle.std.proofs.lemmas.Bool.{cases_eq, cases_lt}
 use Rattle.std.proofs.lemmas.List.{get_or_append_left, get_or_push, get_or-replicate, length-replicate, length_push, replicate_more}
 use Rattle.std.proofs.lemmas.Nat.Bits.{bit_at_ones}
 use Rattle.std.specs.Int.{bit_at}
@@ -11,7 +11,11 @@ use Rattle.ug_problem.specs.Limits.{IsProblem}
 use Rattle.ug_problem.specs.Standings.{terms_of}
 use Rattle.ug_propagate.specs.declared.measure.Ends.{Ends}
 use Rattle.ug_propagate.specs.Steps.{IsMeasured, span_of}
-use Rattle.ug_propagate.specs.Working.{AreAwake, AreFirstReached, AreOnes, AreReached, HasBits, reach_at}
+use Rattle.ug_propagate.specs.Working.{AllRest, AreResting, IsAtRest, look_for, AreAwake, AreFirstReached, AreOnes, AreReached, HasBits, reach_at}
+use Rattle.ug_propagate.specs.Awake.{HasBit, bit_of}
+use Rattle.ug_propagate.specs.declared.resting.Rest.TheVariants.{Under}
+use Rattle.ug_propagate.specs.declared.look.Look.{Look}
+use Rattle.ug_propagate.proofs.Waiting.{look_inner}
 
 pub all_ones : (n : ℕ) (awake : List ℕ) → AreOnes n awake → AreOnes (n + 1) (awake ++ (2 ^ 64 - 1) ∷ [])
 all_ones n awake h = ap (λ (xs : List ℕ). xs ++ (2 ^ 64 - 1) ∷ []) h ∙ replicate_more n (2 ^ 64 - 1)
@@ -59,3 +63,32 @@ ones_awake p words awake e h r there =
     ∙ bit_at_ones 64 (r % 64) (omega arith)
 
 pub ruleset ones_enough = (ones_bits, ones_awake)
+
+not_zero : (b : ℕ) → b ≡ 1 → b ≡ 0 → ⊥
+not_zero b e f = omega arith
+
+-- where each bit is 1, each row that is not awake is at rest
+pub ones_resting : (p : Instance) (cutoff : Option ℤ) (area : List Interval) (old awake : List ℕ) → HasBits p old
+    → awake ≡ replicate (length old) (2 ^ 64 - 1) → AreResting p cutoff area awake
+ones_resting p cutoff area old awake bits same r there asleep =
+    let word : get_or awake (r / 64) 0 ≡ 2 ^ 64 - 1 =
+    ap (λ (xs : List ℕ). get_or xs (r / 64) 0) same ∙ get_or-replicate (length old) (r / 64) (2 ^ 64 - 1) 0 (omega (arith, bits.enough)) in
+    let one : bit_of awake r ≡ 1 = ap (λ (w : ℕ). bit_at w (r % 64)) word ∙ bit_at_ones 64 (r % 64) (omega arith) in
+    absurd (not_zero (bit_of awake r) one asleep)
+
+-- where the rows were at rest under another cutoff, all but the objective are so under this
+pub others_resting : (p : Instance) (under cutoff : Option ℤ) (area : List Interval) (mid awake : List ℕ)
+    → AllRest p (Under under) area → HasBit (length p.rows) 1 mid awake → AreResting p cutoff area awake
+others_resting p under cutoff area mid awake rest bit r there asleep = elim (cases_lt r (length p.rows)) [
+  | inl inner ↦
+      let same : look_for p under r ≡ look_for p cutoff r = look_inner p under r inner ∙ sym (look_inner p cutoff r inner) in
+      subst (λ (look : Look). IsAtRest look (terms_of p r) area) same (rest r there)
+  | inr last ↦
+      let e : r ≡ length p.rows = omega arith in
+      absurd (not_zero (bit_of awake r) (ap (λ (n : ℕ). bit_of awake n) e ∙ bit.here) asleep)
+]
+
+pub same_resting : (p : Instance) (under cutoff : Option ℤ) (area : List Interval) (awake : List ℕ)
+    → AllRest p (Under under) area → under ≡ cutoff → AreResting p cutoff area awake
+same_resting p under cutoff area awake rest same r there asleep =
+    subst (λ (c : Option ℤ). IsAtRest (look_for p c r) (terms_of p r) area) same (rest r there)

@@ -15,3 +15,4 @@ pub mod Bits
 pub mod Stepping
 pub mod Fresh
 pub mod Waiting
+pub mod Objectives

@@ -115,7 +115,7 @@ pub record IsReady (standing : Standing) (sums : List Extremes) : Type 0 where
   pub greatest : unsigned_abs (extremes_at sums standing.row).greatest ≤ 3 * 10 ^ 37
   pub factor : unsigned_abs standing.factor ≤ 10 ^ 24
 
-among_small : (width : ℕ) (ts : List Term) (t : Term) → ((k : ℕ) → k < length ts → unsigned_abs (term_at ts k).factor ≤ 10 ^ 24)
+pub among_small : (width : ℕ) (ts : List Term) (t : Term) → ((k : ℕ) → k < length ts → unsigned_abs (term_at ts k).factor ≤ 10 ^ 24)
     → IsAmong t ts → unsigned_abs t.factor ≤ 10 ^ 24
 among_small width [] t small among = absurd among
 among_small width (u ∷ ts) t small (inl same) = subst (λ (v : Term). unsigned_abs v.factor ≤ 10 ^ 24) (sym same) (small 0 (omega arith))
@@ -146,7 +146,7 @@ gained : (least sum old new next : ℤ) → next ≡ least +ℤ (new -ℤ old) �
 gained least sum old new next e same = omega (arith, ints)
 
 -- a row with a term of the column has its new sums
-summed_new : (width j : ℕ) (ts : List Term) (t : Term) (area : List Interval) (side : Interval) (old ends : Extremes)
+pub summed_new : (width j : ℕ) (ts : List Term) (t : Term) (area : List Interval) (side : Interval) (old ends : Extremes)
     → IsLinear width ts → IsAmong t ts → t.column ≡ j → j < length area → HasSmallEnds side → IsSummed ts area old
     → ends.least ≡ old.least +ℤ ((t.factor *ℤ end_of Least t.factor side) -ℤ (t.factor *ℤ end_of Least t.factor (interval_at area j)))
     → ends.greatest ≡ old.greatest +ℤ ((t.factor *ℤ end_of Greatest t.factor side) -ℤ (t.factor *ℤ end_of Greatest t.factor (interval_at area j)))
@@ -215,7 +215,7 @@ shift_step p j area side standings i sums new problem are there at moved h =
     }
 
 -- a row without a term of the column has the sums that it had
-summed_other : (j : ℕ) (ts : List Term) (area : List Interval) (side : Interval) (ends : Extremes)
+pub summed_other : (j : ℕ) (ts : List Term) (area : List Interval) (side : Interval) (ends : Extremes)
     → ((k : ℕ) → k < length ts → (term_at ts k).column ≢ j) → IsSummed ts area ends → IsSummed ts (set area j side) ends
 summed_other j ts area side ends other h = record {
   small = λ k there.

@@ -1,18 +1,21 @@
 -- What a change of one column keeps of a working box.
-use Rattle.std.proofs.Common.{◌≡◌, ◌≢◌, refl, sym, subst, ◌∙◌, ap, inl, inr, ℕ, ◌+◌, ◌<◌, ◌≤◌, ℤ, pos, negsuc, ◌-ℤ◌, ◌*ℤ◌, ◌≤ℤ◌, List, [], ◌∷◌, ◌++◌, length, set, Option, append_assoc, arith}
+use Rattle.std.proofs.Common.{◌≡◌, ◌≢◌, refl, sym, subst, ◌∙◌, ap, inl, inr, ℕ, ◌+◌, ◌<◌, ◌≤◌, ℤ, pos, negsuc, ◌-ℤ◌, ◌*ℤ◌, ◌≤ℤ◌, List, [], ◌∷◌, ◌++◌, length, take, drop, set, Option, append_assoc, arith}
 use Rattle.std.proofs.lemmas.Int.{ints}
 use Rattle.std.proofs.lemmas.Bool.{cases_eq}
-use Rattle.std.proofs.lemmas.List.{append-nil, get_or-set_other, get_or-set_same, set-get_or, set-set}
+use Rattle.std.proofs.lemmas.List.{append-nil, drop_all, drop-append-le, get_or-set_other, get_or-set_same, length-set, length_push, set-get_or, set-set, take_all, take-append-le}
+use Rattle.std.proofs.lemmas.List.Elements.{All-append, All-cons, All-nil, All-take}
 use Rattle.ug_rows.specs.declared.area.Interval.{Interval}
 use Rattle.ug_rows.specs.declared.row.Term.{Term}
 use Rattle.ug_rows.specs.declared.sums.Extreme.TheVariants.{Least, Greatest}
-use Rattle.ug_rows.specs.Boxes.{HasSmallEnds, IsClosedWithin, interval_at, no_interval}
+use Rattle.ug_rows.specs.Boxes.{HasSmallEnds, IsBelow, IsClosedWithin, interval_at, no_interval}
 use Rattle.ug_rows.specs.Rows.{term_at}
 use Rattle.ug_rows.specs.Sums.{end_of}
 use Rattle.ug_rows.proofs.EndBounds.{mul_neg, mul_pos}
 use Rattle.ug_rows.proofs.Replaced.{among_at, sum_without}
 use Rattle.ug_problem.specs.Instances.{Instance}
+use Rattle.ug_problem.specs.Limits.{IsProblem}
 use Rattle.ug_problem.specs.Standings.{terms_of}
+use Rattle.ug_propagate.proofs.Running.{linear_terms}
 use Rattle.ug_propagate.specs.declared.look.Look.{Look}
 use Rattle.ug_propagate.specs.declared.look.Looked.TheVariants.{Same}
 use Rattle.ug_propagate.specs.declared.measure.Room.{Room}
@@ -21,42 +24,65 @@ use Rattle.ug_propagate.specs.declared.tight.Tight.TheVariants.{Kept}
 use Rattle.ug_propagate.specs.Rounds.{row_step}
 use Rattle.ug_propagate.proofs.Still.{row_within, terms_still}
 use Rattle.ug_propagate.specs.Steps.{IsLookable, IsRoomOf, IsTermOf, high_of, low_of, row_of, span_of}
-use Rattle.ug_propagate.specs.Working.{AreReached, AreResting, FitsWhereSame, HasBits, HasChanged, IsAtRest, IsBox, IsLater, IsStep, WorkState, look_for, reach_at, undone}
+use Rattle.ug_propagate.specs.Working.{AreChanges, AreReached, AreResting, FitsWhereSame, HasBits, HasChanged, HasUndone, WentBack, IsAtRest, IsBox, IsLater, IsStep, WorkState, look_for, reach_at, undone}
 
-undone_append : (area : List Interval) (xs ys : List Change) → undone area (xs ++ ys) ≡ undone (undone area ys) xs
+pub undone_append : (area : List Interval) (xs ys : List Change) → undone area (xs ++ ys) ≡ undone (undone area ys) xs
 undone_append area [] ys = refl
 undone_append area (x ∷ xs) ys = ap (λ (a : List Interval). set a x.column x.before) (undone_append area xs ys)
 
+undone_width : (area : List Interval) (xs : List Change) → length (undone area xs) ≡ length area
+undone_width area [] = refl
+undone_width area (x ∷ xs) = length-set (undone area xs) x.column x.before ∙ undone_width area xs
+
+abbrev is_there : ℕ → Change → Type 0
+is_there width change = change.column < width
+
 pub later_same : (work : WorkState) → IsLater work work
-later_same work = record { more = []; trail = sym (append-nil work.trail); back = refl }
+later_same work = record {
+  more = [];
+  trail = sym (append-nil work.trail);
+  back = refl;
+  there = All-nil (is_there (length work.sums.area));
+  reach = refl;
+}
+
+-- a box is as wide as it was
+pub later_width : (old new : WorkState) → IsLater old new → length old.sums.area ≡ length new.sums.area
+later_width old new h = sym (ap (λ (a : List Interval). length a) h.back) ∙ undone_width new.sums.area h.more
 
 pub later_trans : (a b c : WorkState) → IsLater a b → IsLater b c → IsLater a c
 later_trans a b c h k = record {
   more = h.more ++ k.more;
   trail = k.trail ∙ ap (λ (t : List Change). t ++ k.more) h.trail ∙ append_assoc a.trail h.more k.more;
   back = undone_append c.sums.area h.more k.more ∙ ap (λ (x : List Interval). undone x h.more) k.back ∙ h.back;
+  there = All-append (is_there (length a.sums.area)) h.more k.more h.there
+      (subst (λ (n : ℕ). AreChanges n k.more) (sym (later_width a b h)) k.there);
+  reach = k.reach ∙ h.reach;
 }
 
-later_change : (p : Instance) (j : ℕ) (side : Interval) (old new : WorkState) → HasChanged p j side old new → IsLater old new
-later_change p j side old new h =
+later_change : (p : Instance) (j : ℕ) (side : Interval) (old new : WorkState) → j < length old.sums.area
+    → HasChanged p j side old new → IsLater old new
+later_change p j side old new within h =
     let area : List Interval = old.sums.area in
     let before : Interval = interval_at area j in
     record {
       more = record { column = j; before = before } ∷ [];
       trail = h.trail;
       back = ap (λ (a : List Interval). set a j before) h.area ∙ set-set area j side before ∙ set-get_or area j no_interval;
+      there = All-cons (is_there (length area)) (record { column = j; before = before }) [] within (All-nil (is_there (length area)));
+      reach = h.reach;
     }
 
 spread : (g l m n : ℤ) → g ≤ℤ m → n ≤ℤ l → (g -ℤ l) ≤ℤ (m -ℤ n)
 spread g l m n h k = omega (arith, ints)
 
 -- the span of a factor over an interval within another is at most that over the other
-span_inner : (f : ℤ) (inner outer : Interval) → IsClosedWithin inner outer
+span_inner : (f : ℤ) (inner outer : Interval) → outer.low ≤ℤ inner.low → inner.high ≤ℤ outer.high
     → ((f *ℤ end_of Greatest f inner) -ℤ (f *ℤ end_of Least f inner)) ≤ℤ ((f *ℤ end_of Greatest f outer) -ℤ (f *ℤ end_of Least f outer))
-span_inner (pos n) inner outer h =
-    spread _ _ _ _ (mul_pos n inner.high outer.high h.high) (mul_pos n outer.low inner.low h.low)
-span_inner (negsuc n) inner outer h =
-    spread _ _ _ _ (mul_neg n outer.low inner.low h.low) (mul_neg n inner.high outer.high h.high)
+span_inner (pos n) inner outer low high =
+    spread _ _ _ _ (mul_pos n inner.high outer.high high) (mul_pos n outer.low inner.low low)
+span_inner (negsuc n) inner outer low high =
+    spread _ _ _ _ (mul_neg n outer.low inner.low low) (mul_neg n inner.high outer.high high)
 
 at_most_trans : (a b c : ℤ) → a ≤ℤ b → b ≤ℤ c → a ≤ℤ c
 at_most_trans a b c h k = omega (arith, ints)
@@ -73,7 +99,7 @@ span_cut t area j side most there closed h = elim (cases_eq t.column j) [
       let P : Interval → Type 0 = λ (s : Interval). span s ≤ℤ most in
       let Q : Interval → Type 0 = λ (s : Interval). IsClosedWithin side s in
       subst P (sym at) (at_most_trans (span side) (span (interval_at area t.column)) most
-      (span_inner t.factor side (interval_at area t.column) (subst Q was closed)) h)
+      (let c : Q (interval_at area t.column) = subst Q was closed in span_inner t.factor side (interval_at area t.column) c.low c.high) h)
   | inr other ↦
       let at : interval_at (set area j side) t.column ≡ interval_at area t.column =
       get_or-set_other area j t.column side no_interval other in
@@ -154,7 +180,7 @@ step_change p j side old new box there closed h =
             (subst P (sym h.area) (reach_cut p old.sums.area old.reach j side within closed box.reach));
         bits = bits_woken p old.awake new.awake h.woke.woken.width box.bits;
       };
-      later = later_change p j side old new h;
+      later = later_change p j side old new within h;
       resting = resting_change p j side old new h;
     }
 
@@ -222,3 +248,55 @@ pub rest_is : (look : Look) (ts : List Term) (area : List Interval) → ((k : �
 rest_is look ts area nonzero h =
     row_within look ts area h.room h.is h.high h.low
     ∙ terms_still look ts ts area h.room h.is nonzero (λ k there. (h.each k there).0) (λ k there. (h.each k there).1)
+
+-- on the way back to the first `depth` changes
+pub record GoesBack (depth : ℕ) (old new : WorkState) : Type 0 where
+  pub deep : depth ≤ length new.trail
+  pub trail : take depth new.trail ≡ take depth old.trail
+  pub area : undone new.sums.area (drop depth new.trail) ≡ undone old.sums.area (drop depth old.trail)
+  pub reach : new.reach ≡ old.reach
+  pub awake : new.awake ≡ old.awake
+
+pub back_begins : (depth : ℕ) (work : WorkState) → depth ≤ length work.trail → GoesBack depth work work
+back_begins depth work deep = record { deep = deep; trail = refl; area = refl; reach = refl; awake = refl }
+
+pub back_step : (depth : ℕ) (old mid new : WorkState) → depth < length mid.trail → HasUndone mid new → GoesBack depth old mid
+    → GoesBack depth old new
+back_step depth old mid new more h k =
+    let long : length mid.trail ≡ length new.trail + 1 =
+    ap (λ (t : List Change). length t) h.trail ∙ length_push new.trail h.change in
+    let deep : depth ≤ length new.trail = omega arith in
+    let cut : drop depth mid.trail ≡ drop depth new.trail ++ h.change ∷ [] =
+    ap (λ (t : List Change). drop depth t) h.trail ∙ drop-append-le depth new.trail (h.change ∷ []) deep in
+    record {
+      deep = deep;
+      trail = sym (take-append-le depth new.trail (h.change ∷ []) deep)
+          ∙ sym (ap (λ (t : List Change). take depth t) h.trail) ∙ k.trail;
+      area = ap (λ (a : List Interval). undone a (drop depth new.trail)) h.area
+          ∙ sym (undone_append mid.sums.area (drop depth new.trail) (h.change ∷ []))
+          ∙ sym (ap (λ (t : List Change). undone mid.sums.area t) cut) ∙ k.area;
+      reach = h.reach ∙ k.reach;
+      awake = h.awake ∙ k.awake;
+    }
+
+pub back_ends : (depth : ℕ) (old new : WorkState) → length new.trail ≤ depth → GoesBack depth old new → WentBack depth old new
+back_ends depth old new short h = record {
+  trail = sym (take_all depth new.trail short) ∙ h.trail;
+  area = sym (ap (λ (t : List Change). undone new.sums.area t) (drop_all depth new.trail short)) ∙ h.area;
+  reach = h.reach;
+  awake = h.awake;
+}
+
+-- a box below another reaches no further
+pub reach_below : (p : Instance) (inner outer : List Interval) (reach : List ℤ) → IsProblem p → length outer ≡ length p.columns
+    → IsBelow inner outer → AreReached p outer reach → AreReached p inner reach
+reach_below p inner outer reach problem wide below h = record {
+  count = h.count;
+  each = λ r k there within.
+      let t : Term = term_at (terms_of p r) k in
+      let column : t.column < length outer = omega (arith, (linear_terms p r problem there).within k within, wide) in
+      let n = below.each t.column column in
+      at_most_trans (span_of t inner) (span_of t outer) (reach_at reach r)
+      (span_inner t.factor (interval_at inner t.column) (interval_at outer t.column) n.low n.high)
+      (h.each r k there within);
+}

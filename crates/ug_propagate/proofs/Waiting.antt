@@ -2,6 +2,7 @@
 use Rattle.std.proofs.Common.{◌≡◌, refl, sym, subst, ◌∙◌, ap, inl, inr, ℕ, zero, suc, ◌+◌, ◌-◌, ◌<◌, ◌≤◌, ℤ, pos, ◌-ℤ◌, List, [], ◌∷◌, ◌++◌, length, take, get_or, Option, Some, None, arith}
 use Rattle.std.proofs.lemmas.Bool.{cases_eq, cases_lt, lt-ltb, le-ltb}
 use Rattle.std.proofs.lemmas.List.{append-nil, take_all, take_more, length-take-le}
+use Rattle.std.proofs.lemmas.List.Elements.{All-nil}
 use Rattle.std.specs.Option.{option_map}
 use Rattle.ug_rows.specs.declared.area.Interval.{Interval}
 use Rattle.ug_rows.specs.declared.row.Term.{Term}
@@ -12,6 +13,7 @@ use Rattle.ug_problem.specs.Limits.{IsProblem}
 use Rattle.ug_problem.specs.Standings.{terms_of}
 use Rattle.ug_problem.proofs.Linear.{linear_objective}
 use Rattle.ug_propagate.specs.declared.look.Look.{Look}
+use Rattle.ug_propagate.specs.declared.working.Change.{Change}
 use Rattle.ug_propagate.specs.declared.tight.Tight.{Tight}
 use Rattle.ug_propagate.specs.declared.tight.Tight.TheVariants.{Kept, Empty}
 use Rattle.ug_propagate.specs.declared.tight.Reason.{Reason}
@@ -26,7 +28,7 @@ use Rattle.ug_propagate.proofs.Sweeps.{rounds_stay}
 use Rattle.ug_propagate.proofs.Running.{terms_inner, terms_last}
 use Rattle.ug_propagate.proofs.Stepping.{later_same, later_trans, rest_is}
 
-look_inner : (p : Instance) (cutoff : Option ℤ) (r : ℕ) → r < length p.rows
+pub look_inner : (p : Instance) (cutoff : Option ℤ) (r : ℕ) → r < length p.rows
     → look_for p cutoff r ≡ record { row = Some r; low = (row_at p r).low; high = (row_at p r).high }
 look_inner p cutoff r there = rw (lt-ltb r (length p.rows) there) refl
 
@@ -92,7 +94,7 @@ visit_same p cutoff r old mid new working same here bit others wide =
         };
         resting = resting_more p cutoff old.sums.area r old.awake new.awake working.resting bit_now here;
       };
-      later = record { more = []; trail = sym (append-nil old.trail); back = refl };
+      later = record { more = []; trail = sym (append-nil old.trail); back = refl; there = All-nil (λ (change : Change). change.column < length old.sums.area); reach = refl };
     })
 
 pub went_step : (p : Instance) (cutoff : Option ℤ) (old new : WorkState) → IsWorking p cutoff old → IsStep p old new

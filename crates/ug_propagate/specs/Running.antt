@@ -1,13 +1,15 @@
 -- Running sums: the least and the greatest sum of each row and of the objective over a box. The objective, without its
 -- constant, is the row behind the last.
-use Rattle.std.specs.Prelude.{◌≡◌, ℕ, ℤ, pos, ◌+◌, ◌+ℤ◌, ◌-ℤ◌, ◌*ℤ◌, ◌<◌, ◌≤◌, List, length, slice_index_or, slice_set, Option, Some, None}
+use Rattle.std.specs.Prelude.{◌≡◌, ◌≢◌, ℕ, ℤ, pos, ◌+◌, ◌-◌, ◌+ℤ◌, ◌-ℤ◌, ◌*ℤ◌, ◌<◌, ◌≤◌, List, length, slice_index_or, slice_set, Option, Some, None}
 use Rattle.ug_rows.specs.declared.area.Interval.{Interval}
 use Rattle.ug_rows.specs.declared.row.Term.{Term}
+use Rattle.ug_rows.specs.Rows.{IsAmong, term_at}
 use Rattle.ug_rows.specs.Sums.{end_of, least_sum, greatest_sum}
 use Rattle.ug_rows.specs.declared.sums.Extreme.TheVariants.{Least, Greatest}
 use Rattle.ug_rows.specs.Boxes.{HasSmallEnds}
 use Rattle.ug_problem.specs.Instances.{Instance, row_at}
-use Rattle.ug_problem.specs.Standings.{terms_of}
+use Rattle.ug_problem.specs.Standings.{standing_at, term_of, terms_of}
+use Rattle.ug_problem.specs.declared.standings.Standing.{Standing}
 use Rattle.ug_propagate.specs.declared.sums.Extremes.{Extremes}
 use Rattle.ug_propagate.specs.Steps.{HaveSmallColumns}
 
@@ -64,3 +66,13 @@ pub record HasMoved (factor : ℤ) (before after : Interval) (r : ℕ) (old new 
   pub greatest : ends.greatest
       ≡ (extremes_at old r).greatest +ℤ ((factor *ℤ end_of Greatest factor after) -ℤ (factor *ℤ end_of Greatest factor before))
   pub small : HasSmallEnds after
+
+-- column j stands in the objective so, or does not stand there
+abbrev pub IsObjectiveStanding : Instance → ℕ → Option Standing → Type 0
+IsObjectiveStanding p j None = (k : ℕ) → k < length p.objective.terms → (term_at p.objective.terms k).column ≢ j
+IsObjectiveStanding p j (Some standing) = IsAmong (term_of j standing) p.objective.terms
+
+-- it is the last of these
+pub record IsLastOf (standings : List Standing) (last : Standing) : Type 0 where
+  pub some : 0 < length standings
+  pub is : last ≡ standing_at standings (length standings - 1)

@@ -1,5 +1,5 @@
 -- A working box: a box that is tightened in place, with its running sums, the rows that are awake, and what was changed.
-use Rattle.std.specs.Prelude.{◌≡◌, ◌≢◌, ℕ, ℤ, pos, ◌+◌, ◌-◌, ◌-ℤ◌, ◌≤ℤ◌, ◌*◌, ◌^◌, ◌<◌, ◌≤◌, List, [], ◌∷◌, ◌++◌, length, replicate, slice_index_or, slice_set, nat_lt, if◌then◌else◌, Option, Some, None}
+use Rattle.std.specs.Prelude.{◌≡◌, ◌≢◌, ℕ, ℤ, pos, ◌+◌, ◌-◌, ◌-ℤ◌, ◌≤ℤ◌, ◌*◌, ◌^◌, ◌<◌, ◌≤◌, List, [], ◌∷◌, ◌++◌, length, replicate, take, drop, All, slice_index_or, slice_set, nat_lt, if◌then◌else◌, Option, Some, None}
 use Rattle.std.specs.Option.{option_map}
 use Rattle.ug_rows.specs.declared.area.Interval.{Interval}
 use Rattle.ug_rows.specs.declared.row.Term.{Term}
@@ -12,6 +12,8 @@ use Rattle.ug_propagate.specs.declared.look.Look.{Look}
 use Rattle.ug_propagate.specs.declared.look.Looked.{Looked}
 use Rattle.ug_propagate.specs.declared.look.Looked.TheVariants.{Same, Changed, Emptied}
 use Rattle.ug_propagate.specs.declared.measure.Room.{Room}
+use Rattle.ug_propagate.specs.declared.resting.Rest.{Rest}
+use Rattle.ug_propagate.specs.declared.resting.Rest.TheVariants.{Unknown, Under}
 use Rattle.ug_propagate.specs.declared.working.Change.{Change}
 use Rattle.ug_propagate.specs.Awake.{bit_of}
 use Rattle.ug_propagate.specs.Running.{IsRunning, SumsState}
@@ -111,11 +113,32 @@ pub record HasChanged (p : Instance) (j : ℕ) (side : Interval) (old new : Work
   pub trail : new.trail ≡ old.trail ++ record { column = j; before = interval_at old.sums.area j } ∷ []
   pub woke : WokeColumn p j old.awake new.awake
 
+-- the changes are of columns that are there
+abbrev pub AreChanges : ℕ → List Change → Type 0
+AreChanges width changes = All (λ (change : Change). change.column < width) changes
+
 -- some changes were made since, which undone give the box that there was
 pub record IsLater (old new : WorkState) : Type 0 where
   pub more : List Change
   pub trail : new.trail ≡ old.trail ++ more
   pub back : undone new.sums.area more ≡ old.sums.area
+  pub there : AreChanges (length old.sums.area) more
+  pub reach : new.reach ≡ old.reach
+
+-- the last change was undone
+pub record HasUndone (old new : WorkState) : Type 0 where
+  pub change : Change
+  pub trail : old.trail ≡ new.trail ++ change ∷ []
+  pub area : new.sums.area ≡ slice_set old.sums.area change.column change.before
+  pub reach : new.reach ≡ old.reach
+  pub awake : new.awake ≡ old.awake
+
+-- the changes behind the first `depth` were undone
+pub record WentBack (depth : ℕ) (old new : WorkState) : Type 0 where
+  pub trail : new.trail ≡ take depth old.trail
+  pub area : new.sums.area ≡ undone old.sums.area (drop depth old.trail)
+  pub reach : new.reach ≡ old.reach
+  pub awake : new.awake ≡ old.awake
 
 -- the working box went on to this: a box of the problem with each change on its trail, whose rows rest where they did
 pub record IsStep (p : Instance) (old new : WorkState) : Type 0 where
@@ -148,3 +171,12 @@ abbrev pub RestsWhereSame : Looked → Look → List Term → List Interval → 
 RestsWhereSame Same look terms area = IsAtRest look terms area
 RestsWhereSame Changed look terms area = Unit {0}
 RestsWhereSame (Emptied reason) look terms area = Unit {0}
+
+-- the rows are at rest on the box under this cutoff, or it is not known of any
+abbrev pub AllRest : Instance → Rest → List Interval → Type 0
+AllRest p Unknown area = Unit {0}
+AllRest p (Under cutoff) area = (r : ℕ) → r ≤ length p.rows → IsAtRest (look_for p cutoff r) (terms_of p r) area
+
+-- where the rows were at rest so, each that is not awake is at rest under this cutoff
+abbrev pub WakesOthers : Instance → Rest → Option ℤ → List ℕ → Type 0
+WakesOthers p rest cutoff awake = (area : List Interval) → AllRest p rest area → AreResting p cutoff area awake

@@ -1,6 +1,6 @@
 //! Rows that are awake: one bit a row.
 
-ghost use Rattle.std.specs.Prelude.{◌≡◌, ◌≢◌, ℕ, ◌+◌, ◌*◌, ◌/◌, ◌%◌, ◌^◌, ◌<◌, ◌≤◌, length, slice_index, Some, None};
+ghost use Rattle.std.specs.Prelude.{◌≡◌, ◌≢◌, ℕ, ◌+◌, ◌*◌, ◌/◌, ◌%◌, ◌^◌, ◌<◌, ◌≤◌, length, replicate, slice_index, Some, None};
 ghost use Rattle.std.specs.Int.{bit_at};
 ghost use Rattle.ug_propagate.specs.Awake.{HasBit, IsFound, IsFoundIn, IsNext, NoneFrom, bit_of};
 
@@ -62,5 +62,14 @@ pub fn next(words: &[u64], from: usize) -> Option<usize>
     match next_in(words[at], from % 64) {
         Some(bit) => Some(64 * at + bit),
         None => first_from(words, at + 1),
+    }
+}
+
+/// Wakes each row, or lets each rest.
+pub fn fill(words: &mut [u64], word: u64)
+    ensures { words.new ≡ replicate (length words.old) word }
+{
+    for at in 0..words.len() {
+        words[at] = word;
     }
 }

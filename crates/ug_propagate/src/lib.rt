@@ -15,6 +15,7 @@ mod measure;
 mod plain;
 mod propagation;
 mod quotient;
+mod resting;
 #[cfg(test)]
 mod rounds;
 mod settle;
@@ -25,5 +26,8 @@ mod tight;
 mod working;
 
 pub use propagation::tighten;
+pub use resting::Rest;
+pub use settle::{propagate, rest_after};
 pub use sums::Sums;
 pub use tight::{Reason, Side, Tight};
+pub use working::{Change, Working};

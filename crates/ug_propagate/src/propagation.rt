@@ -4,7 +4,7 @@ ghost use Rattle.ug_propagate.specs.Claims.{CanTighten, IsTightened};
 ghost use Rattle.ug_propagate.specs.Rounds.{crossed, last_round, rounds, rounds_of};
 ghost use Rattle.ug_propagate.specs.declared.tight.Tight.TheVariants.{Kept};
 
-use crate::settle::settle;
+use crate::settle::propagate;
 use crate::tight::{Reason, Side, Tight};
 use crate::working::Working;
 use std::alloc::{AllocError, Global};
@@ -42,7 +42,7 @@ fn tighten_sides(
     ensures { IfOk result (λ t. t ≡ last_round problem.now cutoff (rounds_of 32 problem.now cutoff (Kept area.now))) }
 {
     let mut work = Working::new(alloc, problem, area)?;
-    match settle(&mut work, problem, cutoff)? {
+    match propagate(&mut work, problem, cutoff)? {
         Some(reason) => Ok(Tight::Empty(reason)),
         None => Ok(Tight::Kept(IntBox::from_vec(work.into_sides()))),
     }

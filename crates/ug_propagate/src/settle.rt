@@ -10,11 +10,12 @@ ghost use Rattle.ug_problem.specs.Standings.{terms_of};
 ghost use Rattle.ug_propagate.specs.Rounds.{last_round, round, rounds_of};
 ghost use Rattle.ug_propagate.specs.Steps.{IsLookable, outcome_of};
 ghost use Rattle.ug_propagate.specs.Waiting.{IsRowFound, RestFrom, WentOn, look_to};
-ghost use Rattle.ug_propagate.specs.Working.{HasBits, IsWorking, look_for};
+ghost use Rattle.ug_propagate.specs.Working.{AllRest, HasBits, IsWorking, look_for};
 ghost use Rattle.ug_propagate.specs.declared.tight.Tight.TheVariants.{Kept};
 
 use crate::look::{Look, Looked};
 use crate::looking::look_at;
+use crate::resting::Rest;
 use crate::sums::terms_at;
 use crate::tight::Reason;
 use crate::working::Working;
@@ -193,7 +194,7 @@ fn run_last(
 
 /// At most 32 rounds, and one more where all columns are fixed: what they leave of the working box, or why nothing is
 /// left. After an error or where nothing is left the box is somewhere on the way.
-pub fn settle(
+pub fn propagate(
     work: &mut Working,
     problem: &Problem,
     cutoff: Option<i128>,
@@ -209,5 +210,17 @@ pub fn settle(
             let told = run_last(work, problem, cutoff)?;
             Ok(told)
         }
+    }
+}
+
+/// How the rows of a box rest after its rounds.
+pub fn rest_after(work: &Working, problem: &Problem, cutoff: Option<i128>) -> Rest
+    requires { IsWorking problem.now cutoff work.now }
+    ensures { AllRest problem.now result work.now.sums.area }
+{
+    if is_settled(work, problem) {
+        Rest::Under(cutoff)
+    } else {
+        Rest::Unknown
     }
 }

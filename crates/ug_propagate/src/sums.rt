@@ -1,4 +1,4 @@
-ghost use Rattle.std.specs.Prelude.{◌≡◌, ℕ, ◌+◌, ◌<◌, ◌≤◌, ◌*◌, ◌^◌, ◌+ℤ◌, ◌-ℤ◌, ◌*ℤ◌, ◌≤ℤ◌, length, slice_set, slice_index_or, take, unsigned_abs, IfOk, OnOk};
+ghost use Rattle.std.specs.Prelude.{◌≡◌, ℕ, ◌+◌, ◌<◌, ◌≤◌, ◌*◌, ◌^◌, ◌+ℤ◌, ◌-ℤ◌, ◌*ℤ◌, ◌≤ℤ◌, length, slice_set, slice_index_or, take, unsigned_abs, IfOk, MatchOption, [], OnOk};
 ghost use Rattle.ug_rows.specs.Boxes.{HasSmallEnds, interval_at};
 ghost use Rattle.ug_rows.specs.Rows.{IsLinear};
 ghost use Rattle.ug_rows.specs.Sums.{end_of, least_sum, greatest_sum};
@@ -7,7 +7,7 @@ ghost use Rattle.ug_problem.specs.Instances.{no_row};
 ghost use Rattle.ug_problem.specs.Limits.{IsProblem};
 ghost use Rattle.ug_problem.specs.Standings.{AreStandings, terms_of};
 ghost use Rattle.ug_propagate.specs.Steps.{IsMeasured};
-ghost use Rattle.ug_propagate.specs.Running.{AreFirstSums, AreSums, HasMoved, IsNamedRow, IsRunning, IsSummed, extremes_at, terms_named};
+ghost use Rattle.ug_propagate.specs.Running.{AreFirstSums, AreSums, HasMoved, IsLastOf, IsObjectiveStanding, IsNamedRow, IsRunning, IsSummed, extremes_at, terms_named};
 
 use crate::measure::{Ends, change, measure, plus};
 use std::alloc::{AllocError, Global};
@@ -36,10 +36,12 @@ fn row_index(problem: &Problem, row: Option<u32>) -> usize
     requires { IsNamedRow problem.now row }
     ensures there { result ≤ length problem.now.rows }
     ensures terms { terms_of problem.now result ≡ terms_named problem.now row }
+    ensures problem { IsProblem problem.now }
 {
+    let rows = problem.rows();
     match row {
         Some(r) => r as usize,
-        None => problem.rows().len(),
+        None => rows.len(),
     }
 }
 
@@ -173,6 +175,75 @@ fn all_sums(
     Ok(sums)
 }
 
+// The last standing, if there is one.
+fn last_standing(standings: &[Standing]) -> Option<Standing>
+    ensures { MatchOption result (standings.now ≡ []) (IsLastOf standings.now) }
+{
+    if standings.is_empty() {
+        None
+    } else {
+        Some(standings[standings.len() - 1])
+    }
+}
+
+// Where a column stands in the objective, if it does.
+fn objective_standing(problem: &Problem, column: usize) -> Option<Standing>
+    requires { column < length problem.now.columns }
+    ensures problem { IsProblem problem.now }
+    ensures standing { IsObjectiveStanding problem.now column result }
+{
+    let rows = problem.rows().len();
+    match last_standing(problem.standings(column)) {
+        None => None,
+        Some(last) => {
+            if last.row as usize == rows {
+                Some(last)
+            } else {
+                None
+            }
+        }
+    }
+}
+
+// The sums of a row after the interval of the standing's column was replaced.
+fn moved_by(ends: Extremes, standing: Standing, before: Interval, after: Interval) -> Extremes
+    requires least { unsigned_abs ends.least ≤ 3 * 10 ^ 37 }
+    requires greatest { unsigned_abs ends.greatest ≤ 3 * 10 ^ 37 }
+    requires factor { unsigned_abs standing.factor ≤ 10 ^ 24 }
+    ensures least { result.least ≡ ends.least +ℤ ((standing.factor *ℤ end_of Least standing.factor after) -ℤ (standing.factor *ℤ end_of Least standing.factor before)) }
+    ensures greatest { result.greatest ≡ ends.greatest +ℤ ((standing.factor *ℤ end_of Greatest standing.factor after) -ℤ (standing.factor *ℤ end_of Greatest standing.factor before)) }
+    ensures after { HasSmallEnds after }
+{
+    moved(ends, standing.factor, before, after)
+}
+
+fn least_in(ends: Extremes) -> i128
+    requires { unsigned_abs ends.least ≤ 3 * 10 ^ 37 }
+    ensures value { result ≡ ends.least }
+    ensures small { unsigned_abs result ≤ 3 * 10 ^ 37 }
+{
+    ends.least
+}
+
+// The sums of the objective where a column had another interval.
+fn objective_with(
+    problem: &Problem,
+    column: usize,
+    area: &[Interval],
+    ends: Extremes,
+    side: Interval,
+) -> Extremes
+    requires there { column < length problem.now.columns }
+    requires width { length area.now ≡ length problem.now.columns }
+    requires summed { IsSummed problem.now.objective.terms area.now ends }
+    ensures { IsSummed problem.now.objective.terms (slice_set area.now column side) result }
+{
+    match objective_standing(problem, column) {
+        Some(standing) => moved_by(ends, standing, area[column], side),
+        None => ends,
+    }
+}
+
 /// The least and the greatest sum of each row of a problem, and of its objective without the constant, over a box that
 /// may change a column at a time.
 #[derive(Debug, Drop)]
@@ -249,9 +320,10 @@ impl Sums {
     pub fn least(&self, problem: &Problem, row: Option<u32>) -> i128
         requires there { IsNamedRow problem.now row }
         requires sums { IsRunning problem.now self.now }
-        ensures { result ≡ least_sum (terms_named problem.now row) self.now.area }
+        ensures value { result ≡ least_sum (terms_named problem.now row) self.now.area }
+        ensures small { unsigned_abs result ≤ 3 * 10 ^ 37 }
     {
-        self.sums[row_index(problem, row)].least
+        least_in(self.ends(row_index(problem, row)))
     }
 
     /// The greatest sum of a row, or of the objective without its constant.
@@ -261,6 +333,18 @@ impl Sums {
         ensures { result ≡ greatest_sum (terms_named problem.now row) self.now.area }
     {
         self.sums[row_index(problem, row)].greatest
+    }
+
+    /// The least sum of the objective where a column had another interval. It looks at that column alone.
+    pub fn least_with(&self, problem: &Problem, column: usize, side: Interval) -> i128
+        requires there { column < length problem.now.columns }
+        requires sums { IsRunning problem.now self.now }
+        ensures value { result ≡ least_sum problem.now.objective.terms (slice_set self.now.area column side) }
+        ensures small { unsigned_abs result ≤ 3 * 10 ^ 37 }
+    {
+        let ends = self.sums[problem.rows().len()];
+        let area = self.sides.as_slice();
+        least_in(objective_with(problem, column, area, ends, side))
     }
 
     /// The intervals of the box. It takes no memory.

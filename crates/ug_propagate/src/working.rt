@@ -1,16 +1,19 @@
 //! A working box.
 
-ghost use Rattle.std.specs.Prelude.{◌≡◌, ℕ, [], ◌∷◌, ◌++◌, ◌+◌, ◌*◌, ◌^◌, ◌<◌, ◌≤◌, length, OnOk, OnErr, IfOk};
+ghost use Rattle.std.specs.Prelude.{◌≡◌, ℕ, [], ◌∷◌, ◌++◌, ◌+◌, ◌*◌, ◌^◌, ◌<◌, ◌≤◌, length, slice_set, OnOk, OnErr, IfOk};
 ghost use Rattle.ug_problem.specs.Standings.{AreStandings, standing_at};
-ghost use Rattle.ug_rows.specs.Boxes.{interval_at};
+ghost use Rattle.ug_rows.specs.Boxes.{IsClosedWithin, interval_at};
+ghost use Rattle.ug_rows.specs.Sums.{box_floor};
 ghost use Rattle.ug_propagate.specs.Awake.{HasBit, IsFound};
 ghost use Rattle.ug_propagate.specs.Cuts.{IsInnerCut, cut_of};
 ghost use Rattle.ug_propagate.specs.Steps.{outcome_of};
 ghost use Rattle.ug_propagate.specs.Running.{IsRunning, extremes_at};
-ghost use Rattle.ug_propagate.specs.Working.{AreAwake, AreFirstReached, AreOnes, AreReached, AreWoken, HasBits, HasChanged, IsBox, IsStep, WokeColumn, reach_at};
+ghost use Rattle.ug_propagate.specs.Working.{AllRest, AreAwake, AreResting, WakesOthers, AreChanges, AreFirstReached, AreOnes, AreReached, AreWoken, HasBits, HasChanged, HasUndone, WentBack, IsBox, IsStep, WokeColumn, reach_at};
 
-use crate::awake::{next, rest, wake};
+use crate::awake::{fill, next, rest, wake};
 use crate::cut::Cut;
+use crate::measure::plus;
+use crate::resting::{Rest, is_same};
 use crate::sums::{Extremes, Sums, measured};
 use crate::tight::Reason;
 use std::alloc::{AllocError, Global};
@@ -121,6 +124,27 @@ fn all_awake(alloc: Global, problem: &Problem) -> Result<Vec<u64>, AllocError>
     ensures awake { IfOk result (λ awake. AreAwake problem.now awake.items) }
 {
     ones(alloc, problem.rows().len() / 64 + 1)
+}
+
+// Lets all rows rest that rest so, and wakes the others.
+fn wake_others(
+    problem: &Problem,
+    rest: Rest,
+    cutoff: Option<i128>,
+    awake: &mut [u64],
+)
+    requires { HasBits problem.now awake.old }
+    ensures { WakesOthers problem.now rest cutoff awake.new }
+{
+    match rest {
+        Rest::Unknown => fill(awake, u64::MAX),
+        Rest::Under(under) => {
+            fill(awake, 0);
+            if !is_same(under, cutoff) {
+                wake(awake, problem.rows().len());
+            }
+        }
+    }
 }
 
 impl Working {
@@ -234,5 +258,87 @@ impl Working {
                 Ok(None)
             }
         }
+    }
+
+    // Undoes the last change.
+    fn undo(&mut self, problem: &Problem)
+        requires some { 0 < length self.old.trail }
+        requires trail { AreChanges (length problem.now.columns) self.old.trail }
+        requires sums { IsRunning problem.now self.old.sums }
+        ensures undone { HasUndone self.old self.new }
+        ensures trail { AreChanges (length problem.now.columns) self.new.trail }
+        ensures sums { IsRunning problem.now self.new.sums }
+    {
+        if let Some(change) = self.trail.pop() {
+            self.sums
+                .put(problem, change.column as usize, change.before);
+        }
+    }
+
+    /// Undoes the changes behind the first `depth`. The rows stay as awake as they were.
+    pub fn go_back(&mut self, problem: &Problem, depth: usize)
+        requires depth { depth ≤ length self.old.trail }
+        requires trail { AreChanges (length problem.now.columns) self.old.trail }
+        requires sums { IsRunning problem.now self.old.sums }
+        ensures back { WentBack depth self.old self.new }
+        ensures sums { IsRunning problem.now self.new.sums }
+    {
+        while self.trail_len() > depth {
+            self.undo(problem);
+        }
+    }
+
+    /// How many changes were made and not undone.
+    pub fn trail_len(&self) -> usize
+        ensures { result ≡ length self.now.trail }
+    {
+        self.trail.len()
+    }
+
+    #[tactic(auto, using(crate::proofs::Stepping::step_change, crate::proofs::Stepping::step_same))]
+    /// Narrows a column, and wakes its rows. After an error nothing was changed.
+    pub fn cut(
+        &mut self,
+        problem: &Problem,
+        column: u32,
+        side: Interval,
+    ) -> Result<(), AllocError>
+        requires there { column < length problem.now.columns }
+        requires work { IsBox problem.now self.old }
+        requires inner { IsClosedWithin side (interval_at self.old.sums.area column) }
+        ensures step { IsStep problem.now self.old self.new }
+        ensures area { OnOk result (self.new.sums.area ≡ slice_set self.old.sums.area column side) }
+    {
+        self.change(problem, column, side)?;
+        Ok(())
+    }
+
+    /// Lets the rows wait that are at rest so, and wakes the others: the objective alone where the cutoff is another.
+    pub fn wait(&mut self, problem: &Problem, rest: Rest, cutoff: Option<i128>)
+        requires bits { HasBits problem.now self.old.awake }
+        requires rest { AllRest problem.now rest self.old.sums.area }
+        ensures resting { AreResting problem.now cutoff self.new.sums.area self.new.awake }
+        ensures others { self.new ≡ record self.old { awake = self.new.awake } }
+        ensures width { length self.new.awake ≡ length self.old.awake }
+    {
+        wake_others(problem, rest, cutoff, self.awake.as_mut_slice());
+    }
+
+    /// The floor of the box.
+    pub fn floor(&self, problem: &Problem) -> i128
+        requires { IsRunning problem.now self.now.sums }
+        ensures { result ≡ box_floor problem.now.objective self.now.sums.area }
+    {
+        plus(self.sums.least(problem, None), problem.objective().constant)
+    }
+
+    /// The floor of the box where a column had another interval. It looks at that column alone.
+    pub fn floor_with(&self, problem: &Problem, column: u32, side: Interval) -> i128
+        requires there { column < length problem.now.columns }
+        requires sums { IsRunning problem.now self.now.sums }
+        ensures { result ≡ box_floor problem.now.objective (slice_set self.now.sums.area column side) }
+    {
+        let least = self.sums.least_with(problem, column as usize, side);
+        plus(least, problem.objective().constant)
     }
 }

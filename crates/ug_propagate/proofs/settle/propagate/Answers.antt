@@ -1,5 +1,5 @@
 use Rattle.ug_propagate.proofs.Waiting.{went_trans}
-use Rattle.ug_propagate.proofs.settle.settle.Goals as goal
+use Rattle.ug_propagate.proofs.settle.propagate.Goals as goal
 
 pub returns-in_err-told-in-None-clause-went : goal.returns-in_err-told-in-None-clause-went
 returns-in_err-told-in-None-clause-went c =

@@ -1,0 +1,14 @@
+use Rattle.std.proofs.Common.{◌∙◌, ap, sym, List, length}
+use Rattle.ug_problem.specs.declared.column.NamedRow.{NamedRow}
+use Rattle.ug_propagate.proofs.Objectives.{factor_none, factor_other, factor_there}
+use Rattle.ug_propagate.proofs.sums.objective_standing.Goals as goal
+
+pub returns-in-None-clause-standing : goal.returns-in-None-clause-standing
+returns-in-None-clause-standing c =
+    factor_none c.args.problem.now c.args.column c.standings.result.now c.standings.ensures.value c.in-None.ensures
+
+pub returns-else-last-rows-clause-standing : goal.returns-else-last-rows-clause-standing
+returns-else-last-rows-clause-standing c =
+    factor_other c.args.problem.now c.args.column c.standings.result.now c.in-Some.last c.standings.ensures.value
+    c.in-Some.ensures.is
+    (λ e. c.if-last-rows.false (e ∙ ap (λ (rows : List NamedRow). length rows) (sym c.rows-rows.ensures.value)))
