@@ -1,5 +1,5 @@
 -- The least floor of boxes, and that it bounds the value of each good point.
-use Rattle.std.proofs.Common.{◌≡◌, ◌↔◌, ℕ, suc, ℤ, ◌+◌, ◌*◌, ◌^◌, ◌<◌, ◌≤◌, ◌≤ℤ◌, ◌⊎◌, inl, inr, List, [], ◌∷◌, length, slice_index_or, unsigned_abs, All, Contains, Option, Some, None, IsNone, IfSome, ap, refl, sym, subst, ◌∙◌, arith}
+use Rattle.std.proofs.Common.{◌≡◌, ◌↔◌, ℕ, suc, ℤ, pos, ◌+◌, ◌*◌, ◌^◌, ◌<◌, ◌≤◌, ◌≤ℤ◌, ◌⊎◌, inl, inr, List, [], ◌∷◌, length, slice_index_or, unsigned_abs, Contains, Option, Some, None, IsNone, IfSome, ap, refl, sym, subst, ◌∙◌, arith}
 use Rattle.std.proofs.lemmas.Int.{ints, by_lt_z}
 use Rattle.std.proofs.lemmas.Bool.{cases_eq, true≢false}
 use Rattle.std.proofs.lemmas.List.{get_or-map, length-map}
@@ -8,16 +8,14 @@ use Rattle.ug_rows.specs.declared.area.Interval.{Interval}
 use Rattle.ug_rows.specs.Boxes.{IsBelow, IsInOne, IsInside}
 use Rattle.ug_rows.specs.Sums.{box_floor}
 use Rattle.ug_rows.proofs.AreaLemmas.{below_trans}
-use Rattle.ug_problem.specs.Instances.{Instance, bounds_of, root_of}
+use Rattle.ug_problem.specs.Instances.{Instance, bounds_of}
 use Rattle.ug_problem.specs.Better.{IsGood}
 use Rattle.ug_problem.proofs.Floors.{floor_bound, floor_within}
-use Rattle.ug_base.specs.declared.left.BoxLeft.{BoxLeft}
-use Rattle.ug_base.specs.Lefts.{CanBound, IsLeastFloorOf, IsLeastFloorSoFar, KeepFloors, areas_of, floor_at, no_left}
-use Rattle.ug_base.specs.Tasks.{AreBelow, BoundsTheRest, IsLeastFloor, IsTask, TaskState, lesser_of}
-
--- a box left is as wide as its problem
-pub left_width : (p : Instance) (left : BoxLeft) → CanBound p left → length left.area ≡ length p.columns
-left_width p left can = can.below.width ∙ length-map p.columns bounds_of
+use Rattle.ug_propagate.specs.Working.{WorkState}
+use Rattle.ug_base.specs.declared.part.Part.{Part}
+use Rattle.ug_base.specs.Chains.{IsChain, area_of, areas_of, no_part}
+use Rattle.ug_base.specs.Floors.{IsLeastOf, IsLeastSoFar, floor_at, floors_of}
+use Rattle.ug_base.specs.Tasks.{BoundsTheRest, IsLeastFloor, IsTask, TaskState, lesser_of}
 
 -- the lesser of two is one of them, and at most each
 pub lesser_is : (old given : ℤ)
@@ -26,15 +24,15 @@ lesser_is old given = by_lt_z old given
     (λ less. inl (grind (arith, ints, less), omega (arith, ints, less)))
     (λ more. inr (grind (arith, ints, more), more))
 
--- box n is not below the least of those before it
-keeps_lowest : (p : Instance) (boxes : List BoxLeft) (n : ℕ) (low here r : ℤ) → IsLeastFloorOf p boxes n low
-    → floor_at p boxes n ≡ here → low ≤ℤ here → r ≡ low → IsLeastFloorOf p boxes (n + 1) r
-keeps_lowest p boxes n low here r l e h same = record {
+-- number n is not below the least of those before it
+keeps_lowest : (floors : List ℤ) (n : ℕ) (low here r : ℤ) → IsLeastOf floors n low
+    → floor_at floors n ≡ here → low ≤ℤ here → r ≡ low → IsLeastOf floors (n + 1) r
+keeps_lowest floors n low here r l e h same = record {
   at = l.at;
   there = omega (arith, l.there);
   reached = l.reached ∙ sym same;
   least = λ k lt. rw same (elim (cases_eq k n) [
-    | inl is ↦ subst (λ j. low ≤ℤ floor_at p boxes j) (sym is) (subst (λ v. low ≤ℤ v) (sym e) h)
+    | inl is ↦ subst (λ j. low ≤ℤ floor_at floors j) (sym is) (subst (λ v. low ≤ℤ v) (sym e) h)
     | inr ne ↦ l.least k (omega (arith, lt, ne))
   ]);
 }
@@ -45,67 +43,67 @@ at_most_trans a b c h k = omega (arith, ints)
 at_most_itself : (a : ℤ) → a ≤ℤ a
 at_most_itself a = omega (arith, ints)
 
--- box n is at most the least of those before it
-takes_lowest : (p : Instance) (boxes : List BoxLeft) (n : ℕ) (here r : ℤ) → floor_at p boxes n ≡ here → r ≡ here
-    → ((k : ℕ) → k < n → here ≤ℤ floor_at p boxes k) → IsLeastFloorOf p boxes (n + 1) r
-takes_lowest p boxes n here r e same h = record {
+-- number n is at most the least of those before it
+takes_lowest : (floors : List ℤ) (n : ℕ) (here r : ℤ) → floor_at floors n ≡ here → r ≡ here
+    → ((k : ℕ) → k < n → here ≤ℤ floor_at floors k) → IsLeastOf floors (n + 1) r
+takes_lowest floors n here r e same h = record {
   at = n;
   there = omega arith;
   reached = e ∙ sym same;
   least = λ k lt. rw same (elim (cases_eq k n) [
-    | inl is ↦ subst (λ j. here ≤ℤ floor_at p boxes j) (sym is) (subst (λ v. here ≤ℤ v) (sym e) (at_most_itself here))
+    | inl is ↦ subst (λ j. here ≤ℤ floor_at floors j) (sym is) (subst (λ v. here ≤ℤ v) (sym e) (at_most_itself here))
     | inr ne ↦ h k (omega (arith, lt, ne))
   ]);
 }
 
--- one box more
-pub lowest_next : (p : Instance) (boxes : List BoxLeft) (n : ℕ) (lowest : Option ℤ) (here r : ℤ) → IsLeastFloorSoFar p boxes n lowest
-    → here ≡ floor_at p boxes n → r ≡ lesser_of lowest here → IsLeastFloorOf p boxes (n + 1) r
-lowest_next p boxes n None here r l e same = takes_lowest p boxes n here r (sym e) same (λ k lt. absurd (omega (arith, l, lt)))
-lowest_next p boxes n (Some low) here r l e same = elim (lesser_is low here) [
-  | inl h ↦ keeps_lowest p boxes n low here r l (sym e) h.1 (same ∙ h.0)
-  | inr h ↦ takes_lowest p boxes n here r (sym e) (same ∙ h.0) (λ k lt. at_most_trans _ _ _ h.1 (l.least k lt))
+-- one number more
+next_lowest : (floors : List ℤ) (n : ℕ) (lowest : Option ℤ) (here r : ℤ) → IsLeastSoFar floors n lowest
+    → here ≡ floor_at floors n → r ≡ lesser_of lowest here → IsLeastOf floors (n + 1) r
+next_lowest floors n None here r l e same = takes_lowest floors n here r (sym e) same (λ k lt. absurd (omega (arith, l, lt)))
+next_lowest floors n (Some low) here r l e same = elim (lesser_is low here) [
+  | inl h ↦ keeps_lowest floors n low here r l (sym e) h.1 (same ∙ h.0)
+  | inr h ↦ takes_lowest floors n here r (sym e) (same ∙ h.0) (λ k lt. at_most_trans _ _ _ h.1 (l.least k lt))
 ]
 
-no_boxes : (boxes : List BoxLeft) → length boxes ≡ 0 → boxes ≡ []
-no_boxes [] h = refl
-no_boxes (left ∷ boxes) h = absurd (omega (arith, h))
+-- one part more
+pub lowest_next : (parts : List Part) (n : ℕ) (lowest : Option ℤ) (here r : ℤ) → n < length parts
+    → IsLeastSoFar (floors_of parts) n lowest → here ≡ (slice_index_or parts n no_part).floor → r ≡ lesser_of lowest here
+    → IsLeastOf (floors_of parts) (n + 1) r
+lowest_next parts n lowest here r there l e same =
+    next_lowest (floors_of parts) n lowest here r l
+    (e ∙ sym (get_or-map (λ (part : Part). part.floor) parts n no_part (pos 0) there)) same
 
--- there is none exactly where there is no box
-pub lowest_none : (p : Instance) (boxes : List BoxLeft) (n : ℕ) (lowest : Option ℤ) → n ≡ length boxes → IsLeastFloorSoFar p boxes n lowest
-    → IsNone lowest ↔ (boxes ≡ [])
-lowest_none p boxes n None e l = ((λ _. no_boxes boxes (sym e ∙ l)), (λ _. refl))
-lowest_none p boxes n (Some low) e l = ((λ h. absurd (true≢false h)), (λ h. absurd (omega (arith, l.there, e, ap length h))))
+no_parts : (parts : List Part) → length parts ≡ 0 → parts ≡ []
+no_parts [] h = refl
+no_parts (part ∷ parts) h = absurd (omega (arith, h))
 
--- the least by place is the least of the boxes
-pub lowest_of : (p : Instance) (boxes : List BoxLeft) (n : ℕ) (lowest : Option ℤ) → n ≡ length boxes → IsLeastFloorSoFar p boxes n lowest
-    → IfSome lowest (IsLeastFloor p (areas_of boxes))
-lowest_of p boxes n None e l = tt
-lowest_of p boxes n (Some low) e l =
-    let area_at : (k : ℕ) (d : List Interval) → k < length boxes
-    → slice_index_or (areas_of boxes) k d ≡ (slice_index_or boxes k no_left).area =
-    λ k d there. get_or-map (λ (left : BoxLeft). left.area) boxes k no_left d there in
-    let wide : length (areas_of boxes) ≡ length boxes = length-map boxes (λ (left : BoxLeft). left.area) in
+-- there is none exactly where there is no part
+pub lowest_none : (parts : List Part) (n : ℕ) (lowest : Option ℤ) → n ≡ length parts → IsLeastSoFar (floors_of parts) n lowest
+    → IsNone lowest ↔ (parts ≡ [])
+lowest_none parts n None e l = ((λ _. no_parts parts (sym e ∙ l)), (λ _. refl))
+lowest_none parts n (Some low) e l = ((λ h. absurd (true≢false h)), (λ h. absurd (omega (arith, l.there, e, ap length h))))
+
+-- the least of the floors is the least floor of the boxes
+pub lowest_of : (p : Instance) (whole : List Interval) (work : WorkState) (parts : List Part) (lowest : Option ℤ)
+    → IsChain p whole work parts → IfSome lowest (IsLeastOf (floors_of parts) (length parts))
+    → IfSome lowest (IsLeastFloor p (areas_of work parts))
+lowest_of p whole work parts None chain l = tt
+lowest_of p whole work parts (Some low) chain l =
+    let area_at : (k : ℕ) (d : List Interval) → k < length parts
+    → slice_index_or (areas_of work parts) k d ≡ area_of work (slice_index_or parts k no_part) =
+    λ k d there. get_or-map (area_of work) parts k no_part d there in
+    let floor_is : (k : ℕ) → k < length parts
+    → floor_at (floors_of parts) k ≡ box_floor p.objective (area_of work (slice_index_or parts k no_part)) =
+    λ k there. get_or-map (λ (part : Part). part.floor) parts k no_part (pos 0) there ∙ (chain.each k no_part there).floor in
+    let wide : length (areas_of work parts) ≡ length parts = length-map parts (area_of work) in
     record {
-      area = (slice_index_or boxes l.at no_left).area;
-      among = (l.at, omega (arith, l.there, e, wide), area_at l.at _ (omega (arith, l.there, e)));
-      reached = l.reached;
+      area = area_of work (slice_index_or parts l.at no_part);
+      among = (l.at, omega (arith, l.there, wide), area_at l.at _ l.there);
+      reached = sym (floor_is l.at l.there) ∙ l.reached;
       least = λ other c.
-          let there : c.0 < length boxes = omega (arith, c.1, wide) in
+          let there : c.0 < length parts = omega (arith, c.1, wide) in
           subst (λ (a : List Interval). low ≤ℤ box_floor p.objective a) (sym (area_at c.0 other there) ∙ c.2)
-          (l.least c.0 (omega (arith, there, e)));
-    }
-
--- the boxes left of a task may be bounded
-pub boxes_bound : (p : Instance) (whole : List Interval) (boxes : List BoxLeft) → IsBelow whole (root_of p)
-    → AreBelow whole (areas_of boxes) → KeepFloors p boxes → All (CanBound p) boxes
-boxes_bound p whole boxes root below floors k d there =
-    let wide : length (areas_of boxes) ≡ length boxes = length-map boxes (λ (left : BoxLeft). left.area) in
-    record {
-      below = below_trans _ _ _
-          (subst (λ (a : List Interval). IsBelow a whole) (get_or-map (λ (left : BoxLeft). left.area) boxes k d [] there)
-          (below k [] (omega (arith, there, wide)))) root;
-      kept = floors k d there;
+          (subst (λ (v : ℤ). low ≤ℤ v) (floor_is c.0 there) (l.least c.0 there));
     }
 
 -- a point in one of the boxes is in a box among them

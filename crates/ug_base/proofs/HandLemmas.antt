@@ -3,10 +3,11 @@ use Rattle.std.proofs.Common.{◌≡◌, inl, inr, List, [], ◌∷◌, ◌++◌
 use Rattle.std.proofs.lemmas.List.Elements.{All-append, All-cons, All-head, All-nil, All-tail}
 use Rattle.ug_rows.specs.declared.area.Interval.{Interval}
 use Rattle.ug_rows.specs.Boxes.{IsBelow, IsInOne}
-use Rattle.ug_base.specs.declared.left.BoxLeft.{BoxLeft}
+use Rattle.ug_propagate.specs.Working.{WorkState}
+use Rattle.ug_base.specs.declared.part.Part.{Part}
 use Rattle.ug_base.specs.Covers.{AreCovered}
 use Rattle.ug_base.specs.Hands.{IsMoved}
-use Rattle.ug_base.specs.Lefts.{areas_of}
+use Rattle.ug_base.specs.Chains.{areas_of}
 use Rattle.ug_base.specs.Tasks.{AreBelow, IsTask, TaskState}
 use Rattle.ug_base.proofs.LastBox.{in_one_behind, in_one_front}
 
@@ -44,7 +45,17 @@ handed_task_by t boxes handed area task m =
     }
 
 -- of the fields of a task
-pub handed_task : (t : TaskState) (old new : List BoxLeft) (handed : List (List Interval)) (area : List Interval) → t.boxes ≡ areas_of old
-    → IsTask t → IsMoved old new t.handed handed area → IsTask (record t { boxes = areas_of new; handed = handed })
-handed_task t old new handed area same task m =
-    handed_task_by t (areas_of new) handed area task (record { first = same ∙ ap areas_of m.first; last = m.last })
+pub handed_task : (t : TaskState) (work : WorkState) (old new : List Part) (handed : List (List Interval)) (area : List Interval)
+    → t.boxes ≡ areas_of work old → IsTask t → IsMoved work old new t.handed handed area
+    → IsTask (record t { boxes = areas_of work new; handed = handed })
+handed_task t work old new handed area same task m =
+    handed_task_by t (areas_of work new) handed area task (record {
+      first = same ∙ ap (areas_of work) m.first ∙ ap (λ (a : List Interval). a ∷ areas_of work new) (sym m.area_is);
+      last = m.last;
+    })
+
+-- the first of the boxes left is handed
+pub handed_first : (work : WorkState) (old new : List Part) (handed_old handed_new : List (List Interval)) (area : List Interval)
+    → IsMoved work old new handed_old handed_new area → areas_of work old ≡ area ∷ areas_of work new
+handed_first work old new handed_old handed_new area m =
+    ap (areas_of work) m.first ∙ ap (λ (a : List Interval). a ∷ areas_of work new) (sym m.area_is)

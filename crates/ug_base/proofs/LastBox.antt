@@ -4,7 +4,7 @@ use Rattle.std.proofs.lemmas.Option.{slice_get_cases, slice_get_within}
 use Rattle.std.proofs.lemmas.List.Elements.{All-head, All-tail}
 use Rattle.ug_rows.specs.declared.area.Interval.{Interval}
 use Rattle.ug_rows.specs.Boxes.{IsInside, IsInOne}
-use Rattle.ug_base.specs.Looks.{front_of}
+use Rattle.ug_base.specs.Fronts.{front_of}
 
 -- the boxes are those before the last, and the last
 split_at : {A : Type 0} (boxes : List A) (n : ℕ) (last : A) → length boxes ≡ suc n → slice_get boxes n ≡ Some last → boxes ≡ take n boxes ++ last ∷ []

@@ -1,8 +1,9 @@
 pub mod Measures
 pub mod Sight
 pub mod LastBox
-pub mod LeftLemmas
+pub mod Chains
 pub mod Floors
 pub mod StepLemmas
 pub mod HandLemmas
 pub mod TaskLemmas
+pub mod Splits

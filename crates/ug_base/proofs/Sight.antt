@@ -1,6 +1,6 @@
 -- What a look at a box sees.
-use Rattle.std.proofs.Common.{◌≡◌, ℕ, ℤ, pos, ◌+◌, ◌+ℤ◌, ◌*ℤ◌, ◌<◌, ◌≤◌, ◌^◌, ◌≤ℤ◌, ◌<ℤ◌, ◌⊎◌, inl, inr, List, length, Option, sym, subst, ◌∙◌, arith}
-use Rattle.std.proofs.lemmas.Int.{ints}
+use Rattle.std.proofs.Common.{◌≡◌, ℕ, ℤ, pos, ◌+◌, ◌+ℤ◌, ◌*ℤ◌, ◌<◌, ◌≤◌, ◌^◌, ◌≤ℤ◌, ◌<ℤ◌, ◌⊎◌, inl, inr, List, [], ◌∷◌, length, Option, Some, None, Ok, refl, sym, subst, ◌∙◌, arith}
+use Rattle.std.proofs.lemmas.Int.{ints, by_lt_z}
 use Rattle.std.proofs.lemmas.List.{ext_get_or, get_or-map, length-map}
 use Rattle.ug_rows.specs.declared.area.Interval.{Interval}
 use Rattle.ug_rows.specs.Boxes.{IsBelow, IsInside, IsNonEmpty, interval_at, no_interval, value_at, IsCrossed, IsFixed}
@@ -9,16 +9,22 @@ use Rattle.ug_branch.specs.declared.params.Params.{Params}
 use Rattle.ug_branch.specs.declared.params.Half.{Half}
 use Rattle.ug_branch.specs.declared.params.Half.TheVariants.{Lower, Upper}
 use Rattle.ug_branch.specs.declared.choice.Branch.{Branch}
-use Rattle.ug_branch.specs.Choices.{AreHalves, IsChosen, lower_half, upper_half, HasNoneOpen}
+use Rattle.ug_branch.specs.Choices.{IsChosen, lower_half, upper_half, HasNoneOpen}
 use Rattle.ug_propagate.specs.declared.tight.Tight.TheVariants.{Kept, Empty}
 use Rattle.ug_propagate.specs.declared.tight.Reason.{Reason}
 use Rattle.ug_propagate.specs.Claims.{CanTighten, IsTightened}
-use Rattle.ug_base.specs.declared.halves.Halves.{Halves}
+use Rattle.ug_propagate.specs.declared.tight.Tight.{Tight}
+use Rattle.ug_propagate.specs.Rounds.{crossed, last_round, rounds_of}
+use Rattle.ug_propagate.specs.Working.{IsWorking, WorkState}
+use Rattle.ug_propagate.proofs.Answers.{told_tightened}
+use Rattle.ug_propagate.proofs.Bodies.{rounds_none, rounds_some}
+use Rattle.ug_problem.specs.declared.column.NamedRow.{NamedRow}
 use Rattle.ug_base.specs.declared.look.Seen.{Seen}
 use Rattle.ug_base.specs.declared.look.Seen.TheVariants.{Hopeless, Solved, Halved}
 use Rattle.ug_base.specs.Points.{points_of, weight_of}
-use Rattle.ug_base.specs.Steps.{IsHopeless, first_half, other_half}
-use Rattle.ug_base.specs.Looks.{AreHalved, AreOrdered, IsInSight, IsOnly, CanLook, IsSeen, IsSeenHalved, IsSeenHopeless, IsSeenSolved, lows_of}
+use Rattle.ug_base.specs.Steps.{IsHopeless}
+use Rattle.ug_base.specs.Halvings.{first_half, other_half}
+use Rattle.ug_base.specs.Looks.{AreHalved, CanLook, Halves, IsBranched, IsInSight, IsOnly, IsSeen, IsSeenBranched, IsSeenHalved, halves_at, IsSeenHopeless, IsSeenSolved, lows_of}
 use Rattle.ug_rows.proofs.AreaLemmas.{below_trans}
 use Rattle.ug_base.proofs.Measures.{count_halves, points_below, points_halves, points_set_some, weights_fall}
 
@@ -63,11 +69,16 @@ no_point area x c h = crossed_has_none _ _ (value_at x c.0) c.2 (h.each c.0 c.1)
 pub can_tighten : (p : Instance) (cutoff : Option ℤ) (area : List Interval) → CanLook p cutoff area → CanTighten p cutoff area
 can_tighten p cutoff area can = record { width = can.below.width ∙ length-map p.columns bounds_of; small = can.small }
 
--- the halves of a box with a point
-pub are_halved : (params : Params) (area : List Interval) (branch : Branch) (halves : Halves) → IsNonEmpty area
-    → IsChosen params area branch → AreHalves area branch → AreOrdered params.half area branch halves → AreHalved params area halves
-are_halved params area branch halves some chosen parts ordered =
-    record { some = some; branch = branch; chosen = chosen; parts = parts; ordered = ordered }
+both_ways : (a b : ℤ) → a <ℤ b → b ≤ℤ a → ⊥
+both_ways a b h k = omega (arith, ints)
+
+no_cross : (area : List Interval) → IsNonEmpty area → IsCrossed area → ⊥
+no_cross area n c = both_ways _ _ c.2 (n c.0 c.1)
+
+crossed_is : (rows : List NamedRow) (cutoff : Option ℤ) (area : List Interval) → IsCrossed area → IsHopeless (crossed rows cutoff area)
+crossed_is [] None area c = c
+crossed_is [] (Some cutoff) area c = tt
+crossed_is (row ∷ rows) cutoff area c = tt
 
 -- nothing is left of the box
 pub nothing_left : (p : Instance) (cutoff : Option ℤ) (area : List Interval) (reason : Reason)
@@ -95,7 +106,7 @@ left_one p cutoff area inner x r t o = record {
 }
 
 -- the middle of an open interval is from its low to below its high
-middle_low : (low high m : ℤ) → low <ℤ high → (low +ℤ high) <ℤ ((pos 2 *ℤ m) +ℤ pos 2) → low ≤ℤ m
+pub middle_low : (low high m : ℤ) → low <ℤ high → (low +ℤ high) <ℤ ((pos 2 *ℤ m) +ℤ pos 2) → low ≤ℤ m
 middle_low low high m o h = omega (arith, ints)
 
 pub middle_high : (low high m : ℤ) → low <ℤ high → (pos 2 *ℤ m) ≤ℤ (low +ℤ high) → m <ℤ high
@@ -160,15 +171,57 @@ left_halves p cutoff params area inner halves t h =
           (ordered_less half inner h.branch (weight_of area) (halves_less params inner area h.branch h.some h.chosen t.below)));
     }
 
--- what is seen in what is left of a box is seen in the box
-pub seen_inside : (p : Instance) (cutoff : Option ℤ) (params : Params) (area inner : List Interval) (seen : Seen)
-    → CanLook p cutoff area → IsTightened p cutoff area (Kept inner) → IsInSight params inner seen → IsSeen p cutoff params area seen
-seen_inside p cutoff params area inner Hopeless r t s = left_crossed p cutoff area inner t s
-seen_inside p cutoff params area inner (Solved x) r t s = left_one p cutoff area inner x r t s
-seen_inside p cutoff params area inner (Halved halves) r t s = left_halves p cutoff params area inner halves t s
+-- the halves at a branch
+branch_halves : (p : Instance) (cutoff : Option ℤ) (params : Params) (area : List Interval) (work : WorkState) (branch : Branch)
+    → IsTightened p cutoff area (Kept work.sums.area) → IsWorking p cutoff work → IsBranched params work.sums.area branch
+    → IsSeenBranched p cutoff params area work branch
+branch_halves p cutoff params area work branch t working h = record {
+  halved = left_halves p cutoff params area work.sums.area (halves_at params.half work.sums.area branch) t (record {
+    some = h.some;
+    branch = branch;
+    chosen = h.chosen;
+    parts = h.parts;
+    ordered = record { first = refl; second = refl };
+  });
+  branched = h;
+  left = sym t.value;
+  below = t.below;
+  working = working;
+}
 
--- a box of a problem has at most 10,000 columns, and what is left of it as many
-pub left_is_short : (p : Instance) (cutoff : Option ℤ) (area inner : List Interval) → CanLook p cutoff area → IsTightened p cutoff area (Kept inner)
-    → length inner ≤ 10 ^ 4
-left_is_short p cutoff area inner r t =
+-- what is seen in what is left of a box is seen in the box
+pub seen_inside : (p : Instance) (cutoff : Option ℤ) (params : Params) (area : List Interval) (work : WorkState) (seen : Seen)
+    → CanLook p cutoff area → IsTightened p cutoff area (Kept work.sums.area) → IsWorking p cutoff work
+    → IsInSight params work.sums.area seen → IsSeen p cutoff params area work seen
+seen_inside p cutoff params area work Hopeless r t w s = left_crossed p cutoff area work.sums.area t s
+seen_inside p cutoff params area work (Solved x) r t w s = left_one p cutoff area work.sums.area x r t s
+seen_inside p cutoff params area work (Halved branch) r t w s = branch_halves p cutoff params area work branch t w s
+
+-- what the rounds leave of a box with a point
+pub tightened_as : (p : Instance) (cutoff : Option ℤ) (area : List Interval) (tight : Tight) → CanLook p cutoff area → IsNonEmpty area
+    → tight ≡ last_round p cutoff (rounds_of 32 p cutoff (Kept area)) → IsTightened p cutoff area tight
+tightened_as p cutoff area tight can some e =
+    told_tightened {E = ℕ} p cutoff area (Ok tight) can.problem (can_tighten p cutoff area can) (e ∙ sym (rounds_some p cutoff area some))
+
+-- a box below one with a point has a point
+pub below_some : (inner outer : List Interval) → IsBelow inner outer → IsNonEmpty outer → IsNonEmpty inner
+below_some inner outer below some j there =
+    let within : j < length outer = omega (arith, below.width, there) in
+    let n = below.each j within in
+    by_lt_z (interval_at inner j).high (interval_at inner j).low
+    (λ less. n.open_ (λ same. both_ways (interval_at inner j).high (interval_at inner j).low less
+    (subst (λ (s : Interval). s.low ≤ℤ s.high) (sym same) (some j within))))
+    (λ more. more)
+
+-- the whole box of a crossed search has no good point
+pub crossed_hopeless : (p : Instance) (cutoff : Option ℤ) (area : List Interval) → IsCrossed area → IsSeenHopeless p cutoff area
+crossed_hopeless p cutoff area c = record {
+  hopeless = subst IsHopeless (sym (rounds_none p cutoff area (λ some. no_cross area some c))) (crossed_is p.rows cutoff area c);
+  none = λ x h g. no_point area x c h;
+}
+
+-- what is left of a box has at most 10,000 columns
+pub few_columns : (p : Instance) (cutoff : Option ℤ) (area inner : List Interval) → CanLook p cutoff area
+    → IsTightened p cutoff area (Kept inner) → length inner ≤ 10 ^ 4
+few_columns p cutoff area inner r t =
     omega (arith, t.below.width, r.below.width, length-map p.columns bounds_of, r.problem.counts.columns)

@@ -1,6 +1,7 @@
 -- A step keeps what every task is, and leaves less to search.
 use Rattle.std.proofs.Common.{◌≡◌, ℤ, pos, ◌+ℤ◌, ◌≤ℤ◌, ◌+◌, ◌-◌, ◌<◌, ◌<ℤ◌, ◌⊎◌, inl, inr, List, [], ◌∷◌, ◌++◌, length, Option, Some, None, IfSome, refl, sym, ap, ◌∙◌, subst, arith}
 use Rattle.std.proofs.lemmas.Int.{ints}
+use Rattle.std.proofs.lemmas.List.{length-append}
 use Rattle.std.proofs.lemmas.List.Elements.{All-append, All-cons, All-nil, All-take}
 use Rattle.ug_rows.specs.declared.area.Interval.{Interval}
 use Rattle.ug_rows.specs.Boxes.{IsBelow, IsInside, IsInOne}
@@ -9,18 +10,19 @@ use Rattle.ug_problem.specs.Instances.{Instance}
 use Rattle.ug_problem.specs.Feasible.{Feasible}
 use Rattle.ug_problem.specs.Limits.{IsProblem}
 use Rattle.ug_problem.proofs.Cutoffs.{cutoff_small, good_is_better}
-use Rattle.ug_base.specs.declared.left.BoxLeft.{BoxLeft}
-use Rattle.ug_base.specs.Lefts.{areas_of, new_left}
-use Rattle.ug_base.proofs.LeftLemmas.{areas_behind, areas_front}
+use Rattle.ug_propagate.specs.Working.{WorkState}
+use Rattle.ug_branch.specs.declared.choice.Branch.{Branch}
+use Rattle.ug_base.specs.declared.part.Part.{Part}
+use Rattle.ug_base.specs.Chains.{HasSplit, area_of, areas_of}
+use Rattle.ug_base.specs.Halvings.{first_half, other_half}
+use Rattle.ug_base.proofs.Chains.{areas_behind, areas_front}
 use Rattle.ug_problem.specs.Better.{IsGap, IsGood, cutoff_of}
-use Rattle.ug_base.specs.declared.halves.Halves.{Halves}
-use Rattle.ug_base.specs.declared.look.Seen.{Seen}
-use Rattle.ug_base.specs.declared.look.Seen.TheVariants.{Hopeless, Solved, Halved}
 use Rattle.ug_rows.proofs.AreaLemmas.{below_trans}
-use Rattle.ug_base.specs.Steps.{IsFound}
+use Rattle.ug_base.specs.Steps.{IsFound, IsPruned, IsSplit}
 use Rattle.ug_base.specs.Points.{measure_of, weight_of}
 use Rattle.ug_base.specs.Tasks.{AreBelow, IsTask, TaskState}
-use Rattle.ug_base.specs.Looks.{CanLook, IsSeen, IsSeenHalved, IsSeenHopeless, IsSeenSolved, front_of}
+use Rattle.ug_base.specs.Looks.{CanLook, Halves, IsSeenBranched, IsSeenHalved, halves_at, IsSeenHopeless, IsSeenSolved}
+use Rattle.ug_base.specs.Fronts.{front_of}
 use Rattle.ug_base.proofs.LastBox.{all_last, in_one_behind, in_one_front, in_one_split}
 use Rattle.ug_base.proofs.Measures.{measure_push, measure_push_two}
 
@@ -130,62 +132,105 @@ split_task t last halves task e seen =
     }
 
 -- the last of a task's boxes, seen in its fields
-pub last_of_fields : (t : TaskState) (old : List BoxLeft) (last : BoxLeft) → t.boxes ≡ areas_of old → old ≡ front_of old ++ last ∷ []
-    → t.boxes ≡ front_of t.boxes ++ last.area ∷ []
-last_of_fields t old last same e =
-    same ∙ areas_behind old old (last ∷ []) e ∙ ap (λ bs. front_of bs ++ last.area ∷ []) (sym same)
+pub last_of_fields : (t : TaskState) (work : WorkState) (old : List Part) (last : Part) → t.boxes ≡ areas_of work old
+    → old ≡ front_of old ++ last ∷ [] → t.boxes ≡ front_of t.boxes ++ area_of work last ∷ []
+last_of_fields t work old last same e =
+    same ∙ areas_behind work old old (last ∷ []) e ∙ ap (λ bs. front_of bs ++ area_of work last ∷ []) (sym same)
 
-front_of_fields : (t : TaskState) (old new : List BoxLeft) → t.boxes ≡ areas_of old → new ≡ front_of old → areas_of new ≡ front_of t.boxes
-front_of_fields t old new same e = ap areas_of e ∙ areas_front old ∙ ap (λ (bs : List (List Interval)). front_of bs) (sym same)
+-- the boxes but the last, where the working box went on
+front_of_fields : (t : TaskState) (before after : WorkState) (old new : List Part) → t.boxes ≡ areas_of before old
+    → areas_of after old ≡ areas_of before old → new ≡ front_of old → areas_of after new ≡ front_of t.boxes
+front_of_fields t before after old new same kept e =
+    ap (areas_of after) e ∙ areas_front after old
+    ∙ ap (λ (bs : List (List Interval)). front_of bs) (kept ∙ sym same)
 
 -- the same of the fields of a task, after a look at the last box
-pub after_hopeless : (t : TaskState) (old new : List BoxLeft) (last : BoxLeft) (seen : Seen) → t.boxes ≡ areas_of old → IsTask t
-    → old ≡ front_of old ++ last ∷ [] → IsSeen t.problem t.cutoff t.params last.area seen → seen ≡ Hopeless → new ≡ front_of old
-    → IsTask (record t { boxes = areas_of new })
-after_hopeless t old new last seen same task e s is dropped =
-    subst (λ bs. IsTask (record t { boxes = bs })) (sym (front_of_fields t old new same dropped))
-    (pruned_task t last.area task (last_of_fields t old last same e) (subst (IsSeen t.problem t.cutoff t.params last.area) is s))
+pub after_hopeless : (t : TaskState) (before after : WorkState) (old new : List Part) (last : Part) → t.boxes ≡ areas_of before old
+    → IsTask t → old ≡ front_of old ++ last ∷ [] → areas_of after old ≡ areas_of before old
+    → IsSeenHopeless t.problem t.cutoff (area_of before last) → new ≡ front_of old
+    → IsTask (record t { boxes = areas_of after new })
+after_hopeless t before after old new last same task e kept s dropped =
+    subst (λ bs. IsTask (record t { boxes = bs })) (sym (front_of_fields t before after old new same kept dropped))
+    (pruned_task t (area_of before last) task (last_of_fields t before old last same e) s)
 
-pub after_solved : (t : TaskState) (old new : List BoxLeft) (last : BoxLeft) (seen : Seen) (x : List ℤ) (cutoff : Option ℤ)
-    → t.boxes ≡ areas_of old → IsTask t → old ≡ front_of old ++ last ∷ [] → IsSeen t.problem t.cutoff t.params last.area seen
-    → seen ≡ Solved x → new ≡ front_of old → cutoff ≡ Some (cutoff_of t.problem t.gap x)
-    → IsTask (record t { boxes = areas_of new; cutoff = cutoff })
-after_solved t old new last seen x cutoff same task e s is dropped value =
-    subst (λ bs. IsTask (record t { boxes = bs; cutoff = cutoff })) (sym (front_of_fields t old new same dropped))
+pub after_solved : (t : TaskState) (before after : WorkState) (old new : List Part) (last : Part) (x : List ℤ) (cutoff : Option ℤ)
+    → t.boxes ≡ areas_of before old → IsTask t → old ≡ front_of old ++ last ∷ [] → areas_of after old ≡ areas_of before old
+    → IsSeenSolved t.problem t.cutoff (area_of before last) x → new ≡ front_of old → cutoff ≡ Some (cutoff_of t.problem t.gap x)
+    → IsTask (record t { boxes = areas_of after new; cutoff = cutoff })
+after_solved t before after old new last x cutoff same task e kept s dropped value =
+    subst (λ bs. IsTask (record t { boxes = bs; cutoff = cutoff })) (sym (front_of_fields t before after old new same kept dropped))
     (subst (λ c. IsTask (record t { boxes = front_of t.boxes; cutoff = c })) (sym value)
-    (found_task t last.area x task (last_of_fields t old last same e)
-    (subst (IsSeen t.problem t.cutoff t.params last.area) is s)))
+    (found_task t (area_of before last) x task (last_of_fields t before old last same e) s))
 
-pub after_halved : (t : TaskState) (old new : List BoxLeft) (last : BoxLeft) (seen : Seen) (halves : Halves)
-    → t.boxes ≡ areas_of old → IsTask t → old ≡ front_of old ++ last ∷ [] → IsSeen t.problem t.cutoff t.params last.area seen
-    → seen ≡ Halved halves → new ≡ front_of old ++ new_left halves.second ∷ new_left halves.first ∷ []
-    → IsTask (record t { boxes = areas_of new })
-after_halved t old new last seen halves same task e s is put =
-    let there : areas_of new ≡ front_of t.boxes ++ halves.second ∷ halves.first ∷ [] =
-    areas_behind new old (new_left halves.second ∷ new_left halves.first ∷ []) put
-    ∙ ap (λ bs. front_of bs ++ halves.second ∷ halves.first ∷ []) (sym same) in
-    subst (λ bs. IsTask (record t { boxes = bs })) (sym there)
-    (split_task t last.area halves task (last_of_fields t old last same e)
-    (subst (IsSeen t.problem t.cutoff t.params last.area) is s))
+-- the boxes after the last was halved
+split_boxes : (t : TaskState) (before after : WorkState) (old new : List Part) (branch : Branch) → t.boxes ≡ areas_of before old
+    → areas_of after old ≡ areas_of before old → (h : HasSplit t.problem t.whole after t.params.half branch old new)
+    → areas_of after new ≡ front_of t.boxes ++ other_half t.params.half after.sums.area branch ∷ first_half t.params.half after.sums.area branch ∷ []
+split_boxes t before after old new branch same kept h =
+    areas_behind after new old (h.second ∷ h.first ∷ []) h.put
+    ∙ ap (λ bs. front_of bs ++ area_of after h.second ∷ area_of after h.first ∷ []) (kept ∙ sym same)
+    ∙ ap (λ (a : List Interval). front_of t.boxes ++ a ∷ area_of after h.first ∷ []) h.area_second
+    ∙ ap (λ (a : List Interval). front_of t.boxes ++ other_half t.params.half after.sums.area branch ∷ a ∷ []) h.area_first
+
+pub after_halved : (t : TaskState) (before after : WorkState) (old new : List Part) (last : Part) (branch : Branch)
+    → t.boxes ≡ areas_of before old → IsTask t → old ≡ front_of old ++ last ∷ [] → areas_of after old ≡ areas_of before old
+    → IsSeenBranched t.problem t.cutoff t.params (area_of before last) after branch
+    → HasSplit t.problem t.whole after t.params.half branch old new
+    → IsTask (record t { boxes = areas_of after new })
+after_halved t before after old new last branch same task e kept s h =
+    subst (λ bs. IsTask (record t { boxes = bs })) (sym (split_boxes t before after old new branch same kept h))
+    (split_task t (area_of before last) (halves_at t.params.half after.sums.area branch) task
+    (last_of_fields t before old last same e) s.halved)
+
+-- what a step that pruned the last box did
+pub pruned_step : (t : TaskState) (before after : WorkState) (old new : List Part) (last : Part) → t.boxes ≡ areas_of before old
+    → old ≡ front_of old ++ last ∷ [] → areas_of after old ≡ areas_of before old
+    → IsSeenHopeless t.problem t.cutoff (area_of before last) → new ≡ front_of old
+    → IsPruned t (record t { boxes = areas_of after new })
+pruned_step t before after old new last same e kept s dropped =
+    let front : areas_of after new ≡ front_of t.boxes = front_of_fields t before after old new same kept dropped in
+    record {
+      last = area_of before last;
+      boxes = last_of_fields t before old last same e ∙ ap (λ bs. bs ++ area_of before last ∷ []) (sym front);
+      same = refl;
+      hopeless = s.hopeless;
+    }
 
 -- what a step that found a point did
-pub found_step : (t : TaskState) (old new : List BoxLeft) (last : BoxLeft) (seen : Seen) (x : List ℤ) (cutoff : Option ℤ)
-    → t.boxes ≡ areas_of old → old ≡ front_of old ++ last ∷ [] → IsSeen t.problem t.cutoff t.params last.area seen
-    → seen ≡ Solved x → new ≡ front_of old → cutoff ≡ Some (cutoff_of t.problem t.gap x)
-    → IsFound t (record t { boxes = areas_of new; cutoff = cutoff }) x
-found_step t old new last seen x cutoff same e s is dropped value =
-    let solved : IsSeenSolved t.problem t.cutoff last.area x = subst (IsSeen t.problem t.cutoff t.params last.area) is s in
-    let front : areas_of new ≡ front_of t.boxes = front_of_fields t old new same dropped in
+pub found_step : (t : TaskState) (before after : WorkState) (old new : List Part) (last : Part) (x : List ℤ) (cutoff : Option ℤ)
+    → t.boxes ≡ areas_of before old → old ≡ front_of old ++ last ∷ [] → areas_of after old ≡ areas_of before old
+    → IsSeenSolved t.problem t.cutoff (area_of before last) x → new ≡ front_of old → cutoff ≡ Some (cutoff_of t.problem t.gap x)
+    → IsFound t (record t { boxes = areas_of after new; cutoff = cutoff }) x
+found_step t before after old new last x cutoff same e kept solved dropped value =
+    let front : areas_of after new ≡ front_of t.boxes = front_of_fields t before after old new same kept dropped in
     record {
-      last = last.area;
-      boxes = last_of_fields t old last same e ∙ ap (λ bs. bs ++ last.area ∷ []) (sym front);
+      last = area_of before last;
+      boxes = last_of_fields t before old last same e ∙ ap (λ bs. bs ++ area_of before last ∷ []) (sym front);
       inner = solved.inner;
       left = solved.left;
       fixed = solved.fixed;
       point = solved.point;
       good = solved.good;
-      same = ap (λ (c : Option ℤ). record t { boxes = areas_of new; cutoff = c }) value;
+      same = ap (λ (c : Option ℤ). record t { boxes = areas_of after new; cutoff = c }) value;
     }
+
+-- what a step that halved the last box did
+pub split_step : (t : TaskState) (before after : WorkState) (old new : List Part) (last : Part) (branch : Branch)
+    → t.boxes ≡ areas_of before old → old ≡ front_of old ++ last ∷ [] → areas_of after old ≡ areas_of before old
+    → IsSeenBranched t.problem t.cutoff t.params (area_of before last) after branch
+    → HasSplit t.problem t.whole after t.params.half branch old new
+    → IsSplit t (record t { boxes = areas_of after new })
+split_step t before after old new last branch same e kept s h = record {
+  before = front_of t.boxes;
+  last = area_of before last;
+  boxes = last_of_fields t before old last same e;
+  inner = after.sums.area;
+  left = s.left;
+  some = s.branched.some;
+  branch = branch;
+  chosen = s.branched.chosen;
+  same = ap (λ bs. record t { boxes = bs }) (split_boxes t before after old new branch same kept h);
+}
 
 dropped_less : (boxes : List (List Interval)) (last : List Interval) → boxes ≡ front_of boxes ++ last ∷ []
     → measure_of (front_of boxes) < measure_of boxes
@@ -198,20 +243,34 @@ halved_less boxes last first second e h =
     omega (arith, m, measure_push (front_of boxes) last, measure_push_two (front_of boxes) second first, h)
 
 -- a box dropped leaves less
-pub left_dropped_less : (old new : List BoxLeft) (last : BoxLeft) → old ≡ front_of old ++ last ∷ [] → new ≡ front_of old
-    → measure_of (areas_of new) < measure_of (areas_of old)
-left_dropped_less old new last e dropped =
-    subst (λ bs. measure_of bs < measure_of (areas_of old)) (sym (ap areas_of dropped ∙ areas_front old))
-    (dropped_less (areas_of old) last.area (areas_behind old old (last ∷ []) e))
+pub left_dropped_less : (t : TaskState) (before after : WorkState) (old new : List Part) (last : Part) → t.boxes ≡ areas_of before old
+    → old ≡ front_of old ++ last ∷ [] → areas_of after old ≡ areas_of before old → new ≡ front_of old
+    → measure_of (areas_of after new) < measure_of t.boxes
+left_dropped_less t before after old new last same e kept dropped =
+    subst (λ bs. measure_of bs < measure_of t.boxes) (sym (front_of_fields t before after old new same kept dropped))
+    (dropped_less t.boxes (area_of before last) (last_of_fields t before old last same e))
 
 -- and one halved
-pub left_halved_less : (t : TaskState) (old new : List BoxLeft) (last : BoxLeft) (seen : Seen) (halves : Halves)
-    → old ≡ front_of old ++ last ∷ [] → IsSeen t.problem t.cutoff t.params last.area seen → seen ≡ Halved halves
-    → new ≡ front_of old ++ new_left halves.second ∷ new_left halves.first ∷ []
-    → measure_of (areas_of new) < measure_of (areas_of old)
-left_halved_less t old new last seen halves e s is put =
-    let halved : IsSeenHalved t.problem t.cutoff t.params last.area halves =
-    subst (IsSeen t.problem t.cutoff t.params last.area) is s in
-    subst (λ bs. measure_of bs < measure_of (areas_of old))
-    (sym (areas_behind new old (new_left halves.second ∷ new_left halves.first ∷ []) put))
-    (halved_less (areas_of old) last.area halves.first halves.second (areas_behind old old (last ∷ []) e) halved.less)
+pub left_halved_less : (t : TaskState) (before after : WorkState) (old new : List Part) (last : Part) (branch : Branch)
+    → t.boxes ≡ areas_of before old → old ≡ front_of old ++ last ∷ [] → areas_of after old ≡ areas_of before old
+    → IsSeenBranched t.problem t.cutoff t.params (area_of before last) after branch
+    → HasSplit t.problem t.whole after t.params.half branch old new
+    → measure_of (areas_of after new) < measure_of t.boxes
+left_halved_less t before after old new last branch same e kept s h =
+    subst (λ bs. measure_of bs < measure_of t.boxes) (sym (split_boxes t before after old new branch same kept h))
+    (halved_less t.boxes (area_of before last) (first_half t.params.half after.sums.area branch)
+    (other_half t.params.half after.sums.area branch) (last_of_fields t before old last same e) s.halved.less)
+
+-- where there is a last box, there are boxes
+pub some_left : (t : TaskState) (work : WorkState) (old : List Part) (last : Part) → t.boxes ≡ areas_of work old
+    → old ≡ front_of old ++ last ∷ [] → t.boxes ≡ [] → ⊥
+some_left t work old last same e none =
+    let n = ap (λ (bs : List (List Interval)). length bs) (sym none ∙ last_of_fields t work old last same e) in
+    absurd (omega (arith, n, length-append (front_of t.boxes) (area_of work last ∷ [])))
+
+-- what is left of the last box is below the whole one
+pub left_below : (t : TaskState) (before after : WorkState) (old : List Part) (last : Part) (branch : Branch)
+    → t.boxes ≡ areas_of before old → IsTask t → old ≡ front_of old ++ last ∷ []
+    → IsSeenBranched t.problem t.cutoff t.params (area_of before last) after branch → IsBelow after.sums.area t.whole
+left_below t before after old last branch same task e s =
+    below_trans _ _ _ s.below (last_below t (area_of before last) task (last_of_fields t before old last same e))

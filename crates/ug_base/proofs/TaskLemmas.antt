@@ -1,5 +1,5 @@
 -- A new task, and one with a lower cutoff.
-use Rattle.std.proofs.Common.{◌≡◌, ℤ, ◌*◌, ◌^◌, ◌≤◌, ◌<ℤ◌, inl, inr, List, [], ◌∷◌, unsigned_abs, Option, Some, None, IfSome, sym, ap, ◌∙◌, subst, arith}
+use Rattle.std.proofs.Common.{◌≡◌, ℤ, ◌*◌, ◌^◌, ◌≤◌, ◌<ℤ◌, inl, inr, List, [], ◌∷◌, length, drop, ◌<◌, unsigned_abs, Option, Some, None, IfSome, sym, ap, ◌∙◌, subst, arith}
 use Rattle.std.proofs.lemmas.Int.{ints}
 use Rattle.std.proofs.lemmas.List.Elements.{All-cons, All-nil}
 use Rattle.ug_rows.specs.declared.area.Interval.{Interval}
@@ -9,18 +9,24 @@ use Rattle.ug_rows.proofs.AreaLemmas.{below_itself}
 use Rattle.ug_problem.specs.Instances.{Instance, root_of}
 use Rattle.ug_problem.specs.Limits.{IsProblem}
 use Rattle.ug_problem.specs.Better.{IsGap, IsSmallCutoff}
-use Rattle.ug_base.specs.declared.left.BoxLeft.{BoxLeft}
-use Rattle.ug_base.specs.Lefts.{KeepFloors, KeepsFloor, areas_of}
+use Rattle.ug_rows.specs.Sums.{box_floor}
+use Rattle.ug_propagate.specs.declared.resting.Rest.TheVariants.{Unknown}
+use Rattle.ug_propagate.specs.declared.working.Change.{Change}
+use Rattle.ug_propagate.specs.Working.{AreChanges, AreReached, IsBox, WorkState, undone}
+use Rattle.ug_base.specs.declared.part.Part.{Part}
+use Rattle.ug_base.specs.Chains.{IsChain, IsPart, areas_of, base_of}
 use Rattle.ug_base.specs.Tasks.{AreBelow, IsTask, TaskState, lesser_of}
 use Rattle.ug_base.proofs.Floors.{lesser_is}
 
 -- a task with the whole box left and none handed
-pub new_task : (t : TaskState) (boxes : List BoxLeft) (gap : ℤ) → IsProblem t.problem → IsBelow t.whole (root_of t.problem)
-    → IsSmallCutoff t.cutoff → IsGap gap → t.gap ≡ gap → boxes ≡ record { area = t.whole; floor = None } ∷ []
-    → t.boxes ≡ areas_of boxes → t.handed ≡ [] → IsTask t
-new_task t boxes gap problem below small g same e left handed =
-    let P : List Interval → Type 0 = λ (area : List Interval). IsBelow area t.whole in
-    let one : t.boxes ≡ t.whole ∷ [] = left ∙ ap areas_of e in
+pub new_task : (t : TaskState) (work : WorkState) (parts : List Part) (gap floor : ℤ) → IsProblem t.problem
+    → IsBelow t.whole (root_of t.problem) → IsSmallCutoff t.cutoff → IsGap gap → t.gap ≡ gap
+    → parts ≡ record { depth = 0; cut = None; floor = floor; rest = Unknown } ∷ [] → work.trail ≡ [] → work.sums.area ≡ t.whole
+    → t.boxes ≡ areas_of work parts → t.handed ≡ [] → IsTask t
+new_task t work parts gap floor problem below small g same e none area left handed =
+    let P : List Interval → Type 0 = λ (a : List Interval). IsBelow a t.whole in
+    let one : t.boxes ≡ t.whole ∷ [] = left ∙ ap (areas_of work) e
+    ∙ ap (λ (trail : List Change). undone work.sums.area (drop 0 trail) ∷ []) none ∙ ap (λ (a : List Interval). a ∷ []) area in
     record {
       problem = problem;
       whole = below;
@@ -31,10 +37,31 @@ new_task t boxes gap problem below small g same e left handed =
       covered = λ x inside good. inl (subst (λ bs. IsInOne bs x) (sym one) (inl inside));
     }
 
-pub new_floors : (p : Instance) (whole : List Interval) (boxes : List BoxLeft) → boxes ≡ record { area = whole; floor = None } ∷ []
-    → KeepFloors p boxes
-new_floors p whole boxes e =
-    subst (KeepFloors p) (sym e) (All-cons (KeepsFloor p) (record { area = whole; floor = None }) [] tt (All-nil (KeepsFloor p)))
+-- and its one part
+pub new_chain : (p : Instance) (whole : List Interval) (work : WorkState) (parts : List Part)
+    → parts ≡ record { depth = 0; cut = None; floor = box_floor p.objective work.sums.area; rest = Unknown } ∷ []
+    → IsBox p work → work.trail ≡ [] → work.sums.area ≡ whole → IsChain p whole work parts
+new_chain p whole work parts e box none area =
+    let only : Part = record { depth = 0; cut = None; floor = box_floor p.objective work.sums.area; rest = Unknown } in
+    let C : Change → Type 0 = λ (change : Change). change.column < length p.columns in
+    let base : base_of work only ≡ work.sums.area =
+    ap (λ (trail : List Change). undone work.sums.area (drop 0 trail)) none in
+    let is : IsPart p whole work only = record {
+      deep = omega arith;
+      below = subst (λ (a : List Interval). IsBelow a whole) (sym (base ∙ area)) (below_itself whole);
+      cut = tt;
+      rest = tt;
+      floor = ap (λ (a : List Interval). box_floor p.objective a) (sym base);
+    } in
+    subst (λ (ps : List Part). IsChain p whole work ps) (sym e) (record {
+      base = record {
+        box = box;
+        trail = subst (λ (trail : List Change). AreChanges (length p.columns) trail) (sym none) (All-nil C);
+        reach = subst (λ (a : List Interval). AreReached p a work.reach) area box.reach;
+      };
+      each = All-cons (IsPart p whole work) only [] is (All-nil (IsPart p whole work));
+      rising = (All-nil (λ (later : Part). 0 ≤ later.depth), tt);
+    })
 
 -- a value below the lesser of two is below the first
 below_first : (cutoff : Option ℤ) (given v : ℤ) → v <ℤ lesser_of cutoff given → IfSome cutoff (λ c. v <ℤ c)
@@ -66,7 +93,8 @@ lowered_task t given cutoff task h e =
       });
     })
 
--- a task whose boxes are the same but for the floors beside them
-pub same_task : (t : TaskState) (old new : List BoxLeft) → t.boxes ≡ areas_of old → areas_of new ≡ areas_of old → IsTask t
-    → IsTask (record t { boxes = areas_of new })
-same_task t old new same e task = subst (λ (bs : List (List Interval)). IsTask (record t { boxes = bs })) (same ∙ sym e) task
+-- a task whose boxes are the same in another working box
+pub same_task : (t : TaskState) (before after : WorkState) (parts : List Part) → t.boxes ≡ areas_of before parts
+    → areas_of after parts ≡ areas_of before parts → IsTask t → IsTask (record t { boxes = areas_of after parts })
+same_task t before after parts same e task =
+    subst (λ (bs : List (List Interval)). IsTask (record t { boxes = bs })) (same ∙ sym e) task

@@ -1,15 +1,18 @@
 -- What handing does: the first of the boxes left is no longer left, and is the last of the boxes handed.
-use Rattle.std.specs.Prelude.{◌≡◌, ℤ, ◌<◌, ◌≤◌, List, [], ◌∷◌, ◌++◌, length, Option, Some, None}
+use Rattle.std.specs.Prelude.{◌≡◌, ◌<◌, ◌≤◌, List, [], ◌∷◌, ◌++◌, length, Option, Some, None}
 use Rattle.ug_rows.specs.declared.area.Interval.{Interval}
 use Rattle.ug_base.specs.declared.handed.Handed.{Handed}
-use Rattle.ug_base.specs.declared.left.BoxLeft.{BoxLeft}
+use Rattle.ug_base.specs.declared.part.Part.{Part}
+use Rattle.ug_propagate.specs.Working.{WorkState}
+use Rattle.ug_base.specs.Chains.{area_of}
 use Rattle.ug_base.specs.Points.{measure_of}
 use Rattle.ug_base.specs.Tasks.{TaskState}
 
--- the first of the boxes left is moved behind other boxes
-pub record IsMoved (left_old left_new : List BoxLeft) (others_old others_new : List (List Interval)) (area : List Interval) : Type 0 where
-  pub floor : Option ℤ
-  pub first : left_old ≡ record { area = area; floor = floor } ∷ left_new
+-- the box of the first part is moved behind other boxes
+pub record IsMoved (work : WorkState) (old new : List Part) (others_old others_new : List (List Interval)) (area : List Interval) : Type 0 where
+  pub part : Part
+  pub first : old ≡ part ∷ new
+  pub area_is : area ≡ area_of work part
   pub last : others_new ≡ others_old ++ area ∷ []
 
 -- of two boxes left or more the first is handed, and its number is its place among the boxes handed; nothing else changed

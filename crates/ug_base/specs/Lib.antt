@@ -1,6 +1,9 @@
 pub mod Covers
 pub mod Points
-pub mod Lefts
+pub mod Fronts
+pub mod Halvings
+pub mod Chains
+pub mod Floors
 pub mod Tasks
 pub mod Views
 pub mod Steps

@@ -1,5 +1,5 @@
 -- What a look at a box sees, and what that means for the search.
-use Rattle.std.specs.Prelude.{◌≡◌, ℤ, ◌+◌, ◌-◌, ◌<◌, ◌⊎◌, List, length, take, map, Option}
+use Rattle.std.specs.Prelude.{◌≡◌, ℤ, ◌+◌, ◌<◌, ◌⊎◌, List, map, Option}
 use Rattle.ug_rows.specs.declared.area.Interval.{Interval}
 use Rattle.ug_rows.specs.Boxes.{IsInside, IsBelow, IsNonEmpty, IsCrossed, IsFixed}
 use Rattle.ug_problem.specs.Instances.{Instance, root_of}
@@ -10,18 +10,28 @@ use Rattle.ug_branch.specs.declared.choice.Branch.{Branch}
 use Rattle.ug_branch.specs.Choices.{AreHalves, IsChosen}
 use Rattle.ug_propagate.specs.declared.tight.Tight.TheVariants.{Kept}
 use Rattle.ug_propagate.specs.Rounds.{rounds}
-use Rattle.ug_base.specs.declared.halves.Halves.{Halves}
+use Rattle.ug_propagate.specs.Working.{IsWorking, WorkState}
 use Rattle.ug_base.specs.declared.look.Seen.{Seen}
 use Rattle.ug_base.specs.declared.look.Seen.TheVariants.{Hopeless, Solved, Halved}
 use Rattle.ug_problem.specs.Better.{IsGood, HasNoGood, IsSmallCutoff}
 use Rattle.ug_base.specs.Points.{weight_of}
-use Rattle.ug_base.specs.Steps.{IsHopeless, first_half, other_half}
+use Rattle.ug_base.specs.Steps.{IsHopeless}
+use Rattle.ug_base.specs.Halvings.{first_half, other_half}
 
 -- a box below the problem's root box, and a cutoff that is not too large
 pub record CanLook (p : Instance) (cutoff : Option ℤ) (area : List Interval) : Type 0 where
   pub problem : IsProblem p
   pub below : IsBelow area (root_of p)
   pub small : IsSmallCutoff cutoff
+
+-- two halves of a box: the one that is looked at first, and the other
+pub record Halves : Type 0 where
+  pub first : List Interval
+  pub second : List Interval
+
+-- the halves of the box at the branch
+abbrev pub halves_at : Half → List Interval → Branch → Halves
+halves_at half area branch = record { first = first_half half area branch; second = other_half half area branch }
 
 -- the point with each column at its low
 abbrev pub lows_of : List Interval → List ℤ
@@ -45,11 +55,17 @@ pub record AreHalved (params : Params) (area : List Interval) (halves : Halves) 
   pub parts : AreHalves area branch
   pub ordered : AreOrdered params.half area branch halves
 
+-- the box has a point and an open column, at which it is halved
+pub record IsBranched (params : Params) (area : List Interval) (branch : Branch) : Type 0 where
+  pub some : IsNonEmpty area
+  pub chosen : IsChosen params area branch
+  pub parts : AreHalves area branch
+
 -- what is seen in what is left of a box
 abbrev pub IsInSight : Params → List Interval → Seen → Type 0
 IsInSight params area Hopeless = IsCrossed area
 IsInSight params area (Solved x) = IsOnly area x
-IsInSight params area (Halved halves) = AreHalved params area halves
+IsInSight params area (Halved branch) = IsBranched params area branch
 
 -- no point of the box is good
 pub record IsSeenHopeless (p : Instance) (cutoff : Option ℤ) (area : List Interval) : Type 0 where
@@ -78,12 +94,16 @@ pub record IsSeenHalved (p : Instance) (cutoff : Option ℤ) (params : Params) (
   pub kept : (y : List ℤ) → IsInside area y → IsGood p cutoff y → IsInside halves.first y ⊎ IsInside halves.second y
   pub less : weight_of halves.second + weight_of halves.first < weight_of area
 
--- what this look at a box saw
-abbrev pub IsSeen : Instance → Option ℤ → Params → List Interval → Seen → Type 0
-IsSeen p cutoff params area Hopeless = IsSeenHopeless p cutoff area
-IsSeen p cutoff params area (Solved x) = IsSeenSolved p cutoff area x
-IsSeen p cutoff params area (Halved halves) = IsSeenHalved p cutoff params area halves
+-- the working box is what is left of the box, and has two halves
+pub record IsSeenBranched (p : Instance) (cutoff : Option ℤ) (params : Params) (area : List Interval) (work : WorkState) (branch : Branch) : Type 0 where
+  pub halved : IsSeenHalved p cutoff params area (halves_at params.half work.sums.area branch)
+  pub branched : IsBranched params work.sums.area branch
+  pub left : rounds p cutoff area ≡ Kept work.sums.area
+  pub below : IsBelow work.sums.area area
+  pub working : IsWorking p cutoff work
 
--- all items but the last
-abbrev pub front_of : {A : Type 0} → List A → List A
-front_of items = take (length items - 1) items
+-- what this look at a box saw, in the working box that it left
+abbrev pub IsSeen : Instance → Option ℤ → Params → List Interval → WorkState → Seen → Type 0
+IsSeen p cutoff params area work Hopeless = IsSeenHopeless p cutoff area
+IsSeen p cutoff params area work (Solved x) = IsSeenSolved p cutoff area x
+IsSeen p cutoff params area work (Halved branch) = IsSeenBranched p cutoff params area work branch

@@ -2,16 +2,15 @@
 use Rattle.std.specs.Prelude.{◌≡◌, ℤ, ◌<◌, List, [], ◌∷◌, ◌++◌, Some}
 use Rattle.ug_rows.specs.declared.area.Interval.{Interval}
 use Rattle.ug_rows.specs.Boxes.{IsInside, IsNonEmpty, IsCrossed, IsFixed}
-use Rattle.ug_branch.specs.declared.params.Half.{Half}
-use Rattle.ug_branch.specs.declared.params.Half.TheVariants.{Lower, Upper}
 use Rattle.ug_branch.specs.declared.choice.Branch.{Branch}
-use Rattle.ug_branch.specs.Choices.{IsChosen, lower_half, upper_half}
+use Rattle.ug_branch.specs.Choices.{IsChosen}
 use Rattle.ug_propagate.specs.declared.tight.Tight.{Tight}
 use Rattle.ug_propagate.specs.declared.tight.Tight.TheVariants.{Kept, Empty as NothingLeft}
 use Rattle.ug_problem.specs.Better.{AreAllHanded, HasNoGood, IsGood, cutoff_of}
 use Rattle.ug_propagate.specs.Rounds.{rounds}
 use Rattle.ug_base.specs.declared.step.Step.{Step}
 use Rattle.ug_base.specs.declared.step.Step.TheVariants.{Pruned, Found, Split, Empty}
+use Rattle.ug_base.specs.Halvings.{first_half, other_half}
 use Rattle.ug_base.specs.Points.{measure_of}
 use Rattle.ug_base.specs.Tasks.{TaskState}
 
@@ -19,16 +18,6 @@ use Rattle.ug_base.specs.Tasks.{TaskState}
 abbrev pub IsHopeless : Tight → Type 0
 IsHopeless (NothingLeft _) = Unit {0}
 IsHopeless (Kept inner) = IsCrossed inner
-
--- the half that is looked at first
-abbrev pub first_half : Half → List Interval → Branch → List Interval
-first_half Lower area branch = lower_half area branch
-first_half Upper area branch = upper_half area branch
-
--- the half that is looked at after it
-abbrev pub other_half : Half → List Interval → Branch → List Interval
-other_half Lower area branch = upper_half area branch
-other_half Upper area branch = lower_half area branch
 
 -- the last box had no good point, and is dropped
 pub record IsPruned (old new : TaskState) : Type 0 where

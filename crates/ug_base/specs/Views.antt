@@ -1,6 +1,6 @@
 -- What contracts see of a task.
 use Rattle.ug_base.specs.declared.task.Task.TheInside.{Inside}
-use Rattle.ug_base.specs.Lefts.{KeepFloors, areas_of}
+use Rattle.ug_base.specs.Chains.{IsChain, areas_of}
 use Rattle.ug_base.specs.Tasks.{TaskState, IsTask}
 
 -- the state that the fields of a task say
@@ -12,11 +12,11 @@ state_of t = record {
   whole = t.whole;
   cutoff = t.cutoff;
   gap = t.gap;
-  boxes = areas_of t.boxes.items;
+  boxes = areas_of t.work t.parts.items;
   handed = t.handed.items;
 }
 
--- the fields are those of a task, and keep the floors that were taken
+-- the fields are those of a task, whose boxes are parts of its working box
 pub record AreOfTask (t : Inside) : Type 0 where
   pub task : IsTask (state_of t)
-  pub floors : KeepFloors t.problem t.boxes.items
+  pub chain : IsChain t.problem t.whole t.work t.parts.items

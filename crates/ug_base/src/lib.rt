@@ -7,12 +7,13 @@
 #![tactic(auto)]
 
 mod boxes;
-mod halves;
 mod handed;
-mod left;
 mod look;
 mod lowest;
 mod lows;
+mod moving;
+mod part;
+mod split;
 mod step;
 mod task;
 

@@ -1,15 +1,20 @@
-ghost use Rattle.std.specs.Prelude.{◌≤◌, ◌^◌, length, IfOk, MatchBool};
-ghost use Rattle.ug_rows.specs.Boxes.{IsNonEmpty, IsCrossed};
-ghost use Rattle.ug_propagate.specs.Claims.{IsTightened};
-ghost use Rattle.ug_base.specs.Looks.{IsInSight, CanLook, IsSeen};
+ghost use Rattle.std.specs.Prelude.{◌≡◌, ◌++◌, ◌∷◌, [], ◌≤◌, ◌^◌, length, IfOk, IfSome, OnOk, MatchBool};
+ghost use Rattle.ug_rows.specs.Boxes.{IsBelow, IsNonEmpty, IsCrossed};
+ghost use Rattle.ug_problem.specs.Better.{IsSmallCutoff};
+ghost use Rattle.ug_problem.specs.Instances.{root_of};
+ghost use Rattle.ug_propagate.specs.Waiting.{WentOn};
+ghost use Rattle.ug_propagate.specs.Working.{IsWorking};
+ghost use Rattle.ug_base.specs.Chains.{IsBase, IsChain, IsCut, IsPart, KeepsBases, area_of, areas_of, base_of, narrowed};
+ghost use Rattle.ug_base.specs.Looks.{CanLook, IsInSight, IsSeen};
+ghost use Rattle.ug_base.specs.Fronts.{front_of};
 
-use crate::halves::{Halves, halve};
 use crate::lows::lows;
+use crate::part::{Narrowing, Part};
 use std::alloc::{AllocError, Global};
-use ug_branch::{Params, choose};
-use ug_problem::Shared;
-use ug_propagate::{Tight, tighten};
-use ug_rows::{IntBox, Point, has_point};
+use ug_branch::{Branch, Params, branch_of};
+use ug_problem::{Problem, Shared};
+use ug_propagate::{Working, propagate};
+use ug_rows::{IntBox, Interval, Point, has_point};
 
 /// What is seen in a box.
 #[derive(Debug, Drop)]
@@ -18,53 +23,162 @@ pub enum Seen {
     Hopeless,
     /// One good point.
     Solved(Point),
-    /// Its halves.
-    Halved(Halves),
+    /// Two halves of what is left of it in the working box.
+    Halved(Branch),
 }
 
-// What is seen in what is left of a box. A box without points is left where there is neither row nor cutoff.
-#[tactic(auto, using(crate::proofs::Sight::only_point, crate::proofs::Sight::are_halved))]
-fn look_inside(alloc: Global, params: Params, inner: IntBox) -> Result<Seen, AllocError>
-    requires { length inner ≤ 10 ^ 4 }
-    ensures { IfOk result (IsInSight params inner) }
+// Brings the working box to the one at which a part was split off, with the rows awake that may not be at rest.
+fn begin(work: &mut Working, problem: &Problem, whole: &IntBox, part: Part, cutoff: Option<i128>)
+    requires whole { IsBelow whole.now (root_of problem.now) }
+    requires base { IsBase problem.now whole.now work.old }
+    requires part { IsPart problem.now whole.now work.old part }
+    ensures base { IsBase problem.now whole.now work.new }
+    ensures kept { KeepsBases part.depth work.old work.new }
+    ensures working { IsWorking problem.now cutoff work.new }
+    ensures area { work.new.sums.area ≡ base_of work.old part }
 {
-    if !has_point(inner.as_slice()) {
-        return Ok(Seen::Hopeless);
-    }
-    match choose(params, &inner) {
-        Some(branch) => Ok(Seen::Halved(halve(alloc, params.half, inner, branch)?)),
-        None => Ok(Seen::Solved(lows(alloc, inner.as_slice())?)),
-    }
+    // The problem's type keeps that it is one.
+    let _rows = problem.rows();
+    work.go_back(problem, part.depth);
+    work.wait(problem, part.rest, cutoff);
 }
 
-// What bound propagation leaves of a box.
-#[tactic(auto, using(crate::proofs::Sight::can_tighten))]
-fn tight_of(
-    alloc: Global,
-    problem: &Shared,
+// Narrows a column, if one is to be.
+fn narrow(
+    work: &mut Working,
+    problem: &Problem,
     cutoff: Option<i128>,
-    area: &IntBox,
-) -> Result<Tight, AllocError>
-    requires { CanLook problem.now cutoff area.now }
-    ensures { IfOk result (IsTightened problem.now cutoff area.now) }
+    cut: Option<Narrowing>,
+) -> Result<(), AllocError>
+    requires working { IsWorking problem.now cutoff work.old }
+    requires cut { IsCut problem.now work.old.sums.area cut }
+    ensures went { WentOn problem.now cutoff work.old work.new }
+    ensures area { OnOk result (work.new.sums.area ≡ narrowed cut work.old.sums.area) }
 {
-    tighten(alloc, problem.problem(), cutoff, area)
+    match cut {
+        Some(cut) => {
+            work.cut(problem, cut.column, cut.side)?;
+            Ok(())
+        }
+        None => Ok(()),
+    }
 }
 
-/// A look at a box: at what bound propagation leaves of it.
-#[tactic(auto, using(crate::proofs::Sight::nothing_left, crate::proofs::Sight::seen_inside, crate::proofs::Sight::left_is_short))]
-pub fn look(
+// Whether the working box has a point, which is known where a column was narrowed.
+fn has_some(work: &Working, cut: Option<Narrowing>) -> bool
+    requires { IfSome cut (λ narrowing. IsNonEmpty work.now.sums.area) }
+    ensures { MatchBool result (IsNonEmpty work.now.sums.area) (IsCrossed work.now.sums.area) }
+{
+    match cut {
+        Some(_) => true,
+        None => has_point(work.sides()),
+    }
+}
+
+// Brings the working box to the box of a part, and tells whether it has a point.
+fn enter(
+    work: &mut Working,
+    problem: &Problem,
+    whole: &IntBox,
+    part: Part,
+    cutoff: Option<i128>,
+) -> Result<bool, AllocError>
+    requires whole { IsBelow whole.now (root_of problem.now) }
+    requires base { IsBase problem.now whole.now work.old }
+    requires part { IsPart problem.now whole.now work.old part }
+    ensures base { IsBase problem.now whole.now work.new }
+    ensures kept { KeepsBases part.depth work.old work.new }
+    ensures working { IsWorking problem.now cutoff work.new }
+    ensures area { OnOk result (work.new.sums.area ≡ area_of work.old part) }
+    ensures some { IfOk result (λ some. MatchBool some (IsNonEmpty work.new.sums.area) (IsCrossed work.new.sums.area)) }
+{
+    begin(work, problem, whole, part, cutoff);
+    narrow(work, problem, cutoff, part.cut)?;
+    Ok(has_some(work, part.cut))
+}
+
+// What is seen in what is left of a box.
+#[tactic(auto, using(crate::proofs::Sight::only_point))]
+fn see(alloc: Global, params: Params, sides: &[Interval]) -> Result<Seen, AllocError>
+    requires few { length sides.now ≤ 10 ^ 4 }
+    requires some { IsNonEmpty sides.now }
+    ensures { IfOk result (IsInSight params sides.now) }
+{
+    match branch_of(params, sides) {
+        Some(branch) => Ok(Seen::Halved(branch)),
+        None => Ok(Seen::Solved(lows(alloc, sides)?)),
+    }
+}
+
+// A look at the working box: at what bound propagation leaves of it.
+fn look_inside(
     alloc: Global,
-    problem: &Shared,
+    work: &mut Working,
+    problem: &Problem,
     params: Params,
     cutoff: Option<i128>,
-    area: &IntBox,
 ) -> Result<Seen, AllocError>
-    requires { CanLook problem.now cutoff area.now }
-    ensures { IfOk result (IsSeen problem.now cutoff params area.now) }
+    requires can { CanLook problem.now cutoff work.old.sums.area }
+    requires some { IsNonEmpty work.old.sums.area }
+    requires working { IsWorking problem.now cutoff work.old }
+    ensures went { WentOn problem.now cutoff work.old work.new }
+    ensures seen { IfOk result (IsSeen problem.now cutoff params work.old.sums.area work.new) }
 {
-    match tight_of(alloc, problem, cutoff, area)? {
-        Tight::Empty(_) => Ok(Seen::Hopeless),
-        Tight::Kept(inner) => look_inside(alloc, params, inner),
+    match propagate(work, problem, cutoff)? {
+        Some(_) => Ok(Seen::Hopeless),
+        None => {
+            let seen = see(alloc, params, work.sides())?;
+            Ok(seen)
+        }
     }
+}
+
+/// A look at the box of a part. The working box is then what bound propagation leaves of it, where it has halves.
+/// The boxes of the parts before it are as they were.
+pub fn look(
+    alloc: Global,
+    work: &mut Working,
+    problem: &Problem,
+    whole: &IntBox,
+    params: Params,
+    cutoff: Option<i128>,
+    part: Part,
+) -> Result<Seen, AllocError>
+    requires whole { IsBelow whole.now (root_of problem.now) }
+    requires can { CanLook problem.now cutoff (area_of work.old part) }
+    requires base { IsBase problem.now whole.now work.old }
+    requires part { IsPart problem.now whole.now work.old part }
+    ensures base { IsBase problem.now whole.now work.new }
+    ensures kept { KeepsBases part.depth work.old work.new }
+    ensures seen { IfOk result (IsSeen problem.now cutoff params (area_of work.old part) work.new) }
+{
+    if enter(work, problem, whole, part, cutoff)? {
+        let seen = look_inside(alloc, work, problem, params, cutoff)?;
+        Ok(seen)
+    } else {
+        Ok(Seen::Hopeless)
+    }
+}
+
+/// A look at the box of the last part. The boxes of the parts are as they were.
+pub fn look_last(
+    alloc: Global,
+    work: &mut Working,
+    problem: &Shared,
+    whole: &IntBox,
+    params: Params,
+    cutoff: Option<i128>,
+    parts: &Vec<Part>,
+    last: Part,
+) -> Result<Seen, AllocError>
+    requires whole { IsBelow whole.now (root_of problem.now) }
+    requires can { CanLook problem.now cutoff (area_of work.old last) }
+    requires chain { IsChain problem.now whole.now work.old parts.now.items }
+    requires last { parts.now.items ≡ front_of parts.now.items ++ last ∷ [] }
+    ensures chain { IsChain problem.now whole.now work.new parts.now.items }
+    ensures areas { areas_of work.new parts.now.items ≡ areas_of work.old parts.now.items }
+    ensures seen { IfOk result (IsSeen problem.now cutoff params (area_of work.old last) work.new) }
+{
+    let seen = look(alloc, work, problem.problem(), whole, params, cutoff, last)?;
+    Ok(seen)
 }

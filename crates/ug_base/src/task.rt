@@ -3,23 +3,29 @@ ghost use Rattle.ug_rows.specs.Boxes.{IsBelow};
 ghost use Rattle.ug_problem.specs.Instances.{root_of};
 ghost use Rattle.ug_problem.specs.Limits.{IsProblem};
 ghost use Rattle.ug_base.specs.declared.step.Step.TheVariants.{Empty};
+ghost use Rattle.ug_rows.specs.Sums.{box_floor};
+ghost use Rattle.ug_propagate.specs.Working.{IsBox};
+ghost use Rattle.ug_propagate.specs.declared.resting.Rest.TheVariants.{Unknown};
 ghost use Rattle.ug_base.specs.Covers.{AreCovered};
 ghost use Rattle.ug_base.specs.Hands.{DidHand, HandsLess};
 ghost use Rattle.ug_base.specs.Steps.{LeavesLess, TookStep};
 ghost use Rattle.ug_base.specs.Tasks.{AreBelow, BoundsTheRest, IsLeastFloor, lesser_of};
 ghost use Rattle.ug_problem.specs.Better.{AreAllHanded, HasNoGood, IsGap, IsSmallCutoff, cutoff_of};
 
-use crate::boxes::{drop_last, last_of, move_first, split_last};
+use crate::boxes::{drop_last, last_of};
 use crate::handed::Handed;
-use crate::left::BoxLeft;
-use crate::look::{Seen, look};
+use crate::look::{Seen, look_last};
 use crate::lowest::{lesser, lowest_floor};
+use crate::moving::move_first;
+use crate::part::Part;
+use crate::split::split_last;
 use crate::step::Step;
 use std::alloc::{AllocError, Global};
 use std::marker::Model;
 use ug_branch::Params;
 use ug_nodes::Ticket;
 use ug_problem::{Problem, Shared};
+use ug_propagate::{Rest, Working};
 use ug_rows::{IntBox, Point};
 
 /// The search of one box for feasible points with a value below the cutoff.
@@ -32,7 +38,8 @@ pub struct Task {
     whole: IntBox,
     cutoff: Option<i128>,
     gap: i128,
-    boxes: Vec<BoxLeft>,
+    work: Working,
+    parts: Vec<Part>,
     handed: Vec<IntBox>,
 }
 
@@ -48,14 +55,27 @@ impl Model for Task {
     ghost invariant = { AreOfTask };
 }
 
-// A copy of the box, as the one box left.
-fn only_left(alloc: Global, whole: &IntBox) -> Result<Vec<BoxLeft>, AllocError>
-    ensures { IfOk result (λ boxes. boxes.items ≡ record { area = whole.now; floor = None } ∷ []) }
+// The whole box as the one box left.
+fn only_part(work: &Working, problem: &Problem) -> Part
+    requires { IsBox problem.now work.now }
+    ensures { result ≡ record { depth = 0; cut = None; floor = box_floor problem.now.objective work.now.sums.area; rest = Unknown } }
 {
-    let area = whole.clone()?;
-    let mut boxes = Vec::new(alloc);
-    boxes.push(BoxLeft { area, floor: None })?;
-    Ok(boxes)
+    Part {
+        depth: 0,
+        cut: None,
+        floor: work.floor(problem),
+        rest: Rest::Unknown,
+    }
+}
+
+// The same, alone.
+fn only_left(alloc: Global, work: &Working, problem: &Problem) -> Result<Vec<Part>, AllocError>
+    requires { IsBox problem.now work.now }
+    ensures { IfOk result (λ parts. parts.items ≡ record { depth = 0; cut = None; floor = box_floor problem.now.objective work.now.sums.area; rest = Unknown } ∷ []) }
+{
+    let mut parts = Vec::new(alloc);
+    parts.push(only_part(work, problem))?;
+    Ok(parts)
 }
 
 // The cutoff of a point under a gap.
@@ -68,7 +88,7 @@ fn cutoff_at(problem: &Shared, gap: i128, point: &Point) -> Option<i128>
 }
 
 impl Task {
-    /// The task with the whole box left and none handed. It copies the box.
+    /// The task with the whole box left and none handed. It copies the box, and takes the sums of all rows over it.
     pub fn new(
         alloc: Global,
         problem: Shared,
@@ -94,7 +114,8 @@ impl Task {
     {
         // The problem's type keeps that it is one.
         let _columns = problem.problem().columns();
-        let boxes = only_left(alloc, &whole)?;
+        let work = Working::new(alloc, problem.problem(), &whole)?;
+        let parts = only_left(alloc, &work, problem.problem())?;
         Ok(Task {
             alloc,
             problem,
@@ -103,14 +124,14 @@ impl Task {
             whole,
             cutoff,
             gap,
-            boxes,
+            work,
+            parts,
             handed: Vec::new(alloc),
         })
     }
 
     /// Takes the last box left, and drops it, answers its one point, or puts its halves in its place.
     /// After an error the task is as it was.
-    #[tactic(auto, using(crate::proofs::StepLemmas::left_dropped_less))]
     pub fn step(&mut self) -> Result<Step, AllocError>
         ensures took { IfOk result (TookStep self.old self.new) }
         ensures empty { IfOk result (λ step. (step ≡ Empty) ↔ (self.old.boxes ≡ [])) }
@@ -118,28 +139,39 @@ impl Task {
         ensures less { IfOk result (LeavesLess self.old self.new) }
         ensures err { OnErr result (self.new ≡ self.old) }
     {
-        let Some(last) = last_of(&self.boxes) else {
+        let Some(last) = last_of(&self.parts) else {
             return Ok(Step::Empty);
         };
-        match look(
+        match look_last(
             self.alloc,
+            &mut self.work,
             &self.problem,
+            &self.whole,
             self.params,
             self.cutoff,
-            &last.area,
+            &self.parts,
+            last,
         )? {
             Seen::Hopeless => {
-                drop_last(&mut self.boxes);
+                drop_last(&mut self.parts);
                 Ok(Step::Pruned)
             }
             Seen::Solved(point) => {
                 let cutoff = cutoff_at(&self.problem, self.gap, &point);
                 self.cutoff = cutoff;
-                drop_last(&mut self.boxes);
+                drop_last(&mut self.parts);
                 Ok(Step::Found(point))
             }
-            Seen::Halved(halves) => {
-                split_last(&mut self.boxes, halves)?;
+            Seen::Halved(branch) => {
+                split_last(
+                    &self.work,
+                    &self.problem,
+                    &self.whole,
+                    self.params,
+                    self.cutoff,
+                    branch,
+                    &mut self.parts,
+                )?;
                 Ok(Step::Split)
             }
         }
@@ -153,11 +185,11 @@ impl Task {
         ensures less { IfOk result (HandsLess self.old self.new) }
         ensures err { OnErr result (self.new ≡ self.old) }
     {
-        if self.boxes.len() < 2 {
+        if self.parts.len() < 2 {
             return Ok(None);
         }
         let number = self.handed.len() as u64;
-        let area = move_first(&mut self.boxes, &mut self.handed)?;
+        let area = move_first(self.alloc, &self.work, &mut self.parts, &mut self.handed)?;
         Ok(Some(Handed { number, area }))
     }
 
@@ -177,12 +209,10 @@ impl Task {
         ensures ended { result ≡ 0 → AreAllHanded self.now.problem self.now.cutoff self.now.whole self.now.handed }
         ensures alone { result ≡ 0 → self.now.handed ≡ [] → HasNoGood self.now.problem self.now.cutoff self.now.whole }
     {
-        self.boxes.len() as u64
+        self.parts.len() as u64
     }
 
-    /// The least value that the objective could have in a box left. It takes no memory. The floor of a box is taken once,
-    /// by the first call that finds it left, and kept beside it.
-    #[tactic(auto, using(crate::proofs::Floors::lowest_bounds))]
+    /// The least value that the objective could have in a box left. It takes no memory: the floor of a box is kept beside it.
     pub fn lowest(&mut self) -> Option<i128>
         ensures same { self.new ≡ self.old }
         ensures none { IsNone result ↔ (self.old.boxes ≡ []) }
@@ -190,7 +220,7 @@ impl Task {
         ensures bound { IfSome result (BoundsTheRest self.old) }
         ensures small { IfSome result (λ low. unsigned_abs low ≤ 2 * 10 ^ 37) }
     {
-        lowest_floor(&self.problem, &mut self.boxes)
+        lowest_floor(&self.parts)
     }
 
     /// The boxes handed, in the order in which they were handed. It takes no memory.

@@ -288,6 +288,13 @@ impl Working {
         }
     }
 
+    /// The changes that were made and not undone.
+    pub fn trail(&self) -> &[Change]
+        ensures { result.now ≡ self.now.trail }
+    {
+        self.trail.as_slice()
+    }
+
     /// How many changes were made and not undone.
     pub fn trail_len(&self) -> usize
         ensures { result ≡ length self.now.trail }

@@ -6,5 +6,5 @@ use Rattle.ug_base.proofs.task.Task.lower.Goals as goal
 pub invariant_of-self : goal.invariant_of-self
 invariant_of-self c = record {
   task = lowered_task (state_of c.self.inside) c.args.cutoff _ c.self.invariant.task c.requires (search rules);
-  floors = c.self.invariant.floors;
+  chain = c.self.invariant.chain;
 }

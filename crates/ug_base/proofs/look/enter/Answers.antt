@@ -1,0 +1,21 @@
+use Rattle.std.proofs.Common.{List, subst, sym}
+use Rattle.ug_rows.specs.declared.area.Interval.{Interval}
+use Rattle.ug_base.specs.Chains.{IsCut}
+use Rattle.ug_base.proofs.Chains.{bases_later, bases_trans, cut_some}
+use Rattle.ug_base.proofs.look.enter.Goals as goal
+
+pub returns-in_err-narrow-clause-kept : goal.returns-in_err-narrow-clause-kept
+returns-in_err-narrow-clause-kept c =
+    bases_trans c.args.part.depth c.args.work.now c.begin.new.work c.narrow.new.work c.begin.ensures.kept
+    (bases_later c.args.part.depth c.begin.new.work c.narrow.new.work c.begin.ensures.kept.deep c.narrow.ensures.went.later)
+
+pub returns-clause-kept : goal.returns-clause-kept
+returns-clause-kept c =
+    bases_trans c.args.part.depth c.args.work.now c.begin.new.work c.narrow.new.work c.begin.ensures.kept
+    (bases_later c.args.part.depth c.begin.new.work c.narrow.new.work c.begin.ensures.kept.deep c.narrow.ensures.went.later)
+
+pub has_some-requires : goal.has_some-requires
+has_some-requires c =
+    let P : List Interval → Type 0 = λ (a : List Interval). IsCut c.args.problem.now a c.args.part.cut in
+    cut_some c.args.problem.now c.begin.new.work.sums.area c.narrow.new.work.sums.area c.args.part.cut
+    c.begin.ensures.working.box.sums.width (subst P (sym c.begin.ensures.area) c.requires.part.cut) c.in_ok-narrow.ensures.area

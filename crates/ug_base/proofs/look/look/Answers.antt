@@ -1,0 +1,26 @@
+use Rattle.std.proofs.Common.{Bool, List, MatchBool, subst}
+use Rattle.ug_rows.specs.declared.area.Interval.{Interval}
+use Rattle.ug_rows.specs.Boxes.{IsCrossed, IsNonEmpty}
+use Rattle.ug_base.specs.Chains.{area_of}
+use Rattle.ug_base.proofs.Chains.{bases_later, bases_trans}
+use Rattle.ug_base.proofs.Sight.{crossed_hopeless}
+use Rattle.ug_base.proofs.look.look.Goals as goal
+
+pub returns-in_err-seen-clause-kept : goal.returns-in_err-seen-clause-kept
+returns-in_err-seen-clause-kept c =
+    bases_trans c.args.part.depth c.args.work.now c.enter.new.work c.look_inside.new.work c.enter.ensures.kept
+    (bases_later c.args.part.depth c.enter.new.work c.look_inside.new.work c.enter.ensures.kept.deep
+    c.look_inside.ensures.went.later)
+
+pub returns-in_ok-seen-clause-kept : goal.returns-in_ok-seen-clause-kept
+returns-in_ok-seen-clause-kept c =
+    bases_trans c.args.part.depth c.args.work.now c.enter.new.work c.look_inside.new.work c.enter.ensures.kept
+    (bases_later c.args.part.depth c.enter.new.work c.look_inside.new.work c.enter.ensures.kept.deep
+    c.look_inside.ensures.went.later)
+
+pub returns-else-branch-clause-seen : goal.returns-else-branch-clause-seen
+returns-else-branch-clause-seen c =
+    let area = c.enter.new.work.sums.area in
+    let P : Bool → Type 0 = λ (b : Bool). MatchBool b (IsNonEmpty area) (IsCrossed area) in
+    crossed_hopeless c.args.problem.now c.args.cutoff (area_of c.args.work.now c.args.part)
+    (subst (λ (a : List Interval). IsCrossed a) c.in_ok-enter.ensures.area (subst P c.if-branch.false c.in_ok-enter.ensures.some))

@@ -1,0 +1,18 @@
+use Rattle.std.proofs.Common.{◌∙◌, ap, sym, subst, arith}
+use Rattle.std.proofs.lemmas.Int.{ints}
+use Rattle.ug_propagate.specs.declared.resting.Rest.{Rest}
+use Rattle.ug_propagate.specs.Working.{AllRest}
+use Rattle.ug_base.specs.declared.part.Part.{Part}
+use Rattle.ug_base.proofs.Splits.{part_here}
+use Rattle.ug_base.proofs.split.part_with.Goals as goal
+
+pub returns-clause-part : goal.returns-clause-part
+returns-clause-part c =
+    let p = c.args.problem.now in
+    let work = c.args.work.now in
+    let is = c.part_of.ensures in
+    part_here p c.args.whole.now work c.part_of.result c.args.column c.args.side
+    (ap (λ (q : Part). q.depth) is ∙ c.trail_len.ensures) (ap (λ (q : Part). q.cut) is) c.requires.there
+    c.requires.below c.requires.inner c.requires.some
+    (subst (λ (r : Rest). AllRest p r work.sums.area) (sym (ap (λ (q : Part). q.rest) is)) c.requires.rest)
+    (ap (λ (q : Part). q.floor) is ∙ omega (arith, ints, c.floor_with-floor.ensures))

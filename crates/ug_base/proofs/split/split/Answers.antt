@@ -1,0 +1,43 @@
+use Rattle.std.proofs.Common.{◌∙◌, ap, sym, subst, set, List}
+use Rattle.ug_rows.specs.declared.area.Interval.{Interval}
+use Rattle.ug_base.specs.declared.part.Part.{Part}
+use Rattle.ug_base.specs.Chains.{IsChain}
+use Rattle.ug_base.proofs.Chains.{chain_split}
+use Rattle.ug_rows.specs.Boxes.{IsClosedWithin, interval_at}
+use Rattle.ug_base.proofs.Splits.{first_half_is, first_inner, other_half_is, second_inner}
+use Rattle.ug_base.proofs.split.split.Goals as goal
+
+pub part_with-first-requires-clause-inner : goal.part_with-first-requires-clause-inner
+part_with-first-requires-clause-inner c =
+    let area = c.args.work.now.sums.area in
+    subst (λ (s : Interval). IsClosedWithin s (interval_at area c.args.branch.column)) (sym c.sides_at-sides.ensures.first)
+    (first_inner c.args.params area c.args.branch c.requires.branched)
+
+pub part_with-second-requires-clause-inner : goal.part_with-second-requires-clause-inner
+part_with-second-requires-clause-inner c =
+    let area = c.args.work.now.sums.area in
+    subst (λ (s : Interval). IsClosedWithin s (interval_at area c.args.branch.column)) (sym c.sides_at-sides.ensures.second)
+    (second_inner c.args.params area c.args.branch c.requires.branched)
+
+pub returns-clause-ok : goal.returns-clause-ok
+returns-clause-ok c =
+    let p = c.args.problem.now in
+    let work = c.args.work.now in
+    let area = work.sums.area in
+    let branch = c.args.branch in
+    let first = c.part_with-first.result in
+    let second = c.part_with-second.result in
+    let put = c.in_ok-replace_last.ensures.ok in
+    record {
+      first = first;
+      second = second;
+      put = put;
+      area_first = c.part_with-first.ensures.area ∙ ap (λ (s : Interval). set area branch.column s) c.sides_at-sides.ensures.first
+          ∙ first_half_is c.args.params.half area branch;
+      area_second = c.part_with-second.ensures.area ∙ ap (λ (s : Interval). set area branch.column s) c.sides_at-sides.ensures.second
+          ∙ other_half_is c.args.params.half area branch;
+      chain = subst (λ (ps : List Part). IsChain p c.args.whole.now work ps) (sym put)
+          (chain_split p c.args.whole.now work c.args.parts.now.items first second c.requires.chain
+          c.part_with-first.ensures.part c.part_with-second.ensures.part c.part_with-first.ensures.depth
+          c.part_with-second.ensures.depth);
+    }

@@ -1,0 +1,176 @@
+ghost use Rattle.std.specs.Prelude.{◌≡◌, ◌<◌, ◌<ℤ◌, ◌+ℤ◌, ◌++◌, ◌∷◌, [], pos, length, slice_set, Some, OnOk, OnErr};
+ghost use Rattle.ug_rows.specs.Boxes.{IsBelow, IsClosedWithin, IsNonEmpty, interval_at};
+ghost use Rattle.ug_propagate.specs.Working.{AllRest, IsWorking};
+ghost use Rattle.ug_base.specs.Chains.{HasSplit, IsBase, IsChain, IsPart, area_of, first_side, other_side};
+ghost use Rattle.ug_base.specs.Looks.{IsBranched};
+
+use crate::boxes::replace_last;
+use crate::part::{Narrowing, Part};
+use std::alloc::AllocError;
+use ug_branch::{Branch, Half, Params};
+use ug_problem::{Problem, Shared};
+use ug_propagate::{Rest, Working, rest_after};
+use ug_rows::{IntBox, Interval};
+
+// The interval up to its middle.
+fn below_middle(side: Interval, middle: i32) -> Interval
+    ensures { result ≡ record { low = side.low; high = middle } }
+{
+    Interval {
+        low: side.low,
+        high: middle,
+    }
+}
+
+// The interval from the value after its middle.
+fn above_middle(side: Interval, middle: i32) -> Interval
+    requires { middle <ℤ side.high }
+    ensures { result ≡ record { low = middle +ℤ pos 1; high = side.high } }
+{
+    let high = side.high;
+    Interval {
+        low: next(middle, high),
+        high,
+    }
+}
+
+// The value after one that is less than another.
+fn next(at: i32, high: i32) -> i32
+    requires { at <ℤ high }
+    ensures { result ≡ at +ℤ pos 1 }
+{
+    at + 1
+}
+
+// The half of an interval that is looked at first.
+fn first_of(half: Half, side: Interval, middle: i32) -> Interval
+    requires { middle <ℤ side.high }
+    ensures { result ≡ first_side half side middle }
+{
+    match half {
+        Half::Lower => below_middle(side, middle),
+        Half::Upper => above_middle(side, middle),
+    }
+}
+
+// The half that is looked at after it.
+fn other_of(half: Half, side: Interval, middle: i32) -> Interval
+    requires { middle <ℤ side.high }
+    ensures { result ≡ other_side half side middle }
+{
+    match half {
+        Half::Lower => above_middle(side, middle),
+        Half::Upper => below_middle(side, middle),
+    }
+}
+
+// The two halves of an interval: the one that is looked at first, and the other.
+#[derive(Clone, Copy)]
+struct Sides {
+    first: Interval,
+    second: Interval,
+}
+
+// The halves of the interval of the branch's column.
+fn sides_at(work: &Working, params: Params, branch: Branch) -> Sides
+    requires { IsBranched params work.now.sums.area branch }
+    ensures first { result.first ≡ first_side params.half (interval_at work.now.sums.area branch.column) branch.middle }
+    ensures second { result.second ≡ other_side params.half (interval_at work.now.sums.area branch.column) branch.middle }
+{
+    let side = work.sides()[branch.column as usize];
+    Sides {
+        first: first_of(params.half, side, branch.middle),
+        second: other_of(params.half, side, branch.middle),
+    }
+}
+
+fn part_of(depth: usize, column: u32, side: Interval, floor: i128, rest: Rest) -> Part
+    ensures { result ≡ record { depth = depth; cut = Some (record { column = column; side = side }); floor = floor; rest = rest } }
+{
+    Part {
+        depth,
+        cut: Some(Narrowing { column, side }),
+        floor,
+        rest,
+    }
+}
+
+// The working box with a column narrowed, as a part.
+fn part_with(
+    work: &Working,
+    problem: &Problem,
+    whole: &IntBox,
+    column: u32,
+    side: Interval,
+    rest: Rest,
+) -> Part
+    requires there { column < length problem.now.columns }
+    requires base { IsBase problem.now whole.now work.now }
+    requires below { IsBelow work.now.sums.area whole.now }
+    requires inner { IsClosedWithin side (interval_at work.now.sums.area column) }
+    requires some { IsNonEmpty work.now.sums.area }
+    requires rest { AllRest problem.now rest work.now.sums.area }
+    ensures part { IsPart problem.now whole.now work.now result }
+    ensures area { area_of work.now result ≡ slice_set work.now.sums.area column side }
+    ensures depth { result.depth ≡ length work.now.trail }
+{
+    let floor = work.floor_with(problem, column, side);
+    part_of(work.trail_len(), column, side, floor, rest)
+}
+
+// Puts two halves of the working box in the last part's place.
+fn split(
+    work: &Working,
+    problem: &Problem,
+    whole: &IntBox,
+    params: Params,
+    cutoff: Option<i128>,
+    branch: Branch,
+    parts: &mut Vec<Part>,
+) -> Result<(), AllocError>
+    requires some { 0 < length parts.old.items }
+    requires chain { IsChain problem.now whole.now work.now parts.old.items }
+    requires below { IsBelow work.now.sums.area whole.now }
+    requires working { IsWorking problem.now cutoff work.now }
+    requires branched { IsBranched params work.now.sums.area branch }
+    ensures ok { OnOk result (HasSplit problem.now whole.now work.now params.half branch parts.old.items parts.new.items) }
+    ensures err { OnErr result (parts.new.items ≡ parts.old.items) }
+{
+    let rest = rest_after(work, problem, cutoff);
+    let sides = sides_at(work, params, branch);
+    let first = part_with(work, problem, whole, branch.column, sides.first, rest);
+    let second = part_with(work, problem, whole, branch.column, sides.second, rest);
+    replace_last(parts, first, second)?;
+    Ok(())
+}
+
+/// Puts two halves of the working box in the last part's place, the one that is looked at first the last. After an error
+/// the parts are as they were.
+pub fn split_last(
+    work: &Working,
+    problem: &Shared,
+    whole: &IntBox,
+    params: Params,
+    cutoff: Option<i128>,
+    branch: Branch,
+    parts: &mut Vec<Part>,
+) -> Result<(), AllocError>
+    requires some { 0 < length parts.old.items }
+    requires chain { IsChain problem.now whole.now work.now parts.old.items }
+    requires below { IsBelow work.now.sums.area whole.now }
+    requires working { IsWorking problem.now cutoff work.now }
+    requires branched { IsBranched params work.now.sums.area branch }
+    ensures ok { OnOk result (HasSplit problem.now whole.now work.now params.half branch parts.old.items parts.new.items) }
+    ensures err { OnErr result (parts.new.items ≡ parts.old.items) }
+{
+    split(
+        work,
+        problem.problem(),
+        whole,
+        params,
+        cutoff,
+        branch,
+        parts,
+    )?;
+    Ok(())
+}
