@@ -1,4 +1,5 @@
 //! The base solver of one subproblem: a list of boxes left to search, below one whole box, with a cutoff.
+//! A box left is kept as one column narrowed against its parent, over one working box that is tightened in place.
 //! It stands on ug_problem, ug_propagate and ug_branch, and on ug_nodes for its ticket.
 //! A `step` takes the last box left, tightens it, and drops it, answers its one point, or puts its halves in its
 //! place; `hand` gives the first box left to another. Every feasible point of the whole box with a value below the
