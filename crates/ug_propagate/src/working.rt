@@ -127,12 +127,7 @@ fn all_awake(alloc: Global, problem: &Problem) -> Result<Vec<u64>, AllocError>
 }
 
 // Lets all rows rest that rest so, and wakes the others.
-fn wake_others(
-    problem: &Problem,
-    rest: Rest,
-    cutoff: Option<i128>,
-    awake: &mut [u64],
-)
+fn wake_others(problem: &Problem, rest: Rest, cutoff: Option<i128>, awake: &mut [u64])
     requires { HasBits problem.now awake.old }
     ensures { WakesOthers problem.now rest cutoff awake.new }
 {
@@ -304,12 +299,7 @@ impl Working {
 
     #[tactic(auto, using(crate::proofs::Stepping::step_change, crate::proofs::Stepping::step_same))]
     /// Narrows a column, and wakes its rows. After an error nothing was changed.
-    pub fn cut(
-        &mut self,
-        problem: &Problem,
-        column: u32,
-        side: Interval,
-    ) -> Result<(), AllocError>
+    pub fn cut(&mut self, problem: &Problem, column: u32, side: Interval) -> Result<(), AllocError>
         requires there { column < length problem.now.columns }
         requires work { IsBox problem.now self.old }
         requires inner { IsClosedWithin side (interval_at self.old.sums.area column) }
