@@ -23,7 +23,8 @@ use Rattle.ug_checkpoint.proofs.Finding.{has_one}
 use Rattle.ug_checkpoint.specs.Recovery.{HasFound, Recovered, chosen}
 use Rattle.ug_checkpoint.specs.Savers.{CouldFind, IsLast, last_slot}
 use Rattle.ug_restart.specs.Openings.{IsNotSaved, IsSafeFirst}
-use Rattle.ug_restart.specs.Starts.{IsBegun, IsNotBegun, IsSafeStart, IsSpent, begun, next_run}
+use Rattle.ug_restart.specs.Starts.{IsBegun, IsNotBegun, IsSafeStart, IsSpent, begun}
+use Rattle.ug_restart.specs.Books.{HasNoFirst, IsSaverOf}
 use Rattle.ug_restart.specs.declared.fault.StartFault.{StartFault}
 use Rattle.ug_restart.specs.declared.fault.StartFault.TheVariants.{Memory, DiskFault, BadImage, NoCheckpoint, OtherProblem, SmallerGap, Spent}
 
@@ -164,31 +165,37 @@ alone P old mid first =
 
 -- the book that begins on what was loaded
 pub beginning : (p : Instance) (settings : Settings) (old mid : Option History)
-    (found copied : Option Found) (run : ℕ) (boxes : List (List Change)) (book : BookState)
-    → HasFound old mid found → copied ≡ found → ¬ IsSpent copied → run ≡ next_run copied
-    → boxes ≡ [] ∷ [] → book ≡ started p run None boxes settings → IsBegun p settings old book
-beginning p settings old mid found copied run boxes book has same room ran root made = record {
+    (found copied : Option Found) (book : BookState) → HasFound old mid found → copied ≡ found
+    → ¬ IsSpent copied → book ≡ begun p settings copied → IsBegun p settings old book
+beginning p settings old mid found copied book has same room made = record {
   found = found;
   could = loaded_could old mid found has;
   room = subst (λ f. ¬ IsSpent f) same room;
-  is = subst (λ f. book ≡ begun p settings f) same
-      (subst (λ r. book ≡ started p r None ([] ∷ []) settings) ran
-      (subst (λ b. book ≡ started p run None b settings) root made));
+  is = subst (λ f. book ≡ begun p settings f) same made;
 }
 
--- the last slot of a saver, by what is lent of what was found
-pub lent_last : (lent : Option (Bor Found)) (found : Option Found) (saver : Saver)
-    → option_copied lent ≡ found
-    → MatchOption lent (last_slot saver ≡ None) (λ f. last_slot saver ≡ Some f.now.slot)
+-- the last slot of a saver of what was found
+pub saver_last : (found copied : Option Found) (saver : Saver) → copied ≡ found
+    → IsSaverOf copied saver
     → MatchOption found (last_slot saver ≡ None) (λ f. last_slot saver ≡ Some f.slot)
-lent_last None found saver same last =
+saver_last found copied saver same is =
     subst (λ o. MatchOption o (last_slot saver ≡ None) (λ f. last_slot saver ≡ Some f.slot)) same
-    last
-lent_last (Some lent) found saver same last =
-    subst (λ o. MatchOption o (last_slot saver ≡ None) (λ f. last_slot saver ≡ Some f.slot)) same
-    last
+    is.last
 
-not_saved : (old new : Option History) (fault : StartFault) → IsNotSaved fault
+-- why no new book is made is why none begins
+pub not_first : (old mid : Option History) (found copied : Option Found) (fault : StartFault)
+    → HasFound old mid found → copied ≡ found → HasNoFirst copied fault
+    → IsNotBegun old mid fault
+not_first old mid found copied Memory has same why = tt
+not_first old mid found copied DiskFault has same why = tt
+not_first old mid found copied (BadImage slot at) has same why = absurd why
+not_first old mid found copied NoCheckpoint has same why = absurd why
+not_first old mid found copied (OtherProblem at kept read) has same why = absurd why
+not_first old mid found copied (SmallerGap kept asked) has same why = absurd why
+not_first old mid found copied Spent has same why = (found, has, subst IsSpent same why)
+
+-- a first image that is not saved is why no run begins
+pub not_saved : (old new : Option History) (fault : StartFault) → IsNotSaved fault
     → IsNotBegun old new fault
 not_saved old new Memory not = tt
 not_saved old new DiskFault not = tt
@@ -198,20 +205,23 @@ not_saved old new (OtherProblem at kept read) not = absurd not
 not_saved old new (SmallerGap kept asked) not = absurd not
 not_saved old new Spent not = absurd not
 
--- a start that is refused as its first save was
-pub not_begun_as : {A : Type 0} → (old new : Option History) (result : Result A StartFault)
-    (told fault : StartFault) → result ≡ Err told → told ≡ fault → IsNotSaved fault
-    → IfErr result (IsNotBegun old new)
-not_begun_as old new result told fault is same not =
-    subst (λ r. IfErr r (IsNotBegun old new)) (sym is)
-    (subst (IsNotBegun old new) (sym same) (not_saved old new fault not))
-
-same_fault : (a b : StartFault) → ◌≡◌ {A = Result (Unit {0}) StartFault} (Err a) (Err b) → a ≡ b
+same_fault : {A : Type 0} → (a b : StartFault) → ◌≡◌ {A = Result A StartFault} (Err a) (Err b)
+    → a ≡ b
 same_fault a b same = cc same
 
--- a start that does not say that the disk failed was not told so by its first save
-pub not_failed_as : {A : Type 0} → (result : Result A StartFault)
-    (saved : Result (Unit {0}) StartFault) (told fault : StartFault) → result ≡ Err told
-    → told ≡ fault → saved ≡ Err fault → (result ≡ Err DiskFault → ⊥) → saved ≡ Err DiskFault → ⊥
-not_failed_as result saved told fault is same was not failed =
-    not (is ∙ ap Err (same ∙ same_fault fault DiskFault (sym was ∙ failed)))
+-- what is told is no fault of the disk, if what holds of it holds of none
+pub told_calm : {A : Type 0} → (P : StartFault → Type 0) (fault : StartFault) → P fault
+    → (P DiskFault → ⊥) → ◌≡◌ {A = Result A StartFault} (Err fault) (Err DiskFault) → ⊥
+told_calm P fault holds not same = not (subst P (same_fault fault DiskFault same) holds)
+
+-- a fault is told as another call told it
+pub told_as : {A B : Type 0} → (fault : StartFault) (told : Result B StartFault) → told ≡ Err fault
+    → ◌≡◌ {A = Result A StartFault} (Err fault) (Err DiskFault) → told ≡ Err DiskFault
+told_as fault told is same = is ∙ ap Err (same_fault fault DiskFault same)
+
+-- and is none where it was told as none
+pub not_told_as : {A B : Type 0} → (fault : StartFault) (told : Result B StartFault)
+    → told ≡ Err fault
+    → (◌≡◌ {A = Result A StartFault} (Err fault) (Err DiskFault) → ⊥) → told ≡ Err DiskFault → ⊥
+not_told_as fault told is not same =
+    not (ap Err (same_fault fault DiskFault (sym is ∙ same)))

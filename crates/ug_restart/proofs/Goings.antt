@@ -19,7 +19,8 @@ use Rattle.ug_checkpoint.specs.declared.found.Found.{Found}
 use Rattle.ug_checkpoint.specs.Recovery.{HasFound}
 use Rattle.ug_restart.specs.Moments.{IsCovered, boxes_in}
 use Rattle.ug_restart.specs.Openings.{CoversWhatIsFound, IsNotSaved}
-use Rattle.ug_restart.specs.Starts.{IsGoneOn, IsNotGoneOn, IsSpent, boxes_saved, next_run}
+use Rattle.ug_restart.specs.Starts.{IsGoneOn, IsNotGoneOn, boxes_saved, gone_on, next_run}
+use Rattle.ug_restart.specs.Books.{HasNoNext, MayGoOn}
 use Rattle.ug_restart.specs.declared.fault.StartFault.{StartFault}
 use Rattle.ug_restart.specs.declared.fault.StartFault.TheVariants.{Memory, DiskFault, BadImage, NoCheckpoint, OtherProblem, SmallerGap, Spent}
 use Rattle.ug_restart.proofs.Composes.{chosen_has, loaded_could}
@@ -32,34 +33,37 @@ image_of_loaded old mid found has =
     has.is.has_one has.is.greater in
     there.spells.is
 
+-- the book that is made of what was kept is the one that goes on
+pub made_on : (p : Instance) (settings : Settings) (found : Found) (run : ℕ)
+    (best : Option (List ℤ)) (boxes : List (List Change)) (book : BookState)
+    → run ≡ next_run (Some found) → best ≡ found.image.best
+    → boxes ≡ boxes_saved found.image.nodes → book ≡ started p run best boxes settings
+    → book ≡ gone_on p settings found
+made_on p settings found run best boxes book ran same kept made =
+    subst (λ r. book ≡ started p r found.image.best (boxes_saved found.image.nodes) settings) ran
+    (subst (λ b. book ≡ started p run b (boxes_saved found.image.nodes) settings) same
+    (subst (λ b. book ≡ started p run best b settings) kept made))
+
 -- the book that goes on from what was loaded
 pub going_on : (p : Instance) (settings : Settings) (old mid : Option History) (found : Found)
-    (run : ℕ) (best : Option (List ℤ)) (boxes : List (List Change)) (book : BookState)
-    → HasFound old mid (Some found) → found.image.problem ≡ p
-    → found.image.gap ≤ℤ settings.gap → ¬ IsSpent (Some found) → run ≡ next_run (Some found)
-    → best ≡ found.image.best → boxes ≡ boxes_saved found.image.nodes
-    → book ≡ started p run best boxes settings → IsGoneOn p settings old book
-going_on p settings old mid found run best boxes book has problem gap room ran same kept made =
-    record {
-      found = found;
-      could = loaded_could old mid (Some found) has;
-      problem = problem;
-      gap = gap;
-      room = room;
-      is = subst (λ r. book ≡ started p r found.image.best (boxes_saved found.image.nodes) settings)
-          ran
-          (subst (λ b. book ≡ started p run b (boxes_saved found.image.nodes) settings) same
-          (subst (λ b. book ≡ started p run best b settings) kept made));
-    }
+    (book : BookState) → HasFound old mid (Some found) → MayGoOn p settings found
+    → book ≡ gone_on p settings found → IsGoneOn p settings old book
+going_on p settings old mid found book has may is = record {
+  found = found;
+  could = loaded_could old mid (Some found) has;
+  problem = may.problem;
+  gap = may.gap;
+  room = may.room;
+  is = is;
+}
 
--- the incumbent that was loaded is feasible
-pub feasible_loaded : (p : Instance) (old mid : Option History) (found : Found)
-    (best : Option (List ℤ)) → HasFound old mid (Some found) → found.image.problem ≡ p
-    → best ≡ found.image.best → IfSome best (Feasible p)
-feasible_loaded p old mid found best has problem same =
+-- the incumbent that was kept is feasible
+pub feasible_kept : (p : Instance) (found : Found) (best : Option (List ℤ))
+    → IsImage found.image → found.image.problem ≡ p → best ≡ found.image.best
+    → IfSome best (Feasible p)
+feasible_kept p found best is problem same =
     subst (λ b. IfSome b (Feasible p)) (sym same)
-    (subst (λ q. IfSome found.image.best (Feasible q)) problem
-    (image_of_loaded old mid found has).best)
+    (subst (λ q. IfSome found.image.best (Feasible q)) problem is.best)
 
 -- each box that was saved is that of a saved node
 each_box : (run : ℕ) (root : List Interval) (nodes : List SavedNode) → AreSavedNodes run root nodes
@@ -69,14 +73,13 @@ each_box run root (node ∷ nodes) are zero d below = (are zero (omega arith)).c
 each_box run root (node ∷ nodes) are (suc k) d below =
     each_box run root nodes (λ j low. are (suc j) (omega (arith, low))) k d (omega (arith, below))
 
-pub boxes_loaded : (p : Instance) (old mid : Option History) (found : Found)
-    (boxes : List (List Change)) → HasFound old mid (Some found) → found.image.problem ≡ p
+pub boxes_kept : (p : Instance) (found : Found) (boxes : List (List Change))
+    → IsImage found.image → found.image.problem ≡ p
     → boxes ≡ boxes_saved found.image.nodes → All (AreChangesOf (root_of p)) boxes
-boxes_loaded p old mid found boxes has problem same =
+boxes_kept p found boxes is problem same =
     subst (All (AreChangesOf (root_of p))) (sym same)
     (subst (λ q. All (AreChangesOf (root_of q)) (boxes_saved found.image.nodes)) problem
-    (each_box found.image.run (root_of found.image.problem) found.image.nodes
-    (image_of_loaded old mid found has).nodes))
+    (each_box found.image.run (root_of found.image.problem) found.image.nodes is.nodes))
 
 boxes_are : (root : List Interval) (nodes : List SavedNode)
     → boxes_in root nodes ≡ map (area_by root) (boxes_saved nodes)
@@ -116,44 +119,36 @@ covered_on p gap found problem low covered =
     found.image.nodes)) problem covered))
 
 -- what goes on from an image that is Covered is Covered
-pub covered_loaded : (p : Instance) (gap : ℤ) (old mid : Option History) (found : Found)
-    (best : Option (List ℤ)) (boxes : List (List Change)) → HasFound old mid (Some found)
-    → found.image.problem ≡ p → found.image.gap ≤ℤ gap → best ≡ found.image.best
-    → boxes ≡ boxes_saved found.image.nodes → CoversWhatIsFound old
+pub covered_kept : (p : Instance) (gap : ℤ) (found : Found) (best : Option (List ℤ))
+    (boxes : List (List Change)) → found.image.problem ≡ p → found.image.gap ≤ℤ gap
+    → best ≡ found.image.best → boxes ≡ boxes_saved found.image.nodes → IsCovered found.image
     → Covered p gap best (map (area_by (root_of p)) boxes)
-covered_loaded p gap old mid found best boxes has problem low same kept covers =
+covered_kept p gap found best boxes problem low same kept covered =
     subst (λ b. Covered p gap b (map (area_by (root_of p)) boxes)) (sym same)
     (subst (λ b. Covered p gap found.image.best (map (area_by (root_of p)) b)) (sym kept)
-    (covered_on p gap found problem low (covers found (loaded_could old mid (Some found) has))))
+    (covered_on p gap found problem low covered))
 
--- a restart is refused for what holds of the fault that it tells
-pub refused_as : {A : Type 0} → (P : StartFault → Type 0) (result : Result A StartFault)
-    (told fault : StartFault) → result ≡ Err told → told ≡ fault → P fault → IfErr result P
-refused_as P result told fault is same holds =
-    subst (λ r. IfErr r P) (sym is) (subst P (sym same) holds)
+-- what was loaded is Covered where all that recovery could find is
+pub covered_loaded : (old mid : Option History) (found : Found) → HasFound old mid (Some found)
+    → CoversWhatIsFound old → IsCovered found.image
+covered_loaded old mid found has covers = covers found (loaded_could old mid (Some found) has)
 
-pub smaller_gap : (p : Instance) (settings : Settings) (old mid : Option History) (found : Found)
-    (fault : StartFault) → HasFound old mid (Some found) → found.image.problem ≡ p
-    → (fault ≡ SmallerGap found.image.gap settings.gap) × (settings.gap <ℤ found.image.gap)
+-- why no book goes on from what was loaded is why the run does not
+pub not_next : (p : Instance) (settings : Settings) (old mid : Option History) (found : Found)
+    (fault : StartFault) → HasFound old mid (Some found) → HasNoNext p settings found fault
     → IsNotGoneOn p settings old mid fault
-smaller_gap p settings old mid found fault has problem less =
-    subst (IsNotGoneOn p settings old mid) (sym less.0) (record {
-      found = found;
-      has = has;
-      is = (problem, refl, refl, less.1);
-    })
+not_next p settings old mid found Memory has why = tt
+not_next p settings old mid found DiskFault has why = tt
+not_next p settings old mid found (BadImage slot at) has why = absurd why
+not_next p settings old mid found NoCheckpoint has why = absurd why
+not_next p settings old mid found (OtherProblem at kept read) has why =
+    record { found = found; has = has; is = why }
+not_next p settings old mid found (SmallerGap kept asked) has why =
+    record { found = found; has = has; is = why }
+not_next p settings old mid found Spent has why =
+    record { found = found; has = has; is = why }
 
-pub spent : (p : Instance) (settings : Settings) (old mid : Option History) (found : Found)
-    (fault : StartFault) → HasFound old mid (Some found) → found.image.problem ≡ p
-    → found.image.gap ≤ℤ settings.gap → (fault ≡ Spent) × IsSpent (Some found)
-    → IsNotGoneOn p settings old mid fault
-spent p settings old mid found fault has problem low is =
-    subst (IsNotGoneOn p settings old mid) (sym is.0) (record {
-      found = found;
-      has = has;
-      is = (problem, low, is.1);
-    })
-
+-- a first image that is not saved is why the run does not go on
 pub not_saved_on : (p : Instance) (settings : Settings) (old new : Option History)
     (fault : StartFault) → IsNotSaved fault → IsNotGoneOn p settings old new fault
 not_saved_on p settings old new Memory not = tt
@@ -163,19 +158,3 @@ not_saved_on p settings old new NoCheckpoint not = absurd not
 not_saved_on p settings old new (OtherProblem at kept read) not = absurd not
 not_saved_on p settings old new (SmallerGap kept asked) not = absurd not
 not_saved_on p settings old new Spent not = absurd not
-
-same_told : {A : Type 0} → (a b : StartFault) → ◌≡◌ {A = Result A StartFault} (Err a) (Err b)
-    → a ≡ b
-same_told a b same = cc same
-
--- a start that says that the disk failed was told so by its first save
-pub failed_as : {A : Type 0} → (result : Result A StartFault)
-    (saved : Result (Unit {0}) StartFault) (told fault : StartFault) → result ≡ Err told
-    → told ≡ fault → saved ≡ Err fault → result ≡ Err DiskFault → saved ≡ Err DiskFault
-failed_as result saved told fault is same was failed =
-    was ∙ ap Err (sym same ∙ same_told told DiskFault (sym is ∙ failed))
-
--- a save that went well did not say that the disk failed
-pub not_failed_ok : (done : Unit {0})
-    → ◌≡◌ {A = Result (Unit {0}) StartFault} (Ok done) (Err DiskFault) → ⊥
-not_failed_ok done same = absurd cc

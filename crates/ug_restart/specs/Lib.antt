@@ -3,3 +3,4 @@ pub mod Faults
 pub mod Starts
 pub mod Compares
 pub mod Openings
+pub mod Books

@@ -5,6 +5,7 @@
 //! sound, that of a restart where the image was Covered. `image_of` is the image of a moment.
 #![tactic(auto)]
 
+mod books;
 mod compare;
 mod fault;
 mod moment;

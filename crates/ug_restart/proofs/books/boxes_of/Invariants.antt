@@ -1,7 +1,7 @@
 use Rattle.std.proofs.Common.{◌≡◌, ◌++◌}
 use Rattle.std.specs.Vec.Iter.{into_iter_items}
 use Rattle.ug_restart.specs.Starts.{boxes_saved}
-use Rattle.ug_restart.proofs.start.boxes_of.Given as goal
+use Rattle.ug_restart.proofs.books.boxes_of.Given as goal
 
 abbrev pub invariant-loop-node : goal.invariant-loop-node
 invariant-loop-node l =

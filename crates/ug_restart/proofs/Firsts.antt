@@ -1,0 +1,38 @@
+-- The book and the saver with which a run begins.
+use Rattle.std.proofs.Common.{◌≡◌, inl, inr, ℕ, ◌≤◌, ◌<◌, ◌^◌, ℤ, List, [], ◌∷◌, map, Option, None, Some, Bor, sym, subst, arith}
+use Rattle.std.specs.Prelude.{MatchOption}
+use Rattle.std.proofs.Math.Nat.{lt_of_not-le}
+use Rattle.std.specs.Option.{option_copied}
+use Rattle.ug_disk.specs.Histories.{History}
+use Rattle.ug_problem.specs.Instances.{Instance, root_of}
+use Rattle.ug_problem.specs.Better.{Covered}
+use Rattle.ug_nodes.specs.declared.change.Change.{Change}
+use Rattle.ug_nodes.specs.Changes.{area_by}
+use Rattle.ug_checkpoint.specs.declared.found.Found.{Found}
+use Rattle.ug_checkpoint.specs.declared.saver.Saver.{Saver}
+use Rattle.ug_checkpoint.specs.Recovery.{HasFound}
+use Rattle.ug_checkpoint.specs.Savers.{IsKept, last_slot, sequence_of}
+use Rattle.ug_restart.specs.Starts.{IsSpent}
+use Rattle.ug_restart.specs.Books.{IsSaverOf}
+
+-- each point lies in the root
+pub root_covers : (p : Instance) (gap : ℤ) (boxes : List (List Change)) → boxes ≡ [] ∷ []
+    → Covered p gap None (map (area_by (root_of p)) boxes)
+root_covers p gap boxes root =
+    subst (λ b. Covered p gap None (map (area_by (root_of p)) b)) (sym root)
+    (record { incumbent = tt; points = λ x better. inl better.feasible.inside })
+
+-- the saver that is made of what was found
+pub saver_of : (lent : Option (Bor Found)) (saver : Saver)
+    → MatchOption lent (sequence_of saver ≡ 0) (λ f. sequence_of saver ≡ f.now.image.sequence)
+    → MatchOption lent (last_slot saver ≡ None) (λ f. last_slot saver ≡ Some f.now.slot)
+    → ((old new : Option History) → HasFound old new (option_copied lent) → IsKept saver new)
+    → ¬ IsSpent (option_copied lent) → IsSaverOf (option_copied lent) saver
+saver_of None saver same last kept room =
+    record { last = last; kept = kept; room = omega (arith, same) }
+saver_of (Some lent) saver same last kept room = record {
+  last = last;
+  kept = kept;
+  room = subst (λ n. n < 2 ^ 62) (sym same)
+      (lt_of_not-le (λ great. room (inr great)));
+}

@@ -1,0 +1,49 @@
+-- The book and the saver with which a run begins, by what was found on its disk.
+use Rattle.std.specs.Prelude.{◌≡◌, ◌<◌, ◌<ℤ◌, ◌≤ℤ◌, ◌^◌, MatchOption, Option, None, Some}
+use Rattle.ug_disk.specs.Histories.{History}
+use Rattle.ug_problem.specs.Instances.{Instance}
+use Rattle.ug_records.specs.Spelling.{record_of}
+use Rattle.ug_rules.specs.declared.settings.Settings.{Settings}
+use Rattle.ug_checkpoint.specs.declared.found.Found.{Found}
+use Rattle.ug_checkpoint.specs.declared.saver.Saver.{Saver}
+use Rattle.ug_checkpoint.specs.Recovery.{HasFound}
+use Rattle.ug_checkpoint.specs.Savers.{IsKept, last_slot, sequence_of}
+use Rattle.ug_restart.specs.Starts.{IsFirstDifference, IsSpent}
+use Rattle.ug_restart.specs.declared.fault.StartFault.{StartFault}
+use Rattle.ug_restart.specs.declared.fault.StartFault.TheVariants.{Memory, DiskFault, BadImage, NoCheckpoint, OtherProblem, SmallerGap, Spent}
+
+-- a saver of a disk on which this was found: it keeps what was found until an image is acknowledged
+pub record IsSaverOf (found : Option Found) (saver : Saver) : Type 0 where
+  pub last : MatchOption found (last_slot saver ≡ None) (λ f. last_slot saver ≡ Some f.slot)
+  pub kept : (old new : Option History) → HasFound old new found → IsKept saver new
+  pub room : sequence_of saver < 2 ^ 62
+
+-- why no new book is made
+abbrev pub HasNoFirst : Option Found → StartFault → Type 0
+HasNoFirst found Memory = Unit {0}
+HasNoFirst found DiskFault = ⊥
+HasNoFirst found (BadImage slot at) = ⊥
+HasNoFirst found NoCheckpoint = ⊥
+HasNoFirst found (OtherProblem at kept read) = ⊥
+HasNoFirst found (SmallerGap kept asked) = ⊥
+HasNoFirst found Spent = IsSpent found
+
+-- a run of the problem, under these settings, may go on from what was found
+pub record MayGoOn (p : Instance) (settings : Settings) (found : Found) : Type 0 where
+  pub problem : found.image.problem ≡ p
+  pub gap : found.image.gap ≤ℤ settings.gap
+  pub room : ¬ IsSpent (Some found)
+
+-- why no book goes on from what was found: the first of these that is so
+abbrev pub HasNoNext : Instance → Settings → Found → StartFault → Type 0
+HasNoNext p settings found Memory = Unit {0}
+HasNoNext p settings found DiskFault = ⊥
+HasNoNext p settings found (BadImage slot at) = ⊥
+HasNoNext p settings found NoCheckpoint = ⊥
+HasNoNext p settings found (OtherProblem at kept read) =
+    IsFirstDifference (record_of found.image.problem) (record_of p) at kept read
+HasNoNext p settings found (SmallerGap kept asked) =
+    (found.image.problem ≡ p) × (kept ≡ found.image.gap) × (asked ≡ settings.gap)
+    × (asked <ℤ kept)
+HasNoNext p settings found Spent =
+    (found.image.problem ≡ p) × (found.image.gap ≤ℤ settings.gap) × IsSpent (Some found)

@@ -1,0 +1,135 @@
+ghost use Rattle.std.specs.Prelude.{◌≡◌, [], ◌∷◌, Some, IfOk, IfErr, OnOk};
+ghost use Rattle.std.specs.Option.{option_copied};
+ghost use Rattle.ug_image.specs.Images.{IsImage};
+ghost use Rattle.ug_rules.specs.Books.{AreSettings, IsSoundBook};
+ghost use Rattle.ug_restart.specs.Moments.{IsCovered};
+ghost use Rattle.ug_restart.specs.Starts.{IsSpent, begun, boxes_saved, gone_on, next_run};
+ghost use Rattle.ug_restart.specs.Books.{HasNoFirst, HasNoNext, IsSaverOf, MayGoOn};
+
+use crate::compare::check_problem;
+use crate::fault::StartFault;
+use crate::opening::{check_gap, next_run};
+use std::alloc::{AllocError, Global};
+use ug_book::{Book, Boxes};
+use ug_checkpoint::{Found, Saver};
+use ug_image::{Image, Saved};
+use ug_lists::Items;
+use ug_nodes::Changes;
+use ug_problem::{Problem, Shared};
+use ug_rows::Point;
+use ug_rules::Settings;
+
+/// The book of a new solve, under the run after the one that was found, and the saver of that disk.
+pub fn first_book(
+    alloc: Global,
+    found: Option<&Found>,
+    problem: Shared,
+    settings: Settings,
+) -> Result<(Book, Saver), StartFault>
+    requires { AreSettings settings }
+    ensures book { IfOk result (λ x. x.0 ≡ begun problem settings (option_copied found.entry)) }
+    ensures sound { IfOk result (λ x. IsSoundBook x.0) }
+    ensures saver { IfOk result (λ x. IsSaverOf (option_copied found.entry) x.1) }
+    ensures room { OnOk result (¬ IsSpent (option_copied found.entry)) }
+    ensures refused { IfErr result (HasNoFirst (option_copied found.entry)) }
+{
+    let run = match next_run(found) {
+        Ok(run) => run,
+        Err(fault) => return Err(fault),
+    };
+    let saver = Saver::new(found);
+    let Ok(boxes) = root_alone(alloc) else {
+        return Err(StartFault::Memory);
+    };
+    match Book::new(alloc, problem, run, None, boxes, settings) {
+        Ok(book) => Ok((book, saver)),
+        Err(_) => Err(StartFault::Memory),
+    }
+}
+
+/// The book that goes on from what was found, and the saver of that disk.
+pub fn next_book(
+    alloc: Global,
+    found: Found,
+    problem: Shared,
+    settings: Settings,
+) -> Result<(Book, Saver), StartFault>
+    requires settings { AreSettings settings }
+    requires image { IsImage found.image }
+    ensures book { IfOk result (λ x. x.0 ≡ gone_on problem settings found) }
+    ensures sound { IsCovered found.image → IfOk result (λ x. IsSoundBook x.0) }
+    ensures saver { IfOk result (λ x. IsSaverOf (Some found) x.1) }
+    ensures may { OnOk result (MayGoOn problem settings found) }
+    ensures refused { IfErr result (HasNoNext problem settings found) }
+{
+    let run = match next_run_of(alloc, &found, problem.problem(), &settings) {
+        Ok(run) => run,
+        Err(fault) => return Err(fault),
+    };
+    let saver = Saver::new(Some(&found));
+    let Ok(kept) = kept_of(alloc, found) else {
+        return Err(StartFault::Memory);
+    };
+    match Book::new(alloc, problem, run, kept.best, kept.boxes, settings) {
+        Ok(book) => Ok((book, saver)),
+        Err(_) => Err(StartFault::Memory),
+    }
+}
+
+// The run that goes on from what was found, if one of the problem may, under these settings.
+fn next_run_of(
+    alloc: Global,
+    found: &Found,
+    problem: &Problem,
+    settings: &Settings,
+) -> Result<u64, StartFault>
+    ensures run { IfOk result (λ run. run ≡ next_run (Some found.now)) }
+    ensures may { OnOk result (MayGoOn problem.now settings.now found.now) }
+    ensures refused { IfErr result (HasNoNext problem.now settings.now found.now) }
+{
+    match check_problem(alloc, found.image.problem.problem(), problem) {
+        Ok(()) => {}
+        Err(fault) => return Err(fault),
+    }
+    match check_gap(found, settings) {
+        Ok(()) => next_run(Some(found)),
+        Err(fault) => Err(fault),
+    }
+}
+
+// What a run keeps of a checkpoint.
+#[derive(Drop)]
+struct Kept {
+    best: Option<Point>,
+    boxes: Boxes,
+}
+
+fn kept_of(alloc: Global, found: Found) -> Result<Kept, AllocError>
+    ensures best { IfOk result (λ kept. kept.best ≡ found.image.best) }
+    ensures boxes { IfOk result (λ kept. kept.boxes ≡ boxes_saved found.image.nodes) }
+{
+    let Found { image, .. } = found;
+    let Image { best, nodes, .. } = image;
+    let boxes = boxes_of(alloc, nodes)?;
+    Ok(Kept { best, boxes })
+}
+
+// The root box alone.
+fn root_alone(alloc: Global) -> Result<Boxes, AllocError>
+    ensures { IfOk result (λ boxes. boxes ≡ [] ∷ []) }
+{
+    let mut boxes = Items::new(alloc);
+    boxes.push(Changes::new(Vec::new(alloc)))?;
+    Ok(boxes)
+}
+
+// The boxes of the nodes.
+fn boxes_of(alloc: Global, nodes: Saved) -> Result<Boxes, AllocError>
+    ensures { IfOk result (λ boxes. boxes ≡ boxes_saved nodes) }
+{
+    let mut boxes = Items::new(alloc);
+    for node in nodes.into_vec() {
+        boxes.push(node.changes)?;
+    }
+    Ok(boxes)
+}
