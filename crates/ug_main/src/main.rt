@@ -2,23 +2,28 @@
 //! checkpoints.
 //! It stands on ug_top, on ug_cli for the words, and on ug_real.
 //! `main` makes the real objects, a reader of the file, a writer to standard output and the folder of
-//! the checkpoint, and ends with the status of `run`, whose contract says what was printed.
+//! the checkpoint; `carry_out` runs with them, under the contract of `run`, which says what was printed.
 //! On standard error it writes the usage line where the words are no command, why a run failed, and,
 //! where that is a terminal or `UG_PROGRESS` is set, how it gets on.
 #![tactic(auto)]
 
+ghost use Rattle.std.specs.Prelude.{◌≡◌, ◌⊎◌};
 ghost use Rattle.ug_cli.specs.Taken.{texts};
-ghost use Rattle.ug_main.specs.Files.{HasRunOnFiles};
+ghost use Rattle.ug_commands.specs.Outside.{outside};
+ghost use Rattle.ug_main.specs.Files.{HasRunOnFiles, IsUnbegun};
+ghost use Rattle.ug_top.specs.Ran.{HasRun};
 
 mod front;
 mod paths;
 mod progress;
+mod reasons;
 mod refusals;
 mod words;
 
 use crate::front::Front;
 use crate::paths::{Paths, paths_of};
 use crate::progress::Progress;
+use crate::reasons::Reasons;
 use crate::refusals::explain_refusal;
 use crate::words::Behind;
 use std::fs::File;
@@ -29,6 +34,8 @@ use std::sync::Wait;
 use std::thread::Threads;
 use std::{env, io};
 use ug_cli::{Usage, read_words};
+use ug_disk::Disk;
+use ug_io::{Sink, Source};
 use ug_real::{FileDisk, Reader, Writer};
 use ug_top::{Status, run};
 
@@ -51,7 +58,9 @@ fn status_of(error: &io::Error) -> Status {
 }
 
 // Ends before a run has begun. Want of memory is told as a run tells it.
-fn unbegun<R: Print>(rt: &R, status: Status) -> Status {
+fn unbegun<R: Print>(rt: &R, status: Status) -> Status
+    ensures { result ≡ status }
+{
     if status == Status::Memory {
         let _ = println!(rt; "memory");
     }
@@ -62,6 +71,7 @@ fn unbegun<R: Print>(rt: &R, status: Status) -> Status {
 fn obey<R>(rt: &R, words: &[String], is_told: bool) -> Status
 where
     R: Files<File = File> + Print + Eprint + AllocGlobal + Threads + Wait + Sync,
+    ensures { HasRunOnFiles (texts words.now) result ⊎ IsUnbegun result }
 {
     match read_words(rt.alloc(), words) {
         Ok(plan) => work(rt, words, paths_of(Some(&plan)), is_told),
@@ -70,40 +80,52 @@ where
     }
 }
 
-// Does what the words ask for, with these files. Why it failed goes to standard error: the system's
-// words where a call did, else what is the matter with the text or the checkpoint.
+// Does what the words ask for, with these files.
 fn work<R>(rt: &R, words: &[String], paths: Paths<'_>, is_told: bool) -> Status
 where
     R: Files<File = File> + Print + Eprint + AllocGlobal + Threads + Wait + Sync,
     ensures { HasRunOnFiles (texts words.now) result }
 {
-    let Paths {
-        file,
-        folder,
-        is_shown,
-    } = paths;
-    let mut input = Reader::new(rt, file);
+    let mut input = Reader::new(rt, paths.file);
     let mut out = Front::new(Writer::new(io::writer(rt)));
-    let mut disk = if is_shown {
-        FileDisk::reading(rt, rt.alloc(), folder)
+    let mut disk = if paths.is_shown {
+        FileDisk::reading(rt, rt.alloc(), paths.folder)
     } else {
-        FileDisk::new(rt, rt.alloc(), folder)
+        FileDisk::new(rt, rt.alloc(), paths.folder)
     };
-    let status = run(
-        rt,
-        rt.alloc(),
-        words,
-        &mut input,
-        &mut out,
-        &mut disk,
-        &Progress::new(rt, is_told),
-    );
+    carry_out(rt, words, paths, &mut input, &mut out, &mut disk, is_told)
+}
+
+// Does what the words ask for, with these objects. Why it failed goes to standard error: the system's
+// words where a call did, else what is the matter with the text or the checkpoint.
+fn carry_out<R, S, K, D>(
+    rt: &R,
+    words: &[String],
+    paths: Paths<'_>,
+    input: &mut S,
+    out: &mut Front<K>,
+    disk: &mut D,
+    is_told: bool,
+) -> Status
+where
+    R: Eprint + AllocGlobal + Threads + Wait + Sync,
+    S: Source + Reasons,
+    K: Sink + Reasons + Drop,
+    D: Disk + Reasons,
+    ensures { HasRun (texts words.now)
+        (outside (S.left input.old) (S.faults input.old) (D.told disk.old) (D.faults disk.old))
+        (outside (S.left input.new) (S.faults input.new) (D.told disk.new) (D.faults disk.new))
+        (K.written out.old.sink) (K.written out.new.sink)
+        (K.faults out.old.sink) (K.faults out.new.sink) result }
+{
+    let gate = Progress::new(rt, is_told);
+    let status = run(rt, rt.alloc(), words, input, out, disk, &gate);
     match status {
-        Status::ReadFault => explain(rt, file, input.error()),
-        Status::WriteFault => explain(rt, "standard output", out.sink.error()),
-        Status::Refused => explain_refusal(rt, file, out.kept()),
-        Status::DiskFault => explain(rt, folder, disk.error()),
-        _ => advise(rt, folder, status),
+        Status::ReadFault => explain(rt, paths.file, input.reason()),
+        Status::WriteFault => explain(rt, "standard output", out.sink.reason()),
+        Status::Refused => explain_refusal(rt, paths.file, out.kept()),
+        Status::DiskFault => explain(rt, paths.folder, disk.reason()),
+        _ => advise(rt, paths.folder, status),
     }
     status
 }

@@ -1,0 +1,37 @@
+use crate::front::Front;
+use std::fs::File;
+use std::io;
+use std::io::Write;
+use std::rt::Files;
+use ug_io::Sink;
+use ug_real::{FileDisk, Reader, Writer};
+
+/// What keeps why a call on it failed.
+pub trait Reasons {
+    /// Why the last call failed that did, in the system's words.
+    fn reason(&self) -> Option<&io::Error>;
+}
+
+impl<R: Files> Reasons for Reader<'_, R> {
+    fn reason(&self) -> Option<&io::Error> {
+        self.error()
+    }
+}
+
+impl<W: Write + Drop> Reasons for Writer<W> {
+    fn reason(&self) -> Option<&io::Error> {
+        self.error()
+    }
+}
+
+impl<R: Files<File = File>> Reasons for FileDisk<'_, R> {
+    fn reason(&self) -> Option<&io::Error> {
+        self.error()
+    }
+}
+
+impl<S: Sink + Reasons + Drop> Reasons for Front<S> {
+    fn reason(&self) -> Option<&io::Error> {
+        self.sink.reason()
+    }
+}
