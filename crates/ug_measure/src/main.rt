@@ -14,12 +14,15 @@ mod saving;
 mod start;
 
 use crate::answers::Answers;
-use crate::calls::call_desk;
+use crate::calls::{Replies, call_desk};
 use crate::driver::drive;
-use crate::saving::{Stage, save_nodes};
+use crate::saving::{Size, Stage, save_nodes};
+use std::alloc::AllocError;
+use std::env;
+use std::io::Print;
 use std::process::ExitCode;
 use std::rt::Env;
-use std::{env, io};
+use std::sync::Wait;
 
 // What is measured.
 #[derive(Clone, Copy)]
@@ -58,60 +61,68 @@ fn wanted<R: Env + AllocGlobal>(rt: &R) -> Option<Task> {
     Some(Task::Save { nodes, stage })
 }
 
+// What became of a book's messages.
+fn print_answers<R: Print>(rt: &R, answers: &Answers) {
+    let Answers {
+        kept,
+        stale,
+        other,
+        deaths,
+        decisions,
+        books,
+    } = answers;
+    let _ = println!(rt; "kept {kept}");
+    let _ = println!(rt; "stale {stale}");
+    let _ = println!(rt; "other {other}");
+    let _ = println!(rt; "deaths {deaths}");
+    let _ = println!(rt; "decisions {decisions}");
+    let _ = println!(rt; "books {books}");
+}
+
+// What was saved.
+fn print_size<R: Print>(rt: &R, size: &Size) {
+    let Size {
+        nodes,
+        bytes,
+        loaded,
+    } = size;
+    let _ = println!(rt; "nodes {nodes}");
+    let _ = println!(rt; "bytes {bytes}");
+    let _ = println!(rt; "loaded {loaded}");
+}
+
+// What a desk replied.
+fn print_replies<R: Print>(rt: &R, replies: &Replies) {
+    let Replies {
+        going,
+        other,
+        snapshots,
+    } = replies;
+    let _ = println!(rt; "going {going}");
+    let _ = println!(rt; "other {other}");
+    let _ = println!(rt; "snapshots {snapshots}");
+}
+
+// Measures what is wanted. Want of memory is the one error.
+fn measure<R: Print + AllocGlobal + Wait>(rt: &R, task: Task) -> Result<(), AllocError> {
+    match task {
+        Task::Book { messages } => print_answers(rt, &drive(rt.alloc(), messages)?),
+        Task::Save { nodes, stage } => print_size(rt, &save_nodes(rt.alloc(), nodes, stage)?),
+        Task::Desk { calls } => print_replies(rt, &call_desk(rt, rt.alloc(), calls)?),
+    }
+    Ok(())
+}
+
 fn main(rt: HostRuntime) -> ExitCode {
-    match wanted(&rt) {
-        Some(Task::Book { messages }) => match drive(rt.alloc(), messages) {
-            Ok(answers) => {
-                let Answers {
-                    kept,
-                    stale,
-                    other,
-                    deaths,
-                    decisions,
-                    books,
-                } = answers;
-                let _ = println!(rt; "kept {kept}");
-                let _ = println!(rt; "stale {stale}");
-                let _ = println!(rt; "other {other}");
-                let _ = println!(rt; "deaths {deaths}");
-                let _ = println!(rt; "decisions {decisions}");
-                let _ = println!(rt; "books {books}");
-                ExitCode::from(0)
-            }
-            Err(_) => {
-                let _ = println!(rt; "memory");
-                ExitCode::from(9)
-            }
-        },
-        Some(Task::Save { nodes, stage }) => match save_nodes(rt.alloc(), nodes, stage) {
-            Ok(size) => {
-                let (nodes, bytes, loaded) = (size.nodes, size.bytes, size.loaded);
-                let _ = println!(rt; "nodes {nodes}");
-                let _ = println!(rt; "bytes {bytes}");
-                let _ = println!(rt; "loaded {loaded}");
-                ExitCode::from(0)
-            }
-            Err(_) => {
-                let _ = println!(rt; "memory");
-                ExitCode::from(9)
-            }
-        },
-        Some(Task::Desk { calls }) => match call_desk(&rt, rt.alloc(), calls) {
-            Ok(replies) => {
-                let (going, other, snapshots) = (replies.going, replies.other, replies.snapshots);
-                let _ = println!(rt; "going {going}");
-                let _ = println!(rt; "other {other}");
-                let _ = println!(rt; "snapshots {snapshots}");
-                ExitCode::from(0)
-            }
-            Err(_) => {
-                let _ = println!(rt; "memory");
-                ExitCode::from(9)
-            }
-        },
-        None => {
-            let _ = eprintln!(rt; "usage: ug_measure book|image|save|load|desk N");
-            ExitCode::from(2)
+    let Some(task) = wanted(&rt) else {
+        let _ = eprintln!(rt; "usage: ug_measure book|image|save|load|desk N");
+        return ExitCode::from(2);
+    };
+    match measure(&rt, task) {
+        Ok(()) => ExitCode::from(0),
+        Err(_) => {
+            let _ = println!(rt; "memory");
+            ExitCode::from(9)
         }
     }
 }

@@ -41,37 +41,14 @@ fn rows_at_their_limit(rt: HostRuntime) -> Result<(), Fail> {
     let mut text = String::from_str(alloc, "ROWS\n")?;
     push_lines(alloc, &mut text, " N R", 10_000, "\n")?;
     assert!(rt; compare(&rt, alloc, text.as_str(), "ENDATA\n", 0, "optimal 0")?);
-    assert!(rt;
-        compare(
-            &rt,
-            alloc,
-            text.as_str(),
-            " N R\n",
-            3,
-            "refused 10002 TooMany"
-        )?
-    );
-    // Ahead of it stand the other faults of the line.
-    assert!(rt;
-        compare(
-            &rt,
-            alloc,
-            text.as_str(),
-            " X R\n",
-            3,
-            "refused 10002 RowKind X"
-        )?
-    );
-    assert!(rt;
-        compare(
-            &rt,
-            alloc,
-            text.as_str(),
-            " L R7\n",
-            3,
-            "refused 10002 Duplicate R7"
-        )?
-    );
+    // Ahead of the limit stand the other faults of the line.
+    for (line, told) in [
+        (" N R\n", "refused 10002 TooMany"),
+        (" X R\n", "refused 10002 RowKind X"),
+        (" L R7\n", "refused 10002 Duplicate R7"),
+    ] {
+        assert!(rt; compare(&rt, alloc, text.as_str(), line, 3, told)?);
+    }
     Ok(())
 }
 
@@ -81,46 +58,14 @@ fn columns_at_their_limit(rt: HostRuntime) -> Result<(), Fail> {
     let mut text = String::from_str(alloc, "ROWS\n N Z\nCOLUMNS\n M 'MARKER' 'INTORG'\n")?;
     push_lines(alloc, &mut text, " C", 10_000, " Z 1\n")?;
     assert!(rt; compare(&rt, alloc, text.as_str(), "ENDATA\n", 0, "optimal 0")?);
-    assert!(rt;
-        compare(
-            &rt,
-            alloc,
-            text.as_str(),
-            " C Z 1\n",
-            3,
-            "refused 10005 TooMany"
-        )?
-    );
-    // Ahead of it stand the other faults of the line.
-    assert!(rt;
-        compare(
-            &rt,
-            alloc,
-            text.as_str(),
-            " C Z x\n",
-            3,
-            "refused 10005 Number x"
-        )?
-    );
-    assert!(rt;
-        compare(
-            &rt,
-            alloc,
-            text.as_str(),
-            " C Y 1\n",
-            3,
-            "refused 10005 Unknown Y"
-        )?
-    );
-    assert!(rt;
-        compare(
-            &rt,
-            alloc,
-            text.as_str(),
-            " C7 Z 1\n",
-            3,
-            "refused 10005 Duplicate C7"
-        )?
-    );
+    // Ahead of the limit stand the other faults of the line.
+    for (line, told) in [
+        (" C Z 1\n", "refused 10005 TooMany"),
+        (" C Z x\n", "refused 10005 Number x"),
+        (" C Y 1\n", "refused 10005 Unknown Y"),
+        (" C7 Z 1\n", "refused 10005 Duplicate C7"),
+    ] {
+        assert!(rt; compare(&rt, alloc, text.as_str(), line, 3, told)?);
+    }
     Ok(())
 }
