@@ -16,3 +16,4 @@ pub mod Stepping
 pub mod Fresh
 pub mod Waiting
 pub mod Objectives
+pub mod Snug

@@ -1,5 +1,5 @@
 -- The objective's factor of a column, and its sums where the column has another interval.
-use Rattle.std.proofs.Common.{◌≡◌, ◌≢◌, subst, sym, ◌∙◌, ap, inl, inr, ℕ, ◌-◌, ◌<◌, ◌≤◌, ℤ, List, [], length, Option, Some, None, arith}
+use Rattle.std.proofs.Common.{◌≡◌, ◌≢◌, subst, sym, ◌∙◌, ap, inl, inr, ℕ, ◌-◌, ◌<◌, ◌≤◌, List, [], length, None, arith}
 use Rattle.std.proofs.lemmas.Bool.{cases_lt}
 use Rattle.ug_rows.specs.declared.row.Term.{Term}
 use Rattle.ug_rows.specs.Rows.{IsAmong, term_at}
@@ -8,7 +8,7 @@ use Rattle.ug_problem.specs.declared.standings.Standing.{Standing}
 use Rattle.ug_problem.specs.Instances.{Instance}
 use Rattle.ug_problem.specs.Standings.{AreStandings, standing_at, term_of, terms_of}
 use Rattle.ug_propagate.specs.Running.{IsObjectiveStanding}
-use Rattle.ug_propagate.proofs.Running.{named_last, terms_last}
+use Rattle.ug_propagate.proofs.Running.{named_last}
 
 -- the last standing is that in the objective
 pub factor_there : (p : Instance) (j : ℕ) (list : List Standing) (last : Standing) → AreStandings p j list → 0 < length list

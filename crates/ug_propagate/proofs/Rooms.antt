@@ -91,14 +91,14 @@ taken_high room high sum least most e f = omega (arith, ints)
 taken_low : (room low sum greatest least : ℤ) → room ≡ sum -ℤ low → least ≡ greatest -ℤ room → low -ℤ (sum -ℤ greatest) ≡ least
 taken_low room low sum greatest least e f = omega (arith, ints)
 
-never_high : (room sum span : ℤ) → room ≡ pos (6 * 10 ^ 37) -ℤ sum → unsigned_abs sum ≤ 3 * 10 ^ 37
+pub never_high : (room sum span : ℤ) → room ≡ pos (6 * 10 ^ 37) -ℤ sum → unsigned_abs sum ≤ 3 * 10 ^ 37
     → unsigned_abs span ≤ 10 ^ 24 * 2 ^ 32 → room <ℤ span → ⊥
 never_high room (pos sum) (pos span) e small short less = omega (arith, ints)
 never_high room (pos sum) (negsuc span) e small short less = omega (arith, ints)
 never_high room (negsuc sum) (pos span) e small short less = omega (arith, ints)
 never_high room (negsuc sum) (negsuc span) e small short less = omega (arith, ints)
 
-never_low : (room sum span : ℤ) → room ≡ sum -ℤ low_of None → unsigned_abs sum ≤ 3 * 10 ^ 37
+pub never_low : (room sum span : ℤ) → room ≡ sum -ℤ low_of None → unsigned_abs sum ≤ 3 * 10 ^ 37
     → unsigned_abs span ≤ 10 ^ 24 * 2 ^ 32 → room <ℤ span → ⊥
 never_low room (pos sum) (pos span) e small short less = omega (arith, ints)
 never_low room (pos sum) (negsuc span) e small short less = omega (arith, ints)
@@ -194,7 +194,7 @@ at_most_raised reason n j s area new e =
     record { side = h.0; put = h.1; end = h.2 }
 
 -- under the high side a term's least product stays
-at_most_moved : (reason : Reason) (f : ℤ) (j : ℕ) (s : ℤ) (area new : List Interval)
+pub at_most_moved : (reason : Reason) (f : ℤ) (j : ℕ) (s : ℤ) (area new : List Interval)
     → Kept new ≡ keep_at_most reason f j s area → IsMoved Least f j area new
 at_most_moved reason (pos n) j s area new e = at_most_lowered reason n j s area new e
 at_most_moved reason (negsuc n) j s area new e = at_most_raised reason n j s area new e
@@ -212,7 +212,7 @@ at_least_lowered reason n j s area new e =
     record { side = h.0; put = h.1; end = h.2 }
 
 -- over the low side its greatest product stays
-at_least_moved : (reason : Reason) (f : ℤ) (j : ℕ) (s : ℤ) (area new : List Interval)
+pub at_least_moved : (reason : Reason) (f : ℤ) (j : ℕ) (s : ℤ) (area new : List Interval)
     → Kept new ≡ keep_at_least reason f j s area → IsMoved Greatest f j area new
 at_least_moved reason (pos n) j s area new e = at_least_raised reason n j s area new e
 at_least_moved reason (negsuc n) j s area new e = at_least_lowered reason n j s area new e
@@ -231,7 +231,7 @@ stays : (sum old new : ℤ) → new ≡ old → (sum -ℤ old) +ℤ new ≡ sum
 stays sum old new e = omega (arith, ints)
 
 -- a sum whose term has the same end there is as it was
-sum_stays : (e : Extreme) (width : ℕ) (terms : List Term) (t : Term) (area : List Interval) (side : Interval)
+pub sum_stays : (e : Extreme) (width : ℕ) (terms : List Term) (t : Term) (area : List Interval) (side : Interval)
     → IsLinear width terms → IsAmong t terms → t.column < length area
     → end_of e t.factor side ≡ end_of e t.factor (interval_at area t.column)
     → end_sum e terms (set area t.column side) ≡ end_sum e terms area

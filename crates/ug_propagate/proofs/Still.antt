@@ -96,11 +96,11 @@ terms_still look terms (t ∷ rest) area room r ne h k =
     (λ i lt. k (suc i) (omega arith))
 
 -- a side that is not there is not missed
-no_high : (room sum : ℤ) → room ≡ pos (6 * 10 ^ 37) -ℤ sum → unsigned_abs sum ≤ 3 * 10 ^ 37 → room <ℤ pos 0 → ⊥
+pub no_high : (room sum : ℤ) → room ≡ pos (6 * 10 ^ 37) -ℤ sum → unsigned_abs sum ≤ 3 * 10 ^ 37 → room <ℤ pos 0 → ⊥
 no_high room (pos sum) e small less = omega (arith, ints)
 no_high room (negsuc sum) e small less = omega (arith, ints)
 
-no_low : (room sum : ℤ) → room ≡ sum -ℤ low_of None → unsigned_abs sum ≤ 3 * 10 ^ 37 → room <ℤ pos 0 → ⊥
+pub no_low : (room sum : ℤ) → room ≡ sum -ℤ low_of None → unsigned_abs sum ≤ 3 * 10 ^ 37 → room <ℤ pos 0 → ⊥
 no_low room (pos sum) e small less = omega (arith, ints)
 no_low room (negsuc sum) e small less = omega (arith, ints)
 

@@ -1,8 +1,7 @@
 -- To pass over the rows that are at rest is to look at them all.
 use Rattle.std.proofs.Common.{◌≡◌, refl, sym, subst, ◌∙◌, ap, inl, inr, ℕ, zero, suc, ◌+◌, ◌-◌, ◌<◌, ◌≤◌, ℤ, pos, ◌-ℤ◌, List, [], ◌∷◌, ◌++◌, length, take, get_or, Option, Some, None, arith}
 use Rattle.std.proofs.lemmas.Bool.{cases_eq, cases_lt, lt-ltb, le-ltb}
-use Rattle.std.proofs.lemmas.List.{append-nil, take_all, take_more, length-take-le}
-use Rattle.std.proofs.lemmas.List.Elements.{All-nil}
+use Rattle.std.proofs.lemmas.List.{take_all, take_more, length-take-le}
 use Rattle.std.specs.Option.{option_map}
 use Rattle.ug_rows.specs.declared.area.Interval.{Interval}
 use Rattle.ug_rows.specs.declared.row.Term.{Term}
@@ -13,7 +12,6 @@ use Rattle.ug_problem.specs.Limits.{IsProblem}
 use Rattle.ug_problem.specs.Standings.{terms_of}
 use Rattle.ug_problem.proofs.Linear.{linear_objective}
 use Rattle.ug_propagate.specs.declared.look.Look.{Look}
-use Rattle.ug_propagate.specs.declared.working.Change.{Change}
 use Rattle.ug_propagate.specs.declared.tight.Tight.{Tight}
 use Rattle.ug_propagate.specs.declared.tight.Tight.TheVariants.{Kept, Empty}
 use Rattle.ug_propagate.specs.declared.tight.Reason.{Reason}
@@ -74,27 +72,29 @@ resting_more p cutoff area r old new resting bit here k there asleep = elim (cas
   | inr other ↦ resting k there (sym (bit.others k other) ∙ asleep)
 ]
 
--- a row whose look changed nothing rests
-pub visit_same : (p : Instance) (cutoff : Option ℤ) (r : ℕ) (old mid new : WorkState) → IsWorking p cutoff old → mid ≡ old
-    → IsAtRest (look_for p cutoff r) (terms_of p r) old.sums.area → HasBit r 0 mid.awake new.awake
+-- a row that is at rest after its look is let rest
+pub visit_rests : (p : Instance) (cutoff : Option ℤ) (r : ℕ) (old mid new : WorkState) → WentOn p cutoff old mid
+    → IsAtRest (look_for p cutoff r) (terms_of p r) mid.sums.area → HasBit r 0 mid.awake new.awake
     → new ≡ record mid { awake = new.awake } → length new.awake ≡ length mid.awake → WentOn p cutoff old new
-visit_same p cutoff r old mid new working same here bit others wide =
-    let P : WorkState → Type 0 = λ (w : WorkState). HasBit r 0 w.awake new.awake in
-    let bit_now : HasBit r 0 old.awake new.awake = subst P same bit in
-    let next : WorkState = record old { awake = new.awake } in
-    let long : length new.awake ≡ length old.awake = wide ∙ ap (λ (w : WorkState). length w.awake) same in
-    let is : new ≡ next = others ∙ ap (λ (w : WorkState). record w { awake = new.awake }) same in
+visit_rests p cutoff r old mid new went here bit others wide =
+    let box = went.working.box in
     let Q : WorkState → Type 0 = λ (w : WorkState). WentOn p cutoff old w in
-    subst Q (sym is) (record {
+    subst Q (sym others) (record {
       working = record {
         box = record {
-          sums = working.box.sums;
-          reach = working.box.reach;
-          bits = record { enough = omega (arith, working.box.bits.enough, long); few = omega (arith, working.box.bits.few, long) };
+          sums = box.sums;
+          reach = box.reach;
+          bits = record { enough = omega (arith, box.bits.enough, wide); few = omega (arith, box.bits.few, wide) };
         };
-        resting = resting_more p cutoff old.sums.area r old.awake new.awake working.resting bit_now here;
+        resting = resting_more p cutoff mid.sums.area r mid.awake new.awake went.working.resting bit here;
       };
-      later = record { more = []; trail = sym (append-nil old.trail); back = refl; there = All-nil (λ (change : Change). change.column < length old.sums.area); reach = refl };
+      later = record {
+        more = went.later.more;
+        trail = went.later.trail;
+        back = went.later.back;
+        there = went.later.there;
+        reach = went.later.reach;
+      };
     })
 
 pub went_step : (p : Instance) (cutoff : Option ℤ) (old new : WorkState) → IsWorking p cutoff old → IsStep p old new

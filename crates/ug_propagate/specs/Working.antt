@@ -1,5 +1,5 @@
 -- A working box: a box that is tightened in place, with its running sums, the rows that are awake, and what was changed.
-use Rattle.std.specs.Prelude.{◌≡◌, ◌≢◌, ℕ, ℤ, pos, ◌+◌, ◌-◌, ◌-ℤ◌, ◌≤ℤ◌, ◌*◌, ◌^◌, ◌<◌, ◌≤◌, List, [], ◌∷◌, ◌++◌, length, replicate, take, drop, All, slice_index_or, slice_set, nat_lt, if◌then◌else◌, Option, Some, None}
+use Rattle.std.specs.Prelude.{◌≡◌, ◌≢◌, ℕ, ℤ, pos, ◌+◌, ◌-◌, ◌-ℤ◌, ◌≤ℤ◌, ◌*◌, ◌^◌, ◌<◌, ◌≤◌, ◌⊎◌, List, [], ◌∷◌, ◌++◌, length, replicate, take, drop, All, slice_index_or, slice_set, nat_lt, if◌then◌else◌, Option, Some, None}
 use Rattle.std.specs.Option.{option_map}
 use Rattle.ug_rows.specs.declared.area.Interval.{Interval}
 use Rattle.ug_rows.specs.declared.row.Term.{Term}
@@ -171,6 +171,16 @@ abbrev pub RestsWhereSame : Looked → Look → List Term → List Interval → 
 RestsWhereSame Same look terms area = IsAtRest look terms area
 RestsWhereSame Changed look terms area = Unit {0}
 RestsWhereSame (Emptied reason) look terms area = Unit {0}
+
+-- a look at a row that has at most one side
+abbrev pub HasOneSide : Look → Type 0
+HasOneSide look = (look.low ≡ None) ⊎ (look.high ≡ None)
+
+-- where each term was looked at once, a row with one side alone is at rest, since a cut moves the other sum alone
+abbrev pub RestsWhereChanged : Looked → Look → List Term → List Interval → Type 0
+RestsWhereChanged Same look terms area = Unit {0}
+RestsWhereChanged Changed look terms area = HasOneSide look → IsAtRest look terms area
+RestsWhereChanged (Emptied reason) look terms area = Unit {0}
 
 -- the rows are at rest on the box under this cutoff, or it is not known of any
 abbrev pub AllRest : Instance → Rest → List Interval → Type 0

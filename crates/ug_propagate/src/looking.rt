@@ -1,13 +1,13 @@
 //! Looks at a row of a working box.
 
-ghost use Rattle.std.specs.Prelude.{◌≡◌, ◌≤◌, ◌<◌, ◌*◌, ◌^◌, length, unsigned_abs, IfOk, IsTrue};
+ghost use Rattle.std.specs.Prelude.{◌≡◌, ◌≤◌, ◌<◌, ◌*◌, ◌^◌, ◌≤ℤ◌, pos, length, unsigned_abs, IfOk, IsTrue};
 ghost use Rattle.ug_rows.specs.Boxes.{interval_at};
 ghost use Rattle.ug_rows.specs.Rows.{IsAmong};
 ghost use Rattle.ug_problem.specs.Standings.{terms_of};
 ghost use Rattle.ug_propagate.specs.Cuts.{IsInnerCut, cut_of};
 ghost use Rattle.ug_propagate.specs.Rounds.{over_low, over_terms, reason_of, row_step, term_step, under_high};
 ghost use Rattle.ug_propagate.specs.Steps.{IsLookable, IsRoomOf, IsTermOf, looked_of, outcome_of, row_of, span_of};
-ghost use Rattle.ug_propagate.specs.Working.{FitWhereSame, FitsWhereSame, IsBox, IsSame, IsStep, RestsWhereSame};
+ghost use Rattle.ug_propagate.specs.Working.{FitWhereSame, FitsWhereSame, IsBox, IsSame, IsStep, RestsWhereChanged, RestsWhereSame};
 ghost use Rattle.ug_propagate.specs.declared.look.Looked.TheVariants.{Same};
 ghost use Rattle.ug_propagate.specs.declared.tight.Side.TheVariants.{High, Low};
 ghost use Rattle.ug_propagate.specs.declared.tight.Tight.TheVariants.{Kept};
@@ -203,10 +203,13 @@ fn tighten_terms(
     requires row { IsLookable (length work.old.sums.area) look terms.now }
     requires terms { terms.now ≡ terms_of problem.now r }
     requires room { IsRoomOf look terms.now work.old.sums.area room }
+    requires high { pos 0 ≤ℤ room.high }
+    requires low { pos 0 ≤ℤ room.low }
     ensures step { IsStep problem.now work.old work.new }
     ensures value { IfOk result (λ looked. looked_of looked work.new.sums.area ≡ over_terms look.row (row_of look terms.now) terms.now (Kept work.old.sums.area)) }
     ensures same { IfOk result (λ looked. IsSame looked work.old work.new) }
     ensures fit { IfOk result (λ looked. FitWhereSame looked terms.now work.old.sums.area room) }
+    ensures snug { IfOk result (λ looked. RestsWhereChanged looked look terms.now work.new.sums.area) }
 {
     let mut now = room;
     let mut changed = false;
@@ -243,6 +246,7 @@ pub fn look_at(
     ensures value { IfOk result (λ looked. looked_of looked work.new.sums.area ≡ row_step look.row (row_of look terms.now) work.old.sums.area) }
     ensures same { IfOk result (λ looked. IsSame looked work.old work.new) }
     ensures rest { IfOk result (λ looked. RestsWhereSame looked look terms.now work.old.sums.area) }
+    ensures snug { IfOk result (λ looked. RestsWhereChanged looked look terms.now work.new.sums.area) }
 {
     let room = room_of(work, problem, r, look, terms);
     if room.high < 0 {

@@ -10,7 +10,7 @@ ghost use Rattle.ug_problem.specs.Standings.{terms_of};
 ghost use Rattle.ug_propagate.specs.Rounds.{last_round, round, rounds_of};
 ghost use Rattle.ug_propagate.specs.Steps.{IsLookable, outcome_of};
 ghost use Rattle.ug_propagate.specs.Waiting.{IsRowFound, RestFrom, WentOn, look_to};
-ghost use Rattle.ug_propagate.specs.Working.{AllRest, HasBits, IsWorking, look_for};
+ghost use Rattle.ug_propagate.specs.Working.{AllRest, HasBits, HasOneSide, IsWorking, look_for};
 ghost use Rattle.ug_propagate.specs.declared.tight.Tight.TheVariants.{Kept};
 
 use crate::look::{Look, Looked};
@@ -82,7 +82,14 @@ fn next_row(work: &Working, problem: &Problem, from: usize) -> Option<usize>
     }
 }
 
-// Looks at row r, which then rests where nothing was changed.
+// Whether a row has one side alone, or none.
+fn has_one_side(look: Look) -> bool
+    ensures { IsTrue result → HasOneSide look }
+{
+    look.low.is_none() || look.high.is_none()
+}
+
+// Looks at row r, which then rests where nothing was changed, or where it has one side alone: its terms then fit.
 fn visit(
     work: &mut Working,
     problem: &Problem,
@@ -98,7 +105,12 @@ fn visit(
     let look = look_under(problem, cutoff, r);
     match look_at(work, problem, r, look, terms_at(problem, r))? {
         Looked::Emptied(reason) => Ok(Some(reason)),
-        Looked::Changed => Ok(None),
+        Looked::Changed => {
+            if has_one_side(look) {
+                work.rest(r);
+            }
+            Ok(None)
+        }
         Looked::Same => {
             work.rest(r);
             Ok(None)

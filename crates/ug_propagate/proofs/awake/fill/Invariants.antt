@@ -1,4 +1,4 @@
-use Rattle.std.proofs.Common.{◌≡◌, length, replicate, take}
+use Rattle.std.proofs.Common.{◌≡◌, replicate, take}
 use Rattle.ug_propagate.proofs.awake.fill.Given as goal
 
 abbrev pub invariant-loop-at : goal.invariant-loop-at

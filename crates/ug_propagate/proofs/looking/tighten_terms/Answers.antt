@@ -1,4 +1,4 @@
-use Rattle.std.proofs.Common.{◌≡◌, ◌∙◌, ◌+◌, subst, sym, true, false}
+use Rattle.std.proofs.Common.{◌≡◌, refl, ◌∙◌, ◌+◌, length, subst, sym, true, false, arith}
 use Rattle.ug_propagate.specs.declared.look.Looked.{Looked}
 use Rattle.ug_propagate.specs.declared.look.Looked.TheVariants.{Same}
 use Rattle.ug_propagate.specs.declared.measure.Room.{Room}
@@ -8,7 +8,8 @@ use Rattle.ug_propagate.specs.Working.{FitsWhereSame, IsSame, WorkState}
 use Rattle.ug_propagate.specs.declared.tight.Tight.TheVariants.{Kept}
 use Rattle.ug_rows.specs.Rows.{term_at}
 use Rattle.ug_propagate.proofs.Bodies.{terms_go, terms_stop}
-use Rattle.ug_propagate.proofs.Stepping.{IsUnchanged, step_trans, unchanged_more}
+use Rattle.ug_propagate.proofs.Snug.{AreSnug, snug_more, snug_same}
+use Rattle.ug_propagate.proofs.Stepping.{IsUnchanged, lookable_later, step_trans, unchanged_more}
 use Rattle.ug_propagate.proofs.looking.tighten_terms.Goals as goal
 use Rattle.ug_propagate.proofs.looking.tighten_terms.Goals.{in-Changed, in-Same}
 
@@ -47,6 +48,11 @@ loop-term-preserved c =
         so_far = terms_go c.args.look.row row c.args.terms.now c.loop-term.term-index mid.sums.area new.sums.area _
             c.loop-term-test.true (subst P w.in-Changed.is c.in_ok-reason.ensures.value) c.loop-term.invariant.so_far;
         room = subst Q (sym w.now-is) w.room_of-now.ensures;
+        snug = λ one. subst (λ (r : Room). AreSnug c.args.terms.now (c.loop-term.term-index + 1) new.sums.area r) (sym w.now-is)
+            (snug_more (length mid.sums.area) c.args.look c.args.terms.now c.loop-term.term-index mid.sums.area new.sums.area
+            c.loop-term.now _ (lookable_later c.args.problem.now c.args.work.now mid c.args.look c.args.terms.now c.requires.work
+            c.loop-term.invariant.step c.requires.row) refl (omega (arith, c.loop-term-test.true)) one c.loop-term.invariant.room
+            w.room_of-now.ensures (subst P w.in-Changed.is c.in_ok-reason.ensures.value) (c.loop-term.invariant.snug one));
         same = λ e. absurd (let h : true ≡ false = sym w.changed-is ∙ e in cc);
       }
       | in-Same w ↦
@@ -59,6 +65,10 @@ loop-term-preserved c =
             so_far = terms_go c.args.look.row row c.args.terms.now c.loop-term.term-index mid.sums.area new.sums.area _
                 c.loop-term-test.true (subst P w.in-Same.is c.in_ok-reason.ensures.value) c.loop-term.invariant.so_far;
             room = subst Q (sym w.now-is) (subst R (sym same) c.loop-term.invariant.room);
+            snug = λ one. subst (λ (r : Room). AreSnug c.args.terms.now (c.loop-term.term-index + 1) new.sums.area r) (sym w.now-is)
+                (subst (λ (s : WorkState). AreSnug c.args.terms.now (c.loop-term.term-index + 1) s.sums.area c.loop-term.now) (sym same)
+                (snug_same c.args.terms.now c.loop-term.term-index mid.sums.area c.loop-term.now fits.0 fits.1
+                (c.loop-term.invariant.snug one)));
             same = λ e. subst
                 (λ (r : Room). IsUnchanged c.args.terms.now (c.loop-term.term-index + 1) c.args.work.now new c.args.room r) (sym w.now-is)
                 (unchanged_more c.args.terms.now c.loop-term.term-index c.args.work.now mid new c.args.room c.loop-term.now

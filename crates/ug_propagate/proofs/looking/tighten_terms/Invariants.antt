@@ -1,8 +1,9 @@
 use Rattle.std.proofs.Common.{◌≡◌, drop, false}
 use Rattle.ug_propagate.specs.Rounds.{over_terms}
 use Rattle.ug_propagate.specs.Steps.{IsRoomOf, row_of}
-use Rattle.ug_propagate.specs.Working.{IsStep}
+use Rattle.ug_propagate.specs.Working.{HasOneSide, IsStep}
 use Rattle.ug_propagate.specs.declared.tight.Tight.TheVariants.{Kept}
+use Rattle.ug_propagate.proofs.Snug.{AreSnug}
 use Rattle.ug_propagate.proofs.Stepping.{IsUnchanged}
 use Rattle.ug_propagate.proofs.looking.tighten_terms.Given as goal
 
@@ -12,5 +13,6 @@ invariant-loop-term l = record {
   so_far : over_terms l.look.row (row_of l.look l.terms) (drop l.term-index l.terms) (Kept l.work.sums.area)
       ≡ over_terms l.look.row (row_of l.look l.terms) l.terms (Kept l.initial.work.sums.area);
   room : IsRoomOf l.look l.terms l.work.sums.area l.now;
+  snug : HasOneSide l.look → AreSnug l.terms l.term-index l.work.sums.area l.now;
   same : l.changed ≡ false → IsUnchanged l.terms l.term-index l.initial.work l.work l.fn.room l.now;
 }

@@ -1,6 +1,6 @@
 use Rattle.std.proofs.Common.{◌∙◌, ap, sym, List, length}
 use Rattle.ug_problem.specs.declared.column.NamedRow.{NamedRow}
-use Rattle.ug_propagate.proofs.Objectives.{factor_none, factor_other, factor_there}
+use Rattle.ug_propagate.proofs.Objectives.{factor_none, factor_other}
 use Rattle.ug_propagate.proofs.sums.objective_standing.Goals as goal
 
 pub returns-in-None-clause-standing : goal.returns-in-None-clause-standing
