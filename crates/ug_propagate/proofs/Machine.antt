@@ -10,7 +10,7 @@ use Rattle.ug_rows.proofs.Products.{abs_add, abs_sub}
 pub wider : (v : ℤ) → unsigned_abs v ≤ 10 ^ 24 * 2 ^ 31 → unsigned_abs v ≤ 10 ^ 24 * 2 ^ 32
 wider v h = omega arith
 
-room_same : (v : ℤ) → unsigned_abs v ≤ 9 * 10 ^ 37 → to_z w128 (of_z w128 v) ≡ v
+pub room_same : (v : ℤ) → unsigned_abs v ≤ 9 * 10 ^ 37 → to_z w128 (of_z w128 v) ≡ v
 room_same v h = to_z-of_z w128 v (fits_signed_from_abs w128 v (omega arith))
 
 span_same : (v : ℤ) → unsigned_abs v ≤ 10 ^ 24 * 2 ^ 32 → to_z w128 (of_z w128 v) ≡ v
@@ -72,7 +72,7 @@ less_first : (whole first rest : ℤ) → whole ≡ first +ℤ rest → rest ≡
 less_first whole first rest e = omega (arith, ints)
 
 -- a factor times a difference
-times_difference : (f a b : ℤ) → f *ℤ (b -ℤ a) ≡ (f *ℤ b) -ℤ (f *ℤ a)
+pub times_difference : (f a b : ℤ) → f *ℤ (b -ℤ a) ≡ (f *ℤ b) -ℤ (f *ℤ a)
 times_difference f a b =
     let e : b *ℤ f ≡ (a *ℤ f) +ℤ ((b -ℤ a) *ℤ f) = ap (λ (v : ℤ). v *ℤ f) (sym (back a b)) ∙ sum_times a (b -ℤ a) f in
     *ℤ_comm f (b -ℤ a) ∙ less_first (b *ℤ f) (a *ℤ f) ((b -ℤ a) *ℤ f) e

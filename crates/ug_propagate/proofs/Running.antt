@@ -1,5 +1,5 @@
 -- Running sums, and how they change with one column of the box.
-use Rattle.std.proofs.Common.{◌≡◌, ◌≢◌, refl, sym, subst, ◌∙◌, ap, inl, inr, ℕ, suc, ◌+◌, ◌*◌, ◌^◌, ◌<◌, ◌≤◌, ◌⊎◌, ℤ, ◌+ℤ◌, ◌-ℤ◌, ◌*ℤ◌, unsigned_abs, List, [], ◌∷◌, ◌++◌, length, set, arith}
+use Rattle.std.proofs.Common.{◌≡◌, ◌≢◌, refl, sym, subst, ◌∙◌, ap, inl, inr, ℕ, suc, ◌+◌, ◌*◌, ◌^◌, ◌<◌, ◌≤◌, ◌⊎◌, ℤ, pos, negsuc, ◌+ℤ◌, ◌-ℤ◌, ◌*ℤ◌, unsigned_abs, List, [], ◌∷◌, ◌++◌, length, set, arith}
 use Rattle.std.proofs.lemmas.Int.{ints}
 use Rattle.std.proofs.lemmas.Bool.{cases_eq}
 use Rattle.std.proofs.lemmas.List.{get_or-set_other, get_or-set_same, get_or-map, get_or_append_left, get_or_at, get_or_push, length_push, length-map, length-set}
@@ -17,8 +17,10 @@ use Rattle.ug_problem.specs.Instances.{Instance, no_row, row_at}
 use Rattle.ug_problem.specs.Limits.{IsProblem}
 use Rattle.ug_problem.specs.Standings.{AreStandings, standing_at, term_of, terms_of, terms_of_rows}
 use Rattle.ug_problem.proofs.Linear.{linear_row, linear_objective}
+use Rattle.ug_propagate.specs.declared.measure.Moves.{Moves}
 use Rattle.ug_propagate.specs.declared.sums.Extremes.{Extremes}
-use Rattle.ug_propagate.specs.Running.{AreFirstSums, AreSums, HasMoved, IsSummed, extremes_at, no_extremes}
+use Rattle.ug_propagate.specs.Running.{AreFirstSums, AreMoves, AreSums, HasMoved, IsSummed, extremes_at, move_of, no_extremes}
+use Rattle.ug_propagate.proofs.Machine.{times_difference}
 use Rattle.ug_propagate.proofs.Rooms.{small_put}
 
 -- the terms of a row
@@ -145,6 +147,30 @@ next_ready p j area side standings i sums problem are there h =
 gained : (least sum old new next : ℤ) → next ≡ least +ℤ (new -ℤ old) → least ≡ sum → next ≡ (sum -ℤ old) +ℤ new
 gained least sum old new next e same = omega (arith, ints)
 
+-- a factor times how far an end goes is how its product changes
+pub moved_product : (e : Extreme) (f : ℤ) (before after : Interval) (moves : Moves) → AreMoves before after moves
+    → f *ℤ move_of e f moves ≡ (f *ℤ end_of e f after) -ℤ (f *ℤ end_of e f before)
+moved_product Least (pos n) before after moves h =
+    ap (λ (v : ℤ). pos n *ℤ v) h.low ∙ times_difference (pos n) before.low after.low
+moved_product Least (negsuc n) before after moves h =
+    ap (λ (v : ℤ). negsuc n *ℤ v) h.high ∙ times_difference (negsuc n) before.high after.high
+moved_product Greatest (pos n) before after moves h =
+    ap (λ (v : ℤ). pos n *ℤ v) h.high ∙ times_difference (pos n) before.high after.high
+moved_product Greatest (negsuc n) before after moves h =
+    ap (λ (v : ℤ). negsuc n *ℤ v) h.low ∙ times_difference (negsuc n) before.low after.low
+
+-- a sum that changes so is one that changes with the product
+pub moved_sum : (e : Extreme) (f sum : ℤ) (before after : Interval) (moves : Moves) → AreMoves before after moves
+    → sum +ℤ (f *ℤ move_of e f moves) ≡ sum +ℤ ((f *ℤ end_of e f after) -ℤ (f *ℤ end_of e f before))
+moved_sum e f sum before after moves h = ap (λ (v : ℤ). sum +ℤ v) (moved_product e f before after moves h)
+
+-- the same where the factor may be named otherwise
+pub moved_so : (e : Extreme) (f g sum new : ℤ) (before after : Interval) (moves : Moves) → AreMoves before after moves → g ≡ f
+    → new ≡ sum +ℤ (g *ℤ move_of e g moves) → new ≡ sum +ℤ ((f *ℤ end_of e f after) -ℤ (f *ℤ end_of e f before))
+moved_so e f g sum new before after moves went same h =
+    let P : ℤ → Type 0 = λ (v : ℤ). new ≡ sum +ℤ (v *ℤ move_of e v moves) in
+    subst P same h ∙ moved_sum e f sum before after moves went
+
 -- a row with a term of the column has its new sums
 pub summed_new : (width j : ℕ) (ts : List Term) (t : Term) (area : List Interval) (side : Interval) (old ends : Extremes)
     → IsLinear width ts → IsAmong t ts → t.column ≡ j → j < length area → HasSmallEnds side → IsSummed ts area old
@@ -182,11 +208,13 @@ step_other p j area side standings i r ends ne (inr ahead) =
     )
 
 pub shift_step : (p : Instance) (j : ℕ) (area : List Interval) (side : Interval) (standings : List Standing) (i : ℕ)
-    (sums new : List Extremes) → IsProblem p → AreStandings p j standings → i < length standings → j < length area
-    → HasMoved (standing_at standings i).factor (interval_at area j) side (standing_at standings i).row sums new
+    (sums new : List Extremes) (moves : Moves) → IsProblem p → AreStandings p j standings → i < length standings
+    → j < length area → AreMoves (interval_at area j) side moves
+    → HasMoved (standing_at standings i).factor moves (standing_at standings i).row sums new
     → AreShifted p j area side standings i sums → AreShifted p j area side standings (i + 1) new
-shift_step p j area side standings i sums new problem are there at moved h =
+shift_step p j area side standings i sums new moves problem are there at went moved h =
     let row : ℕ = (standing_at standings i).row in
+    let f : ℤ = (standing_at standings i).factor in
     let within : row ≤ length p.rows = are.within i there in
     let long : row < length sums = omega (arith, h.count, within) in
     record {
@@ -201,7 +229,9 @@ shift_step p j area side standings i sums new problem are there at moved h =
             next_is_ahead p j area side standings i row (extremes_at sums row) are there refl (h.each row within) in
             let now : IsSummed (terms_of p row) (set area j side) moved.ends =
             summed_new (length p.columns) j (terms_of p row) (term_of j (standing_at standings i)) area side (extremes_at sums row)
-            moved.ends (linear_terms p row problem within) (are.each i there) refl at moved.small old moved.least moved.greatest in
+            moved.ends (linear_terms p row problem within) (are.each i there) refl at went.small old
+            (moved.least ∙ moved_sum Least f (extremes_at sums row).least (interval_at area j) side moves went)
+            (moved.greatest ∙ moved_sum Greatest f (extremes_at sums row).greatest (interval_at area j) side moves went) in
             let Q : ℕ → Type 0 = λ (n : ℕ). IsSummed (terms_of p n) (set area j side) moved.ends in
             let R : Extremes → Type 0 = λ (e : Extremes). IsSummed (terms_of p r) (set area j side) e in
             inl ((i, omega arith, sym same), subst R (sym here) (subst Q (sym same) now))

@@ -1,15 +1,17 @@
 -- Running sums: the least and the greatest sum of each row and of the objective over a box. The objective, without its
 -- constant, is the row behind the last.
-use Rattle.std.specs.Prelude.{◌≡◌, ◌≢◌, ℕ, ℤ, pos, ◌+◌, ◌-◌, ◌+ℤ◌, ◌-ℤ◌, ◌*ℤ◌, ◌<◌, ◌≤◌, List, length, slice_index_or, slice_set, Option, Some, None}
+use Rattle.std.specs.Prelude.{◌≡◌, ◌≢◌, ℕ, ℤ, pos, negsuc, ◌+◌, ◌-◌, ◌^◌, ◌+ℤ◌, ◌-ℤ◌, ◌*ℤ◌, ◌<◌, ◌≤◌, unsigned_abs, List, length, slice_index_or, slice_set, Option, Some, None}
 use Rattle.ug_rows.specs.declared.area.Interval.{Interval}
 use Rattle.ug_rows.specs.declared.row.Term.{Term}
 use Rattle.ug_rows.specs.Rows.{IsAmong, term_at}
-use Rattle.ug_rows.specs.Sums.{end_of, least_sum, greatest_sum}
+use Rattle.ug_rows.specs.Sums.{least_sum, greatest_sum}
+use Rattle.ug_rows.specs.declared.sums.Extreme.{Extreme}
 use Rattle.ug_rows.specs.declared.sums.Extreme.TheVariants.{Least, Greatest}
 use Rattle.ug_rows.specs.Boxes.{HasSmallEnds}
 use Rattle.ug_problem.specs.Instances.{Instance, row_at}
 use Rattle.ug_problem.specs.Standings.{standing_at, term_of, terms_of}
 use Rattle.ug_problem.specs.declared.standings.Standing.{Standing}
+use Rattle.ug_propagate.specs.declared.measure.Moves.{Moves}
 use Rattle.ug_propagate.specs.declared.sums.Extremes.{Extremes}
 use Rattle.ug_propagate.specs.Steps.{HaveSmallColumns}
 
@@ -57,15 +59,27 @@ abbrev pub terms_named : Instance → Option ℕ → List Term
 terms_named p None = p.objective.terms
 terms_named p (Some r) = (row_at p r).terms
 
--- the sums of row r, in which a column has this factor, are those after the column's interval was replaced
-pub record HasMoved (factor : ℤ) (before after : Interval) (r : ℕ) (old new : List Extremes) : Type 0 where
+-- so far the ends go from one interval to another, which has i32 numbers
+pub record AreMoves (before after : Interval) (moves : Moves) : Type 0 where
+  pub low : moves.low ≡ after.low -ℤ before.low
+  pub high : moves.high ≡ after.high -ℤ before.high
+  pub short_low : unsigned_abs moves.low ≤ 2 ^ 32
+  pub short_high : unsigned_abs moves.high ≤ 2 ^ 32
+  pub small : HasSmallEnds after
+
+-- how far the end goes at which the product with the factor is the least, or the greatest
+abbrev pub move_of : Extreme → ℤ → Moves → ℤ
+move_of Least (pos _) moves = moves.low
+move_of Least (negsuc _) moves = moves.high
+move_of Greatest (pos _) moves = moves.high
+move_of Greatest (negsuc _) moves = moves.low
+
+-- the sums of row r, in which a column has this factor, are those after the column's ends went so far
+pub record HasMoved (factor : ℤ) (moves : Moves) (r : ℕ) (old new : List Extremes) : Type 0 where
   pub ends : Extremes
   pub put : new ≡ slice_set old r ends
-  pub least : ends.least
-      ≡ (extremes_at old r).least +ℤ ((factor *ℤ end_of Least factor after) -ℤ (factor *ℤ end_of Least factor before))
-  pub greatest : ends.greatest
-      ≡ (extremes_at old r).greatest +ℤ ((factor *ℤ end_of Greatest factor after) -ℤ (factor *ℤ end_of Greatest factor before))
-  pub small : HasSmallEnds after
+  pub least : ends.least ≡ (extremes_at old r).least +ℤ (factor *ℤ move_of Least factor moves)
+  pub greatest : ends.greatest ≡ (extremes_at old r).greatest +ℤ (factor *ℤ move_of Greatest factor moves)
 
 -- column j stands in the objective so, or does not stand there
 abbrev pub IsObjectiveStanding : Instance → ℕ → Option Standing → Type 0

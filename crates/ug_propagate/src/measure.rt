@@ -3,7 +3,7 @@ ghost use Rattle.ug_rows.specs.Boxes.{HasSmallEnds};
 ghost use Rattle.ug_rows.specs.Rows.{IsLinear};
 ghost use Rattle.ug_rows.specs.Sums.{end_of};
 ghost use Rattle.ug_rows.specs.declared.sums.Extreme.TheVariants.{Least, Greatest};
-ghost use Rattle.ug_propagate.specs.Running.{IsSummed};
+ghost use Rattle.ug_propagate.specs.Running.{AreMoves, IsSummed};
 ghost use Rattle.ug_propagate.specs.Steps.{IsMeasured, IsLookable, IsRoomOf, IsTermOf, high_of, low_of, span_of};
 
 use crate::look::Look;
@@ -23,6 +23,13 @@ pub struct Ends {
 pub struct Room {
     pub high: i128,
     pub low: i128,
+}
+
+/// How far the ends of an interval go.
+#[derive(Clone, Copy, Debug)]
+pub struct Moves {
+    pub low: i64,
+    pub high: i64,
 }
 
 /// A sum of two numbers.
@@ -64,8 +71,30 @@ fn times(factor: i128, width: i64) -> i128
     factor * i128::from(width)
 }
 
-/// How the product of a factor changes from one end to another.
-pub fn change(factor: i128, before: i32, after: i32) -> i128
+/// How far the ends go from one interval to another.
+pub fn moves_between(before: Interval, after: Interval) -> Moves
+    ensures { AreMoves before after result }
+{
+    Moves {
+        low: apart(before.low, after.low),
+        high: apart(before.high, after.high),
+    }
+}
+
+/// Adds the product of a factor and how far an end went. An end that stays costs neither a product nor a write.
+pub fn add_move(sum: &mut i128, factor: i128, by: i64)
+    requires sum { unsigned_abs sum.old ≤ 3 * 10 ^ 37 }
+    requires factor { unsigned_abs factor ≤ 10 ^ 24 }
+    requires by { unsigned_abs by ≤ 2 ^ 32 }
+    ensures { sum.new ≡ sum.old +ℤ (factor *ℤ by) }
+{
+    if by != 0 {
+        *sum = plus(*sum, times(factor, by));
+    }
+}
+
+// How the product of a factor changes from one end to another.
+fn change(factor: i128, before: i32, after: i32) -> i128
     requires { unsigned_abs factor ≤ 10 ^ 24 }
     ensures value { result ≡ (factor *ℤ after) -ℤ (factor *ℤ before) }
     ensures small { unsigned_abs result ≤ 10 ^ 24 * 2 ^ 32 }

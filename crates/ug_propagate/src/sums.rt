@@ -7,13 +7,13 @@ ghost use Rattle.ug_problem.specs.Instances.{no_row};
 ghost use Rattle.ug_problem.specs.Limits.{IsProblem};
 ghost use Rattle.ug_problem.specs.Standings.{AreStandings, terms_of};
 ghost use Rattle.ug_propagate.specs.Steps.{IsMeasured};
-ghost use Rattle.ug_propagate.specs.Running.{AreFirstSums, AreSums, HasMoved, IsLastOf, IsObjectiveStanding, IsNamedRow, IsRunning, IsSummed, extremes_at, terms_named};
+ghost use Rattle.ug_propagate.specs.Running.{AreFirstSums, AreSums, HasMoved, IsLastOf, IsObjectiveStanding, IsNamedRow, IsRunning, IsSummed, extremes_at, move_of, terms_named};
 
-use crate::measure::{Ends, change, measure, plus};
+use crate::measure::{Ends, Moves, add_move, measure, moves_between};
 use std::alloc::{AllocError, Global};
 use std::marker::Model;
 use ug_problem::{NamedRow, Problem, Standing};
-use ug_rows::{Extreme, IntBox, Interval, Term, end_at};
+use ug_rows::{IntBox, Interval, Term};
 
 /// The least and the greatest sum of a row over a box.
 #[derive(Clone, Copy, Debug)]
@@ -61,7 +61,6 @@ pub fn terms_at(problem: &Problem, r: usize) -> &[Term]
 }
 
 /// The sums of row r over a box, and a number that no span of a term is above.
-
 pub fn measured(problem: &Problem, r: usize, area: &[Interval]) -> Ends
     requires there { r ≤ length problem.now.rows }
     requires width { length area.now ≡ length problem.now.columns }
@@ -70,49 +69,37 @@ pub fn measured(problem: &Problem, r: usize, area: &[Interval]) -> Ends
     measure(terms_at(problem, r), area)
 }
 
-// How the product of a factor at an end changes with its column's interval.
-fn end_change(extreme: Extreme, factor: i128, before: Interval, after: Interval) -> i128
-    requires { unsigned_abs factor ≤ 10 ^ 24 }
-    ensures value { result ≡ (factor *ℤ end_of extreme factor after) -ℤ (factor *ℤ end_of extreme factor before) }
-    ensures small { unsigned_abs result ≤ 10 ^ 24 * 2 ^ 32 }
-    ensures after { HasSmallEnds after }
-{
-    let old = end_at(extreme, factor, before);
-    let new = end_at(extreme, factor, after);
-    change(factor, old, new)
-}
-
-// The sums of a row after the interval of one of its columns was replaced.
-fn moved(sums: Extremes, factor: i128, before: Interval, after: Interval) -> Extremes
-    requires least { unsigned_abs sums.least ≤ 3 * 10 ^ 37 }
-    requires greatest { unsigned_abs sums.greatest ≤ 3 * 10 ^ 37 }
+// Brings the sums of a row to where the ends of one of its columns went. For a factor below 0 the high end moves the
+// least sum, else the low end does.
+fn move_sums(sums: &mut Extremes, factor: i128, moves: Moves)
+    requires least { unsigned_abs sums.old.least ≤ 3 * 10 ^ 37 }
+    requires greatest { unsigned_abs sums.old.greatest ≤ 3 * 10 ^ 37 }
     requires factor { unsigned_abs factor ≤ 10 ^ 24 }
-    ensures least { result.least ≡ sums.least +ℤ ((factor *ℤ end_of Least factor after) -ℤ (factor *ℤ end_of Least factor before)) }
-    ensures greatest { result.greatest ≡ sums.greatest +ℤ ((factor *ℤ end_of Greatest factor after) -ℤ (factor *ℤ end_of Greatest factor before)) }
-    ensures after { HasSmallEnds after }
+    requires low { unsigned_abs moves.low ≤ 2 ^ 32 }
+    requires high { unsigned_abs moves.high ≤ 2 ^ 32 }
+    ensures least { sums.new.least ≡ sums.old.least +ℤ (factor *ℤ move_of Least factor moves) }
+    ensures greatest { sums.new.greatest ≡ sums.old.greatest +ℤ (factor *ℤ move_of Greatest factor moves) }
 {
-    Extremes {
-        least: plus(
-            sums.least,
-            end_change(Extreme::Least, factor, before, after),
-        ),
-        greatest: plus(
-            sums.greatest,
-            end_change(Extreme::Greatest, factor, before, after),
-        ),
+    if factor < 0 {
+        add_move(&mut sums.least, factor, moves.high);
+        add_move(&mut sums.greatest, factor, moves.low);
+    } else {
+        add_move(&mut sums.least, factor, moves.low);
+        add_move(&mut sums.greatest, factor, moves.high);
     }
 }
 
-// The sums of one row after the interval of one of its columns was replaced.
-fn shift_row(sums: &mut [Extremes], standing: Standing, before: Interval, after: Interval)
+// The sums of one row after the ends of one of its columns went so far.
+fn shift_row(sums: &mut [Extremes], standing: Standing, moves: Moves)
     requires there { standing.row < length sums.old }
     requires least { unsigned_abs (extremes_at sums.old standing.row).least ≤ 3 * 10 ^ 37 }
     requires greatest { unsigned_abs (extremes_at sums.old standing.row).greatest ≤ 3 * 10 ^ 37 }
     requires factor { unsigned_abs standing.factor ≤ 10 ^ 24 }
-    ensures { HasMoved standing.factor before after standing.row sums.old sums.new }
+    requires low { unsigned_abs moves.low ≤ 2 ^ 32 }
+    requires high { unsigned_abs moves.high ≤ 2 ^ 32 }
+    ensures { HasMoved standing.factor moves standing.row sums.old sums.new }
 {
-    let at = standing.row as usize;
-    sums[at] = moved(sums[at], standing.factor, before, after);
+    move_sums(&mut sums[standing.row as usize], standing.factor, moves);
 }
 
 // Brings the sums to the box in which a column has another interval. It touches the rows of the column alone.
@@ -122,9 +109,9 @@ fn shift(problem: &Problem, column: usize, area: &[Interval], side: Interval, su
     ensures { AreSums problem.now (slice_set area.now column side) sums.new }
 {
     let standings = problem.standings(column);
-    let before = area[column];
+    let moves = moves_between(area[column], side);
     for standing in standings {
-        shift_row(sums, *standing, before, side);
+        shift_row(sums, *standing, moves);
     }
 }
 
@@ -214,7 +201,9 @@ fn moved_by(ends: Extremes, standing: Standing, before: Interval, after: Interva
     ensures greatest { result.greatest ≡ ends.greatest +ℤ ((standing.factor *ℤ end_of Greatest standing.factor after) -ℤ (standing.factor *ℤ end_of Greatest standing.factor before)) }
     ensures after { HasSmallEnds after }
 {
-    moved(ends, standing.factor, before, after)
+    let mut ends = ends;
+    move_sums(&mut ends, standing.factor, moves_between(before, after));
+    ends
 }
 
 fn least_in(ends: Extremes) -> i128

@@ -23,8 +23,9 @@ shift_row-requires-clause-factor c =
 pub loop-standing-preserved : goal.loop-standing-preserved
 loop-standing-preserved c =
     shift_step c.args.problem.now c.args.column c.args.area.now c.args.side c.standings-standings.result.now
-    c.loop-standing.standing-index c.loop-standing.sums c.shift_row.new.sums c.standings-standings.ensures.problem
-    c.standings-standings.ensures.value c.loop-standing-test.true c.requires.there c.shift_row.ensures c.loop-standing.invariant
+    c.loop-standing.standing-index c.loop-standing.sums c.shift_row.new.sums c.moves_between-moves.result
+    c.standings-standings.ensures.problem c.standings-standings.ensures.value c.loop-standing-test.true c.requires.there
+    c.moves_between-moves.ensures c.shift_row.ensures c.loop-standing.invariant
 
 pub returns : goal.returns
 returns c =

@@ -3,4 +3,4 @@ use Rattle.ug_propagate.proofs.sums.shift.Given as goal
 
 -- the rows of the standings so far have their new sums
 abbrev pub invariant-loop-standing : goal.invariant-loop-standing
-invariant-loop-standing l = AreShifted l.problem l.column l.area l.side l.standings l.standing-index l.sums
+invariant-loop-standing l = AreShifted l.problem l.column l.area l.fn.side l.standings l.standing-index l.sums
