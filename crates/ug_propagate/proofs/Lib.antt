@@ -17,3 +17,4 @@ pub mod Fresh
 pub mod Waiting
 pub mod Objectives
 pub mod Snug
+pub mod Shorts

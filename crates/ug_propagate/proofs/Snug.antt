@@ -341,12 +341,12 @@ snug_same ts i area room high low h = record {
 }
 
 -- where all terms fit, the row is at rest
-pub snug_rests : (look : Look) (ts : List Term) (area : List Interval) (room : Room) → IsRoomOf look ts area room
-    → AreSnug ts (length ts) area room → IsAtRest look ts area
-snug_rests look ts area room is h = record {
+pub snug_rests : (look : Look) (ts : List Term) (i : ℕ) (area : List Interval) (room : Room) → IsRoomOf look ts area room
+    → length ts ≤ i → AreSnug ts i area room → IsAtRest look ts area
+snug_rests look ts i area room is all h = record {
   room = room;
   is = is;
   high = h.high.some;
   low = h.low.some;
-  each = λ k there. (h.high.fit k there, h.low.fit k there);
+  each = λ k there. (h.high.fit k (omega (arith, there, all)), h.low.fit k (omega (arith, there, all)));
 }

@@ -6,3 +6,4 @@ pub mod Awake
 pub mod Cuts
 pub mod Working
 pub mod Waiting
+pub mod Shorts

@@ -6,6 +6,7 @@ ghost use Rattle.ug_rows.specs.Rows.{IsAmong};
 ghost use Rattle.ug_problem.specs.Standings.{terms_of};
 ghost use Rattle.ug_propagate.specs.Cuts.{IsInnerCut, cut_of};
 ghost use Rattle.ug_propagate.specs.Rounds.{over_low, over_terms, reason_of, row_step, term_step, under_high};
+ghost use Rattle.ug_propagate.specs.Shorts.{IsShortRoom};
 ghost use Rattle.ug_propagate.specs.Steps.{IsLookable, IsRoomOf, IsTermOf, looked_of, outcome_of, row_of, span_of};
 ghost use Rattle.ug_propagate.specs.Working.{FitWhereSame, FitsWhereSame, IsBox, IsSame, IsStep, RestsWhereChanged, RestsWhereSame};
 ghost use Rattle.ug_propagate.specs.declared.look.Looked.TheVariants.{Same};
@@ -14,7 +15,7 @@ ghost use Rattle.ug_propagate.specs.declared.tight.Tight.TheVariants.{Kept};
 
 use crate::cut::{Cut, cut_at_least, cut_at_most};
 use crate::look::{Look, Looked};
-use crate::measure::{Room, minus, plus, product, room_between, span};
+use crate::measure::{Room, minus, plus, product, room_between, short_room, short_span, span};
 use crate::tight::{Reason, Side};
 use crate::working::Working;
 use std::alloc::AllocError;
@@ -150,13 +151,26 @@ fn tighten_both(
     Ok(told)
 }
 
-// Whether the span of the term is within the room of both sides.
-fn fits(term: Term, room: Room, area: &[Interval]) -> bool
+// Whether the span of the term is within the room of both sides, in 128 bits.
+fn fits_wide(term: Term, room: Room, area: &[Interval]) -> bool
     requires { IsTermOf (length area.now) term }
     ensures { IsTrue result → FitsWhereSame Same term area.now room }
 {
     let span = span(term, area);
     span <= room.high && span <= room.low
+}
+
+// The same in 64 bits, where the span is of 64 bits.
+#[tactic(auto, using(crate::proofs::Shorts::short_fits))]
+fn fits(term: Term, room: Room, most: i64, area: &[Interval]) -> bool
+    requires term { IsTermOf (length area.now) term }
+    requires most { IsShortRoom room most }
+    ensures { IsTrue result → FitsWhereSame Same term area.now room }
+{
+    match short_span(term, area) {
+        Some(span) => span <= most,
+        None => fits_wide(term, room, area),
+    }
 }
 
 // One term: where its span is within the room of both sides, neither can tighten it.
@@ -168,6 +182,7 @@ fn tighten_term(
     terms: &[Term],
     term: Term,
     room: Room,
+    most: i64,
 ) -> Result<Looked, AllocError>
     requires there { r ≤ length problem.now.rows }
     requires work { IsBox problem.now work.old }
@@ -175,12 +190,13 @@ fn tighten_term(
     requires terms { terms.now ≡ terms_of problem.now r }
     requires term { IsTermOf (length work.old.sums.area) term }
     requires room { IsRoomOf look terms.now work.old.sums.area room }
+    requires most { IsShortRoom room most }
     ensures step { IsStep problem.now work.old work.new }
     ensures value { IfOk result (λ looked. looked_of looked work.new.sums.area ≡ term_step look.row (row_of look terms.now) term (Kept work.old.sums.area)) }
     ensures same { IfOk result (λ looked. IsSame looked work.old work.new) }
     ensures fits { IfOk result (λ looked. FitsWhereSame looked term work.old.sums.area room) }
 {
-    if fits(term, room, work.sides()) {
+    if fits(term, room, most, work.sides()) {
         return Ok(Looked::Same);
     }
     match tighten_both(work, problem, r, look, terms, term, room)? {
@@ -212,13 +228,15 @@ fn tighten_terms(
     ensures snug { IfOk result (λ looked. RestsWhereChanged looked look terms.now work.new.sums.area) }
 {
     let mut now = room;
+    let mut most = short_room(room);
     let mut changed = false;
     for term in terms {
-        match tighten_term(work, problem, r, look, terms, *term, now)? {
+        match tighten_term(work, problem, r, look, terms, *term, now, most)? {
             Looked::Emptied(reason) => return Ok(Looked::Emptied(reason)),
             Looked::Changed => {
                 changed = true;
                 now = room_of(work, problem, r, look, terms);
+                most = short_room(now);
             }
             Looked::Same => {}
         }

@@ -1,9 +1,10 @@
-ghost use Rattle.std.specs.Prelude.{◌≡◌, ◌≤◌, ◌*◌, ◌^◌, ◌+◌, ◌+ℤ◌, ◌-ℤ◌, ◌*ℤ◌, ◌≤ℤ◌, ◌⊎◌, length, unsigned_abs};
+ghost use Rattle.std.specs.Prelude.{◌≡◌, ◌≤◌, ◌<◌, ◌*◌, ◌^◌, ◌+◌, ◌+ℤ◌, ◌-ℤ◌, ◌*ℤ◌, ◌≤ℤ◌, ◌⊎◌, length, unsigned_abs, IfSome};
 ghost use Rattle.ug_rows.specs.Boxes.{HasSmallEnds};
 ghost use Rattle.ug_rows.specs.Rows.{IsLinear};
 ghost use Rattle.ug_rows.specs.Sums.{end_of};
 ghost use Rattle.ug_rows.specs.declared.sums.Extreme.TheVariants.{Least, Greatest};
 ghost use Rattle.ug_propagate.specs.Running.{AreMoves, IsSummed};
+ghost use Rattle.ug_propagate.specs.Shorts.{IsShort, IsShortRoom, IsShortSpan};
 ghost use Rattle.ug_propagate.specs.Steps.{IsMeasured, IsLookable, IsRoomOf, IsTermOf, high_of, low_of, span_of};
 
 use crate::look::Look;
@@ -114,6 +115,47 @@ pub fn span(term: Term, area: &[Interval]) -> i128
     change(term.factor, near, far)
 }
 
+// A factor of 32 bits: its product with a number of 33 bits is of 64.
+const MOST_SHORT_FACTOR: i128 = 2_147_483_647;
+
+// The product of a factor and a number of 33 bits, in 64 bits.
+#[tactic(auto, using(crate::proofs::Shorts::short_products))]
+fn short_times(factor: i64, width: i64) -> i64
+    requires factor { unsigned_abs factor < 2 ^ 31 }
+    requires width { unsigned_abs width ≤ 2 ^ 32 }
+    ensures value { result ≡ factor *ℤ width }
+    ensures small { unsigned_abs result < 2 ^ 63 }
+{
+    factor * width
+}
+
+// How the product of a factor changes from one end to another, in 64 bits.
+fn short_change(factor: i64, before: i32, after: i32) -> i64
+    requires { unsigned_abs factor < 2 ^ 31 }
+    ensures value { result ≡ (factor *ℤ after) -ℤ (factor *ℤ before) }
+    ensures small { unsigned_abs result < 2 ^ 63 }
+{
+    short_times(factor, apart(before, after))
+}
+
+/// The span of a term in 64 bits, where its column has one value or its factor is of 32 bits.
+#[tactic(auto, using(crate::proofs::Shorts::no_span))]
+pub fn short_span(term: Term, area: &[Interval]) -> Option<i64>
+    requires { IsTermOf (length area.now) term }
+    ensures { IfSome result (IsShortSpan term area.now) }
+{
+    let side = area[term.column as usize];
+    if side.low == side.high {
+        return Some(0);
+    }
+    if term.factor > MOST_SHORT_FACTOR || term.factor < -MOST_SHORT_FACTOR {
+        return None;
+    }
+    let near = end_at(Extreme::Least, term.factor, side);
+    let far = end_at(Extreme::Greatest, term.factor, side);
+    Some(short_change(term.factor as i64, near, far))
+}
+
 /// The product of a term at an end of its column's interval, whose ends are i32 numbers.
 pub fn product(extreme: Extreme, term: Term, side: Interval) -> i128
     requires { unsigned_abs term.factor ≤ 10 ^ 24 }
@@ -170,6 +212,41 @@ pub fn measure(terms: &[Term], area: &[Interval]) -> Ends
         ends = with_term(ends, *term, area[term.column as usize]);
     }
     ends
+}
+
+// The greatest number of 64 bits.
+const MOST_SHORT: i128 = 9_223_372_036_854_775_807;
+
+// The number in 64 bits, or the end of their range that it is beyond.
+#[tactic(auto, using(crate::proofs::Shorts::short_above, crate::proofs::Shorts::short_below, crate::proofs::Shorts::short_same))]
+fn short(number: i128) -> i64
+    ensures { IsShort number result }
+{
+    if number > MOST_SHORT {
+        return i64::MAX;
+    }
+    if number < -MOST_SHORT {
+        return i64::MIN;
+    }
+    number as i64
+}
+
+fn lesser(a: i64, b: i64) -> i64
+    ensures first { result ≤ℤ a }
+    ensures second { result ≤ℤ b }
+{
+    if a < b { a } else { b }
+}
+
+/// The lesser room of the two sides in 64 bits.
+pub fn short_room(room: Room) -> i64
+    requires high { unsigned_abs room.high ≤ 9 * 10 ^ 37 }
+    requires low { unsigned_abs room.low ≤ 9 * 10 ^ 37 }
+    ensures { IsShortRoom room result }
+{
+    let high = short(room.high);
+    let low = short(room.low);
+    lesser(high, low)
 }
 
 // A side of a row, or where there is none a number that no sum reaches.

@@ -1,4 +1,4 @@
-use Rattle.std.proofs.Common.{◌≡◌, refl, ◌∙◌, ◌+◌, length, subst, sym, true, false, arith}
+use Rattle.std.proofs.Common.{◌≡◌, refl, ◌∙◌, ◌+◌, ◌<◌, length, subst, sym, true, false, to_z, of_z, w64, arith}
 use Rattle.ug_propagate.specs.declared.look.Looked.{Looked}
 use Rattle.ug_propagate.specs.declared.look.Looked.TheVariants.{Same}
 use Rattle.ug_propagate.specs.declared.measure.Room.{Room}
@@ -8,8 +8,9 @@ use Rattle.ug_propagate.specs.Working.{FitsWhereSame, IsSame, WorkState}
 use Rattle.ug_propagate.specs.declared.tight.Tight.TheVariants.{Kept}
 use Rattle.ug_rows.specs.Rows.{term_at}
 use Rattle.ug_propagate.proofs.Bodies.{terms_go, terms_stop}
-use Rattle.ug_propagate.proofs.Snug.{AreSnug, snug_more, snug_same}
-use Rattle.ug_propagate.proofs.Stepping.{IsUnchanged, lookable_later, step_trans, unchanged_more}
+use Rattle.ug_propagate.proofs.Snug.{AreSnug, snug_first, snug_more, snug_rests, snug_same}
+use Rattle.ug_propagate.proofs.Stepping.{IsUnchanged, lookable_later, step_same, step_trans, unchanged_first, unchanged_more}
+use Rattle.ug_propagate.proofs.Shorts.{short_room_is, short_room_named}
 use Rattle.ug_propagate.proofs.looking.tighten_terms.Goals as goal
 use Rattle.ug_propagate.proofs.looking.tighten_terms.Goals.{in-Changed, in-Same}
 
@@ -53,6 +54,8 @@ loop-term-preserved c =
             c.loop-term.now _ (lookable_later c.args.problem.now c.args.work.now mid c.args.look c.args.terms.now c.requires.work
             c.loop-term.invariant.step c.requires.row) refl (omega (arith, c.loop-term-test.true)) one c.loop-term.invariant.room
             w.room_of-now.ensures (subst P w.in-Changed.is c.in_ok-reason.ensures.value) (c.loop-term.invariant.snug one));
+        most = short_room_named _ _ _ _ (record { sfits = w.short_room-most-in-Changed.type_inv }) w.now-is w.most-is
+            w.short_room-most-in-Changed.ensures;
         same = λ e. absurd (let h : true ≡ false = sym w.changed-is ∙ e in cc);
       }
       | in-Same w ↦
@@ -69,9 +72,38 @@ loop-term-preserved c =
                 (subst (λ (s : WorkState). AreSnug c.args.terms.now (c.loop-term.term-index + 1) s.sums.area c.loop-term.now) (sym same)
                 (snug_same c.args.terms.now c.loop-term.term-index mid.sums.area c.loop-term.now fits.0 fits.1
                 (c.loop-term.invariant.snug one)));
+            most = short_room_is _ _ _ _ w.now-is w.most-is c.loop-term.invariant.most;
             same = λ e. subst
                 (λ (r : Room). IsUnchanged c.args.terms.now (c.loop-term.term-index + 1) c.args.work.now new c.args.room r) (sym w.now-is)
                 (unchanged_more c.args.terms.now c.loop-term.term-index c.args.work.now mid new c.args.room c.loop-term.now
                 (c.loop-term.invariant.same (sym w.changed-is ∙ e)) same fits);
           }
     ]
+
+pub loop-term-init : goal.loop-term-init
+loop-term-init c = record {
+  step = step_same c.args.problem.now c.args.work.now c.requires.work;
+  so_far = refl;
+  room = c.requires.room;
+  snug = λ one. snug_first c.args.terms.now c.args.work.now.sums.area c.args.room c.requires.high c.requires.low;
+  most = short_room_named c.args.room c.args.room (to_z w64 (of_z w64 c.short_room-most.result)) c.short_room-most.result
+      (record { sfits = c.short_room-most.type_inv }) refl refl c.short_room-most.ensures;
+  same = λ e. unchanged_first c.args.terms.now c.args.work.now c.args.room;
+}
+
+pub tighten_term-requires-clause-term : goal.tighten_term-requires-clause-term
+tighten_term-requires-clause-term c =
+    let i = c.loop-term.term-index in
+    let ready = lookable_later c.args.problem.now c.args.work.now c.loop-term.work c.args.look c.args.terms.now c.requires.work
+    c.loop-term.invariant.step c.requires.row in
+    let less : i < length c.args.terms.now = omega (arith, c.loop-term-test.true) in
+    record { there = ready.linear.within i less; small = ready.linear.small i less; nonzero = ready.nonzero i less }
+
+pub returns-then-changed-clause-snug : goal.returns-then-changed-clause-snug
+returns-then-changed-clause-snug c one =
+    snug_rests c.args.look c.args.terms.now c.loop-term.term-index c.loop-term.work.sums.area c.loop-term.now
+    c.loop-term.invariant.room (omega (arith, c.loop-term-test.false)) (c.loop-term.invariant.snug one)
+
+pub returns-else-changed-clause-fit : goal.returns-else-changed-clause-fit
+returns-else-changed-clause-fit c k there =
+    (c.loop-term.invariant.same c.if-changed.false).fit k (omega (arith, there, c.loop-term-test.false))

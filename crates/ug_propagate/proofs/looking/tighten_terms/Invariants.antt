@@ -1,5 +1,6 @@
 use Rattle.std.proofs.Common.{◌≡◌, drop, false}
 use Rattle.ug_propagate.specs.Rounds.{over_terms}
+use Rattle.ug_propagate.specs.Shorts.{IsShortRoom}
 use Rattle.ug_propagate.specs.Steps.{IsRoomOf, row_of}
 use Rattle.ug_propagate.specs.Working.{HasOneSide, IsStep}
 use Rattle.ug_propagate.specs.declared.tight.Tight.TheVariants.{Kept}
@@ -14,5 +15,6 @@ invariant-loop-term l = record {
       ≡ over_terms l.look.row (row_of l.look l.terms) l.terms (Kept l.initial.work.sums.area);
   room : IsRoomOf l.look l.terms l.work.sums.area l.now;
   snug : HasOneSide l.look → AreSnug l.terms l.term-index l.work.sums.area l.now;
+  most : IsShortRoom l.now l.most;
   same : l.changed ≡ false → IsUnchanged l.terms l.term-index l.initial.work l.work l.fn.room l.now;
 }
