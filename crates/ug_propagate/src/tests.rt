@@ -4,6 +4,7 @@ ghost use Rattle.ug_problem.specs.Instances.{AreTerms, IsColumn, IsName, IsRow};
 
 use crate::plain::tighten_plain;
 use crate::propagation::tighten;
+use crate::sums::Sums;
 use crate::tight::{Reason, Side, Tight};
 use std::alloc::{AllocError, Global};
 use ug_lists::{Items, Text};
@@ -59,7 +60,13 @@ fn one(
 }
 
 // `x` times column 0, and `y` times column 1.
-fn two(alloc: Global, x: i128, y: i128, low: Option<i128>) -> Result<NamedRow, AllocError>
+fn two(
+    alloc: Global,
+    x: i128,
+    y: i128,
+    low: Option<i128>,
+    high: Option<i128>,
+) -> Result<NamedRow, AllocError>
     requires x { x ≢ pos 0 }
     requires y { y ≢ pos 0 }
     ensures { IfOk result (IsRow 3) }
@@ -77,13 +84,22 @@ fn two(alloc: Global, x: i128, y: i128, low: Option<i128>) -> Result<NamedRow, A
             },
         ],
         low,
-        None,
+        high,
     )
 }
 
-// `x` times each column.
-fn three(alloc: Global, x: i128, side: i128) -> Result<NamedRow, AllocError>
-    requires { x ≢ pos 0 }
+// `x`, `y` and `w` times the columns.
+fn three(
+    alloc: Global,
+    x: i128,
+    y: i128,
+    w: i128,
+    low: Option<i128>,
+    high: i128,
+) -> Result<NamedRow, AllocError>
+    requires x { x ≢ pos 0 }
+    requires y { y ≢ pos 0 }
+    requires w { w ≢ pos 0 }
     ensures { IfOk result (IsRow 3) }
 {
     row(
@@ -95,15 +111,15 @@ fn three(alloc: Global, x: i128, side: i128) -> Result<NamedRow, AllocError>
             },
             Term {
                 column: 1,
-                factor: x,
+                factor: y,
             },
             Term {
                 column: 2,
-                factor: x,
+                factor: w,
             },
         ],
-        Some(side),
-        Some(side),
+        low,
+        Some(high),
     )
 }
 
@@ -190,8 +206,8 @@ fn too_little(alloc: Global) -> Result<Problem, ProblemError> {
 
 // x and y <= 63, x - y >= 0, and y - x >= 1.
 fn a_chase(alloc: Global) -> Result<Problem, ProblemError> {
-    let first = two(alloc, 1, -1, Some(0))?;
-    let second = two(alloc, -1, 1, Some(1))?;
+    let first = two(alloc, 1, -1, Some(0), None)?;
+    let second = two(alloc, -1, 1, Some(1), None)?;
     made(
         alloc,
         columns(alloc, 63, 63, 0)?,
@@ -201,8 +217,30 @@ fn a_chase(alloc: Global) -> Result<Problem, ProblemError> {
 
 // x, y and w <= 10, and 2x + 2y + 2w = 7.
 fn an_odd_sum(alloc: Global) -> Result<Problem, ProblemError> {
-    let first = three(alloc, 2, 7)?;
+    let first = three(alloc, 2, 2, 2, Some(7), 7)?;
     let second = one(alloc, 1, Some(0), None)?;
+    made(
+        alloc,
+        columns(alloc, 10, 10, 10)?,
+        rows(alloc, first, second)?,
+    )
+}
+
+// x and y <= 10, and 3x + 2y = 7: the row tightens again at its second look.
+fn a_second_look(alloc: Global) -> Result<Problem, ProblemError> {
+    let first = two(alloc, 3, 2, Some(7), Some(7))?;
+    let second = one(alloc, 1, Some(0), None)?;
+    made(
+        alloc,
+        columns(alloc, 10, 10, 0)?,
+        rows(alloc, first, second)?,
+    )
+}
+
+// x, y and w <= 10, 2x + 3y + w <= 5, and 4x + y + 2w <= 11.
+fn a_knapsack(alloc: Global) -> Result<Problem, ProblemError> {
+    let first = three(alloc, 2, 3, 1, None, 5)?;
+    let second = three(alloc, 4, 1, 2, None, 11)?;
     made(
         alloc,
         columns(alloc, 10, 10, 10)?,
@@ -293,4 +331,40 @@ fn both_bodies_do_the_worked_rows(rt: HostRuntime) {
             &[to(0, 3), to(0, 3), to(0, 3)]
         )
     );
+    assert!(rt;
+        leaves(
+            alloc,
+            a_second_look(alloc),
+            None,
+            &[to(1, 1), to(2, 2), zero]
+        )
+    );
+}
+
+// The greatest sum of row 0 over the root, and sums of rows and of the objective after column 0 was set to 0..2, then to 1..2.
+fn running_sums(alloc: Global) -> Option<[i128; 6]> {
+    let problem = a_knapsack(alloc).ok()?;
+    if problem.columns().len() != 3 || problem.rows().len() != 2 {
+        return None;
+    }
+    let mut sums = Sums::new(alloc, &problem, problem.root()).ok()?;
+    let before = sums.greatest(&problem, Some(0));
+    sums.set(&problem, 0, 0, 2);
+    let first = sums.greatest(&problem, Some(0));
+    let second = sums.greatest(&problem, Some(1));
+    let least = sums.least(&problem, Some(0));
+    sums.set(&problem, 0, 1, 2);
+    Some([
+        before,
+        first,
+        second,
+        least,
+        sums.least(&problem, Some(0)),
+        sums.least(&problem, None),
+    ])
+}
+
+#[test]
+fn sums_follow_a_column(rt: HostRuntime) {
+    assert_eq!(rt; running_sums(rt.alloc()), Some([60, 44, 38, 0, 2, 1]));
 }
