@@ -2,7 +2,7 @@
 use Rattle.std.specs.Prelude.{◌≡◌, ℕ, List, ◌++◌, Option, IfSome}
 use Rattle.ug_problem.specs.Instances.{Instance}
 use Rattle.ug_ledger.specs.Answers.{answer_of}
-use Rattle.ug_mps.specs.declared.fault.MpsFault.{MpsFault}
+use Rattle.ug_drafts.specs.declared.fault.MpsFault.{MpsFault}
 use Rattle.ug_mps.specs.Reads.{Reads, FirstFault}
 use Rattle.ug_restart.specs.declared.fault.StartFault.{StartFault}
 use Rattle.ug_restart.specs.declared.fault.StartFault.TheVariants as faults

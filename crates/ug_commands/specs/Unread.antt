@@ -1,6 +1,6 @@
 -- How a command ends that reads no problem.
 use Rattle.std.specs.Prelude.{◌≡◌, ℕ, List, Option}
-use Rattle.ug_mps.specs.declared.fault.MpsFault.{MpsFault}
+use Rattle.ug_drafts.specs.declared.fault.MpsFault.{MpsFault}
 use Rattle.ug_mps.specs.Reads.{FirstFault}
 use Rattle.ug_print.specs.Refusals.{refused_line}
 use Rattle.ug_commands.specs.declared.ended.Ended.{Ended}

@@ -5,7 +5,7 @@ use Rattle.std.proofs.lemmas.Bool.{cases_lt, false≢true}
 use Rattle.std.proofs.lemmas.List.{take-append-le, get_or_append_left, length-append, length-take-le, length-reverse}
 use Rattle.ug_lines.specs.Lines.{Line, lines_of}
 use Rattle.ug_problem.specs.Instances.{Instance}
-use Rattle.ug_mps.specs.declared.fault.MpsFault.{MpsFault}
+use Rattle.ug_drafts.specs.declared.fault.MpsFault.{MpsFault}
 use Rattle.ug_mps.specs.Entries.{Entry}
 use Rattle.ug_mps.specs.Faults.{Complaint}
 use Rattle.ug_mps.specs.Says.{line_fault, is_ended, after, history}

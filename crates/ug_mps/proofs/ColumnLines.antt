@@ -8,9 +8,9 @@ use Rattle.ug_lines.specs.Shapes.{WordPair}
 use Rattle.ug_lines.specs.Shapes as shapes
 use Rattle.ug_problem.specs.Decimals.{decimal_of}
 use Rattle.ug_problem.specs.Instances.{IsName}
-use Rattle.ug_mps.specs.declared.fault.Kind.TheVariants as kinds
+use Rattle.ug_drafts.specs.declared.fault.Kind.TheVariants as kinds
+use Rattle.ug_drafts.specs.declared.row.Part.TheVariants as parts
 use Rattle.ug_mps.specs.declared.draft.Draft.{Draft}
-use Rattle.ug_mps.specs.declared.draft.rows.Part.TheVariants as parts
 use Rattle.ug_mps.specs.Entries.{Pair, Entry, column}
 use Rattle.ug_mps.specs.Faults.{repeated, rows_in, numbers_in, is_begun_again}
 use Rattle.ug_mps.specs.Good.{IsNumbered, are_free, are_apart, column_fits}

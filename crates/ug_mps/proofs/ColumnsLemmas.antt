@@ -3,15 +3,16 @@ use Rattle.std.proofs.Common.{◌≡◌, ℕ, ◌+◌, ◌<◌, ◌||◌, not, B
 use Rattle.std.specs.Str.{bytes_eq}
 use Rattle.std.proofs.lemmas.Bool.{cases_eq, false≢true}
 use Rattle.std.proofs.lemmas.List.{same_lists, length-set, length-map, get_or-map, get_or-set_same, get_or-set_other, map_push}
-use Rattle.ug_mps.specs.declared.bound.Bound.{Bound}
-use Rattle.ug_mps.specs.declared.bound.Change.{Change}
-use Rattle.ug_mps.specs.declared.draft.columns.ColumnDraft.{ColumnDraft}
+use Rattle.ug_drafts.specs.declared.bound.Bound.{Bound}
+use Rattle.ug_drafts.specs.declared.bound.Change.{Change}
+use Rattle.ug_drafts.specs.declared.column.ColumnDraft.{ColumnDraft}
+use Rattle.ug_drafts.specs.Kept.{with_change}
 use Rattle.ug_mps.specs.Entries.{Pair, Entry, column, bound}
 use Rattle.ug_mps.specs.Good.{Good}
 use Rattle.ug_mps.specs.History.{ColumnBegun, columns_of, is_column, goes_on, is_integer_on, low_set, high_set, is_made_integer}
 use Rattle.ug_mps.specs.Stated.{is_integer}
 use Rattle.ug_mps.specs.Names.{name_at, StandsAt, AreDistinct}
-use Rattle.ug_mps.specs.Columns.{NamedColumns, column_so_far, new_column, column_at, with_change, AreColumns, FindsPlace, OpensColumn}
+use Rattle.ug_mps.specs.Columns.{NamedColumns, column_so_far, new_column, column_at, AreColumns, FindsPlace, OpensColumn}
 use Rattle.ug_mps.proofs.Bytes.{any_true, any_none, bytes_same, bytes_apart, not_first, not_second}
 use Rattle.ug_mps.proofs.HistoryLemmas.{names_of, column_named, last_going, not_last, not_going, lows_known, highs_known, made_known}
 

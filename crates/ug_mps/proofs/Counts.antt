@@ -7,12 +7,14 @@ use Rattle.std.proofs.lemmas.List.Sums.{sum_by-cons}
 use Rattle.ug_rows.specs.declared.row.Term.{Term}
 use Rattle.ug_problem.specs.declared.column.NamedRow.{NamedRow}
 use Rattle.ug_problem.specs.Limits.{FitsCounts}
-use Rattle.ug_mps.specs.declared.role.Role.{Role}
-use Rattle.ug_mps.specs.declared.role.Role.TheVariants as roles
+use Rattle.ug_drafts.specs.declared.role.Role.{Role}
+use Rattle.ug_drafts.specs.declared.role.Role.TheVariants as roles
+use Rattle.ug_drafts.specs.Roles.{is_objective, is_sided}
+use Rattle.ug_drafts.specs.RowNumbers.{scale_of, scaled_term, scaled_terms, signed}
 use Rattle.ug_mps.specs.Entries.{Pair, Entry, row, column}
 use Rattle.ug_mps.specs.Good.{Good, are_free, are_apart}
-use Rattle.ug_mps.specs.History.{RowNamed, ColumnBegun, Coefficient, rows_of, columns_of, coefficients, is_row, is_column, has, place_of, goes_on, role_after, is_objective, is_maximised, is_integer_on, placed}
-use Rattle.ug_mps.specs.Stated.{is_term, terms_of, factor_of, numbers_of, scale_of, scaled_term, scaled_terms, is_sided, signed, stated_row, objective_in, stated_column, stated}
+use Rattle.ug_mps.specs.History.{RowNamed, ColumnBegun, Coefficient, rows_of, columns_of, coefficients, is_row, is_column, has, place_of, goes_on, role_after, is_maximised, is_integer_on, placed}
+use Rattle.ug_mps.specs.Stated.{is_term, terms_of, factor_of, numbers_of, stated_row, objective_in, stated_column, stated}
 use Rattle.ug_mps.specs.Rows.{is_named}
 use Rattle.ug_mps.proofs.Bytes.{and_true, not_true, same_bytes, bytes_turn, or_false, any_append}
 

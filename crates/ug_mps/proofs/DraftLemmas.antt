@@ -10,13 +10,14 @@ use Rattle.ug_lines.specs.declared.kinds.RowKind.{RowKind}
 use Rattle.ug_lines.specs.Kinds.{row_kind_of}
 use Rattle.ug_lines.specs.Shapes as shapes
 use Rattle.ug_problem.specs.Instances.{IsName}
-use Rattle.ug_mps.specs.declared.role.Role.{Role}
-use Rattle.ug_mps.specs.declared.fault.Kind.TheVariants as kinds
-use Rattle.ug_mps.specs.declared.fault.MpsError.{MpsError}
+use Rattle.ug_drafts.specs.declared.role.Role.{Role}
+use Rattle.ug_drafts.specs.declared.fault.Kind.TheVariants as kinds
+use Rattle.ug_drafts.specs.declared.fault.MpsError.{MpsError}
+use Rattle.ug_drafts.specs.Roles.{is_objective}
 use Rattle.ug_mps.specs.declared.draft.Draft.{Draft}
 use Rattle.ug_mps.specs.Entries.{Entry, row}
 use Rattle.ug_mps.specs.Faults.{Complaint}
-use Rattle.ug_mps.specs.History.{rank, is_section, RowNamed, rows_of, is_row, is_objective, have_objective, role_with, role_after}
+use Rattle.ug_mps.specs.History.{rank, is_section, RowNamed, rows_of, is_row, have_objective, role_with, role_after}
 use Rattle.ug_mps.specs.Rows.{NamedRows, lists_of, AreRows}
 use Rattle.ug_mps.specs.RowSteps.{new_row, is_among}
 use Rattle.ug_mps.specs.Drafts.{Drafts, IsFaultOf, shaped_fault, shaped_says, is_in}

@@ -6,18 +6,21 @@ use Rattle.ug_rows.specs.declared.row.Objective as target
 use Rattle.ug_problem.specs.declared.column.Column.{Column}
 use Rattle.ug_problem.specs.declared.column.NamedRow.{NamedRow}
 use Rattle.ug_problem.specs.Instances.{Instance, instance_of}
-use Rattle.ug_mps.specs.declared.draft.columns.ColumnDraft.{ColumnDraft}
-use Rattle.ug_mps.specs.declared.draft.parts.Parts.{Parts}
-use Rattle.ug_mps.specs.declared.draft.rows.RowDraft.{RowDraft}
+use Rattle.ug_drafts.specs.declared.column.ColumnDraft.{ColumnDraft}
+use Rattle.ug_drafts.specs.declared.parts.Parts.{Parts}
+use Rattle.ug_drafts.specs.declared.row.RowDraft.{RowDraft}
+use Rattle.ug_drafts.specs.declared.fault.MpsError.{MpsError}
+use Rattle.ug_drafts.specs.declared.fault.MpsError.TheVariants.{Memory, Fault}
+use Rattle.ug_drafts.specs.declared.fault.MpsFault.{MpsFault}
+use Rattle.ug_drafts.specs.FirstFaults.{IsOf, or_else, first_fault}
+use Rattle.ug_drafts.specs.Bounds.{IsBox}
+use Rattle.ug_drafts.specs.Made.{column_fault_kept, made_column, HasDecimals, row_fault_kept, parts_made}
 use Rattle.ug_mps.specs.declared.draft.Draft.{Draft}
-use Rattle.ug_mps.specs.declared.fault.MpsError.{MpsError}
-use Rattle.ug_mps.specs.declared.fault.MpsError.TheVariants.{Memory, Fault}
-use Rattle.ug_mps.specs.declared.fault.MpsFault.{MpsFault}
 use Rattle.ug_mps.specs.Drafts.{Drafts}
 use Rattle.ug_mps.specs.Entries.{Entry}
-use Rattle.ug_mps.specs.Finish.{IsOf, IsEndFault, IsBox, column_fault_kept, made_column, HasDecimals, row_fault_kept, parts_made, AreStated}
+use Rattle.ug_mps.specs.Finish.{IsEndFault, AreStated}
 use Rattle.ug_mps.specs.History.{rows_of, columns_of}
-use Rattle.ug_mps.specs.Reads.{or_else, first_fault, column_fault, row_fault, end_fault}
+use Rattle.ug_mps.specs.Reads.{column_fault, row_fault, end_fault}
 use Rattle.ug_mps.specs.Stated.{stated_column, stated}
 use Rattle.ug_mps.proofs.FinishLemmas.{columns_fault, columns_stated, rows_fault, rows_stated, drafts_decimal, objective_stated}
 

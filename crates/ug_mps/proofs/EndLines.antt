@@ -7,7 +7,7 @@ use Rattle.std.proofs.lemmas.Bool.Decides.{nat_tests}
 use Rattle.ug_lines.specs.declared.section.Section.TheVariants.{Endata}
 use Rattle.ug_lines.specs.Lines.{Line}
 use Rattle.ug_lines.specs.Words.{is_blank, is_legible, words_of}
-use Rattle.ug_mps.specs.declared.fault.Kind.TheVariants as kinds
+use Rattle.ug_drafts.specs.declared.fault.Kind.TheVariants as kinds
 use Rattle.ug_mps.specs.Entries.{Entry, header}
 use Rattle.ug_mps.specs.Faults.{Complaint, or_fault, fault_where, is_word_end, is_end_line, bad_byte}
 use Rattle.ug_mps.specs.Says.{header_fault, words_fault, words_say, line_fault, line_says, is_ended, after_fault, after}

@@ -7,18 +7,21 @@ use Rattle.std.proofs.lemmas.List.Elements.{All-map}
 use Rattle.ug_lines.specs.declared.kinds.RowKind.{RowKind}
 use Rattle.ug_lines.specs.declared.kinds.RowKind.TheVariants as types
 use Rattle.ug_rows.specs.declared.row.Objective as target
-use Rattle.ug_mps.specs.declared.draft.columns.ColumnDraft.{ColumnDraft}
-use Rattle.ug_mps.specs.declared.draft.rows.RowDraft.{RowDraft}
-use Rattle.ug_mps.specs.declared.fault.Kind.{Kind}
-use Rattle.ug_mps.specs.declared.fault.MpsFault.{MpsFault}
+use Rattle.ug_drafts.specs.declared.column.ColumnDraft.{ColumnDraft}
+use Rattle.ug_drafts.specs.declared.row.RowDraft.{RowDraft}
+use Rattle.ug_drafts.specs.declared.fault.Kind.{Kind}
+use Rattle.ug_drafts.specs.declared.fault.MpsFault.{MpsFault}
+use Rattle.ug_drafts.specs.Roles.{is_objective, is_sided}
+use Rattle.ug_drafts.specs.FirstFaults.{or_else, first_fault}
+use Rattle.ug_drafts.specs.RowNumbers.{objective_of, no_objective}
+use Rattle.ug_drafts.specs.Made.{column_fault_kept, made_column, HasDecimals, row_fault_kept, made_rows, last_objective}
 use Rattle.ug_mps.specs.Entries.{Entry, row}
 use Rattle.ug_mps.specs.Good.{Good}
-use Rattle.ug_mps.specs.History.{RowNamed, ColumnBegun, rows_of, columns_of, is_objective, have_objective, role_with, role_after, is_maximised}
-use Rattle.ug_mps.specs.Reads.{or_else, first_fault, column_fault, row_fault}
-use Rattle.ug_mps.specs.Stated.{numbers_of, is_sided, stated_row, stated_rows, stated_column, objective_of, no_objective, objective_in}
+use Rattle.ug_mps.specs.History.{RowNamed, ColumnBegun, rows_of, columns_of, have_objective, role_with, role_after, is_maximised}
+use Rattle.ug_mps.specs.Reads.{column_fault, row_fault}
+use Rattle.ug_mps.specs.Stated.{numbers_of, stated_row, stated_rows, stated_column, objective_in}
 use Rattle.ug_mps.specs.Rows.{NamedRows, lists_of, row_so_far, AreRows}
 use Rattle.ug_mps.specs.Columns.{NamedColumns, column_so_far, AreColumns}
-use Rattle.ug_mps.specs.Finish.{column_fault_kept, made_column, HasDecimals, row_fault_kept, made_rows, last_objective}
 use Rattle.ug_mps.proofs.Bytes.{or_false, false_from, any_append}
 use Rattle.ug_mps.proofs.GoodLemmas.{decimals_of}
 

@@ -6,16 +6,18 @@ use Rattle.std.proofs.lemmas.List.Elements.{All-nil, All-head, All-tail, All-app
 use Rattle.ug_problem.specs.declared.decimal.Decimal.{Decimal}
 use Rattle.ug_problem.specs.Decimals.{IsDecimal, zero_decimal}
 use Rattle.ug_problem.specs.Instances.{IsName}
-use Rattle.ug_mps.specs.declared.bound.Bound.{Bound}
-use Rattle.ug_mps.specs.declared.bound.Bound.TheVariants.{Infinite}
-use Rattle.ug_mps.specs.declared.draft.rows.Factor.{Factor}
-use Rattle.ug_mps.specs.declared.role.Role.{Role}
-use Rattle.ug_mps.specs.declared.role.Role.TheVariants.{Objective}
+use Rattle.ug_drafts.specs.declared.bound.Bound.{Bound}
+use Rattle.ug_drafts.specs.declared.bound.Bound.TheVariants.{Infinite}
+use Rattle.ug_drafts.specs.declared.row.Factor.{Factor}
+use Rattle.ug_drafts.specs.declared.role.Role.{Role}
+use Rattle.ug_drafts.specs.declared.role.Role.TheVariants.{Objective}
+use Rattle.ug_drafts.specs.Bounds.{IsSmall, or_bound}
+use Rattle.ug_drafts.specs.Scales.{AreDecimals}
+use Rattle.ug_drafts.specs.RowNumbers.{range_of}
 use Rattle.ug_mps.specs.Entries.{Pair, Entry, row, column, sides, ranges, bound}
-use Rattle.ug_mps.specs.Good.{Good, IsNumbered, IsSmall}
-use Rattle.ug_mps.specs.History.{RowNamed, ColumnBegun, Coefficient, rows_of, columns_of, coefficients, sides_given, ranges_given, goes_on, place_of, placed, role_after, is_integer_on, or_bound, low_set, high_set}
-use Rattle.ug_mps.specs.Scales.{AreDecimals}
-use Rattle.ug_mps.specs.Stated.{is_term, terms_of, factor_of, number_given, range_of, numbers_of}
+use Rattle.ug_mps.specs.Good.{Good, IsNumbered}
+use Rattle.ug_mps.specs.History.{RowNamed, ColumnBegun, Coefficient, rows_of, columns_of, coefficients, sides_given, ranges_given, goes_on, place_of, placed, role_after, is_integer_on, low_set, high_set}
+use Rattle.ug_mps.specs.Stated.{is_term, terms_of, factor_of, number_given, numbers_of}
 
 -- ---- names
 

@@ -15,17 +15,12 @@ pub mod HeaderLines
 pub mod Outcome
 pub mod ReadLemmas
 pub mod WorkedTexts
-pub mod ScalingLemmas
-pub mod MadeLemmas
-pub mod SideBySide
-pub mod PartsLemmas
 pub mod GoodLemmas
 pub mod StatedLemmas
 pub mod Counts
 pub mod ProblemLemmas
 pub mod FinishLemmas
 pub mod EndLemmas
-pub mod ScaleLaws
 pub mod Closing
 pub mod FirstLines
 pub mod EndLines

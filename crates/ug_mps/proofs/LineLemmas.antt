@@ -16,9 +16,9 @@ use Rattle.ug_lines.specs.Kinds.{section_of_word, bound_kind_of, takes_number}
 use Rattle.ug_lines.specs.Shapes.{Shape, sense_of, row_of, pairs_of, column_of, coefficients_of, sides_of, numbered_bound_of, bare_bound_of, bound_of_kind, bound_of, shape_of}
 use Rattle.ug_lines.specs.Shapes as shapes
 use Rattle.ug_problem.specs.Instances.{IsName, IsWordByte}
+use Rattle.ug_drafts.specs.declared.fault.MpsError.{MpsError}
+use Rattle.ug_drafts.specs.declared.fault.Kind.TheVariants as kinds
 use Rattle.ug_mps.specs.declared.draft.Draft.{Draft}
-use Rattle.ug_mps.specs.declared.fault.MpsError.{MpsError}
-use Rattle.ug_mps.specs.declared.fault.Kind.TheVariants as kinds
 use Rattle.ug_mps.specs.Entries.{Entry}
 use Rattle.ug_mps.specs.Faults.{Complaint, or_fault, too_long, shape_in, fault_where, may_follow, bad_section, bad_words, semi_continuous, bad_bound_kind}
 use Rattle.ug_mps.specs.Says.{data_fault, formed_fault, formed_says, words_fault, words_say, section_says, line_fault, line_says}

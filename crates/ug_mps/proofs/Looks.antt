@@ -4,14 +4,15 @@ use Rattle.std.specs.Str.{bytes_eq}
 use Rattle.std.proofs.lemmas.Bool.{cases_Bool, cases_eq, eqb-true, eq-eqb}
 use Rattle.ug_lines.specs.declared.shape.NamedWord.{NamedWord}
 use Rattle.ug_lines.specs.Shaped.{second_shaped}
-use Rattle.ug_mps.specs.declared.draft.rows.Part.{Part}
+use Rattle.ug_drafts.specs.declared.row.Part.{Part}
+use Rattle.ug_drafts.specs.Kept.{with_part, has_part}
 use Rattle.ug_mps.specs.declared.pairs.NamedNumber.{NamedNumber}
 use Rattle.ug_mps.specs.Entries.{Pair}
 use Rattle.ug_mps.specs.Faults.{repeated, rows_in}
 use Rattle.ug_mps.specs.Names.{name_at, StandsAt, AreDistinct}
 use Rattle.ug_mps.specs.Numbered.{pair_said, second_said}
 use Rattle.ug_mps.specs.Rows.{NamedRows, Lists, AreRows, AreBelow, is_taken}
-use Rattle.ug_mps.specs.RowSteps.{row_at, with_part, has_part, second_place, AreAt, first_missing, FindsRepeated, PutsPairs, rows_named}
+use Rattle.ug_mps.specs.RowSteps.{row_at, second_place, AreAt, first_missing, FindsRepeated, PutsPairs, rows_named}
 use Rattle.ug_mps.proofs.Bytes.{any_true, any_none, bytes_same, bytes_apart}
 use Rattle.ug_mps.proofs.RowsLemmas.{has_there, puts_one, puts_two}
 

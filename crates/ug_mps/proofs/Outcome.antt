@@ -6,13 +6,14 @@ use Rattle.std.proofs.lemmas.Bool.{cases_order, cases_Bool, false≢true}
 use Rattle.ug_lines.specs.declared.section.Section.TheVariants.{Endata}
 use Rattle.ug_lines.specs.Lines.{Line, lines_of}
 use Rattle.ug_problem.specs.Instances.{Instance}
-use Rattle.ug_mps.specs.declared.fault.MpsFault.{MpsFault}
-use Rattle.ug_mps.specs.declared.fault.Kind.TheVariants.{NoEnd}
+use Rattle.ug_drafts.specs.declared.fault.MpsFault.{MpsFault}
+use Rattle.ug_drafts.specs.declared.fault.Kind.TheVariants.{NoEnd}
+use Rattle.ug_drafts.specs.FirstFaults.{fault_at}
 use Rattle.ug_mps.specs.Entries.{Entry, header, sense, row, marker, column, sides, ranges, bound}
 use Rattle.ug_mps.specs.Faults.{Complaint}
 use Rattle.ug_mps.specs.Says.{line_fault, line_says, is_ended, after_fault, after, history}
 use Rattle.ug_mps.specs.Stated.{stated}
-use Rattle.ug_mps.specs.Reads.{no_line, lines_before, Says, Ends, IsFaulty, IsEndless, fault_at, end_fault, Reads, FirstFault}
+use Rattle.ug_mps.specs.Reads.{no_line, lines_before, Says, Ends, IsFaulty, IsEndless, end_fault, Reads, FirstFault}
 use Rattle.ug_mps.specs.Laws.{HasOneOutcome}
 use Rattle.ug_mps.proofs.DraftLemmas.{section_same}
 

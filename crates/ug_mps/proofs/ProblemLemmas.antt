@@ -9,17 +9,21 @@ use Rattle.ug_problem.specs.declared.error.ProblemError.{ProblemError}
 use Rattle.ug_problem.specs.declared.error.ProblemError.TheVariants.{Memory, TooMany, TooWide}
 use Rattle.ug_problem.specs.Instances.{Instance, IsName, IsColumn, IsRow, AreTerms, IsFormed, no_row}
 use Rattle.ug_problem.specs.Limits.{IsNarrow, IsNarrowObjective, IsRefused}
-use Rattle.ug_mps.specs.declared.bound.Bound.{Bound}
-use Rattle.ug_mps.specs.declared.bound.Bound.TheVariants.{Infinite, Finite}
-use Rattle.ug_mps.specs.declared.fault.MpsFault.{MpsFault}
-use Rattle.ug_mps.specs.declared.role.Role.{Role}
-use Rattle.ug_mps.specs.declared.role.Role.TheVariants as roles
+use Rattle.ug_drafts.specs.declared.bound.Bound.{Bound}
+use Rattle.ug_drafts.specs.declared.bound.Bound.TheVariants.{Infinite, Finite}
+use Rattle.ug_drafts.specs.declared.fault.MpsFault.{MpsFault}
+use Rattle.ug_drafts.specs.declared.role.Role.{Role}
+use Rattle.ug_drafts.specs.declared.role.Role.TheVariants as roles
+use Rattle.ug_drafts.specs.Bounds.{IsBox, IsSmall, bound_or, box_end}
+use Rattle.ug_drafts.specs.Roles.{is_objective, is_ignored, is_sided}
+use Rattle.ug_drafts.specs.FirstFaults.{or_else, first_fault}
+use Rattle.ug_drafts.specs.RowNumbers.{scale_of, scaled_side, scaled_terms, is_wide, no_objective}
 use Rattle.ug_mps.specs.Entries.{Entry}
-use Rattle.ug_mps.specs.Finish.{IsBox, AreStated}
-use Rattle.ug_mps.specs.Good.{Good, IsSmall}
-use Rattle.ug_mps.specs.History.{RowNamed, ColumnBegun, rows_of, columns_of, is_objective, is_maximised, low_set, high_set}
-use Rattle.ug_mps.specs.Reads.{or_else, first_fault, column_fault, is_ignored, row_fault, end_fault}
-use Rattle.ug_mps.specs.Stated.{numbers_of, scale_of, scaled_side, scaled_terms, is_wide, is_sided, stated_row, stated_rows, no_objective, objective_in, bound_or, box_end, low_of, high_of, stated_column, stated}
+use Rattle.ug_mps.specs.Finish.{AreStated}
+use Rattle.ug_mps.specs.Good.{Good}
+use Rattle.ug_mps.specs.History.{RowNamed, ColumnBegun, rows_of, columns_of, is_maximised, low_set, high_set}
+use Rattle.ug_mps.specs.Reads.{column_fault, row_fault, end_fault}
+use Rattle.ug_mps.specs.Stated.{numbers_of, stated_row, stated_rows, objective_in, low_of, high_of, stated_column, stated}
 use Rattle.ug_mps.proofs.Counts.{counts_fit}
 use Rattle.ug_mps.proofs.GoodLemmas.{IsColumnNamed, IsRowNamed, columns_named, rows_named, lows_small, highs_small}
 use Rattle.ug_mps.proofs.StatedLemmas.{terms_formed, signed_formed, signed_small, signed_all_small, AreNarrow, narrow_from}

@@ -5,10 +5,11 @@ use Rattle.std.proofs.lemmas.List.{take_at, get_or_at, reverse-append, length-ap
 use Rattle.ug_lines.specs.declared.section.Section.TheVariants.{Endata}
 use Rattle.ug_lines.specs.Lines.{Line, pieces, content_of, lines_after, lines_of}
 use Rattle.ug_problem.specs.Instances.{Instance}
-use Rattle.ug_mps.specs.declared.fault.Kind.TheVariants.{NoEnd}
-use Rattle.ug_mps.specs.declared.fault.MpsFault.{MpsFault}
-use Rattle.ug_mps.specs.declared.fault.MpsError.{MpsError}
-use Rattle.ug_mps.specs.declared.fault.MpsError.TheVariants.{Memory, Fault}
+use Rattle.ug_drafts.specs.declared.fault.Kind.TheVariants.{NoEnd}
+use Rattle.ug_drafts.specs.declared.fault.MpsFault.{MpsFault}
+use Rattle.ug_drafts.specs.declared.fault.MpsError.{MpsError}
+use Rattle.ug_drafts.specs.declared.fault.MpsError.TheVariants.{Memory, Fault}
+use Rattle.ug_drafts.specs.FirstFaults.{fault_at}
 use Rattle.ug_mps.specs.Entries.{Entry, header}
 use Rattle.ug_mps.specs.Faults.{Complaint}
 use Rattle.ug_mps.specs.Says.{line_fault, line_says, is_ended, after, history}
@@ -16,7 +17,7 @@ use Rattle.ug_mps.specs.Stated.{stated}
 use Rattle.ug_mps.specs.Drafts.{IsFaultOf}
 use Rattle.ug_mps.specs.Finish.{IsEndFault}
 use Rattle.ug_mps.specs.Reading.{HasTaken}
-use Rattle.ug_mps.specs.Reads.{no_line, Says, Ends, IsFaulty, IsEndless, fault_at, end_fault, Reads, IsRefusal}
+use Rattle.ug_mps.specs.Reads.{no_line, Says, Ends, IsFaulty, IsEndless, end_fault, Reads, IsRefusal}
 use Rattle.ug_mps.proofs.Outcome.{line_at, after_good}
 
 some_same : (f g : MpsFault) → Some f ≡ Some g → f ≡ g

@@ -6,20 +6,21 @@ use Rattle.std.proofs.lemmas.Bool.{cases_Bool, cases_eq, eqb-true, eq-eqb, false
 use Rattle.std.proofs.lemmas.List.{append_assoc, same_lists, length-set, length-map, get_or-map, get_or-set_same, get_or-set_other, get_or_default, map-append, map_push}
 use Rattle.std.proofs.lemmas.List.Elements.{filter-append, All-head, All-tail, All-cons, All-push, All-nil, All-weaker}
 use Rattle.ug_problem.specs.declared.decimal.Decimal.{Decimal}
-use Rattle.ug_mps.specs.declared.role.Role.{Role}
-use Rattle.ug_mps.specs.declared.role.Role.TheVariants.{Objective}
-use Rattle.ug_mps.specs.declared.draft.rows.Factor.{Factor}
-use Rattle.ug_mps.specs.declared.draft.rows.RowDraft.{RowDraft}
-use Rattle.ug_mps.specs.declared.draft.rows.Part.{Part}
-use Rattle.ug_mps.specs.declared.draft.rows.Part.TheVariants.{Side, Range}
-use Rattle.ug_mps.specs.declared.draft.rows.Part.TheVariants as parts
+use Rattle.ug_drafts.specs.declared.role.Role.{Role}
+use Rattle.ug_drafts.specs.declared.role.Role.TheVariants.{Objective}
+use Rattle.ug_drafts.specs.declared.row.Factor.{Factor}
+use Rattle.ug_drafts.specs.declared.row.RowDraft.{RowDraft}
+use Rattle.ug_drafts.specs.declared.row.Part.{Part}
+use Rattle.ug_drafts.specs.declared.row.Part.TheVariants.{Side, Range}
+use Rattle.ug_drafts.specs.declared.row.Part.TheVariants as parts
+use Rattle.ug_drafts.specs.Kept.{with_factor, with_part, is_place, is_given, has_part}
 use Rattle.ug_mps.specs.Entries.{Pair}
 use Rattle.ug_mps.specs.Faults.{repeated}
 use Rattle.ug_mps.specs.History.{RowNamed, Coefficient, has, names_row, placed}
 use Rattle.ug_mps.specs.Stated.{is_term, terms_of, factor_of, number_given}
 use Rattle.ug_mps.specs.Names.{name_at, StandsAt, AreDistinct}
 use Rattle.ug_mps.specs.Rows.{NamedRows, Lists, or_place, last_place, is_named, row_so_far, AreRows, IsBefore, AreOrdered, AreWithin, AreBelow, is_taken, and_pairs}
-use Rattle.ug_mps.specs.RowSteps.{new_row, row_at, with_factor, with_part, is_place, is_given, has_part, PutsPairs}
+use Rattle.ug_mps.specs.RowSteps.{new_row, row_at, PutsPairs}
 use Rattle.ug_mps.proofs.Bytes.{both, any_none, named_any, same_bytes, bytes_same, bytes_apart, apart_bytes, or_false, not_first, any_append}
 
 -- a row without a coefficient has no terms and no last column

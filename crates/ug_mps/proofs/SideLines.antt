@@ -9,23 +9,25 @@ use Rattle.ug_lines.specs.declared.kinds.BoundKind.{BoundKind}
 use Rattle.ug_lines.specs.Shapes.{WordPair, Shape}
 use Rattle.ug_lines.specs.Shapes as shapes
 use Rattle.ug_problem.specs.Decimals.{decimal_of}
-use Rattle.ug_mps.specs.declared.bound.Amount.{Amount}
-use Rattle.ug_mps.specs.declared.bound.Change.{Change}
-use Rattle.ug_mps.specs.declared.fault.Kind.TheVariants as kinds
-use Rattle.ug_mps.specs.declared.fault.MpsError.{MpsError}
+use Rattle.ug_drafts.specs.declared.bound.Amount.{Amount}
+use Rattle.ug_drafts.specs.declared.bound.Change.{Change}
+use Rattle.ug_drafts.specs.declared.fault.Kind.TheVariants as kinds
+use Rattle.ug_drafts.specs.declared.fault.MpsError.{MpsError}
+use Rattle.ug_drafts.specs.declared.row.Part.{Part}
+use Rattle.ug_drafts.specs.declared.row.Part.TheVariants as parts
+use Rattle.ug_drafts.specs.Bounds.{IsChange}
+use Rattle.ug_drafts.specs.Kept.{with_change}
 use Rattle.ug_mps.specs.declared.draft.Draft.{Draft}
-use Rattle.ug_mps.specs.declared.draft.rows.Part.{Part}
-use Rattle.ug_mps.specs.declared.draft.rows.Part.TheVariants as parts
-use Rattle.ug_mps.specs.Bounds.{amount_of, change_of}
+use Rattle.ug_mps.specs.BoundWords.{amount_of, change_of}
 use Rattle.ug_mps.specs.Entries.{Pair, Entry, sides, ranges, bound}
 use Rattle.ug_mps.specs.Faults.{repeated, rows_in, numbers_in, is_ranges, given_in, is_other_set, change_by, bad_number}
-use Rattle.ug_mps.specs.Good.{IsNumbered, IsChange, are_free, are_apart, given_fits}
+use Rattle.ug_mps.specs.Good.{IsNumbered, are_free, are_apart, given_fits}
 use Rattle.ug_mps.specs.History.{section_of, is_row, is_column, sides_given, ranges_given, names_row, set_of}
 use Rattle.ug_mps.specs.Says.{pairs_read}
 use Rattle.ug_mps.specs.Names.{StandsAt, AreDistinct}
 use Rattle.ug_mps.specs.Rows.{NamedRows, Lists, lists_of, AreRows, is_taken, and_pairs, AreBelow}
 use Rattle.ug_mps.specs.RowSteps.{is_among, first_missing, rows_named, AreAt, FindsRepeated, PutsPairs}
-use Rattle.ug_mps.specs.Columns.{NamedColumns, column_at, with_change, AreColumns}
+use Rattle.ug_mps.specs.Columns.{NamedColumns, column_at, AreColumns}
 use Rattle.ug_mps.specs.Drafts.{Drafts, shaped_fault, shaped_says, is_in, is_passed_set, set_after, first_set, part_in, IsAmountOf, IsFaultOf}
 use Rattle.ug_mps.proofs.Bytes.{both, any_true, same_bytes, not_false}
 use Rattle.ug_mps.proofs.ColumnsLemmas.{columns_kept, columns_and_change, gone_of}

@@ -13,17 +13,18 @@ use Rattle.ug_problem.specs.Decimals as decimals
 use Rattle.ug_problem.specs.Fractions.{signed_digits, zeros_of_power, places_of, scaled}
 use Rattle.ug_problem.specs.Instances.{AreTerms}
 use Rattle.ug_problem.specs.Limits.{AreSmall}
-use Rattle.ug_mps.specs.declared.draft.rows.Factor.{Factor}
-use Rattle.ug_mps.specs.declared.role.Role.{Role}
+use Rattle.ug_drafts.specs.declared.row.Factor.{Factor}
+use Rattle.ug_drafts.specs.declared.role.Role.{Role}
+use Rattle.ug_drafts.specs.RowNumbers.{Numbers, scale_of, scaled_term, scaled_terms, scaled_side, scaled_range, low_side, high_side, is_above, is_wide, signed, signed_terms}
+use Rattle.ug_drafts.specs.Made.{are_terms_wide, are_wide}
+use Rattle.ug_drafts.proofs.ScalingLemmas.{no_factor}
 use Rattle.ug_mps.specs.Entries.{Entry, column}
 use Rattle.ug_mps.specs.Good.{Good}
 use Rattle.ug_mps.specs.History.{ColumnBegun, Coefficient, columns_of, coefficients, goes_on, is_integer_on}
-use Rattle.ug_mps.specs.Stated.{is_term, terms_of, factor_of, Numbers, scale_of, scaled_term, scaled_terms, scaled_side, scaled_range, low_side, high_side, is_above, is_wide, signed, signed_terms}
+use Rattle.ug_mps.specs.Stated.{is_term, terms_of, factor_of}
 use Rattle.ug_mps.specs.Rows.{IsBefore, AreOrdered, AreWithin}
-use Rattle.ug_mps.specs.Finish.{are_terms_wide, are_wide}
 use Rattle.ug_mps.proofs.Bytes.{and_true, not_true, or_false, same_bytes}
 use Rattle.ug_mps.proofs.HistoryLemmas.{ordered_of}
-use Rattle.ug_mps.proofs.ScalingLemmas.{no_factor}
 
 -- ---- factors in order
 

@@ -1,10 +1,11 @@
 -- The definitions on worked texts, by computing them.
 use Rattle.std.proofs.Common.{ℕ, inl, inr, List, [], ◌∷◌, ◌++◌, Option, Some, None, refl, lit<}
 use Rattle.std.specs.Prelude.{codes}
-use Rattle.ug_mps.specs.declared.fault.Kind.TheVariants.{NoEnd, Unbounded, Unknown}
+use Rattle.ug_drafts.specs.declared.fault.Kind.TheVariants.{NoEnd, Unbounded, Unknown}
+use Rattle.ug_drafts.specs.FirstFaults.{fault_at}
 use Rattle.ug_mps.specs.Entries.{Entry}
 use Rattle.ug_mps.specs.Says.{history}
-use Rattle.ug_mps.specs.Reads.{lines_before, Reads, FirstFault, fault_at}
+use Rattle.ug_mps.specs.Reads.{lines_before, Reads, FirstFault}
 use Rattle.ug_mps.specs.Examples.{knapsack, knapsack_rows, text_of, fractions_text, fractions, falling_text, falling, unknown_text}
 
 -- what a history is, where there is one

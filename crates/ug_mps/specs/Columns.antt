@@ -1,12 +1,11 @@
 -- What the columns have so far.
-use Rattle.std.specs.Prelude.{◌≡◌, ℕ, ◌||◌, not, Bool, true, false, List, ◌∷◌, length, Contains, map, Option, None, MatchOption, slice_index_or}
-use Rattle.ug_mps.specs.declared.bound.Change.{Change}
-use Rattle.ug_mps.specs.declared.draft.columns.ColumnDraft.{ColumnDraft}
+use Rattle.std.specs.Prelude.{◌≡◌, ℕ, not, Bool, true, false, List, ◌∷◌, length, Contains, map, Option, None, MatchOption, slice_index_or}
+use Rattle.ug_drafts.specs.declared.column.ColumnDraft.{ColumnDraft}
 use Rattle.ug_mps.specs.declared.draft.columns.Place.{Place}
 use Rattle.ug_mps.specs.Entries.{Pair, Entry, column}
 use Rattle.ug_mps.specs.Good.{Good}
 use Rattle.ug_mps.specs.Faults.{is_begun_again}
-use Rattle.ug_mps.specs.History.{ColumnBegun, columns_of, goes_on, place_of, is_integer_on, low_set, high_set, low_after, high_after}
+use Rattle.ug_mps.specs.History.{ColumnBegun, columns_of, goes_on, place_of, is_integer_on, low_set, high_set}
 use Rattle.ug_mps.specs.Stated.{is_integer}
 
 -- the columns with their names
@@ -30,15 +29,6 @@ new_column line integer = record { line = line; integer = integer; low = None; h
 -- the column at a place
 abbrev pub column_at : List ColumnDraft → ℕ → ColumnDraft
 column_at drafts at = slice_index_or drafts at (new_column 0 false)
-
--- the column with a change
-abbrev pub with_change : Change → ColumnDraft → ColumnDraft
-with_change change c = record {
-  line = c.line;
-  integer = c.integer || change.integer;
-  low = low_after change c.low;
-  high = high_after change c.high;
-}
 
 -- where a line of a column stands: nowhere where the column began before another one
 abbrev pub FindsPlace : List ℕ → NamedColumns → Option Place → Type 0

@@ -5,23 +5,23 @@ use Rattle.std.specs.Option.{option_map}
 use Rattle.ug_lines.specs.declared.section.Section.{Section}
 use Rattle.ug_lines.specs.Shapes.{Shape, sense, row, marker, column, sides, bound, either}
 use Rattle.ug_problem.specs.Instances.{IsName}
-use Rattle.ug_mps.specs.declared.fault.Kind.TheVariants as kinds
+use Rattle.ug_drafts.specs.declared.fault.Kind.TheVariants as kinds
+use Rattle.ug_drafts.specs.declared.fault.MpsError.{MpsError}
+use Rattle.ug_drafts.specs.declared.fault.MpsError.TheVariants.{Memory, Fault}
+use Rattle.ug_drafts.specs.declared.bound.Amount.{Amount}
+use Rattle.ug_drafts.specs.declared.row.Part.{Part}
+use Rattle.ug_drafts.specs.declared.row.Part.TheVariants as parts
+use Rattle.ug_drafts.specs.FirstFaults.{fault_at}
 use Rattle.ug_mps.specs.declared.draft.Draft.{Draft}
-use Rattle.ug_mps.specs.declared.fault.MpsError.{MpsError}
-use Rattle.ug_mps.specs.declared.fault.MpsError.TheVariants.{Memory, Fault}
-use Rattle.ug_mps.specs.declared.bound.Amount.{Amount}
-use Rattle.ug_mps.specs.Bounds.{amount_of}
+use Rattle.ug_mps.specs.BoundWords.{amount_of}
 use Rattle.ug_mps.specs.Entries.{Entry}
 use Rattle.ug_mps.specs.Faults.{Complaint, or_fault, fault_where, may_stand, is_other, is_ranges}
 use Rattle.ug_lines.specs.Kinds.{sense_of_word}
 use Rattle.ug_lines.specs.declared.section.Section.TheVariants as sections
-use Rattle.ug_mps.specs.declared.draft.rows.Part.{Part}
-use Rattle.ug_mps.specs.declared.draft.rows.Part.TheVariants as parts
 use Rattle.ug_mps.specs.Says.{header_fault, header_says, formed_fault, formed_says}
 use Rattle.ug_mps.specs.Numbered.{AreShortNumbers}
 use Rattle.ug_mps.specs.Good.{Good}
 use Rattle.ug_mps.specs.History.{section_of, is_section, has_section, has_sense, is_maximised, rows_of, have_objective, is_integer_on, coefficients, set_of}
-use Rattle.ug_mps.specs.Reads.{fault_at}
 use Rattle.ug_mps.specs.Rows.{lists_of, AreRows}
 use Rattle.ug_mps.specs.Columns.{AreColumns}
 

@@ -4,7 +4,7 @@ use Rattle.ug_lines.specs.declared.section.Section.{Section}
 use Rattle.ug_lines.specs.declared.section.Section.TheVariants.{Objsense, Rows, Columns, Rhs, Ranges, Bounds}
 use Rattle.ug_lines.specs.declared.kinds.RowKind.{RowKind}
 use Rattle.ug_problem.specs.declared.decimal.Decimal.{Decimal}
-use Rattle.ug_mps.specs.declared.bound.Change.{Change}
+use Rattle.ug_drafts.specs.declared.bound.Change.{Change}
 
 -- a row's name and a number
 pub record Pair : Type 0 where

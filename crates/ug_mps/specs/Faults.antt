@@ -11,10 +11,10 @@ use Rattle.ug_lines.specs.Words.{is_blank, is_legible, are_short}
 use Rattle.ug_lines.specs.Kinds.{section_of_word, sense_of_word, row_kind_of, marker_of, bound_kind_of, is_semi_continuous}
 use Rattle.ug_lines.specs.Shapes.{WordPair, Shape, shape_of, sense, row, marker, column, sides, bound, either}
 use Rattle.ug_problem.specs.Decimals.{decimal_of}
-use Rattle.ug_mps.specs.declared.fault.Kind.{Kind}
-use Rattle.ug_mps.specs.declared.fault.Kind.TheVariants as kinds
-use Rattle.ug_mps.specs.declared.bound.Change.{Change}
-use Rattle.ug_mps.specs.Bounds.{amount_of, change_of}
+use Rattle.ug_drafts.specs.declared.fault.Kind.{Kind}
+use Rattle.ug_drafts.specs.declared.fault.Kind.TheVariants as kinds
+use Rattle.ug_drafts.specs.declared.bound.Change.{Change}
+use Rattle.ug_mps.specs.BoundWords.{amount_of, change_of}
 use Rattle.ug_mps.specs.Entries.{Pair, Entry}
 use Rattle.ug_mps.specs.History.{is_section, has_section, has_sense, rows_of, is_row, is_column, goes_on, place_of, coefficients, has, set_of, sides_given, ranges_given, names_row}
 

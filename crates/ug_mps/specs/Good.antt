@@ -1,11 +1,9 @@
 -- Histories of good lines: each entry may follow those before it, and its words are within the limits of words.
-use Rattle.std.specs.Prelude.{◌≡◌, ℕ, ◌+◌, ◌≤◌, ◌^◌, ◌&&◌, ◌||◌, not, Bool, true, List, [], ◌∷◌, length, All, IfSome, nat_lt, nat_le, unsigned_abs}
+use Rattle.std.specs.Prelude.{◌≡◌, ℕ, ◌+◌, ◌&&◌, ◌||◌, not, Bool, true, List, [], ◌∷◌, length, All, nat_lt, nat_le}
 use Rattle.std.specs.List.{list_all}
 use Rattle.ug_problem.specs.Decimals.{IsDecimal}
 use Rattle.ug_problem.specs.Instances.{IsName}
-use Rattle.ug_mps.specs.declared.bound.Bound.{Bound}
-use Rattle.ug_mps.specs.declared.bound.Bound.TheVariants.{Infinite, Finite}
-use Rattle.ug_mps.specs.declared.bound.Change.{Change}
+use Rattle.ug_drafts.specs.Bounds.{IsChange}
 use Rattle.ug_mps.specs.Entries.{Pair, Entry, row, column, sides, ranges, bound}
 use Rattle.ug_mps.specs.History.{rows_of, is_row, goes_on, is_column, place_of, coefficients, has, names_row, sides_given, ranges_given}
 
@@ -39,16 +37,6 @@ fits h (sides set pairs) = given_fits h (sides_given h) pairs
 fits h (ranges set pairs) = given_fits h (ranges_given h) pairs
 fits h (bound set name change) = is_column h name
 fits h _ = true
-
--- a finite bound is at most 10^9
-abbrev pub IsSmall : Bound → Type 0
-IsSmall Infinite = Unit {0}
-IsSmall (Finite z) = unsigned_abs z ≤ 10 ^ 9
-
--- the bounds that a line sets are within the limit
-pub record IsChange (c : Change) : Type 0 where
-  pub low : IfSome c.low IsSmall
-  pub high : IfSome c.high IsSmall
 
 -- the number of a pair is a decimal
 abbrev pub IsNumbered : Pair → Type 0

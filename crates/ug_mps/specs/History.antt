@@ -7,11 +7,11 @@ use Rattle.ug_lines.specs.declared.section.Section.TheVariants as sections
 use Rattle.ug_lines.specs.declared.kinds.RowKind.{RowKind}
 use Rattle.ug_lines.specs.declared.kinds.RowKind.TheVariants as types
 use Rattle.ug_problem.specs.declared.decimal.Decimal.{Decimal}
-use Rattle.ug_mps.specs.declared.role.Role.{Role}
-use Rattle.ug_mps.specs.declared.role.Role.TheVariants.{Objective, Ignored, AtMost, AtLeast, Equal}
-use Rattle.ug_mps.specs.declared.bound.Bound.{Bound}
-use Rattle.ug_mps.specs.declared.bound.Bound.TheVariants.{Infinite}
-use Rattle.ug_mps.specs.declared.bound.Change.{Change}
+use Rattle.ug_drafts.specs.declared.role.Role.{Role}
+use Rattle.ug_drafts.specs.declared.role.Role.TheVariants.{Objective, Ignored, AtMost, AtLeast, Equal}
+use Rattle.ug_drafts.specs.declared.bound.Bound.{Bound}
+use Rattle.ug_drafts.specs.Bounds.{high_after, low_after}
+use Rattle.ug_drafts.specs.Roles.{is_objective}
 use Rattle.ug_mps.specs.Entries.{Pair, Entry, section_of_entry, header, sense, row, marker, column, sides, ranges, bound}
 
 -- ---- sections and sense
@@ -61,10 +61,6 @@ pub record RowNamed : Type 0 where
   pub line : ℕ
   pub role : Role
   pub name : List ℕ
-
-abbrev pub is_objective : Role → Bool
-is_objective Objective = true
-is_objective _ = false
 
 -- one of the rows is the objective
 abbrev pub have_objective : List RowNamed → Bool
@@ -172,18 +168,6 @@ ranges_given (_ ∷ before) = ranges_given before
 -- one of the pairs names this row
 abbrev pub names_row : List Pair → List ℕ → Bool
 names_row pairs name = list_any (λ (p : Pair). bytes_eq name p.row) pairs
-
--- the first bound, or else the second
-abbrev pub or_bound : Option Bound → Option Bound → Option Bound
-or_bound (Some b) other = Some b
-or_bound None other = other
-
--- the bounds after a change, by those before it; a fall sets a lower bound that was not set to minus infinity
-abbrev pub low_after : Change → Option Bound → Option Bound
-low_after change old = or_bound change.low (if change.falls then or_bound old (Some Infinite) else old)
-
-abbrev pub high_after : Change → Option Bound → Option Bound
-high_after change old = or_bound change.high old
 
 -- the lower bound of a column that its lines set, if one did
 abbrev pub low_set : List Entry → List ℕ → Option Bound

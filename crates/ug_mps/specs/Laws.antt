@@ -1,7 +1,7 @@
 -- Laws on what texts state.
 use Rattle.std.specs.Prelude.{◌≡◌, ◌⊎◌, ℕ, List, Option}
 use Rattle.ug_problem.specs.Instances.{Instance}
-use Rattle.ug_mps.specs.declared.fault.MpsFault.{MpsFault}
+use Rattle.ug_drafts.specs.declared.fault.MpsFault.{MpsFault}
 use Rattle.ug_mps.specs.Reads.{Reads, FirstFault}
 
 -- a text states a problem or has a first fault, never both, and there is one of it

@@ -1,10 +1,9 @@
-pub mod Bounds
+pub mod BoundWords
 pub mod Entries
 pub mod History
 pub mod Faults
 pub mod Says
 pub mod Stated
-pub mod Scales
 pub mod Reads
 pub mod Laws
 pub mod Names

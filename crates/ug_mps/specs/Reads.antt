@@ -1,22 +1,21 @@
 -- What a text states: a problem, or a first fault.
-use Rattle.std.specs.Prelude.{◌≡◌, ℕ, ◌+◌, ◌<◌, ◌⊎◌, ◌||◌, ◌&&◌, not, Bool, true, false, List, [], ◌∷◌, length, take, reverse, slice_index_or, Option, Some, None, is_none, if◌then◌else◌}
+use Rattle.std.specs.Prelude.{◌≡◌, ℕ, ◌+◌, ◌<◌, ◌⊎◌, ◌||◌, ◌&&◌, not, Bool, false, List, [], ◌∷◌, length, take, reverse, slice_index_or, Option, Some, None, is_none, if◌then◌else◌}
 use Rattle.ug_lines.specs.declared.section.Section.TheVariants.{Endata}
 use Rattle.ug_lines.specs.Lines.{Line, lines_of}
 use Rattle.ug_problem.specs.Instances.{Instance}
-use Rattle.ug_mps.specs.declared.role.Role.{Role}
-use Rattle.ug_mps.specs.declared.role.Role.TheVariants.{Ignored}
-use Rattle.ug_mps.specs.declared.bound.Bound.{Bound}
-use Rattle.ug_mps.specs.declared.bound.Bound.TheVariants.{Infinite}
-use Rattle.ug_mps.specs.declared.fault.Kind.TheVariants as kinds
-use Rattle.ug_mps.specs.declared.fault.Kind.{Kind}
-use Rattle.ug_mps.specs.declared.fault.MpsFault.{MpsFault}
-use Rattle.ug_mps.specs.declared.fault.MpsError.{MpsError}
-use Rattle.ug_mps.specs.declared.fault.MpsError.TheVariants.{Memory, Fault}
+use Rattle.ug_drafts.specs.declared.fault.Kind.TheVariants as kinds
+use Rattle.ug_drafts.specs.declared.fault.MpsFault.{MpsFault}
+use Rattle.ug_drafts.specs.declared.fault.MpsError.{MpsError}
+use Rattle.ug_drafts.specs.declared.fault.MpsError.TheVariants.{Memory, Fault}
+use Rattle.ug_drafts.specs.RowNumbers.{is_wide}
+use Rattle.ug_drafts.specs.Bounds.{is_infinite}
+use Rattle.ug_drafts.specs.FirstFaults.{fault_at, first_fault, or_else}
+use Rattle.ug_drafts.specs.Roles.{is_ignored}
 use Rattle.ug_mps.specs.Entries.{Entry, header}
 use Rattle.ug_mps.specs.Faults.{Complaint}
 use Rattle.ug_mps.specs.History.{RowNamed, rows_of, ColumnBegun, columns_of}
 use Rattle.ug_mps.specs.Says.{line_fault, is_ended, history}
-use Rattle.ug_mps.specs.Stated.{numbers_of, is_wide, low_of, high_of, is_integer, stated}
+use Rattle.ug_mps.specs.Stated.{numbers_of, low_of, high_of, is_integer, stated}
 
 -- ---- lines
 
@@ -51,24 +50,6 @@ pub record IsEndless (text : List ℕ) (h : List Entry) : Type 0 where
 
 -- ---- columns and rows, where all lines are good
 
--- a fault of this kind, at this line and with this word
-abbrev pub fault_at : ℕ → Kind → Option (List ℕ) → MpsFault
-fault_at line kind word = record { line = line; kind = kind; word = word }
-
--- the first fault, or else the second
-abbrev pub or_else : Option MpsFault → Option MpsFault → Option MpsFault
-or_else (Some f) other = Some f
-or_else None other = other
-
--- the first fault that one of them has
-abbrev pub first_fault : {X : Type 0} → (X → Option MpsFault) → List X → Option MpsFault
-first_fault fault [] = None
-first_fault fault (x ∷ xs) = or_else (fault x) (first_fault fault xs)
-
-abbrev pub is_infinite : Bound → Bool
-is_infinite Infinite = true
-is_infinite _ = false
-
 -- a bound of the column is infinite
 abbrev pub is_unbounded : List Entry → ColumnBegun → Bool
 is_unbounded h c = is_infinite (low_of h c.name) || is_infinite (high_of h c.name)
@@ -77,11 +58,6 @@ is_unbounded h c = is_infinite (low_of h c.name) || is_infinite (high_of h c.nam
 abbrev pub column_fault : Option ℕ → List Entry → ColumnBegun → Option MpsFault
 column_fault boxed h c = if not (is_integer h c) then Some (fault_at c.line kinds.Continuous (Some c.name))
     else (if is_none boxed && is_unbounded h c then Some (fault_at c.line kinds.Unbounded (Some c.name)) else None)
-
--- the row is an N row that is not the objective
-abbrev pub is_ignored : Role → Bool
-is_ignored Ignored = true
-is_ignored _ = false
 
 -- a row or an objective whose scaled numbers are too wide: at its line
 abbrev pub row_fault : List Entry → RowNamed → Option MpsFault

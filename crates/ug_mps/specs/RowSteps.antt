@@ -1,16 +1,13 @@
 -- What a line does to the rows' drafts.
-use Rattle.std.specs.Prelude.{◌≡◌, ℕ, ◌==◌, not, Bool, true, false, List, [], ◌∷◌, ◌++◌, map, find, Option, Some, None, slice_index_or, if◌then◌else◌}
+use Rattle.std.specs.Prelude.{◌≡◌, ℕ, not, Bool, List, [], ◌∷◌, map, find, Option, Some, None, slice_index_or}
 use Rattle.std.specs.List.{list_any}
 use Rattle.std.specs.Option.{option_map}
 use Rattle.std.specs.Borrow.{Bor}
 use Rattle.std.specs.Str.{bytes_eq}
-use Rattle.ug_problem.specs.declared.decimal.Decimal.{Decimal}
-use Rattle.ug_mps.specs.declared.role.Role.{Role}
-use Rattle.ug_mps.specs.declared.role.Role.TheVariants.{Objective}
-use Rattle.ug_mps.specs.declared.draft.rows.Factor.{Factor}
-use Rattle.ug_mps.specs.declared.draft.rows.RowDraft.{RowDraft}
-use Rattle.ug_mps.specs.declared.draft.rows.Part.{Part}
-use Rattle.ug_mps.specs.declared.draft.rows.Part.TheVariants as parts
+use Rattle.ug_drafts.specs.declared.role.Role.{Role}
+use Rattle.ug_drafts.specs.declared.role.Role.TheVariants.{Objective}
+use Rattle.ug_drafts.specs.declared.row.RowDraft.{RowDraft}
+use Rattle.ug_drafts.specs.declared.row.Part.{Part}
 use Rattle.ug_mps.specs.declared.draft.rows.Places.{Places}
 use Rattle.ug_mps.specs.Entries.{Pair}
 use Rattle.ug_mps.specs.Faults.{repeated}
@@ -24,35 +21,6 @@ new_row line role = record { line = line; role = role; terms = []; side = None; 
 -- the row at a place
 abbrev pub row_at : List RowDraft → ℕ → RowDraft
 row_at drafts at = slice_index_or drafts at (new_row 0 Objective)
-
--- the terms with a factor more, if it is not 0
-abbrev pub with_factor : ℕ → Decimal → List Factor → List Factor
-with_factor j d terms = if d.digits == 0 then terms else terms ++ record { column = j; number = d } ∷ []
-
--- the row with a part more
-abbrev pub with_part : Part → Decimal → RowDraft → RowDraft
-with_part (parts.Coefficient j) d r =
-    record { line = r.line; role = r.role; terms = with_factor j d r.terms; side = r.side; range = r.range; last = Some j }
-with_part parts.Side d r =
-    record { line = r.line; role = r.role; terms = r.terms; side = Some d; range = r.range; last = r.last }
-with_part parts.Range d r =
-    record { line = r.line; role = r.role; terms = r.terms; side = r.side; range = Some d; last = r.last }
-
--- the place is this one
-abbrev pub is_place : Option ℕ → ℕ → Bool
-is_place None j = false
-is_place (Some i) j = i == j
-
--- there is a number
-abbrev pub is_given : Option Decimal → Bool
-is_given None = false
-is_given (Some d) = true
-
--- the row has the part
-abbrev pub has_part : Part → RowDraft → Bool
-has_part (parts.Coefficient j) r = is_place r.last j
-has_part parts.Side r = is_given r.side
-has_part parts.Range r = is_given r.range
 
 -- the places as a list
 abbrev pub second_place : Option ℕ → List ℕ

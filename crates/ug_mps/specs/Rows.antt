@@ -2,9 +2,9 @@
 use Rattle.std.specs.Prelude.{◌≡◌, ℕ, ◌≤◌, ◌<◌, Bool, List, [], ◌∷◌, ◌++◌, map, All, Option, Some, None, if◌then◌else◌}
 use Rattle.std.specs.List.{list_any}
 use Rattle.std.specs.Str.{bytes_eq}
-use Rattle.ug_mps.specs.declared.draft.rows.RowDraft.{RowDraft}
-use Rattle.ug_mps.specs.declared.draft.rows.Part.{Part}
-use Rattle.ug_mps.specs.declared.draft.rows.Part.TheVariants as parts
+use Rattle.ug_drafts.specs.declared.row.RowDraft.{RowDraft}
+use Rattle.ug_drafts.specs.declared.row.Part.{Part}
+use Rattle.ug_drafts.specs.declared.row.Part.TheVariants as parts
 use Rattle.ug_mps.specs.Entries.{Pair, Entry}
 use Rattle.ug_mps.specs.History.{RowNamed, Coefficient, rows_of, coefficients, placed, has, names_row, sides_given, ranges_given}
 use Rattle.ug_mps.specs.Stated.{terms_of, factor_of, number_given}

@@ -3,9 +3,9 @@ use Rattle.std.specs.Prelude.{◌≡◌, ℕ, ◌==◌, Bool, false, true, List,
 use Rattle.std.specs.List.{list_all}
 use Rattle.ug_lines.specs.Lines.{Line}
 use Rattle.ug_lines.specs.Words.{is_word_byte}
+use Rattle.ug_drafts.specs.declared.fault.Kind.{Kind}
+use Rattle.ug_drafts.specs.declared.fault.MpsError.{MpsError}
 use Rattle.ug_mps.specs.declared.draft.Draft.{Draft}
-use Rattle.ug_mps.specs.declared.fault.Kind.{Kind}
-use Rattle.ug_mps.specs.declared.fault.MpsError.{MpsError}
 use Rattle.ug_mps.specs.Drafts.{Takes}
 use Rattle.ug_mps.specs.Faults.{Complaint, shape_in}
 use Rattle.ug_mps.specs.History.{section_of}

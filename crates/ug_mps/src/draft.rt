@@ -3,11 +3,8 @@ mod columns;
 mod finish;
 mod header;
 mod limit;
-mod made;
-mod parts;
 mod row;
 mod rows;
-mod scaling;
 mod sides;
 
 ghost use Rattle.std.specs.Prelude.{◌≡◌, [], List, true};
@@ -20,8 +17,8 @@ ghost use Rattle.ug_mps.specs.Says.{is_ended};
 
 use crate::draft::columns::Columns;
 use crate::draft::rows::Rows;
-use crate::fault::MpsError;
 use std::alloc::Global;
+use ug_drafts::MpsError;
 use ug_lines::{LineShape, Section};
 use ug_lists::Text;
 

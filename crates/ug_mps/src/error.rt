@@ -1,8 +1,8 @@
 ghost use Rattle.std.specs.Prelude.{◌≡◌, Some, None};
 ghost use Rattle.ug_mps.specs.Drafts.{IsFaultOf};
 
-use crate::fault::{Kind, MpsError, MpsFault};
 use std::alloc::Global;
+use ug_drafts::{Kind, MpsError, MpsFault};
 use ug_lists::Text;
 
 /// The fault of a word at a line, or want of memory.

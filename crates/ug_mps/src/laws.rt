@@ -1,12 +1,11 @@
 //! Laws on what texts state. The functions do nothing: their contracts are what is proved of the definitions.
 
-ghost use Rattle.std.specs.Prelude.{ℕ, ◌≤◌, ◌↔◌, List, [], ◌∷◌, ◌++◌, Option, None, Some, codes};
+ghost use Rattle.std.specs.Prelude.{ℕ, List, [], ◌∷◌, ◌++◌, Option, None, Some, codes};
+ghost use Rattle.ug_drafts.specs.declared.fault.Kind.TheVariants.{NoEnd, Unbounded, Unknown};
+ghost use Rattle.ug_drafts.specs.FirstFaults.{fault_at};
 ghost use Rattle.ug_mps.specs.Examples.{knapsack, knapsack_rows, text_of, fractions_text, fractions, falling_text, falling, unknown_text};
 ghost use Rattle.ug_mps.specs.Laws.{HasOneOutcome};
-ghost use Rattle.ug_mps.specs.Reads.{FirstFault, Reads, fault_at};
-ghost use Rattle.ug_mps.specs.Scales.{AreDecimals, AreWhole};
-ghost use Rattle.ug_mps.specs.Stated.{Numbers, scale_of};
-ghost use Rattle.ug_mps.specs.declared.fault.Kind.TheVariants.{NoEnd, Unbounded, Unknown};
+ghost use Rattle.ug_mps.specs.Reads.{FirstFault, Reads};
 
 /// A text states one problem, or it has one first fault, and never both, whatever the box.
 pub fn one_outcome()
@@ -24,9 +23,4 @@ pub fn worked_texts()
     ensures fallen { FirstFault falling_text None (fault_at 5 Unbounded (Some (codes "X"))) }
     ensures in_box { Reads falling_text (Some 50) falling }
     ensures unknown_first { FirstFault unknown_text None (fault_at 5 Unknown (Some (codes "Q"))) }
-{}
-
-/// The numbers of a row times a power of ten are all whole exactly where the power is at least the row's scale.
-pub fn least_scale()
-    ensures { (s : ℕ) (n : Numbers) → AreDecimals n → ((scale_of n ≤ s) ↔ AreWhole s n) }
 {}

@@ -1,24 +1,22 @@
 //! Reads a bounded integer program from an MPS text.
-//! It stands on ug_lines and ug_problem.
+//! It stands on ug_lines, ug_drafts and ug_problem.
 //! `read` gives the problem that the text states, or the first fault with its line, kind and word; specs/ says
 //! what a text states as relations on its lines, each judged by what the lines before it have said.
 //! Memory grows only with bytes that are there.
 #![tactic(auto)]
 
-mod bound;
+mod bound_words;
 mod draft;
 mod ending;
 mod error;
-mod fault;
 mod laws;
 mod line;
 mod names;
 mod pairs;
 mod reading;
-mod role;
 
 pub use ending::{Seen, Tail, see, tail_of};
-pub use fault::{Kind, MpsError, MpsFault};
-pub use laws::{least_scale, one_outcome, worked_texts};
+pub use laws::{one_outcome, worked_texts};
 pub use line::LIMIT;
 pub use reading::read;
+pub use ug_drafts::{Kind, MpsError, MpsFault};

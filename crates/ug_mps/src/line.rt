@@ -6,8 +6,8 @@ ghost use Rattle.ug_mps.specs.Taking.{TakesLine, TakesWords, TakesData, AreWords
 
 use crate::draft::Draft;
 use crate::error::{bare_fault, fault_of};
-use crate::fault::{Kind, MpsError};
 use std::alloc::Global;
+use ug_drafts::{Kind, MpsError};
 use ug_lines::{
     LineShape, Section, are_short, bound_kind_of, is_blank, is_comment, is_data, is_legible,
     is_semi_continuous, shape_of, words_of,

@@ -4,9 +4,9 @@ ghost use Rattle.ug_mps.specs.Reads.{Reads, IsRefusal};
 
 use crate::draft::Draft;
 use crate::error::bare_fault;
-use crate::fault::{Kind, MpsError};
 use crate::line::take_line;
 use std::alloc::Global;
+use ug_drafts::{Kind, MpsError};
 use ug_lines::{content, cut};
 use ug_problem::Problem;
 

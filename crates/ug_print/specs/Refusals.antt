@@ -1,9 +1,9 @@
 -- The line of a text that is refused.
 use Rattle.std.specs.Prelude.{ℕ, List, [], ◌++◌, Option, Some, None, codes}
 use Rattle.std.specs.Fmt.{decimal}
-use Rattle.ug_mps.specs.declared.fault.Kind.{Kind}
-use Rattle.ug_mps.specs.declared.fault.Kind.TheVariants as kinds
-use Rattle.ug_mps.specs.declared.fault.MpsFault.{MpsFault}
+use Rattle.ug_drafts.specs.declared.fault.Kind.{Kind}
+use Rattle.ug_drafts.specs.declared.fault.Kind.TheVariants as kinds
+use Rattle.ug_drafts.specs.declared.fault.MpsFault.{MpsFault}
 use Rattle.ug_print.specs.Lines.{line, further}
 
 -- the name of a kind of fault

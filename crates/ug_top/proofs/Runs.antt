@@ -2,7 +2,7 @@
 use Rattle.std.proofs.Common.{◌≡◌, inl, inr, ℕ, ◌≤◌, ◌^◌, List, Option, None, Some, IfSome, refl, sym, subst}
 use Rattle.clap.specs.Walk.{Row, Text}
 use Rattle.ug_problem.specs.Instances.{Instance}
-use Rattle.ug_mps.specs.declared.fault.MpsFault.{MpsFault}
+use Rattle.ug_drafts.specs.declared.fault.MpsFault.{MpsFault}
 use Rattle.ug_mps.specs.Reads.{FirstFault}
 use Rattle.ug_mps.specs.Laws.{HasOneOutcome}
 use Rattle.ug_restart.specs.declared.fault.StartFault.{StartFault}

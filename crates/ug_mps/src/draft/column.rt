@@ -6,10 +6,9 @@ ghost use Rattle.ug_mps.specs.Drafts.{TakesShape, belongs};
 ghost use Rattle.ug_mps.specs.Numbered.{AreShortNumbers};
 
 use crate::draft::Draft;
-use crate::draft::rows::Part;
 use crate::error::{bare_fault, fault_of};
-use crate::fault::{Kind, MpsError};
 use crate::pairs::numbers_of;
+use ug_drafts::{Kind, MpsError, Part};
 use ug_lines::NamedWords;
 
 /// The columns that a text may have.

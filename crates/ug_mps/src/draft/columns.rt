@@ -1,70 +1,19 @@
 ghost use Rattle.std.specs.Prelude.{◌≡◌, ◌≤◌, ◌+◌, ◌<◌, ◌^◌, [], ◌∷◌, ◌++◌, ◌↔◌, length, Contains, slice_set, IsNone, IsTrue, IfSome, OnOk};
-ghost use Rattle.ug_mps.specs.Columns.{new_column, column_at, with_change, FindsPlace, IsNew, OpensColumn};
-ghost use Rattle.ug_mps.specs.History.{low_after, high_after};
+ghost use Rattle.ug_drafts.specs.Kept.{with_change};
+ghost use Rattle.ug_mps.specs.Columns.{new_column, column_at, FindsPlace, IsNew, OpensColumn};
 ghost use Rattle.ug_mps.specs.Names.{StandsAt, AreDistinct};
 
-use crate::bound::{Bound, Change};
 use crate::names::Names;
 use std::alloc::{AllocError, Global};
 use std::marker::Model;
+use ug_drafts::{Change, ColumnDraft};
 use ug_lists::Text;
-
-/// What a column has so far.
-#[derive(Clone, Copy, Debug)]
-pub struct ColumnDraft {
-    /// The line in which it begins.
-    pub line: u64,
-    /// It is integer where it begins, or a bound made it so.
-    pub integer: bool,
-    /// The lower bound, if it was set.
-    pub low: Option<Bound>,
-    /// The upper bound, if it was set.
-    pub high: Option<Bound>,
-}
 
 /// The place of the column of a line, and whether it begins there.
 #[derive(Clone, Copy, Debug)]
 pub struct Place {
     pub at: u32,
     pub new: bool,
-}
-
-// The lower bound after a change.
-fn low_after(change: Change, old: Option<Bound>) -> Option<Bound>
-    ensures { result ≡ low_after change old }
-{
-    match change.low {
-        Some(low) => Some(low),
-        None => {
-            if change.falls && old.is_none() {
-                Some(Bound::Infinite)
-            } else {
-                old
-            }
-        }
-    }
-}
-
-// The upper bound after a change.
-fn high_after(change: Change, old: Option<Bound>) -> Option<Bound>
-    ensures { result ≡ high_after change old }
-{
-    match change.high {
-        Some(high) => Some(high),
-        None => old,
-    }
-}
-
-// A column after a change.
-fn changed(draft: ColumnDraft, change: Change) -> ColumnDraft
-    ensures { result ≡ with_change change draft }
-{
-    ColumnDraft {
-        line: draft.line,
-        integer: draft.integer || change.integer,
-        low: low_after(change, draft.low),
-        high: high_after(change, draft.high),
-    }
 }
 
 /// The columns so far, with their names: 10,000 at most.
@@ -207,7 +156,7 @@ impl Columns {
         } }
     {
         let draft = self.drafts[at as usize];
-        self.drafts[at as usize] = changed(draft, change);
+        self.drafts[at as usize] = draft.changed(change);
     }
 
     /// The names, and what is kept of each column. It takes no memory.

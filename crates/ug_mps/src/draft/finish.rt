@@ -1,16 +1,16 @@
 ghost use Rattle.std.specs.Prelude.{◌≡◌, ℕ, List, ◌∷◌, Option, None, MatchResult};
 ghost use Rattle.ug_lines.specs.declared.section.Section.TheVariants.{Endata};
 ghost use Rattle.ug_problem.specs.Instances.{instance_of};
+ghost use Rattle.ug_drafts.specs.Bounds.{IsBox};
 ghost use Rattle.ug_mps.specs.Drafts.{Drafts};
 ghost use Rattle.ug_mps.specs.Entries.{Entry, header};
-ghost use Rattle.ug_mps.specs.Finish.{IsEndFault, IsBox, AreStated};
+ghost use Rattle.ug_mps.specs.Finish.{IsEndFault, AreStated};
 ghost use Rattle.ug_mps.specs.Reads.{end_fault};
 ghost use Rattle.ug_mps.specs.Stated.{stated};
 
 use crate::draft::Draft;
-use crate::draft::parts::{Parts, columns_of, parts_of};
-use crate::fault::MpsError;
 use std::alloc::Global;
+use ug_drafts::{MpsError, Parts, columns_of, parts_of};
 use ug_lists::Items;
 use ug_problem::{Column, Problem, ProblemError};
 

@@ -7,8 +7,8 @@ ghost use Rattle.ug_mps.specs.History.{rank, is_section};
 
 use crate::draft::Draft;
 use crate::error::{bare_fault, fault_of};
-use crate::fault::{Kind, MpsError};
 use std::alloc::AllocError;
+use ug_drafts::{Kind, MpsError};
 use ug_lines::{Section, marker_of, section_of, sense_of};
 
 // A section's place in the list of all.

@@ -1,13 +1,14 @@
 ghost use Rattle.std.specs.Prelude.{◌≡◌, ◌≤◌, true, length, Some, None, IfSome, MatchResult};
 ghost use Rattle.ug_lines.specs.Shapes.{bound, either};
 ghost use Rattle.ug_lines.specs.Shaped.{word_of};
-ghost use Rattle.ug_mps.specs.Bounds.{IsAmount, amount_of};
+ghost use Rattle.ug_drafts.specs.Bounds.{IsAmount};
+ghost use Rattle.ug_mps.specs.BoundWords.{amount_of};
 ghost use Rattle.ug_mps.specs.Drafts.{TakesShape, belongs, IsAmountOf};
 
-use crate::bound::{Amount, amount_of, change_of};
+use crate::bound_words::{amount_of, change_of};
 use crate::draft::Draft;
 use crate::error::fault_of;
-use crate::fault::{Kind, MpsError};
+use ug_drafts::{Amount, Kind, MpsError};
 use ug_lines::BoundKind;
 
 // The amount of a number, if there is one, or the word that is none.

@@ -1,17 +1,35 @@
-ghost use Rattle.std.specs.Prelude.{◌≡◌, ◌||◌, true};
+ghost use Rattle.std.specs.Prelude.{◌≡◌, ◌||◌, true, if◌then◌else◌};
 ghost use Rattle.ug_lines.specs.Shapes.{row};
 ghost use Rattle.ug_problem.specs.Instances.{IsName};
+ghost use Rattle.ug_drafts.specs.Roles.{is_objective};
 ghost use Rattle.ug_mps.specs.Drafts.{TakesShape, belongs};
-ghost use Rattle.ug_mps.specs.History.{is_objective};
+ghost use Rattle.ug_mps.specs.History.{role_with};
 
 use crate::draft::Draft;
 use crate::error::{bare_fault, fault_of};
-use crate::fault::{Kind, MpsError};
-use crate::role::{Role, role_of};
-use ug_lines::row_kind_of;
+use ug_drafts::{Kind, MpsError, Role};
+use ug_lines::{RowKind, row_kind_of};
 
 /// The rows that a text may have.
 const MOST_ROWS: usize = 10_000;
+
+// What a row of this type is to the problem, where the objective is there or is not.
+fn role_of(kind: RowKind, has_objective: bool) -> Role
+    ensures { result ≡ role_with has_objective kind }
+{
+    match kind {
+        RowKind::Objective => {
+            if has_objective {
+                Role::Ignored
+            } else {
+                Role::Objective
+            }
+        }
+        RowKind::AtMost => Role::AtMost,
+        RowKind::AtLeast => Role::AtLeast,
+        RowKind::Equal => Role::Equal,
+    }
+}
 
 // Whether there is an objective, once there is this row.
 fn has_objective_with(has_objective: bool, role: Role) -> bool

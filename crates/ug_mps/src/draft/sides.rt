@@ -5,11 +5,10 @@ ghost use Rattle.ug_mps.specs.Drafts.{TakesShape, belongs, is_passed_set, set_af
 ghost use Rattle.ug_mps.specs.Numbered.{AreShortNumbers};
 
 use crate::draft::Draft;
-use crate::draft::rows::Part;
 use crate::error::fault_of;
-use crate::fault::{Kind, MpsError};
 use crate::pairs::numbers_of;
 use std::alloc::AllocError;
+use ug_drafts::{Kind, MpsError, Part};
 use ug_lines::{NamedWords, Section};
 use ug_lists::Text;
 

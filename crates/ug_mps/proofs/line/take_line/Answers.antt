@@ -1,6 +1,6 @@
 use Rattle.std.proofs.Common.{Bor, List, ℕ, map, take, sym, ap, subst}
 use Rattle.ug_lines.specs.Words.{words_of}
-use Rattle.ug_mps.specs.declared.fault.Kind.TheVariants as kinds
+use Rattle.ug_drafts.specs.declared.fault.Kind.TheVariants as kinds
 use Rattle.ug_mps.specs.Faults.{fault_where}
 use Rattle.ug_mps.specs.Taking.{AreWords}
 use Rattle.ug_mps.proofs.LineLemmas.{legible_words, words_taken, line_taken}

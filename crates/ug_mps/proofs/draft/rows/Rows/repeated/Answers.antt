@@ -1,5 +1,5 @@
 use Rattle.std.proofs.Common.{◌==◌, ◌||◌, refl, sym, ap, ◌∙◌}
-use Rattle.ug_mps.specs.RowSteps.{has_part}
+use Rattle.ug_drafts.specs.Kept.{has_part}
 use Rattle.ug_mps.proofs.Looks.{repeated_first, repeated_no_place, repeated_no_pair, repeated_second, repeated_none, second_there}
 use Rattle.ug_mps.proofs.draft.rows.Rows.repeated.Goals as goal
 

@@ -1,0 +1,6 @@
+pub mod BoundsLemmas
+pub mod ScalingLemmas
+pub mod MadeLemmas
+pub mod SideBySide
+pub mod PartsLemmas
+pub mod ScaleLaws

@@ -1,0 +1,26 @@
+//! What the rows and columns that are kept of a problem come to.
+//! It stands on ug_problem, and knows nothing of texts and their lines.
+//! An amount comes to what it sets of a column's bounds; `columns_of` gives the columns of the problem, `parts_of` its rows
+//! and its objective, each row times the least power of ten that makes its numbers whole, or the first fault.
+//! specs/ says what each of them is; memory grows by what is made alone.
+#![tactic(auto)]
+
+mod bound;
+mod column;
+mod fault;
+mod laws;
+mod made;
+mod parts;
+mod role;
+mod row;
+mod scaling;
+
+pub use bound::{
+    Amount, Bound, Change, amount_from, infinity, sets, sets_both, sets_lower, sets_upper,
+};
+pub use column::ColumnDraft;
+pub use fault::{Kind, MpsError, MpsFault};
+pub use laws::least_scale;
+pub use parts::{Parts, columns_of, parts_of};
+pub use role::Role;
+pub use row::{Factor, Part, RowDraft};

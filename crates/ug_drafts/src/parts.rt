@@ -1,0 +1,181 @@
+ghost use Rattle.std.specs.Prelude.{◌≡◌, [], map, All, MatchResult};
+ghost use Rattle.std.specs.List.{zip};
+ghost use Rattle.ug_drafts.specs.FirstFaults.{IsOf, first_fault};
+ghost use Rattle.ug_drafts.specs.Bounds.{IsBox, is_infinite, bound_or};
+ghost use Rattle.ug_drafts.specs.Made.{low_kept, high_kept, column_kind, column_fault_kept, made_column, HasDecimals, row_fault_kept, parts_made, and_row};
+
+use crate::bound::Bound;
+use crate::column::ColumnDraft;
+use crate::fault::{Kind, MpsError, MpsFault};
+use crate::made::make;
+use crate::row::RowDraft;
+use std::alloc::Global;
+use ug_lists::{Items, Text};
+use ug_problem::{Column, NamedRows};
+use ug_rows::{Objective, Terms};
+
+/// The rows and the objective of the problem.
+#[derive(Drop)]
+pub struct Parts {
+    pub rows: NamedRows,
+    pub objective: Objective,
+}
+
+// The lower bound of a column: 0 where none was set.
+fn low_kept(draft: &ColumnDraft) -> Bound
+    ensures { result ≡ low_kept draft.now }
+{
+    draft.low.unwrap_or(Bound::Finite(0))
+}
+
+// The upper bound of a column: plus infinity where none was set.
+fn high_kept(draft: &ColumnDraft) -> Bound
+    ensures { result ≡ high_kept draft.now }
+{
+    draft.high.unwrap_or(Bound::Infinite)
+}
+
+// Whether a bound is infinite.
+fn is_infinite(bound: Bound) -> bool
+    ensures { result ≡ is_infinite bound }
+{
+    match bound {
+        Bound::Infinite => true,
+        Bound::Finite(_) => false,
+    }
+}
+
+// Why a column is none of a problem, if it is not.
+fn column_kind(boxed: Option<u32>, draft: &ColumnDraft) -> Option<Kind>
+    ensures { result ≡ column_kind boxed draft.now }
+{
+    if !draft.integer {
+        return Some(Kind::Continuous);
+    }
+    let infinite = is_infinite(low_kept(draft)) || is_infinite(high_kept(draft));
+    if boxed.is_none() && infinite {
+        return Some(Kind::Unbounded);
+    }
+    None
+}
+
+// A bound, where an infinite one is this.
+fn bound_or(infinite: i32, bound: Bound) -> i32
+    ensures { result ≡ bound_or infinite bound }
+{
+    match bound {
+        Bound::Infinite => infinite,
+        Bound::Finite(bound) => bound,
+    }
+}
+
+// A column of the problem, or its fault.
+fn column_of(boxed: Option<u32>, name: Text, draft: ColumnDraft) -> Result<Column, MpsFault>
+    requires { IsBox boxed }
+    ensures { MatchResult result
+        (λ column. (column_fault_kept boxed (name, draft) ≡ None) × (column ≡ made_column boxed (name, draft)))
+        (λ fault. column_fault_kept boxed (name, draft) ≡ Some fault) }
+{
+    if let Some(kind) = column_kind(boxed, &draft) {
+        return Err(MpsFault {
+            line: draft.line,
+            kind,
+            word: Some(name),
+        });
+    }
+    let infinite = boxed.unwrap_or(0) as i32;
+    Ok(Column {
+        name,
+        low: bound_or(-infinite, low_kept(&draft)),
+        high: bound_or(infinite, high_kept(&draft)),
+    })
+}
+
+/// The columns of the problem, or the fault of the first one that has one.
+pub fn columns_of(
+    alloc: Global,
+    boxed: Option<u32>,
+    names: Vec<Text>,
+    drafts: Vec<ColumnDraft>,
+) -> Result<Vec<Column>, MpsError>
+    requires { IsBox boxed }
+    ensures { let ps = zip names.items drafts.items in MatchResult result
+        (λ columns. (first_fault (column_fault_kept boxed) ps ≡ None) × (columns.items ≡ map (made_column boxed) ps))
+        (IsOf (first_fault (column_fault_kept boxed) ps)) }
+{
+    let mut columns = Vec::with_capacity(alloc, drafts.len())?;
+    for (name, draft) in names.into_iter().zip(drafts) {
+        match column_of(boxed, name, draft) {
+            Ok(column) => columns.push(column)?,
+            Err(fault) => return Err(MpsError::Fault(fault)),
+        }
+    }
+    Ok(columns)
+}
+
+impl Parts {
+    // No rows, and the objective 0.
+    fn new(alloc: Global, maximise: bool) -> Parts
+        ensures { result ≡ parts_made maximise [] }
+    {
+        Parts {
+            rows: Items::new(alloc),
+            objective: Objective {
+                terms: Terms::new(alloc),
+                constant: 0,
+                maximise,
+                scale: 0,
+            },
+        }
+    }
+
+    // Takes the next row, or tells its fault. A row that is ignored is passed over.
+    fn take(
+        &mut self,
+        alloc: Global,
+        maximise: bool,
+        name: Text,
+        draft: RowDraft,
+    ) -> Result<(), MpsError>
+        requires { HasDecimals draft }
+        ensures { MatchResult result
+            (λ _. (row_fault_kept (name, draft) ≡ None) × (self.new ≡ and_row maximise self.old (name, draft)))
+            (IsOf (row_fault_kept (name, draft))) }
+    {
+        if draft.role.is_ignored() {
+            return Ok(());
+        }
+        let Some(made) = make(alloc, &draft)? else {
+            return Err(MpsError::Fault(MpsFault {
+                line: draft.line,
+                kind: Kind::TooWide,
+                word: Some(name),
+            }));
+        };
+        if draft.role.is_objective() {
+            self.objective = made.into_objective(maximise);
+            return Ok(());
+        }
+        self.rows.push(made.into_row(name))?;
+        Ok(())
+    }
+}
+
+/// The rows and the objective of the problem, or the fault of the first row that has one.
+pub fn parts_of(
+    alloc: Global,
+    maximise: bool,
+    names: Vec<Text>,
+    drafts: Vec<RowDraft>,
+) -> Result<Parts, MpsError>
+    requires { All HasDecimals drafts.items }
+    ensures { let ps = zip names.items drafts.items in MatchResult result
+        (λ parts. (first_fault row_fault_kept ps ≡ None) × (parts ≡ parts_made maximise ps))
+        (IsOf (first_fault row_fault_kept ps)) }
+{
+    let mut parts = Parts::new(alloc, maximise);
+    for (name, draft) in names.into_iter().zip(drafts) {
+        parts.take(alloc, maximise, name, draft)?;
+    }
+    Ok(parts)
+}
