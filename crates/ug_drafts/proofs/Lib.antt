@@ -2,5 +2,5 @@ pub mod BoundsLemmas
 pub mod ScalingLemmas
 pub mod MadeLemmas
 pub mod SideBySide
-pub mod PartsLemmas
+pub mod Passes
 pub mod ScaleLaws

@@ -7,7 +7,7 @@ use Rattle.ug_rows.specs.Rows.{term_at, no_term}
 use Rattle.ug_rows.specs.declared.row.Objective as target
 use Rattle.ug_problem.specs.declared.column.NamedRow.{NamedRow}
 use Rattle.ug_drafts.specs.declared.made.Made.{Made}
-use Rattle.ug_drafts.specs.declared.parts.Parts.{Parts}
+use Rattle.ug_drafts.specs.declared.rows_and_objective.RowsAndObjective.{RowsAndObjective}
 use Rattle.ug_drafts.specs.declared.row.RowDraft.{RowDraft}
 use Rattle.ug_drafts.specs.declared.role.Role.{Role}
 use Rattle.ug_drafts.specs.declared.role.Role.TheVariants as roles
@@ -47,13 +47,13 @@ sided roles.AtMost i o = refl
 sided roles.AtLeast i o = refl
 sided roles.Equal i o = refl
 
-parts_same : (rs rs' : List NamedRow) (o : target.Objective) → rs ≡ rs' → (let a : Parts = record { rows = rs; objective = o } in let b : Parts = record { rows = rs'; objective = o } in a ≡ b)
+parts_same : (rs rs' : List NamedRow) (o : target.Objective) → rs ≡ rs' → (let a : RowsAndObjective = record { rows = rs; objective = o } in let b : RowsAndObjective = record { rows = rs'; objective = o } in a ≡ b)
 parts_same rs rs' o e = cc
 
 -- a row of the problem is taken
-pub row_taken : (maximise : Bool) (name : List ℕ) (r : RowDraft) (old : Parts) (m : Made) (rows : List NamedRow)
+pub row_taken : (maximise : Bool) (name : List ℕ) (r : RowDraft) (old : RowsAndObjective) (m : Made) (rows : List NamedRow)
     → is_ignored r.role ≡ false → is_objective r.role ≡ false → Some m ≡ made_if r.role (numbers_kept r) → rows ≡ old.rows ++ row_with name m ∷ []
-    → (row_fault_kept (name, r) ≡ None) × (let new : Parts = record { rows = rows; objective = old.objective } in new ≡ and_row maximise old (name, r))
+    → (row_fault_kept (name, r) ≡ None) × (let new : RowsAndObjective = record { rows = rows; objective = old.objective } in new ≡ and_row maximise old (name, r))
 row_taken maximise name r old m rows i o e is =
     let made = made_from (is_wide r.role (numbers_kept r)) m (made_of r.role (numbers_kept r)) e in (
       rw (i, made.0) refl,

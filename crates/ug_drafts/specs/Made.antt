@@ -14,7 +14,7 @@ use Rattle.ug_drafts.specs.declared.fault.Kind.{Kind}
 use Rattle.ug_drafts.specs.declared.fault.Kind.TheVariants as kinds
 use Rattle.ug_drafts.specs.declared.fault.MpsFault.{MpsFault}
 use Rattle.ug_drafts.specs.declared.made.Made.{Made}
-use Rattle.ug_drafts.specs.declared.parts.Parts.{Parts}
+use Rattle.ug_drafts.specs.declared.rows_and_objective.RowsAndObjective.{RowsAndObjective}
 use Rattle.ug_drafts.specs.declared.role.Role.{Role}
 use Rattle.ug_drafts.specs.declared.row.Factor.{Factor}
 use Rattle.ug_drafts.specs.declared.row.RowDraft.{RowDraft}
@@ -135,11 +135,11 @@ last_objective maximise old [] = old
 last_objective maximise old (p ∷ ps) = last_objective maximise (objective_and maximise old p) ps
 
 -- rows and objective
-abbrev pub parts_made : Bool → List (List ℕ × RowDraft) → Parts
-parts_made maximise ps = record { rows = made_rows ps; objective = last_objective maximise (no_objective maximise) ps }
+abbrev pub rows_and_objective : Bool → List (List ℕ × RowDraft) → RowsAndObjective
+rows_and_objective maximise ps = record { rows = made_rows ps; objective = last_objective maximise (no_objective maximise) ps }
 
 -- these, with a row more
-abbrev pub and_row : Bool → Parts → List ℕ × RowDraft → Parts
+abbrev pub and_row : Bool → RowsAndObjective → List ℕ × RowDraft → RowsAndObjective
 and_row maximise parts p = record {
   rows = if is_made p then parts.rows ++ made_row p ∷ [] else parts.rows;
   objective = objective_and maximise parts.objective p;

@@ -1,6 +1,6 @@
 //! What the rows and columns that are kept of a problem come to.
 //! It stands on ug_problem, and knows nothing of texts and their lines.
-//! An amount comes to what it sets of a column's bounds; `columns_of` gives the columns of the problem, `parts_of` its rows
+//! An amount comes to what it sets of a column's bounds; `make_columns` gives the columns of the problem, `make_rows` its rows
 //! and its objective, each row times the least power of ten that makes its numbers whole, or the first fault.
 //! specs/ says what each of them is; memory grows by what is made alone.
 #![tactic(auto)]
@@ -10,9 +10,10 @@ mod column;
 mod fault;
 mod laws;
 mod made;
-mod parts;
+mod made_columns;
 mod role;
 mod row;
+mod rows_and_objective;
 mod scaling;
 
 pub use bound::{
@@ -21,6 +22,7 @@ pub use bound::{
 pub use column::ColumnDraft;
 pub use fault::{Kind, MpsError, MpsFault};
 pub use laws::least_scale;
-pub use parts::{Parts, columns_of, parts_of};
+pub use made_columns::make_columns;
 pub use role::Role;
 pub use row::{Factor, Part, RowDraft};
+pub use rows_and_objective::{RowsAndObjective, make_rows};

@@ -16,9 +16,9 @@ use Rattle.ug_mps.specs.Faults.{repeated, rows_in, numbers_in, is_begun_again}
 use Rattle.ug_mps.specs.Good.{IsNumbered, are_free, are_apart, column_fits}
 use Rattle.ug_mps.specs.History.{is_row, is_column, goes_on, place_of, coefficients, has, placed, Coefficient}
 use Rattle.ug_mps.specs.Says.{pairs_read}
-use Rattle.ug_mps.specs.Rows.{NamedRows, lists_of, AreRows}
+use Rattle.ug_mps.specs.Rows.{KeptRows, lists_of, AreRows}
 use Rattle.ug_mps.specs.RowSteps.{first_missing, AreAt, FindsRepeated, PutsPairs}
-use Rattle.ug_mps.specs.Columns.{NamedColumns, OpensColumn}
+use Rattle.ug_mps.specs.Columns.{KeptColumns, OpensColumn}
 use Rattle.ug_mps.specs.Drafts.{Drafts, shaped_fault, shaped_says}
 use Rattle.ug_mps.proofs.Bytes.{both, or_false}
 use Rattle.ug_mps.proofs.HistoryLemmas.{below_of}
@@ -84,7 +84,7 @@ module _ (h : List Entry) (d : Draft) (old : Drafts h d) (name : List ℕ) (ws :
         (le-leb (length (coefficients h) + length ps) 1000000 (omega (arith, ltb-false 1000000 (length (coefficients h) + length ws) room.1, read_count ws ps read))))
 
     -- the draft with the column's line
-    pub drafts_and_column : (n : ℕ) (ps : List Pair) (more : ℕ) (begins : Bool) (cols : NamedColumns) (rows : NamedRows) (new : Draft) → pairs_read ws ≡ Some ps → more ≡ length ws → false ≡ (nat_le 10000 at || nat_lt 1000000 (d.count + more))
+    pub drafts_and_column : (n : ℕ) (ps : List Pair) (more : ℕ) (begins : Bool) (cols : KeptColumns) (rows : KeptRows) (new : Draft) → pairs_read ws ≡ Some ps → more ≡ length ws → false ≡ (nat_le 10000 at || nat_lt 1000000 (d.count + more))
         → IsName name → All IsNumbered ps → d.section ≡ Some sections.Columns → begins ≡ not (goes_on h name)
         → OpensColumn n name d.integer begins d.columns cols → PutsPairs (parts.Coefficient at) ps places d.rows rows
         → new ≡ record d { columns = cols; rows = rows; count = d.count + more } → Drafts (shaped_says n (shapes.column name ws) h ++ h) new

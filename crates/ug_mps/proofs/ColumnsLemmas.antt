@@ -12,13 +12,13 @@ use Rattle.ug_mps.specs.Good.{Good}
 use Rattle.ug_mps.specs.History.{ColumnBegun, columns_of, is_column, goes_on, is_integer_on, low_set, high_set, is_made_integer}
 use Rattle.ug_mps.specs.Stated.{is_integer}
 use Rattle.ug_mps.specs.Names.{name_at, StandsAt, AreDistinct}
-use Rattle.ug_mps.specs.Columns.{NamedColumns, column_so_far, new_column, column_at, AreColumns, FindsPlace, OpensColumn}
+use Rattle.ug_mps.specs.Columns.{KeptColumns, column_so_far, new_column, column_at, AreColumns, FindsPlace, OpensColumn}
 use Rattle.ug_mps.proofs.Bytes.{any_true, any_none, bytes_same, bytes_apart, not_first, not_second}
 use Rattle.ug_mps.proofs.HistoryLemmas.{names_of, column_named, last_going, not_last, not_going, lows_known, highs_known, made_known}
 
 -- ---- places
 
-pub place_goes_on : (name : List ℕ) (c : NamedColumns) (at : ℕ) → AreDistinct c.names → StandsAt c.names name at → at + 1 ≡ length c.names → FindsPlace name c (Some (record { at = at; new = false }))
+pub place_goes_on : (name : List ℕ) (c : KeptColumns) (at : ℕ) → AreDistinct c.names → StandsAt c.names name at → at + 1 ≡ length c.names → FindsPlace name c (Some (record { at = at; new = false }))
 place_goes_on name c at apart here e h are =
     let goes : goes_on h name ≡ true = last_going h name at (subst (λ ns. AreDistinct ns) are.names apart) (subst (λ ns. StandsAt ns name at) are.names here) (e ∙ ap length are.names) in (
       not_second (is_column h name) (not (goes_on h name)) (ap not goes),
@@ -26,17 +26,17 @@ place_goes_on name c at apart here e h are =
       sym (ap not goes),
     )
 
-pub place_refused : (name : List ℕ) (c : NamedColumns) (at : ℕ) → AreDistinct c.names → StandsAt c.names name at → (at + 1 ≡ length c.names → ⊥) → FindsPlace name c None
+pub place_refused : (name : List ℕ) (c : KeptColumns) (at : ℕ) → AreDistinct c.names → StandsAt c.names name at → (at + 1 ≡ length c.names → ⊥) → FindsPlace name c None
 place_refused name c at apart here ne h are =
     let here-h : StandsAt (names_of h) name at = subst (λ ns. StandsAt ns name at) are.names here in
     let not-goes : goes_on h name ≡ false = not_last h name at (subst (λ ns. AreDistinct ns) are.names apart) here-h (λ e. ne (e ∙ ap length (sym are.names))) in
     let there : is_column h name ≡ true = column_named h name ∙ any_true (names_of h) name at here-h in
     rw (there, not-goes) refl
 
-pub gone_of : (h : List Entry) (name : List ℕ) (c : NamedColumns) → AreColumns h c → ¬ Contains c.names name → is_column h name ≡ false
+pub gone_of : (h : List Entry) (name : List ℕ) (c : KeptColumns) → AreColumns h c → ¬ Contains c.names name → is_column h name ≡ false
 gone_of h name c are gone = column_named h name ∙ any_none (names_of h) name (subst (λ names. ¬ Contains names name) are.names gone)
 
-pub place_new : (name : List ℕ) (c : NamedColumns) (n : ℕ) → ¬ Contains c.names name → n ≡ length c.names → FindsPlace name c (Some (record { at = n; new = true }))
+pub place_new : (name : List ℕ) (c : KeptColumns) (n : ℕ) → ¬ Contains c.names name → n ≡ length c.names → FindsPlace name c (Some (record { at = n; new = true }))
 place_new name c n gone e h are =
     let no-column : is_column h name ≡ false = gone_of h name c are gone in
     let goes : goes_on h name ≡ false = not_going h name no-column in (
@@ -56,7 +56,7 @@ pub draft_same : (n : ℕ) (i i' : Bool) (l l' u u' : Option Bound) → i ≡ i'
 draft_same n i i' l l' u u' p q r = cc
 
 -- an entry of no column and no bound keeps the columns as they are
-pub columns_kept : (e : Entry) (h : List Entry) (c : NamedColumns) → columns_of (e ∷ h) ≡ columns_of h → ((d : ColumnBegun) → column_so_far (e ∷ h) d ≡ column_so_far h d)
+pub columns_kept : (e : Entry) (h : List Entry) (c : KeptColumns) → columns_of (e ∷ h) ≡ columns_of h → ((d : ColumnBegun) → column_so_far (e ∷ h) d ≡ column_so_far h d)
     → AreColumns h c → AreColumns (e ∷ h) c
 columns_kept e h c same so old = record {
   names = old.names ∙ ap (map (λ (c : ColumnBegun). c.name)) (sym same);
@@ -64,7 +64,7 @@ columns_kept e h c same so old = record {
 }
 
 -- a line of a column that goes on
-pub columns_going : (line : ℕ) (name : List ℕ) (pairs : List Pair) (h : List Entry) (c : NamedColumns) → goes_on h name ≡ true → AreColumns h c → AreColumns (column line name pairs ∷ h) c
+pub columns_going : (line : ℕ) (name : List ℕ) (pairs : List Pair) (h : List Entry) (c : KeptColumns) → goes_on h name ≡ true → AreColumns h c → AreColumns (column line name pairs ∷ h) c
 columns_going line name pairs h c t old = columns_kept (column line name pairs) h c (rw t refl) (λ d. refl) old
 
 or_false_right : (b : Bool) → (b || false) ≡ b
@@ -72,7 +72,7 @@ or_false_right true = refl
 or_false_right false = refl
 
 -- a column that begins
-pub columns_new : (line : ℕ) (name : List ℕ) (pairs : List Pair) (h : List Entry) (c : NamedColumns) (integer : Bool) → Good h → goes_on h name ≡ false → is_column h name ≡ false → integer ≡ is_integer_on h
+pub columns_new : (line : ℕ) (name : List ℕ) (pairs : List Pair) (h : List Entry) (c : KeptColumns) (integer : Bool) → Good h → goes_on h name ≡ false → is_column h name ≡ false → integer ≡ is_integer_on h
     → AreColumns h c → AreColumns (column line name pairs ∷ h) (record { names = c.names ++ name ∷ []; drafts = c.drafts ++ new_column line integer ∷ [] })
 columns_new line name pairs h c integer g f gone i old =
     let e : Entry = column line name pairs in
@@ -115,7 +115,7 @@ or_turn false true false = refl
 or_turn false false c = sym (or_false_right c)
 
 -- a column's bounds are changed
-pub columns_and_change : (set' : Option (List ℕ)) (name : List ℕ) (change : Change) (h : List Entry) (c : NamedColumns) (at : ℕ) → AreColumns h c → AreDistinct c.names → StandsAt c.names name at
+pub columns_and_change : (set' : Option (List ℕ)) (name : List ℕ) (change : Change) (h : List Entry) (c : KeptColumns) (at : ℕ) → AreColumns h c → AreDistinct c.names → StandsAt c.names name at
     → AreColumns (bound set' name change ∷ h) (record { names = c.names; drafts = set c.drafts at (with_change change (column_at c.drafts at)) })
 columns_and_change set' name change h c at are apart here =
     let e : Entry = bound set' name change in
@@ -139,10 +139,10 @@ not_true' : (b : Bool) → false ≡ not b → b ≡ true
 not_true' true e = refl
 not_true' false e = absurd (false≢true e)
 
-pub open_going : (line : ℕ) (name : List ℕ) (integer new : Bool) (c : NamedColumns) → new ≡ false → OpensColumn line name integer new c c
+pub open_going : (line : ℕ) (name : List ℕ) (integer new : Bool) (c : KeptColumns) → new ≡ false → OpensColumn line name integer new c c
 open_going line name integer new c f h pairs g are again n i = columns_going line name pairs h c (not_true' (goes_on h name) (sym f ∙ n)) are
 
-pub open_new : (line : ℕ) (name : List ℕ) (integer new : Bool) (c after : NamedColumns) → new ≡ true → ¬ Contains c.names name
+pub open_new : (line : ℕ) (name : List ℕ) (integer new : Bool) (c after : KeptColumns) → new ≡ true → ¬ Contains c.names name
     → after ≡ record { names = c.names ++ name ∷ []; drafts = c.drafts ++ new_column line integer ∷ [] } → OpensColumn line name integer new c after
 open_new line name integer new c after t gone is h pairs g are again n i =
     subst (λ cs. AreColumns (column line name pairs ∷ h) cs) (sym is)

@@ -18,7 +18,7 @@ use Rattle.ug_mps.specs.declared.draft.Draft.{Draft}
 use Rattle.ug_mps.specs.Entries.{Entry, row}
 use Rattle.ug_mps.specs.Faults.{Complaint}
 use Rattle.ug_mps.specs.History.{rank, is_section, RowNamed, rows_of, is_row, have_objective, role_with, role_after}
-use Rattle.ug_mps.specs.Rows.{NamedRows, lists_of, AreRows}
+use Rattle.ug_mps.specs.Rows.{KeptRows, lists_of, AreRows}
 use Rattle.ug_mps.specs.RowSteps.{new_row, is_among}
 use Rattle.ug_mps.specs.Drafts.{Drafts, IsFaultOf, shaped_fault, shaped_says, is_in}
 use Rattle.ug_mps.proofs.Bytes.{named_any, any_append, both}
@@ -58,10 +58,10 @@ fault_same n f g e same is = subst (λ c. IsFaultOf n c e) same is
 
 -- ---- rows
 
-pub row_named : (h : List Entry) (rows : NamedRows) (name : List ℕ) → AreRows (lists_of h) rows → is_row h name ≡ is_among rows.names name
+pub row_named : (h : List Entry) (rows : KeptRows) (name : List ℕ) → AreRows (lists_of h) rows → is_row h name ≡ is_among rows.names name
 row_named h rows name are = sym (named_any (rows_of h) name) ∙ ap (λ ns. list_any (λ n. bytes_eq name n) ns) (sym are.names)
 
-pub rows_count : (h : List Entry) (rows : NamedRows) → AreRows (lists_of h) rows → length rows.names ≡ length (rows_of h)
+pub rows_count : (h : List Entry) (rows : KeptRows) → AreRows (lists_of h) rows → length rows.names ≡ length (rows_of h)
 rows_count h rows are = ap length are.names ∙ length-map (rows_of h) (λ (r : RowNamed). r.name)
 
 module _ (h : List Entry) (type name : List ℕ) (kind : RowKind) (e : row_kind_of type ≡ Some kind) where

@@ -7,14 +7,14 @@ use Rattle.ug_problem.specs.declared.column.Column.{Column}
 use Rattle.ug_problem.specs.declared.column.NamedRow.{NamedRow}
 use Rattle.ug_problem.specs.Instances.{Instance, instance_of}
 use Rattle.ug_drafts.specs.declared.column.ColumnDraft.{ColumnDraft}
-use Rattle.ug_drafts.specs.declared.parts.Parts.{Parts}
+use Rattle.ug_drafts.specs.declared.rows_and_objective.RowsAndObjective.{RowsAndObjective}
 use Rattle.ug_drafts.specs.declared.row.RowDraft.{RowDraft}
 use Rattle.ug_drafts.specs.declared.fault.MpsError.{MpsError}
 use Rattle.ug_drafts.specs.declared.fault.MpsError.TheVariants.{Memory, Fault}
 use Rattle.ug_drafts.specs.declared.fault.MpsFault.{MpsFault}
 use Rattle.ug_drafts.specs.FirstFaults.{IsOf, or_else, first_fault}
 use Rattle.ug_drafts.specs.Bounds.{IsBox}
-use Rattle.ug_drafts.specs.Made.{column_fault_kept, made_column, HasDecimals, row_fault_kept, parts_made}
+use Rattle.ug_drafts.specs.Made.{column_fault_kept, made_column, HasDecimals, row_fault_kept, rows_and_objective}
 use Rattle.ug_mps.specs.declared.draft.Draft.{Draft}
 use Rattle.ug_mps.specs.Drafts.{Drafts}
 use Rattle.ug_mps.specs.Entries.{Entry}
@@ -83,14 +83,14 @@ module _ (boxed : Option ℕ) (h : List Entry) (d : Draft) (drafts : Drafts h d)
       passed_on boxed h r e same (of_rows (first_fault (column_fault boxed h) (columns_of h)) (first_fault (row_fault h) (rows_of h)) e c.none (subst (λ f. IsOf f e) same_row_fault is))
 
   pub rows_good : IsBox boxed → (columns : List Column) → AreColumnsStated boxed h columns
-      → (parts : Parts) → (first_fault row_fault_kept (zip names kept) ≡ None) × (parts ≡ parts_made d.maximise (zip names kept)) → AreStated boxed h (instance_of columns parts.rows parts.objective)
+      → (parts : RowsAndObjective) → (first_fault row_fault_kept (zip names kept) ≡ None) × (parts ≡ rows_and_objective d.maximise (zip names kept)) → AreStated boxed h (instance_of columns parts.rows parts.objective)
   rows_good b columns c parts good = record {
     good = drafts.good;
     box = b;
     none = rw (c.none, ← same_row_fault) good.0;
     parts = instance_same columns _ parts.rows _ parts.objective _ c.made
-        (ap (λ (p : Parts). p.rows) good.1 ∙ rw (are_names, are_kept) (rows_stated h d.rows drafts.rows))
-        (ap (λ (p : Parts). p.objective) good.1 ∙ rw (are_names, are_kept) (objective_stated d.maximise h d.rows drafts.maximise drafts.rows));
+        (ap (λ (p : RowsAndObjective). p.rows) good.1 ∙ rw (are_names, are_kept) (rows_stated h d.rows drafts.rows))
+        (ap (λ (p : RowsAndObjective). p.objective) good.1 ∙ rw (are_names, are_kept) (objective_stated d.maximise h d.rows drafts.maximise drafts.rows));
   }
 
 pub stated_end : (boxed : Option ℕ) (h : List Entry) (parts : Instance) (r : Result Instance MpsError) → AreStated boxed h parts → MatchResult r (λ p. p ≡ parts) (λ e. e ≡ Memory) → Ends boxed h r

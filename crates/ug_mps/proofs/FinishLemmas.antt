@@ -20,8 +20,8 @@ use Rattle.ug_mps.specs.Good.{Good}
 use Rattle.ug_mps.specs.History.{RowNamed, ColumnBegun, rows_of, columns_of, have_objective, role_with, role_after, is_maximised}
 use Rattle.ug_mps.specs.Reads.{column_fault, row_fault}
 use Rattle.ug_mps.specs.Stated.{numbers_of, stated_row, stated_rows, stated_column, objective_in}
-use Rattle.ug_mps.specs.Rows.{NamedRows, lists_of, row_so_far, AreRows}
-use Rattle.ug_mps.specs.Columns.{NamedColumns, column_so_far, AreColumns}
+use Rattle.ug_mps.specs.Rows.{KeptRows, lists_of, row_so_far, AreRows}
+use Rattle.ug_mps.specs.Columns.{KeptColumns, column_so_far, AreColumns}
 use Rattle.ug_mps.proofs.Bytes.{or_false, false_from, any_append}
 use Rattle.ug_mps.proofs.GoodLemmas.{decimals_of}
 
@@ -44,10 +44,10 @@ zip_columns : (boxed : Option ℕ) (h : List Entry) (cs : List ColumnBegun) → 
 zip_columns boxed h [] = refl
 zip_columns boxed h (c ∷ cs) = ap (λ cs. stated_column boxed h c ∷ cs) (zip_columns boxed h cs)
 
-pub columns_fault : (boxed : Option ℕ) (h : List Entry) (c : NamedColumns) → AreColumns h c → first_fault (column_fault_kept boxed) (zip c.names c.drafts) ≡ first_fault (column_fault boxed h) (columns_of h)
+pub columns_fault : (boxed : Option ℕ) (h : List Entry) (c : KeptColumns) → AreColumns h c → first_fault (column_fault_kept boxed) (zip c.names c.drafts) ≡ first_fault (column_fault boxed h) (columns_of h)
 columns_fault boxed h c are = rw (are.names, are.drafts) (zip_columns_fault boxed h (columns_of h))
 
-pub columns_stated : (boxed : Option ℕ) (h : List Entry) (c : NamedColumns) → AreColumns h c → map (made_column boxed) (zip c.names c.drafts) ≡ map (stated_column boxed h) (columns_of h)
+pub columns_stated : (boxed : Option ℕ) (h : List Entry) (c : KeptColumns) → AreColumns h c → map (made_column boxed) (zip c.names c.drafts) ≡ map (stated_column boxed h) (columns_of h)
 columns_stated boxed h c are = rw (are.names, are.drafts) (zip_columns boxed h (columns_of h))
 
 -- ---- rows
@@ -67,14 +67,14 @@ zip_rows h (r ∷ rows) = ⊎_elim
     (λ f. rw f (zip_rows h rows))
     (cases_Bool (is_sided r.role))
 
-pub rows_fault : (h : List Entry) (rows : NamedRows) → AreRows (lists_of h) rows → first_fault row_fault_kept (zip rows.names rows.drafts) ≡ first_fault (row_fault h) (rows_of h)
+pub rows_fault : (h : List Entry) (rows : KeptRows) → AreRows (lists_of h) rows → first_fault row_fault_kept (zip rows.names rows.drafts) ≡ first_fault (row_fault h) (rows_of h)
 rows_fault h rows are = rw (are.names, are.drafts) (zip_rows_fault h (rows_of h))
 
-pub rows_stated : (h : List Entry) (rows : NamedRows) → AreRows (lists_of h) rows → made_rows (zip rows.names rows.drafts) ≡ stated_rows h
+pub rows_stated : (h : List Entry) (rows : KeptRows) → AreRows (lists_of h) rows → made_rows (zip rows.names rows.drafts) ≡ stated_rows h
 rows_stated h rows are = rw (are.names, are.drafts) (zip_rows h (rows_of h))
 
 -- the numbers kept are decimals
-pub drafts_decimal : (h : List Entry) (rows : NamedRows) → Good h → AreRows (lists_of h) rows → All HasDecimals rows.drafts
+pub drafts_decimal : (h : List Entry) (rows : KeptRows) → Good h → AreRows (lists_of h) rows → All HasDecimals rows.drafts
 drafts_decimal h rows g are =
     subst (λ (ds : List RowDraft). All HasDecimals ds) (sym are.drafts)
     (All-map HasDecimals (row_so_far (lists_of h)) (rows_of h) (λ k d a. decimals_of h g (get_or (rows_of h) k d)))
@@ -122,5 +122,5 @@ zip_objective h (r ∷ rows) one = ⊎_elim
     (λ f. rw f (zip_objective h rows one.1))
     (cases_Bool (is_objective r.role))
 
-pub objective_stated : (m : Bool) (h : List Entry) (rows : NamedRows) → m ≡ is_maximised h → AreRows (lists_of h) rows → last_objective m (no_objective m) (zip rows.names rows.drafts) ≡ objective_in h (rows_of h)
+pub objective_stated : (m : Bool) (h : List Entry) (rows : KeptRows) → m ≡ is_maximised h → AreRows (lists_of h) rows → last_objective m (no_objective m) (zip rows.names rows.drafts) ≡ objective_in h (rows_of h)
 objective_stated m h rows e are = rw (e, are.names, are.drafts) (zip_objective h (rows_of h) (one_objective h))

@@ -11,7 +11,7 @@ use Rattle.ug_mps.specs.Entries.{Pair}
 use Rattle.ug_mps.specs.Faults.{repeated, rows_in}
 use Rattle.ug_mps.specs.Names.{name_at, StandsAt, AreDistinct}
 use Rattle.ug_mps.specs.Numbered.{pair_said, second_said}
-use Rattle.ug_mps.specs.Rows.{NamedRows, Lists, AreRows, AreBelow, is_taken}
+use Rattle.ug_mps.specs.Rows.{KeptRows, Lists, AreRows, AreBelow, is_taken}
 use Rattle.ug_mps.specs.RowSteps.{row_at, second_place, AreAt, first_missing, FindsRepeated, PutsPairs, rows_named}
 use Rattle.ug_mps.proofs.Bytes.{any_true, any_none, bytes_same, bytes_apart}
 use Rattle.ug_mps.proofs.RowsLemmas.{has_there, puts_one, puts_two}
@@ -45,7 +45,7 @@ places_same names r q i j apart here there = ⊎_elim
     (λ ne. bytes_apart q r (λ e. ne (apart j i there.there here.there (there.same ∙ e ∙ sym here.same))) ∙ sym (no_eq j i ne))
     (cases_eq j i)
 
-module _ (part : Part) (rows : NamedRows) (r : List ℕ) (i : ℕ) (apart : AreDistinct rows.names) where
+module _ (part : Part) (rows : KeptRows) (r : List ℕ) (i : ℕ) (apart : AreDistinct rows.names) where
   pub repeated_first : (o : Option NamedWord) (p : Option ℕ) (w : Bor (List ℕ)) → w.now ≡ r → has_part part (row_at rows.drafts i) ≡ true
       → FindsRepeated part (r ∷ rows_in (second_shaped o)) (i ∷ second_place p) rows (Some w)
   repeated_first o p w e t l are below stand =
@@ -103,7 +103,7 @@ pub put_there : (names : List (List ℕ)) (o : Option NamedNumber) (p : Option �
 put_there names o p j w e n stand =
     (let at : AreAt names (w.row.now ∷ []) (j ∷ []) = subst (λ q. AreAt names (w.row.now ∷ []) (second_place q)) e (subst (λ q. AreAt names (rows_named (second_said q)) (second_place p)) n stand) in at).0.there
 
-module _ (part : Part) (old mid : NamedRows) (p : Pair) (i : ℕ) (apart : AreDistinct old.names)
+module _ (part : Part) (old mid : KeptRows) (p : Pair) (i : ℕ) (apart : AreDistinct old.names)
     (is : mid ≡ record { names = old.names; drafts = set old.drafts i (with_part part p.number (row_at old.drafts i)) }) where
   pub put_no_place : (o : Option NamedNumber) (q : Option ℕ) → q ≡ None → PutsPairs part (p ∷ second_said o) (i ∷ second_place q) old mid
   put_no_place None q e l are stand none = puts_one part p i old mid apart is l are (stand.0, tt) none
@@ -114,7 +114,7 @@ module _ (part : Part) (old mid : NamedRows) (p : Pair) (i : ℕ) (apart : AreDi
   put_no_pair o q j e n l are stand none =
       let bad : AreAt old.names [] (j ∷ []) = subst (λ q. AreAt old.names [] (second_place q)) e (subst (λ o. AreAt old.names (rows_named (second_said o)) (second_place q)) n stand.1) in absurd bad
 
-  pub put_second : (o : Option NamedNumber) (q : Option ℕ) (j : ℕ) (w : NamedNumber) (new : NamedRows) → q ≡ Some j → o ≡ Some w
+  pub put_second : (o : Option NamedNumber) (q : Option ℕ) (j : ℕ) (w : NamedNumber) (new : KeptRows) → q ≡ Some j → o ≡ Some w
       → new ≡ record { names = mid.names; drafts = set mid.drafts j (with_part part w.number (row_at mid.drafts j)) } → PutsPairs part (p ∷ second_said o) (i ∷ second_place q) old new
   put_second o q j w new e n is' =
       subst (λ o. PutsPairs part (p ∷ second_said o) (i ∷ second_place q) old new) (sym n)

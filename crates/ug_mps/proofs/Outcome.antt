@@ -30,22 +30,22 @@ abbrev pub after_line : List ℕ → ℕ → List Entry → Option (List Entry)
 after_line text k h = after h (length (lines_before text k) + 1) (line_at text k)
 
 -- what the lines before the latest say
-pub record Parts (before : List Line) (line : Line) (h : List Entry) : Type 0 where
+pub record RowsAndObjective (before : List Line) (line : Line) (h : List Entry) : Type 0 where
   pub earlier : List Entry
   pub said : history before ≡ Some earlier
   pub after_ : after earlier (length before + 1) line ≡ Some h
 
 parts_of_history : (before : List Line) (line : Line) (h : List Entry) (o : Option (List Entry)) → history before ≡ o
-    → option_and_then (λ h. after h (length before + 1) line) o ≡ Some h → Parts before line h
+    → option_and_then (λ h. after h (length before + 1) line) o ≡ Some h → RowsAndObjective before line h
 parts_of_history before line h None p r = cc
 parts_of_history before line h (Some earlier) p r = record { earlier = earlier; said = p; after_ = r }
 
-pub parts_of : (before : List Line) (line : Line) (h : List Entry) → history (line ∷ before) ≡ Some h → Parts before line h
-parts_of before line h r = parts_of_history before line h (history before) refl r
+pub make_rows : (before : List Line) (line : Line) (h : List Entry) → history (line ∷ before) ≡ Some h → RowsAndObjective before line h
+make_rows before line h r = parts_of_history before line h (history before) refl r
 
 -- the parts of what k + 1 lines say
-pub says_parts : (text : List ℕ) (k : ℕ) (h : List Entry) → Says text (k + 1) h → Parts (lines_before text k) (line_at text k) h
-says_parts text k h s = parts_of _ _ h (subst (λ b. history b ≡ Some h) (lines_before_more text k (omega (arith, s.there))) s.said)
+pub says_parts : (text : List ℕ) (k : ℕ) (h : List Entry) → Says text (k + 1) h → RowsAndObjective (lines_before text k) (line_at text k) h
+says_parts text k h s = make_rows _ _ h (subst (λ b. history b ≡ Some h) (lines_before_more text k (omega (arith, s.there))) s.said)
 
 -- a line more says more
 pub says_more : (text : List ℕ) (k : ℕ) (h h' : List Entry) → k < length (lines_of text) → Says text k h → after_line text k h ≡ Some h' → Says text (k + 1) h'

@@ -15,7 +15,7 @@ use Rattle.ug_mps.specs.Good.{are_apart, are_free}
 use Rattle.ug_mps.specs.History.{is_row, names_row}
 use Rattle.ug_mps.specs.Numbered.{AreShortNumbers}
 use Rattle.ug_mps.specs.Says.{pair_read, pairs_read}
-use Rattle.ug_mps.specs.Rows.{NamedRows, lists_of, AreRows}
+use Rattle.ug_mps.specs.Rows.{KeptRows, lists_of, AreRows}
 use Rattle.ug_mps.specs.RowSteps.{is_among, first_missing, rows_named}
 use Rattle.ug_mps.proofs.Bytes.{or_false, both, bytes_turn}
 use Rattle.ug_mps.proofs.DraftLemmas.{row_named}
@@ -26,7 +26,7 @@ find_same p q [] h = refl
 find_same p q (x ∷ xs) h = rw (h x, find_same p q xs h) refl
 
 -- the first row that is not there
-pub missing_is : (h : List Entry) (rows : NamedRows) (words : List (List ℕ)) → AreRows (lists_of h) rows → find (λ word. not (is_row h word)) words ≡ first_missing rows.names words
+pub missing_is : (h : List Entry) (rows : KeptRows) (words : List (List ℕ)) → AreRows (lists_of h) rows → find (λ word. not (is_row h word)) words ≡ first_missing rows.names words
 missing_is h rows words are = find_same (λ word. not (is_row h word)) (λ word. not (is_among rows.names word)) words (λ x. ap not (row_named h rows x are))
 
 -- where none is missing, each is there

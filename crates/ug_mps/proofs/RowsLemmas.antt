@@ -19,7 +19,7 @@ use Rattle.ug_mps.specs.Faults.{repeated}
 use Rattle.ug_mps.specs.History.{RowNamed, Coefficient, has, names_row, placed}
 use Rattle.ug_mps.specs.Stated.{is_term, terms_of, factor_of, number_given}
 use Rattle.ug_mps.specs.Names.{name_at, StandsAt, AreDistinct}
-use Rattle.ug_mps.specs.Rows.{NamedRows, Lists, or_place, last_place, is_named, row_so_far, AreRows, IsBefore, AreOrdered, AreWithin, AreBelow, is_taken, and_pairs}
+use Rattle.ug_mps.specs.Rows.{KeptRows, Lists, or_place, last_place, is_named, row_so_far, AreRows, IsBefore, AreOrdered, AreWithin, AreBelow, is_taken, and_pairs}
 use Rattle.ug_mps.specs.RowSteps.{new_row, row_at, PutsPairs}
 use Rattle.ug_mps.proofs.Bytes.{both, any_none, named_any, same_bytes, bytes_same, bytes_apart, apart_bytes, or_false, not_first, any_append}
 
@@ -138,7 +138,7 @@ same_named (parts.Coefficient j) pairs l = refl
 same_named Side pairs l = refl
 same_named Range pairs l = refl
 
-module _ (l : Lists) (rows : NamedRows) (old : AreRows l rows) (at : ℕ) (name : List ℕ) (apart : AreDistinct rows.names) (here : StandsAt rows.names name at) where
+module _ (l : Lists) (rows : KeptRows) (old : AreRows l rows) (at : ℕ) (name : List ℕ) (apart : AreDistinct rows.names) (here : StandsAt rows.names name at) where
   apart_named : AreDistinct (map (λ (r : RowNamed). r.name) l.named)
   apart_named = subst (λ names. AreDistinct names) old.names apart
 
@@ -167,7 +167,7 @@ module _ (l : Lists) (rows : NamedRows) (old : AreRows l rows) (at : ℕ) (name 
   range_there = (row_there (λ x. number_given l.ranges name ≡ (row_at rows.drafts at).range) (λ x e f. ap (number_given l.ranges) (sym e) ∙ ap (λ (d : RowDraft). d.range) f)).1
 
 -- the rows with one pair more
-pub rows_and_pair : (part : Part) (l : Lists) (rows : NamedRows) (p : Pair) (at : ℕ) → AreRows l rows → AreDistinct rows.names → StandsAt rows.names p.row at → is_taken part l p.row ≡ false
+pub rows_and_pair : (part : Part) (l : Lists) (rows : KeptRows) (p : Pair) (at : ℕ) → AreRows l rows → AreDistinct rows.names → StandsAt rows.names p.row at → is_taken part l p.row ≡ false
     → AreRows (and_pairs part (p ∷ []) l) (record { names = rows.names; drafts = set rows.drafts at (with_part part p.number (row_at rows.drafts at)) })
 rows_and_pair part l rows p at old apart here free =
     let apart-n = apart_named l rows old at p.row apart here in
@@ -182,7 +182,7 @@ rows_and_pair part l rows p at old apart here free =
           ∙ ap (map (row_so_far (and_pairs part (p ∷ []) l))) (sym (same_named part (p ∷ []) l));
     }
 
-pub named_false : (l : Lists) (rows : NamedRows) (name : List ℕ) → AreRows l rows → ¬ Contains rows.names name → is_named l.named name ≡ false
+pub named_false : (l : Lists) (rows : KeptRows) (name : List ℕ) → AreRows l rows → ¬ Contains rows.names name → is_named l.named name ≡ false
 named_false l rows name old gone = sym (named_any l.named name) ∙ any_none (map (λ (r : RowNamed). r.name) l.named) name (subst (λ names. ¬ Contains names name) old.names gone)
 
 between_by : (o : Option ℕ) (b : Bool) (place i j k : ℕ) → (o ≡ Some k → (i ≤ k) × (k ≤ j)) → i ≤ place → place ≤ j → or_place o (cond b (Some place) None) ≡ Some k → (i ≤ k) × (k ≤ j)
@@ -258,7 +258,7 @@ given_named : (pairs : List Pair) (name : List ℕ) → is_given (number_given p
 given_named [] name = refl
 given_named (p ∷ pairs) name = ⊎_elim (λ t. rw t refl) (λ f. rw f (given_named pairs name)) (cases_Bool (bytes_eq name p.row))
 
-pub has_there : (part : Part) (l : Lists) (rows : NamedRows) (at : ℕ) (name : List ℕ) → AreRows l rows → AreDistinct rows.names → StandsAt rows.names name at → AreBelow part l
+pub has_there : (part : Part) (l : Lists) (rows : KeptRows) (at : ℕ) (name : List ℕ) → AreRows l rows → AreDistinct rows.names → StandsAt rows.names name at → AreBelow part l
     → has_part part (row_at rows.drafts at) ≡ is_taken part l name
 has_there (parts.Coefficient j) l rows at name old apart here below =
     ap (λ p. is_place p j) (sym (last_there l rows old at name apart here)) ∙ sym (has_last l.coefficients j name below.0 below.1)
@@ -290,18 +290,18 @@ not_repeated_one taken r rs e = ⊎_elim
     (cases_Bool (taken r))
 
 -- the rows with one pair or two
-pub puts_one : (part : Part) (p : Pair) (at : ℕ) (old new : NamedRows) → AreDistinct old.names
+pub puts_one : (part : Part) (p : Pair) (at : ℕ) (old new : KeptRows) → AreDistinct old.names
     → new ≡ record { names = old.names; drafts = set old.drafts at (with_part part p.number (row_at old.drafts at)) } → PutsPairs part (p ∷ []) (at ∷ []) old new
 puts_one part p at old new apart is l are stand none =
     subst (λ rows. AreRows (and_pairs part (p ∷ []) l) rows) (sym is) (rows_and_pair part l old p at are apart stand.0 (not_repeated_one (is_taken part l) p.row [] none).0)
 
-pub puts_two : (part : Part) (p q : Pair) (i j : ℕ) (old mid new : NamedRows) → AreDistinct old.names
+pub puts_two : (part : Part) (p q : Pair) (i j : ℕ) (old mid new : KeptRows) → AreDistinct old.names
     → mid ≡ record { names = old.names; drafts = set old.drafts i (with_part part p.number (row_at old.drafts i)) }
     → new ≡ record { names = mid.names; drafts = set mid.drafts j (with_part part q.number (row_at mid.drafts j)) } → PutsPairs part (p ∷ q ∷ []) (i ∷ j ∷ []) old new
 puts_two part p q i j old mid new apart is is' l are stand none =
     let n1 = not_repeated_one (is_taken part l) p.row (q.row ∷ []) none in
     let n2 = not_repeated_one (λ word. is_taken part l word || bytes_eq word p.row) q.row [] n1.1 in
-    let names : mid.names ≡ old.names = ap (λ (r : NamedRows). r.names) is in
+    let names : mid.names ≡ old.names = ap (λ (r : KeptRows). r.names) is in
     let first : AreRows (and_pairs part (p ∷ []) l) mid = subst (λ rows. AreRows (and_pairs part (p ∷ []) l) rows) (sym is) (rows_and_pair part l old p i are apart stand.0 n1.0) in
     let second : AreRows (and_pairs part (q ∷ []) (and_pairs part (p ∷ []) l)) new =
     subst (λ rows. AreRows (and_pairs part (q ∷ []) (and_pairs part (p ∷ []) l)) rows) (sym is')
@@ -310,7 +310,7 @@ puts_two part p q i j old mid new apart is is' l are stand none =
     subst (λ m. AreRows m new) (two_pairs part l p q) second
 
 -- a row more, which no coefficient, no side and no range names
-pub rows_and_row : (l : Lists) (rows : NamedRows) (r : RowNamed) → AreRows l rows
+pub rows_and_row : (l : Lists) (rows : KeptRows) (r : RowNamed) → AreRows l rows
     → list_any (λ (c : Coefficient). bytes_eq r.name c.row) l.coefficients ≡ false → names_row l.sides r.name ≡ false → names_row l.ranges r.name ≡ false
     → AreRows (record { named = l.named ++ r ∷ []; coefficients = l.coefficients; sides = l.sides; ranges = l.ranges })
     (record { names = rows.names ++ r.name ∷ []; drafts = rows.drafts ++ new_row r.line r.role ∷ [] })

@@ -25,9 +25,9 @@ use Rattle.ug_mps.specs.Good.{IsNumbered, are_free, are_apart, given_fits}
 use Rattle.ug_mps.specs.History.{section_of, is_row, is_column, sides_given, ranges_given, names_row, set_of}
 use Rattle.ug_mps.specs.Says.{pairs_read}
 use Rattle.ug_mps.specs.Names.{StandsAt, AreDistinct}
-use Rattle.ug_mps.specs.Rows.{NamedRows, Lists, lists_of, AreRows, is_taken, and_pairs, AreBelow}
+use Rattle.ug_mps.specs.Rows.{KeptRows, Lists, lists_of, AreRows, is_taken, and_pairs, AreBelow}
 use Rattle.ug_mps.specs.RowSteps.{is_among, first_missing, rows_named, AreAt, FindsRepeated, PutsPairs}
-use Rattle.ug_mps.specs.Columns.{NamedColumns, column_at, AreColumns}
+use Rattle.ug_mps.specs.Columns.{KeptColumns, column_at, AreColumns}
 use Rattle.ug_mps.specs.Drafts.{Drafts, shaped_fault, shaped_says, is_in, is_passed_set, set_after, first_set, part_in, IsAmountOf, IsFaultOf}
 use Rattle.ug_mps.proofs.Bytes.{both, any_true, same_bytes, not_false}
 use Rattle.ug_mps.proofs.ColumnsLemmas.{columns_kept, columns_and_change, gone_of}
@@ -82,7 +82,7 @@ set_of_bound h None name change = refl
 set_of_bound h (Some s) name change = refl
 
 -- the draft with right-hand sides more
-rhs_drafts : (h : List Entry) (d new : Draft) (named : Option (List ℕ)) (ps : List Pair) (rows : NamedRows) → Drafts h d → All IsNumbered ps → d.section ≡ Some sections.Rhs → is_passed_set named d.set ≡ false
+rhs_drafts : (h : List Entry) (d new : Draft) (named : Option (List ℕ)) (ps : List Pair) (rows : KeptRows) → Drafts h d → All IsNumbered ps → d.section ≡ Some sections.Rhs → is_passed_set named d.set ≡ false
     → given_fits h (sides_given h) ps ≡ true → AreRows (and_pairs parts.Side ps (lists_of h)) rows → new ≡ record d { set = set_after named d.set; rows = rows } → Drafts (sides named ps ∷ h) new
 rhs_drafts h d new named ps rows old numbers s used fit taken is = subst (λ x. Drafts (sides named ps ∷ h) x) (sym is) (record {
   good = (record { fits = fit; entry = numbers }, old.good);
@@ -99,7 +99,7 @@ rhs_drafts h d new named ps rows old numbers s used fit taken is = subst (λ x. 
 })
 
 -- the draft with ranges more
-ranges_drafts : (h : List Entry) (d new : Draft) (named : Option (List ℕ)) (ps : List Pair) (rows : NamedRows) → Drafts h d → All IsNumbered ps → d.section ≡ Some sections.Ranges → is_passed_set named d.set ≡ false
+ranges_drafts : (h : List Entry) (d new : Draft) (named : Option (List ℕ)) (ps : List Pair) (rows : KeptRows) → Drafts h d → All IsNumbered ps → d.section ≡ Some sections.Ranges → is_passed_set named d.set ≡ false
     → given_fits h (ranges_given h) ps ≡ true → AreRows (and_pairs parts.Range ps (lists_of h)) rows → new ≡ record d { set = set_after named d.set; rows = rows } → Drafts (ranges named ps ∷ h) new
 ranges_drafts h d new named ps rows old numbers s used fit taken is = subst (λ x. Drafts (ranges named ps ∷ h) x) (sym is) (record {
   good = (record { fits = fit; entry = numbers }, old.good);
@@ -160,7 +160,7 @@ module _ (h : List Entry) (d : Draft) (old : Drafts h d) (named : Option (List �
           both (are_free h (λ r. names_row (given_in h (section_of h)) r) ps) (are_apart ps) fit.0 fit.1
 
       -- the rows with the pairs
-      sides_taken : (ps : List Pair) (rows : NamedRows) → pairs_read ws ≡ Some ps → PutsPairs (part_in d.section) ps places d.rows rows → AreRows (and_pairs (part_in (section_of h)) ps (lists_of h)) rows
+      sides_taken : (ps : List Pair) (rows : KeptRows) → pairs_read ws ≡ Some ps → PutsPairs (part_in d.section) ps places d.rows rows → AreRows (and_pairs (part_in (section_of h)) ps (lists_of h)) rows
       sides_taken ps rows read puts =
           let same = read_rows ws ps read in
           let put = subst (λ s. PutsPairs (part_in s) ps places d.rows rows) old.section puts in
@@ -169,7 +169,7 @@ module _ (h : List Entry) (d : Draft) (old : Drafts h d) (named : Option (List �
           ∙ ap (repeated (λ word. names_row (given_in h (section_of h)) word)) same ∙ sides_repeats None found)
 
       -- the draft with the line
-      pub drafts_and_sides : (n : ℕ) (ps : List Pair) (rows : NamedRows) (new : Draft) → pairs_read ws ≡ Some ps → All IsNumbered ps → (is_in sections.Rhs d.section || is_in sections.Ranges d.section) ≡ true
+      pub drafts_and_sides : (n : ℕ) (ps : List Pair) (rows : KeptRows) (new : Draft) → pairs_read ws ≡ Some ps → All IsNumbered ps → (is_in sections.Rhs d.section || is_in sections.Ranges d.section) ≡ true
           → PutsPairs part ps places d.rows rows → new ≡ record d { set = set_after named d.set; rows = rows } → Drafts (shaped_says n (shapes.sides named ws) h ++ h) new
       drafts_and_sides n ps rows new read numbers s puts is =
           let fit = sides_do_fit ps read in
@@ -244,7 +244,7 @@ module _ (h : List Entry) (d : Draft) (old : Drafts h d) (named : Option (List �
 
 -- ---- two words behind a bound without a number
 
-pub column_among : (h : List Entry) (c : NamedColumns) (name : List ℕ) → AreColumns h c → is_column h name ≡ is_among c.names name
+pub column_among : (h : List Entry) (c : KeptColumns) (name : List ℕ) → AreColumns h c → is_column h name ≡ is_among c.names name
 column_among h c name are = column_named h name ∙ ap (λ ns. is_among ns name) (sym are.names)
 
 pub either_set : (h : List Entry) (d new : Draft) (n : ℕ) (kind : BoundKind) (first second : List ℕ) (r : Result ⊤ MpsError) → AreColumns h d.columns → is_column h second ≡ true

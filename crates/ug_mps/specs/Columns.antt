@@ -1,7 +1,7 @@
 -- What the columns have so far.
 use Rattle.std.specs.Prelude.{◌≡◌, ℕ, not, Bool, true, false, List, ◌∷◌, length, Contains, map, Option, None, MatchOption, slice_index_or}
 use Rattle.ug_drafts.specs.declared.column.ColumnDraft.{ColumnDraft}
-use Rattle.ug_mps.specs.declared.draft.columns.Place.{Place}
+use Rattle.ug_mps.specs.declared.draft.columns.ColumnPlace.{ColumnPlace}
 use Rattle.ug_mps.specs.Entries.{Pair, Entry, column}
 use Rattle.ug_mps.specs.Good.{Good}
 use Rattle.ug_mps.specs.Faults.{is_begun_again}
@@ -9,7 +9,7 @@ use Rattle.ug_mps.specs.History.{ColumnBegun, columns_of, goes_on, place_of, is_
 use Rattle.ug_mps.specs.Stated.{is_integer}
 
 -- the columns with their names
-pub record NamedColumns : Type 0 where
+pub record KeptColumns : Type 0 where
   pub names : List (List ℕ)
   pub drafts : List ColumnDraft
 
@@ -18,7 +18,7 @@ abbrev pub column_so_far : List Entry → ColumnBegun → ColumnDraft
 column_so_far h c = record { line = c.line; integer = is_integer h c; low = low_set h c.name; high = high_set h c.name }
 
 -- the columns are those of the history
-pub record AreColumns (h : List Entry) (columns : NamedColumns) : Type 0 where
+pub record AreColumns (h : List Entry) (columns : KeptColumns) : Type 0 where
   pub names : columns.names ≡ map (λ (c : ColumnBegun). c.name) (columns_of h)
   pub drafts : columns.drafts ≡ map (column_so_far h) (columns_of h)
 
@@ -31,7 +31,7 @@ abbrev pub column_at : List ColumnDraft → ℕ → ColumnDraft
 column_at drafts at = slice_index_or drafts at (new_column 0 false)
 
 -- where a line of a column stands: nowhere where the column began before another one
-abbrev pub FindsPlace : List ℕ → NamedColumns → Option Place → Type 0
+abbrev pub FindsPlace : List ℕ → KeptColumns → Option ColumnPlace → Type 0
 FindsPlace name columns place = (h : List Entry) → AreColumns h columns → MatchOption place
     (is_begun_again h name ≡ true)
     (λ p. (is_begun_again h name ≡ false) × (p.at ≡ place_of h name) × (p.new ≡ not (goes_on h name)))
@@ -42,6 +42,6 @@ pub record IsNew (names : List (List ℕ)) (name : List ℕ) (at : ℕ) : Type 0
   pub behind : at ≡ length names
 
 -- a line of a column was taken, where a new column begins
-abbrev pub OpensColumn : ℕ → List ℕ → Bool → Bool → NamedColumns → NamedColumns → Type 0
+abbrev pub OpensColumn : ℕ → List ℕ → Bool → Bool → KeptColumns → KeptColumns → Type 0
 OpensColumn line name integer new before after = (h : List Entry) (pairs : List Pair) → Good h → AreColumns h before
     → is_begun_again h name ≡ false → new ≡ not (goes_on h name) → integer ≡ is_integer_on h → AreColumns (column line name pairs ∷ h) after

@@ -10,7 +10,7 @@ use Rattle.ug_mps.specs.History.{RowNamed, Coefficient, rows_of, coefficients, p
 use Rattle.ug_mps.specs.Stated.{terms_of, factor_of, number_given}
 
 -- the rows with their names
-pub record NamedRows : Type 0 where
+pub record KeptRows : Type 0 where
   pub names : List (List ℕ)
   pub drafts : List RowDraft
 
@@ -51,7 +51,7 @@ row_so_far l r = record {
 }
 
 -- the rows are those of the lists
-pub record AreRows (l : Lists) (rows : NamedRows) : Type 0 where
+pub record AreRows (l : Lists) (rows : KeptRows) : Type 0 where
   pub names : rows.names ≡ map (λ (r : RowNamed). r.name) l.named
   pub drafts : rows.drafts ≡ map (row_so_far l) l.named
 

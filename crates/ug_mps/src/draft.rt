@@ -1,11 +1,11 @@
-mod column;
+mod bound_line;
+mod column_line;
 mod columns;
 mod finish;
 mod header;
-mod limit;
-mod row;
+mod row_line;
 mod rows;
-mod sides;
+mod sides_line;
 
 ghost use Rattle.std.specs.Prelude.{◌≡◌, [], List, true};
 ghost use Rattle.std.specs.List.{list_any};

@@ -11,7 +11,7 @@ use ug_lists::Text;
 
 /// The place of the column of a line, and whether it begins there.
 #[derive(Clone, Copy, Debug)]
-pub struct Place {
+pub struct ColumnPlace {
     pub at: u32,
     pub new: bool,
 }
@@ -25,9 +25,9 @@ pub struct Columns {
 
 impl Model for Columns {
     ghost use Rattle.std.specs.Prelude.{◌≡◌, ◌≤◌, length};
-    ghost use Rattle.ug_mps.specs.Columns.{NamedColumns};
+    ghost use Rattle.ug_mps.specs.Columns.{KeptColumns};
 
-    ghost Value = { NamedColumns };
+    ghost Value = { KeptColumns };
 
     ghost view = { λ columns. record { names = columns.names; drafts = columns.drafts.items } };
 
@@ -80,7 +80,7 @@ impl Columns {
 
     /// The place of the column for one more line of it: the last column goes on, and a new one stands behind it. It is
     /// `None` where the column began before the last one.
-    pub fn place(&self, name: &[u8]) -> Option<Place>
+    pub fn place(&self, name: &[u8]) -> Option<ColumnPlace>
         ensures place { FindsPlace name.now self.now result }
         ensures new { IfSome result (λ p. IsTrue p.new → IsNew self.now.names name.now p.at) }
     {
@@ -88,12 +88,12 @@ impl Columns {
         match self.find_last(name) {
             Some(at) => {
                 if at as usize + 1 == count {
-                    Some(Place { at, new: false })
+                    Some(ColumnPlace { at, new: false })
                 } else {
                     None
                 }
             }
-            None => Some(Place {
+            None => Some(ColumnPlace {
                 at: count as u32,
                 new: true,
             }),
@@ -132,7 +132,7 @@ impl Columns {
     pub fn open(
         &mut self,
         alloc: Global,
-        place: Place,
+        place: ColumnPlace,
         name: &[u8],
         line: u64,
         integer: bool,

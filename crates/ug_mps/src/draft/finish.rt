@@ -10,12 +10,16 @@ ghost use Rattle.ug_mps.specs.Stated.{stated};
 
 use crate::draft::Draft;
 use std::alloc::Global;
-use ug_drafts::{MpsError, Parts, columns_of, parts_of};
+use ug_drafts::{MpsError, RowsAndObjective, make_columns, make_rows};
 use ug_lists::Items;
 use ug_problem::{Column, Problem, ProblemError};
 
 // The problem of these parts, which a good history without faults states: so only memory can be wanting.
-fn problem_of(alloc: Global, columns: Vec<Column>, parts: Parts) -> Result<Problem, MpsError>
+fn problem_of(
+    alloc: Global,
+    columns: Vec<Column>,
+    parts: RowsAndObjective,
+) -> Result<Problem, MpsError>
     requires { (boxed : Option ℕ) × (h : List Entry)
         × AreStated boxed h (instance_of columns.items parts.rows parts.objective) }
     ensures { MatchResult result
@@ -49,9 +53,9 @@ impl Draft {
             ..
         } = self;
         let (names, drafts) = columns.into_parts();
-        let columns = columns_of(alloc, boxed, names, drafts)?;
+        let columns = make_columns(alloc, boxed, names, drafts)?;
         let (names, drafts) = rows.into_parts();
-        let parts = parts_of(alloc, maximise, names, drafts)?;
+        let parts = make_rows(alloc, maximise, names, drafts)?;
         problem_of(alloc, columns, parts)
     }
 }

@@ -18,7 +18,7 @@ use ug_problem::Decimal;
 
 /// The places of one or two rows.
 #[derive(Clone, Copy, Debug)]
-pub struct Places {
+pub struct RowPlaces {
     pub first: u32,
     pub second: Option<u32>,
 }
@@ -39,9 +39,9 @@ pub struct Rows {
 
 impl Model for Rows {
     ghost use Rattle.std.specs.Prelude.{◌≡◌, length};
-    ghost use Rattle.ug_mps.specs.Rows.{NamedRows};
+    ghost use Rattle.ug_mps.specs.Rows.{KeptRows};
 
-    ghost Value = { NamedRows };
+    ghost Value = { KeptRows };
 
     ghost view = { λ rows. record { names = rows.names; drafts = rows.drafts.items } };
 
@@ -133,7 +133,7 @@ impl Rows {
     }
 
     /// The places of the rows that the pairs name, or the first name that is none of a row.
-    pub fn look<'a>(&self, pairs: &NamedWords<'a>) -> Result<Places, &'a [u8]>
+    pub fn look<'a>(&self, pairs: &NamedWords<'a>) -> Result<RowPlaces, &'a [u8]>
         ensures value { MatchResult result
             (λ places. (first_missing self.now.names (rows_in (pairs_shaped pairs.now)) ≡ None)
             × AreAt self.now.names (rows_in (pairs_shaped pairs.now)) (places_in places))
@@ -143,13 +143,13 @@ impl Rows {
             return Err(pairs.first.row);
         };
         let Some(pair) = &pairs.second else {
-            return Ok(Places {
+            return Ok(RowPlaces {
                 first,
                 second: None,
             });
         };
         match self.find(pair.row) {
-            Some(place) => Ok(Places {
+            Some(place) => Ok(RowPlaces {
                 first,
                 second: Some(place),
             }),
@@ -161,7 +161,7 @@ impl Rows {
     pub fn repeated<'a>(
         &self,
         part: Part,
-        places: Places,
+        places: RowPlaces,
         pairs: &NamedWords<'a>,
     ) -> Option<&'a [u8]>
         requires { AreAt self.now.names (rows_in (pairs_shaped pairs.now)) (places_in places) }
@@ -186,7 +186,7 @@ impl Rows {
     pub fn put_pairs(
         &mut self,
         part: Part,
-        places: Places,
+        places: RowPlaces,
         pairs: &NamedNumbers<'_>,
     ) -> Result<(), AllocError>
         requires { AreAt self.old.names (rows_named (pairs_said pairs.now)) (places_in places) }

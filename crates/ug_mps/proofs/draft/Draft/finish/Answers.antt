@@ -9,8 +9,8 @@ returns-in_err-columns c = λ h d.
     columns_bad c.args.boxed (header Endata ∷ h) c.args.self d _ _ c.into_parts-names.ensures.names c.into_parts-names.ensures.drafts
     c.in_err-columns.field-0.0 c.from_residual.result c.in_err-columns.ensures c.from_residual.ensures.1
 
-pub parts_of-requires : goal.parts_of-requires
-parts_of-requires c =
+pub make_rows-requires : goal.make_rows-requires
+make_rows-requires c =
     rows_decimal c.args.boxed (header Endata ∷ c.requires.ended.0) c.args.self c.requires.ended.1 _ _ c.into_parts-names-2.ensures.names c.into_parts-names-2.ensures.drafts
 
 pub returns-in_err-parts : goal.returns-in_err-parts

@@ -1,7 +1,7 @@
 use Rattle.std.proofs.Common.{◌≡◌, ◌<◌, length, sym, ap, subst}
 use Rattle.ug_mps.specs.Numbered.{pair_said, pairs_said}
 use Rattle.ug_mps.specs.RowSteps.{PutsPairs, places_in}
-use Rattle.ug_mps.specs.Rows.{NamedRows}
+use Rattle.ug_mps.specs.Rows.{KeptRows}
 use Rattle.ug_mps.proofs.Looks.{put_there, put_no_place, put_no_pair, put_second, if_ok}
 use Rattle.ug_mps.proofs.draft.rows.Rows.put_pairs.Goals as goal
 
@@ -20,7 +20,7 @@ returns-in_default-second c =
 
 pub put-requires-2 : goal.put-requires-2
 put-requires-2 c =
-    let names : c.put.new.self.names ≡ c.args.self.now.names = ap (λ (r : NamedRows). r.names) c.in_ok-put.ensures.value in
+    let names : c.put.new.self.names ≡ c.args.self.now.names = ap (λ (r : KeptRows). r.names) c.in_ok-put.ensures.value in
     subst (λ ns. c.in-Some.place < length ns) (sym names)
     (put_there c.args.self.now.names c.args.pairs.now.second c.args.places.second c.in-Some.place c.in-Some-second.pair c.in-Some.is c.in-Some-second.is c.requires.1)
 

@@ -1,6 +1,6 @@
 use Rattle.std.proofs.Common.{◌∷◌, [], ◌++◌, ap, sym, ◌∙◌}
 use Rattle.ug_drafts.proofs.MadeLemmas.{row_taken}
-use Rattle.ug_drafts.proofs.parts.Parts.take.Goals as goal
+use Rattle.ug_drafts.proofs.rows_and_objective.RowsAndObjective.take.Goals as goal
 
 pub returns : goal.returns
 returns c =

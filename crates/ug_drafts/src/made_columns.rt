@@ -1,25 +1,15 @@
-ghost use Rattle.std.specs.Prelude.{◌≡◌, [], map, All, MatchResult};
+ghost use Rattle.std.specs.Prelude.{◌≡◌, map, None, Some, MatchResult};
 ghost use Rattle.std.specs.List.{zip};
-ghost use Rattle.ug_drafts.specs.FirstFaults.{IsOf, first_fault};
 ghost use Rattle.ug_drafts.specs.Bounds.{IsBox, is_infinite, bound_or};
-ghost use Rattle.ug_drafts.specs.Made.{low_kept, high_kept, column_kind, column_fault_kept, made_column, HasDecimals, row_fault_kept, parts_made, and_row};
+ghost use Rattle.ug_drafts.specs.FirstFaults.{IsOf, first_fault};
+ghost use Rattle.ug_drafts.specs.Made.{low_kept, high_kept, column_kind, column_fault_kept, made_column};
 
 use crate::bound::Bound;
 use crate::column::ColumnDraft;
 use crate::fault::{Kind, MpsError, MpsFault};
-use crate::made::make;
-use crate::row::RowDraft;
 use std::alloc::Global;
-use ug_lists::{Items, Text};
-use ug_problem::{Column, NamedRows};
-use ug_rows::{Objective, Terms};
-
-/// The rows and the objective of the problem.
-#[derive(Drop)]
-pub struct Parts {
-    pub rows: NamedRows,
-    pub objective: Objective,
-}
+use ug_lists::Text;
+use ug_problem::Column;
 
 // The lower bound of a column: 0 where none was set.
 fn low_kept(draft: &ColumnDraft) -> Bound
@@ -92,7 +82,7 @@ fn column_of(boxed: Option<u32>, name: Text, draft: ColumnDraft) -> Result<Colum
 }
 
 /// The columns of the problem, or the fault of the first one that has one.
-pub fn columns_of(
+pub fn make_columns(
     alloc: Global,
     boxed: Option<u32>,
     names: Vec<Text>,
@@ -111,71 +101,4 @@ pub fn columns_of(
         }
     }
     Ok(columns)
-}
-
-impl Parts {
-    // No rows, and the objective 0.
-    fn new(alloc: Global, maximise: bool) -> Parts
-        ensures { result ≡ parts_made maximise [] }
-    {
-        Parts {
-            rows: Items::new(alloc),
-            objective: Objective {
-                terms: Terms::new(alloc),
-                constant: 0,
-                maximise,
-                scale: 0,
-            },
-        }
-    }
-
-    // Takes the next row, or tells its fault. A row that is ignored is passed over.
-    fn take(
-        &mut self,
-        alloc: Global,
-        maximise: bool,
-        name: Text,
-        draft: RowDraft,
-    ) -> Result<(), MpsError>
-        requires { HasDecimals draft }
-        ensures { MatchResult result
-            (λ _. (row_fault_kept (name, draft) ≡ None) × (self.new ≡ and_row maximise self.old (name, draft)))
-            (IsOf (row_fault_kept (name, draft))) }
-    {
-        if draft.role.is_ignored() {
-            return Ok(());
-        }
-        let Some(made) = make(alloc, &draft)? else {
-            return Err(MpsError::Fault(MpsFault {
-                line: draft.line,
-                kind: Kind::TooWide,
-                word: Some(name),
-            }));
-        };
-        if draft.role.is_objective() {
-            self.objective = made.into_objective(maximise);
-            return Ok(());
-        }
-        self.rows.push(made.into_row(name))?;
-        Ok(())
-    }
-}
-
-/// The rows and the objective of the problem, or the fault of the first row that has one.
-pub fn parts_of(
-    alloc: Global,
-    maximise: bool,
-    names: Vec<Text>,
-    drafts: Vec<RowDraft>,
-) -> Result<Parts, MpsError>
-    requires { All HasDecimals drafts.items }
-    ensures { let ps = zip names.items drafts.items in MatchResult result
-        (λ parts. (first_fault row_fault_kept ps ≡ None) × (parts ≡ parts_made maximise ps))
-        (IsOf (first_fault row_fault_kept ps)) }
-{
-    let mut parts = Parts::new(alloc, maximise);
-    for (name, draft) in names.into_iter().zip(drafts) {
-        parts.take(alloc, maximise, name, draft)?;
-    }
-    Ok(parts)
 }

@@ -6,7 +6,7 @@ use Rattle.std.proofs.lemmas.List.Elements.{filter-append}
 use Rattle.ug_rows.specs.declared.row.Objective as target
 use Rattle.ug_problem.specs.declared.column.Column.{Column}
 use Rattle.ug_drafts.specs.declared.column.ColumnDraft.{ColumnDraft}
-use Rattle.ug_drafts.specs.declared.parts.Parts.{Parts}
+use Rattle.ug_drafts.specs.declared.rows_and_objective.RowsAndObjective.{RowsAndObjective}
 use Rattle.ug_drafts.specs.declared.row.RowDraft.{RowDraft}
 use Rattle.ug_drafts.specs.declared.fault.MpsError.{MpsError}
 use Rattle.ug_drafts.specs.declared.fault.MpsError.TheVariants.{Memory, Fault}
@@ -15,7 +15,7 @@ use Rattle.ug_problem.specs.declared.column.NamedRow.{NamedRow}
 use Rattle.ug_drafts.specs.FirstFaults.{first_fault, IsOf}
 use Rattle.ug_drafts.specs.RowNumbers.{no_objective}
 use Rattle.ug_drafts.proofs.SideBySide.{IsTurn}
-use Rattle.ug_drafts.specs.Made.{column_fault_kept, made_column, row_fault_kept, made_row, is_made, made_rows, objective_and, last_objective, parts_made, and_row}
+use Rattle.ug_drafts.specs.Made.{column_fault_kept, made_column, row_fault_kept, made_row, is_made, made_rows, objective_and, last_objective, rows_and_objective, and_row}
 
 -- ---- the first fault
 
@@ -45,9 +45,9 @@ pub record AreColumnsMade (boxed : Option ℕ) (ps : List (List ℕ × ColumnDra
 -- ---- rows
 
 -- the rows so far have no fault, and are made
-pub record AreRowsMade (maximise : Bool) (ps : List (List ℕ × RowDraft)) (parts : Parts) : Type 0 where
+pub record AreRowsMade (maximise : Bool) (ps : List (List ℕ × RowDraft)) (parts : RowsAndObjective) : Type 0 where
   pub none : first_fault row_fault_kept ps ≡ None
-  pub made : parts ≡ parts_made maximise ps
+  pub made : parts ≡ rows_and_objective maximise ps
 
 -- ---- the steps of both passes
 
@@ -83,10 +83,10 @@ objective_push : (maximise : Bool) (old : target.Objective) (ps : List (List ℕ
 objective_push maximise old [] p = refl
 objective_push maximise old (q ∷ ps) p = objective_push maximise (objective_and maximise old q) ps p
 
-parts_same : (rs rs' : List NamedRow) (o o' : target.Objective) → rs ≡ rs' → o ≡ o' → (let a : Parts = record { rows = rs; objective = o } in let b : Parts = record { rows = rs'; objective = o' } in a ≡ b)
+parts_same : (rs rs' : List NamedRow) (o o' : target.Objective) → rs ≡ rs' → o ≡ o' → (let a : RowsAndObjective = record { rows = rs; objective = o } in let b : RowsAndObjective = record { rows = rs'; objective = o' } in a ≡ b)
 parts_same rs rs' o o' e f = cc
 
-pub rows_more : (maximise : Bool) (ps : List (List ℕ × RowDraft)) (p : List ℕ × RowDraft) (parts new : Parts)
+pub rows_more : (maximise : Bool) (ps : List (List ℕ × RowDraft)) (p : List ℕ × RowDraft) (parts new : RowsAndObjective)
     → AreRowsMade maximise ps parts → row_fault_kept p ≡ None → new ≡ and_row maximise parts p → AreRowsMade maximise (ps ++ p ∷ []) new
 rows_more maximise ps p parts new old n is = record {
   none = none_push row_fault_kept ps p old.none n;
