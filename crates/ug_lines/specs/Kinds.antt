@@ -9,6 +9,10 @@ use Rattle.ug_lines.specs.declared.kinds.RowKind.TheVariants.{Objective, AtMost,
 use Rattle.ug_lines.specs.declared.kinds.BoundKind.{BoundKind}
 use Rattle.ug_lines.specs.declared.kinds.BoundKind.TheVariants as bounds
 
+-- the word that ends a text
+abbrev pub end_word : List ℕ
+end_word = codes "ENDATA"
+
 -- the section that a header's word names
 abbrev pub section_of_word : List ℕ → Option Section
 section_of_word word = if bytes_eq word (codes "NAME") then Some Name
@@ -18,7 +22,7 @@ section_of_word word = if bytes_eq word (codes "NAME") then Some Name
     else (if bytes_eq word (codes "RHS") then Some Rhs
     else (if bytes_eq word (codes "RANGES") then Some Ranges
     else (if bytes_eq word (codes "BOUNDS") then Some Bounds
-    else (if bytes_eq word (codes "ENDATA") then Some Endata else None)))))))
+    else (if bytes_eq word end_word then Some Endata else None)))))))
 
 -- the word is this text, in any case of letters
 abbrev pub is_in_any_case : List ℕ → List ℕ → Bool

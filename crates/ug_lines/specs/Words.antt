@@ -10,9 +10,13 @@ is_blank b = (b == 32) || (b == 9)
 abbrev pub is_word_byte : ℕ → Bool
 is_word_byte b = (nat_le 33 b && nat_le b 126) || nat_le 128 b
 
--- each byte of the line is a blank or one that a word may hold
+-- a byte that may stand in a line: a blank, or one that a word may hold
+abbrev pub is_line_byte : ℕ → Bool
+is_line_byte b = is_blank b || is_word_byte b
+
+-- each byte of the line may stand there
 abbrev pub is_legible : List ℕ → Bool
-is_legible line = list_all (λ b. is_blank b || is_word_byte b) line
+is_legible line = list_all is_line_byte line
 
 -- the words of a line: its parts between blanks that are not empty
 abbrev pub words_of : List ℕ → List (List ℕ)

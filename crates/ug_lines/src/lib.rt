@@ -16,6 +16,8 @@ pub use kinds::{
     sense_of,
 };
 pub use lines::{content, cut, line_feed};
-pub use section::{Section, section_of};
+pub use section::{END_WORD, Section, section_of};
 pub use shape::{LineShape, NamedWord, NamedWords, shape_of};
-pub use words::{are_short, is_blank, is_comment, is_data, is_legible, is_word_byte, words_of};
+pub use words::{
+    are_short, is_blank, is_comment, is_data, is_legible, is_line_byte, is_word_byte, words_of,
+};

@@ -2,6 +2,9 @@ ghost use Rattle.std.specs.Prelude.{◌≡◌};
 ghost use Rattle.std.specs.Str.{bytes_eq};
 ghost use Rattle.ug_lines.specs.Kinds.{section_of_word};
 
+/// The word that ends a text.
+pub const END_WORD: &[u8] = b"ENDATA";
+
 /// The sections of a text.
 #[derive(Clone, Copy, Debug, PartialEq, Eq)]
 pub enum Section {
@@ -40,7 +43,7 @@ pub fn section_of(word: &[u8]) -> Option<Section>
         Some(Section::Ranges)
     } else if is(word, b"BOUNDS") {
         Some(Section::Bounds)
-    } else if is(word, b"ENDATA") {
+    } else if is(word, END_WORD) {
         Some(Section::Endata)
     } else {
         None

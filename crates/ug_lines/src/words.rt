@@ -1,6 +1,6 @@
 ghost use Rattle.std.specs.Prelude.{◌≡◌, ◌<◌, ◌≤◌, ◌∷◌, [], length, map, take, not};
 ghost use Rattle.std.specs.List.{position, position_or_len};
-ghost use Rattle.ug_lines.specs.Words.{is_blank, is_word_byte, is_legible, words_of, are_short, is_data, is_comment, BeginsWord};
+ghost use Rattle.ug_lines.specs.Words.{is_blank, is_word_byte, is_line_byte, is_legible, words_of, are_short, is_data, is_comment, BeginsWord};
 
 /// Space and tab.
 pub fn is_blank(byte: u8) -> bool
@@ -16,11 +16,18 @@ pub fn is_word_byte(byte: u8) -> bool
     matches!(byte, 33..=126 | 128..)
 }
 
+/// A byte that may stand in a line.
+pub fn is_line_byte(byte: u8) -> bool
+    ensures { result ≡ is_line_byte byte }
+{
+    is_blank(byte) || is_word_byte(byte)
+}
+
 /// Each byte of the line may stand there.
 pub fn is_legible(line: &[u8]) -> bool
     ensures { result ≡ is_legible line.now }
 {
-    line.iter().all(|b| is_blank(*b) || is_word_byte(*b))
+    line.iter().all(|b| is_line_byte(*b))
 }
 
 // Where the first byte stands that is no blank.

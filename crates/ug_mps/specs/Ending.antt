@@ -1,7 +1,8 @@
 -- How far a text has to be read: its ENDATA line, what follows the word on that line, and what the bytes so far show.
-use Rattle.std.specs.Prelude.{◌≡◌, ℕ, ◌+◌, ◌<◌, ◌≤◌, ◌==◌, ◌⊎◌, ◌||◌, ◌&&◌, Bool, true, false, List, [], ◌∷◌, ◌++◌, length, take, drop, codes, if◌then◌else◌}
+use Rattle.std.specs.Prelude.{◌≡◌, ℕ, ◌+◌, ◌<◌, ◌≤◌, ◌==◌, ◌⊎◌, ◌||◌, ◌&&◌, Bool, true, false, List, [], ◌∷◌, ◌++◌, length, take, drop, if◌then◌else◌}
+use Rattle.ug_lines.specs.Kinds.{end_word}
 use Rattle.ug_lines.specs.Lines.{Line, content_of, lines_of}
-use Rattle.ug_lines.specs.Words.{is_blank, is_word_byte, is_legible}
+use Rattle.ug_lines.specs.Words.{is_blank, is_line_byte, is_legible}
 use Rattle.ug_mps.specs.declared.ending.Head.{Head}
 use Rattle.ug_mps.specs.declared.ending.Head.TheVariants as heads
 use Rattle.ug_mps.specs.declared.ending.Tail.{Tail}
@@ -55,13 +56,13 @@ ends_word (b ∷ bs) = is_blank b || ((b == 10) || ((b == 13) && is_feed_first b
 
 -- the line begins with the word ENDATA, whatever follows
 abbrev pub BeginsEnd : List ℕ → Type 0
-BeginsEnd line = (rest : List ℕ) × (line ≡ codes "ENDATA" ++ rest) × (ends_word rest ≡ true)
+BeginsEnd line = (rest : List ℕ) × (line ≡ end_word ++ rest) × (ends_word rest ≡ true)
 
 -- what a line's first bytes show: it is ENDATA, or is not, whatever follows; else they are a front of ENDATA and a carriage return
 abbrev pub IsHead : List ℕ → Head → Type 0
 IsHead line heads.Ends = BeginsEnd line
 IsHead line heads.Other = (more : List ℕ) → is_end_line (first_line (line ++ more)) ≡ false
-IsHead line heads.Open = (more : List ℕ) × (codes "ENDATA" ++ 13 ∷ [] ≡ line ++ more)
+IsHead line heads.Open = (more : List ℕ) × (end_word ++ 13 ∷ [] ≡ line ++ more)
 
 -- what the bytes behind ENDATA show in the same way
 abbrev pub IsBehind : List ℕ → Head → Type 0
@@ -79,7 +80,7 @@ after_if false bytes = bytes
 -- the first byte, if there is one, may not stand in a line
 abbrev pub StopsFirst : List ℕ → Type 0
 StopsFirst [] = Unit {0}
-StopsFirst (b ∷ bs) = (is_blank b || is_word_byte b) ≡ false
+StopsFirst (b ∷ bs) = is_line_byte b ≡ false
 
 -- the line is legible, by what was seen of it and the bytes that follow
 abbrev pub legible_by : Tail → List ℕ → Bool
@@ -141,7 +142,7 @@ pub record IsFeedAt (bytes : List ℕ) (from at : ℕ) : Type 0 where
 pub record IsFirstEnd (bytes : List ℕ) (cut : ℕ) : Type 0 where
   pub front : List ℕ
   pub rest : List ℕ
-  pub parts : bytes ≡ front ++ (codes "ENDATA" ++ rest)
+  pub parts : bytes ≡ front ++ (end_word ++ rest)
   pub whole : AreLines front
   pub others : AreOthers (lines_of front)
   pub ends : ends_word rest ≡ true

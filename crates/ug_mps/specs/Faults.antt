@@ -1,6 +1,6 @@
 -- The faults that a line may have after what the lines so far have said, each kind by itself. Where several words of a line are at
 -- fault, it is the first from left to right.
-use Rattle.std.specs.Prelude.{ℕ, ◌+◌, ◌||◌, ◌&&◌, not, Bool, true, false, List, [], ◌∷◌, length, map, take, drop, find, codes, Option, Some, None, nat_le, nat_lt, is_some, is_none, option_and_then, if◌then◌else◌}
+use Rattle.std.specs.Prelude.{ℕ, ◌+◌, ◌||◌, ◌&&◌, not, Bool, true, false, List, [], ◌∷◌, length, map, take, drop, find, Option, Some, None, nat_le, nat_lt, is_some, is_none, option_and_then, if◌then◌else◌}
 use Rattle.std.specs.Option.{option_map}
 use Rattle.std.specs.Str.{bytes_eq}
 use Rattle.ug_lines.specs.declared.section.Section.{Section}
@@ -8,7 +8,7 @@ use Rattle.ug_lines.specs.declared.section.Section.TheVariants as sections
 use Rattle.ug_lines.specs.declared.kinds.BoundKind.{BoundKind}
 use Rattle.ug_lines.specs.Lines.{Line}
 use Rattle.ug_lines.specs.Words.{is_blank, is_legible, are_short}
-use Rattle.ug_lines.specs.Kinds.{section_of_word, sense_of_word, row_kind_of, marker_of, bound_kind_of, is_semi_continuous}
+use Rattle.ug_lines.specs.Kinds.{end_word, section_of_word, sense_of_word, row_kind_of, marker_of, bound_kind_of, is_semi_continuous}
 use Rattle.ug_lines.specs.Shapes.{WordPair, Shape, shape_of, sense, row, marker, column, sides, bound, either}
 use Rattle.ug_problem.specs.Decimals.{decimal_of}
 use Rattle.ug_drafts.specs.declared.fault.Kind.{Kind}
@@ -45,7 +45,7 @@ is_word_end (b ∷ bs) = is_blank b
 
 -- the line begins with the word ENDATA
 abbrev pub is_end_line : List ℕ → Bool
-is_end_line content = bytes_eq (take 6 content) (codes "ENDATA") && is_word_end (drop 6 content)
+is_end_line content = bytes_eq (take 6 content) end_word && is_word_end (drop 6 content)
 
 -- the text passes 268,435,456 bytes in this line, and it is not ENDATA
 abbrev pub too_long : Line → Option Complaint

@@ -1,13 +1,10 @@
-ghost use Rattle.std.specs.Prelude.{◌≡◌, ◌==◌, ◌+◌, ◌∷◌, ◌++◌, ◌≤◌, ◌||◌, ℕ, List, length, drop, MatchOption, not};
+ghost use Rattle.std.specs.Prelude.{◌≡◌, ◌==◌, ◌+◌, ◌∷◌, ◌++◌, ◌≤◌, ℕ, List, length, drop, MatchOption, not};
 ghost use Rattle.std.specs.List.{position};
-ghost use Rattle.ug_lines.specs.Words.{is_blank, is_word_byte};
+ghost use Rattle.ug_lines.specs.Words.{is_line_byte};
 ghost use Rattle.ug_mps.specs.Ending.{IsHead, IsBehind, IsLineAt, IsFeedAt, IsSeen, IsSeenTo, HasNoFeed, StopsFirst, IsUnended, begins_legibly, after_if, legible_by};
 
 use crate::line::LIMIT;
-use ug_lines::{is_blank, is_word_byte, line_feed};
-
-/// The word that ends a text.
-const WORD: &[u8] = b"ENDATA";
+use ug_lines::{END_WORD, is_blank, is_line_byte, line_feed};
 
 /// What the first bytes of a line show: that it is the ENDATA line, or that it is another one, whatever follows. `Open`
 /// is what neither shows yet.
@@ -76,10 +73,10 @@ fn behind_word(rest: &[u8]) -> Head
 fn head_of(line: &[u8]) -> Head
     ensures { IsHead line.now result }
 {
-    match line.strip_prefix(WORD) {
+    match line.strip_prefix(END_WORD) {
         Some(rest) => behind_word(rest),
         None => {
-            if WORD.starts_with(line) {
+            if END_WORD.starts_with(line) {
                 Head::Open
             } else {
                 Head::Other
@@ -125,18 +122,11 @@ fn after_stop(bytes: &[u8]) -> Tail
     }
 }
 
-// A byte that may stand in a line.
-fn may_stand(byte: u8) -> bool
-    ensures { result ≡ (is_blank byte || is_word_byte byte) }
-{
-    is_blank(byte) || is_word_byte(byte)
-}
-
 // Where the first byte stands that may not stand in a line.
 fn stop(bytes: &[u8]) -> Option<usize>
-    ensures { result ≡ position (λ b. not (is_blank b || is_word_byte b)) bytes.now }
+    ensures { result ≡ position (λ b. not (is_line_byte b)) bytes.now }
 {
-    bytes.iter().position(|b| !may_stand(*b))
+    bytes.iter().position(|b| !is_line_byte(*b))
 }
 
 // What the next bytes of an ENDATA line show, where no carriage return stands before them.
@@ -181,7 +171,7 @@ fn seen_to(bytes: &[u8], line: usize, from: usize, at: usize) -> Seen
     ensures { IsSeenTo bytes.now at result }
 {
     match head_of(behind(bytes, line)) {
-        Head::Ends => Seen::Ended(line + WORD.len()),
+        Head::Ends => Seen::Ended(line + END_WORD.len()),
         _ => {
             if at < LIMIT {
                 Seen::Open(at + 1)
@@ -198,7 +188,7 @@ fn seen_last(bytes: &[u8], line: usize) -> Seen
     ensures { IsSeen bytes.now result }
 {
     match head_of(behind(bytes, line)) {
-        Head::Ends => Seen::Ended(line + WORD.len()),
+        Head::Ends => Seen::Ended(line + END_WORD.len()),
         Head::Other => {
             if bytes.len() > LIMIT {
                 Seen::Passed

@@ -9,8 +9,8 @@ use crate::error::{bare_fault, fault_of};
 use std::alloc::Global;
 use ug_drafts::{Kind, MpsError};
 use ug_lines::{
-    LineShape, Section, are_short, bound_kind_of, is_blank, is_comment, is_data, is_legible,
-    is_semi_continuous, shape_of, words_of,
+    END_WORD, LineShape, Section, are_short, bound_kind_of, is_blank, is_comment, is_data,
+    is_legible, is_semi_continuous, shape_of, words_of,
 };
 
 /// The bytes that a text may have before its ENDATA line.
@@ -33,7 +33,7 @@ fn is_word_end(bytes: &[u8]) -> bool
 pub fn is_end_line(content: &[u8]) -> bool
     ensures { result ≡ is_end_line content.now }
 {
-    match content.strip_prefix(b"ENDATA") {
+    match content.strip_prefix(END_WORD) {
         Some(rest) => is_word_end(rest),
         None => false,
     }
