@@ -29,14 +29,21 @@ struct Begun {
 fn run_on_a_disk(alloc: Global, gap: u8, stop: u64) -> Option<Begun>
     ensures { IfSome result (λ b. IsKept b.saver (Some (history_of b.disk))) }
 {
+    let Ok(stopping) = [stop].to_vec(alloc) else {
+        return None;
+    };
+    let Ok(problem) = nothing(alloc, false) else {
+        return None;
+    };
     let script = Script {
         failing: Vec::new(alloc),
-        stopping: [stop].to_vec(alloc).ok()?,
+        stopping,
     };
     let mut disk = MemoryDisk::new(alloc, Vec::new(alloc), Vec::new(alloc), script);
-    let problem = Shared::own(nothing(alloc, false).ok()?);
-    let (book, saver) = begin(alloc, &mut disk, problem, settings(gap)).ok()?;
-    Some(Begun { book, saver, disk })
+    match begin(alloc, &mut disk, Shared::own(problem), settings(gap)) {
+        Ok((book, saver)) => Some(Begun { book, saver, disk }),
+        Err(_) => None,
+    }
 }
 
 // A report under the first ticket of a run: the point without values, or that nothing is left below
