@@ -9,12 +9,8 @@ use crate::role::Role;
 use crate::row::{Factor, RowDraft};
 use std::alloc::{AllocError, Global};
 use ug_lists::Items;
-use ug_problem::Decimal;
+use ug_problem::{Decimal, MOST_FACTOR, MOST_SIDE};
 use ug_rows::{Term, Terms};
-
-const MOST_FACTOR: u128 = 1_000_000_000_000_000_000_000_000;
-
-const MOST_SIDE: u128 = 10_000_000_000_000_000_000_000_000_000_000_000_000;
 
 /// The right-hand side of a row, and its sides.
 #[derive(Clone, Copy, Debug)]

@@ -1,6 +1,4 @@
 ghost use Rattle.std.specs.Prelude.{◌≡◌, ◌≤◌, length, IfSome};
-ghost use Rattle.std.specs.Float.Parse.{without_sign};
-ghost use Rattle.std.specs.Str.Parse.{starts_with_minus};
 ghost use Rattle.ug_drafts.specs.Bounds.{IsAmount};
 ghost use Rattle.ug_mps.specs.BoundWords.{is_infinite_word, amount_of, numbered_change, bare_change, change_of};
 
@@ -8,28 +6,7 @@ use ug_drafts::{
     Amount, Bound, Change, amount_from, infinity, sets, sets_both, sets_lower, sets_upper,
 };
 use ug_lines::{BoundKind, is_in_any_case};
-use ug_problem::Decimal;
-
-// A word without its sign.
-fn without_sign(word: &[u8]) -> &[u8]
-    ensures { result.now ≡ without_sign word.now }
-{
-    match word {
-        [b'+', rest @ ..] => rest,
-        [b'-', rest @ ..] => rest,
-        _ => word,
-    }
-}
-
-// Whether a word has a minus sign.
-fn is_minus(word: &[u8]) -> bool
-    ensures { result ≡ starts_with_minus word.now }
-{
-    match word.first() {
-        Some(b) => *b == b'-',
-        None => false,
-    }
-}
+use ug_problem::{Decimal, starts_with_minus, without_sign};
 
 // Whether a word is infinite.
 fn is_infinite_word(word: &[u8]) -> bool
@@ -46,7 +23,7 @@ pub fn amount_of(word: &[u8]) -> Option<Amount>
     ensures amount { IfSome result IsAmount }
 {
     if is_infinite_word(word) {
-        return Some(infinity(is_minus(word)));
+        return Some(infinity(starts_with_minus(word)));
     }
     match Decimal::from_word(word) {
         Some(number) => Some(amount_from(number)),

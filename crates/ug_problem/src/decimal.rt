@@ -8,6 +8,8 @@ ghost use Rattle.std.specs.Prelude.{◌≡◌, ◌≤◌, ℕ, ℤ, ◌↔◌, �
 ghost use Rattle.ug_problem.specs.Decimals.{IsDecimal, decimal_of};
 ghost use Rattle.ug_problem.specs.Fractions.{IsAtLeast, IsAtMost, IsScaled, ceiling_of, floor_of, places_of, scaled};
 
+pub use reading::{starts_with_minus, without_sign};
+
 /// An exact decimal number: `digits` times ten to the `power`, negated where `negative`.
 #[derive(Clone, Copy, Debug, PartialEq, Eq)]
 pub struct Decimal {

@@ -22,9 +22,11 @@ pub use answer::{Answer, Broken};
 pub use column::{Column, Columns, NamedRow, NamedRows};
 pub use decimal::{
     Decimal, ceiling_is_least, floor_is_greatest, reads_these_words, scales_from_its_places,
+    starts_with_minus, without_sign,
 };
 pub use error::ProblemError;
 pub use laws::better_is_below_the_cutoff;
+pub use limits::{MOST_COLUMNS, MOST_FACTOR, MOST_ROWS, MOST_SIDE, MOST_TERMS};
 pub use print::prints_one_text;
 pub use problem::Problem;
 pub use shared::Shared;

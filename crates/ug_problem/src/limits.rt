@@ -7,15 +7,20 @@ use crate::column::{Column, NamedRow};
 use crate::error::ProblemError;
 use ug_rows::{Objective, Row, Term};
 
-const MOST_COLUMNS: usize = 10_000;
+/// The columns that a problem may have.
+pub const MOST_COLUMNS: usize = 10_000;
 
-const MOST_ROWS: usize = 10_000;
+/// The rows that a problem may have.
+pub const MOST_ROWS: usize = 10_000;
 
-const MOST_TERMS: usize = 1_000_000;
+/// The terms that a problem may have in all, the objective's among them.
+pub const MOST_TERMS: usize = 1_000_000;
 
-const MOST_FACTOR: u128 = 1_000_000_000_000_000_000_000_000;
+/// The greatest absolute value of a factor.
+pub const MOST_FACTOR: u128 = 1_000_000_000_000_000_000_000_000;
 
-const MOST_SIDE: u128 = 10_000_000_000_000_000_000_000_000_000_000_000_000;
+/// The greatest absolute value of a row's side and of the objective's constant.
+pub const MOST_SIDE: u128 = 10_000_000_000_000_000_000_000_000_000_000_000_000;
 
 // Whether the rows have at most `most` terms in all.
 fn have_at_most(rows: &[NamedRow], most: usize) -> bool

@@ -10,19 +10,14 @@ use crate::error::{bare_fault, fault_of};
 use crate::pairs::numbers_of;
 use ug_drafts::{Kind, MpsError, Part};
 use ug_lines::NamedWords;
-
-/// The columns that a text may have.
-const MOST_COLUMNS: u32 = 10_000;
-
-/// The coefficients that a text may have.
-const MOST_PAIRS: u32 = 1_000_000;
+use ug_problem::{MOST_COLUMNS, MOST_TERMS};
 
 // Whether there is no room for a column at a place, or for so many pairs more.
 fn is_full(at: u32, count: u32, more: u32) -> bool
     requires { more ≤ 2 }
     ensures { result ≡ (nat_le 10000 at || nat_lt 1000000 (count + more)) }
 {
-    at >= MOST_COLUMNS || count > MOST_PAIRS - more
+    at as usize >= MOST_COLUMNS || count as usize > MOST_TERMS - more as usize
 }
 
 impl Draft {

@@ -9,9 +9,7 @@ use crate::draft::Draft;
 use crate::error::{bare_fault, fault_of};
 use ug_drafts::{Kind, MpsError, Role};
 use ug_lines::{RowKind, row_kind_of};
-
-/// The rows that a text may have.
-const MOST_ROWS: usize = 10_000;
+use ug_problem::MOST_ROWS;
 
 // What a row of this type is to the problem, where the objective is there or is not.
 fn role_of(kind: RowKind, has_objective: bool) -> Role

@@ -53,7 +53,8 @@ fn behind(text: &[u8], place: usize) -> &[u8]
     }
 }
 
-fn starts_with_minus(text: &[u8]) -> bool
+/// Whether a word begins with a minus sign.
+pub fn starts_with_minus(text: &[u8]) -> bool
     ensures { result ≡ starts_with_minus text.now }
 {
     match text {
@@ -62,7 +63,8 @@ fn starts_with_minus(text: &[u8]) -> bool
     }
 }
 
-fn without_sign(text: &[u8]) -> &[u8]
+/// A word without its sign.
+pub fn without_sign(text: &[u8]) -> &[u8]
     ensures { result.now ≡ without_sign text.now }
 {
     match text {
