@@ -1,5 +1,7 @@
--- Boxes left as chains: each is the working box as it was after some of its changes, with one column narrowed.
-use Rattle.std.specs.Prelude.{◌≡◌, ℕ, ℤ, pos, ◌+ℤ◌, ◌<◌, ◌≤◌, List, [], ◌∷◌, ◌++◌, length, drop, map, slice_set, All, Option, Some, None}
+-- Boxes left as chains: each is the working box as it was after some of its changes, with one
+-- column narrowed.
+use Rattle.std.specs.Prelude.{◌≡◌, ℕ, ℤ, pos, ◌+ℤ◌, ◌<◌, ◌≤◌, List, [], ◌∷◌, ◌++◌, length, drop}
+use Rattle.std.specs.Prelude.{map, slice_set, All, Option, Some, None}
 use Rattle.ug_rows.specs.declared.area.Interval.{Interval}
 use Rattle.ug_rows.specs.Boxes.{IsBelow, IsClosedWithin, IsNonEmpty, interval_at}
 use Rattle.ug_rows.specs.Sums.{box_floor}
@@ -43,7 +45,8 @@ IsCut p base None = Unit {0}
 IsCut p base (Some cut) = IsNarrowing p base cut
 
 -- a part of the search of a whole box, over this working box
-pub record IsPart (p : Instance) (whole : List Interval) (work : WorkState) (part : Part) : Type 0 where
+pub record IsPart (p : Instance) (whole : List Interval) (work : WorkState) (part : Part) :
+    Type 0 where
   pub deep : part.depth ≤ length work.trail
   pub below : IsBelow (base_of work part) whole
   pub cut : IsCut p (base_of work part) part.cut
@@ -66,7 +69,8 @@ Rise [] = Unit {0}
 Rise (part ∷ parts) = All (λ (later : Part). part.depth ≤ later.depth) parts × Rise parts
 
 -- the parts of the search
-pub record IsChain (p : Instance) (whole : List Interval) (work : WorkState) (parts : List Part) : Type 0 where
+pub record IsChain (p : Instance) (whole : List Interval) (work : WorkState) (parts : List Part) :
+    Type 0 where
   pub base : IsBase p whole work
   pub each : All (IsPart p whole work) parts
   pub rising : Rise parts
@@ -86,8 +90,10 @@ abbrev pub other_side : Half → Interval → ℤ → Interval
 other_side Lower side middle = record { low = middle +ℤ pos 1; high = side.high }
 other_side Upper side middle = record { low = side.low; high = middle }
 
--- two parts are in the last one's place: the halves of the working box, the one that is looked at first the last
-pub record HasSplit (p : Instance) (whole : List Interval) (work : WorkState) (half : Half) (branch : Branch)
+-- two parts are in the last one's place: the halves of the working box, the one that is looked at
+-- first the last
+pub record HasSplit (p : Instance) (whole : List Interval) (work : WorkState) (half : Half)
+    (branch : Branch)
     (old new : List Part) : Type 0 where
   pub first : Part
   pub second : Part

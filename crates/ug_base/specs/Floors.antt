@@ -1,5 +1,6 @@
 -- The least of the floors of boxes.
-use Rattle.std.specs.Prelude.{◌≡◌, ℕ, ℤ, pos, ◌<◌, ◌≤ℤ◌, List, map, slice_index_or, Option, Some, None}
+use Rattle.std.specs.Prelude.{◌≡◌, ℕ, ℤ, pos, ◌<◌, ◌≤ℤ◌, List, map, slice_index_or, Option, Some}
+use Rattle.std.specs.Prelude.{None}
 use Rattle.ug_base.specs.declared.part.Part.{Part}
 
 -- the floors that are kept beside the boxes

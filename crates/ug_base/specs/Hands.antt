@@ -1,4 +1,5 @@
--- What handing does: the first of the boxes left is no longer left, and is the last of the boxes handed.
+-- What handing does: the first of the boxes left is no longer left, and is the last of the boxes
+-- handed.
 use Rattle.std.specs.Prelude.{◌≡◌, ◌<◌, ◌≤◌, List, [], ◌∷◌, ◌++◌, length, Option, Some, None}
 use Rattle.ug_rows.specs.declared.area.Interval.{Interval}
 use Rattle.ug_base.specs.declared.handed.Handed.{Handed}
@@ -9,13 +10,15 @@ use Rattle.ug_base.specs.Points.{measure_of}
 use Rattle.ug_base.specs.Tasks.{TaskState}
 
 -- the box of the first part is moved behind other boxes
-pub record IsMoved (work : WorkState) (old new : List Part) (others_old others_new : List (List Interval)) (area : List Interval) : Type 0 where
+pub record IsMoved (work : WorkState) (old new : List Part)
+    (others_old others_new : List (List Interval)) (area : List Interval) : Type 0 where
   pub part : Part
   pub first : old ≡ part ∷ new
   pub area_is : area ≡ area_of work part
   pub last : others_new ≡ others_old ++ area ∷ []
 
--- of two boxes left or more the first is handed, and its number is its place among the boxes handed; nothing else changed
+-- of two boxes left or more the first is handed, and its number is its place among the boxes
+-- handed; nothing else changed
 pub record IsHanded (old new : TaskState) (given : Handed) : Type 0 where
   pub two : 2 ≤ length old.boxes
   pub boxes : old.boxes ≡ given.area ∷ new.boxes

@@ -31,14 +31,16 @@ pub record Halves : Type 0 where
 
 -- the halves of the box at the branch
 abbrev pub halves_at : Half → List Interval → Branch → Halves
-halves_at half area branch = record { first = first_half half area branch; second = other_half half area branch }
+halves_at half area branch =
+    record { first = first_half half area branch; second = other_half half area branch }
 
 -- the point with each column at its low
 abbrev pub lows_of : List Interval → List ℤ
 lows_of area = map (λ (side : Interval). side.low) area
 
 -- the halves of the box at the branch, in the order in which they are looked at
-pub record AreOrdered (half : Half) (area : List Interval) (branch : Branch) (halves : Halves) : Type 0 where
+pub record AreOrdered (half : Half) (area : List Interval) (branch : Branch) (halves : Halves) :
+    Type 0 where
   pub first : halves.first ≡ first_half half area branch
   pub second : halves.second ≡ other_half half area branch
 
@@ -73,7 +75,8 @@ pub record IsSeenHopeless (p : Instance) (cutoff : Option ℤ) (area : List Inte
   pub none : HasNoGood p cutoff area
 
 -- x is good, and no other point of the box is
-pub record IsSeenSolved (p : Instance) (cutoff : Option ℤ) (area : List Interval) (x : List ℤ) : Type 0 where
+pub record IsSeenSolved (p : Instance) (cutoff : Option ℤ) (area : List Interval) (x : List ℤ) :
+    Type 0 where
   pub inner : List Interval
   pub left : rounds p cutoff area ≡ Kept inner
   pub fixed : IsFixed inner
@@ -82,7 +85,8 @@ pub record IsSeenSolved (p : Instance) (cutoff : Option ℤ) (area : List Interv
   pub alone : (y : List ℤ) → IsInside area y → IsGood p cutoff y → y ≡ x
 
 -- the halves are below the box, have each good point of it, and leave less to search
-pub record IsSeenHalved (p : Instance) (cutoff : Option ℤ) (params : Params) (area : List Interval) (halves : Halves) : Type 0 where
+pub record IsSeenHalved (p : Instance) (cutoff : Option ℤ) (params : Params) (area : List Interval)
+    (halves : Halves) : Type 0 where
   pub inner : List Interval
   pub left : rounds p cutoff area ≡ Kept inner
   pub some : IsNonEmpty inner
@@ -91,11 +95,13 @@ pub record IsSeenHalved (p : Instance) (cutoff : Option ℤ) (params : Params) (
   pub ordered : AreOrdered params.half inner branch halves
   pub below_first : IsBelow halves.first area
   pub below_second : IsBelow halves.second area
-  pub kept : (y : List ℤ) → IsInside area y → IsGood p cutoff y → IsInside halves.first y ⊎ IsInside halves.second y
+  pub kept : (y : List ℤ) → IsInside area y → IsGood p cutoff y
+      → IsInside halves.first y ⊎ IsInside halves.second y
   pub less : weight_of halves.second + weight_of halves.first < weight_of area
 
 -- the working box is what is left of the box, and has two halves
-pub record IsSeenBranched (p : Instance) (cutoff : Option ℤ) (params : Params) (area : List Interval) (work : WorkState) (branch : Branch) : Type 0 where
+pub record IsSeenBranched (p : Instance) (cutoff : Option ℤ) (params : Params)
+    (area : List Interval) (work : WorkState) (branch : Branch) : Type 0 where
   pub halved : IsSeenHalved p cutoff params area (halves_at params.half work.sums.area branch)
   pub branched : IsBranched params work.sums.area branch
   pub left : rounds p cutoff area ≡ Kept work.sums.area

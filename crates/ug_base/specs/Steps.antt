@@ -1,4 +1,5 @@
--- What a step does: it takes the last box left, and drops it, finds its one point good, or halves it.
+-- What a step does: it takes the last box left, and drops it, finds its one point good, or halves
+-- it.
 use Rattle.std.specs.Prelude.{◌≡◌, ℤ, ◌<◌, List, [], ◌∷◌, ◌++◌, Some}
 use Rattle.ug_rows.specs.declared.area.Interval.{Interval}
 use Rattle.ug_rows.specs.Boxes.{IsInside, IsNonEmpty, IsCrossed, IsFixed}
@@ -26,7 +27,8 @@ pub record IsPruned (old new : TaskState) : Type 0 where
   pub same : new ≡ record old { boxes = new.boxes }
   pub hopeless : IsHopeless (rounds old.problem old.cutoff last)
 
--- of the last box the point x was left, which is good; the box is dropped, and the cutoff is now that of x under the gap
+-- of the last box the point x was left, which is good; the box is dropped, and the cutoff is now
+-- that of x under the gap
 pub record IsFound (old new : TaskState) (x : List ℤ) : Type 0 where
   pub last : List Interval
   pub boxes : old.boxes ≡ new.boxes ++ last ∷ []
@@ -37,7 +39,8 @@ pub record IsFound (old new : TaskState) (x : List ℤ) : Type 0 where
   pub good : IsGood old.problem old.cutoff x
   pub same : new ≡ record old { boxes = new.boxes; cutoff = Some (cutoff_of old.problem old.gap x) }
 
--- what was left of the last box has more points than one, and its two halves are in the box's place, the first the last
+-- what was left of the last box has more points than one, and its two halves are in the box's
+-- place, the first the last
 pub record IsSplit (old new : TaskState) : Type 0 where
   pub before : List (List Interval)
   pub last : List Interval
@@ -47,9 +50,13 @@ pub record IsSplit (old new : TaskState) : Type 0 where
   pub some : IsNonEmpty inner
   pub branch : Branch
   pub chosen : IsChosen old.params inner branch
-  pub same : new ≡ record old { boxes = before ++ other_half old.params.half inner branch ∷ first_half old.params.half inner branch ∷ [] }
+  pub same : new ≡ record old {
+    boxes = before ++ other_half old.params.half inner branch
+        ∷ first_half old.params.half inner branch ∷ [];
+  }
 
--- no box was left, so each good point of the whole box lies in a box handed, and none is good where none was; nothing changed
+-- no box was left, so each good point of the whole box lies in a box handed, and none is good where
+-- none was; nothing changed
 pub record IsEnded (old new : TaskState) : Type 0 where
   pub none : old.boxes ≡ []
   pub same : new ≡ old

@@ -1,5 +1,6 @@
 -- A task: the search of a whole box for points with a value below the cutoff.
-use Rattle.std.specs.Prelude.{◌≡◌, ℤ, ◌≤ℤ◌, List, All, Contains, Option, Some, None, int_lt, if◌then◌else◌}
+use Rattle.std.specs.Prelude.{◌≡◌, ℤ, ◌≤ℤ◌, List, All, Contains, Option, Some, None, int_lt}
+use Rattle.std.specs.Prelude.{if◌then◌else◌}
 use Rattle.ug_rows.specs.declared.area.Interval.{Interval}
 use Rattle.ug_rows.specs.Boxes.{IsBelow, IsInside, IsInOne}
 use Rattle.ug_rows.specs.Rows.{value_of}
@@ -11,8 +12,9 @@ use Rattle.ug_nodes.specs.declared.name.Ticket.{Ticket}
 use Rattle.ug_problem.specs.Better.{IsGap, IsGood, IsSmallCutoff}
 use Rattle.ug_base.specs.Covers.{AreCovered}
 
--- the problem, the ticket that the task was given with, how its boxes are halved, the whole box, the cutoff if there is one,
--- the gap, the boxes left, and the boxes handed, in the order in which they were handed
+-- the problem, the ticket that the task was given with, how its boxes are halved, the whole box,
+-- the cutoff if there is one, the gap, the boxes left, and the boxes handed, in the order in which
+-- they were handed
 pub record TaskState : Type 0 where
   pub problem : Instance
   pub ticket : Ticket
@@ -27,7 +29,8 @@ pub record TaskState : Type 0 where
 abbrev pub AreBelow : List Interval → List (List Interval) → Type 0
 AreBelow whole boxes = All (λ (area : List Interval). IsBelow area whole) boxes
 
--- what every task is: the boxes left and those handed are below the whole box, and have each good point of it
+-- what every task is: the boxes left and those handed are below the whole box, and have each good
+-- point of it
 pub record IsTask (t : TaskState) : Type 0 where
   pub problem : IsProblem t.problem
   pub whole : IsBelow t.whole (root_of t.problem)
@@ -51,5 +54,6 @@ pub record IsLeastFloor (p : Instance) (boxes : List (List Interval)) (low : ℤ
 
 -- each good point of the whole box that is in no box handed has at least this value
 abbrev pub BoundsTheRest : TaskState → ℤ → Type 0
-BoundsTheRest t low = (x : List ℤ) → IsInside t.whole x → IsGood t.problem t.cutoff x → ¬ IsInOne t.handed x
+BoundsTheRest t low = (x : List ℤ) → IsInside t.whole x → IsGood t.problem t.cutoff x
+    → ¬ IsInOne t.handed x
     → low ≤ℤ value_of t.problem.objective x

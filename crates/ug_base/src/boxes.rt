@@ -7,7 +7,8 @@ use std::alloc::AllocError;
 /// The last part.
 #[tactic(auto, using(crate::proofs::LastBox::last_split, crate::proofs::LastBox::none_last))]
 pub fn last_of(parts: &Vec<Part>) -> Option<Part>
-    ensures { MatchOption result (parts.now.items ≡ []) (λ last. parts.now.items ≡ front_of parts.now.items ++ last ∷ []) }
+    ensures { MatchOption result (parts.now.items ≡ [])
+        (λ last. parts.now.items ≡ front_of parts.now.items ++ last ∷ []) }
 {
     parts.as_slice().last().copied()
 }
@@ -19,7 +20,8 @@ pub fn drop_last(parts: &mut Vec<Part>)
     parts.pop();
 }
 
-/// Puts two parts in the last one's place, the first the last. After an error the parts are as they were.
+/// Puts two parts in the last one's place, the first the last. After an error the parts are as they
+/// were.
 #[tactic(auto, using(crate::proofs::LastBox::halves_put))]
 pub fn replace_last(parts: &mut Vec<Part>, first: Part, second: Part) -> Result<(), AllocError>
     requires { 0 < length parts.old.items }

@@ -27,7 +27,8 @@ pub enum Seen {
     Halved(Branch),
 }
 
-// Brings the working box to the one at which a part was split off, with the rows awake that may not be at rest.
+// Brings the working box to the one at which a part was split off, with the rows awake that may not
+// be at rest.
 fn begin(work: &mut Working, problem: &Problem, whole: &IntBox, part: Part, cutoff: Option<i128>)
     requires whole { IsBelow whole.now (root_of problem.now) }
     requires base { IsBase problem.now whole.now work.old }
@@ -90,7 +91,8 @@ fn enter(
     ensures kept { KeepsBases part.depth work.old work.new }
     ensures working { IsWorking problem.now cutoff work.new }
     ensures area { OnOk result (work.new.sums.area ≡ area_of work.old part) }
-    ensures some { IfOk result (λ some. MatchBool some (IsNonEmpty work.new.sums.area) (IsCrossed work.new.sums.area)) }
+    ensures some { IfOk result
+        (λ some. MatchBool some (IsNonEmpty work.new.sums.area) (IsCrossed work.new.sums.area)) }
 {
     begin(work, problem, whole, part, cutoff);
     narrow(work, problem, cutoff, part.cut)?;
@@ -133,8 +135,8 @@ fn look_inside(
     }
 }
 
-/// A look at the box of a part. The working box is then what bound propagation leaves of it, where it has halves.
-/// The boxes of the parts before it are as they were.
+/// A look at the box of a part. The working box is then what bound propagation leaves of it, where
+/// it has halves. The boxes of the parts before it are as they were.
 pub fn look(
     alloc: Global,
     work: &mut Working,

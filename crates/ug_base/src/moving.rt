@@ -44,7 +44,8 @@ pub fn box_of(alloc: Global, work: &Working, part: Part) -> Result<IntBox, Alloc
     Ok(IntBox::from_vec(sides))
 }
 
-/// Moves the box of the first part behind other boxes, and gives a copy of it. After an error all are as they were.
+/// Moves the box of the first part behind other boxes, and gives a copy of it. After an error all
+/// are as they were.
 pub fn move_first(
     alloc: Global,
     work: &Working,
@@ -53,7 +54,8 @@ pub fn move_first(
 ) -> Result<IntBox, AllocError>
     requires some { 0 < length parts.old.items }
     requires deep { (slice_index_or parts.old.items 0 no_part).depth ≤ length work.now.trail }
-    ensures ok { IfOk result (IsMoved work.now parts.old.items parts.new.items others.old.items others.new.items) }
+    ensures ok { IfOk result
+        (IsMoved work.now parts.old.items parts.new.items others.old.items others.new.items) }
     ensures parts { OnErr result (parts.new.items ≡ parts.old.items) }
     ensures others { OnErr result (others.new.items ≡ others.old.items) }
 {

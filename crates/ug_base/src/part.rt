@@ -8,8 +8,8 @@ pub struct Narrowing {
     pub side: Interval,
 }
 
-/// A box left to search, as a change against its parent: the working box as it was after `depth` changes, with one
-/// column narrowed. The whole box has none narrowed.
+/// A box left to search, as a change against its parent: the working box as it was after `depth`
+/// changes, with one column narrowed. The whole box has none narrowed.
 #[derive(Clone, Copy, Debug)]
 pub struct Part {
     pub depth: usize,

@@ -74,8 +74,10 @@ struct Sides {
 // The halves of the interval of the branch's column.
 fn sides_at(work: &Working, params: Params, branch: Branch) -> Sides
     requires { IsBranched params work.now.sums.area branch }
-    ensures first { result.first ≡ first_side params.half (interval_at work.now.sums.area branch.column) branch.middle }
-    ensures second { result.second ≡ other_side params.half (interval_at work.now.sums.area branch.column) branch.middle }
+    ensures first { result.first
+        ≡ first_side params.half (interval_at work.now.sums.area branch.column) branch.middle }
+    ensures second { result.second
+        ≡ other_side params.half (interval_at work.now.sums.area branch.column) branch.middle }
 {
     let side = work.sides()[branch.column as usize];
     Sides {
@@ -85,7 +87,12 @@ fn sides_at(work: &Working, params: Params, branch: Branch) -> Sides
 }
 
 fn part_of(depth: usize, column: u32, side: Interval, floor: i128, rest: Rest) -> Part
-    ensures { result ≡ record { depth = depth; cut = Some (record { column = column; side = side }); floor = floor; rest = rest } }
+    ensures { result ≡ record {
+      depth = depth;
+      cut = Some (record { column = column; side = side });
+      floor = floor;
+      rest = rest;
+    } }
 {
     Part {
         depth,
@@ -133,7 +140,9 @@ fn split(
     requires below { IsBelow work.now.sums.area whole.now }
     requires working { IsWorking problem.now cutoff work.now }
     requires branched { IsBranched params work.now.sums.area branch }
-    ensures ok { OnOk result (HasSplit problem.now whole.now work.now params.half branch parts.old.items parts.new.items) }
+    ensures ok { OnOk result
+        (HasSplit problem.now whole.now work.now params.half branch parts.old.items
+        parts.new.items) }
     ensures err { OnErr result (parts.new.items ≡ parts.old.items) }
 {
     let rest = rest_after(work, problem, cutoff);
@@ -144,8 +153,8 @@ fn split(
     Ok(())
 }
 
-/// Puts two halves of the working box in the last part's place, the one that is looked at first the last. After an error
-/// the parts are as they were.
+/// Puts two halves of the working box in the last part's place, the one that is looked at first the
+/// last. After an error the parts are as they were.
 pub fn split_last(
     work: &Working,
     problem: &Shared,
@@ -160,7 +169,9 @@ pub fn split_last(
     requires below { IsBelow work.now.sums.area whole.now }
     requires working { IsWorking problem.now cutoff work.now }
     requires branched { IsBranched params work.now.sums.area branch }
-    ensures ok { OnOk result (HasSplit problem.now whole.now work.now params.half branch parts.old.items parts.new.items) }
+    ensures ok { OnOk result
+        (HasSplit problem.now whole.now work.now params.half branch parts.old.items
+        parts.new.items) }
     ensures err { OnErr result (parts.new.items ≡ parts.old.items) }
 {
     split(

@@ -5,7 +5,8 @@ use ug_rows::Point;
 pub enum Step {
     /// It has no feasible point with a value below the cutoff, and was dropped.
     Pruned,
-    /// This point of it is feasible, and its value, below the cutoff before, is the cutoff now. The box was dropped.
+    /// This point of it is feasible, and its value, below the cutoff before, is the cutoff now. The
+    /// box was dropped.
     Found(Point),
     /// Its two halves were put in its place.
     Split,

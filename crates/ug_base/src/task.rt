@@ -58,7 +58,12 @@ impl Model for Task {
 // The whole box as the one box left.
 fn only_part(work: &Working, problem: &Problem) -> Part
     requires { IsBox problem.now work.now }
-    ensures { result ≡ record { depth = 0; cut = None; floor = box_floor problem.now.objective work.now.sums.area; rest = Unknown } }
+    ensures { result ≡ record {
+      depth = 0;
+      cut = None;
+      floor = box_floor problem.now.objective work.now.sums.area;
+      rest = Unknown;
+    } }
 {
     Part {
         depth: 0,
@@ -71,7 +76,13 @@ fn only_part(work: &Working, problem: &Problem) -> Part
 // The same, alone.
 fn only_left(alloc: Global, work: &Working, problem: &Problem) -> Result<Vec<Part>, AllocError>
     requires { IsBox problem.now work.now }
-    ensures { IfOk result (λ parts. parts.items ≡ record { depth = 0; cut = None; floor = box_floor problem.now.objective work.now.sums.area; rest = Unknown } ∷ []) }
+    ensures { IfOk result (λ parts. parts.items
+        ≡ record {
+          depth = 0;
+          cut = None;
+          floor = box_floor problem.now.objective work.now.sums.area;
+          rest = Unknown;
+        } ∷ []) }
 {
     let mut parts = Vec::new(alloc);
     parts.push(only_part(work, problem))?;
@@ -88,7 +99,8 @@ fn cutoff_at(problem: &Shared, gap: i128, point: &Point) -> Option<i128>
 }
 
 impl Task {
-    /// The task with the whole box left and none handed. It copies the box, and takes the sums of all rows over it.
+    /// The task with the whole box left and none handed. It copies the box, and takes the sums of
+    /// all rows over it.
     pub fn new(
         alloc: Global,
         problem: Shared,
@@ -130,8 +142,8 @@ impl Task {
         })
     }
 
-    /// Takes the last box left, and drops it, answers its one point, or puts its halves in its place.
-    /// After an error the task is as it was.
+    /// Takes the last box left, and drops it, answers its one point, or puts its halves in its
+    /// place. After an error the task is as it was.
     pub fn step(&mut self) -> Result<Step, AllocError>
         ensures took { IfOk result (TookStep self.old self.new) }
         ensures empty { IfOk result (λ step. (step ≡ Empty) ↔ (self.old.boxes ≡ [])) }
@@ -177,8 +189,8 @@ impl Task {
         }
     }
 
-    /// Hands the first box left to another, unless fewer than two are left: it is no longer left here.
-    /// After an error the task is as it was.
+    /// Hands the first box left to another, unless fewer than two are left: it is no longer left
+    /// here. After an error the task is as it was.
     pub fn hand(&mut self) -> Result<Option<Handed>, AllocError>
         ensures handed { IfOk result (DidHand self.old self.new) }
         ensures none { IfOk result (λ given. IsNone given ↔ (length self.old.boxes < 2)) }
@@ -205,14 +217,18 @@ impl Task {
     pub fn left(&self) -> u64
         ensures count { result ≡ length self.now.boxes }
         ensures below { AreBelow self.now.whole self.now.boxes }
-        ensures covered { AreCovered self.now.problem self.now.cutoff self.now.whole self.now.boxes self.now.handed }
-        ensures ended { result ≡ 0 → AreAllHanded self.now.problem self.now.cutoff self.now.whole self.now.handed }
-        ensures alone { result ≡ 0 → self.now.handed ≡ [] → HasNoGood self.now.problem self.now.cutoff self.now.whole }
+        ensures covered { AreCovered self.now.problem self.now.cutoff self.now.whole self.now.boxes
+            self.now.handed }
+        ensures ended { result ≡ 0
+            → AreAllHanded self.now.problem self.now.cutoff self.now.whole self.now.handed }
+        ensures alone { result ≡ 0 → self.now.handed ≡ []
+            → HasNoGood self.now.problem self.now.cutoff self.now.whole }
     {
         self.parts.len() as u64
     }
 
-    /// The least value that the objective could have in a box left. It takes no memory: the floor of a box is kept beside it.
+    /// The least value that the objective could have in a box left. It takes no memory: the floor
+    /// of a box is kept beside it.
     pub fn lowest(&mut self) -> Option<i128>
         ensures same { self.new ≡ self.old }
         ensures none { IsNone result ↔ (self.old.boxes ≡ []) }
@@ -254,7 +270,8 @@ impl Task {
         &self.whole
     }
 
-    /// By how much a value has to be less than that of a point found, multiplied by ten to the objective's scale.
+    /// By how much a value has to be less than that of a point found, multiplied by ten to the
+    /// objective's scale.
     pub fn gap(&self) -> i128
         ensures value { result ≡ self.now.gap }
         ensures gap { IsGap self.now.gap }

@@ -1,17 +1,21 @@
 -- What is still to come of an image's bytes from one of its lines on, each list before what stands
 -- behind it.
-use Rattle.std.specs.Prelude.{ℕ, ℤ, ◌+◌, List, [], ◌∷◌, ◌++◌, length, drop, slice_index_or, Option, None, Some}
+use Rattle.std.specs.Prelude.{ℕ, ℤ, ◌+◌, List, [], ◌∷◌, ◌++◌, length, drop, slice_index_or, Option}
+use Rattle.std.specs.Prelude.{None, Some}
 use Rattle.std.specs.List.{flat_map}
 use Rattle.ug_rows.specs.declared.row.Objective.{Objective}
 use Rattle.ug_problem.specs.declared.column.NamedRow.{NamedRow}
 use Rattle.ug_problem.specs.Instances.{no_row}
-use Rattle.ug_records.specs.Spelling.{count_field, bound_field, number_field, name_field, side_field, sense_field, term_fields, column_fields, row_fields, record_of}
+use Rattle.ug_records.specs.Spelling.{count_field, bound_field, number_field, name_field}
+use Rattle.ug_records.specs.Spelling.{side_field, sense_field, term_fields, column_fields}
+use Rattle.ug_records.specs.Spelling.{row_fields, record_of}
 use Rattle.ug_image.specs.declared.image.Image.{Image}
 use Rattle.ug_image.specs.declared.image.SavedNode.{SavedNode}
 use Rattle.ug_image.specs.Images.{node_at}
 use Rattle.ug_image.specs.Spelling.{long_field, name_fields, change_fields, node_fields}
 use Rattle.ug_blocks.specs.declared.stage.Stage.{Stage}
-use Rattle.ug_blocks.specs.declared.stage.Stage.TheVariants.{Front, Column, Row, Term as RowTerm, LastTerm, Value, Node, Change}
+use Rattle.ug_blocks.specs.declared.stage.Stage.TheVariants.{Front, Column, Row, Term as RowTerm}
+use Rattle.ug_blocks.specs.declared.stage.Stage.TheVariants.{LastTerm, Value, Node, Change}
 
 -- the line before the columns
 unfoldable pub front_line : ℕ → ℕ → ℕ → ℕ → List ℕ

@@ -4,7 +4,8 @@ use Rattle.ug_image.specs.declared.image.Image.{Image}
 use Rattle.ug_blocks.specs.declared.stage.Stage.{Stage}
 use Rattle.ug_blocks.specs.Rests.{rest_at}
 
--- the line is the front of what is to come, which goes on at the stage; it is empty at the end alone
+-- the line is the front of what is to come, which goes on at the stage; it is empty at the end
+-- alone
 pub record IsNextLine (image : Image) (rest line : List ℕ) (stage : Stage) : Type 0 where
   pub parts : rest ≡ line ++ rest_at image stage
   pub last : line ≡ [] → rest_at image stage ≡ []

@@ -1,11 +1,14 @@
 -- What was done under an answer, before the death that may follow it.
-use Rattle.std.specs.Prelude.{◌≡◌, ℕ, ℤ, ◌+◌, ◌^◌, if◌then◌else◌, nat_lt, Bool, true, false, List, Option, Some}
+use Rattle.std.specs.Prelude.{◌≡◌, ℕ, ℤ, ◌+◌, ◌^◌, if◌then◌else◌, nat_lt, Bool, true, false, List}
+use Rattle.std.specs.Prelude.{Option, Some}
 use Rattle.ug_pool.specs.declared.entry.Entry.{Entry}
 use Rattle.ug_pool.specs.Pools.{Pooled}
 use Rattle.ug_frames.specs.declared.report.Report.{Report}
 use Rattle.ug_ranks.specs.declared.state.State.{State}
 use Rattle.ug_rules.specs.declared.heard.Heard.{Heard}
-use Rattle.ug_rules.specs.declared.heard.Heard.TheVariants.{Kept, Stale, Early, Broken, NotBetter, InRace, Again, Gap, Outside, Unbacked, Short, Memory}
+use Rattle.ug_rules.specs.declared.heard.Heard.TheVariants.{Kept, Stale, Early, Broken, NotBetter}
+use Rattle.ug_rules.specs.declared.heard.Heard.TheVariants.{InRace, Again, Gap, Outside, Unbacked}
+use Rattle.ug_rules.specs.declared.heard.Heard.TheVariants.{Short, Memory}
 use Rattle.ug_rules.specs.State.{BookState}
 use Rattle.ug_rules.specs.Deaths.{killed}
 use Rattle.ug_rules.specs.Hearing.{IsDue, kept}

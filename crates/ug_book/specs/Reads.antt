@@ -1,7 +1,8 @@
 -- What is read of a book.
 use Rattle.std.specs.Prelude.{◌≡◌, Bool, true, false, [], ◌∷◌}
 use Rattle.ug_problem.specs.declared.answer.Answer.{Answer}
-use Rattle.ug_problem.specs.declared.answer.Answer.TheVariants.{Optimal as IsOptimal, Infeasible as IsInfeasible}
+use Rattle.ug_problem.specs.declared.answer.Answer.TheVariants.{Optimal as IsOptimal}
+use Rattle.ug_problem.specs.declared.answer.Answer.TheVariants.{Infeasible as IsInfeasible}
 use Rattle.ug_ranks.specs.declared.state.State.{State}
 use Rattle.ug_ranks.specs.declared.state.State.TheVariants.{Absent, Idle, Racing, Active, Dead}
 use Rattle.ug_ledger.specs.Answers.{answer_of}

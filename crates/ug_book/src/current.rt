@@ -32,8 +32,8 @@ impl Book {
         current_at(self.ranks.state(rank), &self.raced)
     }
 
-    /// The boxes of the hands that were taken under the ticket of a rank, in order; none where it has
-    /// no ticket.
+    /// The boxes of the hands that were taken under the ticket of a rank, in order; none where it
+    /// has no ticket.
     pub fn taken(&self, rank: u32) -> &[IntBox]
         requires { rank < length self.now.ranks }
         ensures { result.now ≡ taken_at (state_at self.now.ranks rank) }

@@ -15,8 +15,8 @@ use ug_rules::Settings;
 
 impl Book {
     /// Decides: drops the nodes without a better point, announces a cutoff that is new, ends a race
-    /// that is won, begins one that is due or else gives nodes out, and asks for open nodes or tells
-    /// that there are enough. An error says how many of its steps stand.
+    /// that is won, begins one that is due or else gives nodes out, and asks for open nodes or
+    /// tells that there are enough. An error says how many of its steps stand.
     ///
     /// After it no node in the pool is beyond the incumbent's cutoff, and no rank is idle beside a
     /// node that it could have. A sound book stays sound, after an error too.

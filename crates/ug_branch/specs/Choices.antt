@@ -1,5 +1,6 @@
 -- Which column of a box is halved, at which value, and what its halves are.
-use Rattle.std.specs.Prelude.{◌≡◌, ◌↔◌, ℕ, ℤ, pos, ◌+ℤ◌, ◌-ℤ◌, ◌*ℤ◌, ◌<◌, ◌≤◌, ◌≤ℤ◌, ◌<ℤ◌, ◌⊎◌, List, length, slice_set, Option, Some, None}
+use Rattle.std.specs.Prelude.{◌≡◌, ◌↔◌, ℕ, ℤ, pos, ◌+ℤ◌, ◌-ℤ◌, ◌*ℤ◌, ◌<◌, ◌≤◌, ◌≤ℤ◌, ◌<ℤ◌, ◌⊎◌}
+use Rattle.std.specs.Prelude.{List, length, slice_set, Option, Some, None}
 use Rattle.ug_rows.specs.declared.area.Interval.{Interval}
 use Rattle.ug_rows.specs.Boxes.{IsInside, IsBelow, interval_at}
 use Rattle.ug_branch.specs.declared.params.Params.{Params}
@@ -70,21 +71,27 @@ IsBest params area n (Some c) = IsBestOf params area n c
 -- the box with the branch's column up to its middle
 abbrev pub lower_half : List Interval → Branch → List Interval
 lower_half area branch =
-    slice_set area branch.column (record { low = (interval_at area branch.column).low; high = branch.middle })
+    slice_set area branch.column
+    (record { low = (interval_at area branch.column).low; high = branch.middle })
 
 -- the box with the branch's column from the value after its middle
 abbrev pub upper_half : List Interval → Branch → List Interval
 upper_half area branch =
-    slice_set area branch.column (record { low = branch.middle +ℤ pos 1; high = (interval_at area branch.column).high })
+    slice_set area branch.column
+    (record { low = branch.middle +ℤ pos 1; high = (interval_at area branch.column).high })
 
 -- column c of the box has a value
 abbrev pub HasValue : List Interval → ℕ → Type 0
 HasValue area c = (interval_at area c).low ≤ℤ (interval_at area c).high
 
--- the two halves of a box: each of its points is in one of them and in one alone, and each is a narrower box
+-- the two halves of a box: each of its points is in one of them and in one alone, and each is a
+-- narrower box
 pub record AreHalves (area : List Interval) (branch : Branch) : Type 0 where
-  pub halves : (x : List ℤ) → IsInside area x ↔ (IsInside (lower_half area branch) x ⊎ IsInside (upper_half area branch) x)
-  pub apart : (x : List ℤ) → IsInside (lower_half area branch) x → IsInside (upper_half area branch) x → ⊥
+  pub halves : (x : List ℤ)
+      → IsInside area x
+      ↔ (IsInside (lower_half area branch) x ⊎ IsInside (upper_half area branch) x)
+  pub apart : (x : List ℤ) → IsInside (lower_half area branch) x
+      → IsInside (upper_half area branch) x → ⊥
   pub lower : IsBelow (lower_half area branch) area
   pub upper : IsBelow (upper_half area branch) area
   pub lower_has : HasValue (lower_half area branch) branch.column

@@ -112,7 +112,8 @@ fn first_of(params: Params, sides: &[Interval], before: usize, later: usize) -> 
 fn is_ahead(params: Params, sides: &[Interval], before: usize, later: usize) -> bool
     requires before { before < later }
     requires later { later < length sides.now }
-    ensures { MatchBool result (IsAhead params sides.now later before) (IsAhead params sides.now before later) }
+    ensures { MatchBool result (IsAhead params sides.now later before)
+        (IsAhead params sides.now before later) }
 {
     match params.pick {
         Pick::Place => match params.end {

@@ -1,5 +1,6 @@
 -- The bytes of a slot: the gate, the length of an image in eight bytes, and the image.
-use Rattle.std.specs.Prelude.{◌≡◌, ◌⊎◌, ℕ, ◌+◌, ◌≤◌, List, ◌++◌, length, take, drop, Option, None, Some}
+use Rattle.std.specs.Prelude.{◌≡◌, ◌⊎◌, ℕ, ◌+◌, ◌≤◌, List, ◌++◌, length, take, drop, Option, None}
+use Rattle.std.specs.Prelude.{Some}
 use Rattle.std.specs.Int.{w64, from_be_bytes}
 use Rattle.ug_slots.specs.Gates.{IsOpen}
 use Rattle.ug_image.specs.declared.image.Image.{Image}

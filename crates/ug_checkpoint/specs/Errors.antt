@@ -1,6 +1,7 @@
 -- The errors of a load.
 use Rattle.ug_disk.specs.declared.reading.ReadError.{ReadError}
-use Rattle.ug_disk.specs.declared.reading.ReadError.TheVariants.{Memory as NoMemory, Fault as DiskFault}
+use Rattle.ug_disk.specs.declared.reading.ReadError.TheVariants.{Memory as NoMemory}
+use Rattle.ug_disk.specs.declared.reading.ReadError.TheVariants.{Fault as DiskFault}
 use Rattle.ug_checkpoint.specs.declared.error.LoadError.{LoadError}
 use Rattle.ug_checkpoint.specs.declared.error.LoadError.TheVariants.{Memory, Fault}
 

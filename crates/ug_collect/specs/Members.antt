@@ -1,5 +1,6 @@
 -- The members that can be asked for nodes, which of them is asked, and those that are collecting.
-use Rattle.std.specs.Prelude.{◌≡◌, ℕ, ◌<◌, ◌≤◌, ◌<ℤ◌, ◌⊎◌, false, IsTrue, List, Option, Some, None, map, filter, All, Any}
+use Rattle.std.specs.Prelude.{◌≡◌, ℕ, ◌<◌, ◌≤◌, ◌<ℤ◌, ◌⊎◌, false, IsTrue, List, Option, Some, None}
+use Rattle.std.specs.Prelude.{map, filter, All, Any}
 use Rattle.std.specs.List.{AllPairs}
 use Rattle.ug_ramp.specs.Firsts.{IsFirstBy}
 use Rattle.ug_collect.specs.declared.member.Member.{Member}

@@ -4,7 +4,8 @@ use Rattle.std.specs.List.{AllPairs}
 use Rattle.ug_collect.specs.declared.member.Member.{Member}
 use Rattle.ug_collect.specs.declared.demand.Wanted.{Wanted}
 use Rattle.ug_collect.specs.declared.demand.Wanted.TheVariants.{Ask, Enough, Nothing}
-use Rattle.ug_collect.specs.Members.{NoneCanBeAsked, IsFirstRank, IsAnyCollecting, IsNoneCollecting, collecting_ranks}
+use Rattle.ug_collect.specs.Members.{NoneCanBeAsked, IsFirstRank, IsAnyCollecting, IsNoneCollecting}
+use Rattle.ug_collect.specs.Members.{collecting_ranks}
 
 -- the pool is below the low mark: of the first rank that can be asked, as many nodes as bring it
 -- to the high mark

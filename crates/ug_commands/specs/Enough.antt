@@ -11,7 +11,8 @@ use Rattle.ug_mps.specs.Laws.{StatesSame}
 abbrev pub IsEnough : List ℕ → List ℕ → Type 0
 IsEnough bytes text = StatesSame text bytes
 
--- the ENDATA line is legible, by what was seen of it and the bytes that are left, where they are told
+-- the ENDATA line is legible, by what was seen of it and the bytes that are left, where they are
+-- told
 abbrev pub legible_left : Option (List ℕ) → Tail → Option Bool
 legible_left left tail = option_map (λ bytes. legible_by tail bytes) left
 

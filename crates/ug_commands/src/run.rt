@@ -21,8 +21,8 @@ use ug_io::Source;
 use ug_problem::Shared;
 use ug_runs::{go_on, solve_new, solve_saved};
 
-/// Does what the plan asks for, up to the lines, which it does not write: it reads the source, runs,
-/// and saves to the disk, each as far as the plan has it.
+/// Does what the plan asks for, up to the lines, which it does not write: it reads the source,
+/// runs, and saves to the disk, each as far as the plan has it.
 #[tactic(auto, using(crate::proofs::Moved::has_stopped, crate::proofs::Moved::stops_unread))]
 pub fn run_plan<R: Threads + Wait + Sync, S: Source, D: Disk, G: Gate>(
     rt: &R,

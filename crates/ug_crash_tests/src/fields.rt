@@ -109,8 +109,8 @@ fn cut_field(version: u8, len: usize) -> usize {
     found
 }
 
-// Whether a whole image of a version is read, and the right field named wherever it is cut and where
-// a byte follows it.
+// Whether a whole image of a version is read, and the right field named wherever it is cut and
+// where a byte follows it.
 fn cuts_are_named(alloc: Global, version: u8) -> Result<bool, AllocError> {
     let whole = place_in(version, 154);
     for len in 0..whole {

@@ -117,9 +117,9 @@ fn calls_of(alloc: Global, nodes: u16) -> Option<(u64, u64)> {
 
 const FILLS: [Option<u8>; 4] = [None, Some(0), Some(255), Some(1)];
 
-// Whether recovery finds the second image where the third save stopped so many calls before its end,
-// or the third: its gate is open where the last call, which syncs it, was made, or where the one
-// before it was and the crash leaves its byte.
+// Whether recovery finds the second image where the third save stopped so many calls before its
+// end, or the third: its gate is open where the last call, which syncs it, was made, or where the
+// one before it was and the crash leaves its byte.
 fn finds_one_of_two(alloc: Global, nodes: u16, all: u64, left: u64) -> bool {
     let end = if left == 1 { 1 } else { 0 };
     for fill in FILLS {
@@ -162,8 +162,8 @@ fn load_and_save(alloc: Global, disk: &mut MemoryDisk, bytes: &[u8]) -> Option<(
     Some(())
 }
 
-// A second image is saved until the disk stops, its calls go on, and a run goes on from it until the
-// disk stops again.
+// A second image is saved until the disk stops, its calls go on, and a run goes on from it until
+// the disk stops again.
 fn again(alloc: Global, stops: &[u64]) -> Option<MemoryDisk> {
     let mut disk = disk_of(alloc, &slot_of(1, 1, 0), stops).ok()?;
     load_and_save(alloc, &mut disk, &slot_of(1, 2, 0)[9..])?;

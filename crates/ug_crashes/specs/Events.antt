@@ -5,7 +5,8 @@ use Rattle.ug_rules.specs.Hearing.{IsHearable}
 use Rattle.ug_world.specs.declared.event.Event.{Event}
 use Rattle.ug_world.specs.declared.event.Event.TheVariants.{Send, Hear, Join, Gone, Decide}
 use Rattle.ug_crashes.specs.declared.event.DiskEvent.{DiskEvent}
-use Rattle.ug_crashes.specs.declared.event.DiskEvent.TheVariants.{World as InWorld, Note, Save, Crash, Stop}
+use Rattle.ug_crashes.specs.declared.event.DiskEvent.TheVariants.{World as InWorld, Note, Save}
+use Rattle.ug_crashes.specs.declared.event.DiskEvent.TheVariants.{Crash, Stop}
 
 -- the rank that an event names, if it names one
 abbrev pub rank_of : Event → Option ℕ

@@ -6,13 +6,16 @@ use Rattle.ug_disk.specs.Crashes.{MayLeaveBoth}
 use Rattle.ug_restart.specs.declared.fault.StartFault.{StartFault}
 use Rattle.ug_world.specs.declared.event.Event.{Event}
 use Rattle.ug_world.specs.declared.playing.Halt.{Halt}
-use Rattle.ug_world.specs.declared.playing.Halt.TheVariants.{NoSuch as NoSuchThere, Memory as NoMemory}
+use Rattle.ug_world.specs.declared.playing.Halt.TheVariants.{NoSuch as NoSuchThere}
+use Rattle.ug_world.specs.declared.playing.Halt.TheVariants.{Memory as NoMemory}
 use Rattle.ug_world.specs.Halts.{IsPast}
 use Rattle.ug_world.specs.Plays.{IsLeftBy}
 use Rattle.ug_crashes.specs.declared.event.DiskEvent.{DiskEvent}
-use Rattle.ug_crashes.specs.declared.event.DiskEvent.TheVariants.{World as InWorld, Note, Save, Crash, Stop}
+use Rattle.ug_crashes.specs.declared.event.DiskEvent.TheVariants.{World as InWorld, Note, Save}
+use Rattle.ug_crashes.specs.declared.event.DiskEvent.TheVariants.{Crash, Stop}
 use Rattle.ug_crashes.specs.declared.halt.Halted.{Halted}
-use Rattle.ug_crashes.specs.declared.halt.Halted.TheVariants.{NoSuch, NoRank, NotAllowed, Refused, Memory}
+use Rattle.ug_crashes.specs.declared.halt.Halted.TheVariants.{NoSuch, NoRank, NotAllowed, Refused}
+use Rattle.ug_crashes.specs.declared.halt.Halted.TheVariants.{Memory}
 use Rattle.ug_crashes.specs.Events.{rank_of}
 use Rattle.ug_crashes.specs.Machines.{DiskWorld}
 

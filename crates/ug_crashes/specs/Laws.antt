@@ -9,7 +9,8 @@ use Rattle.ug_restart.specs.Openings.{IsAcknowledgedStart}
 use Rattle.ug_world.specs.Honest.{IsHonest}
 use Rattle.ug_world.specs.Laws.{LosesNothing}
 use Rattle.ug_crashes.specs.declared.event.DiskEvent.{DiskEvent}
-use Rattle.ug_crashes.specs.declared.event.DiskEvent.TheVariants.{World as InWorld, Note, Save, Crash, Stop}
+use Rattle.ug_crashes.specs.declared.event.DiskEvent.TheVariants.{World as InWorld, Note, Save}
+use Rattle.ug_crashes.specs.declared.event.DiskEvent.TheVariants.{Crash, Stop}
 use Rattle.ug_crashes.specs.Events.{IsDiskEvent}
 use Rattle.ug_crashes.specs.Machines.{DiskWorld, IsDiskCourse}
 

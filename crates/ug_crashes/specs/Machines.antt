@@ -19,7 +19,8 @@ use Rattle.ug_world.specs.declared.event.Event.{Event}
 use Rattle.ug_world.specs.Events.{IsEvent}
 use Rattle.ug_world.specs.Worlds.{Happens, World, opening}
 use Rattle.ug_crashes.specs.declared.event.DiskEvent.{DiskEvent}
-use Rattle.ug_crashes.specs.declared.event.DiskEvent.TheVariants.{World as InWorld, Note, Save, Crash, Stop}
+use Rattle.ug_crashes.specs.declared.event.DiskEvent.TheVariants.{World as InWorld, Note, Save}
+use Rattle.ug_crashes.specs.declared.event.DiskEvent.TheVariants.{Crash, Stop}
 use Rattle.ug_crashes.specs.declared.machine.Machine.{Machine}
 use Rattle.ug_crashes.specs.Saves.{IsSaved}
 

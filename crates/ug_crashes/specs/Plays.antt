@@ -1,5 +1,6 @@
 -- What a schedule that was played leaves.
-use Rattle.std.specs.Prelude.{◌≡◌, ℕ, List, length, take, All, Option, None, Some, Result, Ok, Err, slice_get}
+use Rattle.std.specs.Prelude.{◌≡◌, ℕ, List, length, take, All, Option, None, Some, Result, Ok, Err}
+use Rattle.std.specs.Prelude.{slice_get}
 use Rattle.ug_disk.specs.Memories.{history_of}
 use Rattle.ug_crashes.specs.declared.event.DiskEvent.{DiskEvent}
 use Rattle.ug_crashes.specs.declared.halt.Halted.{Halted}

@@ -1,7 +1,9 @@
 -- How a Done is told to the book, and its answer told on.
 use Rattle.std.specs.Prelude.{◌≡◌, ◌≢◌, ℕ}
 use Rattle.ug_rules.specs.declared.heard.Heard.{Heard}
-use Rattle.ug_rules.specs.declared.heard.Heard.TheVariants.{Kept, Stale, Early, Broken, NotBetter, InRace, Again, Gap, Outside, Unbacked, Short, Memory}
+use Rattle.ug_rules.specs.declared.heard.Heard.TheVariants.{Kept, Stale, Early, Broken, NotBetter}
+use Rattle.ug_rules.specs.declared.heard.Heard.TheVariants.{InRace, Again, Gap, Outside, Unbacked}
+use Rattle.ug_rules.specs.declared.heard.Heard.TheVariants.{Short, Memory}
 
 -- the count that the book hears: that of the hands, or of those found where the book has as many
 pub record IsTold (handed taken found count : ℕ) : Type 0 where

@@ -1,5 +1,7 @@
--- What `take` does: the pass's rank joins, the book decides, and the answer tells what the rank is at.
-use Rattle.std.specs.Prelude.{◌≡◌, ◌≢◌, ℕ, ◌<◌, ◌≤◌, ◌⊎◌, List, [], ◌∷◌, Option, Some, None, slice_set}
+-- What `take` does: the pass's rank joins, the book decides, and the answer tells what the rank is
+-- at.
+use Rattle.std.specs.Prelude.{◌≡◌, ◌≢◌, ℕ, ◌<◌, ◌≤◌, ◌⊎◌, List, [], ◌∷◌, Option, Some, None}
+use Rattle.std.specs.Prelude.{slice_set}
 use Rattle.ug_problem.specs.Instances.{root_of}
 use Rattle.ug_branch.specs.declared.params.Params.{Params}
 use Rattle.ug_nodes.specs.declared.node.Node.{Node}

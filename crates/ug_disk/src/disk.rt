@@ -51,8 +51,8 @@ pub trait Disk {
         ensures failed { OnErr result (Rose (faults self.old) (faults self.new)) }
         ensures calm { OnOk result (faults self.new ≡ faults self.old) };
 
-    /// After it a crash leaves what a read of the slot gives. Where it fails, what a crash may leave is
-    /// as before.
+    /// After it a crash leaves what a read of the slot gives. Where it fails, what a crash may
+    /// leave is as before.
     fn sync(&mut self, slot: Slot) -> Result<(), Failed>
         ensures ok { OnOk result (Steps (told self.old) (told self.new) slot
             (λ state. synced state.bytes)) }

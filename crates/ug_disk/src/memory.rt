@@ -56,8 +56,8 @@ impl MemoryDisk {
         self.calls.count
     }
 
-    /// Leaves these images, if a crash now may leave them: then nothing is pending, calls go on, and
-    /// the history begins anew. Else the first slot is named whose image it may not leave.
+    /// Leaves these images, if a crash now may leave them: then nothing is pending, calls go on,
+    /// and the history begins anew. Else the first slot is named whose image it may not leave.
     pub fn crash(&mut self, zero: Vec<u8>, one: Vec<u8>) -> Result<(), NotAllowed>
         ensures allowed { OnOk result
             (MayLeaveBoth (history_of self.old).now zero.items one.items) }

@@ -1,5 +1,7 @@
 -- Bounds: what amounts set, and what comes of it.
-use Rattle.std.specs.Prelude.{◌≡◌, ℕ, ℤ, pos, ◌≤◌, ◌^◌, Bool, true, false, Option, Some, None, nat_le, unsigned_abs, option_and_then, unwrap_or, IfSome, if◌then◌else◌}
+use Rattle.std.specs.Prelude.{◌≡◌, ℕ, ℤ, pos, ◌≤◌, ◌^◌, Bool, true, false, Option, Some, None}
+use Rattle.std.specs.Prelude.{nat_le, unsigned_abs, option_and_then, unwrap_or, IfSome}
+use Rattle.std.specs.Prelude.{if◌then◌else◌}
 use Rattle.std.specs.Option.{option_map}
 use Rattle.ug_problem.specs.declared.decimal.Decimal.{Decimal}
 use Rattle.ug_problem.specs.Decimals.{IsDecimal}
@@ -47,7 +49,8 @@ lower_bound amounts.BelowAll = Some Infinite
 lower_bound amounts.AboveAll = None
 lower_bound (amounts.Number d) = finite (ceiling_of d)
 
--- a change: the lower bound, the upper bound, that a lower bound that was not set falls, and that the column is integer
+-- a change: the lower bound, the upper bound, that a lower bound that was not set falls, and that
+-- the column is integer
 abbrev pub sets : Option Bound → Option Bound → Bool → Bool → Change
 sets low high falls integer = record { low = low; high = high; falls = falls; integer = integer }
 
@@ -60,7 +63,10 @@ sets_lower integer a = option_map (λ b. sets (Some b) None false integer) (lowe
 
 -- both bounds, each rounded inwards; neither may be infinite
 abbrev pub sets_both : Amount → Option Change
-sets_both (amounts.Number d) = option_and_then (λ low. option_map (λ high. sets (Some low) (Some high) false false) (finite (floor_of d))) (finite (ceiling_of d))
+sets_both (amounts.Number d) =
+    option_and_then (λ low.
+    option_map (λ high. sets (Some low) (Some high) false false) (finite (floor_of d)))
+    (finite (ceiling_of d))
 sets_both _ = None
 
 -- ---- the bounds of a column
@@ -85,9 +91,11 @@ abbrev pub or_bound : Option Bound → Option Bound → Option Bound
 or_bound (Some b) other = Some b
 or_bound None other = other
 
--- the bounds after a change, by those before it; a fall sets a lower bound that was not set to minus infinity
+-- the bounds after a change, by those before it; a fall sets a lower bound that was not set to
+-- minus infinity
 abbrev pub low_after : Change → Option Bound → Option Bound
-low_after change old = or_bound change.low (if change.falls then or_bound old (Some Infinite) else old)
+low_after change old = or_bound change.low
+    (if change.falls then or_bound old (Some Infinite) else old)
 
 abbrev pub high_after : Change → Option Bound → Option Bound
 high_after change old = or_bound change.high old

@@ -1,5 +1,6 @@
 -- What is kept of a column and of a row.
-use Rattle.std.specs.Prelude.{ℕ, ◌==◌, ◌||◌, Bool, true, false, List, [], ◌∷◌, ◌++◌, Option, Some, None, if◌then◌else◌}
+use Rattle.std.specs.Prelude.{ℕ, ◌==◌, ◌||◌, Bool, true, false, List, [], ◌∷◌, ◌++◌, Option, Some}
+use Rattle.std.specs.Prelude.{None, if◌then◌else◌}
 use Rattle.ug_problem.specs.declared.decimal.Decimal.{Decimal}
 use Rattle.ug_drafts.specs.declared.bound.Change.{Change}
 use Rattle.ug_drafts.specs.declared.column.ColumnDraft.{ColumnDraft}
@@ -20,16 +21,38 @@ with_change change c = record {
 
 -- the terms with a factor more, if it is not 0
 abbrev pub with_factor : ℕ → Decimal → List Factor → List Factor
-with_factor j d terms = if d.digits == 0 then terms else terms ++ record { column = j; number = d } ∷ []
+with_factor j d terms = if d.digits == 0 then terms
+    else terms ++ record { column = j; number = d } ∷ []
 
 -- the row with a part more
 abbrev pub with_part : Part → Decimal → RowDraft → RowDraft
 with_part (parts.Coefficient j) d r =
-    record { line = r.line; role = r.role; terms = with_factor j d r.terms; side = r.side; range = r.range; last = Some j }
+    record {
+      line = r.line;
+      role = r.role;
+      terms = with_factor j d r.terms;
+      side = r.side;
+      range = r.range;
+      last = Some j;
+    }
 with_part parts.Side d r =
-    record { line = r.line; role = r.role; terms = r.terms; side = Some d; range = r.range; last = r.last }
+    record {
+      line = r.line;
+      role = r.role;
+      terms = r.terms;
+      side = Some d;
+      range = r.range;
+      last = r.last;
+    }
 with_part parts.Range d r =
-    record { line = r.line; role = r.role; terms = r.terms; side = r.side; range = Some d; last = r.last }
+    record {
+      line = r.line;
+      role = r.role;
+      terms = r.terms;
+      side = r.side;
+      range = Some d;
+      last = r.last;
+    }
 
 -- the place is this one
 abbrev pub is_place : Option ℕ → ℕ → Bool

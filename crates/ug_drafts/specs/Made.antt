@@ -1,5 +1,6 @@
 -- What is made of the columns and rows that are kept, each with its name.
-use Rattle.std.specs.Prelude.{ℕ, ℤ, pos, neg_ℤ, ◌^◌, ◌||◌, ◌&&◌, not, Bool, List, [], ◌∷◌, ◌++◌, map, filter, Option, Some, None, is_none, unwrap_or, if◌then◌else◌}
+use Rattle.std.specs.Prelude.{ℕ, ℤ, pos, neg_ℤ, ◌^◌, ◌||◌, ◌&&◌, not, Bool, List, [], ◌∷◌, ◌++◌}
+use Rattle.std.specs.Prelude.{map, filter, Option, Some, None, is_none, unwrap_or, if◌then◌else◌}
 use Rattle.std.specs.List.{list_any}
 use Rattle.std.specs.Option.{option_map}
 use Rattle.ug_rows.specs.declared.row.Term.{Term}
@@ -22,7 +23,10 @@ use Rattle.ug_drafts.specs.declared.scaling.Sides.{Sides}
 use Rattle.ug_drafts.specs.Bounds.{is_infinite, bound_or, box_end}
 use Rattle.ug_drafts.specs.FirstFaults.{fault_at}
 use Rattle.ug_drafts.specs.Roles.{is_objective, is_ignored, is_sided}
-use Rattle.ug_drafts.specs.RowNumbers.{Numbers, range_of, scale_of, scaled_term, scaled_terms, scaled_side, scaled_range, low_side, high_side, is_above, is_wide, row_of, signed, signed_terms, objective_of, no_objective}
+use Rattle.ug_drafts.specs.RowNumbers.{Numbers, range_of, scale_of, scaled_term, scaled_terms}
+use Rattle.ug_drafts.specs.RowNumbers.{scaled_side, scaled_range, low_side, high_side, is_above}
+use Rattle.ug_drafts.specs.RowNumbers.{is_wide, row_of, signed, signed_terms, objective_of}
+use Rattle.ug_drafts.specs.RowNumbers.{no_objective}
 use Rattle.ug_drafts.specs.Scales.{AreDecimals}
 
 -- ---- columns
@@ -37,11 +41,13 @@ high_kept c = unwrap_or c.high Infinite
 -- why it is no column of a problem
 abbrev pub column_kind : Option ℕ → ColumnDraft → Option Kind
 column_kind boxed c = if not c.integer then Some kinds.Continuous
-    else (if is_none boxed && (is_infinite (low_kept c) || is_infinite (high_kept c)) then Some kinds.Unbounded else None)
+    else (if is_none boxed && (is_infinite (low_kept c) || is_infinite (high_kept c))
+    then Some kinds.Unbounded else None)
 
 -- its fault, with its name
 abbrev pub column_fault_kept : Option ℕ → List ℕ × ColumnDraft → Option MpsFault
-column_fault_kept boxed p = option_map (λ kind. fault_at p.1.line kind (Some p.0)) (column_kind boxed p.1)
+column_fault_kept boxed p =
+    option_map (λ kind. fault_at p.1.line kind (Some p.0)) (column_kind boxed p.1)
 
 -- the column, where an infinite bound is that of the box
 abbrev pub made_column : Option ℕ → List ℕ × ColumnDraft → Column
@@ -55,7 +61,11 @@ made_column boxed p = record {
 
 -- the numbers of a row
 abbrev pub numbers_kept : RowDraft → Numbers
-numbers_kept r = record { terms = r.terms; side = unwrap_or r.side zero_decimal; range = range_of r.role r.range }
+numbers_kept r = record {
+  terms = r.terms;
+  side = unwrap_or r.side zero_decimal;
+  range = range_of r.role r.range;
+}
 
 abbrev pub HasDecimals : RowDraft → Type 0
 HasDecimals r = AreDecimals (numbers_kept r)
@@ -73,24 +83,32 @@ are_terms_wide terms = list_any (λ (t : Term). is_above (10 ^ 24) (Some t.facto
 
 -- they are terms, if none is too wide
 abbrev pub terms_if : ℕ → List Factor → Option (List Term)
-terms_if scale fs = if are_terms_wide (terms_scaled scale fs) then None else Some (terms_scaled scale fs)
+terms_if scale fs = if are_terms_wide (terms_scaled scale fs) then None
+    else Some (terms_scaled scale fs)
 
 -- a right-hand side, a range or a side is above 10^37
 abbrev pub are_wide : Role → ℤ → Option ℤ → Bool
 are_wide role side range = is_above (10 ^ 37) (Some side) || (is_above (10 ^ 37) range
-    || (is_above (10 ^ 37) (low_side role side range) || is_above (10 ^ 37) (high_side role side range)))
+    || (is_above (10 ^ 37) (low_side role side range)
+    || is_above (10 ^ 37) (high_side role side range)))
 
 -- the right-hand side and the sides of a row
 abbrev pub sides_with : Role → ℤ → Option ℤ → Sides
-sides_with role side range = record { side = side; low = low_side role side range; high = high_side role side range }
+sides_with role side range =
+    record { side = side; low = low_side role side range; high = high_side role side range }
 
 -- they are sides of a problem, if they are not too wide
 abbrev pub sides_if : Role → ℤ → Option ℤ → Option Sides
-sides_if role side range = if are_wide role side range then None else Some (sides_with role side range)
+sides_if role side range = if are_wide role side range then None
+    else Some (sides_with role side range)
 
 -- a row's numbers, scaled
 abbrev pub made_of : Role → Numbers → Made
-made_of role n = record { terms = scaled_terms n; sides = sides_with role (scaled_side n) (scaled_range n); scale = scale_of n }
+made_of role n = record {
+  terms = scaled_terms n;
+  sides = sides_with role (scaled_side n) (scaled_range n);
+  scale = scale_of n;
+}
 
 -- they are made, if they are not too wide
 abbrev pub made_if : Role → Numbers → Option Made
@@ -98,7 +116,10 @@ made_if role n = if is_wide role n then None else Some (made_of role n)
 
 -- the row of these numbers
 abbrev pub row_with : List ℕ → Made → NamedRow
-row_with name m = record { name = name; row = record { terms = m.terms; low = m.sides.low; high = m.sides.high } }
+row_with name m = record {
+  name = name;
+  row = record { terms = m.terms; low = m.sides.low; high = m.sides.high };
+}
 
 -- the objective of these numbers
 abbrev pub objective_with : Bool → Made → target.Objective
@@ -113,7 +134,8 @@ objective_with maximise m = record {
 
 -- the fault of a row, with its name
 abbrev pub row_fault_kept : List ℕ × RowDraft → Option MpsFault
-row_fault_kept p = if not (is_ignored p.1.role) && is_wide p.1.role (numbers_kept p.1) then Some (fault_at p.1.line kinds.TooWide (Some p.0)) else None
+row_fault_kept p = if not (is_ignored p.1.role) && is_wide p.1.role (numbers_kept p.1)
+    then Some (fault_at p.1.line kinds.TooWide (Some p.0)) else None
 
 -- the rows of the problem
 abbrev pub made_row : List ℕ × RowDraft → NamedRow
@@ -127,7 +149,8 @@ made_rows ps = map made_row (filter is_made ps)
 
 -- the objective with a row more: that row, if it is one
 abbrev pub objective_and : Bool → target.Objective → List ℕ × RowDraft → target.Objective
-objective_and maximise old p = if is_objective p.1.role then objective_of maximise (numbers_kept p.1) else old
+objective_and maximise old p =
+    if is_objective p.1.role then objective_of maximise (numbers_kept p.1) else old
 
 -- the objective of the rows: the last one, or 0 without any
 abbrev pub last_objective : Bool → target.Objective → List (List ℕ × RowDraft) → target.Objective
@@ -136,7 +159,8 @@ last_objective maximise old (p ∷ ps) = last_objective maximise (objective_and 
 
 -- rows and objective
 abbrev pub rows_and_objective : Bool → List (List ℕ × RowDraft) → RowsAndObjective
-rows_and_objective maximise ps = record { rows = made_rows ps; objective = last_objective maximise (no_objective maximise) ps }
+rows_and_objective maximise ps =
+    record { rows = made_rows ps; objective = last_objective maximise (no_objective maximise) ps }
 
 -- these, with a row more
 abbrev pub and_row : Bool → RowsAndObjective → List ℕ × RowDraft → RowsAndObjective

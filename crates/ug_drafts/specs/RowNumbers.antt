@@ -1,5 +1,8 @@
--- The numbers of a row: their scale, the sides, the limits, and the row or the objective that they make.
-use Rattle.std.specs.Prelude.{ℕ, ℤ, pos, neg_ℤ, ◌+ℤ◌, ◌-ℤ◌, ◌^◌, ◌||◌, max, nat_lt, unsigned_abs, int_lt, Bool, false, List, [], ◌∷◌, map, Option, Some, None, if◌then◌else◌}
+-- The numbers of a row: their scale, the sides, the limits, and the row or the objective that they
+-- make.
+use Rattle.std.specs.Prelude.{ℕ, ℤ, pos, neg_ℤ, ◌+ℤ◌, ◌-ℤ◌, ◌^◌, ◌||◌, max, nat_lt, unsigned_abs}
+use Rattle.std.specs.Prelude.{int_lt, Bool, false, List, [], ◌∷◌, map, Option, Some, None}
+use Rattle.std.specs.Prelude.{if◌then◌else◌}
 use Rattle.std.specs.List.{list_any}
 use Rattle.std.specs.Option.{option_map}
 use Rattle.ug_rows.specs.declared.row.Term.{Term}
@@ -11,7 +14,8 @@ use Rattle.ug_drafts.specs.declared.role.Role.{Role}
 use Rattle.ug_drafts.specs.declared.role.Role.TheVariants.{Objective, AtMost, AtLeast, Equal}
 use Rattle.ug_drafts.specs.declared.row.Factor.{Factor}
 
--- what is given of a row: its terms, its right-hand side, 0 where none is given, and its range, if one is given
+-- what is given of a row: its terms, its right-hand side, 0 where none is given, and its range, if
+-- one is given
 pub record Numbers : Type 0 where
   pub terms : List Factor
   pub side : Decimal
@@ -82,9 +86,11 @@ is_above limit (Some z) = nat_lt limit (unsigned_abs z)
 
 -- a scale above 60, a coefficient above 10^24, or a right-hand side, a range or a side above 10^37
 abbrev pub is_wide : Role → Numbers → Bool
-is_wide role n = nat_lt 60 (scale_of n) || (list_any (λ (t : Term). is_above (10 ^ 24) (Some t.factor)) (scaled_terms n)
+is_wide role n = nat_lt 60 (scale_of n)
+    || (list_any (λ (t : Term). is_above (10 ^ 24) (Some t.factor)) (scaled_terms n)
     || (is_above (10 ^ 37) (Some (scaled_side n)) || (is_above (10 ^ 37) (scaled_range n)
-    || (is_above (10 ^ 37) (low_side role (scaled_side n) (scaled_range n)) || is_above (10 ^ 37) (high_side role (scaled_side n) (scaled_range n))))))
+    || (is_above (10 ^ 37) (low_side role (scaled_side n) (scaled_range n))
+    || is_above (10 ^ 37) (high_side role (scaled_side n) (scaled_range n))))))
 
 -- ---- rows and the objective
 
@@ -104,7 +110,8 @@ abbrev pub signed : Bool → ℤ → ℤ
 signed maximise n = if maximise then neg_ℤ n else n
 
 abbrev pub signed_terms : Bool → List Term → List Term
-signed_terms maximise terms = map (λ (t : Term). record { column = t.column; factor = signed maximise t.factor }) terms
+signed_terms maximise terms =
+    map (λ (t : Term). record { column = t.column; factor = signed maximise t.factor }) terms
 
 -- the objective of these numbers: its right-hand side is the constant, negated
 abbrev pub objective_of : Bool → Numbers → target.Objective

@@ -8,7 +8,8 @@ use ug_lists::Text;
 pub enum Kind {
     /// A byte that no word, blank or line end may hold, outside comments.
     Byte,
-    /// A wrong number of words, a word above 255 bytes, a bad or a second sense, or no section for a data line.
+    /// A wrong number of words, a word above 255 bytes, a bad or a second sense, or no section for
+    /// a data line.
     Words,
     /// A header that is not listed, or that stands twice: the header's word.
     Section,
@@ -22,7 +23,8 @@ pub enum Kind {
     SemiContinuous,
     /// A row or a column that was not named before: its name.
     Unknown,
-    /// A row named again, a column begun again, or a row again within a column, right-hand sides or ranges: its name.
+    /// A row named again, a column begun again, or a row again within a column, right-hand sides or
+    /// ranges: its name.
     Duplicate,
     /// A word that is no number: the word.
     Number,

@@ -57,7 +57,8 @@ impl RowDraft {
 
     // Adds a factor, if it is not 0.
     fn add_factor(&mut self, column: u32, number: Decimal) -> Result<(), AllocError>
-        ensures { OnOk result (self.new ≡ record self.old { terms = with_factor column number self.old.terms }) }
+        ensures { OnOk result (self.new
+            ≡ record self.old { terms = with_factor column number self.old.terms }) }
     {
         if number.digits != 0 {
             self.terms.push(Factor { column, number })?;

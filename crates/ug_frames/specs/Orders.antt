@@ -2,7 +2,8 @@
 use Rattle.std.specs.Prelude.{◌≤◌, Option, Some, None, IfSome}
 use Rattle.ug_nodes.specs.declared.name.Ticket.{Ticket}
 use Rattle.ug_frames.specs.declared.order.Order.{Order}
-use Rattle.ug_frames.specs.declared.order.Order.TheVariants.{Setup, Work, Incumbent, CollectIn, CollectOut, Winner, Stop, End}
+use Rattle.ug_frames.specs.declared.order.Order.TheVariants.{Setup, Work, Incumbent, CollectIn}
+use Rattle.ug_frames.specs.declared.order.Order.TheVariants.{CollectOut, Winner, Stop, End}
 use Rattle.ug_problem.specs.Better.{IsGap}
 use Rattle.ug_frames.specs.Ranges.{IsGiven, IsValue, HasRoom, AreChanges}
 

@@ -2,7 +2,8 @@
 use Rattle.std.specs.Prelude.{◌≤◌, Option, Some, None, IfSome}
 use Rattle.ug_nodes.specs.declared.name.Ticket.{Ticket}
 use Rattle.ug_frames.specs.declared.report.Report.{Report}
-use Rattle.ug_frames.specs.declared.report.Report.TheVariants.{Ready, Solution, Hand, State, Done, Ended}
+use Rattle.ug_frames.specs.declared.report.Report.TheVariants.{Ready, Solution, Hand, State, Done}
+use Rattle.ug_frames.specs.declared.report.Report.TheVariants.{Ended}
 use Rattle.ug_frames.specs.Ranges.{IsGiven, IsValue, IsPoint, AreChanges}
 
 -- the ticket of the assignment that the report speaks of

@@ -18,8 +18,8 @@ pub struct Standing {
     pub nodes: usize,
 }
 
-/// What the threads of a run pass, and to whom they tell how it stands. Each call of it ends. A gate
-/// that wants to be told nothing has `pass` alone.
+/// What the threads of a run pass, and to whom they tell how it stands. Each call of it ends. A
+/// gate that wants to be told nothing has `pass` alone.
 pub trait Gate: Sync {
     /// The worker of a rank has come to a moment.
     fn pass(&self, rank: u32, moment: Moment);

@@ -16,7 +16,9 @@ use Rattle.ug_ranks.specs.States.{state_at}
 use Rattle.ug_ranks.specs.Changes.{grown}
 use Rattle.ug_ledger.specs.Moves.{handed_node, next_hand}
 use Rattle.ug_rules.specs.declared.heard.Heard.{Heard}
-use Rattle.ug_rules.specs.declared.heard.Heard.TheVariants.{Kept, Stale, Early, Broken, NotBetter, InRace, Again, Gap, Outside, Unbacked, Short, Memory}
+use Rattle.ug_rules.specs.declared.heard.Heard.TheVariants.{Kept, Stale, Early, Broken, NotBetter}
+use Rattle.ug_rules.specs.declared.heard.Heard.TheVariants.{InRace, Again, Gap, Outside, Unbacked}
+use Rattle.ug_rules.specs.declared.heard.Heard.TheVariants.{Short, Memory}
 use Rattle.ug_rules.specs.State.{BookState, current_for}
 use Rattle.ug_rules.specs.Hearing.{IsHandDue, IsNextHand, IsTooFar}
 

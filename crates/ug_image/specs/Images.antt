@@ -36,8 +36,8 @@ abbrev pub DoNamesRise : List SavedNode → Type 0
 DoNamesRise nodes = (k : ℕ) → suc k < length nodes
     → IsNameBefore (node_at nodes k).name (node_at nodes (suc k)).name
 
--- What every image is: its run and its sequence are at least 1, its best point, if any, is feasible,
--- and its nodes are those of the run, in order of name.
+-- What every image is: its run and its sequence are at least 1, its best point, if any, is
+-- feasible, and its nodes are those of the run, in order of name.
 pub record IsImage (image : Image) : Type 0 where
   pub run : 1 ≤ image.run
   pub run_fits : image.run < 2 ^ 64

@@ -1,6 +1,8 @@
 -- An image read from left to right, up to the first field that is cut short or breaks a rule. A
 -- reading that fails says how many bytes are left from that field on.
-use Rattle.std.specs.Prelude.{ℕ, ℤ, pos, zero, suc, ◌+◌, ◌*◌, ◌^◌, Bool, true, false, ◌&&◌, ◌||◌, not, List, [], ◌∷◌, length, take, drop, Option, Some, None, Result, Ok, Err, nat_lt, nat_le, int_le, ◌==◌, if◌then◌else◌}
+use Rattle.std.specs.Prelude.{ℕ, ℤ, pos, zero, suc, ◌+◌, ◌*◌, ◌^◌, Bool, true, false, ◌&&◌, ◌||◌}
+use Rattle.std.specs.Prelude.{not, List, [], ◌∷◌, length, take, drop, Option, Some, None, Result}
+use Rattle.std.specs.Prelude.{Ok, Err, nat_lt, nat_le, int_le, ◌==◌, if◌then◌else◌}
 use Rattle.std.specs.List.{list_all}
 use Rattle.std.specs.Int.{w32, w64, from_be_bytes, cast_signed}
 use Rattle.ug_rows.specs.declared.area.Interval.{Interval}
@@ -11,7 +13,8 @@ use Rattle.ug_problem.specs.declared.column.NamedRow.{NamedRow}
 use Rattle.ug_problem.specs.Instances.{Instance, root_of}
 use Rattle.ug_nodes.specs.declared.name.Name.{Name}
 use Rattle.ug_nodes.specs.declared.change.Change.{Change}
-use Rattle.ug_records.specs.Reading.{Reading, ◌>>=◌, count_at, bound_at, small_at, number_of, many_at, record_at}
+use Rattle.ug_records.specs.Reading.{Reading, ◌>>=◌, count_at, bound_at, small_at, number_of}
+use Rattle.ug_records.specs.Reading.{many_at, record_at}
 use Rattle.ug_image.specs.declared.image.SavedNode.{SavedNode}
 use Rattle.ug_image.specs.declared.image.Image.{Image}
 

@@ -111,7 +111,8 @@ impl Source for ScriptedSource<'_> {
     }
 }
 
-/// A sink that keeps what is written in a vector. It fails where its script says, or memory is wanting.
+/// A sink that keeps what is written in a vector. It fails where its script says, or memory is
+/// wanting.
 #[derive(Debug, Drop)]
 pub struct MemorySink {
     written: Vec<u8>,

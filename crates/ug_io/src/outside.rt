@@ -13,11 +13,12 @@ pub trait Source {
     /// How often it has failed.
     ghost faults: { Self → ℕ };
 
-    /// Reads some of the bytes that are left into the front of the buffer, and says how many. For a buffer
-    /// that is not empty, 0 is the end.
+    /// Reads some of the bytes that are left into the front of the buffer, and says how many. For a
+    /// buffer that is not empty, 0 is the end.
     fn read(&mut self, buffer: &mut [u8]) -> Result<usize, Failed>
         ensures within { IfOk result (λ n. n ≤ length buffer.new) }
-        ensures bytes { IfOk result (λ n. Gives (left self.old) (left self.new) (take n buffer.new)) }
+        ensures bytes { IfOk result
+            (λ n. Gives (left self.old) (left self.new) (take n buffer.new)) }
         ensures end { IfOk result (λ n. n ≡ 0 → 0 < length buffer.old → IsAtEnd (left self.old)) }
         ensures failed { OnErr result (Rose (faults self.old) (faults self.new)) }
         ensures calm { OnOk result (faults self.new ≡ faults self.old) };
@@ -31,12 +32,13 @@ pub trait Sink {
     /// How often it has failed.
     ghost faults: { Self → ℕ };
 
-    /// Writes some of the bytes from their front, at least one where there is one, and says how many.
-    /// After a failure nothing more is written.
+    /// Writes some of the bytes from their front, at least one where there is one, and says how
+    /// many. After a failure nothing more is written.
     fn write(&mut self, bytes: &[u8]) -> Result<usize, Failed>
         ensures within { IfOk result (λ n. n ≤ length bytes.now) }
         ensures some { IfOk result (λ n. 0 < length bytes.now → 0 < n) }
-        ensures bytes { IfOk result (λ n. Takes (written self.old) (written self.new) (take n bytes.now)) }
+        ensures bytes { IfOk result
+            (λ n. Takes (written self.old) (written self.new) (take n bytes.now)) }
         ensures kept { OnErr result (written self.new ≡ written self.old) }
         ensures failed { OnErr result (Rose (faults self.old) (faults self.new)) }
         ensures calm { OnOk result (faults self.new ≡ faults self.old) };

@@ -6,7 +6,8 @@ use Rattle.ug_nodes.specs.declared.change.Change.{Change}
 use Rattle.ug_nodes.specs.declared.node.Node.{Node}
 use Rattle.ug_ledger.specs.Ledgers.{Current, Ledger}
 use Rattle.ug_ledger.specs.Sound.{IsLedger}
-use Rattle.ug_ledger.specs.Moves.{HasDone, HasDropped, HasEnded, HasGiven, HasHanded, HasTakenIn, IsLess, KeepsWork}
+use Rattle.ug_ledger.specs.Moves.{HasDone, HasDropped, HasEnded, HasGiven, HasHanded, HasTakenIn}
+use Rattle.ug_ledger.specs.Moves.{IsLess, KeepsWork}
 
 -- after the move there is a ledger where there was one before
 abbrev pub KeepsLedger : List Interval → (Ledger → Ledger → Type 0) → Type 0

@@ -1,5 +1,6 @@
 -- What is held, and for what the tickets of the ranks are current.
-use Rattle.std.specs.Prelude.{◌≡◌, ℕ, ℤ, ◌≤◌, List, Contains, Option, Some, None, map, slice_index_or}
+use Rattle.std.specs.Prelude.{◌≡◌, ℕ, ℤ, ◌≤◌, List, Contains, Option, Some, None, map}
+use Rattle.std.specs.Prelude.{slice_index_or}
 use Rattle.ug_rows.specs.declared.area.Interval.{Interval}
 use Rattle.ug_rows.specs.Boxes.{IsInside}
 use Rattle.ug_nodes.specs.declared.name.Ticket.{Ticket}

@@ -10,7 +10,8 @@ use Rattle.ug_nodes.specs.declared.node.Node.{Node}
 use Rattle.ug_nodes.specs.Lines.{DoTicketsRise, GoesOn, IsAncestor, line_name_at}
 use Rattle.ug_nodes.specs.Names.{IsTicketBefore}
 use Rattle.ug_nodes.specs.Nodes.{box_of}
-use Rattle.ug_ledger.specs.Ledgers.{Current, IsCurrent, IsGiven, IsInNodeBelow, Ledger, boxes_of, hand_name}
+use Rattle.ug_ledger.specs.Ledgers.{Current, IsCurrent, IsGiven, IsInNodeBelow, Ledger, boxes_of}
+use Rattle.ug_ledger.specs.Ledgers.{hand_name}
 use Rattle.ug_ledger.specs.Names.{AreNamed}
 
 -- each held node has a name of its own, and a line of given tickets that rise from number 0; each

@@ -4,7 +4,8 @@ use Rattle.ug_problem.specs.Instances.{Instance, root_of}
 use Rattle.ug_nodes.specs.declared.change.Change.{Change}
 use Rattle.ug_ledger.specs.Ledgers.{Current, Ledger}
 use Rattle.ug_ledger.specs.Sound.{Sound}
-use Rattle.ug_ledger.specs.Moves.{HasDone, HasDropped, HasEnded, HasGiven, HasHanded, HasImproved, HasTakenIn}
+use Rattle.ug_ledger.specs.Moves.{HasDone, HasDropped, HasEnded, HasGiven, HasHanded, HasImproved}
+use Rattle.ug_ledger.specs.Moves.{HasTakenIn}
 use Rattle.ug_ledger.specs.Dones.{IsBackedBy, IsSearched, IsTrueDone}
 
 -- after the move the ledger is sound where it was before

@@ -1,7 +1,7 @@
 ghost use Rattle.ug_ledger.specs.EndLaws.{AnswerIsRight, CoveredUnderMore, PrimitiveAreCovered, StartIsLedger, StartIsSound};
 
-/// Starting nodes are a ledger, and a sound one exactly where their boxes are Covered. They may go on
-/// under a greater gap.
+/// Starting nodes are a ledger, and a sound one exactly where their boxes are Covered. They may go
+/// on under a greater gap.
 pub fn begins_covered()
     ensures ledger { StartIsLedger }
     ensures sound { StartIsSound }

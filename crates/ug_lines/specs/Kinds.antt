@@ -1,9 +1,11 @@
 -- What single words name: sections, senses, row types, markers and bound types.
-use Rattle.std.specs.Prelude.{ℕ, ◌||◌, Bool, true, false, List, Option, Some, None, codes, map, if◌then◌else◌}
+use Rattle.std.specs.Prelude.{ℕ, ◌||◌, Bool, true, false, List, Option, Some, None, codes, map}
+use Rattle.std.specs.Prelude.{if◌then◌else◌}
 use Rattle.std.specs.Char.{to_ascii_lowercase}
 use Rattle.std.specs.Str.{bytes_eq}
 use Rattle.ug_lines.specs.declared.section.Section.{Section}
-use Rattle.ug_lines.specs.declared.section.Section.TheVariants.{Name, Objsense, Rows, Columns, Rhs, Ranges, Bounds, Endata}
+use Rattle.ug_lines.specs.declared.section.Section.TheVariants.{Name, Objsense, Rows, Columns, Rhs}
+use Rattle.ug_lines.specs.declared.section.Section.TheVariants.{Ranges, Bounds, Endata}
 use Rattle.ug_lines.specs.declared.kinds.RowKind.{RowKind}
 use Rattle.ug_lines.specs.declared.kinds.RowKind.TheVariants.{Objective, AtMost, AtLeast, Equal}
 use Rattle.ug_lines.specs.declared.kinds.BoundKind.{BoundKind}
@@ -30,8 +32,10 @@ is_in_any_case word text = bytes_eq (map to_ascii_lowercase word) (map to_ascii_
 
 -- the sense that a word names: whether the user maximises
 abbrev pub sense_of_word : List ℕ → Option Bool
-sense_of_word word = if is_in_any_case word (codes "MIN") || is_in_any_case word (codes "MINIMIZE") then Some false
-    else (if is_in_any_case word (codes "MAX") || is_in_any_case word (codes "MAXIMIZE") then Some true else None)
+sense_of_word word = if is_in_any_case word (codes "MIN")
+    || is_in_any_case word (codes "MINIMIZE") then Some false
+    else (if is_in_any_case word (codes "MAX")
+    || is_in_any_case word (codes "MAXIMIZE") then Some true else None)
 
 -- the row type that a word names
 abbrev pub row_kind_of : List ℕ → Option RowKind

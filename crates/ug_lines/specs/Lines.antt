@@ -26,7 +26,8 @@ pub record Line : Type 0 where
 abbrev pub lines_after : ℕ → List (List ℕ) → List Line
 lines_after n [] = []
 lines_after n (piece ∷ more) =
-    record { content = content_of piece; through = n + length piece } ∷ lines_after (n + length piece) more
+    record { content = content_of piece; through = n + length piece }
+    ∷ lines_after (n + length piece) more
 
 -- the lines of a text, in order
 abbrev pub lines_of : List ℕ → List Line

@@ -5,8 +5,10 @@ use Rattle.std.specs.Option.{option_map}
 use Rattle.ug_lines.specs.declared.shape.NamedWord.{NamedWord}
 use Rattle.ug_lines.specs.declared.shape.NamedWords.{NamedWords}
 use Rattle.ug_lines.specs.declared.shape.LineShape.{LineShape}
-use Rattle.ug_lines.specs.declared.shape.LineShape.TheVariants.{Sense, Row, Marker, Column, Sides, Bound, Either}
-use Rattle.ug_lines.specs.Shapes.{WordPair, Shape, pair, sense, row, marker, column, sides, bound, either}
+use Rattle.ug_lines.specs.declared.shape.LineShape.TheVariants.{Sense, Row, Marker, Column, Sides}
+use Rattle.ug_lines.specs.declared.shape.LineShape.TheVariants.{Bound, Either}
+use Rattle.ug_lines.specs.Shapes.{WordPair, Shape, pair, sense, row, marker, column, sides, bound}
+use Rattle.ug_lines.specs.Shapes.{either}
 
 -- a word, if there is one
 abbrev pub word_of : Option (Bor (List ℕ)) → Option (List ℕ)

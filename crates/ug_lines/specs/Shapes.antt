@@ -1,9 +1,11 @@
 -- What the words of a data line are, by their section and their number.
-use Rattle.std.specs.Prelude.{ℕ, List, [], ◌∷◌, Option, Some, None, codes, if◌then◌else◌, option_and_then}
+use Rattle.std.specs.Prelude.{ℕ, List, [], ◌∷◌, Option, Some, None, codes, if◌then◌else◌}
+use Rattle.std.specs.Prelude.{option_and_then}
 use Rattle.std.specs.Option.{option_map}
 use Rattle.std.specs.Str.{bytes_eq}
 use Rattle.ug_lines.specs.declared.section.Section.{Section}
-use Rattle.ug_lines.specs.declared.section.Section.TheVariants.{Objsense, Rows, Columns, Rhs, Ranges, Bounds}
+use Rattle.ug_lines.specs.declared.section.Section.TheVariants.{Objsense, Rows, Columns, Rhs}
+use Rattle.ug_lines.specs.declared.section.Section.TheVariants.{Ranges, Bounds}
 use Rattle.ug_lines.specs.declared.kinds.BoundKind.{BoundKind}
 use Rattle.ug_lines.specs.Kinds.{bound_kind_of, takes_number}
 
@@ -40,7 +42,8 @@ coefficients_of (name ∷ more) = option_map (λ pairs. column name pairs) (pair
 -- a line of COLUMNS: a marker of three words, or a column and its pairs
 abbrev pub column_of : List (List ℕ) → Option Shape
 column_of (name ∷ second ∷ third ∷ []) =
-    if bytes_eq second (codes "'MARKER'") then Some (marker third) else coefficients_of (name ∷ second ∷ third ∷ [])
+    if bytes_eq second (codes "'MARKER'") then Some (marker third)
+    else coefficients_of (name ∷ second ∷ third ∷ [])
 column_of words = coefficients_of words
 
 -- a line of RHS or RANGES: pairs, with a set's name before them where the number of words is odd
@@ -57,8 +60,9 @@ numbered_bound_of kind (name ∷ number ∷ []) = Some (bound kind None name (So
 numbered_bound_of kind (set ∷ name ∷ number ∷ []) = Some (bound kind (Some set) name (Some number))
 numbered_bound_of kind _ = None
 
--- a bound without a number, behind its type: a column; a set's name, a column and a word that is not looked at; or two
--- words, a set's name and a column or a column and a word that is not looked at
+-- a bound without a number, behind its type: a column; a set's name, a column and a word that is
+-- not looked at; or two words, a set's name and a column or a column and a word that is not looked
+-- at
 abbrev pub bare_bound_of : BoundKind → List (List ℕ) → Option Shape
 bare_bound_of kind (name ∷ []) = Some (bound kind None name None)
 bare_bound_of kind (first ∷ second ∷ []) = Some (either kind first second)
@@ -67,7 +71,8 @@ bare_bound_of kind _ = None
 
 -- a bound, behind its type
 abbrev pub bound_of_kind : BoundKind → List (List ℕ) → Option Shape
-bound_of_kind kind words = if takes_number kind then numbered_bound_of kind words else bare_bound_of kind words
+bound_of_kind kind words = if takes_number kind then numbered_bound_of kind words
+    else bare_bound_of kind words
 
 -- a line of BOUNDS
 abbrev pub bound_of : List (List ℕ) → Option Shape

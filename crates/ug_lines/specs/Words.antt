@@ -1,5 +1,6 @@
 -- Words.
-use Rattle.std.specs.Prelude.{◌≡◌, ℕ, ◌==◌, ◌||◌, ◌&&◌, not, Bool, false, List, [], ◌∷◌, length, filter, nat_le}
+use Rattle.std.specs.Prelude.{◌≡◌, ℕ, ◌==◌, ◌||◌, ◌&&◌, not, Bool, false, List, [], ◌∷◌, length}
+use Rattle.std.specs.Prelude.{filter, nat_le}
 use Rattle.std.specs.List.{slice_split, list_all}
 
 -- space and tab

@@ -33,10 +33,11 @@ pub enum LineShape<'a> {
     Column(&'a [u8], NamedWords<'a>),
     /// A set's name, if there is one, and right-hand sides or ranges.
     Sides(Option<&'a [u8]>, NamedWords<'a>),
-    /// A bound's type, a set's name, if there is one, a column, and a number where the type has one.
+    /// A bound's type, a set's name, if there is one, a column, and a number where the type has
+    /// one.
     Bound(BoundKind, Option<&'a [u8]>, &'a [u8], Option<&'a [u8]>),
-    /// A bound's type without a number, and two words: a set's name and a column, or a column and a word that is not
-    /// looked at.
+    /// A bound's type without a number, and two words: a set's name and a column, or a column and a
+    /// word that is not looked at.
     Either(BoundKind, &'a [u8], &'a [u8]),
 }
 
@@ -123,7 +124,8 @@ fn sides<'a>(words: &[&'a [u8]]) -> Option<LineShape<'a>>
 
 // A bound with a number, behind its type.
 fn numbered_bound<'a>(kind: BoundKind, words: &[&'a [u8]]) -> Option<LineShape<'a>>
-    ensures { option_map shape_shaped result ≡ numbered_bound_of kind (map (λ word. word.now) words.now) }
+    ensures { option_map shape_shaped result
+        ≡ numbered_bound_of kind (map (λ word. word.now) words.now) }
 {
     match words {
         [name, number] => Some(LineShape::Bound(kind, None, name, Some(number))),
@@ -134,7 +136,8 @@ fn numbered_bound<'a>(kind: BoundKind, words: &[&'a [u8]]) -> Option<LineShape<'
 
 // A bound without a number, behind its type.
 fn bare_bound<'a>(kind: BoundKind, words: &[&'a [u8]]) -> Option<LineShape<'a>>
-    ensures { option_map shape_shaped result ≡ bare_bound_of kind (map (λ word. word.now) words.now) }
+    ensures { option_map shape_shaped result
+        ≡ bare_bound_of kind (map (λ word. word.now) words.now) }
 {
     match words {
         [name] => Some(LineShape::Bound(kind, None, name, None)),
@@ -146,7 +149,8 @@ fn bare_bound<'a>(kind: BoundKind, words: &[&'a [u8]]) -> Option<LineShape<'a>>
 
 // A bound, behind its type.
 fn bound_of_kind<'a>(kind: BoundKind, words: &[&'a [u8]]) -> Option<LineShape<'a>>
-    ensures { option_map shape_shaped result ≡ bound_of_kind kind (map (λ word. word.now) words.now) }
+    ensures { option_map shape_shaped result
+        ≡ bound_of_kind kind (map (λ word. word.now) words.now) }
 {
     if kind.takes_number() {
         numbered_bound(kind, words)

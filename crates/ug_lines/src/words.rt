@@ -68,19 +68,21 @@ fn word_end(line: &[u8]) -> usize
 
 // The first word of a line and what follows it. It is empty where there is none.
 fn first_word(line: &[u8]) -> (&[u8], &[u8])
-    ensures word { 0 < length result.0.now → words_of line.now ≡ result.0.now ∷ words_of result.1.now }
+    ensures word { 0 < length result.0.now
+        → words_of line.now ≡ result.0.now ∷ words_of result.1.now }
     ensures none { length result.0.now ≡ 0 → words_of line.now ≡ [] }
 {
     let begun = behind_blanks(line);
     begun.split_at(word_end(begun))
 }
 
-/// Puts the first words of a line into the places, as many as there are places, and says how many. They are slices of the
-/// line.
+/// Puts the first words of a line into the places, as many as there are places, and says how many.
+/// They are slices of the line.
 pub fn words_of<'a>(line: &'a [u8], places: &mut [&'a [u8]]) -> usize
     ensures count { result ≤ length places.new }
     ensures room { length places.new ≡ length places.old }
-    ensures words { map (λ word. word.now) (take result places.new) ≡ take (length places.old) (words_of line.now) }
+    ensures words { map (λ word. word.now) (take result places.new)
+        ≡ take (length places.old) (words_of line.now) }
 {
     let mut count = 0;
     let mut rest = line;

@@ -96,8 +96,8 @@ where
     carry_out(rt, words, paths, &mut input, &mut out, &mut disk, is_told)
 }
 
-// Does what the words ask for, with these objects. Why it failed goes to standard error: the system's
-// words where a call did, else what is the matter with the text or the checkpoint.
+// Does what the words ask for, with these objects. Why it failed goes to standard error: the
+// system's words where a call did, else what is the matter with the text or the checkpoint.
 fn carry_out<R, S, K, D>(
     rt: &R,
     words: &[String],

@@ -1,7 +1,7 @@
 use std::io::Eprint;
 
-/// Says in plain words why a text was refused, and what helps: the line and the kind are those of the
-/// line `refused LINE KIND` with which the output begins.
+/// Says in plain words why a text was refused, and what helps: the line and the kind are those of
+/// the line `refused LINE KIND` with which the output begins.
 pub fn explain_refusal<R: Eprint>(rt: &R, file: &str, output: &[u8]) {
     let mut words = output.split(|byte| *byte == b' ' || *byte == b'\n');
     let (Some(_), Some(line), Some(kind)) = (words.next(), words.next(), words.next()) else {

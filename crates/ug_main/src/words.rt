@@ -1,8 +1,8 @@
 use std::env::FillError;
 use std::rt::Env;
 
-/// The words and the environment without the program's own name, which is the path of any folder: what
-/// it is made of must not matter.
+/// The words and the environment without the program's own name, which is the path of any folder:
+/// what it is made of must not matter.
 #[derive(Drop)]
 pub struct Behind<'a, R>(pub &'a R);
 

@@ -49,7 +49,8 @@ impl Solver {
         Ok(())
     }
 
-    /// The next box that it hands: its own with the next column halved that is whole, if there is one.
+    /// The next box that it hands: its own with the next column halved that is whole, if there is
+    /// one.
     pub fn next_box(&self, alloc: Global) -> Result<Option<Changes>, AllocError> {
         let mut list = Vec::with_capacity(alloc, self.changes.len() + 1)?;
         list.extend_from_slice(&self.changes)?;

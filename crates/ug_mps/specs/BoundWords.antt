@@ -1,10 +1,13 @@
 -- What the words of a bound say, and what they set.
-use Rattle.std.specs.Prelude.{ℕ, pos, ◌||◌, Bool, true, false, List, Option, Some, None, codes, if◌then◌else◌}
+use Rattle.std.specs.Prelude.{ℕ, pos, ◌||◌, Bool, true, false, List, Option, Some, None, codes}
+use Rattle.std.specs.Prelude.{if◌then◌else◌}
 use Rattle.std.specs.Option.{option_map}
 use Rattle.std.specs.Float.Parse.{without_sign}
 use Rattle.std.specs.Str.Parse.{starts_with_minus}
 use Rattle.ug_lines.specs.declared.kinds.BoundKind.{BoundKind}
-use Rattle.ug_lines.specs.declared.kinds.BoundKind.TheVariants.{Upper, Lower, Fixed, IntegerLower, IntegerUpper, Free, MinusInfinity, PlusInfinity, Binary}
+use Rattle.ug_lines.specs.declared.kinds.BoundKind.TheVariants.{Upper, Lower, Fixed, IntegerLower}
+use Rattle.ug_lines.specs.declared.kinds.BoundKind.TheVariants.{IntegerUpper, Free, MinusInfinity}
+use Rattle.ug_lines.specs.declared.kinds.BoundKind.TheVariants.{PlusInfinity, Binary}
 use Rattle.ug_lines.specs.Kinds.{is_in_any_case}
 use Rattle.ug_problem.specs.Decimals.{decimal_of}
 use Rattle.ug_drafts.specs.declared.bound.Bound.TheVariants.{Infinite, Finite}
@@ -14,11 +17,14 @@ use Rattle.ug_drafts.specs.Bounds.{infinity, amount, sets, sets_upper, sets_lowe
 
 -- the word is inf or infinity, in any case, with or without a sign
 abbrev pub is_infinite_word : List ℕ → Bool
-is_infinite_word word = is_in_any_case (without_sign word) (codes "INF") || is_in_any_case (without_sign word) (codes "INFINITY")
+is_infinite_word word =
+    is_in_any_case (without_sign word) (codes "INF")
+    || is_in_any_case (without_sign word) (codes "INFINITY")
 
 -- the amount that a word says, if it says one
 abbrev pub amount_of : List ℕ → Option Amount
-amount_of word = if is_infinite_word word then Some (infinity (starts_with_minus word)) else option_map amount (decimal_of word)
+amount_of word = if is_infinite_word word then Some (infinity (starts_with_minus word))
+    else option_map amount (decimal_of word)
 
 -- what a bound with a number sets; nothing where the number is too wide
 abbrev pub numbered_change : BoundKind → Amount → Option Change

@@ -1,5 +1,6 @@
 -- What the reader keeps of the lines so far.
-use Rattle.std.specs.Prelude.{◌≡◌, ℕ, ◌≤◌, ◌||◌, not, Bool, true, false, if◌then◌else◌, List, [], ◌∷◌, ◌++◌, length, Option, Some, None, Result, IfSome, MatchResult, ⊤}
+use Rattle.std.specs.Prelude.{◌≡◌, ℕ, ◌≤◌, ◌||◌, not, Bool, true, false, if◌then◌else◌, List, []}
+use Rattle.std.specs.Prelude.{◌∷◌, ◌++◌, length, Option, Some, None, Result, IfSome, MatchResult, ⊤}
 use Rattle.std.specs.List.{list_any}
 use Rattle.std.specs.Option.{option_map}
 use Rattle.ug_lines.specs.declared.section.Section.{Section}
@@ -21,7 +22,8 @@ use Rattle.ug_lines.specs.declared.section.Section.TheVariants as sections
 use Rattle.ug_mps.specs.Says.{header_fault, header_says, formed_fault, formed_says}
 use Rattle.ug_mps.specs.Numbered.{AreShortNumbers}
 use Rattle.ug_mps.specs.Good.{Good}
-use Rattle.ug_mps.specs.History.{section_of, is_section, has_section, has_sense, is_maximised, rows_of, have_objective, is_integer_on, coefficients, set_of}
+use Rattle.ug_mps.specs.History.{section_of, is_section, has_section, has_sense, is_maximised}
+use Rattle.ug_mps.specs.History.{rows_of, have_objective, is_integer_on, coefficients, set_of}
 use Rattle.ug_mps.specs.Rows.{lists_of, AreRows}
 use Rattle.ug_mps.specs.Columns.{AreColumns}
 
@@ -42,16 +44,21 @@ pub record Drafts (h : List Entry) (d : Draft) : Type 0 where
 -- the error is the fault at line n, if it is not for memory
 abbrev pub IsFaultOf : ℕ → Option Complaint → MpsError → Type 0
 IsFaultOf n fault Memory = Unit {0}
-IsFaultOf n fault (Fault f) = option_map (λ (c : Complaint). fault_at n c.kind c.word) fault ≡ Some f
+IsFaultOf n fault (Fault f) =
+    option_map (λ (c : Complaint). fault_at n c.kind c.word) fault ≡ Some f
 
--- a line was taken exactly where it has no fault, and its entries are then the latest; else its fault is told
-abbrev pub Takes : ℕ → (List Entry → Option Complaint) → (List Entry → List Entry) → Draft → Draft → Result ⊤ MpsError → Type 0
+-- a line was taken exactly where it has no fault, and its entries are then the latest; else its
+-- fault is told
+abbrev pub Takes : ℕ → (List Entry → Option Complaint) → (List Entry → List Entry) → Draft → Draft
+    → Result ⊤ MpsError → Type 0
 Takes n fault says old new result = (h : List Entry) → Drafts h old
-    → MatchResult result (λ _. (fault h ≡ None) × Drafts (says h ++ h) new) (λ e. IsFaultOf n (fault h) e)
+    → MatchResult result (λ _. (fault h ≡ None) × Drafts (says h ++ h) new)
+    (λ e. IsFaultOf n (fault h) e)
 
 -- the fault of a shape after a history, its sense among the words
 abbrev pub shaped_fault : Shape → List Entry → Option Complaint
-shaped_fault shape h = or_fault (fault_where kinds.Words (not (may_stand h (Some shape)))) (formed_fault h (section_of h) (Some shape))
+shaped_fault shape h = or_fault (fault_where kinds.Words (not (may_stand h (Some shape))))
+    (formed_fault h (section_of h) (Some shape))
 
 -- what it says
 abbrev pub shaped_says : ℕ → Shape → List Entry → List Entry
@@ -59,11 +66,13 @@ shaped_says n shape h = formed_says h (section_of h) n (Some shape)
 
 -- a line of this shape was taken
 abbrev pub TakesShape : ℕ → Shape → Draft → Draft → Result ⊤ MpsError → Type 0
-TakesShape n shape old new result = Takes n (shaped_fault shape) (shaped_says n shape) old new result
+TakesShape n shape old new result =
+    Takes n (shaped_fault shape) (shaped_says n shape) old new result
 
 -- a header of these words was taken
 abbrev pub TakesHeader : ℕ → List (List ℕ) → Draft → Draft → Result ⊤ MpsError → Type 0
-TakesHeader n words old new result = Takes n (λ h. header_fault h words) (λ h. header_says words) old new result
+TakesHeader n words old new result =
+    Takes n (λ h. header_fault h words) (λ h. header_says words) old new result
 
 -- the section is this one
 abbrev pub is_in : Section → Option Section → Bool

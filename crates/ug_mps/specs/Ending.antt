@@ -1,5 +1,7 @@
--- How far a text has to be read: its ENDATA line, what follows the word on that line, and what the bytes so far show.
-use Rattle.std.specs.Prelude.{◌≡◌, ℕ, ◌+◌, ◌<◌, ◌≤◌, ◌==◌, ◌⊎◌, ◌||◌, ◌&&◌, Bool, true, false, List, [], ◌∷◌, ◌++◌, length, take, drop, if◌then◌else◌}
+-- How far a text has to be read: its ENDATA line, what follows the word on that line, and what the
+-- bytes so far show.
+use Rattle.std.specs.Prelude.{◌≡◌, ℕ, ◌+◌, ◌<◌, ◌≤◌, ◌==◌, ◌⊎◌, ◌||◌, ◌&&◌, Bool, true, false, List}
+use Rattle.std.specs.Prelude.{[], ◌∷◌, ◌++◌, length, take, drop, if◌then◌else◌}
 use Rattle.ug_lines.specs.Kinds.{end_word}
 use Rattle.ug_lines.specs.Lines.{Line, content_of, lines_of}
 use Rattle.ug_lines.specs.Words.{is_blank, is_line_byte, is_legible}
@@ -58,7 +60,8 @@ ends_word (b ∷ bs) = is_blank b || ((b == 10) || ((b == 13) && is_feed_first b
 abbrev pub BeginsEnd : List ℕ → Type 0
 BeginsEnd line = (rest : List ℕ) × (line ≡ end_word ++ rest) × (ends_word rest ≡ true)
 
--- what a line's first bytes show: it is ENDATA, or is not, whatever follows; else they are a front of ENDATA and a carriage return
+-- what a line's first bytes show: it is ENDATA, or is not, whatever follows; else they are a front
+-- of ENDATA and a carriage return
 abbrev pub IsHead : List ℕ → Head → Type 0
 IsHead line heads.Ends = BeginsEnd line
 IsHead line heads.Other = (more : List ℕ) → is_end_line (first_line (line ++ more)) ≡ false
@@ -94,7 +97,8 @@ IsUnended (tails.Open after_return) bytes = HasNoFeed bytes
 IsUnended tails.Legible bytes = Unit {0}
 IsUnended tails.Bad bytes = Unit {0}
 
--- what stands behind ENDATA for the rest of its line: nothing, or a blank and a byte that may not stand there
+-- what stands behind ENDATA for the rest of its line: nothing, or a blank and a byte that may not
+-- stand there
 abbrev pub mark : Bool → List ℕ
 mark true = []
 mark false = 32 ∷ 0 ∷ []
@@ -115,7 +119,8 @@ pub record HasNoEnd (bytes : List ℕ) : Type 0 where
   pub others : AreOthers (lines_of front)
   pub no_feed : HasNoFeed open_
 
--- a line begins at `line`, within the limit, no line before it is ENDATA, and no line feed follows before `from`
+-- a line begins at `line`, within the limit, no line before it is ENDATA, and no line feed follows
+-- before `from`
 pub record IsLineAt (bytes : List ℕ) (line from : ℕ) : Type 0 where
   pub front : List ℕ
   pub open_ : List ℕ
@@ -148,13 +153,16 @@ pub record IsFirstEnd (bytes : List ℕ) (cut : ℕ) : Type 0 where
   pub ends : ends_word rest ≡ true
   pub there : length front + 6 ≡ cut
 
--- the first ENDATA line has its word end at `cut`; up to there, with a mark for the rest of the line, the bytes state what all do
+-- the first ENDATA line has its word end at `cut`; up to there, with a mark for the rest of the
+-- line, the bytes state what all do
 pub record IsEndedAt (bytes : List ℕ) (cut : ℕ) : Type 0 where
   pub within : cut ≤ length bytes
   pub first : IsFirstEnd bytes cut
-  pub same : (more : List ℕ) → StatesSame (take cut bytes ++ mark (begins_legibly (drop cut bytes ++ more))) (bytes ++ more)
+  pub same : (more : List ℕ) → StatesSame
+      (take cut bytes ++ mark (begins_legibly (drop cut bytes ++ more))) (bytes ++ more)
 
--- behind lines within the limit, none of them ENDATA, a line passes it that is not ENDATA, whatever follows
+-- behind lines within the limit, none of them ENDATA, a line passes it that is not ENDATA, whatever
+-- follows
 pub record PassesLimit (bytes : List ℕ) : Type 0 where
   pub front : List ℕ
   pub tail : List ℕ
@@ -169,15 +177,15 @@ pub record PassesLimit (bytes : List ℕ) : Type 0 where
 abbrev pub AreEnough : List ℕ → Type 0
 AreEnough bytes = (more : List ℕ) → StatesSame bytes (bytes ++ more)
 
--- no line up to the last, which begins at `line` and has no end, is ENDATA, and the last does not show yet that it is; the bytes are at
--- most a few above the limit
+-- no line up to the last, which begins at `line` and has no end, is ENDATA, and the last does not
+-- show yet that it is; the bytes are at most a few above the limit
 pub record IsOpen (bytes : List ℕ) (line : ℕ) : Type 0 where
   pub last : IsLineAt bytes line (length bytes)
   pub other : BeginsEnd (drop line bytes) → ⊥
   pub few : length bytes ≤ 268435456 + 7
 
--- what the bytes show where all were looked at: their ENDATA line, that they passed the limit without one, or that neither shows yet,
--- and where their last line begins
+-- what the bytes show where all were looked at: their ENDATA line, that they passed the limit
+-- without one, or that neither shows yet, and where their last line begins
 abbrev pub IsSeen : List ℕ → Seen → Type 0
 IsSeen bytes (seens.Ended cut) = IsEndedAt bytes cut
 IsSeen bytes seens.Passed = PassesLimit bytes × AreEnough bytes
@@ -187,4 +195,5 @@ IsSeen bytes (seens.Open line) = IsOpen bytes line
 abbrev pub IsSeenTo : List ℕ → ℕ → Seen → Type 0
 IsSeenTo bytes at (seens.Ended cut) = IsEndedAt bytes cut
 IsSeenTo bytes at seens.Passed = PassesLimit bytes × AreEnough bytes
-IsSeenTo bytes at (seens.Open line) = IsLineAt bytes line line × (line ≡ at + 1) × (line ≤ length bytes)
+IsSeenTo bytes at (seens.Open line) = IsLineAt bytes line line × (line ≡ at + 1)
+    × (line ≤ length bytes)

@@ -1,7 +1,8 @@
 -- What a line says.
 use Rattle.std.specs.Prelude.{ℕ, Bool, List, Option}
 use Rattle.ug_lines.specs.declared.section.Section.{Section}
-use Rattle.ug_lines.specs.declared.section.Section.TheVariants.{Objsense, Rows, Columns, Rhs, Ranges, Bounds}
+use Rattle.ug_lines.specs.declared.section.Section.TheVariants.{Objsense, Rows, Columns, Rhs}
+use Rattle.ug_lines.specs.declared.section.Section.TheVariants.{Ranges, Bounds}
 use Rattle.ug_lines.specs.declared.kinds.RowKind.{RowKind}
 use Rattle.ug_problem.specs.declared.decimal.Decimal.{Decimal}
 use Rattle.ug_drafts.specs.declared.bound.Change.{Change}
@@ -11,9 +12,9 @@ pub record Pair : Type 0 where
   pub row : List ℕ
   pub number : Decimal
 
--- what a line says: a section begins; the user maximises or not; a row, with the number of the line; integer is on or off; a
--- column, with the number of the line, and pairs; a set's name, if there is one, and right-hand sides, ranges or what a bound of a
--- column sets
+-- what a line says: a section begins; the user maximises or not; a row, with the number of the
+-- line; integer is on or off; a column, with the number of the line, and pairs; a set's name, if
+-- there is one, and right-hand sides, ranges or what a bound of a column sets
 pub data Entry : Type 0 where
   header : Section → Entry
   sense : Bool → Entry

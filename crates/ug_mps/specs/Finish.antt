@@ -9,7 +9,8 @@ use Rattle.ug_mps.specs.Good.{Good}
 use Rattle.ug_mps.specs.Reads.{end_fault}
 use Rattle.ug_mps.specs.Stated.{stated}
 
--- why lines that are all good state no problem: the first fault of a column or a row, or want of memory
+-- why lines that are all good state no problem: the first fault of a column or a row, or want of
+-- memory
 abbrev pub IsEndFault : Option ℕ → List Entry → MpsError → Type 0
 IsEndFault boxed h e = IsOf (end_fault boxed h) e
 

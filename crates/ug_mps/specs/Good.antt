@@ -1,11 +1,14 @@
--- Histories of good lines: each entry may follow those before it, and its words are within the limits of words.
-use Rattle.std.specs.Prelude.{◌≡◌, ℕ, ◌+◌, ◌&&◌, ◌||◌, not, Bool, true, List, [], ◌∷◌, length, All, nat_lt, nat_le}
+-- Histories of good lines: each entry may follow those before it, and its words are within the
+-- limits of words.
+use Rattle.std.specs.Prelude.{◌≡◌, ℕ, ◌+◌, ◌&&◌, ◌||◌, not, Bool, true, List, [], ◌∷◌, length, All}
+use Rattle.std.specs.Prelude.{nat_lt, nat_le}
 use Rattle.std.specs.List.{list_all}
 use Rattle.ug_problem.specs.Decimals.{IsDecimal}
 use Rattle.ug_problem.specs.Instances.{IsName}
 use Rattle.ug_drafts.specs.Bounds.{IsChange}
 use Rattle.ug_mps.specs.Entries.{Pair, Entry, row, column, sides, ranges, bound}
-use Rattle.ug_mps.specs.History.{rows_of, is_row, goes_on, is_column, place_of, coefficients, has, names_row, sides_given, ranges_given}
+use Rattle.ug_mps.specs.History.{rows_of, is_row, goes_on, is_column, place_of, coefficients, has}
+use Rattle.ug_mps.specs.History.{names_row, sides_given, ranges_given}
 
 -- no two of the pairs name one row
 abbrev pub are_apart : List Pair → Bool
@@ -22,8 +25,10 @@ row_fits h name = not (is_row h name) && nat_lt (length (rows_of h)) 10000
 
 -- a column's line may follow
 abbrev pub column_fits : List Entry → List ℕ → List Pair → Bool
-column_fits h name pairs = ((goes_on h name || not (is_column h name)) && nat_lt (place_of h name) 10000)
-    && ((are_free h (λ r. has (coefficients h) (place_of h name) r) pairs && are_apart pairs) && nat_le (length (coefficients h) + length pairs) 1000000)
+column_fits h name pairs =
+    ((goes_on h name || not (is_column h name)) && nat_lt (place_of h name) 10000)
+    && ((are_free h (λ r. has (coefficients h) (place_of h name) r) pairs && are_apart pairs)
+    && nat_le (length (coefficients h) + length pairs) 1000000)
 
 -- right-hand sides or ranges may follow those given
 abbrev pub given_fits : List Entry → List Pair → List Pair → Bool

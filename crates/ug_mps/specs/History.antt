@@ -1,5 +1,6 @@
 -- What the lines so far have said, the latest entry first.
-use Rattle.std.specs.Prelude.{ℕ, ◌-◌, ◌==◌, ◌||◌, ◌&&◌, Bool, true, false, List, [], ◌∷◌, ◌++◌, length, map, Option, Some, None, if◌then◌else◌}
+use Rattle.std.specs.Prelude.{ℕ, ◌-◌, ◌==◌, ◌||◌, ◌&&◌, Bool, true, false, List, [], ◌∷◌, ◌++◌}
+use Rattle.std.specs.Prelude.{length, map, Option, Some, None, if◌then◌else◌}
 use Rattle.std.specs.Str.{bytes_eq}
 use Rattle.std.specs.List.{list_any}
 use Rattle.ug_lines.specs.declared.section.Section.{Section}
@@ -8,11 +9,13 @@ use Rattle.ug_lines.specs.declared.kinds.RowKind.{RowKind}
 use Rattle.ug_lines.specs.declared.kinds.RowKind.TheVariants as types
 use Rattle.ug_problem.specs.declared.decimal.Decimal.{Decimal}
 use Rattle.ug_drafts.specs.declared.role.Role.{Role}
-use Rattle.ug_drafts.specs.declared.role.Role.TheVariants.{Objective, Ignored, AtMost, AtLeast, Equal}
+use Rattle.ug_drafts.specs.declared.role.Role.TheVariants.{Objective, Ignored, AtMost, AtLeast}
+use Rattle.ug_drafts.specs.declared.role.Role.TheVariants.{Equal}
 use Rattle.ug_drafts.specs.declared.bound.Bound.{Bound}
 use Rattle.ug_drafts.specs.Bounds.{high_after, low_after}
 use Rattle.ug_drafts.specs.Roles.{is_objective}
-use Rattle.ug_mps.specs.Entries.{Pair, Entry, section_of_entry, header, sense, row, marker, column, sides, ranges, bound}
+use Rattle.ug_mps.specs.Entries.{Pair, Entry, section_of_entry, header, sense, row, marker, column}
+use Rattle.ug_mps.specs.Entries.{sides, ranges, bound}
 
 -- ---- sections and sense
 
@@ -80,7 +83,8 @@ role_after rows kind = role_with (have_objective rows) kind
 abbrev pub rows_of : List Entry → List RowNamed
 rows_of [] = []
 rows_of (row line kind name ∷ before) =
-    rows_of before ++ record { line = line; role = role_after (rows_of before) kind; name = name } ∷ []
+    rows_of before ++ record { line = line; role = role_after (rows_of before) kind; name = name }
+    ∷ []
 rows_of (_ ∷ before) = rows_of before
 
 -- one of the rows has this name
@@ -111,7 +115,8 @@ pub record ColumnBegun : Type 0 where
 abbrev pub columns_of : List Entry → List ColumnBegun
 columns_of [] = []
 columns_of (column line name pairs ∷ before) = if goes_on before name then columns_of before
-    else columns_of before ++ record { line = line; name = name; integer = is_integer_on before } ∷ []
+    else columns_of before ++ record { line = line; name = name; integer = is_integer_on before }
+    ∷ []
 columns_of (_ ∷ before) = columns_of before
 
 -- one of the columns has this name
@@ -120,7 +125,8 @@ is_column before name = list_any (λ (c : ColumnBegun). bytes_eq name c.name) (c
 
 -- the place of the column that a line is of: the last one, or the one behind it
 abbrev pub place_of : List Entry → List ℕ → ℕ
-place_of before name = if goes_on before name then length (columns_of before) - 1 else length (columns_of before)
+place_of before name = if goes_on before name then length (columns_of before) - 1
+    else length (columns_of before)
 
 -- a coefficient: the place of its column, its row's name and the number
 pub record Coefficient : Type 0 where
@@ -135,7 +141,8 @@ placed j pairs = map (λ (p : Pair). record { place = j; row = p.row; number = p
 -- the coefficients, in order
 abbrev pub coefficients : List Entry → List Coefficient
 coefficients [] = []
-coefficients (column line name pairs ∷ before) = coefficients before ++ placed (place_of before name) pairs
+coefficients (column line name pairs ∷ before) =
+    coefficients before ++ placed (place_of before name) pairs
 coefficients (_ ∷ before) = coefficients before
 
 -- one of them is of the column at the place and of this row
@@ -186,5 +193,6 @@ high_set (_ ∷ before) name = high_set before name
 -- a bound makes the column integer
 abbrev pub is_made_integer : List Entry → List ℕ → Bool
 is_made_integer [] name = false
-is_made_integer (bound set name' change ∷ before) name = (bytes_eq name name' && change.integer) || is_made_integer before name
+is_made_integer (bound set name' change ∷ before) name =
+    (bytes_eq name name' && change.integer) || is_made_integer before name
 is_made_integer (_ ∷ before) name = is_made_integer before name

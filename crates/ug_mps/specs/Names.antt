@@ -19,10 +19,12 @@ pub record StandsAt (names : List (List ℕ)) (name : List ℕ) (j : ℕ) : Type
   pub same : name_at names j ≡ name
 
 -- the map has each name at its place, and no other
-pub record ArePlaces {A : Type 0} (places : BTreeMap (Vec ℕ A) ℕ) (names : List (List ℕ)) : Type 0 where
+pub record ArePlaces {A : Type 0} (places : BTreeMap (Vec ℕ A) ℕ) (names : List (List ℕ)) :
+    Type 0 where
   pub found : (name : List ℕ) → IfSome (place_in places name) (StandsAt names name)
   pub each : (j : ℕ) → j < length names → place_in places (name_at names j) ≡ Some j
 
 -- no name stands at two places
 abbrev pub AreDistinct : List (List ℕ) → Type 0
-AreDistinct names = (i j : ℕ) → i < length names → j < length names → name_at names i ≡ name_at names j → i ≡ j
+AreDistinct names = (i j : ℕ) → i < length names → j < length names
+    → name_at names i ≡ name_at names j → i ≡ j

@@ -1,5 +1,7 @@
 -- What a text states: a problem, or a first fault.
-use Rattle.std.specs.Prelude.{◌≡◌, ℕ, ◌+◌, ◌<◌, ◌⊎◌, ◌||◌, ◌&&◌, not, Bool, false, List, [], ◌∷◌, length, take, reverse, slice_index_or, Option, Some, None, is_none, if◌then◌else◌}
+use Rattle.std.specs.Prelude.{◌≡◌, ℕ, ◌+◌, ◌<◌, ◌⊎◌, ◌||◌, ◌&&◌, not, Bool, false, List, [], ◌∷◌}
+use Rattle.std.specs.Prelude.{length, take, reverse, slice_index_or, Option, Some, None, is_none}
+use Rattle.std.specs.Prelude.{if◌then◌else◌}
 use Rattle.ug_lines.specs.declared.section.Section.TheVariants.{Endata}
 use Rattle.ug_lines.specs.Lines.{Line, lines_of}
 use Rattle.ug_problem.specs.Instances.{Instance}
@@ -54,30 +56,38 @@ pub record IsEndless (text : List ℕ) (h : List Entry) : Type 0 where
 abbrev pub is_unbounded : List Entry → ColumnBegun → Bool
 is_unbounded h c = is_infinite (low_of h c.name) || is_infinite (high_of h c.name)
 
--- a column that is not integer, or has an infinite bound and no box is given: at the line where it begins
+-- a column that is not integer, or has an infinite bound and no box is given: at the line where it
+-- begins
 abbrev pub column_fault : Option ℕ → List Entry → ColumnBegun → Option MpsFault
-column_fault boxed h c = if not (is_integer h c) then Some (fault_at c.line kinds.Continuous (Some c.name))
-    else (if is_none boxed && is_unbounded h c then Some (fault_at c.line kinds.Unbounded (Some c.name)) else None)
+column_fault boxed h c =
+    if not (is_integer h c) then Some (fault_at c.line kinds.Continuous (Some c.name))
+    else (if is_none boxed && is_unbounded h c
+    then Some (fault_at c.line kinds.Unbounded (Some c.name)) else None)
 
 -- a row or an objective whose scaled numbers are too wide: at its line
 abbrev pub row_fault : List Entry → RowNamed → Option MpsFault
-row_fault h r = if not (is_ignored r.role) && is_wide r.role (numbers_of h r) then Some (fault_at r.line kinds.TooWide (Some r.name)) else None
+row_fault h r = if not (is_ignored r.role) && is_wide r.role (numbers_of h r)
+    then Some (fault_at r.line kinds.TooWide (Some r.name)) else None
 
 -- the first fault of the columns, or else of the rows
 abbrev pub end_fault : Option ℕ → List Entry → Option MpsFault
-end_fault boxed h = or_else (first_fault (column_fault boxed h) (columns_of h)) (first_fault (row_fault h) (rows_of h))
+end_fault boxed h = or_else (first_fault (column_fault boxed h) (columns_of h))
+    (first_fault (row_fault h) (rows_of h))
 
 -- ---- texts
 
 -- the text states the problem p, where infinite bounds are those of the box, if there is one
 abbrev pub Reads : List ℕ → Option ℕ → Instance → Type 0
-Reads text boxed p = (k : ℕ) × (h : List Entry) × Ends text k h × (end_fault boxed h ≡ None) × (p ≡ stated boxed h)
+Reads text boxed p = (k : ℕ) × (h : List Entry) × Ends text k h × (end_fault boxed h ≡ None)
+    × (p ≡ stated boxed h)
 
 -- the first fault of the text: of a line, no ENDATA, or of a column or a row
 abbrev pub FirstFault : List ℕ → Option ℕ → MpsFault → Type 0
 FirstFault text boxed f =
-    ((k : ℕ) × (h : List Entry) × (c : Complaint) × IsFaulty text k h c × (f ≡ fault_at (k + 1) c.kind c.word))
-    ⊎ (((h : List Entry) × IsEndless text h × (f ≡ fault_at (length (lines_of text)) kinds.NoEnd None))
+    ((k : ℕ) × (h : List Entry) × (c : Complaint) × IsFaulty text k h c
+    × (f ≡ fault_at (k + 1) c.kind c.word))
+    ⊎ (((h : List Entry) × IsEndless text h
+    × (f ≡ fault_at (length (lines_of text)) kinds.NoEnd None))
     ⊎ ((k : ℕ) × (h : List Entry) × Ends text k h × (end_fault boxed h ≡ Some f)))
 
 -- why the text is refused: its first fault, or want of memory

@@ -1,5 +1,6 @@
 -- What a line does to the rows' drafts.
-use Rattle.std.specs.Prelude.{◌≡◌, ℕ, not, Bool, List, [], ◌∷◌, map, find, Option, Some, None, slice_index_or}
+use Rattle.std.specs.Prelude.{◌≡◌, ℕ, not, Bool, List, [], ◌∷◌, map, find, Option, Some, None}
+use Rattle.std.specs.Prelude.{slice_index_or}
 use Rattle.std.specs.List.{list_any}
 use Rattle.std.specs.Option.{option_map}
 use Rattle.std.specs.Borrow.{Bor}
@@ -16,7 +17,14 @@ use Rattle.ug_mps.specs.Rows.{KeptRows, Lists, AreRows, AreBelow, is_taken, and_
 
 -- a row that has nothing
 abbrev pub new_row : ℕ → Role → RowDraft
-new_row line role = record { line = line; role = role; terms = []; side = None; range = None; last = None }
+new_row line role = record {
+  line = line;
+  role = role;
+  terms = [];
+  side = None;
+  range = None;
+  last = None;
+}
 
 -- the row at a place
 abbrev pub row_at : List RowDraft → ℕ → RowDraft
@@ -46,7 +54,8 @@ first_missing names words = find (λ word. not (is_among names word)) words
 
 -- the first row that has the part, or that an earlier one of the rows is too
 abbrev pub FindsRepeated : Part → List (List ℕ) → List ℕ → KeptRows → Option (Bor (List ℕ)) → Type 0
-FindsRepeated part names places rows word = (l : Lists) → AreRows l rows → AreBelow part l → AreAt rows.names names places
+FindsRepeated part names places rows word = (l : Lists) → AreRows l rows → AreBelow part l
+    → AreAt rows.names names places
     → option_map (λ w. w.now) word ≡ repeated (λ name. is_taken part l name) names
 
 -- the rows that the pairs name
@@ -55,5 +64,7 @@ rows_named pairs = map (λ (p : Pair). p.row) pairs
 
 -- the rows have the pairs as this part
 abbrev pub PutsPairs : Part → List Pair → List ℕ → KeptRows → KeptRows → Type 0
-PutsPairs part pairs places old new = (l : Lists) → AreRows l old → AreAt old.names (rows_named pairs) places
-    → repeated (λ name. is_taken part l name) (rows_named pairs) ≡ None → AreRows (and_pairs part pairs l) new
+PutsPairs part pairs places old new = (l : Lists) → AreRows l old
+    → AreAt old.names (rows_named pairs) places
+    → repeated (λ name. is_taken part l name) (rows_named pairs) ≡ None
+    → AreRows (and_pairs part pairs l) new

@@ -1,12 +1,15 @@
--- What the rows have so far, by the rows named, the coefficients, the right-hand sides and the ranges.
-use Rattle.std.specs.Prelude.{◌≡◌, ℕ, ◌≤◌, ◌<◌, Bool, List, [], ◌∷◌, ◌++◌, map, All, Option, Some, None, if◌then◌else◌}
+-- What the rows have so far, by the rows named, the coefficients, the right-hand sides and the
+-- ranges.
+use Rattle.std.specs.Prelude.{◌≡◌, ℕ, ◌≤◌, ◌<◌, Bool, List, [], ◌∷◌, ◌++◌, map, All, Option, Some}
+use Rattle.std.specs.Prelude.{None, if◌then◌else◌}
 use Rattle.std.specs.List.{list_any}
 use Rattle.std.specs.Str.{bytes_eq}
 use Rattle.ug_drafts.specs.declared.row.RowDraft.{RowDraft}
 use Rattle.ug_drafts.specs.declared.row.Part.{Part}
 use Rattle.ug_drafts.specs.declared.row.Part.TheVariants as parts
 use Rattle.ug_mps.specs.Entries.{Pair, Entry}
-use Rattle.ug_mps.specs.History.{RowNamed, Coefficient, rows_of, coefficients, placed, has, names_row, sides_given, ranges_given}
+use Rattle.ug_mps.specs.History.{RowNamed, Coefficient, rows_of, coefficients, placed, has}
+use Rattle.ug_mps.specs.History.{names_row, sides_given, ranges_given}
 use Rattle.ug_mps.specs.Stated.{terms_of, factor_of, number_given}
 
 -- the rows with their names
@@ -23,7 +26,12 @@ pub record Lists : Type 0 where
 
 -- those of a history
 abbrev pub lists_of : List Entry → Lists
-lists_of h = record { named = rows_of h; coefficients = coefficients h; sides = sides_given h; ranges = ranges_given h }
+lists_of h = record {
+  named = rows_of h;
+  coefficients = coefficients h;
+  sides = sides_given h;
+  ranges = ranges_given h;
+}
 
 -- the first place, or else the second
 abbrev pub or_place : Option ℕ → Option ℕ → Option ℕ
@@ -33,7 +41,8 @@ or_place (Some i) j = Some i
 -- the place of the last column that has a coefficient of the row
 abbrev pub last_place : List Coefficient → List ℕ → Option ℕ
 last_place [] name = None
-last_place (c ∷ cs) name = or_place (last_place cs name) (if bytes_eq name c.row then Some c.place else None)
+last_place (c ∷ cs) name =
+    or_place (last_place cs name) (if bytes_eq name c.row then Some c.place else None)
 
 -- one of the rows has this name
 abbrev pub is_named : List RowNamed → List ℕ → Bool
@@ -83,8 +92,23 @@ is_taken parts.Range l name = names_row l.ranges name
 -- the lists with pairs more
 abbrev pub and_pairs : Part → List Pair → Lists → Lists
 and_pairs (parts.Coefficient j) pairs l =
-    record { named = l.named; coefficients = l.coefficients ++ placed j pairs; sides = l.sides; ranges = l.ranges }
+    record {
+      named = l.named;
+      coefficients = l.coefficients ++ placed j pairs;
+      sides = l.sides;
+      ranges = l.ranges;
+    }
 and_pairs parts.Side pairs l =
-    record { named = l.named; coefficients = l.coefficients; sides = l.sides ++ pairs; ranges = l.ranges }
+    record {
+      named = l.named;
+      coefficients = l.coefficients;
+      sides = l.sides ++ pairs;
+      ranges = l.ranges;
+    }
 and_pairs parts.Range pairs l =
-    record { named = l.named; coefficients = l.coefficients; sides = l.sides; ranges = l.ranges ++ pairs }
+    record {
+      named = l.named;
+      coefficients = l.coefficients;
+      sides = l.sides;
+      ranges = l.ranges ++ pairs;
+    }

@@ -1,5 +1,6 @@
 -- The problem that the lines state.
-use Rattle.std.specs.Prelude.{ℕ, pos, neg_ℤ, ◌==◌, ◌||◌, ◌&&◌, not, Bool, List, [], ◌∷◌, map, filter, Option, Some, None, unwrap_or, if◌then◌else◌}
+use Rattle.std.specs.Prelude.{ℕ, pos, neg_ℤ, ◌==◌, ◌||◌, ◌&&◌, not, Bool, List, [], ◌∷◌, map}
+use Rattle.std.specs.Prelude.{filter, Option, Some, None, unwrap_or, if◌then◌else◌}
 use Rattle.std.specs.Str.{bytes_eq}
 use Rattle.ug_rows.specs.declared.row.Objective as target
 use Rattle.ug_problem.specs.declared.column.Column.{Column}
@@ -14,7 +15,9 @@ use Rattle.ug_drafts.specs.Roles.{is_sided, is_objective}
 use Rattle.ug_drafts.specs.Bounds.{bound_or, box_end}
 use Rattle.ug_drafts.specs.RowNumbers.{Numbers, no_objective, objective_of, range_of, row_of}
 use Rattle.ug_mps.specs.Entries.{Pair, Entry}
-use Rattle.ug_mps.specs.History.{RowNamed, rows_of, ColumnBegun, columns_of, Coefficient, coefficients, sides_given, ranges_given, low_set, high_set, is_made_integer, is_maximised}
+use Rattle.ug_mps.specs.History.{RowNamed, rows_of, ColumnBegun, columns_of, Coefficient}
+use Rattle.ug_mps.specs.History.{coefficients, sides_given, ranges_given, low_set, high_set}
+use Rattle.ug_mps.specs.History.{is_made_integer, is_maximised}
 
 -- ---- the numbers of a row
 
@@ -32,7 +35,8 @@ factor_of c = record { column = c.place; number = c.number }
 -- the number that the pairs give a row, if they give one
 abbrev pub number_given : List Pair → List ℕ → Option Decimal
 number_given [] name = None
-number_given (p ∷ pairs) name = if bytes_eq name p.row then Some p.number else number_given pairs name
+number_given (p ∷ pairs) name = if bytes_eq name p.row then Some p.number
+    else number_given pairs name
 
 abbrev pub numbers_of : List Entry → RowNamed → Numbers
 numbers_of h r = record {
@@ -53,7 +57,9 @@ stated_rows h = map (stated_row h) (filter (λ (r : RowNamed). is_sided r.role) 
 -- the objective: the row that is it, where there is one
 abbrev pub objective_in : List Entry → List RowNamed → target.Objective
 objective_in h [] = no_objective (is_maximised h)
-objective_in h (r ∷ rows) = if is_objective r.role then objective_of (is_maximised h) (numbers_of h r) else objective_in h rows
+objective_in h (r ∷ rows) =
+    if is_objective r.role then objective_of (is_maximised h) (numbers_of h r)
+    else objective_in h rows
 
 -- ---- columns
 

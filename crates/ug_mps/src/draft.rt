@@ -83,8 +83,8 @@ impl Draft {
         }
     }
 
-    /// Takes the next line, which has this number and this shape, or tells its fault. After an error the draft is of no
-    /// more use.
+    /// Takes the next line, which has this number and this shape, or tells its fault. After an
+    /// error the draft is of no more use.
     pub fn take(&mut self, line: u64, shape: &LineShape<'_>) -> Result<(), MpsError>
         requires section { belongs self.old.section (shape_shaped shape.now) ≡ true }
         requires words { IsWorded (shape_shaped shape.now) }

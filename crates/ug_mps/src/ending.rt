@@ -6,8 +6,8 @@ ghost use Rattle.ug_mps.specs.Ending.{IsHead, IsBehind, IsLineAt, IsFeedAt, IsSe
 use crate::line::LIMIT;
 use ug_lines::{END_WORD, is_blank, is_line_byte, line_feed};
 
-/// What the first bytes of a line show: that it is the ENDATA line, or that it is another one, whatever follows. `Open`
-/// is what neither shows yet.
+/// What the first bytes of a line show: that it is the ENDATA line, or that it is another one,
+/// whatever follows. `Open` is what neither shows yet.
 #[derive(Clone, Copy, Debug, PartialEq, Eq)]
 enum Head {
     Ends,
@@ -15,8 +15,8 @@ enum Head {
     Open,
 }
 
-/// What was seen of the rest of an ENDATA line: the line goes on, behind a carriage return or not; or it is known
-/// whether all its bytes may stand there.
+/// What was seen of the rest of an ENDATA line: the line goes on, behind a carriage return or not;
+/// or it is known whether all its bytes may stand there.
 #[derive(Clone, Copy, Debug, PartialEq, Eq)]
 pub enum Tail {
     Open(bool),
@@ -24,8 +24,9 @@ pub enum Tail {
     Bad,
 }
 
-/// What the bytes of a text show so far: the first line ENDATA, whose word ends at the place told; that they pass the limit
-/// without one; or, where neither shows yet, the place at which their last line begins.
+/// What the bytes of a text show so far: the first line ENDATA, whose word ends at the place told;
+/// that they pass the limit without one; or, where neither shows yet, the place at which their last
+/// line begins.
 #[derive(Clone, Copy, Debug, PartialEq, Eq)]
 pub enum Seen {
     Ended(usize),
@@ -87,7 +88,8 @@ fn head_of(line: &[u8]) -> Head
 
 // What the bytes behind a carriage return show.
 fn after_return(bytes: &[u8]) -> Tail
-    ensures legible { (more : List ℕ) → begins_legibly (13 ∷ (bytes.now ++ more)) ≡ legible_by result more }
+    ensures legible { (more : List ℕ)
+        → begins_legibly (13 ∷ (bytes.now ++ more)) ≡ legible_by result more }
     ensures unended { IsUnended result bytes.now }
 {
     match bytes {
@@ -105,7 +107,8 @@ fn after_return(bytes: &[u8]) -> Tail
 // What the bytes from one on that may not stand in a line show.
 fn after_stop(bytes: &[u8]) -> Tail
     requires { StopsFirst bytes.now }
-    ensures legible { (more : List ℕ) → begins_legibly (bytes.now ++ more) ≡ legible_by result more }
+    ensures legible { (more : List ℕ)
+        → begins_legibly (bytes.now ++ more) ≡ legible_by result more }
     ensures unended { IsUnended result bytes.now }
 {
     match bytes {
@@ -131,7 +134,8 @@ fn stop(bytes: &[u8]) -> Option<usize>
 
 // What the next bytes of an ENDATA line show, where no carriage return stands before them.
 fn after_all(bytes: &[u8]) -> Tail
-    ensures legible { (more : List ℕ) → begins_legibly (bytes.now ++ more) ≡ legible_by result more }
+    ensures legible { (more : List ℕ)
+        → begins_legibly (bytes.now ++ more) ≡ legible_by result more }
     ensures unended { IsUnended result bytes.now }
 {
     match stop(bytes) {
@@ -140,10 +144,11 @@ fn after_all(bytes: &[u8]) -> Tail
     }
 }
 
-/// Reads on over the rest of an ENDATA line: what its next bytes show of it. It is open only where no line feed is among
-/// them.
+/// Reads on over the rest of an ENDATA line: what its next bytes show of it. It is open only where
+/// no line feed is among them.
 pub fn tail_of(after: bool, bytes: &[u8]) -> Tail
-    ensures legible { (more : List ℕ) → begins_legibly (after_if after (bytes.now ++ more)) ≡ legible_by result more }
+    ensures legible { (more : List ℕ)
+        → begins_legibly (after_if after (bytes.now ++ more)) ≡ legible_by result more }
     ensures unended { IsUnended result bytes.now }
 {
     if after {
@@ -200,7 +205,8 @@ fn seen_last(bytes: &[u8], line: usize) -> Seen
     }
 }
 
-/// What the bytes of a text show, where a line begins at `line` and they were looked at up to `from`.
+/// What the bytes of a text show, where a line begins at `line` and they were looked at up to
+/// `from`.
 pub fn see(bytes: &[u8], line: usize, from: usize) -> Seen
     requires { IsLineAt bytes.now line from }
     ensures { IsSeen bytes.now result }

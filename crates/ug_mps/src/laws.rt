@@ -12,13 +12,16 @@ pub fn one_outcome()
     ensures { (text : List ℕ) (boxed : Option ℕ) → HasOneOutcome text boxed }
 {}
 
-/// Worked texts, by which the definitions were tried: a knapsack, the same with lines left out, fractions, a box, and
-/// two faults on one line.
+/// Worked texts, by which the definitions were tried: a knapsack, the same with lines left out,
+/// fractions, a box, and two faults on one line.
 pub fn worked_texts()
     ensures empty { FirstFault [] None (fault_at 0 NoEnd None) }
-    ensures whole { Reads (text_of (knapsack_rows ++ codes " UP D C 10" ∷ codes "ENDATA" ∷ [])) None knapsack }
-    ensures endless { FirstFault (text_of (knapsack_rows ++ codes " UP D C 10" ∷ [])) None (fault_at 23 NoEnd None) }
-    ensures unbounded { FirstFault (text_of (knapsack_rows ++ codes "ENDATA" ∷ [])) None (fault_at 14 Unbounded (Some (codes "C"))) }
+    ensures whole { Reads (text_of (knapsack_rows ++ codes " UP D C 10" ∷ codes "ENDATA" ∷ [])) None
+        knapsack }
+    ensures endless { FirstFault (text_of (knapsack_rows ++ codes " UP D C 10" ∷ [])) None
+        (fault_at 23 NoEnd None) }
+    ensures unbounded { FirstFault (text_of (knapsack_rows ++ codes "ENDATA" ∷ [])) None
+        (fault_at 14 Unbounded (Some (codes "C"))) }
     ensures scaled { Reads fractions_text None fractions }
     ensures fallen { FirstFault falling_text None (fault_at 5 Unbounded (Some (codes "X"))) }
     ensures in_box { Reads falling_text (Some 50) falling }

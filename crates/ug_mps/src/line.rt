@@ -16,7 +16,8 @@ use ug_lines::{
 /// The bytes that a text may have before its ENDATA line.
 pub const LIMIT: usize = 268_435_456;
 
-// So many words of a line decide what it is: where it has more than these, it is the same with any others behind them.
+// So many words of a line decide what it is: where it has more than these, it is the same with any
+// others behind them.
 const MOST_WORDS: usize = 6;
 
 // Whether nothing, or a blank, stands first.
@@ -117,7 +118,8 @@ fn take_words(
     words: &[&[u8]],
 ) -> Result<(), MpsError>
     requires { AreWords (map (λ word. word.now) words.now) }
-    ensures { TakesWords line is_data (map (λ word. word.now) words.now) draft.old draft.new result }
+    ensures { TakesWords line is_data (map (λ word. word.now) words.now) draft.old draft.new
+        result }
 {
     match words {
         [] => Ok(()),
@@ -131,8 +133,8 @@ fn take_words(
     }
 }
 
-/// Takes the next line of the text into the draft, or tells its fault. `line` is its number, `through` how many bytes of the
-/// text there are up to its end.
+/// Takes the next line of the text into the draft, or tells its fault. `line` is its number,
+/// `through` how many bytes of the text there are up to its end.
 pub fn take_line(
     alloc: Global,
     draft: &mut Draft,
@@ -140,7 +142,8 @@ pub fn take_line(
     content: &[u8],
     through: usize,
 ) -> Result<(), MpsError>
-    ensures { TakesLine line (record { content = content.now; through = through }) draft.old draft.new result }
+    ensures { TakesLine line (record { content = content.now; through = through }) draft.old
+        draft.new result }
 {
     if is_too_long(content, through) {
         return Err(bare_fault(line, Kind::TooLong));

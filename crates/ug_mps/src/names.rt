@@ -6,7 +6,8 @@ use std::collections::BTreeMap;
 use std::marker::Model;
 use ug_lists::Text;
 
-/// Distinct names in the order in which they were added. A look-up goes by a map from names to places.
+/// Distinct names in the order in which they were added. A look-up goes by a map from names to
+/// places.
 #[derive(Drop)]
 pub struct Names {
     names: Vec<Text>,

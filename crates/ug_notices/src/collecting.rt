@@ -11,8 +11,8 @@ use ug_orders::Queue;
 use ug_ranks::Ranks;
 
 /// Asks one rank that works for open nodes, where the pool has `len` of them and that is fewer than
-/// `low`: as many as bring it to `high`. Where it has `high`, the ranks that are asked are told that
-/// it is enough.
+/// `low`: as many as bring it to `high`. Where it has `high`, the ranks that are asked are told
+/// that it is enough.
 ///
 /// There is then a place for the Stop of each rank that works. After an error nothing has changed.
 pub fn collect(
@@ -48,8 +48,8 @@ pub fn collect(
     tell(ranks, orders, demand, members.len())
 }
 
-// Whether so many nodes are no fewer than the low mark and fewer than the high one, so that nothing is
-// wanted.
+// Whether so many nodes are no fewer than the low mark and fewer than the high one, so that nothing
+// is wanted.
 fn is_between(len: u64, low: u32, high: u32) -> bool
     ensures { IsTrue result ↔ ((low ≤ len) × (len < high)) }
 {

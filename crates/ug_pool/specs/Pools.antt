@@ -1,5 +1,6 @@
 -- Open nodes in order of their floors, and of their names where the floors are the same.
-use Rattle.std.specs.Prelude.{◌≡◌, ℕ, ℤ, pos, ◌+◌, ◌<◌, Bool, false, not, int_lt, List, [], ◌∷◌, ◌++◌, length, filter, slice_index_or}
+use Rattle.std.specs.Prelude.{◌≡◌, ℕ, ℤ, pos, ◌+◌, ◌<◌, Bool, false, not, int_lt, List, [], ◌∷◌}
+use Rattle.std.specs.Prelude.{◌++◌, length, filter, slice_index_or}
 use Rattle.std.specs.declared.cmp.Ordering.{Ordering}
 use Rattle.std.specs.Ordering.{int_cmp, ordering_then, is_lt}
 use Rattle.ug_nodes.specs.declared.name.Name.{Name}

@@ -1,5 +1,6 @@
 -- The lines of a checkpoint.
-use Rattle.std.specs.Prelude.{◌≡◌, ℕ, pos, ◌+◌, ◌<◌, List, [], ◌++◌, ◌∷◌, length, slice_index_or, codes}
+use Rattle.std.specs.Prelude.{◌≡◌, ℕ, pos, ◌+◌, ◌<◌, List, [], ◌++◌, ◌∷◌, length, slice_index_or}
+use Rattle.std.specs.Prelude.{codes}
 use Rattle.std.specs.Fmt.{decimal, signed_decimal}
 use Rattle.ug_problem.specs.declared.column.Column.{Column}
 use Rattle.ug_nodes.specs.declared.change.Change.{Change}

@@ -1,5 +1,6 @@
 -- Which points are better than an incumbent by more than a gap, and where these have to lie.
-use Rattle.std.specs.Prelude.{ℤ, pos, ◌+ℤ◌, ◌-ℤ◌, ◌≤ℤ◌, ◌<ℤ◌, ◌*◌, ◌^◌, ◌≤◌, ◌↔◌, List, Option, IfSome, unsigned_abs}
+use Rattle.std.specs.Prelude.{ℤ, pos, ◌+ℤ◌, ◌-ℤ◌, ◌≤ℤ◌, ◌<ℤ◌, ◌*◌, ◌^◌, ◌≤◌, ◌↔◌, List, Option}
+use Rattle.std.specs.Prelude.{IfSome, unsigned_abs}
 use Rattle.std.specs.Option.{option_map}
 use Rattle.std.specs.Int.{int_max}
 use Rattle.ug_rows.specs.declared.area.Interval.{Interval}
@@ -15,7 +16,8 @@ pub record IsGap (gap : ℤ) : Type 0 where
   pub low : pos 0 ≤ℤ gap
   pub high : gap ≤ℤ pos (4 * 10 ^ 37)
 
--- x is feasible, and there is no incumbent, or the value of x is less than the incumbent's by more than the gap
+-- x is feasible, and there is no incumbent, or the value of x is less than the incumbent's by more
+-- than the gap
 pub record Better (p : Instance) (gap : ℤ) (best : Option (List ℤ)) (x : List ℤ) : Type 0 where
   pub feasible : Feasible p x
   pub less : IfSome best (λ y. (value_of p.objective x +ℤ gap) <ℤ value_of p.objective y)
@@ -47,7 +49,8 @@ AreAllHanded p cutoff whole handed =
     (x : List ℤ) → IsInside whole x → IsGood p cutoff x → IsInOne handed x
 
 -- the incumbent is feasible, if there is one, and each better point lies in one of the boxes
-pub record Covered (p : Instance) (gap : ℤ) (best : Option (List ℤ)) (boxes : List (List Interval)) : Type 0 where
+pub record Covered (p : Instance) (gap : ℤ) (best : Option (List ℤ))
+    (boxes : List (List Interval)) : Type 0 where
   pub incumbent : IfSome best (Feasible p)
   pub points : (x : List ℤ) → Better p gap best x → IsInOne boxes x
 

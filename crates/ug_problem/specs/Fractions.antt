@@ -1,5 +1,7 @@
--- A decimal number as a fraction: between which whole numbers it lies, and which of its multiples are whole.
-use Rattle.std.specs.Prelude.{◌≡◌, ℕ, ℤ, pos, negsuc, neg_ℤ, ◌*ℤ◌, ◌≤ℤ◌, ◌+◌, ◌-◌, ◌*◌, ◌^◌, suc, nat_le, Bool}
+-- A decimal number as a fraction: between which whole numbers it lies, and which of its multiples
+-- are whole.
+use Rattle.std.specs.Prelude.{◌≡◌, ℕ, ℤ, pos, negsuc, neg_ℤ, ◌*ℤ◌, ◌≤ℤ◌, ◌+◌, ◌-◌, ◌*◌, ◌^◌, suc}
+use Rattle.std.specs.Prelude.{nat_le, Bool}
 use Rattle.std.specs.Int.{int_div_euclid}
 use Rattle.ug_problem.specs.declared.decimal.Decimal.{Decimal}
 use Rattle.ug_problem.specs.Decimals.{signed}

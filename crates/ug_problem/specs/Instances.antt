@@ -1,5 +1,6 @@
 -- The parts of a problem, and how they are to be formed.
-use Rattle.std.specs.Prelude.{◌≢◌, ℕ, pos, ◌<◌, ◌≤◌, ◌^◌, ◌⊎◌, List, [], length, slice_index_or, map, All, None, unsigned_abs}
+use Rattle.std.specs.Prelude.{◌≢◌, ℕ, pos, ◌<◌, ◌≤◌, ◌^◌, ◌⊎◌, List, [], length, slice_index_or}
+use Rattle.std.specs.Prelude.{map, All, None, unsigned_abs}
 use Rattle.ug_rows.specs.declared.area.Interval.{Interval}
 use Rattle.ug_rows.specs.declared.row.Row.{Row}
 use Rattle.ug_rows.specs.declared.row.Term.{Term}
@@ -16,7 +17,8 @@ pub record Instance : Type 0 where
 
 -- these columns, rows and objective
 abbrev pub instance_of : List Column → List NamedRow → Objective → Instance
-instance_of columns rows objective = record { columns = columns; rows = rows; objective = objective }
+instance_of columns rows objective =
+    record { columns = columns; rows = rows; objective = objective }
 
 -- a row that stands for one that is not there
 abbrev pub no_row : NamedRow
@@ -46,7 +48,8 @@ pub record IsName (name : List ℕ) : Type 0 where
 
 -- the terms' columns rise strictly and are there, and no factor is 0
 pub record AreTerms (width : ℕ) (terms : List Term) : Type 0 where
-  pub rising : (i k : ℕ) → i < k → k < length terms → (term_at terms i).column < (term_at terms k).column
+  pub rising : (i k : ℕ) → i < k → k < length terms
+      → (term_at terms i).column < (term_at terms k).column
   pub within : (k : ℕ) → k < length terms → (term_at terms k).column < width
   pub nonzero : (k : ℕ) → k < length terms → (term_at terms k).factor ≢ pos 0
 

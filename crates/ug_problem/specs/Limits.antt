@@ -1,5 +1,6 @@
 -- The limits of a problem: how many columns, rows and terms, and how large its numbers.
-use Rattle.std.specs.Prelude.{ℕ, ◌+◌, ◌<◌, ◌≤◌, ◌^◌, List, length, slice_index_or, sum_by, All, Some, None, IfSome, unsigned_abs}
+use Rattle.std.specs.Prelude.{ℕ, ◌+◌, ◌<◌, ◌≤◌, ◌^◌, List, length, slice_index_or, sum_by, All}
+use Rattle.std.specs.Prelude.{Some, None, IfSome, unsigned_abs}
 use Rattle.ug_rows.specs.declared.row.Row.{Row}
 use Rattle.ug_rows.specs.declared.row.Term.{Term}
 use Rattle.ug_rows.specs.declared.row.Objective.{Objective}
@@ -12,7 +13,8 @@ use Rattle.ug_problem.specs.declared.error.ProblemError.TheVariants.{Memory, Too
 pub record FitsCounts (p : Instance) : Type 0 where
   pub columns : length p.columns ≤ 10 ^ 4
   pub rows : length p.rows ≤ 10 ^ 4
-  pub terms : sum_by (λ (row : NamedRow). length row.row.terms) p.rows + length p.objective.terms ≤ 10 ^ 6
+  pub terms : sum_by (λ (row : NamedRow). length row.row.terms) p.rows + length p.objective.terms
+      ≤ 10 ^ 6
 
 -- no factor is above 10^24
 abbrev pub AreSmall : List Term → Type 0
@@ -61,7 +63,8 @@ pub record HasWideRow (p : Instance) (r : ℕ) : Type 0 where
   pub counts : FitsCounts p
   pub row : IsFirstWide p.rows r
 
--- what p passes, if it is not for memory: a count, else the first row with a number too large, else the objective
+-- what p passes, if it is not for memory: a count, else the first row with a number too large, else
+-- the objective
 abbrev pub IsRefused : Instance → ProblemError → Type 0
 IsRefused p Memory = Unit {0}
 IsRefused p TooMany = ¬ FitsCounts p

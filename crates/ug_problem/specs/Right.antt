@@ -9,7 +9,8 @@ use Rattle.ug_problem.specs.declared.answer.Answer.TheVariants.{Optimal, Infeasi
 -- x is feasible, and no feasible point has a value that is less by more than the gap
 pub record IsOptimal (p : Instance) (gap : ℤ) (x : List ℤ) : Type 0 where
   pub feasible : Feasible p x
-  pub unbeaten : (y : List ℤ) → Feasible p y → value_of p.objective x ≤ℤ (value_of p.objective y +ℤ gap)
+  pub unbeaten : (y : List ℤ) → Feasible p y
+      → value_of p.objective x ≤ℤ (value_of p.objective y +ℤ gap)
 
 -- the answer is right: the point is optimal within the gap, or no point is feasible
 abbrev pub Right : Instance → ℤ → Answer → Type 0

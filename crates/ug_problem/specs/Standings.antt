@@ -1,5 +1,6 @@
 -- Which rows a column stands in, and with what factors. The objective is the row behind the last.
-use Rattle.std.specs.Prelude.{◌≡◌, ℕ, ◌+◌, ◌<◌, ◌≤◌, List, [], ◌∷◌, ◌++◌, length, map, slice_index_or, nat_eq, if◌then◌else◌}
+use Rattle.std.specs.Prelude.{◌≡◌, ℕ, ◌+◌, ◌<◌, ◌≤◌, List, [], ◌∷◌, ◌++◌, length, map}
+use Rattle.std.specs.Prelude.{slice_index_or, nat_eq, if◌then◌else◌}
 use Rattle.ug_rows.specs.declared.row.Term.{Term}
 use Rattle.ug_rows.specs.Rows.{IsAmong, no_term}
 use Rattle.ug_problem.specs.declared.column.NamedRow.{NamedRow}
@@ -30,9 +31,11 @@ standing_at standings k = slice_index_or standings k no_standing
 abbrev pub term_of : ℕ → Standing → Term
 term_of j standing = record { column = j; factor = standing.factor }
 
--- where column j stands: the rows rise, each has this term, and each row with a term of the column is there
+-- where column j stands: the rows rise, each has this term, and each row with a term of the column
+-- is there
 pub record AreStandings (p : Instance) (j : ℕ) (standings : List Standing) : Type 0 where
-  pub rising : (i k : ℕ) → i < k → k < length standings → (standing_at standings i).row < (standing_at standings k).row
+  pub rising : (i k : ℕ) → i < k → k < length standings
+      → (standing_at standings i).row < (standing_at standings k).row
   pub within : (k : ℕ) → k < length standings → (standing_at standings k).row ≤ length p.rows
   pub each : (k : ℕ) → k < length standings
       → IsAmong (term_of j (standing_at standings k)) (terms_of p (standing_at standings k).row)
@@ -57,7 +60,8 @@ abbrev pub standings_at : List (List Standing) → ℕ → List Standing
 standings_at lists j = slice_index_or lists j []
 
 -- each column's standings so far are those in the rows so far
-pub record AreGathered (rows : List (List Term)) (columns : ℕ) (lists : List (List Standing)) : Type 0 where
+pub record AreGathered (rows : List (List Term)) (columns : ℕ) (lists : List (List Standing)) :
+    Type 0 where
   pub width : length lists ≡ columns
   pub each : (j : ℕ) → j < columns → standings_at lists j ≡ standings_over j 0 rows
 

@@ -28,7 +28,8 @@ fn first_column(problem: &Problem, point: &Point) -> Option<u32>
 fn first_row(problem: &Problem, point: &Point) -> Option<u32>
     requires { length point.now ≡ length problem.now.columns }
     ensures none { IsNone result → KeepsBelow problem.now (length problem.now.rows) point.now }
-    ensures some { IsInside (root_of problem.now) point.now → IfSome result (IsFirstRow problem.now point.now) }
+    ensures some { IsInside (root_of problem.now) point.now
+        → IfSome result (IsFirstRow problem.now point.now) }
 {
     let rows = problem.rows();
     for (r, named) in rows.iter().enumerate() {

@@ -36,7 +36,9 @@ fn in_lowest_terms(number: u128, scale: u8) -> Lowest
 
 fn split(alloc: Global, decimal: Lowest) -> Result<Parts, AllocError>
     ensures whole { IfOk result (λ parts. parts.whole ≡ decimal.digits / 10 ^ decimal.places) }
-    ensures fraction { IfOk result (λ parts. AreDigitsOf decimal.places (decimal.digits % 10 ^ decimal.places) parts.fraction.items) }
+    ensures fraction { IfOk result
+        (λ parts. AreDigitsOf decimal.places (decimal.digits % 10 ^ decimal.places)
+        parts.fraction.items) }
 {
     let mut whole = decimal.digits;
     let mut fraction = Vec::new(alloc);
@@ -49,7 +51,8 @@ fn split(alloc: Global, decimal: Lowest) -> Result<Parts, AllocError>
 }
 
 fn join(alloc: Global, z: i128, parts: &Parts) -> Result<Vec<u8>, AllocError>
-    ensures { IfOk result (λ text. text.items ≡ sign_of z ++ decimal parts.now.whole ++ fraction_of parts.now.fraction.items) }
+    ensures { IfOk result (λ text. text.items ≡ sign_of z ++ decimal parts.now.whole
+        ++ fraction_of parts.now.fraction.items) }
 {
     let mut text = Vec::new(alloc);
     if z < 0 {
@@ -81,5 +84,6 @@ pub fn spell(alloc: Global, z: i128, scale: u8) -> Result<Vec<u8>, AllocError>
 
 /// A value is printed in one way: two texts of one value are the same.
 pub fn prints_one_text()
-    ensures { (objective : Objective) (value : ℤ) (s t : List ℕ) → IsPrinted objective value s → IsPrinted objective value t → s ≡ t }
+    ensures { (objective : Objective) (value : ℤ) (s t : List ℕ) → IsPrinted objective value s
+        → IsPrinted objective value t → s ≡ t }
 {}

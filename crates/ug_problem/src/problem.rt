@@ -95,7 +95,8 @@ fn greater(a: i128, b: i128) -> i128
 }
 
 impl Problem {
-    /// The problem of these parts. It takes memory for the box of all bounds, and for where each column stands.
+    /// The problem of these parts. It takes memory for the box of all bounds, and for where each
+    /// column stands.
     pub fn new(
         alloc: Global,
         columns: Columns,
@@ -173,7 +174,8 @@ impl Problem {
         })
     }
 
-    /// Whether two problems are the same: columns, rows, objective and all names. It takes no memory.
+    /// Whether two problems are the same: columns, rows, objective and all names. It takes no
+    /// memory.
     pub fn is(&self, other: &Problem) -> bool
         ensures { IsTrue result ↔ (self.now ≡ other.now) }
     {
@@ -201,20 +203,22 @@ impl Problem {
         value(self.objective(), point)
     }
 
-    /// The least value that the objective could have in a box, rows not looked at. It takes no memory.
+    /// The least value that the objective could have in a box, rows not looked at. It takes no
+    /// memory.
     #[tactic(auto, using(crate::proofs::Floors::objective_is_linear, crate::proofs::Floors::floor_within))]
     pub fn floor(&self, area: &IntBox) -> i128
         requires { length area.now ≡ length self.now.columns }
         ensures value { result ≡ box_floor self.now.objective area.now }
-        ensures bound { (x : List ℤ) → IsInside area.now x → result ≤ℤ value_of self.now.objective x }
+        ensures bound { (x : List ℤ) → IsInside area.now x
+            → result ≤ℤ value_of self.now.objective x }
         ensures small { unsigned_abs result ≤ 4 * 10 ^ 37 }
         ensures within { IsBelow area.now (root_of self.now) → unsigned_abs result ≤ 2 * 10 ^ 37 }
     {
         floor(self.objective(), area)
     }
 
-    /// The cutoff of a point under a gap: below it lie the values that are less by more than the gap, of points within
-    /// all bounds. It takes no memory.
+    /// The cutoff of a point under a gap: below it lie the values that are less by more than the
+    /// gap, of points within all bounds. It takes no memory.
     #[tactic(auto, using(crate::proofs::Cutoffs::cutoff_small, crate::proofs::Cutoffs::cutoff_without_gap))]
     pub fn cutoff(&self, gap: i128, point: &Point) -> i128
         requires width { length point.now ≡ length self.now.columns }

@@ -39,7 +39,8 @@ impl Shared {
         }
     }
 
-    /// The problem in one place in memory, so that others may hold it without a copy. After an error it is dropped.
+    /// The problem in one place in memory, so that others may hold it without a copy. After an
+    /// error it is dropped.
     pub fn into_counted(self, alloc: Global) -> Result<Shared, AllocError>
         ensures { IfOk result (λ shared. shared ≡ self) }
     {

@@ -11,7 +11,8 @@ use std::alloc::{AllocError, Global};
 use ug_lists::Items;
 use ug_rows::{Objective, Term};
 
-/// Where a column stands: in a row, or in the objective as the row behind the last, with this factor.
+/// Where a column stands: in a row, or in the objective as the row behind the last, with this
+/// factor.
 #[derive(Clone, Copy, Debug, PartialEq, Eq)]
 pub struct Standing {
     pub row: u32,
@@ -38,7 +39,8 @@ fn add_standing(
     standing: Standing,
 ) -> Result<(), AllocError>
     requires { column < length lists.old }
-    ensures { OnOk result (lists.new ≡ slice_set lists.old column (standings_at lists.old column ++ standing ∷ [])) }
+    ensures { OnOk result (lists.new
+        ≡ slice_set lists.old column (standings_at lists.old column ++ standing ∷ [])) }
 {
     lists[column].push(standing)
 }
@@ -47,7 +49,8 @@ fn add_standing(
 #[tactic(auto, using(crate::proofs::Gathered::term_added))]
 fn add_terms(lists: &mut [Items<Standing>], row: u32, terms: &[Term]) -> Result<(), AllocError>
     requires { (k : ℕ) → k < length terms.now → (term_at terms.now k).column < length lists.old }
-    ensures { OnOk result ((j : ℕ) → j < length lists.old → standings_at lists.new j ≡ standings_at lists.old j ++ standings_in j row terms.now) }
+    ensures { OnOk result ((j : ℕ) → j < length lists.old
+        → standings_at lists.new j ≡ standings_at lists.old j ++ standings_in j row terms.now) }
 {
     for term in terms {
         add_standing(lists, term.column as usize, standing_of(row, *term))?;
@@ -74,7 +77,8 @@ fn add_row(lists: &mut [Items<Standing>], rows: &[NamedRow], r: usize) -> Result
     requires few { length rows.now ≤ 10 ^ 4 }
     requires rows { All (IsRow (length lists.old)) rows.now }
     requires so_far { AreGathered (terms_of_rows (take r rows.now)) (length lists.old) lists.old }
-    ensures { OnOk result (AreGathered (terms_of_rows (take (r + 1) rows.now)) (length lists.old) lists.new) }
+    ensures { OnOk result (AreGathered (terms_of_rows (take (r + 1) rows.now)) (length lists.old)
+        lists.new) }
 {
     let named = &rows[r];
     add_terms(lists, r as u32, named.row.terms.as_slice())?;
@@ -104,7 +108,8 @@ fn add_objective(
     requires few { length rows.now ≤ 10 ^ 4 }
     requires objective { AreTerms (length lists.old) objective.now.terms }
     requires so_far { AreGathered (terms_of_rows rows.now) (length lists.old) lists.old }
-    ensures { OnOk result (AreGathered (terms_of_rows rows.now ++ objective.now.terms ∷ []) (length lists.old) lists.new) }
+    ensures { OnOk result (AreGathered (terms_of_rows rows.now ++ objective.now.terms ∷ [])
+        (length lists.old) lists.new) }
 {
     add_terms(lists, rows.len() as u32, objective.terms.as_slice())?;
     Ok(())
@@ -120,7 +125,8 @@ fn add_all(
     requires empty { AreGathered [] (length lists.old) lists.old }
     requires rows { All (IsRow (length lists.old)) rows.now }
     requires objective { AreTerms (length lists.old) objective.now.terms }
-    ensures { OnOk result (AreGathered (terms_of_rows rows.now ++ objective.now.terms ∷ []) (length lists.old) lists.new) }
+    ensures { OnOk result (AreGathered (terms_of_rows rows.now ++ objective.now.terms ∷ [])
+        (length lists.old) lists.new) }
 {
     add_rows(lists, rows)?;
     add_objective(lists, rows, objective)
@@ -136,7 +142,8 @@ fn gather_lists(
     requires few { length rows.now ≤ 10 ^ 4 }
     requires rows { All (IsRow columns) rows.now }
     requires objective { AreTerms columns objective.now.terms }
-    ensures { IfOk result (AreGathered (terms_of_rows rows.now ++ objective.now.terms ∷ []) columns) }
+    ensures { IfOk result (AreGathered (terms_of_rows rows.now ++ objective.now.terms ∷ [])
+        columns) }
 {
     let mut lists = empty_lists(alloc, columns)?;
     add_all(lists.as_mut_slice(), rows, objective)?;

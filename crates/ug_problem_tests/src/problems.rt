@@ -15,7 +15,8 @@ fn one_term(alloc: Global, factor: i128) -> Result<Terms, AllocError>
 }
 
 fn one_column(alloc: Global) -> Result<Columns, AllocError>
-    ensures { IfOk result (λ columns. columns ≡ record { name = 120 ∷ []; low = pos 0; high = pos 9 } ∷ []) }
+    ensures { IfOk result (λ columns. columns
+        ≡ record { name = 120 ∷ []; low = pos 0; high = pos 9 } ∷ []) }
 {
     let name = Text::from_slice(alloc, b"x")?;
     let mut columns = Items::new(alloc);
@@ -28,7 +29,15 @@ fn one_column(alloc: Global) -> Result<Columns, AllocError>
 }
 
 fn one_row(alloc: Global, factor: i128) -> Result<NamedRows, AllocError>
-    ensures { IfOk result (λ rows. rows ≡ record { name = 114 ∷ []; row = record { terms = record { column = 0; factor = factor } ∷ []; low = None; high = Some (pos 7) } } ∷ []) }
+    ensures { IfOk result (λ rows. rows
+        ≡ record {
+          name = 114 ∷ [];
+          row = record {
+            terms = record { column = 0; factor = factor } ∷ [];
+            low = None;
+            high = Some (pos 7);
+          };
+        } ∷ []) }
 {
     let name = Text::from_slice(alloc, b"r")?;
     let terms = one_term(alloc, factor)?;

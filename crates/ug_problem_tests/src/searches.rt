@@ -301,7 +301,8 @@ fn is_due(at: u32, each: u32) -> bool {
     }
 }
 
-// One step of both, and what is done after it. Whether both are the same, and if so whether they ended.
+// One step of both, and what is done after it. Whether both are the same, and if so whether they
+// ended.
 fn step_both(
     alloc: Global,
     task: &mut Task,

@@ -11,7 +11,8 @@ use ug_rows::{Interval, Objective, Row, Term, Terms, below};
 
 // The sum of columns 0 and 1.
 fn both(alloc: Global) -> Result<Terms, AllocError>
-    ensures { IfOk result (λ terms. terms ≡ record { column = 0; factor = pos 1 } ∷ record { column = 1; factor = pos 1 } ∷ []) }
+    ensures { IfOk result (λ terms. terms ≡ record { column = 0; factor = pos 1 }
+        ∷ record { column = 1; factor = pos 1 } ∷ []) }
 {
     Terms::from_slice(
         alloc,
@@ -118,7 +119,8 @@ fn letter(step: &Step) -> u8 {
     }
 }
 
-// Whether the search of the square goes as it does by hand: what each step did, the boxes left and their least floor.
+// Whether the search of the square goes as it does by hand: what each step did, the boxes left and
+// their least floor.
 fn goes_as_by_hand(task: &mut Task) -> bool {
     for (told, left, lowest) in [
         (b'S', 2, Some(0)),

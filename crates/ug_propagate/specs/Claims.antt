@@ -1,5 +1,6 @@
 -- What bound propagation is given, and what it says of the points of a box.
-use Rattle.std.specs.Prelude.{◌≡◌, ℕ, ℤ, ◌<◌, ◌<ℤ◌, ◌⊎◌, List, length, Option, Some, None, MatchOption}
+use Rattle.std.specs.Prelude.{◌≡◌, ℕ, ℤ, ◌<◌, ◌<ℤ◌, ◌⊎◌, List, length, Option, Some, None}
+use Rattle.std.specs.Prelude.{MatchOption}
 use Rattle.ug_rows.specs.declared.area.Interval.{Interval}
 use Rattle.ug_rows.specs.declared.row.Row.{Row}
 use Rattle.ug_rows.specs.Boxes.{IsBelow, IsCrossed, IsFixed, IsInside}
@@ -37,9 +38,10 @@ abbrev pub IsMissed : Side → Row → List Interval → Type 0
 IsMissed Low row area = MatchOption row.low ⊥ (λ low. greatest_sum row.terms area <ℤ low)
 IsMissed High row area = MatchOption row.high ⊥ (λ high. high <ℤ least_sum row.terms area)
 
--- the reason names a row, and a box below the given one has each good point of it: the box as then tightened, over
--- which no sum of the row keeps to the side, or which has no point
-pub record IsShown (p : Instance) (cutoff : Option ℤ) (area : List Interval) (reason : Reason) : Type 0 where
+-- the reason names a row, and a box below the given one has each good point of it: the box as then
+-- tightened, over which no sum of the row keeps to the side, or which has no point
+pub record IsShown (p : Instance) (cutoff : Option ℤ) (area : List Interval) (reason : Reason) :
+    Type 0 where
   pub row : Row
   pub named : IsNamed p cutoff reason.row row
   pub inner : List Interval
@@ -54,17 +56,20 @@ HasReason p cutoff area (Empty reason) = IsShown p cutoff area reason
 
 -- where one point within all bounds is left, it is good
 abbrev pub IsSolved : Instance → Option ℤ → Tight → Type 0
-IsSolved p cutoff (Kept left) = IsBelow left (root_of p) → IsFixed left → (x : List ℤ) → IsInside left x → IsGood p cutoff x
+IsSolved p cutoff (Kept left) = IsBelow left (root_of p) → IsFixed left → (x : List ℤ)
+    → IsInside left x → IsGood p cutoff x
 IsSolved p cutoff (Empty _) = Unit {0}
 
--- the box has an interval for each column of the problem, and a cutoff, if there is one, is not too large
+-- the box has an interval for each column of the problem, and a cutoff, if there is one, is not too
+-- large
 pub record CanTighten (p : Instance) (cutoff : Option ℤ) (area : List Interval) : Type 0 where
   pub width : length area ≡ length p.columns
   pub small : IsSmallCutoff cutoff
 
--- what bound propagation says: what the rounds leave, a box below the given one with each good point of it, and good
--- itself where it is one point; or nothing, and a reason that shows it
-pub record IsTightened (p : Instance) (cutoff : Option ℤ) (area : List Interval) (tight : Tight) : Type 0 where
+-- what bound propagation says: what the rounds leave, a box below the given one with each good
+-- point of it, and good itself where it is one point; or nothing, and a reason that shows it
+pub record IsTightened (p : Instance) (cutoff : Option ℤ) (area : List Interval) (tight : Tight) :
+    Type 0 where
   pub value : tight ≡ rounds p cutoff area
   pub below : IsLeftOf area tight
   pub kept : KeepsGood p cutoff area tight

@@ -1,5 +1,7 @@
 -- Bound propagation: rounds in which each row tightens the columns of its terms.
-use Rattle.std.specs.Prelude.{ℕ, zero, suc, ℤ, pos, negsuc, ◌+◌, ◌-ℤ◌, neg_ℤ, Bool, true, false, ◌&&◌, ◌||◌, List, [], ◌∷◌, slice_set, int_lt, if◌then◌else◌, Option, Some, None}
+use Rattle.std.specs.Prelude.{ℕ, zero, suc, ℤ, pos, negsuc, ◌+◌, ◌-ℤ◌, neg_ℤ, Bool, true, false}
+use Rattle.std.specs.Prelude.{◌&&◌, ◌||◌, List, [], ◌∷◌, slice_set, int_lt, if◌then◌else◌, Option}
+use Rattle.std.specs.Prelude.{Some, None}
 use Rattle.std.specs.Int.{int_div_euclid}
 use Rattle.std.specs.Ordering.{int_eq}
 use Rattle.ug_rows.specs.declared.area.Interval.{Interval}
@@ -67,13 +69,15 @@ end_of_others extreme terms t area = end_sum extreme terms area -ℤ end_product
 abbrev pub under_high : Option ℕ → List Term → Option ℤ → Term → List Interval → Tight
 under_high name terms None t area = Kept area
 under_high name terms (Some high) t area =
-    keep_at_most (reason_of name High) t.factor t.column (high -ℤ end_of_others Least terms t area) area
+    keep_at_most (reason_of name High) t.factor t.column (high -ℤ end_of_others Least terms t area)
+    area
 
 -- the term is at least the low side less the greatest of the other terms
 abbrev pub over_low : Option ℕ → List Term → Option ℤ → Term → List Interval → Tight
 over_low name terms None t area = Kept area
 over_low name terms (Some low) t area =
-    keep_at_least (reason_of name Low) t.factor t.column (low -ℤ end_of_others Greatest terms t area) area
+    keep_at_least (reason_of name Low) t.factor t.column
+    (low -ℤ end_of_others Greatest terms t area) area
 
 -- the low side, after the high side
 abbrev pub then_low : Option ℕ → Row → Term → Tight → Tight
@@ -122,7 +126,11 @@ over_rows r (named ∷ rows) outcome = over_rows (r + 1) rows (look_at (Some r) 
 -- the objective as a row: its value is below the cutoff
 abbrev pub cutoff_row : Objective → ℤ → Row
 cutoff_row objective cutoff =
-    record { terms = objective.terms; low = None; high = Some (cutoff -ℤ pos 1 -ℤ objective.constant) }
+    record {
+      terms = objective.terms;
+      low = None;
+      high = Some (cutoff -ℤ pos 1 -ℤ objective.constant);
+    }
 
 -- the objective, where there is a cutoff
 abbrev pub over_objective : Objective → Option ℤ → Tight → Tight

@@ -1,6 +1,8 @@
--- Running sums: the least and the greatest sum of each row and of the objective over a box. The objective, without its
--- constant, is the row behind the last.
-use Rattle.std.specs.Prelude.{◌≡◌, ◌≢◌, ℕ, ℤ, pos, negsuc, ◌+◌, ◌-◌, ◌^◌, ◌+ℤ◌, ◌-ℤ◌, ◌*ℤ◌, ◌<◌, ◌≤◌, unsigned_abs, List, length, slice_index_or, slice_set, Option, Some, None}
+-- Running sums: the least and the greatest sum of each row and of the objective over a box. The
+-- objective, without its constant, is the row behind the last.
+use Rattle.std.specs.Prelude.{◌≡◌, ◌≢◌, ℕ, ℤ, pos, negsuc, ◌+◌, ◌-◌, ◌^◌, ◌+ℤ◌, ◌-ℤ◌, ◌*ℤ◌, ◌<◌}
+use Rattle.std.specs.Prelude.{◌≤◌, unsigned_abs, List, length, slice_index_or, slice_set, Option}
+use Rattle.std.specs.Prelude.{Some, None}
 use Rattle.ug_rows.specs.declared.area.Interval.{Interval}
 use Rattle.ug_rows.specs.declared.row.Term.{Term}
 use Rattle.ug_rows.specs.Rows.{IsAmong, term_at}
@@ -41,7 +43,8 @@ pub record AreSums (p : Instance) (area : List Interval) (sums : List Extremes) 
   pub each : (r : ℕ) → r ≤ length p.rows → IsSummed (terms_of p r) area (extremes_at sums r)
 
 -- these are the sums of the first n rows over the box
-pub record AreFirstSums (p : Instance) (area : List Interval) (n : ℕ) (sums : List Extremes) : Type 0 where
+pub record AreFirstSums (p : Instance) (area : List Interval) (n : ℕ) (sums : List Extremes) :
+    Type 0 where
   pub count : length sums ≡ n
   pub each : (r : ℕ) → r < n → IsSummed (terms_of p r) area (extremes_at sums r)
 
@@ -74,16 +77,19 @@ move_of Least (negsuc _) moves = moves.high
 move_of Greatest (pos _) moves = moves.high
 move_of Greatest (negsuc _) moves = moves.low
 
--- the sums of row r, in which a column has this factor, are those after the column's ends went so far
+-- the sums of row r, in which a column has this factor, are those after the column's ends went so
+-- far
 pub record HasMoved (factor : ℤ) (moves : Moves) (r : ℕ) (old new : List Extremes) : Type 0 where
   pub ends : Extremes
   pub put : new ≡ slice_set old r ends
   pub least : ends.least ≡ (extremes_at old r).least +ℤ (factor *ℤ move_of Least factor moves)
-  pub greatest : ends.greatest ≡ (extremes_at old r).greatest +ℤ (factor *ℤ move_of Greatest factor moves)
+  pub greatest : ends.greatest
+      ≡ (extremes_at old r).greatest +ℤ (factor *ℤ move_of Greatest factor moves)
 
 -- column j stands in the objective so, or does not stand there
 abbrev pub IsObjectiveStanding : Instance → ℕ → Option Standing → Type 0
-IsObjectiveStanding p j None = (k : ℕ) → k < length p.objective.terms → (term_at p.objective.terms k).column ≢ j
+IsObjectiveStanding p j None = (k : ℕ) → k < length p.objective.terms
+    → (term_at p.objective.terms k).column ≢ j
 IsObjectiveStanding p j (Some standing) = IsAmong (term_of j standing) p.objective.terms
 
 -- it is the last of these

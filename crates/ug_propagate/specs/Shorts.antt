@@ -1,4 +1,5 @@
--- Numbers of 64 bits in the place of longer ones: a span of 64 bits is within a room where it is within the short room.
+-- Numbers of 64 bits in the place of longer ones: a span of 64 bits is within a room where it is
+-- within the short room.
 use Rattle.std.specs.Prelude.{◌≡◌, ℤ, ◌<◌, ◌^◌, ◌≤ℤ◌, List, unsigned_abs}
 use Rattle.ug_rows.specs.declared.area.Interval.{Interval}
 use Rattle.ug_rows.specs.declared.row.Term.{Term}
@@ -16,4 +17,5 @@ IsShort number short = (v : ℤ) → unsigned_abs v < 2 ^ 63 → v ≤ℤ short 
 
 -- each number of 64 bits that is at most this is within the room of both sides
 abbrev pub IsShortRoom : Room → ℤ → Type 0
-IsShortRoom room most = (v : ℤ) → unsigned_abs v < 2 ^ 63 → v ≤ℤ most → (v ≤ℤ room.high) × (v ≤ℤ room.low)
+IsShortRoom room most = (v : ℤ) → unsigned_abs v < 2 ^ 63 → v ≤ℤ most
+    → (v ≤ℤ room.high) × (v ≤ℤ room.low)

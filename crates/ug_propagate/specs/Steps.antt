@@ -1,5 +1,7 @@
--- What the functions for one row, one term and one column are given, what they answer, and what they keep up.
-use Rattle.std.specs.Prelude.{◌≡◌, ◌≢◌, ℕ, ℤ, pos, ◌<◌, ◌≤◌, ◌*◌, ◌^◌, ◌-ℤ◌, ◌≤ℤ◌, neg_ℤ, List, length, Option, Some, None, IfSome, unsigned_abs}
+-- What the functions for one row, one term and one column are given, what they answer, and what
+-- they keep up.
+use Rattle.std.specs.Prelude.{◌≡◌, ◌≢◌, ℕ, ℤ, pos, ◌<◌, ◌≤◌, ◌*◌, ◌^◌, ◌-ℤ◌, ◌≤ℤ◌, neg_ℤ, List}
+use Rattle.std.specs.Prelude.{length, Option, Some, None, IfSome, unsigned_abs}
 use Rattle.ug_rows.specs.declared.area.Interval.{Interval}
 use Rattle.ug_rows.specs.declared.row.Term.{Term}
 use Rattle.ug_rows.specs.declared.row.Row.{Row}
@@ -62,7 +64,8 @@ span_of t area = end_product Greatest t area -ℤ end_product Least t area
 
 -- the columns of the terms have i32 numbers
 abbrev pub HaveSmallColumns : List Term → List Interval → Type 0
-HaveSmallColumns terms area = (k : ℕ) → k < length terms → HasSmallEnds (interval_at area (term_at terms k).column)
+HaveSmallColumns terms area = (k : ℕ) → k < length terms
+    → HasSmallEnds (interval_at area (term_at terms k).column)
 
 -- the sums of the terms over the box, and a number that no span of a term is above
 pub record IsMeasured (terms : List Term) (area : List Interval) (ends : Ends) : Type 0 where
@@ -81,7 +84,8 @@ low_of None = neg_ℤ (pos (6 * 10 ^ 37))
 low_of (Some low) = low
 
 -- how far the least sum over the box is below the high side, and the greatest above the low side
-pub record IsRoomOf (look : Look) (terms : List Term) (area : List Interval) (room : Room) : Type 0 where
+pub record IsRoomOf (look : Look) (terms : List Term) (area : List Interval) (room : Room) :
+    Type 0 where
   pub small : HaveSmallColumns terms area
   pub high : room.high ≡ high_of look.high -ℤ least_sum terms area
   pub low : room.low ≡ greatest_sum terms area -ℤ low_of look.low

@@ -12,7 +12,8 @@ use Rattle.ug_propagate.specs.Working.{IsLater, IsWorking, WorkState, look_for}
 
 -- what a look at row r makes of a box under a cutoff
 abbrev pub look_to : Instance → Option ℤ → ℕ → List Interval → Tight
-look_to p cutoff r area = row_step (look_for p cutoff r).row (row_of (look_for p cutoff r) (terms_of p r)) area
+look_to p cutoff r area =
+    row_step (look_for p cutoff r).row (row_of (look_for p cutoff r) (terms_of p r)) area
 
 -- the same, where the box is not yet found empty
 abbrev pub then_look : Instance → Option ℤ → ℕ → Tight → Tight

@@ -1,5 +1,8 @@
--- A working box: a box that is tightened in place, with its running sums, the rows that are awake, and what was changed.
-use Rattle.std.specs.Prelude.{◌≡◌, ◌≢◌, ℕ, ℤ, pos, ◌+◌, ◌-◌, ◌-ℤ◌, ◌≤ℤ◌, ◌*◌, ◌^◌, ◌<◌, ◌≤◌, ◌⊎◌, List, [], ◌∷◌, ◌++◌, length, replicate, take, drop, All, slice_index_or, slice_set, nat_lt, if◌then◌else◌, Option, Some, None}
+-- A working box: a box that is tightened in place, with its running sums, the rows that are awake,
+-- and what was changed.
+use Rattle.std.specs.Prelude.{◌≡◌, ◌≢◌, ℕ, ℤ, pos, ◌+◌, ◌-◌, ◌-ℤ◌, ◌≤ℤ◌, ◌*◌, ◌^◌, ◌<◌, ◌≤◌, ◌⊎◌}
+use Rattle.std.specs.Prelude.{List, [], ◌∷◌, ◌++◌, length, replicate, take, drop, All}
+use Rattle.std.specs.Prelude.{slice_index_or, slice_set, nat_lt, if◌then◌else◌, Option, Some, None}
 use Rattle.std.specs.Option.{option_map}
 use Rattle.ug_rows.specs.declared.area.Interval.{Interval}
 use Rattle.ug_rows.specs.declared.row.Term.{Term}
@@ -19,8 +22,8 @@ use Rattle.ug_propagate.specs.Awake.{bit_of}
 use Rattle.ug_propagate.specs.Running.{IsRunning, SumsState}
 use Rattle.ug_propagate.specs.Steps.{IsRoomOf, span_of}
 
--- the running sums over the box, a number for each row that no span of its terms is above, the rows that are awake, and
--- the changes that were made, with what each column was before
+-- the running sums over the box, a number for each row that no span of its terms is above, the rows
+-- that are awake, and the changes that were made, with what each column was before
 pub record WorkState : Type 0 where
   pub sums : SumsState
   pub reach : List ℤ
@@ -32,21 +35,27 @@ abbrev pub undone : List Interval → List Change → List Interval
 undone area [] = area
 undone area (change ∷ changes) = slice_set (undone area changes) change.column change.before
 
--- the look at row r under a cutoff; the objective is the row behind the last, and has no side where there is no cutoff
+-- the look at row r under a cutoff; the objective is the row behind the last, and has no side where
+-- there is no cutoff
 abbrev pub look_for : Instance → Option ℤ → ℕ → Look
 look_for p cutoff r =
     (if nat_lt r (length p.rows)
     then record { row = Some r; low = (row_at p r).low; high = (row_at p r).high }
-    else record { row = None; low = None; high = option_map (λ c. c -ℤ pos 1 -ℤ p.objective.constant) cutoff })
+    else record {
+      row = None;
+      low = None;
+      high = option_map (λ c. c -ℤ pos 1 -ℤ p.objective.constant) cutoff;
+    })
 
--- a look at these terms would change nothing and tell nothing: the sums leave room within both sides, and no span of a
--- term is above it
+-- a look at these terms would change nothing and tell nothing: the sums leave room within both
+-- sides, and no span of a term is above it
 pub record IsAtRest (look : Look) (terms : List Term) (area : List Interval) : Type 0 where
   pub room : Room
   pub is : IsRoomOf look terms area room
   pub high : pos 0 ≤ℤ room.high
   pub low : pos 0 ≤ℤ room.low
-  pub each : (k : ℕ) → k < length terms → (span_of (term_at terms k) area ≤ℤ room.high) × (span_of (term_at terms k) area ≤ℤ room.low)
+  pub each : (k : ℕ) → k < length terms
+      → (span_of (term_at terms k) area ≤ℤ room.high) × (span_of (term_at terms k) area ≤ℤ room.low)
 
 -- the number that no span of row r is above
 abbrev pub reach_at : List ℤ → ℕ → ℤ
@@ -59,7 +68,8 @@ pub record AreReached (p : Instance) (area : List Interval) (reach : List ℤ) :
       → span_of (term_at (terms_of p r) k) area ≤ℤ reach_at reach r
 
 -- the same for the first n rows
-pub record AreFirstReached (p : Instance) (area : List Interval) (n : ℕ) (reach : List ℤ) : Type 0 where
+pub record AreFirstReached (p : Instance) (area : List Interval) (n : ℕ) (reach : List ℤ) :
+    Type 0 where
   pub count : length reach ≡ n
   pub each : (r k : ℕ) → r < n → k < length (terms_of p r)
       → span_of (term_at (terms_of p r) k) area ≤ℤ reach_at reach r
@@ -80,7 +90,8 @@ pub record HasBits (p : Instance) (awake : List ℕ) : Type 0 where
 -- each row that is not awake is at rest under the cutoff
 abbrev pub AreResting : Instance → Option ℤ → List Interval → List ℕ → Type 0
 AreResting p cutoff area awake =
-    (r : ℕ) → r ≤ length p.rows → bit_of awake r ≡ 0 → IsAtRest (look_for p cutoff r) (terms_of p r) area
+    (r : ℕ) → r ≤ length p.rows → bit_of awake r ≡ 0
+    → IsAtRest (look_for p cutoff r) (terms_of p r) area
 
 -- what a working box keeps, whatever the cutoff
 pub record IsBox (p : Instance) (work : WorkState) : Type 0 where
@@ -97,7 +108,8 @@ pub record IsWorking (p : Instance) (cutoff : Option ℤ) (work : WorkState) : T
 pub record AreWoken (standings : List Standing) (old new : List ℕ) : Type 0 where
   pub width : length new ≡ length old
   pub asleep : (r : ℕ) → bit_of new r ≡ 0 → bit_of old r ≡ 0
-  pub others : (r k : ℕ) → bit_of new r ≡ 0 → k < length standings → (standing_at standings k).row ≢ r
+  pub others : (r k : ℕ) → bit_of new r ≡ 0 → k < length standings
+      → (standing_at standings k).row ≢ r
 
 -- the rows in which column j stands were woken
 pub record WokeColumn (p : Instance) (j : ℕ) (old new : List ℕ) : Type 0 where
@@ -110,7 +122,8 @@ pub record HasChanged (p : Instance) (j : ℕ) (side : Interval) (old new : Work
   pub area : new.sums.area ≡ slice_set old.sums.area j side
   pub sums : IsRunning p new.sums
   pub reach : new.reach ≡ old.reach
-  pub trail : new.trail ≡ old.trail ++ record { column = j; before = interval_at old.sums.area j } ∷ []
+  pub trail : new.trail ≡ old.trail ++ record { column = j; before = interval_at old.sums.area j }
+      ∷ []
   pub woke : WokeColumn p j old.awake new.awake
 
 -- the changes are of columns that are there
@@ -140,7 +153,8 @@ pub record WentBack (depth : ℕ) (old new : WorkState) : Type 0 where
   pub reach : new.reach ≡ old.reach
   pub awake : new.awake ≡ old.awake
 
--- the working box went on to this: a box of the problem with each change on its trail, whose rows rest where they did
+-- the working box went on to this: a box of the problem with each change on its trail, whose rows
+-- rest where they did
 pub record IsStep (p : Instance) (old new : WorkState) : Type 0 where
   pub box : IsBox p new
   pub later : IsLater old new
@@ -162,7 +176,8 @@ FitsWhereSame (Emptied reason) t area room = Unit {0}
 -- where no term was tightened, each fits so
 abbrev pub FitWhereSame : Looked → List Term → List Interval → Room → Type 0
 FitWhereSame Same terms area room =
-    (k : ℕ) → k < length terms → (span_of (term_at terms k) area ≤ℤ room.high) × (span_of (term_at terms k) area ≤ℤ room.low)
+    (k : ℕ) → k < length terms
+    → (span_of (term_at terms k) area ≤ℤ room.high) × (span_of (term_at terms k) area ≤ℤ room.low)
 FitWhereSame Changed terms area room = Unit {0}
 FitWhereSame (Emptied reason) terms area room = Unit {0}
 
@@ -176,7 +191,8 @@ RestsWhereSame (Emptied reason) look terms area = Unit {0}
 abbrev pub HasOneSide : Look → Type 0
 HasOneSide look = (look.low ≡ None) ⊎ (look.high ≡ None)
 
--- where each term was looked at once, a row with one side alone is at rest, since a cut moves the other sum alone
+-- where each term was looked at once, a row with one side alone is at rest, since a cut moves the
+-- other sum alone
 abbrev pub RestsWhereChanged : Looked → Look → List Term → List Interval → Type 0
 RestsWhereChanged Same look terms area = Unit {0}
 RestsWhereChanged Changed look terms area = HasOneSide look → IsAtRest look terms area
@@ -185,8 +201,10 @@ RestsWhereChanged (Emptied reason) look terms area = Unit {0}
 -- the rows are at rest on the box under this cutoff, or it is not known of any
 abbrev pub AllRest : Instance → Rest → List Interval → Type 0
 AllRest p Unknown area = Unit {0}
-AllRest p (Under cutoff) area = (r : ℕ) → r ≤ length p.rows → IsAtRest (look_for p cutoff r) (terms_of p r) area
+AllRest p (Under cutoff) area = (r : ℕ) → r ≤ length p.rows
+    → IsAtRest (look_for p cutoff r) (terms_of p r) area
 
 -- where the rows were at rest so, each that is not awake is at rest under this cutoff
 abbrev pub WakesOthers : Instance → Rest → Option ℤ → List ℕ → Type 0
-WakesOthers p rest cutoff awake = (area : List Interval) → AllRest p rest area → AreResting p cutoff area awake
+WakesOthers p rest cutoff awake = (area : List Interval) → AllRest p rest area
+    → AreResting p cutoff area awake

@@ -62,7 +62,8 @@ fn cut_above(reason: Reason, column: usize, least: i128, area: &[Interval]) -> C
 pub fn cut_at_most(reason: Reason, term: Term, most: i128, area: &[Interval]) -> Cut
     requires term { IsTermOf (length area.now) term }
     requires most { unsigned_abs most ≤ 10 ^ 38 }
-    ensures value { cut_of reason term.column area.now result ≡ keep_at_most reason term.factor term.column most area.now }
+    ensures value { cut_of reason term.column area.now result
+        ≡ keep_at_most reason term.factor term.column most area.now }
     ensures inner { IsInnerCut (interval_at area.now term.column) result }
 {
     let column = term.column as usize;
@@ -78,7 +79,8 @@ pub fn cut_at_most(reason: Reason, term: Term, most: i128, area: &[Interval]) ->
 pub fn cut_at_least(reason: Reason, term: Term, least: i128, area: &[Interval]) -> Cut
     requires term { IsTermOf (length area.now) term }
     requires least { unsigned_abs least ≤ 10 ^ 38 }
-    ensures value { cut_of reason term.column area.now result ≡ keep_at_least reason term.factor term.column least area.now }
+    ensures value { cut_of reason term.column area.now result
+        ≡ keep_at_least reason term.factor term.column least area.now }
     ensures inner { IsInnerCut (interval_at area.now term.column) result }
 {
     let column = term.column as usize;

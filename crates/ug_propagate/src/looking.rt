@@ -38,7 +38,8 @@ fn cut_under_high(look: Look, terms: &[Term], term: Term, room: Room, area: &[In
     requires row { IsLookable (length area.now) look terms.now }
     requires term { IsTermOf (length area.now) term }
     requires room { IsRoomOf look terms.now area.now room }
-    ensures value { cut_of (reason_of look.row High) term.column area.now result ≡ under_high look.row terms.now look.high term area.now }
+    ensures value { cut_of (reason_of look.row High) term.column area.now result
+        ≡ under_high look.row terms.now look.high term area.now }
     ensures inner { IsInnerCut (interval_at area.now term.column) result }
 {
     if span(term, area) <= room.high {
@@ -58,7 +59,8 @@ fn cut_over_low(look: Look, terms: &[Term], term: Term, room: Room, area: &[Inte
     requires row { IsLookable (length area.now) look terms.now }
     requires term { IsTermOf (length area.now) term }
     requires room { IsRoomOf look terms.now area.now room }
-    ensures value { cut_of (reason_of look.row Low) term.column area.now result ≡ over_low look.row terms.now look.low term area.now }
+    ensures value { cut_of (reason_of look.row Low) term.column area.now result
+        ≡ over_low look.row terms.now look.low term area.now }
     ensures inner { IsInnerCut (interval_at area.now term.column) result }
 {
     if span(term, area) <= room.low {
@@ -87,7 +89,9 @@ fn tighten_under_high(
     requires term { IsTermOf (length work.old.sums.area) term }
     requires room { IsRoomOf look terms.now work.old.sums.area room }
     ensures step { IsStep problem.now work.old work.new }
-    ensures value { IfOk result (λ told. outcome_of told work.new.sums.area ≡ under_high look.row terms.now look.high term work.old.sums.area) }
+    ensures value { IfOk result
+        (λ told. outcome_of told work.new.sums.area
+        ≡ under_high look.row terms.now look.high term work.old.sums.area) }
 {
     let cut = cut_under_high(look, terms, term, room, work.sides());
     let reason = Reason {
@@ -112,7 +116,9 @@ fn tighten_over_low(
     requires term { IsTermOf (length work.old.sums.area) term }
     requires room { IsRoomOf look terms.now work.old.sums.area room }
     ensures step { IsStep problem.now work.old work.new }
-    ensures value { IfOk result (λ told. outcome_of told work.new.sums.area ≡ over_low look.row terms.now look.low term work.old.sums.area) }
+    ensures value { IfOk result
+        (λ told. outcome_of told work.new.sums.area
+        ≡ over_low look.row terms.now look.low term work.old.sums.area) }
 {
     let cut = cut_over_low(look, terms, term, room, work.sides());
     let reason = Reason {
@@ -141,7 +147,9 @@ fn tighten_both(
     requires term { IsTermOf (length work.old.sums.area) term }
     requires room { IsRoomOf look terms.now work.old.sums.area room }
     ensures step { IsStep problem.now work.old work.new }
-    ensures value { IfOk result (λ told. outcome_of told work.new.sums.area ≡ term_step look.row (row_of look terms.now) term (Kept work.old.sums.area)) }
+    ensures value { IfOk result
+        (λ told. outcome_of told work.new.sums.area
+        ≡ term_step look.row (row_of look terms.now) term (Kept work.old.sums.area)) }
 {
     if let Some(reason) = tighten_under_high(work, problem, look, terms, term, room)? {
         return Ok(Some(reason));
@@ -192,7 +200,9 @@ fn tighten_term(
     requires room { IsRoomOf look terms.now work.old.sums.area room }
     requires most { IsShortRoom room most }
     ensures step { IsStep problem.now work.old work.new }
-    ensures value { IfOk result (λ looked. looked_of looked work.new.sums.area ≡ term_step look.row (row_of look terms.now) term (Kept work.old.sums.area)) }
+    ensures value { IfOk result
+        (λ looked. looked_of looked work.new.sums.area
+        ≡ term_step look.row (row_of look terms.now) term (Kept work.old.sums.area)) }
     ensures same { IfOk result (λ looked. IsSame looked work.old work.new) }
     ensures fits { IfOk result (λ looked. FitsWhereSame looked term work.old.sums.area room) }
 {
@@ -222,10 +232,13 @@ fn tighten_terms(
     requires high { pos 0 ≤ℤ room.high }
     requires low { pos 0 ≤ℤ room.low }
     ensures step { IsStep problem.now work.old work.new }
-    ensures value { IfOk result (λ looked. looked_of looked work.new.sums.area ≡ over_terms look.row (row_of look terms.now) terms.now (Kept work.old.sums.area)) }
+    ensures value { IfOk result
+        (λ looked. looked_of looked work.new.sums.area
+        ≡ over_terms look.row (row_of look terms.now) terms.now (Kept work.old.sums.area)) }
     ensures same { IfOk result (λ looked. IsSame looked work.old work.new) }
     ensures fit { IfOk result (λ looked. FitWhereSame looked terms.now work.old.sums.area room) }
-    ensures snug { IfOk result (λ looked. RestsWhereChanged looked look terms.now work.new.sums.area) }
+    ensures snug { IfOk result
+        (λ looked. RestsWhereChanged looked look terms.now work.new.sums.area) }
 {
     let mut now = room;
     let mut most = short_room(room);
@@ -248,7 +261,8 @@ fn tighten_terms(
     })
 }
 
-/// A look at row r. Where no span of a term is above the room of either side, as in most looks, no term is looked at.
+/// A look at row r. Where no span of a term is above the room of either side, as in most looks, no
+/// term is looked at.
 pub fn look_at(
     work: &mut Working,
     problem: &Problem,
@@ -261,10 +275,13 @@ pub fn look_at(
     requires row { IsLookable (length work.old.sums.area) look terms.now }
     requires terms { terms.now ≡ terms_of problem.now r }
     ensures step { IsStep problem.now work.old work.new }
-    ensures value { IfOk result (λ looked. looked_of looked work.new.sums.area ≡ row_step look.row (row_of look terms.now) work.old.sums.area) }
+    ensures value { IfOk result
+        (λ looked. looked_of looked work.new.sums.area
+        ≡ row_step look.row (row_of look terms.now) work.old.sums.area) }
     ensures same { IfOk result (λ looked. IsSame looked work.old work.new) }
     ensures rest { IfOk result (λ looked. RestsWhereSame looked look terms.now work.old.sums.area) }
-    ensures snug { IfOk result (λ looked. RestsWhereChanged looked look terms.now work.new.sums.area) }
+    ensures snug { IfOk result
+        (λ looked. RestsWhereChanged looked look terms.now work.new.sums.area) }
 {
     let room = room_of(work, problem, r, look, terms);
     if room.high < 0 {

@@ -11,7 +11,8 @@ use crate::look::Look;
 use crate::sums::Extremes;
 use ug_rows::{Extreme, Interval, Term, add_end, end_at};
 
-/// The least and the greatest sum of a row over a box, and a number that no span of a term is above.
+/// The least and the greatest sum of a row over a box, and a number that no span of a term is
+/// above.
 #[derive(Clone, Copy, Debug)]
 pub struct Ends {
     pub least: i128,
@@ -82,7 +83,8 @@ pub fn moves_between(before: Interval, after: Interval) -> Moves
     }
 }
 
-/// Adds the product of a factor and how far an end went. An end that stays costs neither a product nor a write.
+/// Adds the product of a factor and how far an end went. An end that stays costs neither a product
+/// nor a write.
 pub fn add_move(sum: &mut i128, factor: i128, by: i64)
     requires sum { unsigned_abs sum.old ≤ 3 * 10 ^ 37 }
     requires factor { unsigned_abs factor ≤ 10 ^ 24 }
@@ -180,11 +182,14 @@ fn with_term(ends: Ends, term: Term, side: Interval) -> Ends
     requires greatest { unsigned_abs ends.greatest ≤ 3 * 10 ^ 37 }
     requires factor { unsigned_abs term.factor ≤ 10 ^ 24 }
     ensures least { result.least ≡ ends.least +ℤ (term.factor *ℤ end_of Least term.factor side) }
-    ensures greatest { result.greatest ≡ ends.greatest +ℤ (term.factor *ℤ end_of Greatest term.factor side) }
-    ensures span { ((term.factor *ℤ end_of Greatest term.factor side) -ℤ (term.factor *ℤ end_of Least term.factor side)) ≤ℤ result.widest }
+    ensures greatest { result.greatest
+        ≡ ends.greatest +ℤ (term.factor *ℤ end_of Greatest term.factor side) }
+    ensures span { ((term.factor *ℤ end_of Greatest term.factor side) -ℤ
+        (term.factor *ℤ end_of Least term.factor side)) ≤ℤ result.widest }
     ensures widest { ends.widest ≤ℤ result.widest }
     ensures small_least { unsigned_abs result.least ≤ unsigned_abs ends.least + 10 ^ 24 * 2 ^ 31 }
-    ensures small_greatest { unsigned_abs result.greatest ≤ unsigned_abs ends.greatest + 10 ^ 24 * 2 ^ 31 }
+    ensures small_greatest { unsigned_abs result.greatest
+        ≤ unsigned_abs ends.greatest + 10 ^ 24 * 2 ^ 31 }
     ensures side { HasSmallEnds side }
 {
     let least = product(Extreme::Least, term, side);

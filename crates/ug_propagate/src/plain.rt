@@ -97,7 +97,8 @@ fn tighten_over_low(look: Look, terms: &[Term], term: Term, area: &mut [Interval
 fn tighten_term(look: Look, terms: &[Term], term: Term, area: &mut [Interval]) -> Option<Reason>
     requires row { IsLookable (length area.old) look terms.now }
     requires term { IsTermOf (length area.old) term }
-    ensures { outcome_of result area.new ≡ term_step look.row (row_of look terms.now) term (Kept area.old) }
+    ensures { outcome_of result area.new
+        ≡ term_step look.row (row_of look terms.now) term (Kept area.old) }
 {
     if let Some(reason) = tighten_under_high(look, terms, term, area) {
         return Some(reason);
@@ -107,7 +108,8 @@ fn tighten_term(look: Look, terms: &[Term], term: Term, area: &mut [Interval]) -
 
 fn tighten_terms(look: Look, terms: &[Term], area: &mut [Interval]) -> Option<Reason>
     requires { IsLookable (length area.old) look terms.now }
-    ensures { outcome_of result area.new ≡ over_terms look.row (row_of look terms.now) terms.now (Kept area.old) }
+    ensures { outcome_of result area.new
+        ≡ over_terms look.row (row_of look terms.now) terms.now (Kept area.old) }
 {
     for term in terms {
         if let Some(reason) = tighten_term(look, terms, *term, area) {
@@ -155,7 +157,8 @@ fn tighten_row(look: Look, terms: &[Term], area: &mut [Interval]) -> Option<Reas
     tighten_terms(look, terms, area)
 }
 
-/// The look at a row as it is defined: each sum is taken anew for each term, and no look ends early.
+/// The look at a row as it is defined: each sum is taken anew for each term, and no look ends
+/// early.
 pub fn look_at_row(look: Look, terms: &[Term], area: &mut [Interval]) -> Looked
     requires { IsLookable (length area.old) look terms.now }
     ensures value { looked_of result area.new ≡ row_step look.row (row_of look terms.now) area.old }
@@ -175,7 +178,8 @@ fn tighten_sides(
     area: &[Interval],
 ) -> Result<Tight, AllocError>
     requires { CanTighten problem.now cutoff area.now }
-    ensures { IfOk result (λ t. t ≡ last_round problem.now cutoff (rounds_of 32 problem.now cutoff (Kept area.now))) }
+    ensures { IfOk result (λ t. t
+        ≡ last_round problem.now cutoff (rounds_of 32 problem.now cutoff (Kept area.now))) }
 {
     let mut sides = Vec::from_slice(alloc, area)?;
     match run_all(problem, cutoff, sides.as_mut_slice()) {

@@ -39,7 +39,8 @@ fn tighten_sides(
     area: &IntBox,
 ) -> Result<Tight, AllocError>
     requires { CanTighten problem.now cutoff area.now }
-    ensures { IfOk result (λ t. t ≡ last_round problem.now cutoff (rounds_of 32 problem.now cutoff (Kept area.now))) }
+    ensures { IfOk result (λ t. t
+        ≡ last_round problem.now cutoff (rounds_of 32 problem.now cutoff (Kept area.now))) }
 {
     let mut work = Working::new(alloc, problem, area)?;
     match propagate(&mut work, problem, cutoff)? {

@@ -46,7 +46,8 @@ fn tighten_rows(problem: &Problem, area: &mut [Interval]) -> Looked
 #[tactic(auto, using(crate::proofs::Bodies::ready_objective))]
 fn tighten_objective(problem: &Problem, cutoff: Option<i128>, area: &mut [Interval]) -> Looked
     requires { CanTighten problem.now cutoff area.old }
-    ensures value { looked_of result area.new ≡ over_objective problem.now.objective cutoff (Kept area.old) }
+    ensures value { looked_of result area.new
+        ≡ over_objective problem.now.objective cutoff (Kept area.old) }
     ensures still { IsStill result area.old area.new }
 {
     let Some(cutoff) = cutoff else {
@@ -112,7 +113,8 @@ fn run_last(problem: &Problem, cutoff: Option<i128>, area: &mut [Interval]) -> O
 /// At most 32 rounds, and one more where all columns are fixed.
 pub fn run_all(problem: &Problem, cutoff: Option<i128>, area: &mut [Interval]) -> Option<Reason>
     requires { CanTighten problem.now cutoff area.old }
-    ensures { outcome_of result area.new ≡ last_round problem.now cutoff (rounds_of 32 problem.now cutoff (Kept area.old)) }
+    ensures { outcome_of result area.new
+        ≡ last_round problem.now cutoff (rounds_of 32 problem.now cutoff (Kept area.old)) }
 {
     if let Some(reason) = run_rounds(problem, cutoff, area) {
         return Some(reason);

@@ -27,7 +27,11 @@ use ug_rows::{Objective, is_fixed};
 fn look_for_row(rows: &[NamedRow], r: usize) -> Look
     requires there { r < length rows.now }
     requires few { length rows.now ≤ 10 ^ 4 }
-    ensures { result ≡ record { row = Some r; low = (slice_index_or rows.now r no_row).row.low; high = (slice_index_or rows.now r no_row).row.high } }
+    ensures { result ≡ record {
+      row = Some r;
+      low = (slice_index_or rows.now r no_row).row.low;
+      high = (slice_index_or rows.now r no_row).row.high;
+    } }
 {
     let row = &rows[r].row;
     Look {
@@ -41,7 +45,11 @@ fn look_for_row(rows: &[NamedRow], r: usize) -> Look
 fn look_for_objective(objective: &Objective, cutoff: Option<i128>) -> Look
     requires constant { unsigned_abs objective.now.constant ≤ 10 ^ 37 }
     requires cutoff { IsSmallCutoff cutoff }
-    ensures { result ≡ record { row = None; low = None; high = option_map (λ c. c -ℤ pos 1 -ℤ objective.now.constant) cutoff } }
+    ensures { result ≡ record {
+      row = None;
+      low = None;
+      high = option_map (λ c. c -ℤ pos 1 -ℤ objective.now.constant) cutoff;
+    } }
 {
     let high = match cutoff {
         Some(cutoff) => Some(cutoff - 1 - objective.constant),
@@ -89,7 +97,8 @@ fn has_one_side(look: Look) -> bool
     look.low.is_none() || look.high.is_none()
 }
 
-// Looks at row r, which then rests where nothing was changed, or where it has one side alone: its terms then fit.
+// Looks at row r, which then rests where nothing was changed, or where it has one side alone: its
+// terms then fit.
 fn visit(
     work: &mut Working,
     problem: &Problem,
@@ -100,7 +109,9 @@ fn visit(
     requires cutoff { IsSmallCutoff cutoff }
     requires work { IsWorking problem.now cutoff work.old }
     ensures went { WentOn problem.now cutoff work.old work.new }
-    ensures value { IfOk result (λ told. outcome_of told work.new.sums.area ≡ look_to problem.now cutoff r work.old.sums.area) }
+    ensures value { IfOk result
+        (λ told. outcome_of told work.new.sums.area
+        ≡ look_to problem.now cutoff r work.old.sums.area) }
 {
     let look = look_under(problem, cutoff, r);
     match look_at(work, problem, r, look, terms_at(problem, r))? {
@@ -127,7 +138,9 @@ fn run_round(
     requires cutoff { IsSmallCutoff cutoff }
     requires work { IsWorking problem.now cutoff work.old }
     ensures went { WentOn problem.now cutoff work.old work.new }
-    ensures value { IfOk result (λ told. outcome_of told work.new.sums.area ≡ round problem.now cutoff (Kept work.old.sums.area)) }
+    ensures value { IfOk result
+        (λ told. outcome_of told work.new.sums.area
+        ≡ round problem.now cutoff (Kept work.old.sums.area)) }
 {
     let mut from = 0;
     loop {
@@ -161,7 +174,9 @@ fn run_rounds(
     requires cutoff { IsSmallCutoff cutoff }
     requires work { IsWorking problem.now cutoff work.old }
     ensures went { WentOn problem.now cutoff work.old work.new }
-    ensures value { IfOk result (λ told. outcome_of told work.new.sums.area ≡ rounds_of 32 problem.now cutoff (Kept work.old.sums.area)) }
+    ensures value { IfOk result
+        (λ told. outcome_of told work.new.sums.area
+        ≡ rounds_of 32 problem.now cutoff (Kept work.old.sums.area)) }
 {
     for i in 0..MOST_ROUNDS {
         if is_settled(work, problem) {
@@ -192,7 +207,9 @@ fn run_last(
     requires cutoff { IsSmallCutoff cutoff }
     requires work { IsWorking problem.now cutoff work.old }
     ensures went { WentOn problem.now cutoff work.old work.new }
-    ensures value { IfOk result (λ told. outcome_of told work.new.sums.area ≡ last_round problem.now cutoff (Kept work.old.sums.area)) }
+    ensures value { IfOk result
+        (λ told. outcome_of told work.new.sums.area
+        ≡ last_round problem.now cutoff (Kept work.old.sums.area)) }
 {
     if is_settled(work, problem) {
         return Ok(None);
@@ -204,8 +221,8 @@ fn run_last(
     Ok(None)
 }
 
-/// At most 32 rounds, and one more where all columns are fixed: what they leave of the working box, or why nothing is
-/// left. After an error or where nothing is left the box is somewhere on the way.
+/// At most 32 rounds, and one more where all columns are fixed: what they leave of the working box,
+/// or why nothing is left. After an error or where nothing is left the box is somewhere on the way.
 pub fn propagate(
     work: &mut Working,
     problem: &Problem,
@@ -214,7 +231,10 @@ pub fn propagate(
     requires cutoff { IsSmallCutoff cutoff }
     requires work { IsWorking problem.now cutoff work.old }
     ensures went { WentOn problem.now cutoff work.old work.new }
-    ensures value { IfOk result (λ told. outcome_of told work.new.sums.area ≡ last_round problem.now cutoff (rounds_of 32 problem.now cutoff (Kept work.old.sums.area))) }
+    ensures value { IfOk result
+        (λ told. outcome_of told work.new.sums.area
+        ≡ last_round problem.now cutoff
+        (rounds_of 32 problem.now cutoff (Kept work.old.sums.area))) }
 {
     match run_rounds(work, problem, cutoff)? {
         Some(reason) => Ok(Some(reason)),

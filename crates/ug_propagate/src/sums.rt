@@ -69,8 +69,8 @@ pub fn measured(problem: &Problem, r: usize, area: &[Interval]) -> Ends
     measure(terms_at(problem, r), area)
 }
 
-// Brings the sums of a row to where the ends of one of its columns went. For a factor below 0 the high end moves the
-// least sum, else the low end does.
+// Brings the sums of a row to where the ends of one of its columns went. For a factor below 0 the
+// high end moves the least sum, else the low end does.
 fn move_sums(sums: &mut Extremes, factor: i128, moves: Moves)
     requires least { unsigned_abs sums.old.least ≤ 3 * 10 ^ 37 }
     requires greatest { unsigned_abs sums.old.greatest ≤ 3 * 10 ^ 37 }
@@ -78,7 +78,8 @@ fn move_sums(sums: &mut Extremes, factor: i128, moves: Moves)
     requires low { unsigned_abs moves.low ≤ 2 ^ 32 }
     requires high { unsigned_abs moves.high ≤ 2 ^ 32 }
     ensures least { sums.new.least ≡ sums.old.least +ℤ (factor *ℤ move_of Least factor moves) }
-    ensures greatest { sums.new.greatest ≡ sums.old.greatest +ℤ (factor *ℤ move_of Greatest factor moves) }
+    ensures greatest { sums.new.greatest
+        ≡ sums.old.greatest +ℤ (factor *ℤ move_of Greatest factor moves) }
 {
     if factor < 0 {
         add_move(&mut sums.least, factor, moves.high);
@@ -102,7 +103,8 @@ fn shift_row(sums: &mut [Extremes], standing: Standing, moves: Moves)
     move_sums(&mut sums[standing.row as usize], standing.factor, moves);
 }
 
-// Brings the sums to the box in which a column has another interval. It touches the rows of the column alone.
+// Brings the sums to the box in which a column has another interval. It touches the rows of the
+// column alone.
 fn shift(problem: &Problem, column: usize, area: &[Interval], side: Interval, sums: &mut [Extremes])
     requires there { column < length area.now }
     requires sums { AreSums problem.now area.now sums.old }
@@ -197,8 +199,12 @@ fn moved_by(ends: Extremes, standing: Standing, before: Interval, after: Interva
     requires least { unsigned_abs ends.least ≤ 3 * 10 ^ 37 }
     requires greatest { unsigned_abs ends.greatest ≤ 3 * 10 ^ 37 }
     requires factor { unsigned_abs standing.factor ≤ 10 ^ 24 }
-    ensures least { result.least ≡ ends.least +ℤ ((standing.factor *ℤ end_of Least standing.factor after) -ℤ (standing.factor *ℤ end_of Least standing.factor before)) }
-    ensures greatest { result.greatest ≡ ends.greatest +ℤ ((standing.factor *ℤ end_of Greatest standing.factor after) -ℤ (standing.factor *ℤ end_of Greatest standing.factor before)) }
+    ensures least { result.least
+        ≡ ends.least +ℤ ((standing.factor *ℤ end_of Least standing.factor after) -ℤ
+        (standing.factor *ℤ end_of Least standing.factor before)) }
+    ensures greatest { result.greatest
+        ≡ ends.greatest +ℤ ((standing.factor *ℤ end_of Greatest standing.factor after) -ℤ
+        (standing.factor *ℤ end_of Greatest standing.factor before)) }
     ensures after { HasSmallEnds after }
 {
     let mut ends = ends;
@@ -233,8 +239,8 @@ fn objective_with(
     }
 }
 
-/// The least and the greatest sum of each row of a problem, and of its objective without the constant, over a box that
-/// may change a column at a time.
+/// The least and the greatest sum of each row of a problem, and of its objective without the
+/// constant, over a box that may change a column at a time.
 #[derive(Debug, Drop)]
 pub struct Sums {
     sides: Vec<Interval>,
@@ -262,11 +268,13 @@ impl Sums {
         Ok(Sums { sides, sums })
     }
 
-    /// Replaces the interval of a column. It touches the rows in which the column stands, and no others.
+    /// Replaces the interval of a column. It touches the rows in which the column stands, and no
+    /// others.
     pub fn set(&mut self, problem: &Problem, column: u32, low: i32, high: i32)
         requires there { column < length problem.now.columns }
         requires sums { IsRunning problem.now self.old }
-        ensures area { self.new.area ≡ slice_set self.old.area column (record { low = low; high = high }) }
+        ensures area { self.new.area
+            ≡ slice_set self.old.area column (record { low = low; high = high }) }
         ensures sums { IsRunning problem.now self.new }
     {
         self.put(problem, column as usize, Interval { low, high });
@@ -324,11 +332,13 @@ impl Sums {
         self.sums[row_index(problem, row)].greatest
     }
 
-    /// The least sum of the objective where a column had another interval. It looks at that column alone.
+    /// The least sum of the objective where a column had another interval. It looks at that column
+    /// alone.
     pub fn least_with(&self, problem: &Problem, column: usize, side: Interval) -> i128
         requires there { column < length problem.now.columns }
         requires sums { IsRunning problem.now self.now }
-        ensures value { result ≡ least_sum problem.now.objective.terms (slice_set self.now.area column side) }
+        ensures value { result ≡ least_sum problem.now.objective.terms
+            (slice_set self.now.area column side) }
         ensures small { unsigned_abs result ≤ 3 * 10 ^ 37 }
     {
         let ends = self.sums[problem.rows().len()];

@@ -341,7 +341,8 @@ fn both_bodies_do_the_worked_rows(rt: HostRuntime) {
     );
 }
 
-// The greatest sum of row 0 over the root, and sums of rows and of the objective after column 0 was set to 0..2, then to 1..2.
+// The greatest sum of row 0 over the root, and sums of rows and of the objective after column 0 was
+// set to 0..2, then to 1..2.
 fn running_sums(alloc: Global) -> Option<[i128; 6]> {
     let problem = a_knapsack(alloc).ok()?;
     if problem.columns().len() != 3 || problem.rows().len() != 2 {

@@ -28,7 +28,8 @@ pub struct Change {
     pub before: Interval,
 }
 
-/// A box that is tightened in place, with its running sums, the rows that are awake, and what was changed.
+/// A box that is tightened in place, with its running sums, the rows that are awake, and what was
+/// changed.
 #[derive(Drop)]
 pub struct Working {
     sums: Sums,
@@ -47,7 +48,8 @@ impl Model for Working {
 
 // Wakes the rows of these standings.
 fn wake_rows(standings: &[Standing], awake: &mut [u64])
-    requires { (k : ℕ) → k < length standings.now → (standing_at standings.now k).row < 64 * length awake.old }
+    requires { (k : ℕ) → k < length standings.now
+        → (standing_at standings.now k).row < 64 * length awake.old }
     ensures { AreWoken standings.now awake.old awake.new }
 {
     for standing in standings {
@@ -57,7 +59,8 @@ fn wake_rows(standings: &[Standing], awake: &mut [u64])
 
 // Puts what a column was on the trail. After an error the trail is as it was.
 fn note(trail: &mut Vec<Change>, column: u32, before: Interval) -> Result<(), AllocError>
-    ensures ok { OnOk result (trail.new.items ≡ trail.old.items ++ record { column = column; before = before } ∷ []) }
+    ensures ok { OnOk result
+        (trail.new.items ≡ trail.old.items ++ record { column = column; before = before } ∷ []) }
     ensures err { OnErr result (trail.new.items ≡ trail.old.items) }
 {
     trail.push(Change { column, before })?;
@@ -243,7 +246,9 @@ impl Working {
         requires work { IsBox problem.now self.old }
         requires inner { IsInnerCut (interval_at self.old.sums.area column) cut }
         ensures step { IsStep problem.now self.old self.new }
-        ensures value { IfOk result (λ told. outcome_of told self.new.sums.area ≡ cut_of reason column self.old.sums.area cut) }
+        ensures value { IfOk result
+            (λ told. outcome_of told self.new.sums.area
+            ≡ cut_of reason column self.old.sums.area cut) }
     {
         match cut {
             Cut::Whole => Ok(None),
@@ -310,7 +315,8 @@ impl Working {
         Ok(())
     }
 
-    /// Lets the rows wait that are at rest so, and wakes the others: the objective alone where the cutoff is another.
+    /// Lets the rows wait that are at rest so, and wakes the others: the objective alone where the
+    /// cutoff is another.
     pub fn wait(&mut self, problem: &Problem, rest: Rest, cutoff: Option<i128>)
         requires bits { HasBits problem.now self.old.awake }
         requires rest { AllRest problem.now rest self.old.sums.area }
@@ -333,7 +339,8 @@ impl Working {
     pub fn floor_with(&self, problem: &Problem, column: u32, side: Interval) -> i128
         requires there { column < length problem.now.columns }
         requires sums { IsRunning problem.now self.now.sums }
-        ensures { result ≡ box_floor problem.now.objective (slice_set self.now.sums.area column side) }
+        ensures { result ≡ box_floor problem.now.objective
+            (slice_set self.now.sums.area column side) }
     {
         let least = self.sums.least_with(problem, column as usize, side);
         plus(least, problem.objective().constant)

@@ -6,7 +6,8 @@ abbrev pub IsNotAhead : {X : Type 0} → (X → Type 0) → (X → X → Type 0)
 IsNotAhead Can Ahead x other = Can other → Ahead other x → ⊥
 
 -- x is one of the elements and can be picked, and no other that can is ahead of it
-pub record IsFirstBy {X : Type 0} (Can : X → Type 0) (Ahead : X → X → Type 0) (xs : List X) (x : X) : Type 0 where
+pub record IsFirstBy {X : Type 0} (Can : X → Type 0) (Ahead : X → X → Type 0) (xs : List X)
+    (x : X) : Type 0 where
   pub among : Contains xs x
   pub can : Can x
   pub none_ahead : All (IsNotAhead Can Ahead x) xs

@@ -4,9 +4,9 @@ ghost use Rattle.ug_ramp.specs.Racers.{HasEnough, HasMore, IsShort, LeadsOver, I
 
 use crate::racer::Racer;
 
-/// The rank that wins the race: of the racers with at least `w` open nodes the one with the greatest
-/// floor, of those the one with the most open nodes, and of those the lowest rank. None if no racer
-/// has `w`.
+/// The rank that wins the race: of the racers with at least `w` open nodes the one with the
+/// greatest floor, of those the one with the most open nodes, and of those the lowest rank. None if
+/// no racer has `w`.
 #[tactic(auto, using(crate::proofs::Winners::one_winner, crate::proofs::Winners::not_all_short, crate::proofs::Winners::no_winner))]
 pub fn winner(racers: &[Racer], w: u64) -> Option<u32>
     ensures none { IsNone result ↔ All (IsShort w) racers.now }

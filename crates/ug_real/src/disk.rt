@@ -67,9 +67,9 @@ impl<R: Files<File = File>> Access<'_, R> {
 }
 
 impl<'a, R: Files<File = File>> FileDisk<'a, R> {
-    /// The slots of a folder for writing. The folder and the files are made where they are not there,
-    /// at the first call; from then on no other `FileDisk` writes the folder until this one is
-    /// dropped: a call on one that would is a fault.
+    /// The slots of a folder for writing. The folder and the files are made where they are not
+    /// there, at the first call; from then on no other `FileDisk` writes the folder until this one
+    /// is dropped: a call on one that would is a fault.
     pub fn new(rt: &'a R, alloc: Global, folder: &'a str) -> FileDisk<'a, R> {
         FileDisk {
             access: Access::Writing(SlotFiles::new(rt, alloc, folder)),
@@ -78,9 +78,9 @@ impl<'a, R: Files<File = File>> FileDisk<'a, R> {
     }
 
     /// The slots of a folder for reading alone, also while another program writes them. Nothing is
-    /// made, and a file that is not there is an empty slot. A slot is copied at the first call on it,
-    /// as two readings in a row gave it. A write is a fault, and a sync has nothing to do: what a crash
-    /// would leave is for the program that writes.
+    /// made, and a file that is not there is an empty slot. A slot is copied at the first call on
+    /// it, as two readings in a row gave it. A write is a fault, and a sync has nothing to do: what
+    /// a crash would leave is for the program that writes.
     pub fn reading(rt: &'a R, alloc: Global, folder: &'a str) -> FileDisk<'a, R> {
         FileDisk {
             access: Access::Reading(SlotCopies::new(rt, alloc, folder)),

@@ -12,7 +12,8 @@ use ug_disk::Slot;
 /// How often a slot is read again, where another program is writing it.
 const MOST_READINGS: u32 = 100;
 
-/// Copies of both slots, each made at the first call on it. Nothing in the folder is made or locked.
+/// Copies of both slots, each made at the first call on it. Nothing in the folder is made or
+/// locked.
 #[derive(Drop)]
 pub struct SlotCopies<'a, R: Files<File = File>> {
     rt: &'a R,

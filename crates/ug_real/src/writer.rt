@@ -5,7 +5,8 @@ use std::io;
 use std::io::Write;
 use ug_io::{Failed, Sink};
 
-/// A writer of std as a sink, such as standard output. A write of nothing of a piece that is not empty is a fault.
+/// A writer of std as a sink, such as standard output. A write of nothing of a piece that is not
+/// empty is a fault.
 #[derive(Drop)]
 pub struct Writer<W: Write + Drop> {
     to: W,

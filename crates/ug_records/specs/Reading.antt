@@ -1,5 +1,7 @@
 -- A record read from left to right, up to the first field that is cut short or breaks a rule.
-use Rattle.std.specs.Prelude.{ℕ, ℤ, zero, suc, ◌+◌, ◌-◌, ◌^◌, Bool, ◌&&◌, ◌||◌, List, [], ◌∷◌, length, take, drop, Option, Some, None, Result, Ok, Err, nat_lt, nat_le, ◌==◌, if◌then◌else◌, unsigned_abs, ◌≡◌}
+use Rattle.std.specs.Prelude.{ℕ, ℤ, zero, suc, ◌+◌, ◌-◌, ◌^◌, Bool, ◌&&◌, ◌||◌, List, [], ◌∷◌}
+use Rattle.std.specs.Prelude.{length, take, drop, Option, Some, None, Result, Ok, Err, nat_lt}
+use Rattle.std.specs.Prelude.{nat_le, ◌==◌, if◌then◌else◌, unsigned_abs, ◌≡◌}
 use Rattle.std.specs.List.{list_all}
 use Rattle.std.specs.Int.{w32, w128, from_be_bytes, cast_signed}
 use Rattle.ug_rows.specs.declared.row.Term.{Term}

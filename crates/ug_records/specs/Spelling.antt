@@ -1,6 +1,7 @@
 -- The record of a problem: its bytes, field by field. All numbers stand with their high byte first,
 -- signed ones in two's complement.
-use Rattle.std.specs.Prelude.{ℕ, ℤ, Bool, true, false, List, [], ◌∷◌, ◌++◌, length, Option, None, Some}
+use Rattle.std.specs.Prelude.{ℕ, ℤ, Bool, true, false, List, [], ◌∷◌, ◌++◌, length, Option, None}
+use Rattle.std.specs.Prelude.{Some}
 use Rattle.std.specs.List.{flat_map}
 use Rattle.std.specs.Int.{w32, w128, to_be_bytes, cast_unsigned}
 use Rattle.ug_rows.specs.declared.row.Term.{Term}

@@ -10,7 +10,9 @@ use Rattle.ug_checkpoint.specs.Recovery.{HasFound}
 use Rattle.ug_checkpoint.specs.Savers.{IsKept, last_slot, sequence_of}
 use Rattle.ug_restart.specs.Starts.{IsFirstDifference, IsSpent}
 use Rattle.ug_restart.specs.declared.fault.StartFault.{StartFault}
-use Rattle.ug_restart.specs.declared.fault.StartFault.TheVariants.{Memory, DiskFault, BadImage, NoCheckpoint, OtherProblem, SmallerGap, Spent}
+use Rattle.ug_restart.specs.declared.fault.StartFault.TheVariants.{Memory, DiskFault, BadImage}
+use Rattle.ug_restart.specs.declared.fault.StartFault.TheVariants.{NoCheckpoint, OtherProblem}
+use Rattle.ug_restart.specs.declared.fault.StartFault.TheVariants.{SmallerGap, Spent}
 
 -- a saver of a disk on which this was found: it keeps what was found until an image is acknowledged
 pub record IsSaverOf (found : Option Found) (saver : Saver) : Type 0 where

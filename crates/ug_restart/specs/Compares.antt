@@ -5,7 +5,9 @@ use Rattle.ug_records.specs.Spelling.{record_of}
 use Rattle.ug_restart.specs.Starts.{IsFirstDifference}
 use Rattle.ug_restart.specs.declared.compare.Difference.{Difference}
 use Rattle.ug_restart.specs.declared.fault.StartFault.{StartFault}
-use Rattle.ug_restart.specs.declared.fault.StartFault.TheVariants.{Memory, DiskFault, BadImage, NoCheckpoint, OtherProblem, SmallerGap, Spent}
+use Rattle.ug_restart.specs.declared.fault.StartFault.TheVariants.{Memory, DiskFault, BadImage}
+use Rattle.ug_restart.specs.declared.fault.StartFault.TheVariants.{NoCheckpoint, OtherProblem}
+use Rattle.ug_restart.specs.declared.fault.StartFault.TheVariants.{SmallerGap, Spent}
 
 -- where they differ
 abbrev pub IsDifference : List ℕ → List ℕ → Difference → Type 0

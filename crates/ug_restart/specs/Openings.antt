@@ -10,7 +10,9 @@ use Rattle.ug_slots.specs.Runs.{CouldLeave}
 use Rattle.ug_restart.specs.Moments.{IsCovered, IsImageOf}
 use Rattle.ug_restart.specs.Starts.{IsFirstImage}
 use Rattle.ug_restart.specs.declared.fault.StartFault.{StartFault}
-use Rattle.ug_restart.specs.declared.fault.StartFault.TheVariants.{Memory, DiskFault, BadImage, NoCheckpoint, OtherProblem, SmallerGap, Spent}
+use Rattle.ug_restart.specs.declared.fault.StartFault.TheVariants.{Memory, DiskFault, BadImage}
+use Rattle.ug_restart.specs.declared.fault.StartFault.TheVariants.{NoCheckpoint, OtherProblem}
+use Rattle.ug_restart.specs.declared.fault.StartFault.TheVariants.{SmallerGap, Spent}
 
 -- Whatever a crash leaves, recovery finds an image of this book, and the saver knows its sequence
 -- and its slot.

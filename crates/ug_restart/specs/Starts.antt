@@ -1,5 +1,6 @@
 -- How a run begins on a disk, by what recovery finds there.
-use Rattle.std.specs.Prelude.{◌≡◌, ◌≢◌, ◌⊎◌, ℕ, ◌+◌, ◌≤◌, ◌<ℤ◌, ◌≤ℤ◌, ◌^◌, List, [], ◌∷◌, map, take, slice_get, Option, None, Some}
+use Rattle.std.specs.Prelude.{◌≡◌, ◌≢◌, ◌⊎◌, ℕ, ◌+◌, ◌≤◌, ◌<ℤ◌, ◌≤ℤ◌, ◌^◌, List, [], ◌∷◌, map, take}
+use Rattle.std.specs.Prelude.{slice_get, Option, None, Some}
 use Rattle.ug_disk.specs.Histories.{History}
 use Rattle.ug_problem.specs.Instances.{Instance}
 use Rattle.ug_nodes.specs.declared.change.Change.{Change}
@@ -15,7 +16,9 @@ use Rattle.ug_checkpoint.specs.Recovery.{Recovered, HasFound, Loaded, IsFirstBad
 use Rattle.ug_checkpoint.specs.Savers.{CouldFind}
 use Rattle.ug_restart.specs.Moments.{IsImageOf}
 use Rattle.ug_restart.specs.declared.fault.StartFault.{StartFault}
-use Rattle.ug_restart.specs.declared.fault.StartFault.TheVariants.{Memory, DiskFault, BadImage, NoCheckpoint, OtherProblem, SmallerGap, Spent}
+use Rattle.ug_restart.specs.declared.fault.StartFault.TheVariants.{Memory, DiskFault, BadImage}
+use Rattle.ug_restart.specs.declared.fault.StartFault.TheVariants.{NoCheckpoint, OtherProblem}
+use Rattle.ug_restart.specs.declared.fault.StartFault.TheVariants.{SmallerGap, Spent}
 
 -- the run after the one that is stored, and the first where none is
 abbrev pub next_run : Option Found → ℕ

@@ -1,5 +1,7 @@
--- Points and boxes. A point is the list of its values, a box the list of its intervals, one per column.
-use Rattle.std.specs.Prelude.{◌≡◌, ◌≢◌, ℕ, ℤ, pos, ◌<◌, ◌≤◌, ◌^◌, ◌≤ℤ◌, ◌<ℤ◌, ◌⊎◌, List, [], ◌∷◌, length, slice_index_or, unsigned_abs}
+-- Points and boxes. A point is the list of its values, a box the list of its intervals, one per
+-- column.
+use Rattle.std.specs.Prelude.{◌≡◌, ◌≢◌, ℕ, ℤ, pos, ◌<◌, ◌≤◌, ◌^◌, ◌≤ℤ◌, ◌<ℤ◌, ◌⊎◌, List, [], ◌∷◌}
+use Rattle.std.specs.Prelude.{length, slice_index_or, unsigned_abs}
 use Rattle.ug_rows.specs.declared.area.Interval.{Interval}
 
 -- the value of column j
@@ -30,7 +32,8 @@ IsNonEmpty area = (j : ℕ) → j < length area → (interval_at area j).low ≤
 
 -- some column has its low above its high, so the box has no point
 abbrev pub IsCrossed : List Interval → Type 0
-IsCrossed area = (j : ℕ) × (j < length area) × ((interval_at area j).high <ℤ (interval_at area j).low)
+IsCrossed area = (j : ℕ) × (j < length area)
+    × ((interval_at area j).high <ℤ (interval_at area j).low)
 
 -- each column has one value
 abbrev pub IsFixed : List Interval → Type 0

@@ -1,5 +1,6 @@
 -- Rows: linear sums with two optional sides, and when a point keeps to them.
-use Rattle.std.specs.Prelude.{◌≡◌, ◌⊎◌, ℕ, ℤ, pos, ◌+ℤ◌, ◌*ℤ◌, ◌<◌, ◌≤◌, ◌^◌, ◌≤ℤ◌, List, [], ◌∷◌, length, slice_index_or, IfSome, unsigned_abs}
+use Rattle.std.specs.Prelude.{◌≡◌, ◌⊎◌, ℕ, ℤ, pos, ◌+ℤ◌, ◌*ℤ◌, ◌<◌, ◌≤◌, ◌^◌, ◌≤ℤ◌, List, [], ◌∷◌}
+use Rattle.std.specs.Prelude.{length, slice_index_or, IfSome, unsigned_abs}
 use Rattle.ug_rows.specs.declared.row.Term.{Term}
 use Rattle.ug_rows.specs.declared.row.Row.{Row}
 use Rattle.ug_rows.specs.declared.row.Objective.{Objective}
@@ -32,9 +33,11 @@ pub record Keeps (row : Row) (x : List ℤ) : Type 0 where
   pub low : IfSome row.low (λ low. low ≤ℤ sum_at row.terms x)
   pub high : IfSome row.high (λ high. sum_at row.terms x ≤ℤ high)
 
--- terms over `width` columns, of which there are at most 10,000: columns rise, and no factor is above 10^24
+-- terms over `width` columns, of which there are at most 10,000: columns rise, and no factor is
+-- above 10^24
 pub record IsLinear (width : ℕ) (terms : List Term) : Type 0 where
   pub few : width ≤ 10 ^ 4
-  pub rising : (i k : ℕ) → i < k → k < length terms → (term_at terms i).column < (term_at terms k).column
+  pub rising : (i k : ℕ) → i < k → k < length terms
+      → (term_at terms i).column < (term_at terms k).column
   pub within : (k : ℕ) → k < length terms → (term_at terms k).column < width
   pub small : (k : ℕ) → k < length terms → unsigned_abs (term_at terms k).factor ≤ 10 ^ 24

@@ -3,7 +3,8 @@ ghost use Rattle.ug_rows.specs.Boxes.{IsBelow, IsClosedWithin, IsCrossed, IsFixe
 
 use std::marker::Model;
 
-/// The values that a column may take: from `low` to `high`, both included. With its low above its high it has none.
+/// The values that a column may take: from `low` to `high`, both included. With its low above its
+/// high it has none.
 #[derive(Clone, Copy, Debug, PartialEq, Eq)]
 pub struct Interval {
     pub low: i32,

@@ -29,7 +29,8 @@ pub struct Row {
 pub struct Objective {
     pub terms: Terms,
     pub constant: i128,
-    /// Whether the user maximises: terms and constant are then the negated ones, and a value is negated when printed.
+    /// Whether the user maximises: terms and constant are then the negated ones, and a value is
+    /// negated when printed.
     pub maximise: bool,
     /// The power of ten by which values are divided when printed.
     pub scale: u8,

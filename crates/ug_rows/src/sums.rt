@@ -17,7 +17,8 @@ pub enum Extreme {
 pub fn least(row: &Row, area: &IntBox) -> i128
     requires { IsLinear (length area.now) row.now.terms }
     ensures bound { (x : List ℤ) → IsInside area.now x → result ≤ℤ sum_at row.now.terms x }
-    ensures reached { IsNonEmpty area.now → (x : List ℤ) × IsInside area.now x × (sum_at row.now.terms x ≡ result) }
+    ensures reached { IsNonEmpty area.now
+        → (x : List ℤ) × IsInside area.now x × (sum_at row.now.terms x ≡ result) }
     ensures sum { result ≡ least_sum row.now.terms area.now }
     ensures small { unsigned_abs result ≤ 10 ^ 38 }
 {
@@ -28,7 +29,8 @@ pub fn least(row: &Row, area: &IntBox) -> i128
 pub fn greatest(row: &Row, area: &IntBox) -> i128
     requires { IsLinear (length area.now) row.now.terms }
     ensures bound { (x : List ℤ) → IsInside area.now x → sum_at row.now.terms x ≤ℤ result }
-    ensures reached { IsNonEmpty area.now → (x : List ℤ) × IsInside area.now x × (sum_at row.now.terms x ≡ result) }
+    ensures reached { IsNonEmpty area.now
+        → (x : List ℤ) × IsInside area.now x × (sum_at row.now.terms x ≡ result) }
     ensures sum { result ≡ greatest_sum row.now.terms area.now }
     ensures small { unsigned_abs result ≤ 10 ^ 38 }
 {
@@ -40,7 +42,8 @@ pub fn floor(objective: &Objective, area: &IntBox) -> i128
     requires terms { IsLinear (length area.now) objective.now.terms }
     requires constant { unsigned_abs objective.now.constant ≤ 10 ^ 37 }
     ensures bound { (x : List ℤ) → IsInside area.now x → result ≤ℤ value_of objective.now x }
-    ensures reached { IsNonEmpty area.now → (x : List ℤ) × IsInside area.now x × (value_of objective.now x ≡ result) }
+    ensures reached { IsNonEmpty area.now
+        → (x : List ℤ) × IsInside area.now x × (value_of objective.now x ≡ result) }
     ensures sum { result ≡ box_floor objective.now area.now }
     ensures small { unsigned_abs result ≤ 4 * 10 ^ 37 }
 {
@@ -51,8 +54,10 @@ pub fn floor(objective: &Objective, area: &IntBox) -> i128
 /// The least or the greatest sum of terms over the points of a box.
 pub fn sum_of_ends(extreme: Extreme, terms: &[Term], sides: &[Interval]) -> i128
     requires { IsLinear (length sides.now) terms.now }
-    ensures bound { (x : List ℤ) → IsInside sides.now x → IsBound extreme result (sum_at terms.now x) }
-    ensures reached { IsNonEmpty sides.now → (x : List ℤ) × IsInside sides.now x × (sum_at terms.now x ≡ result) }
+    ensures bound { (x : List ℤ) → IsInside sides.now x
+        → IsBound extreme result (sum_at terms.now x) }
+    ensures reached { IsNonEmpty sides.now
+        → (x : List ℤ) × IsInside sides.now x × (sum_at terms.now x ≡ result) }
     ensures sum { result ≡ end_sum extreme terms.now sides.now }
     ensures small { unsigned_abs result ≤ 3 * 10 ^ 37 }
 {

@@ -1,5 +1,6 @@
 -- What the death of a rank does: its node takes in what is held below, and goes back.
-use Rattle.std.specs.Prelude.{if◌then◌else◌, ℕ, Bool, false, List, [], ◌∷◌, ◌++◌, Option, Some, None, map, slice_set}
+use Rattle.std.specs.Prelude.{if◌then◌else◌, ℕ, Bool, false, List, [], ◌∷◌, ◌++◌, Option, Some}
+use Rattle.std.specs.Prelude.{None, map, slice_set}
 use Rattle.ug_nodes.specs.declared.name.Name.{Name}
 use Rattle.ug_nodes.specs.Lines.{is_ancestor}
 use Rattle.ug_pool.specs.declared.entry.Entry.{Entry}

@@ -1,5 +1,7 @@
 -- What a decision does, part by part, and what stands of it where memory ended it.
-use Rattle.std.specs.Prelude.{◌≡◌, ◌≢◌, if◌then◌else◌, ℕ, zero, suc, ℤ, ◌+◌, ◌-◌, ◌^◌, ◌%◌, ◌≤◌, ◌⊎◌, min, Bool, true, false, ◌==◌, ◌&&◌, nat_lt, nat_eq, List, [], ◌∷◌, ◌++◌, length, All, Option, Some, None, slice_set}
+use Rattle.std.specs.Prelude.{◌≡◌, ◌≢◌, if◌then◌else◌, ℕ, zero, suc, ℤ, ◌+◌, ◌-◌, ◌^◌, ◌%◌, ◌≤◌}
+use Rattle.std.specs.Prelude.{◌⊎◌, min, Bool, true, false, ◌==◌, ◌&&◌, nat_lt, nat_eq, List, []}
+use Rattle.std.specs.Prelude.{◌∷◌, ◌++◌, length, All, Option, Some, None, slice_set}
 use Rattle.std.specs.Ordering.{int_eq}
 use Rattle.ug_branch.specs.declared.params.Params.{Params}
 use Rattle.ug_branch.specs.declared.params.Pick.TheVariants.{Place, Width}
@@ -12,14 +14,16 @@ use Rattle.ug_ramp.specs.Racers.{IsWinner}
 use Rattle.ug_collect.specs.declared.demand.Wanted.{Wanted}
 use Rattle.ug_collect.specs.declared.demand.Wanted.TheVariants.{Ask, Enough, Nothing}
 use Rattle.ug_collect.specs.Wants.{IsWanted}
-use Rattle.ug_frames.specs.declared.order.Order.TheVariants.{Work as WorkOrder, Incumbent, CollectIn, CollectOut, Winner, Stop}
+use Rattle.ug_frames.specs.declared.order.Order.TheVariants.{Work as WorkOrder, Incumbent}
+use Rattle.ug_frames.specs.declared.order.Order.TheVariants.{CollectIn, CollectOut, Winner, Stop}
 use Rattle.ug_ranks.specs.declared.state.State.{State}
 use Rattle.ug_ranks.specs.declared.state.State.TheVariants.{Absent, Idle, Racing, Active, Dead}
 use Rattle.ug_ranks.specs.States.{state_at}
 use Rattle.ug_ranks.specs.Changes.{asked_for, racer_of, won, work_of}
 use Rattle.ug_rules.specs.declared.told.Told.{Told}
 use Rattle.ug_rules.specs.State.{BookState, cutoff_of_best, held_nodes, ticket_with}
-use Rattle.ug_rules.specs.Ranks.{is_absent, is_idle, is_joined, members_in, of_ranks, racers_freed, racers_in, ranks_that}
+use Rattle.ug_rules.specs.Ranks.{is_absent, is_idle, is_joined, members_in, of_ranks, racers_freed}
+use Rattle.ug_rules.specs.Ranks.{racers_in, ranks_that}
 
 -- 1: the nodes of the pool whose floor is at least the cutoff are dropped
 abbrev pub below_cutoff : Option ℤ → List Entry → List Entry

@@ -6,7 +6,8 @@ use Rattle.ug_ledger.specs.Answers.{answer_of}
 use Rattle.ug_rules.specs.State.{BookState, cutoff_of_best, held_nodes}
 use Rattle.ug_rules.specs.Ranks.{is_idle, ranks_that}
 use Rattle.ug_rules.specs.Books.{IsBook, IsSoundBook, Keeps}
-use Rattle.ug_rules.specs.Deciding.{IsCollected, IsDecided, IsRaceEnded, Stands, announced, dropped, given, handouts, is_race_awaited}
+use Rattle.ug_rules.specs.Deciding.{IsCollected, IsDecided, IsRaceEnded, Stands, announced, dropped}
+use Rattle.ug_rules.specs.Deciding.{given, handouts, is_race_awaited}
 
 -- part by part: nodes dropped, a cutoff announced, a race at its end
 abbrev pub DroppedKeeps : Type 0

@@ -1,5 +1,6 @@
 -- What a report is answered, and what is done under the answer.
-use Rattle.std.specs.Prelude.{◌≡◌, ◌≢◌, if◌then◌else◌, ℕ, ℤ, ◌+◌, ◌<◌, ◌^◌, nat_lt, List, length, Option, Some, None, slice_set}
+use Rattle.std.specs.Prelude.{◌≡◌, ◌≢◌, if◌then◌else◌, ℕ, ℤ, ◌+◌, ◌<◌, ◌^◌, nat_lt, List, length}
+use Rattle.std.specs.Prelude.{Option, Some, None, slice_set}
 use Rattle.ug_problem.specs.Instances.{root_of}
 use Rattle.ug_nodes.specs.declared.name.Ticket.{Ticket}
 use Rattle.ug_nodes.specs.declared.change.Change.{Change}
@@ -8,7 +9,8 @@ use Rattle.ug_nodes.specs.Outside.{IsFirstOutside, SpellBelow}
 use Rattle.ug_rows.specs.Sums.{box_floor}
 use Rattle.ug_pool.specs.Pools.{with_entry}
 use Rattle.ug_frames.specs.declared.report.Report.{Report}
-use Rattle.ug_frames.specs.declared.report.Report.TheVariants.{Ready, Solution, Hand, State as Reported, Done, Ended}
+use Rattle.ug_frames.specs.declared.report.Report.TheVariants.{Ready, Solution, Hand}
+use Rattle.ug_frames.specs.declared.report.Report.TheVariants.{State as Reported, Done, Ended}
 use Rattle.ug_incumbent.specs.Offers.{IsBetter, IsBroken, IsNotBetter}
 use Rattle.ug_ranks.specs.declared.state.Work.{Work}
 use Rattle.ug_ranks.specs.declared.state.State.{State}
@@ -18,7 +20,9 @@ use Rattle.ug_ranks.specs.Changes.{grown, joined, noted}
 use Rattle.ug_ledger.specs.Moves.{handed_node}
 use Rattle.ug_ledger.specs.Dones.{IsBackedBy}
 use Rattle.ug_rules.specs.declared.heard.Heard.{Heard}
-use Rattle.ug_rules.specs.declared.heard.Heard.TheVariants.{Kept, Stale, Early, Broken, NotBetter, InRace, Again, Gap, Outside, Unbacked, Short, Memory}
+use Rattle.ug_rules.specs.declared.heard.Heard.TheVariants.{Kept, Stale, Early, Broken, NotBetter}
+use Rattle.ug_rules.specs.declared.heard.Heard.TheVariants.{InRace, Again, Gap, Outside, Unbacked}
+use Rattle.ug_rules.specs.declared.heard.Heard.TheVariants.{Short, Memory}
 use Rattle.ug_rules.specs.State.{BookState, current_for, cutoff_of_best}
 use Rattle.ug_rules.specs.Ranks.{racers_freed, ticket_at}
 use Rattle.ug_rules.specs.Deaths.{killed}

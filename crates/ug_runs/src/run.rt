@@ -83,8 +83,8 @@ pub fn solve_saved<R: Threads + Wait + Sync, D: Disk, G: Gate>(
     Ok(solve_threads(rt, alloc, book, Some(saver), disk, gate))
 }
 
-/// Goes on from the checkpoint on the disk, which is of the same problem, with its incumbent and its
-/// boxes, under the run number after its own.
+/// Goes on from the checkpoint on the disk, which is of the same problem, with its incumbent and
+/// its boxes, under the run number after its own.
 pub fn go_on<R: Threads + Wait + Sync, D: Disk, G: Gate>(
     rt: &R,
     alloc: Global,

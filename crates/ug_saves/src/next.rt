@@ -17,7 +17,8 @@ use ug_desk::Snapshot;
 use ug_image::Image;
 use ug_restart::image_of;
 
-/// The image of a snapshot under the sequence that is next. There is none at the end of the numbers.
+/// The image of a snapshot under the sequence that is next. There is none at the end of the
+/// numbers.
 pub fn of_snapshot(saver: &Saver, snapshot: Snapshot) -> Option<Image>
     ensures next { IfSome result (IsNext saver.now) }
     ensures of { IfSome result (IsOfSnapshot snapshot) }

@@ -7,7 +7,8 @@ use Rattle.ug_restart.specs.declared.outcome.End.{End}
 use Rattle.ug_restart.specs.declared.outcome.Outcome.{Outcome}
 use Rattle.ug_saves.specs.Saves.{IsOfBook}
 use Rattle.ug_saves.specs.Moments.{FindsOne}
-use Rattle.ug_threads.specs.Ends.{IfAnswered, IfBook, IfLimited, IsLimited, IsReplayOf, IsRight, IsStranded}
+use Rattle.ug_threads.specs.Ends.{IfAnswered, IfBook, IfLimited, IsLimited, IsReplayOf, IsRight}
+use Rattle.ug_threads.specs.Ends.{IsStranded}
 
 -- how it ended, by its book
 pub record HasEnded (given : BookState) (end : End) : Type 0 where

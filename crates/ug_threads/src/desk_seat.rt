@@ -28,8 +28,8 @@ pub struct DeskSeat<'a, R, G> {
     pub seen: u64,
 }
 
-// Sends a snapshot where one is due, unless others wait to be saved. One for which memory is wanting
-// is no save.
+// Sends a snapshot where one is due, unless others wait to be saved. One for which memory is
+// wanting is no save.
 fn send_if_due<R: Wait>(
     rt: &R,
     desk: &Desk,

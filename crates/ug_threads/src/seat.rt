@@ -31,7 +31,7 @@ pub trait Seat {
     /// The worker ends.
     fn leave(&mut self);
 
-    /// Waits until there may be work, after a `take` that was answered Wait. False where no work can
-    /// come.
+    /// Waits until there may be work, after a `take` that was answered Wait. False where no work
+    /// can come.
     fn rest(&mut self) -> bool;
 }

@@ -11,10 +11,12 @@ use Rattle.ug_cli.specs.declared.plan.Plan.{Plan}
 use Rattle.ug_cli.specs.declared.plan.Plan.TheVariants as plans
 use Rattle.ug_commands.specs.Outside.{Outside}
 use Rattle.ug_commands.specs.Enough.{StopsAtEnd}
-use Rattle.ug_commands.specs.Ends.{AreLinesOf, IsAccounted, IsDiskless, IsLeftAlone, status_of, text_of}
+use Rattle.ug_commands.specs.Ends.{AreLinesOf, IsAccounted, IsDiskless, IsLeftAlone, status_of}
+use Rattle.ug_commands.specs.Ends.{text_of}
 use Rattle.ug_commands.specs.declared.ended.Ended.{Ended}
 use Rattle.ug_commands.specs.declared.status.Status.{Status}
-use Rattle.ug_commands.specs.declared.status.Status.TheVariants.{Usage, Refused, ReadFault, WriteFault, Memory}
+use Rattle.ug_commands.specs.declared.status.Status.TheVariants.{Usage, Refused, ReadFault}
+use Rattle.ug_commands.specs.declared.status.Status.TheVariants.{WriteFault, Memory}
 
 -- the first fault of the text was told, unless the source failed or memory was wanting
 abbrev pub IsToldOf : Status → Type 0

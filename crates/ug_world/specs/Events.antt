@@ -1,5 +1,6 @@
 -- Which events a schedule may have, and what they send.
-use Rattle.std.specs.Prelude.{◌≡◌, ℕ, ◌<◌, ◌≤◌, List, [], ◌∷◌, length, take, flat_map, Some, slice_get}
+use Rattle.std.specs.Prelude.{◌≡◌, ℕ, ◌<◌, ◌≤◌, List, [], ◌∷◌, length, take, flat_map, Some}
+use Rattle.std.specs.Prelude.{slice_get}
 use Rattle.ug_frames.specs.declared.report.Report.{Report}
 use Rattle.ug_rules.specs.Hearing.{IsHearable}
 use Rattle.ug_world.specs.declared.event.Event.{Event}

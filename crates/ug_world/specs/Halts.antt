@@ -6,7 +6,8 @@ use Rattle.ug_world.specs.declared.event.Event.TheVariants.{Hear}
 use Rattle.ug_world.specs.declared.playing.Halt.{Halt}
 use Rattle.ug_world.specs.declared.playing.Halt.TheVariants.{NoSuch, Memory}
 use Rattle.ug_world.specs.declared.schedule.PlayFault.{PlayFault}
-use Rattle.ug_world.specs.declared.schedule.PlayFault.TheVariants.{NoSuch as NoSuchFault, Memory as MemoryFault}
+use Rattle.ug_world.specs.declared.schedule.PlayFault.TheVariants.{NoSuch as NoSuchFault}
+use Rattle.ug_world.specs.declared.schedule.PlayFault.TheVariants.{Memory as MemoryFault}
 use Rattle.ug_rules.specs.State.{BookState}
 use Rattle.ug_world.specs.Worlds.{World}
 use Rattle.ug_world.specs.Plays.{IsLeftBy}
@@ -17,7 +18,8 @@ pub record IsPast (w : World) (event : Event) (place : ℕ) : Type 0 where
   pub hears : event ≡ Hear place rank
   pub few : length w.sent ≤ place
 
--- why there is no copy of the report at this place of those sent: it is not there, or memory ran out
+-- why there is no copy of the report at this place of those sent: it is not there, or memory ran
+-- out
 abbrev pub IsNotThere : List Report → ℕ → Halt → Type 0
 IsNotThere sent place (NoSuch other) = (other ≡ place) × (length sent ≤ place)
 IsNotThere sent place Memory = Unit {0}

@@ -1,5 +1,6 @@
 -- What a schedule that was played leaves.
-use Rattle.std.specs.Prelude.{◌≡◌, ℕ, ◌<◌, List, [], length, take, All, Option, Some, None, Result, Ok, Err, slice_get}
+use Rattle.std.specs.Prelude.{◌≡◌, ℕ, ◌<◌, List, [], length, take, All, Option, Some, None, Result}
+use Rattle.std.specs.Prelude.{Ok, Err, slice_get}
 use Rattle.ug_rules.specs.State.{BookState}
 use Rattle.ug_rules.specs.Deciding.{Stands}
 use Rattle.ug_world.specs.declared.event.Event.{Event}

@@ -1,8 +1,8 @@
 ghost use Rattle.ug_world.specs.Laws.{HonestLoseNothing};
 
 /// Whatever solvers send, in whatever order it is heard, again or not at all, whoever joins and
-/// whoever dies: at every moment between two events each better point lies in a primitive node held,
-/// as long as what was sent is honest. What was sent in earlier runs may be heard too.
+/// whoever dies: at every moment between two events each better point lies in a primitive node
+/// held, as long as what was sent is honest. What was sent in earlier runs may be heard too.
 pub fn honest_solvers_lose_nothing()
     ensures { HonestLoseNothing }
 {}

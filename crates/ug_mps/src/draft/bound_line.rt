@@ -37,9 +37,11 @@ impl Draft {
         name: &[u8],
         number: Option<&[u8]>,
     ) -> Result<(), MpsError>
-        requires section { belongs self.old.section (bound kind (word_of set) name.now (word_of number)) ≡ true }
+        requires section { belongs self.old.section
+            (bound kind (word_of set) name.now (word_of number)) ≡ true }
         requires number { IfSome number (λ word. length word.now ≤ 255) }
-        ensures { TakesShape line (bound kind (word_of set.entry) name.now (word_of number.entry)) self.old self.new result }
+        ensures { TakesShape line (bound kind (word_of set.entry) name.now (word_of number.entry))
+            self.old self.new result }
     {
         if self.is_other_set(set) {
             return Ok(());
@@ -59,8 +61,8 @@ impl Draft {
         Ok(())
     }
 
-    /// Takes a bound without a number that has two words behind its type: where the second names a column, the first is a
-    /// set's name.
+    /// Takes a bound without a number that has two words behind its type: where the second names a
+    /// column, the first is a set's name.
     pub fn either(
         &mut self,
         line: u64,

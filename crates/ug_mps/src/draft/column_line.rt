@@ -23,10 +23,12 @@ fn is_full(at: u32, count: u32, more: u32) -> bool
 impl Draft {
     /// Takes a line of a column, or tells its fault.
     pub fn column(&mut self, line: u64, name: &[u8], pairs: &NamedWords<'_>) -> Result<(), MpsError>
-        requires section { belongs self.old.section (column name.now (pairs_shaped pairs.now)) ≡ true }
+        requires section { belongs self.old.section (column name.now (pairs_shaped pairs.now))
+            ≡ true }
         requires name { IsName name.now }
         requires numbers { AreShortNumbers (pairs_shaped pairs.now) }
-        ensures { TakesShape line (column name.now (pairs_shaped pairs.now)) self.old self.new result }
+        ensures { TakesShape line (column name.now (pairs_shaped pairs.now)) self.old self.new
+            result }
     {
         let places = match self.rows.look(pairs) {
             Ok(places) => places,

@@ -14,7 +14,8 @@ use ug_drafts::{MpsError, RowsAndObjective, make_columns, make_rows};
 use ug_lists::Items;
 use ug_problem::{Column, Problem, ProblemError};
 
-// The problem of these parts, which a good history without faults states: so only memory can be wanting.
+// The problem of these parts, which a good history without faults states: so only memory can be
+// wanting.
 fn problem_of(
     alloc: Global,
     columns: Vec<Column>,
@@ -37,8 +38,8 @@ fn problem_of(
 }
 
 impl Draft {
-    /// The problem that the lines state once the latest has been ENDATA, or the first fault of a column or a row.
-    /// `boxed` is the bound that infinite bounds have.
+    /// The problem that the lines state once the latest has been ENDATA, or the first fault of a
+    /// column or a row. `boxed` is the bound that infinite bounds have.
     pub fn finish(self, boxed: Option<u32>) -> Result<Problem, MpsError>
         requires ended { (h : List Entry) × Drafts (header Endata ∷ h) self }
         requires boxed { IsBox boxed }

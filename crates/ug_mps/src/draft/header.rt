@@ -80,7 +80,8 @@ impl Draft {
 
     // Gives the sense behind the header of a section.
     fn sense_behind(&mut self, section: Section, words: &[&[u8]])
-        ensures { self.new ≡ with_sense (sense_behind section (map (λ word. word.now) words.now)) self.old }
+        ensures { self.new ≡ with_sense (sense_behind section (map (λ word. word.now) words.now))
+            self.old }
     {
         if !is_section(Section::Objsense, section) {
             return;
@@ -94,7 +95,8 @@ impl Draft {
 
     /// Takes a header, or tells its fault.
     pub fn header(&mut self, line: u64, word: &[u8], words: &[&[u8]]) -> Result<(), MpsError>
-        ensures { TakesHeader line (word.now ∷ map (λ word. word.now) words.now) self.old self.new result }
+        ensures { TakesHeader line (word.now ∷ map (λ word. word.now) words.now) self.old self.new
+            result }
     {
         let Some(section) = section_of(word) else {
             return Err(fault_of(self.alloc, line, Kind::Section, word));

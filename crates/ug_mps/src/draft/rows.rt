@@ -157,7 +157,8 @@ impl Rows {
         }
     }
 
-    /// The first row of the pairs, which stand at the places, that has the part, or that is named twice.
+    /// The first row of the pairs, which stand at the places, that has the part, or that is named
+    /// twice.
     pub fn repeated<'a>(
         &self,
         part: Part,
@@ -165,7 +166,8 @@ impl Rows {
         pairs: &NamedWords<'a>,
     ) -> Option<&'a [u8]>
         requires { AreAt self.now.names (rows_in (pairs_shaped pairs.now)) (places_in places) }
-        ensures { FindsRepeated part (rows_in (pairs_shaped pairs.now)) (places_in places) self.now result }
+        ensures { FindsRepeated part (rows_in (pairs_shaped pairs.now)) (places_in places) self.now
+            result }
     {
         if self.get(places.first).has(part) {
             return Some(pairs.first.row);
@@ -190,7 +192,8 @@ impl Rows {
         pairs: &NamedNumbers<'_>,
     ) -> Result<(), AllocError>
         requires { AreAt self.old.names (rows_named (pairs_said pairs.now)) (places_in places) }
-        ensures { OnOk result (PutsPairs part (pairs_said pairs.now) (places_in places) self.old self.new) }
+        ensures { OnOk result (PutsPairs part (pairs_said pairs.now) (places_in places) self.old
+            self.new) }
     {
         self.put(places.first, part, pairs.first.number)?;
         let Some(place) = places.second else {

@@ -25,7 +25,8 @@ impl Draft {
 
     /// Uses a set, if one is named and none was before.
     pub fn use_set(&mut self, set: Option<&[u8]>) -> Result<(), AllocError>
-        ensures { OnOk result (self.new ≡ record self.old { set = set_after (word_of set.entry) self.old.set }) }
+        ensures { OnOk result (self.new
+            ≡ record self.old { set = set_after (word_of set.entry) self.old.set }) }
     {
         if self.set.is_some() {
             return Ok(());
@@ -53,9 +54,11 @@ impl Draft {
         set: Option<&[u8]>,
         pairs: &NamedWords<'_>,
     ) -> Result<(), MpsError>
-        requires section { belongs self.old.section (sides (word_of set) (pairs_shaped pairs.now)) ≡ true }
+        requires section { belongs self.old.section (sides (word_of set) (pairs_shaped pairs.now))
+            ≡ true }
         requires numbers { AreShortNumbers (pairs_shaped pairs.now) }
-        ensures { TakesShape line (sides (word_of set.entry) (pairs_shaped pairs.now)) self.old self.new result }
+        ensures { TakesShape line (sides (word_of set.entry) (pairs_shaped pairs.now)) self.old
+            self.new result }
     {
         if self.is_other_set(set) {
             return Ok(());

@@ -22,7 +22,8 @@ impl Digits {
     fn push(self, byte: u8) -> Option<Digits>
         requires kept { IsKept self }
         requires few { self.zeros ≤ 255 }
-        ensures value { (text : List ℕ) → kept_of text ≡ Some self → result ≡ kept_of (text ++ byte ∷ []) }
+        ensures value { (text : List ℕ) → kept_of text ≡ Some self
+            → result ≡ kept_of (text ++ byte ∷ []) }
         ensures kept { IfSome result IsKept }
         ensures few { IfSome result (λ d. d.zeros ≤ self.zeros + 1) }
     {
@@ -46,7 +47,8 @@ impl Digits {
     fn extend(self, bytes: &[u8]) -> Option<Digits>
         requires kept { IsKept self }
         requires few { self.zeros + length bytes.now ≤ 255 }
-        ensures value { (text : List ℕ) → kept_of text ≡ Some self → result ≡ kept_of (text ++ bytes.now) }
+        ensures value { (text : List ℕ) → kept_of text ≡ Some self
+            → result ≡ kept_of (text ++ bytes.now) }
         ensures kept { IfSome result IsKept }
         ensures few { IfSome result (λ d. d.zeros ≤ self.zeros + length bytes.now) }
     {

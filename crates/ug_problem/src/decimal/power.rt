@@ -14,7 +14,8 @@ fn times_ten(number: u128) -> Option<u128>
     }
 }
 
-// The number times 10^`power`, if it has at most 38 digits. Powers are taken for those above 1 alone.
+// The number times 10^`power`, if it has at most 38 digits. Powers are taken for those above 1
+// alone.
 #[tactic(auto, using(crate::proofs::Powers::power_small, crate::proofs::Powers::raised_below, crate::proofs::Powers::raised_above, crate::proofs::Powers::raised_far))]
 pub fn times_power(number: u128, power: u32) -> Option<u128>
     requires { number < 10 ^ 38 }

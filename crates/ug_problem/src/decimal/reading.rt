@@ -134,7 +134,8 @@ fn decimal(negative: bool, number: u128, power: i32) -> Decimal
     }
 }
 
-// What the last digit is worth: the exponent, less the digits behind the point, and the zeros that were taken off.
+// What the last digit is worth: the exponent, less the digits behind the point, and the zeros that
+// were taken off.
 fn power(exponent: i32, places: usize, zeros: u32) -> i32
     requires exponent { unsigned_abs exponent ≤ 9999 }
     requires places { places ≤ 255 }
@@ -161,7 +162,8 @@ fn pointed(negative: bool, text: &[u8], exponent: i32) -> Option<Decimal>
     Some(decimal(negative, digits.number, power))
 }
 
-// The number that an optional sign and digits with at most one point spell, times ten to the exponent.
+// The number that an optional sign and digits with at most one point spell, times ten to the
+// exponent.
 fn mantissa(text: &[u8], exponent: i32) -> Option<Decimal>
     requires short { length text.now ≤ 255 }
     requires small { unsigned_abs exponent ≤ 9999 }
@@ -172,7 +174,8 @@ fn mantissa(text: &[u8], exponent: i32) -> Option<Decimal>
 }
 
 impl Decimal {
-    /// The number that a word spells: an optional sign, digits with at most one point, and an optional exponent.
+    /// The number that a word spells: an optional sign, digits with at most one point, and an
+    /// optional exponent.
     pub fn from_word(word: &[u8]) -> Option<Decimal>
         requires { length word.now ≤ 255 }
         ensures value { result ≡ decimal_of word.now }

@@ -27,7 +27,8 @@ impl Decimal {
     fn whole(self) -> u128
         requires decimal { IsDecimal self }
         requires small { is_huge self ≡ false }
-        ensures value { result ≡ self.digits * 10 ^ zeros_of_power self.power / 10 ^ places_of self }
+        ensures value { result ≡ self.digits * 10 ^ zeros_of_power self.power / 10 ^ places_of
+            self }
         ensures small { result < 10 ^ 20 }
     {
         if self.power >= 0 {
