@@ -8,6 +8,7 @@ use Rattle.ug_rows.specs.declared.area.Interval.{Interval}
 use Rattle.ug_rows.specs.Boxes.{IsBelow, IsInOne, IsInside}
 use Rattle.ug_rows.specs.Sums.{box_floor}
 use Rattle.ug_rows.proofs.AreaLemmas.{below_trans}
+use Rattle.ug_rows.proofs.Orders.{at_most_itself, at_most_trans}
 use Rattle.ug_problem.specs.Instances.{Instance, bounds_of}
 use Rattle.ug_problem.specs.Better.{IsGood}
 use Rattle.ug_problem.proofs.Floors.{floor_bound, floor_within}
@@ -36,12 +37,6 @@ keeps_lowest floors n low here r l e h same = record {
     | inr ne ↦ l.least k (omega (arith, lt, ne))
   ]);
 }
-
-at_most_trans : (a b c : ℤ) → a ≤ℤ b → b ≤ℤ c → a ≤ℤ c
-at_most_trans a b c h k = omega (arith, ints)
-
-at_most_itself : (a : ℤ) → a ≤ℤ a
-at_most_itself a = omega (arith, ints)
 
 -- number n is at most the least of those before it
 takes_lowest : (floors : List ℤ) (n : ℕ) (here r : ℤ) → floor_at floors n ≡ here → r ≡ here

@@ -1,16 +1,17 @@
 -- Being ahead is an order, and the best of the first columns is the best of one more.
-use Rattle.std.proofs.Common.{◌≡◌, ℕ, ℤ, ◌+◌, ◌≤ℤ◌, ◌<ℤ◌, List, length, Option, Some, None, sym, subst, inl, inr, arith}
+use Rattle.std.proofs.Common.{◌≡◌, ℕ, ℤ, ◌+◌, ◌≤◌, ◌≤ℤ◌, ◌<ℤ◌, List, length, Option, Some, None, sym, subst, inl, inr, arith}
 use Rattle.std.proofs.lemmas.Int.{ints}
-use Rattle.std.proofs.lemmas.Bool.{cases_eq}
+use Rattle.std.proofs.lemmas.Bool.{cases_eq, cases_lt}
 use Rattle.ug_rows.specs.declared.area.Interval.{Interval}
 use Rattle.ug_rows.specs.Boxes.{interval_at}
+use Rattle.ug_rows.proofs.Orders.{at_most_itself, at_most_trans}
 use Rattle.ug_branch.specs.declared.params.Params.{Params}
 use Rattle.ug_branch.specs.declared.params.Pick.{Pick}
 use Rattle.ug_branch.specs.declared.params.Pick.TheVariants.{Place, Width}
 use Rattle.ug_branch.specs.declared.params.End.{End}
 use Rattle.ug_branch.specs.declared.params.End.TheVariants.{Lowest, Highest}
 use Rattle.ug_branch.specs.declared.choice.Branch.{Branch}
-use Rattle.ug_branch.specs.Choices.{width_at, IsOpen, HasNoneOpen, IsNearer, IsAheadBy, IsAhead, IsMiddle, IsChosen, IsBest, IsBestOf}
+use Rattle.ug_branch.specs.Choices.{width_at, IsOpen, HasNoneOpen, IsNearer, IsAheadBy, IsAhead, IsFirstAhead, IsMiddle, IsChosen, IsBest, IsBestOf}
 
 nearer_same : (end : End) (c : ℕ) → IsNearer end c c
 nearer_same Lowest c = omega arith
@@ -19,12 +20,6 @@ nearer_same Highest c = omega arith
 nearer_along : (end : End) (a b c : ℕ) → IsNearer end a b → IsNearer end b c → IsNearer end a c
 nearer_along Lowest a b c h k = omega arith
 nearer_along Highest a b c h k = omega arith
-
-le_same : (a : ℤ) → a ≤ℤ a
-le_same a = omega (arith, ints)
-
-le_along : (a b c : ℤ) → a ≤ℤ b → b ≤ℤ c → a ≤ℤ c
-le_along a b c h k = omega (arith, ints)
 
 -- numbers between two that are the same
 same_first : (a b c : ℤ) → c ≤ℤ b → b ≤ℤ a → c ≡ a → b ≡ a
@@ -35,12 +30,12 @@ same_second a b c h k e = omega (arith, ints)
 
 ahead_same : (pick : Pick) (end : End) (area : List Interval) (c : ℕ) → IsAheadBy pick end area c c
 ahead_same Place end area c = nearer_same end c
-ahead_same Width end area c = record { wide = le_same (width_at area c); tie = λ _. nearer_same end c }
+ahead_same Width end area c = record { wide = at_most_itself (width_at area c); tie = λ _. nearer_same end c }
 
 ahead_along : (pick : Pick) (end : End) (area : List Interval) (a b c : ℕ) → IsAheadBy pick end area a b → IsAheadBy pick end area b c → IsAheadBy pick end area a c
 ahead_along Place end area a b c h k = nearer_along end a b c h k
 ahead_along Width end area a b c h k = record {
-  wide = le_along (width_at area c) (width_at area b) (width_at area a) k.wide h.wide;
+  wide = at_most_trans (width_at area c) (width_at area b) (width_at area a) k.wide h.wide;
   tie = λ e. nearer_along end a b c
       (h.tie (same_first (width_at area a) (width_at area b) (width_at area c) k.wide h.wide e))
       (k.tie (same_second (width_at area a) (width_at area b) (width_at area c) k.wide h.wide e));
@@ -95,6 +90,17 @@ best_changes params area n c h open_ a = record {
   ahead = λ j k o. elim (cases_eq j n) [
     | inl e ↦ subst (λ m. IsAhead params area n m) (sym e) (ahead_same params.pick params.end area n)
     | inr ne ↦ ahead_along params.pick params.end area n c j a (h.ahead j (omega (arith, ne, k)) o)
+  ];
+}
+
+-- where each column is ahead of all those behind it, the best so far is the best of all
+pub first_wins : (params : Params) (area : List Interval) (n c : ℕ) → IsBestOf params area n c → IsFirstAhead params → n ≤ length area → IsBestOf params area (length area) c
+first_wins params area n c h first within = record {
+  below = omega (arith, h.below, within);
+  open_ = h.open_;
+  ahead = λ j k o. elim (cases_lt j n) [
+    | inl less ↦ h.ahead j less o
+    | inr more ↦ first area c j (omega (arith, h.below, more))
   ];
 }
 

@@ -46,6 +46,10 @@ IsAheadBy Width end area c k = IsWider end area c k
 abbrev pub IsAhead : Params → List Interval → ℕ → ℕ → Type 0
 IsAhead params area c k = IsAheadBy params.pick params.end area c k
 
+-- each column is ahead of all those behind it, whatever the box
+abbrev pub IsFirstAhead : Params → Type 0
+IsFirstAhead params = (area : List Interval) (c k : ℕ) → c ≤ k → IsAhead params area c k
+
 -- the value is half of the sum of the interval's low and high, rounded down
 pub record IsMiddle (side : Interval) (middle : ℤ) : Type 0 where
   pub low : (pos 2 *ℤ middle) ≤ℤ (side.low +ℤ side.high)

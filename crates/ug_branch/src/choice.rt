@@ -1,6 +1,6 @@
-ghost use Rattle.std.specs.Prelude.{◌≡◌, ◌↔◌, ℕ, ℤ, pos, ◌+ℤ◌, ◌*ℤ◌, ◌+◌, ◌^◌, ◌<◌, ◌≤◌, ◌≤ℤ◌, ◌<ℤ◌, length, IfSome, IsNone, IsTrue, MatchBool};
+ghost use Rattle.std.specs.Prelude.{◌≡◌, ◌↔◌, ℕ, ℤ, pos, ◌+ℤ◌, ◌*ℤ◌, ◌+◌, ◌^◌, ◌<◌, ◌≤◌, ◌≤ℤ◌, ◌<ℤ◌, length, IfSome, IsNone, IsTrue, MatchBool, true};
 ghost use Rattle.ug_rows.specs.Boxes.{interval_at};
-ghost use Rattle.ug_branch.specs.Choices.{width_of, IsOpen, HasNoneOpen, IsAhead, IsMiddle, IsBest, IsChosen, AreHalves};
+ghost use Rattle.ug_branch.specs.Choices.{width_of, IsOpen, HasNoneOpen, IsAhead, IsFirstAhead, IsMiddle, IsBest, IsChosen, AreHalves};
 
 use crate::params::{End, Params, Pick};
 use ug_rows::{IntBox, Interval};
@@ -60,15 +60,33 @@ fn middle(side: Interval) -> i32
     sum.div_euclid(2) as i32
 }
 
-// The open column that is ahead of all open ones, if there is one.
+// The open column that is ahead of all open ones, if there is one. It looks no further than it has
+// to: a box has thousands of columns, and most are fixed behind the first open one.
+#[tactic(auto, using(crate::proofs::ChoiceLemmas::first_wins))]
 fn best_column(params: Params, sides: &[Interval]) -> Option<usize>
     ensures { IsBest params sides.now (length sides.now) result }
 {
     let mut best = None;
     for c in 0..sides.len() {
         best = best_with(params, sides, best, c);
+        if best.is_some() && is_first_ahead(params) {
+            return best;
+        }
     }
     best
+}
+
+// Whether each column is ahead of all those behind it.
+fn is_first_ahead(params: Params) -> bool
+    ensures { result ≡ true → IsFirstAhead params }
+{
+    match params.pick {
+        Pick::Place => match params.end {
+            End::Lowest => true,
+            End::Highest => false,
+        },
+        Pick::Width => false,
+    }
 }
 
 // The best of the columns before, or column c.

@@ -8,6 +8,7 @@ use Rattle.std.proofs.lemmas.List.{append-nil}
 use Rattle.std.proofs.lemmas.Int.{ints}
 use Rattle.ug_rows.specs.declared.area.Interval.{Interval}
 use Rattle.ug_rows.specs.Boxes.{interval_at}
+use Rattle.ug_rows.proofs.Orders.{at_most_itself}
 use Rattle.ug_nodes.specs.declared.change.Change.{Change}
 use Rattle.ug_nodes.specs.Changes.{IsChangeOf, change_bounds}
 use Rattle.ug_records.specs.Spelling.{count_field, bound_field}
@@ -74,10 +75,6 @@ le_both (pos a) (negsuc b) h g = absurd (grind (arith, ints, h))
 le_both (negsuc a) (pos b) h g = absurd (grind (arith, ints, g))
 le_both (negsuc a) (negsuc b) h g = ap negsuc (grind (arith, ints, h, g))
 
-le_itself : (a : ℤ) → a ≤ℤ a
-le_itself (pos a) = grind (arith, ints)
-le_itself (negsuc a) = grind (arith, ints)
-
 change_tells : (root : List Interval) (least : ℕ) (c : Change) → is_change root least c ≡ true
     → (least ≤ c.column) × IsChangeOf root c
 unfolding is_change
@@ -95,9 +92,9 @@ change_tells root least c e =
           there = ltb-true _ _ place.1;
           other = λ (same : change_bounds c ≡ side).
               let whole : is_whole side c.low c.high ≡ true = and_true _ _
-              (le_told c.low side.low (subst (λ z. c.low ≤ℤ z) (λ i. (same i).low) (le_itself c.low)))
+              (le_told c.low side.low (subst (λ z. c.low ≤ℤ z) (λ i. (same i).low) (at_most_itself c.low)))
               (le_told side.high c.high (subst (λ z. z ≤ℤ c.high) (λ i. (same i).high)
-              (le_itself c.high))) in
+              (at_most_itself c.high))) in
               let none = not_true (is_whole side c.low c.high) n.1 in
               absurd (cc (whole, none));
         };

@@ -8,6 +8,7 @@ use Rattle.std.proofs.lemmas.Int.{ints, fits_signed_from_abs}
 use Rattle.std.proofs.lemmas.List.{length-map}
 use Rattle.ug_rows.specs.declared.area.Interval.{Interval}
 use Rattle.ug_rows.specs.Boxes.{interval_at, value_at}
+use Rattle.ug_rows.proofs.Orders.{at_most_trans}
 use Rattle.ug_problem.specs.declared.column.Column.{Column}
 use Rattle.ug_problem.specs.Instances.{Instance, IsColumn, bounds_of, root_of}
 use Rattle.ug_problem.specs.Limits.{IsProblem}
@@ -84,22 +85,14 @@ root_small (c ∷ columns) all (suc k) here =
 pub narrow : (p : Instance) → IsProblem p → length (root_of p) ≤ 10 ^ 4
 narrow p is = omega (arith, length-map p.columns bounds_of, is.counts.columns)
 
-le_through : (a b c : ℤ) → a ≤ℤ b → b ≤ℤ c → a ≤ℤ c
-le_through (pos a) (pos b) (pos c) h g = grind (arith, ints, h, g)
-le_through (pos a) (pos b) (negsuc c) h g = absurd (grind (arith, ints, g))
-le_through (pos a) (negsuc b) c h g = absurd (grind (arith, ints, h))
-le_through (negsuc a) b (pos c) h g = grind (arith, ints)
-le_through (negsuc a) (pos b) (negsuc c) h g = absurd (grind (arith, ints, g))
-le_through (negsuc a) (negsuc b) (negsuc c) h g = grind (arith, ints, h, g)
-
 next_change : (p : Instance) (least : ℕ) (c : Change) → IsProblem p → least ≤ c.column
     → IsChangeOf (root_of p) c → IsNextChange (root_of p) least c
 next_change p least c is behind of =
     let side = interval_at (root_of p) c.column in
     let small = root_small p.columns is.formed.columns c.column of.differs.there in
-    let le_trans-low : c.low ≤ℤ side.high = le_through c.low c.high side.high of.within.some
+    let le_trans-low : c.low ≤ℤ side.high = at_most_trans c.low c.high side.high of.within.some
     of.within.high in
-    let le_trans-high : side.low ≤ℤ c.high = le_through side.low c.low c.high of.within.low
+    let le_trans-high : side.low ≤ℤ c.high = at_most_trans side.low c.low c.high of.within.low
     of.within.some in
     record {
       fits = record {

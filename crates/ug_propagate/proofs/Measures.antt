@@ -1,6 +1,5 @@
 -- One term more in the sums of a row and the widest span.
 use Rattle.std.proofs.Common.{◌≡◌, subst, sym, ◌∙◌, ap, inl, inr, ℕ, ◌+◌, ◌<◌, ℤ, ◌+ℤ◌, ◌≤ℤ◌, List, length, take, arith}
-use Rattle.std.proofs.lemmas.Int.{ints}
 use Rattle.std.proofs.lemmas.Bool.{cases_eq}
 use Rattle.ug_rows.specs.declared.area.Interval.{Interval}
 use Rattle.ug_rows.specs.declared.row.Term.{Term}
@@ -9,6 +8,7 @@ use Rattle.ug_rows.specs.Boxes.{HasSmallEnds, interval_at}
 use Rattle.ug_rows.specs.Rows.{term_at}
 use Rattle.ug_rows.specs.Sums.{end_product, end_sum}
 use Rattle.ug_rows.proofs.EndLemmas.{end_sum_more}
+use Rattle.ug_rows.proofs.Orders.{at_most_trans}
 use Rattle.ug_propagate.specs.Steps.{span_of}
 
 pub sum_next : (e : Extreme) (ts : List Term) (i : ℕ) (area : List Interval) (sum next : ℤ) → i < length ts
@@ -16,9 +16,6 @@ pub sum_next : (e : Extreme) (ts : List Term) (i : ℕ) (area : List Interval) (
     → next ≡ end_sum e (take (i + 1) ts) area
 sum_next e ts i area sum next h s n =
     n ∙ ap (λ (a : ℤ). a +ℤ end_product e (term_at ts i) area) s ∙ sym (end_sum_more e ts i area h)
-
-at_most_trans : (a b c : ℤ) → a ≤ℤ b → b ≤ℤ c → a ≤ℤ c
-at_most_trans a b c h k = omega (arith, ints)
 
 pub widest_next : (ts : List Term) (i : ℕ) (area : List Interval) (widest next : ℤ)
     → ((k : ℕ) → k < i → span_of (term_at ts k) area ≤ℤ widest)

@@ -9,6 +9,7 @@ use Rattle.ug_rows.specs.declared.row.Term.{Term}
 use Rattle.ug_rows.specs.declared.sums.Extreme.TheVariants.{Least, Greatest}
 use Rattle.ug_rows.specs.Boxes.{interval_at}
 use Rattle.ug_rows.specs.Sums.{end_of, end_product}
+use Rattle.ug_rows.proofs.Orders.{at_most_trans}
 use Rattle.ug_propagate.specs.declared.measure.Room.{Room}
 use Rattle.ug_propagate.proofs.Machine.{times_difference}
 use Rattle.ug_propagate.specs.Shorts.{IsShort, IsShortRoom, IsShortSpan}
@@ -25,9 +26,6 @@ short_below n v small less = omega (arith, ints)
 -- a number of 64 bits
 pub short_same : (n short : ℤ) → short ≡ n → IsShort n short
 short_same n short same v small less = omega (arith, ints)
-
-at_most_trans : (a b c : ℤ) → a ≤ℤ b → b ≤ℤ c → a ≤ℤ c
-at_most_trans a b c h k = omega (arith, ints)
 
 at_most_named : (v most end : ℤ) → FitsSigned w64 most → FitsSigned w64 end → v ≤ℤ to_z w64 (of_z w64 most)
     → most ≤ℤ to_z w64 (of_z w64 end) → v ≤ℤ end

@@ -14,6 +14,7 @@ use Rattle.ug_rows.specs.Sums.{end_of, end_product, end_sum, least_sum, greatest
 use Rattle.ug_rows.proofs.EndBounds.{mul_neg, mul_pos}
 use Rattle.ug_rows.proofs.Products.{abs_sub}
 use Rattle.ug_rows.proofs.Replaced.{among_at, sum_small}
+use Rattle.ug_rows.proofs.Orders.{at_most_itself, at_most_trans}
 use Rattle.ug_propagate.specs.declared.look.Look.{Look}
 use Rattle.ug_propagate.specs.declared.measure.Room.{Room}
 use Rattle.ug_propagate.specs.declared.tight.Tight.{Tight}
@@ -28,9 +29,6 @@ use Rattle.ug_propagate.proofs.Quotients.{ceiling_within, ceiling_within_neg, fl
 use Rattle.ug_propagate.proofs.Rooms.{IsMoved, at_least_moved, at_most_moved, never_high, never_low, sum_stays}
 use Rattle.ug_propagate.proofs.Still.{no_high, no_low}
 
-at_most_trans : (a b c : ℤ) → a ≤ℤ b → b ≤ℤ c → a ≤ℤ c
-at_most_trans a b c h k = omega (arith, ints)
-
 -- what the interval of column j is in what is left
 abbrev HasHigh : ℕ → ℤ → Tight → Type 0
 HasHigh j q (Kept new) = (interval_at new j).high ≤ℤ q
@@ -40,9 +38,6 @@ abbrev HasLow : ℕ → ℤ → Tight → Type 0
 HasLow j q (Kept new) = q ≤ℤ (interval_at new j).low
 HasLow j q (Empty reason) = Unit {0}
 
-self_most : (a : ℤ) → a ≤ℤ a
-self_most a = omega (arith, ints)
-
 has_high : (reason : Reason) (j : ℕ) (q : ℤ) (area : List Interval) → j < length area → HasHigh j q (lower_high reason j q area)
 has_high reason j q area there =
     let P : Tight → Type 0 = HasHigh j q in
@@ -50,7 +45,7 @@ has_high reason j q area there =
     let at : interval_at (set area j side) j ≡ side = get_or-set_same area j side no_interval there in
     if_lt P q (interval_at area j).high _ _
     (λ tighter. if_lt P q (interval_at area j).low _ _ (λ none. tt)
-    (λ some. subst (λ (s : Interval). s.high ≤ℤ q) (sym at) (self_most q)))
+    (λ some. subst (λ (s : Interval). s.high ≤ℤ q) (sym at) (at_most_itself q)))
     (λ looser. looser)
 
 has_low : (reason : Reason) (j : ℕ) (q : ℤ) (area : List Interval) → j < length area → HasLow j q (raise_low reason j q area)
@@ -60,7 +55,7 @@ has_low reason j q area there =
     let at : interval_at (set area j side) j ≡ side = get_or-set_same area j side no_interval there in
     if_lt P (interval_at area j).low q _ _
     (λ tighter. if_lt P (interval_at area j).high q _ _ (λ none. tt)
-    (λ some. subst (λ (s : Interval). q ≤ℤ s.low) (sym at) (self_most q)))
+    (λ some. subst (λ (s : Interval). q ≤ℤ s.low) (sym at) (at_most_itself q)))
     (λ looser. looser)
 
 -- the greatest product of a term that was kept to at most s is at most s

@@ -12,6 +12,7 @@ use Rattle.ug_rows.specs.Rows.{term_at}
 use Rattle.ug_rows.specs.Sums.{end_of}
 use Rattle.ug_rows.proofs.EndBounds.{mul_neg, mul_pos}
 use Rattle.ug_rows.proofs.Replaced.{among_at, sum_without}
+use Rattle.ug_rows.proofs.Orders.{at_most_trans}
 use Rattle.ug_problem.specs.Instances.{Instance}
 use Rattle.ug_problem.specs.Limits.{IsProblem}
 use Rattle.ug_problem.specs.Standings.{terms_of}
@@ -83,9 +84,6 @@ span_inner (pos n) inner outer low high =
     spread _ _ _ _ (mul_pos n inner.high outer.high high) (mul_pos n outer.low inner.low low)
 span_inner (negsuc n) inner outer low high =
     spread _ _ _ _ (mul_neg n outer.low inner.low low) (mul_neg n inner.high outer.high high)
-
-at_most_trans : (a b c : ℤ) → a ≤ℤ b → b ≤ℤ c → a ≤ℤ c
-at_most_trans a b c h k = omega (arith, ints)
 
 -- so no span grows where one column is cut
 pub span_cut : (t : Term) (area : List Interval) (j : ℕ) (side : Interval) (most : ℤ) → j < length area

@@ -302,8 +302,8 @@ impl Working {
         self.trail.len()
     }
 
-    #[tactic(auto, using(crate::proofs::Stepping::step_change, crate::proofs::Stepping::step_same))]
     /// Narrows a column, and wakes its rows. After an error nothing was changed.
+    #[tactic(auto, using(crate::proofs::Stepping::step_change, crate::proofs::Stepping::step_same))]
     pub fn cut(&mut self, problem: &Problem, column: u32, side: Interval) -> Result<(), AllocError>
         requires there { column < length problem.now.columns }
         requires work { IsBox problem.now self.old }

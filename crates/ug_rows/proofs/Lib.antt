@@ -1,3 +1,4 @@
+pub mod Orders
 pub mod Products
 pub mod SumLemmas
 pub mod EndLemmas
