@@ -10,7 +10,8 @@ use Rattle.std.proofs.lemmas.List.Sums.{AllPass-from_list_all, list_all-from_All
 use Rattle.std.proofs.lemmas.Nat.{be_bytes_4, from_be_bytes-to_be_bytes_4}
 use Rattle.std.proofs.Math.Facts.{Fits-of_z}
 use Rattle.ug_problem.specs.Instances.{IsName, IsWordByte}
-use Rattle.ug_records.specs.Reading.{count_at, bound_at, number_of, number_at, small_at, is_word_byte, word_at, name_at, side_if, side_at, place_at, factor_at}
+use Rattle.ug_lines.specs.Words.{is_word_byte}
+use Rattle.ug_records.specs.Reading.{count_at, bound_at, number_of, number_at, small_at, word_at, name_at, side_if, side_at, place_at, factor_at}
 use Rattle.ug_records.specs.Spelling.{count_field, bound_field, number_field, name_field, side_field}
 use Rattle.ug_records.proofs.Bytes.{IsBytes, IsBytes-drop, IsBytes-take, IsBytes-rest, be_bytes_16, bytes_small_16, from_be_bytes_16}
 use Rattle.ug_records.proofs.Takes.{IsReader, Takes, ok_is, reworded, made, joined}

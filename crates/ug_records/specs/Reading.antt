@@ -1,9 +1,10 @@
 -- A record read from left to right, up to the first field that is cut short or breaks a rule.
-use Rattle.std.specs.Prelude.{ℕ, ℤ, zero, suc, ◌+◌, ◌-◌, ◌^◌, Bool, ◌&&◌, ◌||◌, List, [], ◌∷◌}
+use Rattle.std.specs.Prelude.{ℕ, ℤ, zero, suc, ◌+◌, ◌-◌, ◌^◌, Bool, ◌&&◌, List, [], ◌∷◌}
 use Rattle.std.specs.Prelude.{length, take, drop, Option, Some, None, Result, Ok, Err, nat_lt}
 use Rattle.std.specs.Prelude.{nat_le, ◌==◌, if◌then◌else◌, unsigned_abs, ◌≡◌}
 use Rattle.std.specs.List.{list_all}
 use Rattle.std.specs.Int.{w32, w128, from_be_bytes, cast_signed}
+use Rattle.ug_lines.specs.Words.{is_word_byte}
 use Rattle.ug_rows.specs.declared.row.Term.{Term}
 use Rattle.ug_rows.specs.declared.row.Objective.{Objective}
 use Rattle.ug_problem.specs.declared.column.Column.{Column}
@@ -69,10 +70,6 @@ unfoldable pub small_at : ℕ → ℕ → List ℕ → Reading ℕ
 small_at least most [] = Err 0
 small_at least most (b ∷ rest) =
     if nat_le least b && nat_le b most then Ok (b, rest) else Err (length (b ∷ rest))
-
--- a byte that a word may hold
-abbrev pub is_word_byte : ℕ → Bool
-is_word_byte b = (nat_le 33 b && nat_le b 126) || nat_le 128 b
 
 -- so many bytes of words
 unfoldable pub word_at : ℕ → List ℕ → Reading (List ℕ)

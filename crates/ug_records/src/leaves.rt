@@ -1,9 +1,11 @@
 ghost use Rattle.std.specs.Prelude.{◌≡◌, ◌≤◌, ◌^◌, length};
-ghost use Rattle.ug_records.specs.Reading.{Gives, count_at, bound_at, number_of, number_at, small_at, word_at, name_at, side_at, is_word_byte};
+ghost use Rattle.ug_records.specs.Reading.{Gives, count_at, bound_at, number_of, number_at, small_at, word_at, name_at, side_at};
+ghost use Rattle.ug_lines.specs.Words.{is_word_byte};
 ghost use Rattle.std.specs.List.{list_all};
 
 use crate::fault::Fault;
 use std::alloc::Global;
+use ug_lines::is_word_byte;
 use ug_lists::Text;
 
 /// A count of at most so many.
@@ -70,7 +72,7 @@ pub fn word_at(alloc: Global, bytes: &[u8], n: u8) -> Result<(Text, &[u8]), Faul
 fn are_word_bytes(word: &[u8]) -> bool
     ensures { result ≡ list_all is_word_byte word.now }
 {
-    word.iter().all(|b| (33 <= *b && *b <= 126) || 128 <= *b)
+    word.iter().all(|b| is_word_byte(*b))
 }
 
 /// A name: its length, and so many bytes of words.

@@ -1,5 +1,5 @@
 //! The record of a problem: the bytes in which it goes into a checkpoint or to another process.
-//! It stands on ug_problem, ug_rows and ug_lists.
+//! It stands on ug_problem, ug_rows and ug_lists, and on ug_lines for the bytes of a name.
 //! `to_record` gives the bytes that the spelling in specs/ names, field by field; each record is
 //! that of one problem. `from_record` reads every record back, and says of all other bytes where
 //! the first field stands that is cut short or breaks a rule. Its fields are lent to other formats.
