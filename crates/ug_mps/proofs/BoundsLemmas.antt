@@ -6,9 +6,10 @@ use Rattle.ug_drafts.specs.declared.bound.Amount.{Amount}
 use Rattle.ug_drafts.specs.declared.bound.Change.{Change}
 use Rattle.ug_drafts.specs.Bounds.{is_negative, upper_bound, lower_bound, IsChange}
 use Rattle.ug_drafts.proofs.BoundsLemmas.{If, upper_small, lower_small, sets_high, sets_low, sets_both_small}
-use Rattle.ug_mps.specs.BoundWords.{change_of}
+use Rattle.ug_mps.specs.BoundWords.{bare_change, change_of, numbered_change}
 
 change_small : (kind : BoundKind) (a : Option Amount) → If IsChange (change_of kind a)
+unfolding bare_change numbered_change
 change_small Upper (Some a) = sets_high (upper_bound a) (is_negative a) false (upper_small a)
 change_small IntegerUpper (Some a) = sets_high (upper_bound a) (is_negative a) true (upper_small a)
 change_small Lower (Some a) = sets_low (lower_bound a) false false (lower_small a)

@@ -27,7 +27,7 @@ amount_of word = if is_infinite_word word then Some (infinity (starts_with_minus
     else option_map amount (decimal_of word)
 
 -- what a bound with a number sets; nothing where the number is too wide
-abbrev pub numbered_change : BoundKind → Amount → Option Change
+unfoldable pub numbered_change : BoundKind → Amount → Option Change
 numbered_change Upper a = sets_upper false a
 numbered_change IntegerUpper a = sets_upper true a
 numbered_change Lower a = sets_lower false a
@@ -36,7 +36,7 @@ numbered_change Fixed a = sets_both a
 numbered_change _ a = None
 
 -- what a bound without a number sets
-abbrev pub bare_change : BoundKind → Option Change
+unfoldable pub bare_change : BoundKind → Option Change
 bare_change Free = Some (sets (Some Infinite) (Some Infinite) false false)
 bare_change MinusInfinity = Some (sets (Some Infinite) None false false)
 bare_change PlusInfinity = Some (sets None (Some Infinite) false false)

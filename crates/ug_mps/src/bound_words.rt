@@ -32,6 +32,7 @@ pub fn amount_of(word: &[u8]) -> Option<Amount>
 }
 
 // What a bound with a number sets; nothing where the number is too wide.
+#[tactic(auto, unfolding(crate::specs::BoundWords::numbered_change))]
 fn numbered_change(kind: BoundKind, amount: Amount) -> Option<Change>
     requires { IsAmount amount }
     ensures { result ≡ numbered_change kind amount }
@@ -47,6 +48,7 @@ fn numbered_change(kind: BoundKind, amount: Amount) -> Option<Change>
 }
 
 // What a bound without a number sets.
+#[tactic(auto, unfolding(crate::specs::BoundWords::bare_change))]
 fn bare_change(kind: BoundKind) -> Option<Change>
     ensures { result ≡ bare_change kind }
 {
