@@ -2,7 +2,7 @@ ghost use Rattle.std.specs.Prelude.{◌≡◌, [], ◌∷◌, IfOk, OnOk};
 ghost use Rattle.ug_rules.specs.Books.{AreSettings};
 ghost use Rattle.ug_desk.specs.Openings.{IsMade};
 
-use crate::square::square;
+use crate::problems::square;
 use std::alloc::{AllocError, Global};
 use std::sync::Wait;
 use std::thread::join;

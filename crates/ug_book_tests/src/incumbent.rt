@@ -1,49 +1,9 @@
-ghost use Rattle.std.specs.Prelude.{◌≡◌, [], ◌∷◌, pos, IfOk};
-
+use crate::problems::line;
 use std::alloc::{AllocError, Global};
 use std::test::Fail;
 use ug_incumbent::{Best, Offered};
-use ug_lists::{Items, Text};
-use ug_problem::{Broken, Column, Columns, Problem, ProblemError};
-use ug_rows::{Objective, Point, Term, Terms};
-
-fn one_column(alloc: Global) -> Result<Columns, AllocError>
-    ensures { IfOk result (λ columns. columns
-        ≡ record { name = 120 ∷ []; low = pos 2; high = pos 9 } ∷ []) }
-{
-    let name = Text::from_slice(alloc, b"x")?;
-    let mut columns = Items::new(alloc);
-    columns.push(Column {
-        name,
-        low: 2,
-        high: 9,
-    })?;
-    Ok(columns)
-}
-
-fn one_term(alloc: Global) -> Result<Terms, AllocError>
-    ensures { IfOk result (λ terms. terms ≡ record { column = 0; factor = pos 1 } ∷ []) }
-{
-    Terms::from_slice(
-        alloc,
-        &[Term {
-            column: 0,
-            factor: 1,
-        }],
-    )
-}
-
-// One column from 2 to 9, which is minimised.
-fn line(alloc: Global) -> Result<Problem, ProblemError> {
-    let columns = one_column(alloc)?;
-    let objective = Objective {
-        terms: one_term(alloc)?,
-        constant: 0,
-        maximise: false,
-        scale: 0,
-    };
-    Problem::new(alloc, columns, Items::new(alloc), objective)
-}
+use ug_problem::Broken;
+use ug_rows::Point;
 
 fn point(alloc: Global, values: &[i32]) -> Result<Point, AllocError> {
     Ok(Point::from_vec(Vec::from_slice(alloc, values)?))
@@ -52,7 +12,9 @@ fn point(alloc: Global, values: &[i32]) -> Result<Point, AllocError> {
 #[test]
 fn takes_lesser_values_alone(rt: HostRuntime) -> Result<(), Fail> {
     let alloc = rt.alloc();
-    let problem = line(alloc)?;
+    let Ok(problem) = line(alloc) else {
+        panic!(rt; "no problem");
+    };
     let mut best = Best::none();
     assert!(rt; best.point().is_none() && best.cutoff(&problem, 0).is_none());
     let too_long = best.offer(&problem, point(alloc, &[5, 5])?);

@@ -22,6 +22,8 @@ mod orders;
 #[cfg(test)]
 mod primitives;
 #[cfg(test)]
+mod problems;
+#[cfg(test)]
 mod races;
 #[cfg(test)]
 mod ramp;
@@ -29,9 +31,5 @@ mod ramp;
 mod ranks;
 #[cfg(test)]
 mod schedules;
-#[cfg(test)]
-mod square;
-#[cfg(test)]
-mod world_problems;
 #[cfg(test)]
 mod worlds;

@@ -5,8 +5,8 @@ ghost use Rattle.ug_rules.specs.Books.{AreSettings};
 ghost use Rattle.ug_rules.specs.Hearing.{IsHearable};
 ghost use Rattle.ug_world.specs.Events.{IsEvent};
 
+use crate::problems::{cube, square};
 use crate::schedules::SCHEDULES;
-use crate::world_problems::{cube, square};
 use std::alloc::{AllocError, Global};
 use std::test::Fail;
 use ug_book::{Book, Boxes};

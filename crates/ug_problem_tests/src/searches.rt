@@ -1,222 +1,118 @@
-//! Some hundred small problems, each searched by a task and by the slow search over whole boxes: the same, step by step.
+//! Some hundred small problems, each searched by a task and by the slow search over whole boxes:
+//! the same, step by step.
 
-ghost use Rattle.std.specs.Prelude.{◌≡◌, ◌≢◌, ◌<◌, ◌≤◌, ◌≤ℤ◌, ◌*◌, ◌^◌, ◌+◌, pos, length, All, IfOk, unsigned_abs};
 ghost use Rattle.ug_problem.specs.Better.{IsGap};
-ghost use Rattle.ug_problem.specs.Instances.{AreTerms, IsColumn, IsRow};
 
 use crate::whole::{Whole, hand, lower, lowest, step};
 use std::alloc::{AllocError, Global};
 use ug_base::{Step, Task};
 use ug_branch::Params;
-use ug_lists::{Items, Text};
+use ug_mps::read;
 use ug_nodes::Ticket;
-use ug_problem::{Column, Columns, NamedRow, NamedRows, Problem, ProblemError, Shared};
-use ug_rows::{IntBox, Objective, Row, Term, Terms, below};
+use ug_problem::{Problem, Shared};
+use ug_rows::{IntBox, below};
 
-// The number after this one.
-fn next(number: u32) -> u32
-    requires { number < 2147483647 }
-    ensures { result < 2147483647 }
-{
-    (16807 * u64::from(number) % 2_147_483_647) as u32
-}
+const ROWS: [&str; 3] = ["P", "Q", "R"];
 
 // The next draw of up to so many numbers.
-fn drawn(state: &mut u32, count: u32) -> u32
-    requires state { state.old < 2147483647 }
-    requires count { 0 < count }
-    ensures state { state.new < 2147483647 }
-    ensures value { result < count }
-{
-    *state = next(*state);
-    (*state / 8) % count
+fn drawn(state: &mut u64, count: u32) -> u32 {
+    *state = state
+        .wrapping_mul(6_364_136_223_846_793_005)
+        .wrapping_add(1_442_695_040_888_963_407);
+    ((*state >> 33) as u32).checked_rem(count).unwrap_or(0)
 }
 
-// A factor from -4 to 5 that is not 0.
-fn factor(state: &mut u32) -> i128
-    requires state { state.old < 2147483647 }
-    ensures state { state.new < 2147483647 }
-    ensures value { result ≢ pos 0 }
-{
-    let drawn = i128::from(drawn(state, 9)) - 4;
-    if drawn == 0 { 5 } else { drawn }
+// A draw of so many numbers, the first of which is -4.
+fn signed(state: &mut u64, count: u32) -> i64 {
+    i64::from(drawn(state, count)) - 4
 }
 
-fn two(alloc: Global, first: u32, second: u32, x: i128, y: i128) -> Result<Terms, AllocError>
-    requires first { first < second }
-    requires second { second < 3 }
-    requires x { x ≢ pos 0 }
-    requires y { y ≢ pos 0 }
-    ensures { IfOk result (AreTerms 3) }
-{
-    Terms::from_slice(
-        alloc,
-        &[
-            Term {
-                column: first,
-                factor: x,
-            },
-            Term {
-                column: second,
-                factor: y,
-            },
-        ],
-    )
+/// What a text says of its rows, and of its columns, section by section.
+#[derive(Drop)]
+struct Sections {
+    rows: String,
+    columns: String,
+    sides: String,
+    ranges: String,
+    bounds: String,
 }
 
-fn three(alloc: Global, x: i128, y: i128, w: i128) -> Result<Terms, AllocError>
-    requires x { x ≢ pos 0 }
-    requires y { y ≢ pos 0 }
-    requires w { w ≢ pos 0 }
-    ensures { IfOk result (AreTerms 3) }
-{
-    Terms::from_slice(
-        alloc,
-        &[
-            Term {
-                column: 0,
-                factor: x,
-            },
-            Term {
-                column: 1,
-                factor: y,
-            },
-            Term {
-                column: 2,
-                factor: w,
-            },
-        ],
-    )
-}
+impl Sections {
+    fn new(alloc: Global) -> Result<Sections, AllocError> {
+        Ok(Sections {
+            rows: String::from_str(alloc, "ROWS\n N Z\n")?,
+            columns: String::from_str(alloc, "COLUMNS\n M 'MARKER' 'INTORG'\n")?,
+            sides: String::from_str(alloc, "RHS\n Z -2\n")?,
+            ranges: String::from_str(alloc, "RANGES\n")?,
+            bounds: String::from_str(alloc, "BOUNDS\n")?,
+        })
+    }
 
-// Terms over two columns, or over all three.
-fn terms(alloc: Global, state: &mut u32) -> Result<Terms, AllocError>
-    requires state { state.old < 2147483647 }
-    ensures state { state.new < 2147483647 }
-    ensures terms { IfOk result (AreTerms 3) }
-{
-    let x = factor(state);
-    let y = factor(state);
-    let w = factor(state);
-    match drawn(state, 5) {
-        0 => two(alloc, 0, 1, x, y),
-        1 => two(alloc, 1, 2, x, y),
-        2 => two(alloc, 0, 2, x, y),
-        _ => three(alloc, x, y, w),
+    // A row with one side or two, or an equation.
+    fn add_row(&mut self, alloc: Global, row: &str, state: &mut u64) -> Result<(), AllocError> {
+        let side = signed(state, 20);
+        let drawn = drawn(state, 4);
+        let kind = match drawn {
+            0 => "L",
+            1 => "E",
+            _ => "G",
+        };
+        self.rows.push_str(&format!(in alloc; " {kind} {row}\n")?)?;
+        self.sides.push_str(&format!(in alloc; " {row} {side}\n")?)?;
+        if drawn == 2 {
+            self.ranges.push_str(&format!(in alloc; " {row} 3\n")?)?;
+        }
+        Ok(())
+    }
+
+    // A column from -1 on, in the objective and in most of the rows.
+    fn add_column(
+        &mut self,
+        alloc: Global,
+        column: &str,
+        state: &mut u64,
+    ) -> Result<(), AllocError> {
+        let factor = signed(state, 10);
+        self.columns
+            .push_str(&format!(in alloc; " {column} Z {factor}\n")?)?;
+        for row in ROWS {
+            let factor = signed(state, 10);
+            if drawn(state, 6) > 0 {
+                self.columns
+                    .push_str(&format!(in alloc; " {column} {row} {factor}\n")?)?;
+            }
+        }
+        let high = drawn(state, 9);
+        self.bounds.push_str(&format!(in alloc; " LO D {column} -1\n UP D {column} {high}\n")?)?;
+        Ok(())
+    }
+
+    // All of them.
+    fn text(&self, alloc: Global) -> Result<String, AllocError> {
+        format!(in alloc;
+            "{}{}{}{}{}ENDATA\n",
+            self.rows, self.columns, self.sides, self.ranges, self.bounds
+        )
     }
 }
 
-// A row with one side or two, or an equation.
-fn row(alloc: Global, state: &mut u32) -> Result<NamedRow, AllocError>
-    requires state { state.old < 2147483647 }
-    ensures state { state.new < 2147483647 }
-    ensures row { IfOk result (IsRow 3) }
-{
-    let terms = terms(alloc, state)?;
-    let low = i128::from(drawn(state, 20)) - 4;
-    let (low, high) = match drawn(state, 4) {
-        0 => (Some(low), None),
-        1 => (None, Some(low)),
-        2 => (Some(low), Some(low)),
-        _ => (Some(low), Some(low + 3)),
-    };
-    Ok(NamedRow {
-        name: Text::from_slice(alloc, b"r")?,
-        row: Row { terms, low, high },
-    })
-}
-
-fn column(alloc: Global, high: i32) -> Result<Column, AllocError>
-    requires { unsigned_abs high ≤ 10 ^ 9 }
-    ensures { IfOk result IsColumn }
-{
-    Ok(Column {
-        name: Text::from_slice(alloc, b"x")?,
-        low: -1,
-        high,
-    })
-}
-
-// The columns, and one more.
-fn add_column(alloc: Global, columns: Columns, state: &mut u32) -> Result<Columns, AllocError>
-    requires columns { All IsColumn columns }
-    requires state { state.old < 2147483647 }
-    ensures state { state.new < 2147483647 }
-    ensures width { IfOk result (λ longer. length longer ≡ length columns + 1) }
-    ensures each { IfOk result (All IsColumn) }
-{
-    let high = drawn(state, 9) as i32;
-    let mut columns = columns;
-    columns.push(column(alloc, high)?)?;
-    Ok(columns)
-}
-
-// Three columns.
-fn columns(alloc: Global, state: &mut u32) -> Result<Columns, AllocError>
-    requires state { state.old < 2147483647 }
-    ensures state { state.new < 2147483647 }
-    ensures width { IfOk result (λ columns. length columns ≡ 3) }
-    ensures each { IfOk result (All IsColumn) }
-{
-    let first = add_column(alloc, Items::new(alloc), state)?;
-    let second = add_column(alloc, first, state)?;
-    add_column(alloc, second, state)
-}
-
-// Three rows.
-fn rows(alloc: Global, state: &mut u32) -> Result<NamedRows, AllocError>
-    requires state { state.old < 2147483647 }
-    ensures state { state.new < 2147483647 }
-    ensures rows { IfOk result (All (IsRow 3)) }
-{
-    let first = row(alloc, state)?;
-    let second = row(alloc, state)?;
-    let third = row(alloc, state)?;
-    let mut rows = Items::new(alloc);
-    rows.push(first)?;
-    rows.push(second)?;
-    rows.push(third)?;
-    Ok(rows)
-}
-
-fn objective(alloc: Global, state: &mut u32) -> Result<Objective, AllocError>
-    requires state { state.old < 2147483647 }
-    ensures state { state.new < 2147483647 }
-    ensures terms { IfOk result (λ objective. AreTerms 3 objective.terms) }
-    ensures scale { IfOk result (λ objective. objective.scale ≤ 60) }
-{
-    Ok(Objective {
-        terms: terms(alloc, state)?,
-        constant: 2,
-        maximise: false,
-        scale: 0,
-    })
-}
-
-fn made(
-    alloc: Global,
-    columns: Columns,
-    rows: NamedRows,
-    objective: Objective,
-) -> Result<Problem, ProblemError>
-    requires width { length columns ≡ 3 }
-    requires columns { All IsColumn columns }
-    requires rows { All (IsRow 3) rows }
-    requires terms { AreTerms 3 objective.terms }
-    requires scale { objective.scale ≤ 60 }
-{
-    Problem::new(alloc, columns, rows, objective)
+// The text of a number: three rows over three columns.
+fn text(alloc: Global, number: u32) -> Result<String, AllocError> {
+    let mut state = u64::from(number);
+    let mut sections = Sections::new(alloc)?;
+    for row in ROWS {
+        sections.add_row(alloc, row, &mut state)?;
+    }
+    for column in ["X", "Y", "W"] {
+        sections.add_column(alloc, column, &mut state)?;
+    }
+    sections.text(alloc)
 }
 
 // The problem of a number.
-fn problem(alloc: Global, number: u32) -> Result<Problem, ProblemError>
-    requires { number < 2147483647 }
-{
-    let mut state = number;
-    let columns = columns(alloc, &mut state)?;
-    let rows = rows(alloc, &mut state)?;
-    let objective = objective(alloc, &mut state)?;
-    made(alloc, columns, rows, objective)
+fn problem(alloc: Global, number: u32) -> Option<Problem> {
+    let text = text(alloc, number).ok()?;
+    read(alloc, text.as_bytes(), None).ok()
 }
 
 // The task of the whole problem.
@@ -354,10 +250,9 @@ fn steps_of(
 
 // The same of the problem of a number.
 fn steps_at(alloc: Global, number: u32, params: Params, gap: i128, between: Between) -> Option<u32>
-    requires number { number < 2147483647 }
-    requires gap { IsGap gap }
+    requires { IsGap gap }
 {
-    let problem = problem(alloc, number).ok()?;
+    let problem = problem(alloc, number)?;
     let own = problem.copy().ok()?;
     steps_of(alloc, own, &problem, params, gap, between)
 }

@@ -1,0 +1,64 @@
+//! The small problems of these tests, each read from its text.
+
+use std::alloc::Global;
+use ug_drafts::MpsError;
+use ug_mps::read;
+use ug_problem::Problem;
+
+const SQUARE: &[u8] = b"ROWS
+ N Z
+ G r
+COLUMNS
+ M 'MARKER' 'INTORG'
+ x Z 1 r 1
+ y Z 1 r 1
+RHS
+ r 5
+BOUNDS
+ UP x 7
+ UP y 7
+ENDATA
+";
+
+const CUBE: &[u8] = b"ROWS
+ N Z
+ G r
+COLUMNS
+ M 'MARKER' 'INTORG'
+ x Z 1 r 1
+ y Z 1 r 1
+ z Z 1 r 1
+RHS
+ r 5
+BOUNDS
+ UP x 3
+ UP y 3
+ UP z 3
+ENDATA
+";
+
+const LINE: &[u8] = b"ROWS
+ N Z
+COLUMNS
+ M 'MARKER' 'INTORG'
+ x Z 1
+BOUNDS
+ LO x 2
+ UP x 9
+ENDATA
+";
+
+/// Two columns from 0 to 7, whose sum is at least 5 and minimised.
+pub fn square(alloc: Global) -> Result<Problem, MpsError> {
+    read(alloc, SQUARE, None)
+}
+
+/// Three columns from 0 to 3, whose sum is at least 5 and minimised.
+pub fn cube(alloc: Global) -> Result<Problem, MpsError> {
+    read(alloc, CUBE, None)
+}
+
+/// One column from 2 to 9, which is minimised.
+pub fn line(alloc: Global) -> Result<Problem, MpsError> {
+    read(alloc, LINE, None)
+}
