@@ -22,9 +22,19 @@ fn drawn(state: &mut u64, count: u32) -> u32 {
     ((*state >> 33) as u32).checked_rem(count).unwrap_or(0)
 }
 
-// A draw of so many numbers, the first of which is -4.
-fn signed(state: &mut u64, count: u32) -> i64 {
-    i64::from(drawn(state, count)) - 4
+// A draw of so many numbers from the least on, as text.
+fn spelled(alloc: Global, state: &mut u64, least: i32, count: u32) -> Result<String, AllocError> {
+    let number = i64::from(least) + i64::from(drawn(state, count));
+    format!(in alloc; "{number}")
+}
+
+// Appends the words of a line, each behind a blank.
+fn push_line(text: &mut String, words: &[&str]) -> Result<(), AllocError> {
+    for word in words {
+        text.push_str(" ")?;
+        text.push_str(word)?;
+    }
+    text.push_str("\n")
 }
 
 /// What a text says of its rows, and of its columns, section by section.
@@ -48,21 +58,35 @@ impl Sections {
         })
     }
 
-    // A row with one side or two, or an equation.
-    fn add_row(&mut self, alloc: Global, row: &str, state: &mut u64) -> Result<(), AllocError> {
-        let side = signed(state, 20);
-        let drawn = drawn(state, 4);
-        let kind = match drawn {
-            0 => "L",
-            1 => "E",
-            _ => "G",
-        };
-        self.rows.push_str(&format!(in alloc; " {kind} {row}\n")?)?;
-        self.sides.push_str(&format!(in alloc; " {row} {side}\n")?)?;
-        if drawn == 2 {
-            self.ranges.push_str(&format!(in alloc; " {row} 3\n")?)?;
+    // A row of this type, or one with two sides.
+    fn push_row(&mut self, row: &str, drawn: u32) -> Result<(), AllocError> {
+        match drawn {
+            0 => push_line(&mut self.rows, &["L", row]),
+            1 => push_line(&mut self.rows, &["E", row]),
+            2 => push_line(&mut self.rows, &["G", row]),
+            _ => {
+                push_line(&mut self.rows, &["G", row])?;
+                push_line(&mut self.ranges, &[row, "3"])
+            }
         }
-        Ok(())
+    }
+
+    fn add_row(&mut self, alloc: Global, row: &str, state: &mut u64) -> Result<(), AllocError> {
+        let side = spelled(alloc, state, -4, 20)?;
+        push_line(&mut self.sides, &[row, &side])?;
+        self.push_row(row, drawn(state, 4))
+    }
+
+    // A factor of the column in the row.
+    fn add_factor(
+        &mut self,
+        alloc: Global,
+        column: &str,
+        row: &str,
+        state: &mut u64,
+    ) -> Result<(), AllocError> {
+        let factor = spelled(alloc, state, -4, 10)?;
+        push_line(&mut self.columns, &[column, row, &factor])
     }
 
     // A column from -1 on, in the objective and in most of the rows.
@@ -72,27 +96,25 @@ impl Sections {
         column: &str,
         state: &mut u64,
     ) -> Result<(), AllocError> {
-        let factor = signed(state, 10);
-        self.columns
-            .push_str(&format!(in alloc; " {column} Z {factor}\n")?)?;
+        self.add_factor(alloc, column, "Z", state)?;
         for row in ROWS {
-            let factor = signed(state, 10);
             if drawn(state, 6) > 0 {
-                self.columns
-                    .push_str(&format!(in alloc; " {column} {row} {factor}\n")?)?;
+                self.add_factor(alloc, column, row, state)?;
             }
         }
-        let high = drawn(state, 9);
-        self.bounds.push_str(&format!(in alloc; " LO D {column} -1\n UP D {column} {high}\n")?)?;
-        Ok(())
+        let high = spelled(alloc, state, 0, 9)?;
+        push_line(&mut self.bounds, &["LO", "D", column, "-1"])?;
+        push_line(&mut self.bounds, &["UP", "D", column, &high])
     }
 
     // All of them.
-    fn text(&self, alloc: Global) -> Result<String, AllocError> {
-        format!(in alloc;
-            "{}{}{}{}{}ENDATA\n",
-            self.rows, self.columns, self.sides, self.ranges, self.bounds
-        )
+    fn text(self) -> Result<String, AllocError> {
+        let mut text = self.rows;
+        for section in [&self.columns, &self.sides, &self.ranges, &self.bounds] {
+            text.push_str(section)?;
+        }
+        text.push_str("ENDATA\n")?;
+        Ok(text)
     }
 }
 
@@ -106,7 +128,7 @@ fn text(alloc: Global, number: u32) -> Result<String, AllocError> {
     for column in ["X", "Y", "W"] {
         sections.add_column(alloc, column, &mut state)?;
     }
-    sections.text(alloc)
+    sections.text()
 }
 
 // The problem of a number.
