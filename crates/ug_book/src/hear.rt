@@ -99,7 +99,8 @@ fn end_by(
     requires room { HasRoom (parts_of pool.old ranks.old raced.old orders.old) }
     ensures ended { (b : BookState)
         → with_parts b (parts_of pool.new ranks.new raced.new orders.new)
-        ≡ killed_under answer rank (with_parts b (parts_of pool.old ranks.old raced.old orders.old)) }
+        ≡ killed_under answer rank
+        (with_parts b (parts_of pool.old ranks.old raced.old orders.old)) }
     ensures room { HasRoom (parts_of pool.new ranks.new raced.new orders.new) }
 {
     if is_deadly(answer) {

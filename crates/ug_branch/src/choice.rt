@@ -60,8 +60,9 @@ fn middle(side: Interval) -> i32
     sum.div_euclid(2) as i32
 }
 
-// The open column that is ahead of all open ones, if there is one. It looks no further than it has
-// to: a box has thousands of columns, and most are fixed behind the first open one.
+// The open column that is ahead of all open ones, if there is one. Where the place decides and the
+// lowest wins it is the first open one, and the columns behind it, thousands in a wide box, are not
+// looked at.
 #[tactic(auto, using(crate::proofs::ChoiceLemmas::first_wins))]
 fn best_column(params: Params, sides: &[Interval]) -> Option<usize>
     ensures { IsBest params sides.now (length sides.now) result }

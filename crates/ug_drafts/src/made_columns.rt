@@ -63,7 +63,8 @@ fn bound_or(infinite: i32, bound: Bound) -> i32
 fn column_of(boxed: Option<u32>, name: Text, draft: ColumnDraft) -> Result<Column, MpsFault>
     requires { IsBox boxed }
     ensures { MatchResult result
-        (λ column. (column_fault_kept boxed (name, draft) ≡ None) × (column ≡ made_column boxed (name, draft)))
+        (λ column. (column_fault_kept boxed (name, draft) ≡ None)
+        × (column ≡ made_column boxed (name, draft)))
         (λ fault. column_fault_kept boxed (name, draft) ≡ Some fault) }
 {
     if let Some(kind) = column_kind(boxed, &draft) {
@@ -90,7 +91,8 @@ pub fn make_columns(
 ) -> Result<Vec<Column>, MpsError>
     requires { IsBox boxed }
     ensures { let ps = zip names.items drafts.items in MatchResult result
-        (λ columns. (first_fault (column_fault_kept boxed) ps ≡ None) × (columns.items ≡ map (made_column boxed) ps))
+        (λ columns. (first_fault (column_fault_kept boxed) ps ≡ None)
+        × (columns.items ≡ map (made_column boxed) ps))
         (IsOf (first_fault (column_fault_kept boxed) ps)) }
 {
     let mut columns = Vec::with_capacity(alloc, drafts.len())?;

@@ -44,7 +44,8 @@ impl RowsAndObjective {
     ) -> Result<(), MpsError>
         requires { HasDecimals draft }
         ensures { MatchResult result
-            (λ _. (row_fault_kept (name, draft) ≡ None) × (self.new ≡ and_row maximise self.old (name, draft)))
+            (λ _. (row_fault_kept (name, draft) ≡ None)
+            × (self.new ≡ and_row maximise self.old (name, draft)))
             (IsOf (row_fault_kept (name, draft))) }
     {
         if draft.role.is_ignored() {

@@ -54,7 +54,8 @@ fn one<'a>(row: &'a [u8], number: &'a [u8]) -> NamedWords<'a>
 // Two pairs.
 fn two<'a>(row: &'a [u8], number: &'a [u8], other: &'a [u8], more: &'a [u8]) -> NamedWords<'a>
     ensures { pairs_shaped result
-        ≡ record { row = row.now; number = number.now } ∷ record { row = other.now; number = more.now } ∷ [] }
+        ≡ record { row = row.now; number = number.now }
+        ∷ record { row = other.now; number = more.now } ∷ [] }
 {
     NamedWords {
         first: NamedWord { row, number },

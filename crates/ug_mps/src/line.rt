@@ -59,7 +59,9 @@ fn is_bounds(section: Option<Section>) -> bool
 
 // What is at fault with the type of a bound, where the section is BOUNDS.
 fn bad_type(section: Option<Section>, word: &[u8]) -> Option<Kind>
-    ensures { (more : List (List ℕ)) → or_fault (semi_continuous section (word.now ∷ more)) (bad_bound_kind section (word.now ∷ more))
+    ensures { (more : List (List ℕ))
+        → or_fault (semi_continuous section (word.now ∷ more))
+        (bad_bound_kind section (word.now ∷ more))
         ≡ option_map (as_fault word.now) result }
 {
     if !is_bounds(section) {

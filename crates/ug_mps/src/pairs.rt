@@ -56,9 +56,12 @@ fn numbered<'a>(pair: &NamedWord<'a>) -> Option<NamedNumber<'a>>
 pub fn numbers_of<'a>(pairs: &NamedWords<'a>) -> Result<NamedNumbers<'a>, &'a [u8]>
     requires { AreShortNumbers (pairs_shaped pairs.now) }
     ensures value { MatchResult result
-        (λ read. (find (λ word. is_none (decimal_of word)) (numbers_in (pairs_shaped pairs.now)) ≡ None)
-        × ((pairs_read (pairs_shaped pairs.now) ≡ Some (pairs_said read)) × All IsNumbered (pairs_said read)))
-        (λ word. find (λ word. is_none (decimal_of word)) (numbers_in (pairs_shaped pairs.now)) ≡ Some word.now) }
+        (λ read.
+        (find (λ word. is_none (decimal_of word)) (numbers_in (pairs_shaped pairs.now)) ≡ None)
+        × ((pairs_read (pairs_shaped pairs.now) ≡ Some (pairs_said read))
+        × All IsNumbered (pairs_said read)))
+        (λ word. find (λ word. is_none (decimal_of word)) (numbers_in (pairs_shaped pairs.now))
+        ≡ Some word.now) }
 {
     let Some(first) = numbered(&pairs.first) else {
         return Err(pairs.first.number);

@@ -44,8 +44,10 @@ impl Model for Problem {
     ghost view = { λ p. record { columns = p.columns; rows = p.rows; objective = p.objective } };
 
     ghost invariant = { λ p. IsProblem (record { columns = p.columns; rows = p.rows; objective = p.objective })
-        × (p.root ≡ root_of (record { columns = p.columns; rows = p.rows; objective = p.objective }))
-        × AreKept (record { columns = p.columns; rows = p.rows; objective = p.objective }) p.standings };
+        × (p.root
+        ≡ root_of (record { columns = p.columns; rows = p.rows; objective = p.objective }))
+        × AreKept (record { columns = p.columns; rows = p.rows; objective = p.objective })
+        p.standings };
 }
 
 // The bounds of each column.

@@ -43,7 +43,12 @@ impl Model for Working {
 
     ghost Value = { WorkState };
 
-    ghost view = { λ w. record { sums = w.sums; reach = w.reach.items; awake = w.awake.items; trail = w.trail.items } };
+    ghost view = { λ w. record {
+      sums = w.sums;
+      reach = w.reach.items;
+      awake = w.awake.items;
+      trail = w.trail.items;
+    } };
 }
 
 // Wakes the rows of these standings.

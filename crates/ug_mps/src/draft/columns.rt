@@ -31,7 +31,8 @@ impl Model for Columns {
 
     ghost view = { λ columns. record { names = columns.names; drafts = columns.drafts.items } };
 
-    ghost invariant = { λ columns. (length columns.drafts.items ≡ length columns.names) × (length columns.names ≤ 10000) };
+    ghost invariant = { λ columns. (length columns.drafts.items ≡ length columns.names)
+        × (length columns.names ≤ 10000) };
 }
 
 impl Columns {

@@ -44,7 +44,8 @@ impl Draft {
         requires ended { (h : List Entry) × Drafts (header Endata ∷ h) self }
         requires boxed { IsBox boxed }
         ensures { (h : List Entry) → Drafts (header Endata ∷ h) self
-            → MatchResult result (λ p. (end_fault boxed h ≡ None) × (p ≡ stated boxed h)) (IsEndFault boxed h) }
+            → MatchResult result
+            (λ p. (end_fault boxed h ≡ None) × (p ≡ stated boxed h)) (IsEndFault boxed h) }
     {
         let Draft {
             alloc,

@@ -137,7 +137,8 @@ impl Rows {
         ensures value { MatchResult result
             (λ places. (first_missing self.now.names (rows_in (pairs_shaped pairs.now)) ≡ None)
             × AreAt self.now.names (rows_in (pairs_shaped pairs.now)) (places_in places))
-            (λ word. first_missing self.now.names (rows_in (pairs_shaped pairs.now)) ≡ Some word.now) }
+            (λ word. first_missing self.now.names (rows_in (pairs_shaped pairs.now))
+            ≡ Some word.now) }
     {
         let Some(first) = self.find(pairs.first.row) else {
             return Err(pairs.first.row);
