@@ -1,6 +1,7 @@
 use std::alloc::{AllocError, Global};
 use std::test::Fail;
 use ug_collect::{Member, Wanted, wanted};
+use ug_expect::{holds, same};
 
 // Three members, of which these are collecting.
 fn members(collecting: [bool; 3]) -> [Member; 3] {
@@ -44,12 +45,12 @@ fn wants_nothing(alloc: Global, len: u64, collecting: [bool; 3]) -> Result<bool,
 #[test]
 fn asks_below_the_low_mark_and_stops_at_the_high_one(rt: HostRuntime) -> Result<(), Fail> {
     let alloc = rt.alloc();
-    assert_eq!(rt; asks(alloc, 1, [false, false, false])?, Some((1, 2)));
-    assert_eq!(rt; asks(alloc, 0, [false, true, false])?, Some((0, 3)));
-    assert!(rt; stops(alloc, 3, [false, true, false], &[1])?);
-    assert!(rt; stops(alloc, 4, [true, false, true], &[0, 2])?);
-    assert!(rt; wants_nothing(alloc, 3, [false, false, false])?);
-    assert!(rt; wants_nothing(alloc, 2, [true, true, true])?);
-    assert!(rt; wants_nothing(alloc, 1, [true, true, false])?);
+    same(&rt, &asks(alloc, 1, [false, false, false])?, &Some((1, 2)));
+    same(&rt, &asks(alloc, 0, [false, true, false])?, &Some((0, 3)));
+    holds(&rt, stops(alloc, 3, [false, true, false], &[1])?);
+    holds(&rt, stops(alloc, 4, [true, false, true], &[0, 2])?);
+    holds(&rt, wants_nothing(alloc, 3, [false, false, false])?);
+    holds(&rt, wants_nothing(alloc, 2, [true, true, true])?);
+    holds(&rt, wants_nothing(alloc, 1, [true, true, false])?);
     Ok(())
 }

@@ -9,6 +9,7 @@ use std::thread::join;
 use ug_base::{Step, Task};
 use ug_book::{Answered, Book, Boxes};
 use ug_desk::{Desk, Pass, Took};
+use ug_expect::{holds, same};
 use ug_nodes::{Changes, Ticket};
 use ug_problem::Shared;
 use ug_rows::{Interval, Point};
@@ -47,13 +48,27 @@ fn book(alloc: Global, problem: Shared) -> Result<Book, AllocError>
     Book::new(alloc, problem, 1, None, boxes, settings())
 }
 
-// A desk over the square, and its two passes.
+// A desk over the square, and its passes.
 fn desk(alloc: Global) -> Option<(Desk, Vec<Pass>)> {
     let problem = Shared::own(square(alloc).ok()?);
     match book(alloc, problem) {
         Ok(book) => Desk::new(alloc, book).ok(),
         Err(_) => None,
     }
+}
+
+// The first pass and the second.
+fn two(mut passes: Vec<Pass>) -> Option<(Pass, Pass)> {
+    let second = passes.pop()?;
+    let first = passes.pop()?;
+    Some((first, second))
+}
+
+// A desk over the square, and its two passes.
+fn open(alloc: Global) -> Option<(Desk, Pass, Pass)> {
+    let (desk, passes) = desk(alloc)?;
+    let (first, second) = two(passes)?;
+    Some((desk, first, second))
 }
 
 // The work that a pass takes.
@@ -115,22 +130,31 @@ fn hands_when_asked<R: Wait>(
         && hands(rt, desk, first, task)
 }
 
+// Whether the work that a pass takes is of the upper half.
+fn takes_upper_half<R: Wait>(rt: &R, desk: &Desk, pass: &mut Pass) -> bool {
+    match work(rt, desk, pass) {
+        Some(given) => is_upper_half(&given),
+        None => false,
+    }
+}
+
+// Whether the first pass takes work and hands a box of it, which the second one takes.
+fn box_goes_over<R: Wait>(rt: &R, desk: &Desk, first: &mut Pass, second: &mut Pass) -> bool {
+    match work(rt, desk, first) {
+        Some(mut task) => hands_when_asked(rt, desk, first, second, &mut task),
+        None => false,
+    }
+}
+
 #[test]
 fn box_handed_is_the_work_of_the_pass_that_waited(rt: HostRuntime) {
-    let Some((desk, mut passes)) = desk(rt.alloc()) else {
-        panic!(rt; "no memory");
-    };
-    let (Some(mut second), Some(mut first)) = (passes.pop(), passes.pop()) else {
-        panic!(rt; "not two passes");
-    };
-    let Some(mut task) = work(&rt, &desk, &mut first) else {
-        panic!(rt; "no work");
-    };
-    assert!(rt; hands_when_asked(&rt, &desk, &mut first, &mut second, &mut task));
-    let Some(given) = work(&rt, &desk, &mut second) else {
-        panic!(rt; "no work for the other");
-    };
-    assert!(rt; is_upper_half(&given));
+    match open(rt.alloc()) {
+        Some((desk, mut first, mut second)) => {
+            holds(&rt, box_goes_over(&rt, &desk, &mut first, &mut second));
+            holds(&rt, takes_upper_half(&rt, &desk, &mut second));
+        }
+        None => panic!(rt; "no memory"),
+    }
 }
 
 // The point (0, 5).
@@ -191,22 +215,38 @@ fn closes_with_least(alloc: Global, desk: Desk, passes: [Pass; 2]) -> bool {
     }
 }
 
+// Whether the first pass finds the point and then nothing below it, while the second one waits.
+fn root_is_done<R: Wait>(
+    rt: &R,
+    alloc: Global,
+    desk: &Desk,
+    first: &mut Pass,
+    second: &mut Pass,
+) -> bool {
+    match work(rt, desk, first) {
+        Some(task) => {
+            let found = waits(rt, desk, second) && finds(rt, alloc, desk, first);
+            ends(rt, desk, first, task) && found
+        }
+        None => false,
+    }
+}
+
 #[test]
 fn desk_is_over_where_the_root_is_done(rt: HostRuntime) {
-    let Some((desk, mut passes)) = desk(rt.alloc()) else {
-        panic!(rt; "no memory");
-    };
-    let (Some(mut second), Some(mut first)) = (passes.pop(), passes.pop()) else {
-        panic!(rt; "not two passes");
-    };
-    let Some(task) = work(&rt, &desk, &mut first) else {
-        panic!(rt; "no work");
-    };
-    assert!(rt; waits(&rt, &desk, &mut second) && finds(&rt, rt.alloc(), &desk, &mut first));
-    assert!(rt; ends(&rt, &desk, &mut first, task));
-    assert_eq!(rt; first.heard(), 3);
-    assert!(rt; is_over(&rt, &desk, &mut second));
-    assert!(rt; closes_with_least(rt.alloc(), desk, [first, second]));
+    match open(rt.alloc()) {
+        Some((desk, mut first, mut second)) => {
+            let alloc = rt.alloc();
+            holds(
+                &rt,
+                root_is_done(&rt, alloc, &desk, &mut first, &mut second),
+            );
+            same(&rt, &first.heard(), &3);
+            holds(&rt, is_over(&rt, &desk, &mut second));
+            holds(&rt, closes_with_least(alloc, desk, [first, second]));
+        }
+        None => panic!(rt; "no memory"),
+    }
 }
 
 // Takes and searches until the desk is over.
@@ -248,16 +288,15 @@ fn find<R: Wait>(rt: &R, desk: &Desk, pass: &mut Pass, task: &mut Task) -> Resul
 
 #[test]
 fn two_threads_share_a_desk(rt: HostRuntime) {
-    let Some((desk, mut passes)) = desk(rt.alloc()) else {
-        panic!(rt; "no memory");
-    };
-    let (Some(mut second), Some(mut first)) = (passes.pop(), passes.pop()) else {
-        panic!(rt; "not two passes");
-    };
-    join(
-        &rt,
-        || solve(&rt, &desk, &mut first),
-        || solve(&rt, &desk, &mut second),
-    );
-    assert!(rt; closes_with_least(rt.alloc(), desk, [first, second]));
+    match open(rt.alloc()) {
+        Some((desk, mut first, mut second)) => {
+            join(
+                &rt,
+                || solve(&rt, &desk, &mut first),
+                || solve(&rt, &desk, &mut second),
+            );
+            holds(&rt, closes_with_least(rt.alloc(), desk, [first, second]));
+        }
+        None => panic!(rt; "no memory"),
+    }
 }

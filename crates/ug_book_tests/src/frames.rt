@@ -1,3 +1,4 @@
+use ug_expect::same;
 use ug_frames::{Order, Report};
 use ug_nodes::Ticket;
 
@@ -5,13 +6,13 @@ use ug_nodes::Ticket;
 fn tells_of_which_assignment_it_is(rt: HostRuntime) {
     let ticket = Ticket { run: 2, number: 7 };
     let stop = Order::Stop { ticket };
-    assert_eq!(rt; stop.ticket(), Some(ticket));
-    assert_eq!(rt; Order::Incumbent { cutoff: -4 }.ticket(), None);
+    same(&rt, &stop.ticket(), &Some(ticket));
+    same(&rt, &Order::Incumbent { cutoff: -4 }.ticket(), &None);
     let state = Report::State {
         ticket,
         open: 3,
         floor: 9,
     };
-    assert_eq!(rt; state.ticket(), Some(ticket));
-    assert_eq!(rt; Report::Ready.ticket(), None);
+    same(&rt, &state.ticket(), &Some(ticket));
+    same(&rt, &Report::Ready.ticket(), &None);
 }

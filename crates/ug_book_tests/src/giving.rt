@@ -3,6 +3,7 @@ ghost use Rattle.ug_ranks.specs.declared.state.State.TheVariants.{Idle};
 
 use std::alloc::{AllocError, Global};
 use std::test::Fail;
+use ug_expect::{holds, same};
 use ug_frames::Order;
 use ug_giving::{Terms, give_out};
 use ug_nodes::{Changes, Line, Name, Node, Ticket};
@@ -67,10 +68,10 @@ fn gives_the_least_nodes_to_the_lowest_ranks(rt: HostRuntime) -> Result<(), Fail
         &mut raced,
         &mut orders,
     );
-    assert!(rt; steps == Ok(2) && last == 8 && pool.len() == 1);
-    assert_eq!(rt; told(&mut orders), Some((0, 7, 0, false)));
-    assert_eq!(rt; told(&mut orders), Some((1, 8, 0, false)));
-    assert_eq!(rt; told(&mut orders), None);
+    holds(&rt, steps == Ok(2) && last == 8 && pool.len() == 1);
+    same(&rt, &told(&mut orders), &Some((0, 7, 0, false)));
+    same(&rt, &told(&mut orders), &Some((1, 8, 0, false)));
+    same(&rt, &told(&mut orders), &None);
     Ok(())
 }
 
@@ -97,8 +98,8 @@ fn gives_nothing_where_ticket_numbers_are_spent(rt: HostRuntime) -> Result<(), F
         &mut raced,
         &mut orders,
     );
-    assert!(rt; steps == Ok(0) && last == u64::MAX && pool.len() == 1);
-    assert_eq!(rt; told(&mut orders), None);
+    holds(&rt, steps == Ok(0) && last == u64::MAX && pool.len() == 1);
+    same(&rt, &told(&mut orders), &None);
     Ok(())
 }
 
@@ -125,9 +126,12 @@ fn begins_a_race(rt: HostRuntime) -> Result<(), Fail> {
         &mut raced,
         &mut orders,
     );
-    assert!(rt; steps == Ok(1) && last == 2 && pool.len() == 0 && raced.is_some());
-    assert_eq!(rt; told(&mut orders), Some((0, 1, 0, true)));
-    assert_eq!(rt; told(&mut orders), Some((1, 2, 1, true)));
-    assert_eq!(rt; told(&mut orders), None);
+    holds(
+        &rt,
+        steps == Ok(1) && last == 2 && pool.len() == 0 && raced.is_some(),
+    );
+    same(&rt, &told(&mut orders), &Some((0, 1, 0, true)));
+    same(&rt, &told(&mut orders), &Some((1, 2, 1, true)));
+    same(&rt, &told(&mut orders), &None);
     Ok(())
 }

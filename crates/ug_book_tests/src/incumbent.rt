@@ -1,6 +1,7 @@
 use crate::problems::line;
 use std::alloc::{AllocError, Global};
 use std::test::Fail;
+use ug_expect::{holds, same};
 use ug_incumbent::{Best, Offered};
 use ug_problem::Broken;
 use ug_rows::Point;
@@ -16,27 +17,31 @@ fn takes_lesser_values_alone(rt: HostRuntime) -> Result<(), Fail> {
         panic!(rt; "no problem");
     };
     let mut best = Best::none();
-    assert!(rt; best.point().is_none() && best.cutoff(&problem, 0).is_none());
-    let too_long = best.offer(&problem, point(alloc, &[5, 5])?);
-    assert_eq!(rt; too_long, Offered::Broken(Broken::Length(2)));
-    let first = best.offer(&problem, point(alloc, &[5])?);
-    assert_eq!(rt; first, Offered::Taken);
-    let outside = best.offer(&problem, point(alloc, &[1])?);
-    assert_eq!(rt; outside, Offered::Broken(Broken::Column(0)));
-    let equal = best.offer(&problem, point(alloc, &[5])?);
-    assert_eq!(rt; equal, Offered::NotBetter { kept: 5, given: 5 });
-    let lesser = best.offer(&problem, point(alloc, &[4])?);
-    assert_eq!(rt; lesser, Offered::Taken);
-    let greater = best.offer(&problem, point(alloc, &[6])?);
-    assert_eq!(rt; greater, Offered::NotBetter { kept: 4, given: 6 });
-    assert!(rt;
-        best.point()
-            .is_some_and(|point| point.as_slice() == [4].as_slice())
+    holds(
+        &rt,
+        best.point().is_none() && best.cutoff(&problem, 0).is_none(),
     );
-    assert_eq!(rt; best.cutoff(&problem, 0), Some(4));
-    assert_eq!(rt; best.cutoff(&problem, 1), Some(3));
-    assert_eq!(rt; best.cutoff(&problem, 5), Some(2));
+    let too_long = best.offer(&problem, point(alloc, &[5, 5])?);
+    same(&rt, &too_long, &Offered::Broken(Broken::Length(2)));
+    let first = best.offer(&problem, point(alloc, &[5])?);
+    same(&rt, &first, &Offered::Taken);
+    let outside = best.offer(&problem, point(alloc, &[1])?);
+    same(&rt, &outside, &Offered::Broken(Broken::Column(0)));
+    let equal = best.offer(&problem, point(alloc, &[5])?);
+    same(&rt, &equal, &Offered::NotBetter { kept: 5, given: 5 });
+    let lesser = best.offer(&problem, point(alloc, &[4])?);
+    same(&rt, &lesser, &Offered::Taken);
+    let greater = best.offer(&problem, point(alloc, &[6])?);
+    same(&rt, &greater, &Offered::NotBetter { kept: 4, given: 6 });
+    holds(
+        &rt,
+        best.point()
+            .is_some_and(|point| point.as_slice() == [4].as_slice()),
+    );
+    same(&rt, &best.cutoff(&problem, 0), &Some(4));
+    same(&rt, &best.cutoff(&problem, 1), &Some(3));
+    same(&rt, &best.cutoff(&problem, 5), &Some(2));
     let known = Best::new(Some(point(alloc, &[9])?));
-    assert!(rt; known.point().is_some());
+    holds(&rt, known.point().is_some());
     Ok(())
 }

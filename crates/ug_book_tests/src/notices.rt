@@ -3,6 +3,7 @@ ghost use Rattle.std.specs.Prelude.{◌≤◌};
 use std::alloc::{AllocError, Global};
 use std::test::Fail;
 use ug_branch::Params;
+use ug_expect::same;
 use ug_frames::Order;
 use ug_nodes::{Changes, Line, Name, Node, Ticket};
 use ug_notices::{announce, collect};
@@ -37,10 +38,10 @@ fn tells_those_that_have_joined_a_new_cutoff(rt: HostRuntime) -> Result<(), Fail
     let mut announced = Some(9);
     ranks.idle(2);
     announce(&ranks, &mut orders, &mut announced, Some(-7))?;
-    assert_eq!(rt; next(&mut orders), Some((2, b'c', -7)));
-    assert_eq!(rt; announced, Some(-7));
+    same(&rt, &next(&mut orders), &Some((2, b'c', -7)));
+    same(&rt, &announced, &Some(-7));
     announce(&ranks, &mut orders, &mut announced, Some(-7))?;
-    assert_eq!(rt; next(&mut orders), None);
+    same(&rt, &next(&mut orders), &None);
     Ok(())
 }
 
@@ -55,8 +56,8 @@ fn asks_a_rank_that_works_until_it_is_enough(rt: HostRuntime) -> Result<(), Fail
     ranks.give(1, ticket, node(alloc)?, -3, Params::new(0));
     ranks.note(1, 4, -2);
     collect(alloc, 2, 3, 1, &mut ranks, &mut orders)?;
-    assert_eq!(rt; next(&mut orders), Some((1, b'i', 2)));
+    same(&rt, &next(&mut orders), &Some((1, b'i', 2)));
     collect(alloc, 2, 3, 3, &mut ranks, &mut orders)?;
-    assert_eq!(rt; next(&mut orders), Some((1, b'o', 0)));
+    same(&rt, &next(&mut orders), &Some((1, b'o', 0)));
     Ok(())
 }

@@ -2,6 +2,7 @@ ghost use Rattle.std.specs.Prelude.{◌<◌};
 
 use std::alloc::{AllocError, Global};
 use std::test::Fail;
+use ug_expect::same;
 use ug_frames::Order;
 use ug_nodes::Ticket;
 use ug_orders::Queue;
@@ -32,25 +33,25 @@ fn tells_the_earliest_order_first(rt: HostRuntime) -> Result<(), Fail> {
     let mut queue = Queue::new(rt.alloc());
     put(&mut queue, stop(3, 1))?;
     put(&mut queue, stop(1, 2))?;
-    assert_eq!(rt; rank(queue.next()), Some(3));
+    same(&rt, &rank(queue.next()), &Some(3));
     put(&mut queue, stop(2, 3))?;
-    assert_eq!(rt; rank(queue.next()), Some(1));
-    assert_eq!(rt; rank(queue.next()), Some(2));
-    assert_eq!(rt; rank(queue.next()), None);
+    same(&rt, &rank(queue.next()), &Some(1));
+    same(&rt, &rank(queue.next()), &Some(2));
+    same(&rt, &rank(queue.next()), &None);
     Ok(())
 }
 
 #[test]
 fn keeps_count_of_its_room(rt: HostRuntime) -> Result<(), Fail> {
     let mut queue = Queue::new(rt.alloc());
-    assert_eq!(rt; queue.spare(), 0);
+    same(&rt, &queue.spare(), &0);
     queue.reserve(2)?;
-    assert_eq!(rt; queue.spare(), 2);
+    same(&rt, &queue.spare(), &2);
     queue.push(stop(0, 1));
-    assert_eq!(rt; queue.spare(), 1);
+    same(&rt, &queue.spare(), &1);
     queue.reserve(1)?;
-    assert_eq!(rt; queue.spare(), 1);
+    same(&rt, &queue.spare(), &1);
     let _ = queue.next();
-    assert_eq!(rt; queue.spare(), 2);
+    same(&rt, &queue.spare(), &2);
     Ok(())
 }

@@ -1,5 +1,5 @@
 use std::alloc::{AllocError, Global};
-use std::test::Fail;
+use ug_expect::holds;
 use ug_nodes::{Changes, Line, Name, Node, Ticket, is_ancestor};
 use ug_primitive::primitive;
 
@@ -22,17 +22,60 @@ fn hands(alloc: Global, nodes: &[&Node]) -> Result<Vec<u64>, AllocError> {
     Ok(hands)
 }
 
+fn push_child(
+    alloc: Global,
+    nodes: &mut Vec<Node>,
+    above: usize,
+    name: Name,
+) -> Result<(), AllocError> {
+    if let Some(node) = nodes.get(above) {
+        let line = node.line.child(alloc, name)?;
+        nodes.push(node_of(alloc, line))?;
+    }
+    Ok(())
+}
+
+fn push_start(alloc: Global, nodes: &mut Vec<Node>, hand: u64) -> Result<(), AllocError> {
+    let line = Line::start(alloc, name(0, hand))?;
+    nodes.push(node_of(alloc, line))?;
+    Ok(())
+}
+
+// A starting node, one below it and one below that, and another starting node.
+fn family(alloc: Global) -> Result<Vec<Node>, AllocError> {
+    let mut nodes = Vec::new(alloc);
+    push_start(alloc, &mut nodes, 1)?;
+    push_child(alloc, &mut nodes, 0, name(1, 2))?;
+    push_child(alloc, &mut nodes, 1, name(2, 3))?;
+    push_start(alloc, &mut nodes, 4)?;
+    Ok(nodes)
+}
+
+// Whether these are the hand numbers of the primitive ones among the nodes at these places.
+fn keeps(
+    alloc: Global,
+    nodes: &[Node],
+    places: &[usize],
+    wanted: &[u64],
+) -> Result<bool, AllocError> {
+    let mut held = Vec::new(alloc);
+    for place in places {
+        if let Some(node) = nodes.get(*place) {
+            held.push(node)?;
+        }
+    }
+    let kept = hands(alloc, &held)?;
+    Ok(kept.as_slice() == wanted)
+}
+
 #[test]
-fn keeps_what_has_no_ancestor(rt: HostRuntime) -> Result<(), Fail> {
+fn keeps_what_has_no_ancestor(rt: HostRuntime) -> Result<(), AllocError> {
     let alloc = rt.alloc();
-    let a = node_of(alloc, Line::start(alloc, name(0, 1))?);
-    let b = node_of(alloc, a.line.child(alloc, name(1, 2))?);
-    let c = node_of(alloc, b.line.child(alloc, name(2, 3))?);
-    let d = node_of(alloc, Line::start(alloc, name(0, 4))?);
-    assert!(rt; hands(alloc, &[&c, &d, &b, &a])?.as_slice() == [1, 4].as_slice());
-    assert!(rt; hands(alloc, &[&c, &b, &d])?.as_slice() == [4, 2].as_slice());
-    assert!(rt; hands(alloc, &[&a, &c])?.as_slice() == [1].as_slice());
-    assert!(rt; hands(alloc, &[])?.is_empty());
+    let nodes = family(alloc)?;
+    holds(&rt, keeps(alloc, &nodes, &[2, 3, 1, 0], &[1, 4])?);
+    holds(&rt, keeps(alloc, &nodes, &[2, 1, 3], &[4, 2])?);
+    holds(&rt, keeps(alloc, &nodes, &[0, 2], &[1])?);
+    holds(&rt, keeps(alloc, &nodes, &[], &[])?);
     Ok(())
 }
 
@@ -67,12 +110,10 @@ fn plain(alloc: Global, nodes: &[&Node]) -> Result<Vec<u64>, AllocError> {
     Ok(hands)
 }
 
-#[test]
-fn answers_as_all_pairs_do(rt: HostRuntime) -> Result<(), Fail> {
-    let alloc = rt.alloc();
-    let nodes = tree(alloc, 300)?;
+// Whether the answer for two of three nodes, given in the other order, is that of all pairs.
+fn answers_as_pairs_do(alloc: Global, nodes: &[Node]) -> Result<bool, AllocError> {
     let mut held = Vec::new(alloc);
-    for node in &nodes {
+    for node in nodes {
         if node.line.name().hand % 3 != 1 {
             held.push(node)?;
         }
@@ -80,6 +121,12 @@ fn answers_as_all_pairs_do(rt: HostRuntime) -> Result<(), Fail> {
     let wanted = plain(alloc, &held)?;
     held.reverse();
     let made = hands(alloc, &held)?;
-    assert!(rt; made.as_slice() == wanted.as_slice() && 1 < made.len() && made.len() < 150);
+    Ok(made.as_slice() == wanted.as_slice() && 1 < made.len() && made.len() < 150)
+}
+
+#[test]
+fn answers_as_all_pairs_do(rt: HostRuntime) -> Result<(), AllocError> {
+    let nodes = tree(rt.alloc(), 300)?;
+    holds(&rt, answers_as_pairs_do(rt.alloc(), &nodes)?);
     Ok(())
 }

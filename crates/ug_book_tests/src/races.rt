@@ -1,6 +1,7 @@
 use std::alloc::{AllocError, Global};
 use std::test::Fail;
 use ug_branch::Params;
+use ug_expect::{holds, same};
 use ug_frames::Order;
 use ug_nodes::{Changes, Line, Name, Node, Ticket};
 use ug_orders::Queue;
@@ -39,10 +40,13 @@ fn gives_the_root_to_the_racer_that_is_ahead(rt: HostRuntime) -> Result<(), Fail
     let mut orders = Queue::new(alloc);
     let mut raced = Some(root(alloc)?);
     end_race(alloc, 3, &mut ranks, &mut orders, &mut raced)?;
-    assert!(rt; raced.is_none());
-    assert!(rt; matches!(ranks.as_slice(), [State::Idle, State::Active(_)]));
-    assert_eq!(rt; next(&mut orders), Some((1, true)));
-    assert_eq!(rt; next(&mut orders), Some((0, false)));
-    assert_eq!(rt; next(&mut orders), None);
+    holds(&rt, raced.is_none());
+    holds(
+        &rt,
+        matches!(ranks.as_slice(), [State::Idle, State::Active(_)]),
+    );
+    same(&rt, &next(&mut orders), &Some((1, true)));
+    same(&rt, &next(&mut orders), &Some((0, false)));
+    same(&rt, &next(&mut orders), &None);
     Ok(())
 }

@@ -1,3 +1,4 @@
+use ug_expect::same;
 use ug_ramp::{Racer, winner};
 
 fn racer(rank: u32, open: u64, floor: i128) -> Racer {
@@ -6,12 +7,12 @@ fn racer(rank: u32, open: u64, floor: i128) -> Racer {
 
 #[test]
 fn picks_the_racer_that_is_ahead(rt: HostRuntime) {
-    let same = [racer(1, 20, 3), racer(0, 20, 3)];
-    assert_eq!(rt; winner(&same, 20), Some(0));
+    let equal = [racer(1, 20, 3), racer(0, 20, 3)];
+    same(&rt, &winner(&equal, 20), &Some(0));
     let few = [racer(0, 19, 3), racer(1, 19, 3)];
-    assert_eq!(rt; winner(&few, 20), None);
+    same(&rt, &winner(&few, 20), &None);
     let more = [racer(0, 50, 3), racer(1, 20, 4)];
-    assert_eq!(rt; winner(&more, 20), Some(1));
+    same(&rt, &winner(&more, 20), &Some(1));
     let most = [racer(0, 20, 3), racer(1, 21, 3), racer(2, 19, 9)];
-    assert_eq!(rt; winner(&most, 20), Some(1));
+    same(&rt, &winner(&most, 20), &Some(1));
 }

@@ -1,6 +1,7 @@
 use std::alloc::{AllocError, Global};
 use std::test::Fail;
 use ug_branch::Params;
+use ug_expect::{holds, same};
 use ug_nodes::{Changes, Line, Name, Node, Ticket};
 use ug_ranks::{Ranks, State};
 use ug_rows::{IntBox, Interval};
@@ -55,22 +56,22 @@ fn works_as_it_was_told(rt: HostRuntime) -> Result<(), Fail> {
     let alloc = rt.alloc();
     let params = Params::new(0);
     let mut ranks = Ranks::new(alloc, 3)?;
-    assert!(rt; are(&ranks, b"aaa"));
+    holds(&rt, are(&ranks, b"aaa"));
     ranks.idle(1);
     ranks.idle(2);
-    assert!(rt; are(&ranks, b"aii") && ranks.free(0).is_none());
+    holds(&rt, are(&ranks, b"aii") && ranks.free(0).is_none());
     ranks.give(1, ticket(1), node(alloc, 4)?, -3, params);
     ranks.note(1, 8, -2);
     ranks.ask(1, 1);
     ranks.take(1, area(alloc, 0)?)?;
     ranks.take(1, area(alloc, 5)?)?;
-    assert!(rt; are(&ranks, b"iwi"));
-    assert_eq!(rt; work(ranks.state(1)), Some((2, 8, -2, 0)));
+    holds(&rt, are(&ranks, b"iwi"));
+    same(&rt, &work(ranks.state(1)), &Some((2, 8, -2, 0)));
     let held = ranks
         .kill(1)
         .map(|(node, floor)| (node.line.name().hand, floor));
-    assert_eq!(rt; held, Some((4, -3)));
-    assert!(rt; are(&ranks, b"idi"));
+    same(&rt, &held, &Some((4, -3)));
+    holds(&rt, are(&ranks, b"idi"));
     Ok(())
 }
 
@@ -82,13 +83,13 @@ fn works_on_after_a_race(rt: HostRuntime) -> Result<(), Fail> {
     ranks.race(0, ticket(1), Params::new(5));
     ranks.note(0, 20, 6);
     ranks.ask(0, 3);
-    assert!(rt; are(&ranks, b"r"));
+    holds(&rt, are(&ranks, b"r"));
     ranks.win(0, node(alloc, 0)?, 1);
-    assert_eq!(rt; work(ranks.state(0)), Some((0, 20, 6, 0)));
+    same(&rt, &work(ranks.state(0)), &Some((0, 20, 6, 0)));
     let held = ranks
         .free(0)
         .map(|(node, floor)| (node.line.name().hand, floor));
-    assert_eq!(rt; held, Some((0, 1)));
-    assert!(rt; are(&ranks, b"i"));
+    same(&rt, &held, &Some((0, 1)));
+    holds(&rt, are(&ranks, b"i"));
     Ok(())
 }

@@ -10,6 +10,7 @@ use crate::schedules::SCHEDULES;
 use std::alloc::{AllocError, Global};
 use std::test::Fail;
 use ug_book::{Book, Boxes};
+use ug_expect::same;
 use ug_frames::Report;
 use ug_nodes::{Change, Changes, Ticket};
 use ug_problem::{Problem, Shared};
@@ -282,7 +283,7 @@ fn schedules_leave_what_a_model_says(rt: HostRuntime) -> Result<(), Fail> {
         }
         all = all.saturating_add(1);
     }
-    assert_eq!(rt; others.as_slice(), [].as_slice());
-    assert_eq!(rt; all, 53);
+    same(&rt, &others.as_slice(), &[].as_slice());
+    same(&rt, &all, &53);
     Ok(())
 }

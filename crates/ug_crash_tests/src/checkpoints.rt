@@ -2,12 +2,13 @@ ghost use Rattle.std.specs.Prelude.{Some, IfOk};
 ghost use Rattle.ug_disk.specs.Memories.{history_of};
 ghost use Rattle.ug_checkpoint.specs.Savers.{IsKept};
 
+use crate::slots::{disk_of, script_of};
 use std::alloc::{AllocError, Global};
-use std::test::Fail;
 use ug_blocks::length;
 use ug_checkpoint::{LoadError, SaveError, Saver, load};
-use ug_disk::{MemoryDisk, Script, Slot};
-use ug_image::{ImageError, decode};
+use ug_disk::{MemoryDisk, Slot};
+use ug_expect::{holds, same};
+use ug_image::decode;
 
 // A slot with the image of a run of a problem that has neither columns nor rows: the gate, 104
 // bytes, version 3, run 1, the sequence, a record of 30 bytes, no best point, no deliveries, gap 0,
@@ -22,20 +23,6 @@ fn slot_of(sequence: u8) -> [u8; 113] {
     slot[29] = 30;
     slot[92] = 1;
     slot
-}
-
-// A disk of these slots, whose calls fail as listed.
-fn disk_of(
-    alloc: Global,
-    zero: &[u8],
-    one: &[u8],
-    failing: &[u64],
-) -> Result<MemoryDisk, AllocError> {
-    let script = Script {
-        failing: failing.to_vec(alloc)?,
-        stopping: Vec::new(alloc),
-    };
-    Ok(MemoryDisk::new(alloc, zero.to_vec(alloc)?, one.to_vec(alloc)?, script))
 }
 
 // Which slot and which sequence a load finds.
@@ -107,13 +94,18 @@ const CASES: [Case; 10] = [
 ];
 
 #[test]
-fn load_finds_the_greater_sequence(rt: HostRuntime) -> Result<(), Fail> {
+fn load_finds_the_greater_sequence(rt: HostRuntime) -> Result<(), AllocError> {
     let alloc = rt.alloc();
     for (zero, one, len, answer) in CASES {
         let zero = changed(zero.0, zero.1, zero.2);
         let one = changed(one.0, one.1, one.2);
-        let mut disk = disk_of(alloc, &zero[..len.min(113)], &one, &[])?;
-        assert_eq!(rt; answer_of(alloc, &mut disk), answer);
+        let mut disk = disk_of(
+            alloc,
+            &zero[..len.min(113)],
+            &one,
+            script_of(alloc, &[], &[])?,
+        )?;
+        same(&rt, &answer_of(alloc, &mut disk), &answer);
     }
     Ok(())
 }
@@ -126,43 +118,70 @@ fn opened(alloc: Global, disk: &mut MemoryDisk) -> Result<Saver, LoadError>
     Ok(Saver::new(found.as_ref()))
 }
 
-// Saves the image of this sequence, if it is above the last one.
+// How a save of the image of this sequence ends, if it is above the last one.
 fn saved(
     alloc: Global,
     disk: &mut MemoryDisk,
     saver: &mut Saver,
     sequence: u8,
-) -> Result<Result<(), SaveError>, ImageError>
+) -> Result<(), SaveError>
     requires { IsKept saver.old (Some (history_of disk.old)) }
     ensures { IsKept saver.new (Some (history_of disk.new)) }
 {
-    let image = decode(alloc, &slot_of(sequence)[9..])?;
+    let Ok(image) = decode(alloc, &slot_of(sequence)[9..]) else {
+        return Err(SaveError::Memory);
+    };
     if saver.sequence() < image.sequence && length(&image) < 1 << 63 {
-        return Ok(saver.save(alloc, disk, &image));
+        return saver.save(alloc, disk, &image);
     }
-    Ok(Err(SaveError::Memory))
+    Err(SaveError::Memory)
+}
+
+// Whether two saves of a disk, the first after one whose gate could not be opened, go to the slots in
+// turn.
+fn goes_to_both(alloc: Global, disk: &mut MemoryDisk, saver: &mut Saver) -> bool
+    requires { IsKept saver.old (Some (history_of disk.old)) }
+{
+    saved(alloc, disk, saver, 1) == Err(SaveError::Fault)
+        && saver.sequence() == 0
+        && saved(alloc, disk, saver, 1) == Ok(())
+        && saved(alloc, disk, saver, 2) == Ok(())
+        && disk.bytes(Slot::Zero) == slot_of(1).as_slice()
+        && disk.bytes(Slot::One) == slot_of(2).as_slice()
+        && answer_of(alloc, disk) == Ok(Some((Slot::One, 2)))
+}
+
+// Whether a third save goes to the slot of the first.
+fn goes_to_the_first(alloc: Global, disk: &mut MemoryDisk, saver: &mut Saver) -> bool
+    requires { IsKept saver.old (Some (history_of disk.old)) }
+{
+    saver.sequence() == 2
+        && saved(alloc, disk, saver, 3) == Ok(())
+        && disk.bytes(Slot::Zero) == slot_of(3).as_slice()
+        && answer_of(alloc, disk) == Ok(Some((Slot::Zero, 3)))
+}
+
+// What is asked of a saver that was opened on a disk; not so where there is no memory to open it.
+fn saves_in_turn(alloc: Global, disk: &mut MemoryDisk) -> bool {
+    match opened(alloc, disk) {
+        Ok(mut saver) => goes_to_both(alloc, disk, &mut saver),
+        Err(_) => false,
+    }
+}
+
+fn saves_a_third(alloc: Global, disk: &mut MemoryDisk) -> bool {
+    match opened(alloc, disk) {
+        Ok(mut saver) => goes_to_the_first(alloc, disk, &mut saver),
+        Err(_) => false,
+    }
 }
 
 #[test]
-fn saves_go_to_the_slots_in_turn(rt: HostRuntime) -> Result<(), Fail> {
+fn saves_go_to_the_slots_in_turn(rt: HostRuntime) -> Result<(), AllocError> {
     let alloc = rt.alloc();
     // The tenth call is the opening of the first save's gate.
-    let mut disk = disk_of(alloc, &[], &[], &[10])?;
-    let mut saver = opened(alloc, &mut disk)?;
-    assert_eq!(rt;
-        saved(alloc, &mut disk, &mut saver, 1)?,
-        Err(SaveError::Fault)
-    );
-    assert_eq!(rt; saver.sequence(), 0);
-    assert_eq!(rt; saved(alloc, &mut disk, &mut saver, 1)?, Ok(()));
-    assert_eq!(rt; saved(alloc, &mut disk, &mut saver, 2)?, Ok(()));
-    assert_eq!(rt; disk.bytes(Slot::Zero), slot_of(1).as_slice());
-    assert_eq!(rt; disk.bytes(Slot::One), slot_of(2).as_slice());
-    assert_eq!(rt; answer_of(alloc, &mut disk), Ok(Some((Slot::One, 2))));
-    let mut saver = opened(alloc, &mut disk)?;
-    assert_eq!(rt; saver.sequence(), 2);
-    assert_eq!(rt; saved(alloc, &mut disk, &mut saver, 3)?, Ok(()));
-    assert_eq!(rt; disk.bytes(Slot::Zero), slot_of(3).as_slice());
-    assert_eq!(rt; answer_of(alloc, &mut disk), Ok(Some((Slot::Zero, 3))));
+    let mut disk = disk_of(alloc, &[], &[], script_of(alloc, &[10], &[])?)?;
+    holds(&rt, saves_in_turn(alloc, &mut disk));
+    holds(&rt, saves_a_third(alloc, &mut disk));
     Ok(())
 }

@@ -1,24 +1,11 @@
 ghost use Rattle.std.specs.Prelude.{◌≤◌, length};
 ghost use Rattle.ug_disk.specs.Histories.{Reads};
 
+use crate::slots::{disk_of, script_of};
 use std::alloc::{AllocError, Global};
 use std::test::Fail;
-use ug_disk::{Disk, MemoryDisk, NotAllowed, ReadError, Script, Slot, read_all, write_synced};
-
-// A disk of these slots, whose calls fail or stop it as listed.
-fn disk_of(
-    alloc: Global,
-    zero: &[u8],
-    one: &[u8],
-    failing: &[u64],
-    stopping: &[u64],
-) -> Result<MemoryDisk, AllocError> {
-    let script = Script {
-        failing: failing.to_vec(alloc)?,
-        stopping: stopping.to_vec(alloc)?,
-    };
-    Ok(MemoryDisk::new(alloc, zero.to_vec(alloc)?, one.to_vec(alloc)?, script))
-}
+use ug_disk::{Disk, MemoryDisk, NotAllowed, ReadError, Slot, read_all, write_synced};
+use ug_expect::{holds, same};
 
 // Whether the bytes were written to slot 0, at a place that it has.
 fn put(disk: &mut MemoryDisk, at: u64, bytes: &[u8]) -> bool {
@@ -54,21 +41,24 @@ const IMAGES: [(&[u8], bool); 11] = [
 fn a_crash_leaves_what_the_model_allows(rt: HostRuntime) -> Result<(), Fail> {
     let alloc = rt.alloc();
     for (image, allowed) in IMAGES {
-        let mut disk = disk_of(alloc, &[1, 2, 3, 4, 5], &[7], &[], &[])?;
-        assert!(rt; put(&mut disk, 2, &[30, 40]) && put(&mut disk, 5, &[60, 70]));
+        let mut disk = disk_of(alloc, &[1, 2, 3, 4, 5], &[7], script_of(alloc, &[], &[])?)?;
+        holds(
+            &rt,
+            put(&mut disk, 2, &[30, 40]) && put(&mut disk, 5, &[60, 70]),
+        );
         let answer = left(alloc, &mut disk, image, &[7])?;
         let refused = Err(NotAllowed { slot: Slot::Zero });
-        assert_eq!(rt; answer, if allowed { Ok(()) } else { refused });
+        same(&rt, &answer, &(if allowed { Ok(()) } else { refused }));
         let now: &[u8] = if allowed {
             image
         } else {
             &[1, 2, 30, 40, 5, 60, 70]
         };
-        assert_eq!(rt; disk.bytes(Slot::Zero), now);
+        same(&rt, &disk.bytes(Slot::Zero), &now);
         let other = left(alloc, &mut disk, now, &[8])?;
-        assert_eq!(rt; other, Err(NotAllowed { slot: Slot::One }));
+        same(&rt, &other, &Err(NotAllowed { slot: Slot::One }));
         let both = left(alloc, &mut disk, &[9], &[8])?;
-        assert_eq!(rt; both, Err(NotAllowed { slot: Slot::Zero }));
+        same(&rt, &both, &Err(NotAllowed { slot: Slot::Zero }));
     }
     Ok(())
 }
@@ -104,16 +94,21 @@ fn write_and_read<D: Disk>(
 fn calls_fail_and_stop_as_listed(rt: HostRuntime) -> Result<(), Fail> {
     let alloc = rt.alloc();
     for (failing, stopping, made, all, bytes, torn) in CASES {
-        let mut disk = disk_of(alloc, &[7], &[5, 6], &[failing], &[stopping])?;
+        let mut disk = disk_of(
+            alloc,
+            &[7],
+            &[5, 6],
+            script_of(alloc, &[failing], &[stopping])?,
+        )?;
         let (wrote, read) = write_and_read(alloc, &mut disk, Slot::One, 8);
-        assert_eq!(rt; wrote, made);
-        assert_eq!(rt; read.is_ok(), all);
+        same(&rt, &wrote, &made);
+        same(&rt, &read.is_ok(), &all);
         disk.resume();
         let calls = disk.calls();
-        assert_eq!(rt; disk.len(Slot::One).ok(), Some(2));
-        assert_eq!(rt; disk.calls(), calls.saturating_add(1));
-        assert_eq!(rt; disk.bytes(Slot::One), bytes.as_slice());
-        assert_eq!(rt; left(alloc, &mut disk, &[7], &[77, 6])?.is_ok(), torn);
+        same(&rt, &disk.len(Slot::One).ok(), &Some(2));
+        same(&rt, &disk.calls(), &calls.saturating_add(1));
+        same(&rt, &disk.bytes(Slot::One), &bytes.as_slice());
+        same(&rt, &left(alloc, &mut disk, &[7], &[77, 6])?.is_ok(), &torn);
     }
     Ok(())
 }

@@ -1,8 +1,9 @@
-use crate::slots::disk_of;
+use crate::slots::disk_with;
 use std::alloc::{AllocError, Global};
 use std::test::Fail;
 use ug_checkpoint::{LoadError, load};
 use ug_disk::Slot;
+use ug_expect::holds_at;
 
 // The image of version 3 of run 1 and sequence 5, of a problem with one column from 0 to 7 and no
 // rows. The best point is 5, and of its two nodes the first has the column from 0 to 3.
@@ -79,7 +80,7 @@ fn slot_of(
 
 // Which place of the image is named.
 fn bad_place(alloc: Global, slot: &[u8]) -> Result<Option<usize>, AllocError> {
-    let mut disk = disk_of(alloc, slot, &[])?;
+    let mut disk = disk_with(alloc, slot, &[])?;
     Ok(match load(alloc, &mut disk) {
         Err(
             LoadError::BadImage {
@@ -127,7 +128,7 @@ fn cuts_are_named(alloc: Global, version: u8) -> Result<bool, AllocError> {
 #[test]
 fn field_that_is_cut_short_is_named(rt: HostRuntime) -> Result<(), Fail> {
     for version in 1..4 {
-        assert!(rt; cuts_are_named(rt.alloc(), version)?, "{version}");
+        holds_at(&rt, cuts_are_named(rt.alloc(), version)?, &version);
     }
     Ok(())
 }
@@ -200,15 +201,15 @@ fn is_named(
 fn field_that_breaks_a_rule_is_named(rt: HostRuntime) -> Result<(), Fail> {
     let alloc = rt.alloc();
     for version in [0u8, 4, 255] {
-        assert!(rt; is_named(alloc, version, (0, version, 0))?, "{version}");
+        holds_at(&rt, is_named(alloc, version, (0, version, 0))?, &version);
     }
     for version in 1..4 {
         for case in &EVERYWHERE {
-            assert!(rt; is_named(alloc, version, *case)?, "{version}");
+            holds_at(&rt, is_named(alloc, version, *case)?, &version);
         }
     }
     for (version, case) in &LATER {
-        assert!(rt; is_named(alloc, *version, *case)?, "{version}");
+        holds_at(&rt, is_named(alloc, *version, *case)?, &version);
     }
     Ok(())
 }

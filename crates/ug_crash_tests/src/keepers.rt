@@ -6,6 +6,7 @@ ghost use Rattle.ug_slots.specs.Keepers.{Knows};
 use std::alloc::{AllocError, Global};
 use std::test::Fail;
 use ug_disk::{MemoryDisk, Script, Slot};
+use ug_expect::same;
 use ug_slots::{Keeper, Pieces, read_both};
 
 // A body in memory.
@@ -79,6 +80,15 @@ const CASES: [Case; 18] = [
     (false, 8, 5, (0, 0), NEW),
 ];
 
+// Saves a body, if its slot can be written.
+fn keep(keeper: &mut Keeper, disk: &mut MemoryDisk, body: &[u8], buffer: &mut [u8])
+    requires knows { Knows keeper.old (Some (history_of disk.old)) }
+    requires room { 0 < length buffer.old }
+    ensures { Knows keeper.new (Some (history_of disk.new)) }
+{
+    let _ = keeper.save(disk, &mut Body { rest: body }, buffer);
+}
+
 // A keeper of the slots, which has saved one body into each of them or has done nothing.
 fn keeper_of(disk: &mut MemoryDisk, is_open: bool, buffer: &mut [u8]) -> Keeper
     requires synced { AreSynced (Some (history_of disk.old)) }
@@ -87,8 +97,8 @@ fn keeper_of(disk: &mut MemoryDisk, is_open: bool, buffer: &mut [u8]) -> Keeper
 {
     let mut keeper = Keeper::new(None);
     if is_open {
-        let _ = keeper.save(disk, &mut Body { rest: &[2, 2, 2] }, buffer);
-        let _ = keeper.save(disk, &mut Body { rest: &[7, 7] }, buffer);
+        keep(&mut keeper, disk, &[2, 2, 2], buffer);
+        keep(&mut keeper, disk, &[7, 7], buffer);
     }
     keeper
 }
@@ -127,17 +137,17 @@ fn a_crash_in_a_save_leaves_old_or_new(rt: HostRuntime) -> Result<(), Fail> {
             let mut zero = disk.bytes(Slot::Zero).to_vec(alloc)?;
             let one = disk.bytes(Slot::One).to_vec(alloc)?;
             let last: &[u8] = if is_open { &[1, 7, 7] } else { &[] };
-            assert_eq!(rt; one.as_slice(), last);
+            same(&rt, &one.as_slice(), &last);
             for place in from..end {
                 if let (Some(byte), Some(fill)) = (zero.get_mut(place), fill) {
                     *byte = fill;
                 }
             }
-            assert_eq!(rt; disk.crash(zero, one), Ok(()));
+            same(&rt, &disk.crash(zero, one), &Ok(()));
             let both = read_both(alloc, &mut disk)?;
-            assert_eq!(rt; left_of(&both.zero), left);
-            assert_eq!(rt; both.one.as_slice(), last);
-            assert_eq!(rt; made, from == end && left == Left::New);
+            same(&rt, &left_of(&both.zero), &left);
+            same(&rt, &both.one.as_slice(), &last);
+            same(&rt, &made, &(from == end && left == Left::New));
         }
     }
     Ok(())

@@ -5,11 +5,11 @@ ghost use Rattle.ug_crashes.specs.Events.{IsDiskEvent};
 
 use crate::slots::{nothing, settings, slot_of};
 use std::alloc::Global;
-use std::test::Fail;
 use ug_book::{Answered, Book};
 use ug_checkpoint::Saver;
 use ug_crashes::{DiskEvent, Halted, PlayDiskFault, PlayedDisk, play_disk};
 use ug_disk::{MemoryDisk, Script, Slot};
+use ug_expect::{holds, holds_at, same_at};
 use ug_frames::Report;
 use ug_nodes::Ticket;
 use ug_problem::Shared;
@@ -137,15 +137,24 @@ fn events_of(alloc: Global, text: &str) -> Option<Vec<DiskEvent>>
     Some(events)
 }
 
+// The events from a run that has begun.
+fn play_on(alloc: Global, begun: Begun, events: &[DiskEvent]) -> Result<PlayedDisk, PlayDiskFault>
+    requires kept { IsKept begun.saver (Some (history_of begun.disk)) }
+    requires events { All IsDiskEvent events.now }
+{
+    let Begun { book, saver, disk } = begun;
+    play_disk(alloc, book, saver, disk, events)
+}
+
 fn play(
     alloc: Global,
     text: &str,
     gap: u8,
     stop: u64,
 ) -> Option<Result<PlayedDisk, PlayDiskFault>> {
-    let Begun { book, saver, disk } = run_on_a_disk(alloc, gap, stop)?;
     let events = events_of(alloc, text)?;
-    Some(play_disk(alloc, book, saver, disk, &events))
+    let begun = run_on_a_disk(alloc, gap, stop)?;
+    Some(play_on(alloc, begun, &events))
 }
 
 // The run at the end and how many reports were heard, or why and where the schedule stopped.
@@ -173,16 +182,17 @@ const SCHEDULES: [(&str, u8, Answer); 10] = [
     ("sXXX", 0, Ok((4, 0))),
 ];
 
+// How a schedule ends, if there is memory for it.
+fn ends(alloc: Global, text: &str, gap: u8) -> Option<Answer> {
+    let played = play(alloc, text, gap, u64::MAX)?;
+    Some(answer_of(&played))
+}
+
 #[test]
-fn schedules_end_or_say_why_not(rt: HostRuntime) -> Result<(), Fail> {
-    let alloc = rt.alloc();
+fn schedules_end_or_say_why_not(rt: HostRuntime) {
     for (text, gap, wanted) in SCHEDULES {
-        let Some(played) = play(alloc, text, gap, u64::MAX) else {
-            panic!(rt; "no memory");
-        };
-        assert_eq!(rt; answer_of(&played), wanted, "{text}");
+        same_at(&rt, &ends(rt.alloc(), text, gap), &Some(wanted), &text);
     }
-    Ok(())
 }
 
 // Whether the point without values is the answer, after these replies.
@@ -193,36 +203,44 @@ fn is_answered(played: &PlayedDisk) -> bool {
 }
 
 #[test]
-fn report_of_an_earlier_run_is_stale(rt: HostRuntime) -> Result<(), Fail> {
-    let Some(Ok(played)) = play(rt.alloc(), "jdnsfe0x1rjdfe23nsx", 0, u64::MAX) else {
-        panic!(rt; "it stopped");
-    };
-    assert!(rt; is_answered(&played));
-    Ok(())
+fn report_of_an_earlier_run_is_stale(rt: HostRuntime) {
+    match play(rt.alloc(), "jdnsfe0x1rjdfe23nsx", 0, u64::MAX) {
+        Some(Ok(played)) => holds(&rt, is_answered(&played)),
+        _ => panic!(rt; "it stopped"),
+    }
 }
 
-// How many calls of the disk there were when the run had begun, and at the end of a schedule.
-fn calls_of(alloc: Global, text: &str) -> Option<(u64, u64)> {
+// How many calls of the disk there were when the run had begun.
+fn calls_at_first(alloc: Global) -> Option<u64> {
     let begun = run_on_a_disk(alloc, 0, u64::MAX)?;
+    Some(begun.disk.calls())
+}
+
+// How many calls of the disk there were at the end of a schedule.
+fn calls_of(alloc: Global, text: &str) -> Option<u64> {
     match play(alloc, text, 0, u64::MAX)? {
-        Ok(played) => Some((begun.disk.calls(), played.disk.calls())),
+        Ok(played) => Some(played.disk.calls()),
         Err(_) => None,
     }
 }
 
-#[test]
-fn run_goes_on_wherever_the_disk_stops(rt: HostRuntime) -> Result<(), Fail> {
-    let alloc = rt.alloc();
-    let Some((begun, all)) = calls_of(alloc, "nsx") else {
-        panic!(rt; "it stopped");
-    };
-    assert!(rt; begun < all);
-    for stop in begun.saturating_add(1)..all.saturating_add(1) {
-        let Some(Ok(played)) = play(alloc, "nsxx", 0, stop) else {
-            panic!(rt; "it stopped");
-        };
-        assert!(rt; played.book.run() == 2 || played.book.run() == 3, "{stop}");
-        assert!(rt; played.book.answer().is_none());
+// Whether a run whose disk stops after a call goes on as the second run or the third, unanswered.
+fn goes_on(alloc: Global, stop: u64) -> bool {
+    match play(alloc, "nsxx", 0, stop) {
+        Some(Ok(played)) => {
+            (played.book.run() == 2 || played.book.run() == 3) && played.book.answer().is_none()
+        }
+        _ => false,
     }
-    Ok(())
+}
+
+#[test]
+fn run_goes_on_wherever_the_disk_stops(rt: HostRuntime) {
+    let alloc = rt.alloc();
+    let first = calls_at_first(alloc).unwrap_or(u64::MAX);
+    let all = calls_of(alloc, "nsx").unwrap_or(0);
+    holds_at(&rt, first < all, &(first, all));
+    for stop in first.saturating_add(1)..all.saturating_add(1) {
+        holds_at(&rt, goes_on(alloc, stop), &stop);
+    }
 }

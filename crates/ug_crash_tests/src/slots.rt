@@ -25,13 +25,28 @@ pub fn slot_of(run: u8, sequence: u8, gap: u8) -> [u8; 113] {
     slot
 }
 
+/// Which calls of a disk fail, and after which of them it stops.
+pub fn script_of(alloc: Global, failing: &[u64], stopping: &[u64]) -> Result<Script, AllocError> {
+    let failing = failing.to_vec(alloc)?;
+    let stopping = stopping.to_vec(alloc)?;
+    Ok(Script { failing, stopping })
+}
+
+/// A disk with these bytes in its slots, whose calls fail and stop it as the script says.
+pub fn disk_of(
+    alloc: Global,
+    zero: &[u8],
+    one: &[u8],
+    script: Script,
+) -> Result<MemoryDisk, AllocError> {
+    let zero = zero.to_vec(alloc)?;
+    let one = one.to_vec(alloc)?;
+    Ok(MemoryDisk::new(alloc, zero, one, script))
+}
+
 /// A disk with these bytes in slot 0 and none in slot 1, which stops after these of its calls.
-pub fn disk_of(alloc: Global, zero: &[u8], stopping: &[u64]) -> Result<MemoryDisk, AllocError> {
-    let script = Script {
-        failing: Vec::new(alloc),
-        stopping: stopping.to_vec(alloc)?,
-    };
-    Ok(MemoryDisk::new(alloc, zero.to_vec(alloc)?, Vec::new(alloc), script))
+pub fn disk_with(alloc: Global, zero: &[u8], stopping: &[u64]) -> Result<MemoryDisk, AllocError> {
+    disk_of(alloc, zero, &[], script_of(alloc, &[], stopping)?)
 }
 
 /// A problem with neither columns nor rows, whose objective is 0 or, if that is asked for, -1.

@@ -2,14 +2,14 @@ ghost use Rattle.std.specs.Prelude.{Some, IfSome};
 ghost use Rattle.ug_disk.specs.Memories.{history_of};
 ghost use Rattle.ug_checkpoint.specs.Savers.{IsKept};
 
-use crate::slots::{disk_of, nothing, settings, slot_of};
+use crate::slots::{disk_with, nothing, settings, slot_of};
 use std::alloc::{AllocError, Global};
-use std::test::Fail;
 use ug_blocks::length;
 use ug_book::Book;
 use ug_checkpoint::{SaveError, Saver};
 use ug_disk::{MemoryDisk, Slot};
-use ug_problem::{ProblemError, Shared};
+use ug_expect::{holds, holds_at};
+use ug_problem::{Problem, ProblemError, Shared};
 use ug_restart::{StartFault, begin, image_of, restart};
 
 // Saves the next image of the book, if its sequence is above the last one.
@@ -36,11 +36,15 @@ fn begun(alloc: Global, disk: &mut MemoryDisk, gap: u8) -> Option<(Book, Saver)>
     begin(alloc, disk, problem, settings(gap)).ok()
 }
 
-// A new solve begins on empty slots, and saves once more.
+// A new solve begins there, and saves once more.
+fn begin_and_save(alloc: Global, disk: &mut MemoryDisk) -> Option<()> {
+    let (book, mut saver) = begun(alloc, disk, 0)?;
+    saved(alloc, disk, &book, &mut saver).ok()?.ok()
+}
+
 fn two_images(alloc: Global) -> Option<MemoryDisk> {
-    let mut disk = disk_of(alloc, &[], &[]).ok()?;
-    let (book, mut saver) = begun(alloc, &mut disk, 0)?;
-    saved(alloc, &mut disk, &book, &mut saver).ok()?.ok()?;
+    let mut disk = disk_with(alloc, &[], &[]).ok()?;
+    begin_and_save(alloc, &mut disk)?;
     Some(disk)
 }
 
@@ -51,19 +55,25 @@ fn three_images(alloc: Global) -> Option<MemoryDisk> {
     Some(disk)
 }
 
+// Whether there is a disk with these slots.
+fn has(disk: Option<MemoryDisk>, zero: &[u8], one: &[u8]) -> bool {
+    match disk {
+        Some(disk) => disk.bytes(Slot::Zero) == zero && disk.bytes(Slot::One) == one,
+        None => false,
+    }
+}
+
 #[test]
-fn first_images_go_to_the_slots_in_turn(rt: HostRuntime) -> Result<(), Fail> {
-    let Some(disk) = two_images(rt.alloc()) else {
-        panic!(rt; "no two images");
-    };
-    assert_eq!(rt; disk.bytes(Slot::Zero), slot_of(1, 1, 0).as_slice());
-    assert_eq!(rt; disk.bytes(Slot::One), slot_of(1, 2, 0).as_slice());
-    let Some(disk) = three_images(rt.alloc()) else {
-        panic!(rt; "no three images");
-    };
-    assert_eq!(rt; disk.bytes(Slot::Zero), slot_of(2, 3, 5).as_slice());
-    assert_eq!(rt; disk.bytes(Slot::One), slot_of(1, 2, 0).as_slice());
-    Ok(())
+fn first_images_go_to_the_slots_in_turn(rt: HostRuntime) {
+    let alloc = rt.alloc();
+    holds(
+        &rt,
+        has(two_images(alloc), &slot_of(1, 1, 0), &slot_of(1, 2, 0)),
+    );
+    holds(
+        &rt,
+        has(three_images(alloc), &slot_of(2, 3, 5), &slot_of(1, 2, 0)),
+    );
 }
 
 // The run and the sequence of a restart.
@@ -159,6 +169,14 @@ const CASES: [Case; 18] = [
     (113, (25, 9), false, 3, Ok((2, 10))),
 ];
 
+// The answer of a restart.
+fn restarted(alloc: Global, disk: &mut MemoryDisk, problem: Problem, gap: u8) -> Answer {
+    match restart(alloc, disk, Shared::own(problem), settings(gap)) {
+        Ok((book, saver)) => Ok((book.run(), saver.sequence())),
+        Err(fault) => Err(fault),
+    }
+}
+
 // The answer of a restart, and what it wrote.
 fn answer_of(alloc: Global, case: &Case) -> Result<(Answer, MemoryDisk), ProblemError> {
     let (len, (place, byte), is_other, asked, _) = *case;
@@ -166,12 +184,9 @@ fn answer_of(alloc: Global, case: &Case) -> Result<(Answer, MemoryDisk), Problem
     if place < 113 {
         slot[place] = byte;
     }
-    let mut disk = disk_of(alloc, &slot[..len.min(113)], &[])?;
-    let problem = Shared::own(nothing(alloc, is_other)?);
-    let answer = match restart(alloc, &mut disk, problem, settings(asked)) {
-        Ok((book, saver)) => Ok((book.run(), saver.sequence())),
-        Err(fault) => Err(fault),
-    };
+    let problem = nothing(alloc, is_other)?;
+    let mut disk = disk_with(alloc, &slot[..len.min(113)], &[])?;
+    let answer = restarted(alloc, &mut disk, problem, asked);
     Ok((answer, disk))
 }
 
@@ -192,9 +207,9 @@ fn is_as_wanted(alloc: Global, case: &Case) -> Result<bool, ProblemError> {
 }
 
 #[test]
-fn restart_goes_on_or_says_why_not(rt: HostRuntime) -> Result<(), Fail> {
+fn restart_goes_on_or_says_why_not(rt: HostRuntime) -> Result<(), ProblemError> {
     for (at, case) in CASES.iter().enumerate() {
-        assert!(rt; is_as_wanted(rt.alloc(), case)?, "{at}");
+        holds_at(&rt, is_as_wanted(rt.alloc(), case)?, &at);
     }
     Ok(())
 }

@@ -2,12 +2,12 @@ ghost use Rattle.std.specs.Prelude.{Some, IfOk, IfSome};
 ghost use Rattle.ug_disk.specs.Memories.{history_of};
 ghost use Rattle.ug_checkpoint.specs.Savers.{IsKept};
 
-use crate::slots::{disk_of, nothing, settings, slot_of};
+use crate::slots::{disk_with, nothing, settings, slot_of};
 use std::alloc::{AllocError, Global};
-use std::test::Fail;
 use ug_blocks::length;
 use ug_checkpoint::{LoadError, Saver, load};
 use ug_disk::{MemoryDisk, Slot};
+use ug_expect::{holds, holds_at, same};
 use ug_image::decode;
 use ug_problem::Shared;
 use ug_restart::restart;
@@ -69,17 +69,21 @@ fn filled(mut bytes: Vec<u8>, places: Range, fill: Option<u8>) -> Vec<u8> {
     bytes
 }
 
-// The run and the sequence that recovery finds after a crash that leaves what was written but for
-// these places of slot 0, where it leaves this byte; none where a crash may not.
+// A crash leaves what was written but for these places of slot 0, where it leaves this byte.
+fn crash(alloc: Global, disk: &mut MemoryDisk, places: Range, fill: Option<u8>) -> Option<()> {
+    let zero = disk.bytes(Slot::Zero).to_vec(alloc).ok()?;
+    let one = disk.bytes(Slot::One).to_vec(alloc).ok()?;
+    disk.crash(filled(zero, places, fill), one).ok()
+}
+
+// The run and the sequence that recovery finds after that crash; none where a crash may not be so.
 fn found(
     alloc: Global,
     mut disk: MemoryDisk,
     places: Range,
     fill: Option<u8>,
 ) -> Option<(u64, u64)> {
-    let zero = disk.bytes(Slot::Zero).to_vec(alloc).ok()?;
-    let one = disk.bytes(Slot::One).to_vec(alloc).ok()?;
-    disk.crash(filled(zero, places, fill), one).ok()?;
+    crash(alloc, &mut disk, places, fill)?;
     recovered(alloc, &mut disk)
 }
 
@@ -100,22 +104,45 @@ fn two_saves(alloc: Global, disk: &mut MemoryDisk) -> Option<Saver>
     Some(saver)
 }
 
+fn save_third(alloc: Global, disk: &mut MemoryDisk, nodes: u16) -> Option<()> {
+    let bytes = image(alloc, 3, nodes).ok()?;
+    let mut saver = two_saves(alloc, disk)?;
+    save(alloc, disk, &mut saver, &bytes);
+    Some(())
+}
+
 fn three_saves(alloc: Global, nodes: u16, stop: u64) -> Option<MemoryDisk> {
-    let mut disk = disk_of(alloc, &[], &[stop]).ok()?;
-    let mut saver = two_saves(alloc, &mut disk)?;
-    save(alloc, &mut disk, &mut saver, &image(alloc, 3, nodes).ok()?);
+    let mut disk = disk_with(alloc, &[], &[stop]).ok()?;
+    save_third(alloc, &mut disk, nodes)?;
     Some(disk)
 }
 
-// How many calls the first two saves make, and all three.
-fn calls_of(alloc: Global, nodes: u16) -> Option<(u64, u64)> {
-    let mut disk = disk_of(alloc, &[], &[]).ok()?;
+// How many calls the first two saves make.
+fn calls_of_two(alloc: Global) -> Option<u64> {
+    let mut disk = disk_with(alloc, &[], &[]).ok()?;
     two_saves(alloc, &mut disk)?;
-    let all = three_saves(alloc, nodes, u64::MAX)?;
-    Some((disk.calls(), all.calls()))
+    Some(disk.calls())
+}
+
+// How many calls all three make.
+fn calls_of_three(alloc: Global, nodes: u16) -> Option<u64> {
+    let disk = three_saves(alloc, nodes, u64::MAX)?;
+    Some(disk.calls())
 }
 
 const FILLS: [Option<u8>; 4] = [None, Some(0), Some(255), Some(1)];
+
+// What recovery finds where the third save stopped there and a crash leaves its gate so.
+fn found_after(
+    alloc: Global,
+    nodes: u16,
+    stop: u64,
+    end: usize,
+    fill: Option<u8>,
+) -> Option<(u64, u64)> {
+    let disk = three_saves(alloc, nodes, stop)?;
+    found(alloc, disk, Range { from: 0, end }, fill)
+}
 
 // Whether recovery finds the second image where the third save stopped so many calls before its
 // end, or the third: its gate is open where the last call, which syncs it, was made, or where the
@@ -123,16 +150,14 @@ const FILLS: [Option<u8>; 4] = [None, Some(0), Some(255), Some(1)];
 fn finds_one_of_two(alloc: Global, nodes: u16, all: u64, left: u64) -> bool {
     let end = if left == 1 { 1 } else { 0 };
     for fill in FILLS {
-        let Some(disk) = three_saves(alloc, nodes, all.saturating_sub(left)) else {
-            return false;
-        };
         let is_open = matches!(fill, None | Some(1));
         let sequence = if left == 0 || left == 1 && is_open {
             3
         } else {
             2
         };
-        if found(alloc, disk, Range { from: 0, end }, fill) != Some((1, sequence)) {
+        let found = found_after(alloc, nodes, all.saturating_sub(left), end, fill);
+        if found != Some((1, sequence)) {
             return false;
         }
     }
@@ -140,19 +165,21 @@ fn finds_one_of_two(alloc: Global, nodes: u16, all: u64, left: u64) -> bool {
 }
 
 #[test]
-fn save_over_an_older_image_leaves_one_of_two(rt: HostRuntime) -> Result<(), Fail> {
+fn save_over_an_older_image_leaves_one_of_two(rt: HostRuntime) {
     let alloc = rt.alloc();
+    let two = calls_of_two(alloc).unwrap_or(u64::MAX);
     // A body of 137 bytes is one block, and one of 65,537 is two.
     for (nodes, count) in [(1u16, 6u64), (3271, 7)] {
-        let Some((two, all)) = calls_of(alloc, nodes) else {
-            panic!(rt; "no three saves");
-        };
-        assert_eq!(rt; all.saturating_sub(two), count);
+        let all = calls_of_three(alloc, nodes).unwrap_or(0);
+        same(&rt, &all.saturating_sub(two), &count);
         for left in 0..count {
-            assert!(rt; finds_one_of_two(alloc, nodes, all, left));
+            holds_at(
+                &rt,
+                finds_one_of_two(alloc, nodes, all, left),
+                &(nodes, left),
+            );
         }
     }
-    Ok(())
 }
 
 // Loads the slots, and saves an image after what they have.
@@ -162,21 +189,42 @@ fn load_and_save(alloc: Global, disk: &mut MemoryDisk, bytes: &[u8]) -> Option<(
     Some(())
 }
 
-// A second image is saved until the disk stops, its calls go on, and a run goes on from it until
-// the disk stops again.
-fn again(alloc: Global, stops: &[u64]) -> Option<MemoryDisk> {
-    let mut disk = disk_of(alloc, &slot_of(1, 1, 0), stops).ok()?;
+// A second image is saved until the disk stops, and its calls go on.
+fn resumed(alloc: Global, stops: &[u64]) -> Option<MemoryDisk> {
+    let mut disk = disk_with(alloc, &slot_of(1, 1, 0), stops).ok()?;
     load_and_save(alloc, &mut disk, &slot_of(1, 2, 0)[9..])?;
     disk.resume();
-    let problem = Shared::own(nothing(alloc, false).ok()?);
-    let _ = restart(alloc, &mut disk, problem, settings(0));
     Some(disk)
+}
+
+// And a run goes on from it until the disk stops again.
+fn again(alloc: Global, stops: &[u64]) -> Option<MemoryDisk> {
+    let problem = nothing(alloc, false).ok()?;
+    let mut disk = resumed(alloc, stops)?;
+    let _ = restart(alloc, &mut disk, Shared::own(problem), settings(0));
+    Some(disk)
+}
+
+fn calls_of_again(alloc: Global) -> Option<u64> {
+    let disk = again(alloc, &[])?;
+    Some(disk.calls())
+}
+
+// What recovery finds where the restart stopped there and a crash leaves these places so.
+fn found_again(
+    alloc: Global,
+    stops: &[u64],
+    places: Range,
+    fill: Option<u8>,
+) -> Option<Option<(u64, u64)>> {
+    let disk = again(alloc, stops)?;
+    Some(found(alloc, disk, places, fill))
 }
 
 // After which call the gate of the second image is written, and not synced; and after which the
 // restart has loaded what it goes on from.
 fn stops_of(alloc: Global) -> Option<(u64, u64)> {
-    let mut disk = disk_of(alloc, &slot_of(1, 1, 0), &[]).ok()?;
+    let mut disk = disk_with(alloc, &slot_of(1, 1, 0), &[]).ok()?;
     load_and_save(alloc, &mut disk, &slot_of(1, 2, 0)[9..])?;
     let saved = disk.calls();
     let _ = load(alloc, &mut disk);
@@ -189,8 +237,7 @@ fn images_left(alloc: Global, open: u64, stop: u64, is_all: bool) -> Option<u64>
     let mut images = 0u64;
     for (from, end) in [(0, 1), (1, 113), (0, 113)] {
         for fill in FILLS {
-            let disk = again(alloc, &[open, stop])?;
-            match found(alloc, disk, Range { from, end }, fill) {
+            match found_again(alloc, &[open, stop], Range { from, end }, fill)? {
                 Some((2, 3)) => {}
                 Some((1, 2)) if !is_all => {}
                 None => continue,
@@ -203,16 +250,13 @@ fn images_left(alloc: Global, open: u64, stop: u64, is_all: bool) -> Option<u64>
 }
 
 #[test]
-fn restart_that_stops_leaves_the_image_before_or_its_own(rt: HostRuntime) -> Result<(), Fail> {
+fn restart_that_stops_leaves_the_image_before_or_its_own(rt: HostRuntime) {
     let alloc = rt.alloc();
-    let (Some((open, loaded)), Some(whole)) = (stops_of(alloc), again(alloc, &[])) else {
-        panic!(rt; "no restart");
-    };
-    let all = whole.calls();
-    assert!(rt; loaded < all);
+    let (open, loaded) = stops_of(alloc).unwrap_or((u64::MAX, u64::MAX));
+    let all = calls_of_again(alloc).unwrap_or(0);
+    holds(&rt, loaded < all);
     for stop in loaded..all.saturating_add(1) {
         let images = images_left(alloc, open, stop, stop == all);
-        assert!(rt; images.is_some_and(|images| images >= 3), "{stop}");
+        holds_at(&rt, images.is_some_and(|images| images >= 3), &stop);
     }
-    Ok(())
 }

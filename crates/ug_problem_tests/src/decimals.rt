@@ -1,6 +1,7 @@
 ghost use Rattle.std.specs.Prelude.{◌≤◌, IfSome};
 ghost use Rattle.ug_problem.specs.Decimals.{IsDecimal};
 
+use ug_expect::same;
 use ug_problem::Decimal;
 
 fn read(word: &str) -> Option<Decimal>
@@ -46,13 +47,14 @@ fn words(rt: HostRuntime) {
         ),
     ];
     for (word, negative, digits, power) in cases {
-        assert_eq!(rt;
-            read(word),
-            Some(Decimal {
+        same(
+            &rt,
+            &read(word),
+            &Some(Decimal {
                 negative,
                 digits,
-                power
-            })
+                power,
+            }),
         );
     }
 }
@@ -80,7 +82,7 @@ fn no_numbers(rt: HostRuntime) {
         "100000000000000000000000000000000000001",
     ];
     for word in words {
-        assert_eq!(rt; read(word), None);
+        same(&rt, &read(word), &None);
     }
 }
 
@@ -110,7 +112,7 @@ fn rounds(rt: HostRuntime) {
         ("-1e9999", None),
     ];
     for (word, sides) in cases {
-        assert_eq!(rt; rounded(word), sides);
+        same(&rt, &rounded(word), &sides);
     }
 }
 
@@ -143,7 +145,7 @@ fn scales(rt: HostRuntime) {
     ];
     for (word, scale, value) in cases {
         if scale <= 20_000 {
-            assert_eq!(rt; scaled(word, scale), value);
+            same(&rt, &scaled(word, scale), &value);
         }
     }
 }

@@ -1,5 +1,6 @@
 use std::alloc::{AllocError, Global};
 use std::test::Fail;
+use ug_expect::{holds, holds_at};
 use ug_image::{Image, ImageError, decode};
 
 // The image of run 1 and sequence 2 of a problem with no column and no row, of which the root is
@@ -79,18 +80,21 @@ const CUTS: [(usize, usize); 20] = [
 #[test]
 fn reads_three_versions_and_names_the_field_that_is_cut_short(rt: HostRuntime) -> Result<(), Fail> {
     let alloc = rt.alloc();
-    assert!(rt; is_it(decode(alloc, &NOTHING)));
+    holds(&rt, is_it(decode(alloc, &NOTHING)));
     let second = in_version(alloc, &NOTHING, 2, 60, 76)?;
-    assert!(rt; is_it(decode(alloc, &second)));
+    holds(&rt, is_it(decode(alloc, &second)));
     let unnamed = in_version(alloc, &second, 1, 68, 84)?;
-    assert!(rt; is_it(decode(alloc, &in_version(alloc, &unnamed, 1, 52, 60)?)));
+    holds(
+        &rt,
+        is_it(decode(alloc, &in_version(alloc, &unnamed, 1, 52, 60)?)),
+    );
     for version in [0, 4] {
         let other = in_version(alloc, &second, version, 104, 104)?;
-        assert!(rt; place(decode(alloc, &other)) == Some(0));
+        holds(&rt, place(decode(alloc, &other)) == Some(0));
     }
     for (left, at) in CUTS {
         let cut = NOTHING.get(..left).unwrap_or(&[]);
-        assert!(rt; place(decode(alloc, cut)) == Some(at), "{left}");
+        holds_at(&rt, place(decode(alloc, cut)) == Some(at), &left);
     }
     Ok(())
 }

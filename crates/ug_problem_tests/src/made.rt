@@ -1,7 +1,7 @@
 ghost use Rattle.std.specs.Prelude.{◌≤◌};
 
 use std::alloc::{AllocError, Global};
-use std::test::Fail;
+use ug_expect::holds;
 use ug_gen::make;
 use ug_problem::Problem;
 use ug_rows::Term;
@@ -76,14 +76,33 @@ fn columns_are(problem: &Problem, names: &[&[u8]]) -> bool {
     problem.columns().len() == names.len()
 }
 
+fn makes_rows(alloc: Global, size: u32, wanted: &[Wanted]) -> Result<bool, AllocError>
+    requires least { 1 ≤ size }
+    requires most { size ≤ 40 }
+{
+    rows_are(alloc, &made(alloc, size)?, wanted)
+}
+
+fn makes_profits(alloc: Global, size: u32, wanted: &[i128]) -> Result<bool, AllocError>
+    requires least { 1 ≤ size }
+    requires most { size ≤ 40 }
+{
+    profits_are(alloc, &made(alloc, size)?, wanted)
+}
+
+fn makes_columns(alloc: Global, size: u32, names: &[&[u8]]) -> Result<bool, AllocError>
+    requires least { 1 ≤ size }
+    requires most { size ≤ 40 }
+{
+    Ok(columns_are(&made(alloc, size)?, names))
+}
+
 #[test]
-fn seed_one_makes_these_instances(rt: HostRuntime) -> Result<(), Fail> {
+fn seed_one_makes_these_instances(rt: HostRuntime) -> Result<(), AllocError> {
     let alloc = rt.alloc();
-    let three = made(alloc, 3)?;
-    assert!(rt; rows_are(alloc, &three, &THREE)?);
-    assert!(rt; columns_are(&three, &NAMES));
-    let four = made(alloc, 4)?;
-    assert!(rt; rows_are(alloc, &four, &FOUR)?);
-    assert!(rt; profits_are(alloc, &four, &[-8, -31, -24, -93])?);
+    holds(&rt, makes_rows(alloc, 3, &THREE)?);
+    holds(&rt, makes_columns(alloc, 3, &NAMES)?);
+    holds(&rt, makes_rows(alloc, 4, &FOUR)?);
+    holds(&rt, makes_profits(alloc, 4, &[-8, -31, -24, -93])?);
     Ok(())
 }

@@ -4,6 +4,7 @@ ghost use Rattle.ug_rows.specs.Rows.{IsLinear};
 use std::alloc::{AllocError, Global};
 use std::cmp::Ordering;
 use std::test::Fail;
+use ug_expect::{holds, same};
 use ug_lists::Items;
 use ug_nodes::{
     AreaError, Change, Changes, Line, Name, Node, Ticket, area_of, changes_of, first_outside,
@@ -50,10 +51,13 @@ fn spells_a_box_and_reads_it_back(rt: HostRuntime) -> Result<(), Fail> {
     let root = area(alloc, (0, 7), (0, 7))?;
     let upper = area(alloc, (4, 7), (0, 7))?;
     let changes = changes_of(alloc, &root, &upper)?;
-    assert!(rt; changes.as_slice() == [change(0, 4, 7)].as_slice());
+    holds(&rt, changes.as_slice() == [change(0, 4, 7)].as_slice());
     let back = area_of(alloc, &root, &changes).ok();
-    assert!(rt; back.is_some_and(|back| back.as_slice() == upper.as_slice()));
-    assert!(rt; changes_of(alloc, &root, &root)?.as_slice().is_empty());
+    holds(
+        &rt,
+        back.is_some_and(|back| back.as_slice() == upper.as_slice()),
+    );
+    holds(&rt, changes_of(alloc, &root, &root)?.as_slice().is_empty());
     Ok(())
 }
 
@@ -61,23 +65,36 @@ fn spells_a_box_and_reads_it_back(rt: HostRuntime) -> Result<(), Fail> {
 fn names_the_first_change_that_is_none(rt: HostRuntime) -> Result<(), Fail> {
     let alloc = rt.alloc();
     let outside = |column| Some(AreaError::Outside { column });
-    assert_eq!(rt;
-        refused(alloc, &[change(0, 4, 7), change(1, 0, 7)])?,
-        outside(1)
+    same(
+        &rt,
+        &refused(alloc, &[change(0, 4, 7), change(1, 0, 7)])?,
+        &outside(1),
     );
-    assert_eq!(rt;
-        refused(alloc, &[change(0, 5, 4), change(2, 0, 1)])?,
-        outside(0)
+    same(
+        &rt,
+        &refused(alloc, &[change(0, 5, 4), change(2, 0, 1)])?,
+        &outside(0),
     );
-    assert_eq!(rt; refused(alloc, &[change(2, 0, 1)])?, outside(2));
-    assert_eq!(rt;
-        refused(alloc, &[change(0, 1, 7), change(1, 1, 8)])?,
-        outside(1)
+    same(&rt, &refused(alloc, &[change(2, 0, 1)])?, &outside(2));
+    same(
+        &rt,
+        &refused(alloc, &[change(0, 1, 7), change(1, 1, 8)])?,
+        &outside(1),
     );
-    assert_eq!(rt; refused(alloc, &[change(0, -1, 7)])?, outside(0));
-    assert_eq!(rt; refused(alloc, &[change(0, 1, 7), change(1, 7, 7)])?, None);
-    assert!(rt; list(alloc, &[change(1, 1, 7), change(0, 1, 7)])?.is_none());
-    assert!(rt; list(alloc, &[change(1, 1, 7), change(1, 2, 7)])?.is_none());
+    same(&rt, &refused(alloc, &[change(0, -1, 7)])?, &outside(0));
+    same(
+        &rt,
+        &refused(alloc, &[change(0, 1, 7), change(1, 7, 7)])?,
+        &None,
+    );
+    holds(
+        &rt,
+        list(alloc, &[change(1, 1, 7), change(0, 1, 7)])?.is_none(),
+    );
+    holds(
+        &rt,
+        list(alloc, &[change(1, 1, 7), change(1, 2, 7)])?.is_none(),
+    );
     Ok(())
 }
 
@@ -105,22 +122,37 @@ fn names_the_least_column_outside(rt: HostRuntime) -> Result<(), Fail> {
     let alloc = rt.alloc();
     let x = [change(0, 4, 7)];
     let y = [change(1, 0, 3)];
-    assert_eq!(rt;
-        outside(alloc, &x, &[change(0, 4, 7), change(1, 2, 2)])?,
-        Some(None)
+    same(
+        &rt,
+        &outside(alloc, &x, &[change(0, 4, 7), change(1, 2, 2)])?,
+        &Some(None),
     );
-    assert_eq!(rt; outside(alloc, &x, &[])?, Some(Some(0)));
-    assert_eq!(rt; outside(alloc, &y, &[change(2, 0, 1)])?, Some(Some(1)));
-    assert_eq!(rt;
-        outside(alloc, &y, &[change(0, 5, 4), change(1, 0, 4)])?,
-        Some(Some(0))
+    same(&rt, &outside(alloc, &x, &[])?, &Some(Some(0)));
+    same(
+        &rt,
+        &outside(alloc, &y, &[change(2, 0, 1)])?,
+        &Some(Some(1)),
     );
-    assert_eq!(rt; outside(alloc, &x, &[change(0, 3, 7)])?, Some(Some(0)));
-    assert_eq!(rt;
-        outside(alloc, &x, &[change(0, 5, 6), change(1, 0, 7)])?,
-        Some(Some(1))
+    same(
+        &rt,
+        &outside(alloc, &y, &[change(0, 5, 4), change(1, 0, 4)])?,
+        &Some(Some(0)),
     );
-    assert_eq!(rt; outside(alloc, &[], &[change(2, 0, 1)])?, Some(Some(2)));
+    same(
+        &rt,
+        &outside(alloc, &x, &[change(0, 3, 7)])?,
+        &Some(Some(0)),
+    );
+    same(
+        &rt,
+        &outside(alloc, &x, &[change(0, 5, 6), change(1, 0, 7)])?,
+        &Some(Some(1)),
+    );
+    same(
+        &rt,
+        &outside(alloc, &[], &[change(2, 0, 1)])?,
+        &Some(Some(2)),
+    );
     Ok(())
 }
 
@@ -152,11 +184,12 @@ fn moves_the_floor_with_the_changes(rt: HostRuntime) -> Result<(), Fail> {
     let root = area(alloc, (0, 7), (0, 7))?;
     let root_floor = floor(&objective, &root);
     let changes = list(alloc, &[change(0, 4, 7), change(1, 0, 3)])?.ok_or("rising")?;
-    assert!(rt; area_of(alloc, &root, &changes).is_ok());
-    assert_eq!(rt; root_floor, -20);
-    assert_eq!(rt;
-        floor_of_changes(&objective, &root, root_floor, &changes),
-        0
+    holds(&rt, area_of(alloc, &root, &changes).is_ok());
+    same(&rt, &root_floor, &-20);
+    same(
+        &rt,
+        &floor_of_changes(&objective, &root, root_floor, &changes),
+        &0,
     );
     Ok(())
 }
@@ -171,19 +204,37 @@ fn stands_below_the_names_of_its_line(rt: HostRuntime) -> Result<(), Fail> {
     let alloc = rt.alloc();
     let root = Line::start(alloc, name(1, 1, 1))?;
     let line = root.child(alloc, name(1, 4, 2))?;
-    assert!(rt; line.as_slice() == [name(1, 1, 1), name(1, 4, 2)].as_slice());
-    assert!(rt; line.name() == name(1, 4, 2));
-    assert!(rt; is_below(&line, &name(1, 1, 1)) && is_below(&line, &line.name()));
-    assert!(rt; !is_below(&line, &name(1, 4, 1)) && !is_below(&root, &line.name()));
-    assert!(rt; Line::checked(Vec::new(alloc)).is_none());
-    assert!(rt; is_ancestor(&root, &line) && !is_ancestor(&line, &line));
+    holds(
+        &rt,
+        line.as_slice() == [name(1, 1, 1), name(1, 4, 2)].as_slice(),
+    );
+    holds(&rt, line.name() == name(1, 4, 2));
+    holds(
+        &rt,
+        is_below(&line, &name(1, 1, 1)) && is_below(&line, &line.name()),
+    );
+    holds(
+        &rt,
+        !is_below(&line, &name(1, 4, 1)) && !is_below(&root, &line.name()),
+    );
+    holds(&rt, Line::checked(Vec::new(alloc)).is_none());
+    holds(&rt, is_ancestor(&root, &line) && !is_ancestor(&line, &line));
     let sibling = root.child(alloc, name(1, 4, 3))?;
-    assert!(rt; !is_ancestor(&line, &root) && !is_ancestor(&line, &sibling));
+    holds(
+        &rt,
+        !is_ancestor(&line, &root) && !is_ancestor(&line, &sibling),
+    );
     let changes = Changes::new(Vec::new(alloc));
     let node = Node { line, changes };
     let copy = node.clone()?;
-    assert!(rt; copy.line.as_slice() == node.line.as_slice() && copy.changes.as_slice().is_empty());
-    assert!(rt; node.line.name().order(name(2, 1, 1)) == Ordering::Less);
-    assert!(rt; name(1, 4, 2).ticket.order(name(1, 3, 9).ticket) == Ordering::Greater);
+    holds(
+        &rt,
+        copy.line.as_slice() == node.line.as_slice() && copy.changes.as_slice().is_empty(),
+    );
+    holds(&rt, node.line.name().order(name(2, 1, 1)) == Ordering::Less);
+    holds(
+        &rt,
+        name(1, 4, 2).ticket.order(name(1, 3, 9).ticket) == Ordering::Greater,
+    );
     Ok(())
 }

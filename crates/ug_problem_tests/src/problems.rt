@@ -3,6 +3,7 @@ ghost use Rattle.ug_rows.specs.declared.row.Term.{Term};
 ghost use Rattle.ug_problem.specs.Instances.{IsFormed, instance_of};
 
 use std::alloc::{AllocError, Global};
+use ug_expect::{holds, same};
 use ug_lists::{Items, Text};
 use ug_problem::{Column, Columns, NamedRow, NamedRows, Problem, ProblemError, Shared};
 use ug_rows::{Objective, Row, Term, Terms};
@@ -14,17 +15,24 @@ fn one_term(alloc: Global, factor: i128) -> Result<Terms, AllocError>
     Terms::from_slice(alloc, &[Term { column: 0, factor }])
 }
 
+fn digit(alloc: Global) -> Result<Column, AllocError>
+    ensures { IfOk result (λ column. column ≡ record { name = 120 ∷ []; low = pos 0; high = pos 9 }) }
+{
+    let name = Text::from_slice(alloc, b"x")?;
+    Ok(Column {
+        name,
+        low: 0,
+        high: 9,
+    })
+}
+
 fn one_column(alloc: Global) -> Result<Columns, AllocError>
     ensures { IfOk result (λ columns. columns
         ≡ record { name = 120 ∷ []; low = pos 0; high = pos 9 } ∷ []) }
 {
-    let name = Text::from_slice(alloc, b"x")?;
+    let column = digit(alloc)?;
     let mut columns = Items::new(alloc);
-    columns.push(Column {
-        name,
-        low: 0,
-        high: 9,
-    })?;
+    columns.push(column)?;
     Ok(columns)
 }
 
@@ -70,25 +78,50 @@ fn made(alloc: Global, factor: i128, maximise: bool, scale: u8) -> Result<Proble
 #[test]
 fn is_made_unless_a_row_is_too_wide(rt: HostRuntime) {
     let widest = 1_000_000_000_000_000_000_000_000;
-    assert!(rt; made(rt.alloc(), widest, false, 0).is_ok());
-    assert_eq!(rt;
-        made(rt.alloc(), widest + 1, false, 0).err(),
-        Some(ProblemError::TooWide { row: Some(0) })
+    holds(&rt, made(rt.alloc(), widest, false, 0).is_ok());
+    same(
+        &rt,
+        &made(rt.alloc(), widest + 1, false, 0).err(),
+        &Some(ProblemError::TooWide { row: Some(0) }),
     );
 }
 
-// Whether a problem of its own has a copy as its second holder, and a counted one itself.
-fn shares(alloc: Global) -> Result<bool, ProblemError> {
-    let own = Shared::own(made(alloc, 3, false, 0)?);
-    let copy = own.share()?;
-    let counted = own.into_counted(alloc)?;
-    let second = counted.share()?;
-    Ok(copy.problem().is(second.problem()) && !copy.problem().is(&made(alloc, 4, false, 0)?))
+// A holder of a problem with this factor.
+fn holder(alloc: Global, factor: i128) -> Option<Shared>
+    requires { factor ≢ pos 0 }
+{
+    Some(Shared::own(made(alloc, factor, false, 0).ok()?))
+}
+
+// Whether a second holder has the same problem.
+fn shares(first: &Shared) -> Option<bool> {
+    let second = first.share().ok()?;
+    Some(second.problem().is(first.problem()))
+}
+
+fn shares_its_own(alloc: Global) -> Option<bool> {
+    let own = holder(alloc, 3)?;
+    shares(&own)
+}
+
+fn shares_a_counted_one(alloc: Global) -> Option<bool> {
+    let own = holder(alloc, 3)?;
+    let counted = own.into_counted(alloc).ok()?;
+    shares(&counted)
+}
+
+fn is_another(alloc: Global) -> Option<bool> {
+    let first = holder(alloc, 3)?;
+    let other = holder(alloc, 4)?;
+    Some(other.problem().is(first.problem()))
 }
 
 #[test]
 fn has_a_second_holder(rt: HostRuntime) {
-    assert_eq!(rt; shares(rt.alloc()), Ok(true));
+    let alloc = rt.alloc();
+    same(&rt, &shares_its_own(alloc), &Some(true));
+    same(&rt, &shares_a_counted_one(alloc), &Some(true));
+    same(&rt, &is_another(alloc), &Some(false));
 }
 
 // Whether this text is printed of a value.
@@ -108,11 +141,14 @@ fn prints(alloc: Global, value: i128, maximise: bool, scale: u8, text: &str) -> 
 #[test]
 fn prints_in_lowest_terms(rt: HostRuntime) {
     let tiny = 10_000_000_000_000_000_000_000_000_000_000_000_000;
-    assert!(rt; prints(rt.alloc(), 225, false, 2, "2.25"));
-    assert!(rt; prints(rt.alloc(), -7, false, 0, "-7"));
-    assert!(rt; prints(rt.alloc(), 100, false, 2, "1"));
-    assert!(rt; prints(rt.alloc(), 5, false, 3, "0.005"));
-    assert!(rt; prints(rt.alloc(), 0, true, 3, "0"));
-    assert!(rt; prints(rt.alloc(), -13, true, 0, "13"));
-    assert!(rt; prints(rt.alloc(), tiny, true, 60, "-0.00000000000000000000001"));
+    holds(&rt, prints(rt.alloc(), 225, false, 2, "2.25"));
+    holds(&rt, prints(rt.alloc(), -7, false, 0, "-7"));
+    holds(&rt, prints(rt.alloc(), 100, false, 2, "1"));
+    holds(&rt, prints(rt.alloc(), 5, false, 3, "0.005"));
+    holds(&rt, prints(rt.alloc(), 0, true, 3, "0"));
+    holds(&rt, prints(rt.alloc(), -13, true, 0, "13"));
+    holds(
+        &rt,
+        prints(rt.alloc(), tiny, true, 60, "-0.00000000000000000000001"),
+    );
 }

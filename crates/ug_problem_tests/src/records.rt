@@ -1,69 +1,28 @@
-ghost use Rattle.std.specs.Prelude.{◌≡◌, [], ◌∷◌, pos, negsuc, None, Some, IfOk};
-
 use std::alloc::{AllocError, Global};
 use std::test::Fail;
-use ug_lists::{Items, Text};
-use ug_problem::{Column, Columns, NamedRow, NamedRows, Problem, ProblemError};
+use ug_expect::{holds, same};
+use ug_lists::Items;
+use ug_mps::read;
+use ug_problem::{Problem, ProblemError};
 use ug_records::{RecordError, from_record, to_record};
-use ug_rows::{Objective, Row, Term, Terms};
+use ug_rows::Objective;
 
-fn one_column(alloc: Global) -> Result<Columns, AllocError>
-    ensures { IfOk result (λ columns. columns
-        ≡ record { name = 88 ∷ []; low = negsuc 0; high = pos 7 } ∷ []) }
-{
-    let name = Text::from_slice(alloc, b"X")?;
-    let mut columns = Items::new(alloc);
-    columns.push(Column {
-        name,
-        low: -1,
-        high: 7,
-    })?;
-    Ok(columns)
-}
-
-fn two_of_it(alloc: Global) -> Result<Terms, AllocError>
-    ensures { IfOk result (λ terms. terms ≡ record { column = 0; factor = pos 2 } ∷ []) }
-{
-    Terms::from_slice(
-        alloc,
-        &[Term {
-            column: 0,
-            factor: 2,
-        }],
-    )
-}
-
-fn one_row(alloc: Global) -> Result<NamedRows, AllocError>
-    ensures { IfOk result (λ rows. rows ≡ record {
-      name = 80 ∷ [];
-      row = record {
-        terms = record { column = 0; factor = pos 2 } ∷ [];
-        low = None;
-        high = Some (pos 5);
-      };
-    } ∷ []) }
-{
-    let name = Text::from_slice(alloc, b"P")?;
-    let row = Row {
-        terms: two_of_it(alloc)?,
-        low: None,
-        high: Some(5),
-    };
-    let mut rows = Items::new(alloc);
-    rows.push(NamedRow { name, row })?;
-    Ok(rows)
-}
-
-// Twice the column is at most 5, and its double less 1 is maximised, in tenths.
-fn small(alloc: Global) -> Result<Problem, ProblemError> {
-    let objective = Objective {
-        terms: two_of_it(alloc)?,
-        constant: -1,
-        maximise: true,
-        scale: 1,
-    };
-    Problem::new(alloc, one_column(alloc)?, one_row(alloc)?, objective)
-}
+// Twice the column is at most 5, and its double less 1 is maximised, in tenths: of what is minimised
+// the signs are turned.
+const TEXT: &[u8] = b"OBJSENSE MAX
+ROWS
+ N Z
+ L P
+COLUMNS
+ M 'MARKER' 'INTORG'
+ X Z -0.2 P 2
+RHS
+ Z -0.1 P 5
+BOUNDS
+ LO X -1
+ UP X 7
+ENDATA
+";
 
 // Nothing at all.
 fn nil(alloc: Global) -> Result<Problem, ProblemError> {
@@ -90,17 +49,19 @@ const SMALL: [u8; 104] = [
     0, 0, 0, 0, 0, 0, 0, 0, 0, 0, 0, 0, 0, 0, 0, 0, 0, 0, 0, 2,
 ];
 
+// Whether this is the record of a problem.
+fn is_spelled_so(alloc: Global, problem: &Problem, wanted: &[u8]) -> Result<bool, AllocError> {
+    Ok(to_record(alloc, problem)?.as_slice() == wanted)
+}
+
 #[test]
 fn records_are_spelled_so(rt: HostRuntime) -> Result<(), Fail> {
     let alloc = rt.alloc();
-    assert_eq!(rt;
-        to_record(alloc, &nil(alloc)?)?.as_slice(),
-        [0; 30].as_slice()
-    );
-    assert_eq!(rt;
-        to_record(alloc, &small(alloc)?)?.as_slice(),
-        SMALL.as_slice()
-    );
+    holds(&rt, is_spelled_so(alloc, &nil(alloc)?, &[0; 30])?);
+    match read(alloc, TEXT, None) {
+        Ok(small) => holds(&rt, is_spelled_so(alloc, &small, &SMALL)?),
+        Err(_) => panic!(rt; "the text has a fault"),
+    }
     Ok(())
 }
 
@@ -145,19 +106,22 @@ const SPOILED: [(usize, u8, usize); 14] = [
     (88, 127, 88), // a factor above 10^24
 ];
 
-#[test]
-fn bad_fields_are_named(rt: HostRuntime) -> Result<(), Fail> {
-    let alloc = rt.alloc();
-    for (byte, value, at) in &SPOILED {
-        assert_eq!(rt; place_with(alloc, &SMALL, *byte, *value)?, Some(*at));
-    }
-    assert_eq!(rt; place(alloc, &[0; 29]), Some(26));
-    assert_eq!(rt; place(alloc, &[0; 31]), Some(30));
-    // a second term of the objective, in the column of the first
-    let mut bytes = Vec::new(alloc);
-    bytes.extend_from_slice(&SMALL)?;
+// Where the first bad field begins with a second term of the objective, in the column of the first.
+fn place_with_a_term_more(alloc: Global) -> Result<Option<usize>, AllocError> {
+    let mut bytes = SMALL.to_vec(alloc)?;
     bytes.extend_from_slice(&[0, 0, 0, 0, 0, 0, 0, 0, 0, 0, 0, 0, 0, 0, 0, 0, 0, 0, 0, 2])?;
-    assert_eq!(rt; place_with(alloc, &bytes, 83, 2)?, Some(104));
+    place_with(alloc, &bytes, 83, 2)
+}
+
+#[test]
+fn bad_fields_are_named(rt: HostRuntime) -> Result<(), AllocError> {
+    let alloc = rt.alloc();
+    for (byte, value, at) in SPOILED {
+        same(&rt, &place_with(alloc, &SMALL, byte, value)?, &Some(at));
+    }
+    same(&rt, &place(alloc, &[0; 29]), &Some(26));
+    same(&rt, &place(alloc, &[0; 31]), &Some(30));
+    same(&rt, &place_with_a_term_more(alloc)?, &Some(104));
     Ok(())
 }
 
@@ -165,8 +129,12 @@ fn bad_fields_are_named(rt: HostRuntime) -> Result<(), Fail> {
 fn a_record_is_read_back(rt: HostRuntime) -> Result<(), Fail> {
     let alloc = rt.alloc();
     let problem = from_record(alloc, &SMALL)?;
-    assert_eq!(rt; to_record(alloc, &problem)?.as_slice(), SMALL.as_slice());
+    same(
+        &rt,
+        &to_record(alloc, &problem)?.as_slice(),
+        &SMALL.as_slice(),
+    );
     // a low bound may stand above the high one
-    assert_eq!(rt; place_with(alloc, &SMALL, 6, 0)?, None);
+    same(&rt, &place_with(alloc, &SMALL, 6, 0)?, &None);
     Ok(())
 }

@@ -7,6 +7,7 @@ use crate::whole::{Whole, hand, lower, lowest, step};
 use std::alloc::{AllocError, Global};
 use ug_base::{Step, Task};
 use ug_branch::Params;
+use ug_expect::holds_at;
 use ug_mps::read;
 use ug_nodes::Ticket;
 use ug_problem::{Problem, Shared};
@@ -287,12 +288,9 @@ fn goes_as_the_slow_search(rt: HostRuntime) {
         let params = Params::new((number % 8) as u8);
         for (gap, hands, lowers) in [(0, 0, 0), (2, 0, 5), (0, 4, 0), (1, 7, 11)] {
             let steps = steps_at(alloc, number, params, gap, Between { hands, lowers });
-            assert!(rt;
-                steps.is_some(),
-                "problem {number}, gap {gap}, hands {hands}"
-            );
+            holds_at(&rt, steps.is_some(), &(number, gap, hands));
             longest = longest.max(steps.unwrap_or(0));
         }
     }
-    assert!(rt; longest > 30, "longest {longest}");
+    holds_at(&rt, longest > 30, &longest);
 }

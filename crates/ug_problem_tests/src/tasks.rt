@@ -1,9 +1,10 @@
-ghost use Rattle.std.specs.Prelude.{◌<◌};
+ghost use Rattle.std.specs.Prelude.{◌<◌, ◌≤◌, ◌*◌, ◌^◌, unsigned_abs};
 ghost use Rattle.ug_problem.specs.Better.{IsGap};
 
 use std::alloc::Global;
 use ug_base::{Step, Task};
 use ug_branch::Params;
+use ug_expect::{holds, same, same_at};
 use ug_mps::read;
 use ug_nodes::Ticket;
 use ug_problem::Shared;
@@ -86,16 +87,24 @@ fn goes_as_by_hand(task: &mut Task) -> bool {
     true
 }
 
+// The cutoff with which the search of the square under a gap ends, if it goes as it does by hand.
+fn ends_under(alloc: Global, gap: i128) -> Option<i128>
+    requires { IsGap gap }
+{
+    let mut task = task(alloc, 0, gap)?;
+    if task.lowest() == Some(0) && goes_as_by_hand(&mut task) {
+        task.cutoff()
+    } else {
+        None
+    }
+}
+
 #[test]
 fn searches_the_square_under_gaps(rt: HostRuntime) {
-    for (gap, cutoff) in [(0, 5), (2, 3), (9, 0)] {
-        let Some(mut task) = task(rt.alloc(), 0, gap) else {
-            panic!(rt; "no memory");
-        };
-        assert_eq!(rt; task.lowest(), Some(0));
-        assert!(rt; goes_as_by_hand(&mut task), "gap {gap}");
-        assert_eq!(rt; task.cutoff(), Some(cutoff));
-    }
+    let alloc = rt.alloc();
+    same(&rt, &ends_under(alloc, 0), &Some(5));
+    same(&rt, &ends_under(alloc, 2), &Some(3));
+    same(&rt, &ends_under(alloc, 9), &Some(0));
 }
 
 // The cutoff with which the search of the square ends.
@@ -113,49 +122,82 @@ fn ends_with(alloc: Global, number: u8) -> Option<i128>
 #[test]
 fn ends_with_the_least_value(rt: HostRuntime) {
     for number in 0..8 {
-        assert_eq!(rt; ends_with(rt.alloc(), number), Some(5), "params {number}");
+        same_at(&rt, &ends_with(rt.alloc(), number), &Some(5), &number);
     }
+}
+
+// Whether the next step has this letter.
+fn steps_so(task: &mut Task, told: u8) -> bool {
+    task.step().is_ok_and(|step| letter(&step) == told)
+}
+
+// Whether the task has this cutoff behind what lowers it.
+fn lowered(task: &mut Task, given: i128, cutoff: i128) -> bool
+    requires { unsigned_abs given ≤ 2 * 10 ^ 37 }
+{
+    task.lower(given);
+    task.cutoff() == Some(cutoff)
+}
+
+// Whether it is lowered by what is below it alone, down to where nothing is left.
+fn is_lowered(task: &mut Task) -> bool {
+    lowered(task, 6, 6)
+        && lowered(task, 9, 6)
+        && lowered(task, 5, 5)
+        && steps_so(task, b'P')
+        && task.left() == 0
 }
 
 #[test]
 fn lowers_the_cutoff(rt: HostRuntime) {
-    let Some(mut task) = task(rt.alloc(), 0, 0) else {
-        panic!(rt; "no memory");
-    };
-    for (given, cutoff) in [(6, 6), (9, 6), (5, 5)] {
-        task.lower(given);
-        assert_eq!(rt; task.cutoff(), Some(cutoff));
+    match task(rt.alloc(), 0, 0) {
+        Some(mut task) => holds(&rt, is_lowered(&mut task)),
+        None => panic!(rt; "no memory"),
     }
-    let step = task.step();
-    assert!(rt; step.is_ok_and(|step| letter(&step) == b'P'));
-    assert_eq!(rt; task.left(), 0);
+}
+
+const UPPER: [Interval; 2] = [Interval { low: 4, high: 7 }, Interval { low: 0, high: 7 }];
+
+const LOWER: [Interval; 2] = [Interval { low: 2, high: 3 }, Interval { low: 2, high: 7 }];
+
+// Whether the box handed next has this number and these sides.
+fn hands(task: &mut Task, number: u64, sides: &[Interval]) -> bool {
+    match task.hand() {
+        Ok(Some(given)) => given.number == number && given.area.as_slice() == sides,
+        _ => false,
+    }
+}
+
+fn hands_nothing(task: &mut Task) -> bool {
+    task.hand().is_ok_and(|given| given.is_none())
+}
+
+// Whether it keeps what it handed.
+fn has_handed(task: &Task) -> bool {
+    match task.handed() {
+        [first, second] => {
+            first.as_slice() == UPPER.as_slice() && second.as_slice() == LOWER.as_slice()
+        }
+        _ => false,
+    }
+}
+
+// Whether it hands the first boxes left, all but the last, and keeps what it handed.
+fn hands_first(task: &mut Task) -> bool {
+    steps_so(task, b'S')
+        && steps_so(task, b'S')
+        && hands(task, 0, &UPPER)
+        && hands(task, 1, &LOWER)
+        && hands_nothing(task)
+        && task.left() == 1
+        && has_handed(task)
+        && task.ticket() == Ticket { run: 1, number: 3 }
 }
 
 #[test]
 fn hands_the_first_boxes(rt: HostRuntime) {
-    let Some(mut task) = task(rt.alloc(), 0, 0) else {
-        panic!(rt; "no memory");
-    };
-    for _ in 0..2 {
-        let step = task.step();
-        assert!(rt; step.is_ok_and(|step| letter(&step) == b'S'));
+    match task(rt.alloc(), 0, 0) {
+        Some(mut task) => holds(&rt, hands_first(&mut task)),
+        None => panic!(rt; "no memory"),
     }
-    let boxes = [
-        [Interval { low: 4, high: 7 }, Interval { low: 0, high: 7 }],
-        [Interval { low: 2, high: 3 }, Interval { low: 2, high: 7 }],
-    ];
-    for k in 0..2 {
-        let Ok(Some(given)) = task.hand() else {
-            panic!(rt; "no box {k}");
-        };
-        assert_eq!(rt; given.number, k as u64);
-        assert_eq!(rt; given.area.as_slice(), boxes[k].as_slice());
-    }
-    assert!(rt; task.hand().is_ok_and(|given| given.is_none()));
-    assert_eq!(rt; task.left(), 1);
-    assert_eq!(rt; task.handed().len(), 2);
-    for (area, sides) in task.handed().iter().zip(boxes.iter()) {
-        assert_eq!(rt; area.as_slice(), sides.as_slice());
-    }
-    assert_eq!(rt; task.ticket(), Ticket { run: 1, number: 3 });
 }

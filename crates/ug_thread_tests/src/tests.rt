@@ -8,6 +8,7 @@ use std::sync::Wait;
 use std::test::Fail;
 use std::thread::Threads;
 use ug_checkpoint::load;
+use ug_expect::{holds, holds_at, same};
 use ug_gate::{Coming, Hold, HoldingGate, Moment, OpenGate, YieldingGate};
 use ug_restart::{End, Outcome};
 
@@ -36,8 +37,8 @@ fn two_threads_overlap(rt: HostRuntime) -> Result<(), Fail> {
     };
     let gate = HoldingGate::new(rt.alloc(), 2, &[first, second])?;
     let answer = solved(&rt, rt.alloc(), &KNAPSACK, 2, false, &gate);
-    assert_eq!(rt; answer, Answer::Value(-13));
-    assert_eq!(rt; gate.missed(), 0);
+    same(&rt, &answer, &Answer::Value(-13));
+    same(&rt, &gate.missed(), &0);
     Ok(())
 }
 
@@ -67,8 +68,8 @@ fn any_number_of_threads_finds_the_value(rt: HostRuntime) -> Result<(), Fail> {
         (RAMP, Answer::Value(-7)),
     ];
     for (small, answer) in &cases {
-        assert_eq!(rt; least_by_trying(rt.alloc(), small)?, *answer);
-        assert!(rt; all_find(&rt, small, *answer));
+        same(&rt, &least_by_trying(rt.alloc(), small)?, answer);
+        holds(&rt, all_find(&rt, small, *answer));
     }
     Ok(())
 }
@@ -84,7 +85,7 @@ fn any_number_of_threads_finds_what_trying_finds(rt: HostRuntime) -> Result<(), 
             objective: &member.objective,
         };
         let answer = least_by_trying(rt.alloc(), &small)?;
-        assert!(rt; all_find(&rt, &small, answer), "problem {number}");
+        holds_at(&rt, all_find(&rt, &small, answer), &number);
     }
     Ok(())
 }
@@ -94,7 +95,7 @@ fn threads_in_any_order_find_one_value(rt: HostRuntime) {
     for number in 0..100 {
         let gate = YieldingGate::new(number);
         let found = solved(&rt, rt.alloc(), &KNAPSACK, 4, false, &gate);
-        assert_eq!(rt; found, Answer::Value(-13));
+        same(&rt, &found, &Answer::Value(-13));
     }
 }
 
@@ -107,10 +108,10 @@ fn run_ends_at_its_limit(rt: HostRuntime) {
             panic!(rt; "no outcome");
         };
         if let End::Limited(book) = &outcome.end {
-            assert!(rt; book.count() >= limit && book.answer().is_none());
+            holds(&rt, book.count() >= limit && book.answer().is_none());
         } else {
-            assert!(rt; limit > 0);
-            assert_eq!(rt; answer_of(&outcome), Answer::Value(-13));
+            holds(&rt, limit > 0);
+            same(&rt, &answer_of(&outcome), &Answer::Value(-13));
         }
     }
 }
@@ -121,11 +122,14 @@ fn ending_book_is_found_on_the_disk(rt: HostRuntime) {
     let Some(outcome) = solved_on(&rt, rt.alloc(), &KNAPSACK, &mut disk) else {
         panic!(rt; "no outcome");
     };
-    assert_eq!(rt; answer_of(&outcome), Answer::Value(-13));
-    assert_eq!(rt; (outcome.missed, outcome.unsaved), (0, 0));
+    same(&rt, &answer_of(&outcome), &Answer::Value(-13));
+    same(&rt, &(outcome.missed, outcome.unsaved), &(0, 0));
     let Ok(Some(found)) = load(rt.alloc(), &mut disk) else {
         panic!(rt; "no checkpoint");
     };
-    assert!(rt; found.image.nodes.is_empty() && found.image.best.is_some());
-    assert_eq!(rt; found.image.run, 1);
+    holds(
+        &rt,
+        found.image.nodes.is_empty() && found.image.best.is_some(),
+    );
+    same(&rt, &found.image.run, &1);
 }

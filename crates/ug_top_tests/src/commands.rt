@@ -8,6 +8,7 @@ use std::sync::Wait;
 use std::test::Fail;
 use std::thread::Threads;
 use ug_disk::{Disk, MemoryDisk, Slot};
+use ug_expect::{holds, holds_at, same, same_at};
 
 const EMPTY: &str = "ROWS/ N Z/ENDATA/";
 
@@ -80,7 +81,7 @@ fn solvers_find_the_optimum(rt: HostRuntime) -> Result<(), Fail> {
     ];
     for line in lines {
         let told = tells(&rt, alloc, line, KNAPSACK, &mut sound_disk(alloc))?;
-        assert_eq!(rt; told, due(alloc, 0, &["optimal 13;A 2;C 1"])?, "{line}");
+        same_at(&rt, &told, &due(alloc, 0, &["optimal 13;A 2;C 1"])?, &line);
     }
     Ok(())
 }
@@ -120,14 +121,14 @@ fn stopped_run_is_shown_and_goes_on(rt: HostRuntime) -> Result<(), Fail> {
     let mut disk = sound_disk(alloc);
     let line = "solve f --checkpoint d --limit 0";
     let told = tells(&rt, alloc, line, EMPTY, &mut disk)?;
-    assert_eq!(rt; told, due(alloc, 8, &["open none 1"])?);
+    same(&rt, &told, &due(alloc, 8, &["open none 1"])?);
     let mut slot = first_slot();
-    assert_eq!(rt; disk.bytes(Slot::Zero), slot.as_slice());
+    same(&rt, &disk.bytes(Slot::Zero), &slot.as_slice());
     slot[25] = 2;
-    assert_eq!(rt; disk.bytes(Slot::One), slot.as_slice());
+    same(&rt, &disk.bytes(Slot::One), &slot.as_slice());
     for (line, text, status, lines) in STOPPED {
         let told = tells(&rt, alloc, line, text, &mut disk)?;
-        assert_eq!(rt; told, due(alloc, status, &[lines])?, "{line}");
+        same_at(&rt, &told, &due(alloc, status, &[lines])?, &line);
     }
     Ok(())
 }
@@ -145,10 +146,10 @@ fn each_run_has_the_next_number(rt: HostRuntime) -> Result<(), Fail> {
             let line = format!(in alloc; "{command} --checkpoint d{every}")?;
             let told = tells(&rt, alloc, line.as_str(), KNAPSACK, &mut disk)?;
             let is_open = run < 2 && told.starts_with(b"\x08open ");
-            assert!(rt; is_open || told == optimum, "{line}");
+            holds_at(&rt, is_open || told == optimum, &line);
             let shown = tells(&rt, alloc, "show --checkpoint d", "", &mut disk)?;
             let first = format!(in alloc; "\0run {}\n", run.saturating_add(1))?;
-            assert!(rt; shown.starts_with(first.as_bytes()), "{line}");
+            holds_at(&rt, shown.starts_with(first.as_bytes()), &line);
         }
     }
     Ok(())
@@ -192,7 +193,7 @@ fn gap_is_kept_and_printed(rt: HostRuntime) -> Result<(), Fail> {
     let mut disk = sound_disk(alloc);
     for (line, text, status, lines) in GAPS {
         let told = tells(&rt, alloc, line, text, &mut disk)?;
-        assert_eq!(rt; told, due(alloc, status, &[lines])?, "{line}");
+        same_at(&rt, &told, &due(alloc, status, &[lines])?, &line);
     }
     Ok(())
 }
@@ -210,14 +211,14 @@ fn gap_of_a_slot_is_in_units_of_the_scaled_objective(rt: HostRuntime) -> Result<
     )?;
     let shown = tells(&rt, alloc, "show --checkpoint d", "", &mut disk)?;
     let gap = shown.split(|byte| *byte == b'\n').nth(4);
-    assert_eq!(rt; gap, Some(b"gap 100".as_slice()));
+    same(&rt, &gap, &Some(b"gap 100".as_slice()));
 
     let mut disk = changed(alloc, 84, 3)?;
     let shown = tells(&rt, alloc, "show --checkpoint d", "", &mut disk)?;
     let lines = "run 1;sequence 1;best none;heard 0;gap 3;nodes 1;node 0 0 0";
-    assert_eq!(rt; shown, due(alloc, 0, &[lines])?);
+    same(&rt, &shown, &due(alloc, 0, &[lines])?);
     let told = tells(&rt, alloc, "restart f --checkpoint d", EMPTY, &mut disk)?;
-    assert_eq!(rt; told, due(alloc, 16, &["smaller gap 3 0"])?);
+    same(&rt, &told, &due(alloc, 16, &["smaller gap 3 0"])?);
     Ok(())
 }
 
@@ -237,7 +238,7 @@ fn slot_that_is_no_image_is_told(rt: HostRuntime) -> Result<(), Fail> {
     for (zero, line, status, lines) in UNUSABLE {
         let mut disk = slot_only(alloc, zero)?;
         let told = tells(&rt, alloc, line, EMPTY, &mut disk)?;
-        assert_eq!(rt; told, due(alloc, status, &[lines])?, "{line}");
+        same_at(&rt, &told, &due(alloc, status, &[lines])?, &line);
     }
     Ok(())
 }
@@ -249,7 +250,7 @@ fn run_or_sequence_of_two_to_the_62_is_spent(rt: HostRuntime) -> Result<(), Fail
         for line in ["restart f --checkpoint d", "solve f --checkpoint d"] {
             let mut disk = changed(alloc, at, 0x40)?;
             let told = tells(&rt, alloc, line, EMPTY, &mut disk)?;
-            assert_eq!(rt; told, due(alloc, 15, &["spent"])?, "{line}");
+            same_at(&rt, &told, &due(alloc, 15, &["spent"])?, &line);
         }
     }
     Ok(())
@@ -279,12 +280,12 @@ fn disk_that_fails_is_a_fault_first_and_a_missed_save_later(rt: HostRuntime) -> 
         } else if told == missed && calls[2] == 0 {
             calls[1] = calls[1].saturating_add(1);
         } else {
-            assert_eq!(rt; told, due(alloc, 0, &["optimal 0"])?, "{call}");
+            same_at(&rt, &told, &due(alloc, 0, &["optimal 0"])?, &call);
             calls[2] = calls[2].saturating_add(1);
         }
     }
     // Six calls of a save at least are behind six of the first one, and some load before.
-    assert!(rt; calls[0] > 6 && calls[1] >= 6 && calls[2] > 0);
+    holds(&rt, calls[0] > 6 && calls[1] >= 6 && calls[2] > 0);
     Ok(())
 }
 
@@ -313,11 +314,11 @@ fn missed_save_of_a_snapshot_is_followed_by_the_last_save(rt: HostRuntime) -> Re
     for call in 1..40 {
         let (told, is_ended) = saved_where_it_fails(&rt, alloc, call)?;
         if told == missed && met < 6 {
-            assert!(rt; is_ended, "{call}");
+            holds_at(&rt, is_ended, &call);
             met = met.saturating_add(1);
         }
     }
-    assert_eq!(rt; met, 6);
+    same(&rt, &met, &6);
     Ok(())
 }
 
@@ -330,7 +331,7 @@ fn instances_are_made_and_solved(rt: HostRuntime) -> Result<(), Fail> {
         ("gen 1 4 --solvers 3", "optimal 93"),
     ] {
         let told = tells(&rt, alloc, line, "", &mut sound_disk(alloc))?;
-        assert_eq!(rt; told, due(alloc, 0, &[lines])?, "{line}");
+        same_at(&rt, &told, &due(alloc, 0, &[lines])?, &line);
     }
     let one = tells(
         &rt,
@@ -346,7 +347,7 @@ fn instances_are_made_and_solved(rt: HostRuntime) -> Result<(), Fail> {
         "",
         &mut sound_disk(alloc),
     )?;
-    assert!(rt; one.starts_with(b"\0optimal "));
-    assert_eq!(rt; one, four);
+    holds(&rt, one.starts_with(b"\0optimal "));
+    same(&rt, &one, &four);
     Ok(())
 }

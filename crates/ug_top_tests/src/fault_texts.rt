@@ -6,6 +6,7 @@
 
 use crate::texts::{due, edited, outcome};
 use std::test::Fail;
+use ug_expect::{same, same_at};
 
 const KNAP: &str = "NAME BASE
 OBJSENSE MAX
@@ -349,7 +350,7 @@ fn faults_of_texts(rt: HostRuntime) -> Result<(), Fail> {
             if let Some((edits, fault)) = case.split_once(" -> ") {
                 let text = edited(alloc, KNAP, edits)?;
                 let told = outcome(&rt, alloc, text.as_str(), None)?;
-                assert_eq!(rt; told, due(alloc, 3, &["refused ", fault])?, "{case}");
+                same_at(&rt, &told, &due(alloc, 3, &["refused ", fault])?, &case);
             }
         }
     }
@@ -387,7 +388,7 @@ fn knapsacks_that_are_read(rt: HostRuntime) -> Result<(), Fail> {
                 let status = if lines.starts_with("refused") { 3 } else { 0 };
                 let text = edited(alloc, KNAP, edits)?;
                 let told = outcome(&rt, alloc, text.as_str(), boxed)?;
-                assert_eq!(rt; told, due(alloc, status, &[lines])?, "{case}");
+                same_at(&rt, &told, &due(alloc, status, &[lines])?, &case);
             }
         }
     }
@@ -400,9 +401,10 @@ fn knapsacks_cut_short(rt: HostRuntime) -> Result<(), Fail> {
     let mut text = String::new(alloc);
     for (count, line) in KNAP.lines().enumerate() {
         let fault = format!(in alloc; "refused {count} NoEnd")?;
-        assert_eq!(rt;
-            outcome(&rt, alloc, text.as_str(), None)?,
-            due(alloc, 3, &[fault.as_str()])?
+        same(
+            &rt,
+            &outcome(&rt, alloc, text.as_str(), None)?,
+            &due(alloc, 3, &[fault.as_str()])?,
         );
         text.push_str(line)?;
         text.push_str("/")?;

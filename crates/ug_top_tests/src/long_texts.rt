@@ -6,6 +6,7 @@ use std::alloc::Global;
 use std::sync::Wait;
 use std::test::Fail;
 use std::thread::Threads;
+use ug_expect::holds;
 
 // Lines from 0 up to this count, each with its number between the two parts.
 fn push_lines(
@@ -40,14 +41,17 @@ fn rows_at_their_limit(rt: HostRuntime) -> Result<(), Fail> {
     let alloc = rt.alloc();
     let mut text = String::from_str(alloc, "ROWS\n")?;
     push_lines(alloc, &mut text, " N R", 10_000, "\n")?;
-    assert!(rt; compare(&rt, alloc, text.as_str(), "ENDATA\n", 0, "optimal 0")?);
+    holds(
+        &rt,
+        compare(&rt, alloc, text.as_str(), "ENDATA\n", 0, "optimal 0")?,
+    );
     // Ahead of the limit stand the other faults of the line.
     for (line, told) in [
         (" N R\n", "refused 10002 TooMany"),
         (" X R\n", "refused 10002 RowKind X"),
         (" L R7\n", "refused 10002 Duplicate R7"),
     ] {
-        assert!(rt; compare(&rt, alloc, text.as_str(), line, 3, told)?);
+        holds(&rt, compare(&rt, alloc, text.as_str(), line, 3, told)?);
     }
     Ok(())
 }
@@ -57,7 +61,10 @@ fn columns_at_their_limit(rt: HostRuntime) -> Result<(), Fail> {
     let alloc = rt.alloc();
     let mut text = String::from_str(alloc, "ROWS\n N Z\nCOLUMNS\n M 'MARKER' 'INTORG'\n")?;
     push_lines(alloc, &mut text, " C", 10_000, " Z 1\n")?;
-    assert!(rt; compare(&rt, alloc, text.as_str(), "ENDATA\n", 0, "optimal 0")?);
+    holds(
+        &rt,
+        compare(&rt, alloc, text.as_str(), "ENDATA\n", 0, "optimal 0")?,
+    );
     // Ahead of the limit stand the other faults of the line.
     for (line, told) in [
         (" C Z 1\n", "refused 10005 TooMany"),
@@ -65,7 +72,7 @@ fn columns_at_their_limit(rt: HostRuntime) -> Result<(), Fail> {
         (" C Y 1\n", "refused 10005 Unknown Y"),
         (" C7 Z 1\n", "refused 10005 Duplicate C7"),
     ] {
-        assert!(rt; compare(&rt, alloc, text.as_str(), line, 3, told)?);
+        holds(&rt, compare(&rt, alloc, text.as_str(), line, 3, told)?);
     }
     Ok(())
 }

@@ -5,6 +5,7 @@ use std::alloc::Global;
 use std::sync::Wait;
 use std::test::Fail;
 use std::thread::Threads;
+use ug_expect::{same, same_at};
 use ug_gate::OpenGate;
 use ug_io::{MemorySink, MemorySource, Script, ScriptedSource};
 use ug_top::run;
@@ -30,11 +31,11 @@ fn source_that_fails(rt: HostRuntime) -> Result<(), Fail> {
     // The first read fails.
     let mut input = failing(alloc, EMPTY, 1, 5)?;
     let told = told_of(&rt, alloc, "solve f", &mut input, &mut sound_disk(alloc))?;
-    assert_eq!(rt; told.as_slice(), b"\x04read fault\n".as_slice());
+    same(&rt, &told.as_slice(), &b"\x04read fault\n".as_slice());
     // The source would fail behind the ENDATA line, where nothing is read.
     let mut input = failing(alloc, "ROWS\n N Z\nENDATA\nmore\n", 3, 9)?;
     let told = told_of(&rt, alloc, "solve f", &mut input, &mut sound_disk(alloc))?;
-    assert_eq!(rt; told.as_slice(), b"\0optimal 0\n".as_slice());
+    same(&rt, &told.as_slice(), &b"\0optimal 0\n".as_slice());
     Ok(())
 }
 
@@ -61,8 +62,8 @@ fn sink_that_fails(rt: HostRuntime) -> Result<(), Fail> {
     let alloc = rt.alloc();
     for (call, written) in [(1, ""), (2, "optima")] {
         let (status, bytes) = cut_short(&rt, alloc, call)?;
-        assert_eq!(rt; status, 5);
-        assert_eq!(rt; bytes.as_slice(), written.as_bytes());
+        same(&rt, &status, &5);
+        same(&rt, &bytes.as_slice(), &written.as_bytes());
     }
     Ok(())
 }
@@ -85,7 +86,7 @@ fn words_that_are_no_command(rt: HostRuntime) -> Result<(), Fail> {
     ];
     for line in lines {
         let told = told(&rt, alloc, line, EMPTY.as_bytes(), &mut sound_disk(alloc))?;
-        assert_eq!(rt; told.as_slice(), b"\x02".as_slice(), "{line}");
+        same_at(&rt, &told.as_slice(), &b"\x02".as_slice(), &line);
     }
     Ok(())
 }

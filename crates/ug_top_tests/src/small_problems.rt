@@ -7,6 +7,7 @@ use std::alloc::Global;
 use std::sync::Wait;
 use std::test::Fail;
 use std::thread::Threads;
+use ug_expect::same;
 use ug_mps::read;
 use ug_problem::Problem;
 use ug_rows::{Interval, Point};
@@ -118,9 +119,10 @@ fn small_problems(rt: HostRuntime) -> Result<(), Fail> {
                 let Some(line) = first_line(alloc, text.as_str())? else {
                     panic!(rt; "the text states no problem");
                 };
-                assert_eq!(rt;
-                    first_line_of_run(&rt, alloc, text.as_str())?.as_slice(),
-                    line.as_slice()
+                same(
+                    &rt,
+                    &first_line_of_run(&rt, alloc, text.as_str())?.as_slice(),
+                    &line.as_slice(),
                 );
             }
         }

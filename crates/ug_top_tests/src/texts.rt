@@ -9,6 +9,7 @@ use std::alloc::Global;
 use std::sync::Wait;
 use std::test::Fail;
 use std::thread::Threads;
+use ug_expect::same_at;
 
 // ---- the notation
 
@@ -161,10 +162,11 @@ fn texts_that_are_read(rt: HostRuntime) -> Result<(), Fail> {
     for case in READ.lines() {
         if let Some((text, told)) = case.split_once(" -> ") {
             let status = if told.starts_with("refused") { 3 } else { 0 };
-            assert_eq!(rt;
-                outcome(&rt, alloc, text, None)?,
-                due(alloc, status, &[told])?,
-                "{case}"
+            same_at(
+                &rt,
+                &outcome(&rt, alloc, text, None)?,
+                &due(alloc, status, &[told])?,
+                &case,
             );
         }
     }
@@ -412,20 +414,22 @@ fn texts_of_one_column(rt: HostRuntime) -> Result<(), Fail> {
     for table in [ROW_TYPES, NUMBERS, SETS, BOUNDS, LAYOUT] {
         for case in table.lines() {
             if let Some((edits, values)) = case.split_once(" -> ") {
-                assert_eq!(rt;
-                    extremes(&rt, alloc, edits, None)?,
-                    told_of_both(alloc, values)?,
-                    "{case}"
+                same_at(
+                    &rt,
+                    &extremes(&rt, alloc, edits, None)?,
+                    &told_of_both(alloc, values)?,
+                    &case,
                 );
             }
         }
     }
     for case in BOXED.lines() {
         if let Some((edits, values)) = case.split_once(" -> ") {
-            assert_eq!(rt;
-                extremes(&rt, alloc, edits, Some("50"))?,
-                told_of_both(alloc, values)?,
-                "{case}"
+            same_at(
+                &rt,
+                &extremes(&rt, alloc, edits, Some("50"))?,
+                &told_of_both(alloc, values)?,
+                &case,
             );
         }
     }
@@ -454,10 +458,11 @@ fn senses(rt: HostRuntime) -> Result<(), Fail> {
     for case in SENSES.lines() {
         if let Some((edits, value)) = case.split_once(" -> ") {
             let text = edited(alloc, ONE, edits)?;
-            assert_eq!(rt;
-                outcome(&rt, alloc, text.as_str(), None)?,
-                due_at(alloc, value)?,
-                "{case}"
+            same_at(
+                &rt,
+                &outcome(&rt, alloc, text.as_str(), None)?,
+                &due_at(alloc, value)?,
+                &case,
             );
         }
     }

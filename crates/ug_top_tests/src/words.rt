@@ -2,6 +2,7 @@ use crate::running::words_of;
 use std::alloc::{AllocError, Global};
 use std::test::Fail;
 use ug_cli::{Bounds, Gen, Plan, Ranks, Restart, Settings, Show, Solve, Usage, read_words};
+use ug_expect::{holds, holds_at};
 
 // The settings with these ranks, and otherwise what they are by default.
 fn settings_with(solvers: u32, low: u32, high: u32) -> Settings<'static> {
@@ -136,18 +137,21 @@ fn words_are_read_as_plans(rt: HostRuntime) -> Result<(), Fail> {
             checkpoint: None,
             settings: settings_with(solvers, low, high),
         });
-        assert!(rt; gives(alloc, line, plan)?, "{line}");
+        holds_at(&rt, gives(alloc, line, plan)?, &line);
     }
-    assert!(rt; gives(alloc, GREATEST, Plan::Solve(ALL))?);
+    holds(&rt, gives(alloc, GREATEST, Plan::Solve(ALL))?);
     let restart = Plan::Restart(Restart {
         file: "m",
         checkpoint: "c",
         settings: settings_with(1, 1, 2),
     });
-    assert!(rt; gives(alloc, "restart m --checkpoint c", restart)?);
+    holds(&rt, gives(alloc, "restart m --checkpoint c", restart)?);
     let show = Plan::Show(Show { checkpoint: "c" });
-    assert!(rt; gives(alloc, "show --checkpoint c", show)?);
-    assert!(rt; gives(alloc, "gen 2147483646 40 --solvers 4", Plan::Gen(MADE))?);
+    holds(&rt, gives(alloc, "show --checkpoint c", show)?);
+    holds(
+        &rt,
+        gives(alloc, "gen 2147483646 40 --solvers 4", Plan::Gen(MADE))?,
+    );
     Ok(())
 }
 
@@ -155,12 +159,13 @@ fn words_are_read_as_plans(rt: HostRuntime) -> Result<(), Fail> {
 fn other_words_are_refused(rt: HostRuntime) -> Result<(), Fail> {
     let alloc = rt.alloc();
     for line in REFUSED {
-        assert!(rt; fails(alloc, line, Usage::Words)?, "{line}");
+        holds_at(&rt, fails(alloc, line, Usage::Words)?, &line);
     }
     for (line, low, high) in CROSSED {
-        assert!(rt;
+        holds_at(
+            &rt,
             fails(alloc, line, Usage::HighBelowLow { low, high })?,
-            "{line}"
+            &line,
         );
     }
     Ok(())
