@@ -1,47 +1,71 @@
 use crate::problems::line;
 use std::alloc::{AllocError, Global};
-use std::test::Fail;
+use std::process::Abort;
 use ug_expect::{holds, same};
 use ug_incumbent::{Best, Offered};
-use ug_problem::Broken;
+use ug_problem::{Broken, Problem};
 use ug_rows::Point;
 
 fn point(alloc: Global, values: &[i32]) -> Result<Point, AllocError> {
     Ok(Point::from_vec(Vec::from_slice(alloc, values)?))
 }
 
-#[test]
-fn takes_lesser_values_alone(rt: HostRuntime) -> Result<(), Fail> {
-    let alloc = rt.alloc();
-    let Ok(problem) = line(alloc) else {
-        panic!(rt; "no problem");
-    };
+// What is answered to a point of these values, if there is memory for it.
+fn offered(alloc: Global, best: &mut Best, problem: &Problem, values: &[i32]) -> Option<Offered> {
+    let point = point(alloc, values).ok()?;
+    Some(best.offer(problem, point))
+}
+
+// Expects these answers to points of the line, one after another.
+fn offers(rt: &impl Abort, alloc: Global, problem: &Problem, best: &mut Best) {
+    let too_long = Offered::Broken(Broken::Length(2));
+    same(rt, &offered(alloc, best, problem, &[5, 5]), &Some(too_long));
+    same(
+        rt,
+        &offered(alloc, best, problem, &[5]),
+        &Some(Offered::Taken),
+    );
+    let outside = Offered::Broken(Broken::Column(0));
+    same(rt, &offered(alloc, best, problem, &[1]), &Some(outside));
+    let equal = Offered::NotBetter { kept: 5, given: 5 };
+    same(rt, &offered(alloc, best, problem, &[5]), &Some(equal));
+    same(
+        rt,
+        &offered(alloc, best, problem, &[4]),
+        &Some(Offered::Taken),
+    );
+    let greater = Offered::NotBetter { kept: 4, given: 6 };
+    same(rt, &offered(alloc, best, problem, &[6]), &Some(greater));
+}
+
+// Expects nothing first, and then the point that is left with its cutoffs.
+fn keeps_the_least(rt: &impl Abort, alloc: Global, problem: &Problem) {
     let mut best = Best::none();
     holds(
-        &rt,
-        best.point().is_none() && best.cutoff(&problem, 0).is_none(),
+        rt,
+        best.point().is_none() && best.cutoff(problem, 0).is_none(),
     );
-    let too_long = best.offer(&problem, point(alloc, &[5, 5])?);
-    same(&rt, &too_long, &Offered::Broken(Broken::Length(2)));
-    let first = best.offer(&problem, point(alloc, &[5])?);
-    same(&rt, &first, &Offered::Taken);
-    let outside = best.offer(&problem, point(alloc, &[1])?);
-    same(&rt, &outside, &Offered::Broken(Broken::Column(0)));
-    let equal = best.offer(&problem, point(alloc, &[5])?);
-    same(&rt, &equal, &Offered::NotBetter { kept: 5, given: 5 });
-    let lesser = best.offer(&problem, point(alloc, &[4])?);
-    same(&rt, &lesser, &Offered::Taken);
-    let greater = best.offer(&problem, point(alloc, &[6])?);
-    same(&rt, &greater, &Offered::NotBetter { kept: 4, given: 6 });
+    offers(rt, alloc, problem, &mut best);
     holds(
-        &rt,
+        rt,
         best.point()
             .is_some_and(|point| point.as_slice() == [4].as_slice()),
     );
-    same(&rt, &best.cutoff(&problem, 0), &Some(4));
-    same(&rt, &best.cutoff(&problem, 1), &Some(3));
-    same(&rt, &best.cutoff(&problem, 5), &Some(2));
-    let known = Best::new(Some(point(alloc, &[9])?));
+    same(rt, &best.cutoff(problem, 0), &Some(4));
+    same(rt, &best.cutoff(problem, 1), &Some(3));
+    same(rt, &best.cutoff(problem, 5), &Some(2));
+}
+
+#[test]
+fn takes_lesser_values_alone(rt: HostRuntime) {
+    match line(rt.alloc()) {
+        Ok(problem) => keeps_the_least(&rt, rt.alloc(), &problem),
+        Err(_) => panic!(rt; "no problem"),
+    }
+}
+
+#[test]
+fn begins_with_a_known_point(rt: HostRuntime) {
+    let known = Best::new(point(rt.alloc(), &[9]).ok());
     holds(&rt, known.point().is_some());
-    Ok(())
 }

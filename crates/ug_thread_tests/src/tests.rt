@@ -4,10 +4,12 @@ use crate::family::Member;
 use crate::problems::Small;
 use crate::solving::{settings, solved, solved_on, solved_without, sound_disk};
 use crate::trying::least_by_trying;
+use std::alloc::Global;
 use std::sync::Wait;
 use std::test::Fail;
 use std::thread::Threads;
 use ug_checkpoint::load;
+use ug_disk::MemoryDisk;
 use ug_expect::{holds, holds_at, same};
 use ug_gate::{Coming, Hold, HoldingGate, Moment, OpenGate, YieldingGate};
 use ug_restart::{End, Outcome};
@@ -99,37 +101,49 @@ fn threads_in_any_order_find_one_value(rt: HostRuntime) {
     }
 }
 
-// A run that is told to hear no more than it has heard ends so, unless its task was done by then.
+// Whether a run that may hear so much has heard it and ends unanswered, or has found the value.
+fn ends_at(outcome: &Outcome, limit: u64) -> bool {
+    match &outcome.end {
+        End::Limited(book) => book.count() >= limit && book.answer().is_none(),
+        _ => limit > 0 && answer_of(outcome) == Answer::Value(-13),
+    }
+}
+
 #[test]
 fn run_ends_at_its_limit(rt: HostRuntime) {
     for limit in 0..=5 {
         let settings = settings(3, false, limit);
-        let Some(outcome) = solved_without(&rt, rt.alloc(), &KNAPSACK, settings, &OpenGate) else {
-            panic!(rt; "no outcome");
-        };
-        if let End::Limited(book) = &outcome.end {
-            holds(&rt, book.count() >= limit && book.answer().is_none());
-        } else {
-            holds(&rt, limit > 0);
-            same(&rt, &answer_of(&outcome), &Answer::Value(-13));
+        match solved_without(&rt, rt.alloc(), &KNAPSACK, settings, &OpenGate) {
+            Some(outcome) => holds_at(&rt, ends_at(&outcome, limit), &limit),
+            None => panic!(rt; "no outcome"),
         }
+    }
+}
+
+// Whether a run on the disk finds the value, and misses no save.
+fn is_solved_on<R: Threads + Wait + Sync>(rt: &R, alloc: Global, disk: &mut MemoryDisk) -> bool {
+    match solved_on(rt, alloc, &KNAPSACK, disk) {
+        Some(outcome) => {
+            answer_of(&outcome) == Answer::Value(-13) && (outcome.missed, outcome.unsaved) == (0, 0)
+        }
+        None => false,
+    }
+}
+
+// Whether recovery finds the book of a first run that has ended with a best point.
+fn has_ended_on(alloc: Global, disk: &mut MemoryDisk) -> bool {
+    match load(alloc, disk) {
+        Ok(Some(found)) => {
+            let image = &found.image;
+            image.nodes.is_empty() && image.best.is_some() && image.run == 1
+        }
+        _ => false,
     }
 }
 
 #[test]
 fn ending_book_is_found_on_the_disk(rt: HostRuntime) {
     let mut disk = sound_disk(rt.alloc());
-    let Some(outcome) = solved_on(&rt, rt.alloc(), &KNAPSACK, &mut disk) else {
-        panic!(rt; "no outcome");
-    };
-    same(&rt, &answer_of(&outcome), &Answer::Value(-13));
-    same(&rt, &(outcome.missed, outcome.unsaved), &(0, 0));
-    let Ok(Some(found)) = load(rt.alloc(), &mut disk) else {
-        panic!(rt; "no checkpoint");
-    };
-    holds(
-        &rt,
-        found.image.nodes.is_empty() && found.image.best.is_some(),
-    );
-    same(&rt, &found.image.run, &1);
+    holds(&rt, is_solved_on(&rt, rt.alloc(), &mut disk));
+    holds(&rt, has_ended_on(rt.alloc(), &mut disk));
 }
