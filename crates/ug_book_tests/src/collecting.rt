@@ -1,7 +1,7 @@
+use crate::expect::{holds, same};
 use std::alloc::{AllocError, Global};
 use std::test::Fail;
 use ug_collect::{Member, Wanted, wanted};
-use ug_expect::{holds, same};
 
 // Three members, of which these are collecting.
 fn members(collecting: [bool; 3]) -> [Member; 3] {

@@ -2,6 +2,7 @@ ghost use Rattle.std.specs.Prelude.{◌≡◌, [], ◌∷◌, IfOk, OnOk};
 ghost use Rattle.ug_rules.specs.Books.{AreSettings};
 ghost use Rattle.ug_desk.specs.Openings.{IsMade};
 
+use crate::expect::{holds, same};
 use crate::problems::square;
 use std::alloc::{AllocError, Global};
 use std::sync::Wait;
@@ -9,7 +10,6 @@ use std::thread::join;
 use ug_base::{Step, Task};
 use ug_book::{Answered, Book, Boxes};
 use ug_desk::{Desk, Pass, Took};
-use ug_expect::{holds, same};
 use ug_nodes::{Changes, Ticket};
 use ug_problem::Shared;
 use ug_rows::{Interval, Point};

@@ -1,4 +1,4 @@
-use ug_expect::same;
+use crate::expect::same;
 use ug_frames::{Order, Report};
 use ug_nodes::Ticket;
 

@@ -1,9 +1,9 @@
 ghost use Rattle.std.specs.Prelude.{◌≡◌, [], ◌∷◌, IfOk};
 ghost use Rattle.ug_ranks.specs.declared.state.State.TheVariants.{Idle};
 
+use crate::expect::{holds, same};
 use std::alloc::{AllocError, Global};
 use std::test::Fail;
-use ug_expect::{holds, same};
 use ug_frames::Order;
 use ug_giving::{Terms, give_out};
 use ug_nodes::{Changes, Line, Name, Node, Ticket};

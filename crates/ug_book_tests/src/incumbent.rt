@@ -1,7 +1,7 @@
+use crate::expect::{holds, same};
 use crate::problems::line;
 use std::alloc::{AllocError, Global};
 use std::process::Abort;
-use ug_expect::{holds, same};
 use ug_incumbent::{Best, Offered};
 use ug_problem::{Broken, Problem};
 use ug_rows::Point;

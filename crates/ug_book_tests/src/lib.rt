@@ -10,6 +10,8 @@ mod collecting;
 #[cfg(test)]
 mod desks;
 #[cfg(test)]
+mod expect;
+#[cfg(test)]
 mod frames;
 #[cfg(test)]
 mod giving;

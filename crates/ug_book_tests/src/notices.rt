@@ -1,9 +1,9 @@
 ghost use Rattle.std.specs.Prelude.{◌≤◌};
 
+use crate::expect::same;
 use std::alloc::{AllocError, Global};
 use std::test::Fail;
 use ug_branch::Params;
-use ug_expect::same;
 use ug_frames::Order;
 use ug_nodes::{Changes, Line, Name, Node, Ticket};
 use ug_notices::{announce, collect};

@@ -1,8 +1,8 @@
 ghost use Rattle.std.specs.Prelude.{◌<◌};
 
+use crate::expect::same;
 use std::alloc::{AllocError, Global};
 use std::test::Fail;
-use ug_expect::same;
 use ug_frames::Order;
 use ug_nodes::Ticket;
 use ug_orders::Queue;

@@ -1,5 +1,5 @@
+use crate::expect::holds;
 use std::alloc::{AllocError, Global};
-use ug_expect::holds;
 use ug_nodes::{Changes, Line, Name, Node, Ticket, is_ancestor};
 use ug_primitive::primitive;
 

@@ -1,7 +1,7 @@
+use crate::expect::{holds, same};
 use std::alloc::{AllocError, Global};
 use std::test::Fail;
 use ug_branch::Params;
-use ug_expect::{holds, same};
 use ug_frames::Order;
 use ug_nodes::{Changes, Line, Name, Node, Ticket};
 use ug_orders::Queue;

@@ -1,4 +1,4 @@
-use ug_expect::same;
+use crate::expect::same;
 use ug_ramp::{Racer, winner};
 
 fn racer(rank: u32, open: u64, floor: i128) -> Racer {

@@ -5,12 +5,12 @@ ghost use Rattle.ug_rules.specs.Books.{AreSettings};
 ghost use Rattle.ug_rules.specs.Hearing.{IsHearable};
 ghost use Rattle.ug_world.specs.Events.{IsEvent};
 
+use crate::expect::same;
 use crate::problems::{cube, square};
 use crate::schedules::SCHEDULES;
 use std::alloc::{AllocError, Global};
 use std::test::Fail;
 use ug_book::{Book, Boxes};
-use ug_expect::same;
 use ug_frames::Report;
 use ug_nodes::{Change, Changes, Ticket};
 use ug_problem::{Problem, Shared};

@@ -2,12 +2,12 @@ ghost use Rattle.std.specs.Prelude.{Some, IfOk};
 ghost use Rattle.ug_disk.specs.Memories.{history_of};
 ghost use Rattle.ug_checkpoint.specs.Savers.{IsKept};
 
+use crate::expect::{holds, same};
 use crate::slots::{disk_of, script_of};
 use std::alloc::{AllocError, Global};
 use ug_blocks::length;
 use ug_checkpoint::{LoadError, SaveError, Saver, load};
 use ug_disk::{MemoryDisk, Slot};
-use ug_expect::{holds, same};
 use ug_image::decode;
 
 // A slot with the image of a run of a problem that has neither columns nor rows: the gate, 104

@@ -1,11 +1,11 @@
 ghost use Rattle.std.specs.Prelude.{◌≤◌, length};
 ghost use Rattle.ug_disk.specs.Histories.{Reads};
 
+use crate::expect::{holds, same};
 use crate::slots::{disk_of, script_of};
 use std::alloc::{AllocError, Global};
 use std::test::Fail;
 use ug_disk::{Disk, MemoryDisk, NotAllowed, ReadError, Slot, read_all, write_synced};
-use ug_expect::{holds, same};
 
 // Whether the bytes were written to slot 0, at a place that it has.
 fn put(disk: &mut MemoryDisk, at: u64, bytes: &[u8]) -> bool {

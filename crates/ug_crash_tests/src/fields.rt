@@ -1,9 +1,9 @@
+use crate::expect::holds_at;
 use crate::slots::disk_with;
 use std::alloc::{AllocError, Global};
 use std::test::Fail;
 use ug_checkpoint::{LoadError, load};
 use ug_disk::Slot;
-use ug_expect::holds_at;
 
 // The image of version 3 of run 1 and sequence 5, of a problem with one column from 0 to 7 and no
 // rows. The best point is 5, and of its two nodes the first has the column from 0 to 3.

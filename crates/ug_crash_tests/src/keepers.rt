@@ -3,10 +3,10 @@ ghost use Rattle.ug_disk.specs.Memories.{history_of};
 ghost use Rattle.ug_slots.specs.Runs.{AreSynced};
 ghost use Rattle.ug_slots.specs.Keepers.{Knows};
 
+use crate::expect::same;
 use std::alloc::{AllocError, Global};
 use std::test::Fail;
 use ug_disk::{MemoryDisk, Script, Slot};
-use ug_expect::same;
 use ug_slots::{Keeper, Pieces, read_both};
 
 // A body in memory.

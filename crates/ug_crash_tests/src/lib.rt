@@ -10,6 +10,8 @@ mod checkpoints;
 #[cfg(test)]
 mod disks;
 #[cfg(test)]
+mod expect;
+#[cfg(test)]
 mod fields;
 #[cfg(test)]
 mod keepers;

@@ -3,13 +3,13 @@ ghost use Rattle.ug_disk.specs.Memories.{history_of};
 ghost use Rattle.ug_checkpoint.specs.Savers.{IsKept};
 ghost use Rattle.ug_crashes.specs.Events.{IsDiskEvent};
 
+use crate::expect::{holds, holds_at, same_at};
 use crate::slots::{nothing, settings, slot_of};
 use std::alloc::Global;
 use ug_book::{Answered, Book};
 use ug_checkpoint::Saver;
 use ug_crashes::{DiskEvent, Halted, PlayDiskFault, PlayedDisk, play_disk};
 use ug_disk::{MemoryDisk, Script, Slot};
-use ug_expect::{holds, holds_at, same_at};
 use ug_frames::Report;
 use ug_nodes::Ticket;
 use ug_problem::Shared;

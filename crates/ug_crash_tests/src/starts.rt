@@ -2,13 +2,13 @@ ghost use Rattle.std.specs.Prelude.{Some, IfSome};
 ghost use Rattle.ug_disk.specs.Memories.{history_of};
 ghost use Rattle.ug_checkpoint.specs.Savers.{IsKept};
 
+use crate::expect::{holds, holds_at};
 use crate::slots::{disk_with, nothing, settings, slot_of};
 use std::alloc::{AllocError, Global};
 use ug_blocks::length;
 use ug_book::Book;
 use ug_checkpoint::{SaveError, Saver};
 use ug_disk::{MemoryDisk, Slot};
-use ug_expect::{holds, holds_at};
 use ug_problem::{Problem, ProblemError, Shared};
 use ug_restart::{StartFault, begin, image_of, restart};
 

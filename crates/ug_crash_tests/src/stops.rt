@@ -2,12 +2,12 @@ ghost use Rattle.std.specs.Prelude.{Some, IfOk, IfSome};
 ghost use Rattle.ug_disk.specs.Memories.{history_of};
 ghost use Rattle.ug_checkpoint.specs.Savers.{IsKept};
 
+use crate::expect::{holds, holds_at, same};
 use crate::slots::{disk_with, nothing, settings, slot_of};
 use std::alloc::{AllocError, Global};
 use ug_blocks::length;
 use ug_checkpoint::{LoadError, Saver, load};
 use ug_disk::{MemoryDisk, Slot};
-use ug_expect::{holds, holds_at, same};
 use ug_image::decode;
 use ug_problem::Shared;
 use ug_restart::restart;

@@ -1,7 +1,7 @@
 ghost use Rattle.std.specs.Prelude.{◌≤◌, IfSome};
 ghost use Rattle.ug_problem.specs.Decimals.{IsDecimal};
 
-use ug_expect::same;
+use crate::expect::same;
 use ug_problem::Decimal;
 
 fn read(word: &str) -> Option<Decimal>

@@ -1,6 +1,6 @@
+use crate::expect::{holds, holds_at};
 use std::alloc::{AllocError, Global};
 use std::test::Fail;
-use ug_expect::{holds, holds_at};
 use ug_image::{Image, ImageError, decode};
 
 // The image of run 1 and sequence 2 of a problem with no column and no row, of which the root is

@@ -7,6 +7,8 @@
 #[cfg(test)]
 mod decimals;
 #[cfg(test)]
+mod expect;
+#[cfg(test)]
 mod images;
 #[cfg(test)]
 mod made;

@@ -1,7 +1,7 @@
 ghost use Rattle.std.specs.Prelude.{◌≤◌};
 
+use crate::expect::holds;
 use std::alloc::{AllocError, Global};
-use ug_expect::holds;
 use ug_gen::make;
 use ug_problem::Problem;
 use ug_rows::Term;

@@ -1,10 +1,10 @@
 ghost use Rattle.std.specs.Prelude.{◌≡◌, ◌≤◌, ◌^◌, length, unsigned_abs, IfOk};
 ghost use Rattle.ug_rows.specs.Rows.{IsLinear};
 
+use crate::expect::{holds, same};
 use std::alloc::{AllocError, Global};
 use std::cmp::Ordering;
 use std::test::Fail;
-use ug_expect::{holds, same};
 use ug_lists::Items;
 use ug_nodes::{
     AreaError, Change, Changes, Line, Name, Node, Ticket, area_of, changes_of, first_outside,

@@ -2,8 +2,8 @@ ghost use Rattle.std.specs.Prelude.{◌≡◌, ◌≢◌, ◌≤◌, ◌*◌, �
 ghost use Rattle.ug_rows.specs.declared.row.Term.{Term};
 ghost use Rattle.ug_problem.specs.Instances.{IsFormed, instance_of};
 
+use crate::expect::{holds, same};
 use std::alloc::{AllocError, Global};
-use ug_expect::{holds, same};
 use ug_lists::{Items, Text};
 use ug_problem::{Column, Columns, NamedRow, NamedRows, Problem, ProblemError, Shared};
 use ug_rows::{Objective, Row, Term, Terms};

@@ -1,6 +1,6 @@
+use crate::expect::{holds, same};
 use std::alloc::{AllocError, Global};
 use std::test::Fail;
-use ug_expect::{holds, same};
 use ug_lists::Items;
 use ug_mps::read;
 use ug_problem::{Problem, ProblemError};

@@ -3,11 +3,11 @@
 
 ghost use Rattle.ug_problem.specs.Better.{IsGap};
 
+use crate::expect::holds_at;
 use crate::whole::{Whole, hand, lower, lowest, step};
 use std::alloc::{AllocError, Global};
 use ug_base::{Step, Task};
 use ug_branch::Params;
-use ug_expect::holds_at;
 use ug_mps::read;
 use ug_nodes::Ticket;
 use ug_problem::{Problem, Shared};

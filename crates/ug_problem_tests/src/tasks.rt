@@ -1,10 +1,10 @@
 ghost use Rattle.std.specs.Prelude.{◌<◌, ◌≤◌, ◌*◌, ◌^◌, unsigned_abs};
 ghost use Rattle.ug_problem.specs.Better.{IsGap};
 
+use crate::expect::{holds, same, same_at};
 use std::alloc::Global;
 use ug_base::{Step, Task};
 use ug_branch::Params;
-use ug_expect::{holds, same, same_at};
 use ug_mps::read;
 use ug_nodes::Ticket;
 use ug_problem::Shared;

@@ -10,6 +10,8 @@ mod answer;
 #[cfg(test)]
 mod cases;
 #[cfg(test)]
+mod expect;
+#[cfg(test)]
 mod family;
 #[cfg(test)]
 mod problems;

@@ -1,5 +1,6 @@
 use crate::answer::{Answer, answer_of};
 use crate::cases::{CHOICE, KNAPSACK, ODD, RAMP, SQUARE};
+use crate::expect::{holds, holds_at, same};
 use crate::family::Member;
 use crate::problems::Small;
 use crate::solving::{settings, solved, solved_on, solved_without, sound_disk};
@@ -10,7 +11,6 @@ use std::test::Fail;
 use std::thread::Threads;
 use ug_checkpoint::load;
 use ug_disk::MemoryDisk;
-use ug_expect::{holds, holds_at, same};
 use ug_gate::{Coming, Hold, HoldingGate, Moment, OpenGate, YieldingGate};
 use ug_restart::{End, Outcome};
 

@@ -1,6 +1,7 @@
 //! Commands, one after another over one disk, and what each of them tells. The notation of texts and
 //! lines is that of texts.rt.
 
+use crate::expect::{holds, holds_at, same, same_at};
 use crate::running::{disk_with, sound_disk, told};
 use crate::texts::{due, written};
 use std::alloc::Global;
@@ -8,7 +9,6 @@ use std::sync::Wait;
 use std::test::Fail;
 use std::thread::Threads;
 use ug_disk::{Disk, MemoryDisk, Slot};
-use ug_expect::{holds, holds_at, same, same_at};
 
 const EMPTY: &str = "ROWS/ N Z/ENDATA/";
 

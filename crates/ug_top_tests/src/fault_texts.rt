@@ -4,9 +4,9 @@
 //! That a text of more than 268,435,456 bytes is refused as `TooLong` is proved and not tried here, for its size; that
 //! there are too many rows or columns is tried in long_texts.rt.
 
+use crate::expect::{same, same_at};
 use crate::texts::{due, edited, outcome};
 use std::test::Fail;
-use ug_expect::{same, same_at};
 
 const KNAP: &str = "NAME BASE
 OBJSENSE MAX

@@ -7,6 +7,8 @@
 #[cfg(test)]
 mod commands;
 #[cfg(test)]
+mod expect;
+#[cfg(test)]
 mod fault_texts;
 #[cfg(test)]
 mod long_texts;

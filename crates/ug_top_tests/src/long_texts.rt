@@ -1,12 +1,12 @@
 //! Texts at the limits on rows and columns, and one line beyond them. The limit on pairs is tried by bench/reading, since
 //! its text is large.
 
+use crate::expect::holds;
 use crate::texts::{due, run_over};
 use std::alloc::Global;
 use std::sync::Wait;
 use std::test::Fail;
 use std::thread::Threads;
-use ug_expect::holds;
 
 // Lines from 0 up to this count, each with its number between the two parts.
 fn push_lines(

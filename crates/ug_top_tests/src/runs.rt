@@ -1,11 +1,11 @@
 //! Sources and sinks that fail, and words that are no command.
 
+use crate::expect::{same, same_at};
 use crate::running::{sound_disk, told, told_of, words_of};
 use std::alloc::Global;
 use std::sync::Wait;
 use std::test::Fail;
 use std::thread::Threads;
-use ug_expect::{same, same_at};
 use ug_gate::OpenGate;
 use ug_io::{MemorySink, MemorySource, Script, ScriptedSource};
 use ug_top::run;

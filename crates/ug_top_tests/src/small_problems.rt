@@ -2,12 +2,12 @@
 
 ghost use Rattle.std.specs.Prelude.{◌≡◌, length};
 
+use crate::expect::same;
 use crate::texts::run_over;
 use std::alloc::Global;
 use std::sync::Wait;
 use std::test::Fail;
 use std::thread::Threads;
-use ug_expect::same;
 use ug_mps::read;
 use ug_problem::Problem;
 use ug_rows::{Interval, Point};

@@ -4,12 +4,12 @@
 //! a word of 256 letters, `^` one of 255, and `#` is the marker that sets integer on. A text may be edits of another:
 //! `21: UP D A 4/` puts this in the place of line 21, `9:` takes line 9 out, and `&` stands between edits.
 
+use crate::expect::same_at;
 use crate::running::{sound_disk, told};
 use std::alloc::Global;
 use std::sync::Wait;
 use std::test::Fail;
 use std::thread::Threads;
-use ug_expect::same_at;
 
 // ---- the notation
 

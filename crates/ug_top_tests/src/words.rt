@@ -1,8 +1,8 @@
+use crate::expect::{holds, holds_at};
 use crate::running::words_of;
 use std::alloc::{AllocError, Global};
 use std::test::Fail;
 use ug_cli::{Bounds, Gen, Plan, Ranks, Restart, Settings, Show, Solve, Usage, read_words};
-use ug_expect::{holds, holds_at};
 
 // The settings with these ranks, and otherwise what they are by default.
 fn settings_with(solvers: u32, low: u32, high: u32) -> Settings<'static> {
