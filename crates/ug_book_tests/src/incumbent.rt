@@ -1,3 +1,6 @@
+ghost use Rattle.std.specs.Prelude.{IfSome};
+ghost use Rattle.ug_problem.specs.Feasible.{Feasible};
+
 use crate::expect::{holds, same};
 use crate::problems::line;
 use std::alloc::{AllocError, Global};
@@ -11,13 +14,19 @@ fn point(alloc: Global, values: &[i32]) -> Result<Point, AllocError> {
 }
 
 // What is answered to a point of these values, if there is memory for it.
-fn offered(alloc: Global, best: &mut Best, problem: &Problem, values: &[i32]) -> Option<Offered> {
+fn offered(alloc: Global, best: &mut Best, problem: &Problem, values: &[i32]) -> Option<Offered>
+    requires { IfSome best.old (Feasible problem.now) }
+    ensures { IfSome best.new (Feasible problem.now) }
+{
     let point = point(alloc, values).ok()?;
     Some(best.offer(problem, point))
 }
 
 // Expects these answers to points of the line, one after another.
-fn offers(rt: &impl Abort, alloc: Global, problem: &Problem, best: &mut Best) {
+fn offers(rt: &impl Abort, alloc: Global, problem: &Problem, best: &mut Best)
+    requires { IfSome best.old (Feasible problem.now) }
+    ensures { IfSome best.new (Feasible problem.now) }
+{
     let too_long = Offered::Broken(Broken::Length(2));
     same(rt, &offered(alloc, best, problem, &[5, 5]), &Some(too_long));
     same(
