@@ -1,4 +1,5 @@
-//! Laws on what is made. The functions do nothing: their contracts are what is proved of the definitions.
+//! Laws on what is made.
+//! The functions do nothing: their contracts are what is proved of the definitions.
 
 ghost use Rattle.std.specs.Prelude.{ℕ, ◌≤◌, ◌↔◌};
 ghost use Rattle.ug_drafts.specs.RowNumbers.{Numbers, scale_of};

@@ -1,8 +1,8 @@
-//! The outside as a program sees it: a source that is read and a sink that is written to.
-//! It stands on nothing but std.
-//! `Source` and `Sink` are traits whose contracts speak of the bytes that are left or written, where these are told,
-//! and of a count of faults: each call that fails raises it, up to its greatest value, and no other changes it.
-//! The forms in memory keep these contracts and tell their bytes; a `Script` says which of their calls fail.
+//! The outside as a program sees it: a source that is read and a sink that is written to. It stands
+//! on nothing but std. `Source` and `Sink` are traits whose contracts speak of the bytes left or
+//! written, where these are told, and of a count of faults: each call that fails raises it, to its
+//! greatest value, no other does. The forms in memory tell their bytes; a `Script` says which of
+//! their calls fail.
 #![tactic(auto)]
 
 mod memory;

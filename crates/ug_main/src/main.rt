@@ -1,10 +1,8 @@
-//! The program `ug`: solves bounded integer programs of MPS files with many solvers, and goes on from
-//! checkpoints.
-//! It stands on ug_top, on ug_cli for the words, and on ug_real.
-//! `main` makes the real objects, a reader of the file, a writer to standard output and the folder of
-//! the checkpoint; `carry_out` runs with them, under the contract of `run`, which says what was printed.
-//! On standard error it writes the usage line where the words are no command, why a run failed, and,
-//! where that is a terminal or `UG_PROGRESS` is set, how it gets on.
+//! The program `ug`: solves bounded integer programs of MPS files, and goes on from checkpoints. It
+//! stands on ug_top, on ug_cli for the words, and on ug_real. `main` makes the real objects, a
+//! reader of the file, a writer to standard output and the checkpoint's folder; `carry_out` runs
+//! with them, under the contract of `run`, which says what was printed. Standard error gets the
+//! usage line, why a run failed, and, on a terminal or with `UG_PROGRESS` set, how it gets on.
 #![tactic(auto)]
 
 ghost use Rattle.std.specs.Prelude.{◌≡◌, ◌⊎◌};

@@ -1,8 +1,8 @@
-//! A program for measuring: `ug_measure book N` drives a book of 256 ranks through N made messages and
-//! prints how many were answered how; `image N` makes a book of N nodes of ten changes each and the
-//! image of it, `save N` saves that too, to a disk in memory, and `load N` loads it again; `desk N`
-//! tells a desk N times what is left. It stands on ug_book, ug_mps, ug_restart and ug_desk. What it does is the same in every run.
-//! It is proved to be safe and to end, and no more.
+//! A program for measuring: `ug_measure book N` drives a book of 256 ranks through N made messages
+//! and prints how many were answered how; `image N` makes a book of N nodes of ten changes each and
+//! its image, `save N` saves that too, to a disk in memory, `load N` loads it again; `desk N` tells
+//! a desk N times what is left. Each run does the same. It stands on ug_book, ug_mps, ug_restart
+//! and ug_desk. It is proved to be safe and to end, and no more.
 #![tactic(auto)]
 
 mod answers;

@@ -1,4 +1,5 @@
-//! Laws on what texts state. The functions do nothing: their contracts are what is proved of the definitions.
+//! Laws on what texts state.
+//! The functions do nothing: their contracts are what is proved of the definitions.
 
 ghost use Rattle.std.specs.Prelude.{ℕ, List, [], ◌∷◌, ◌++◌, Option, None, Some, codes};
 ghost use Rattle.ug_drafts.specs.declared.fault.Kind.TheVariants.{NoEnd, Unbounded, Unknown};

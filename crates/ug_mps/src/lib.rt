@@ -1,8 +1,7 @@
-//! Reads a bounded integer program from an MPS text.
-//! It stands on ug_lines, ug_drafts and ug_problem.
-//! `read` gives the problem that the text states, or the first fault with its line, kind and word; specs/ says
-//! what a text states as relations on its lines, each judged by what the lines before it have said.
-//! Memory grows only with bytes that are there.
+//! Reads a bounded integer program from an MPS text. It stands on ug_lines, ug_drafts and
+//! ug_problem. `read` gives the problem that the text states, or the first fault with its line,
+//! kind and word; specs/ says what a text states as relations on its lines, each judged by what the
+//! lines before it have said. Memory grows only with bytes that are there.
 #![tactic(auto)]
 
 mod bound_words;

@@ -1,8 +1,8 @@
-//! The problem: columns with whole bounds, rows with sides, and an objective that is minimised. It stands on ug_rows.
-//! `Decimal` is an exact number, read from a word, rounded to whole numbers and scaled by a power of ten.
-//! `Problem::new` makes one exactly where every count and number is within its limit, and names what is not;
-//! `first_broken` is `None` exactly where a point is feasible, `value` is the value of a point, `standings` tells which rows
-//! a column stands in, and `print_value` spells a value as the user reads it. specs/ says what a right answer is.
+//! The problem: columns with whole bounds, rows with sides, an objective that is minimised, and
+//! `Decimal`, an exact number that is read, rounded and scaled. It stands on ug_rows.
+//! `Problem::new` makes one exactly where all is within its limit, and names what is not;
+//! `first_broken` is `None` exactly where a point is feasible, `value` is its value, `print_value`
+//! spells it; `standings` tells which rows a column stands in. specs/ says what a right answer is.
 #![tactic(auto)]
 
 mod answer;

@@ -1,7 +1,8 @@
-//! Tests of problems and of what is worked out of one problem alone.
-//! They stand apart from the crates that they test, from ug_problem to ug_base and ug_gen.
-//! Numbers and their scales, limits, records and images byte for byte, changes and boxes, the steps of a task, alone and
-//! beside a slow search over whole boxes, made instances. Nothing here is proved but that the tests are safe and end.
+//! Tests of problems and of what is worked out of one problem alone: numbers and their scales,
+//! limits, records and images byte for byte, changes and boxes, the steps of a task, alone and
+//! beside a slow search over whole boxes, made instances. They stand apart from the crates that
+//! they test, from ug_problem to ug_base and ug_gen. Nothing here is proved but that the tests are
+//! safe and end.
 #![tactic(auto)]
 
 #[cfg(test)]

@@ -1,9 +1,8 @@
-//! Bound propagation: rows that tighten the columns of a box, until nothing changes.
-//! It stands on ug_rows and ug_problem.
-//! `tighten` gives what 32 rounds leave of a box, as specs/Rounds.antt says; every feasible point of the box
-//! with a value below the cutoff is left, and where nothing is left it names the row that shows it.
-//! The sums of the rows are kept up with each column that changes, and a row that a look would not change waits until
-//! one of its columns does; the slow program that the definition is looks at all rows, and is there for tests alone.
+//! Bound propagation: rows that tighten the columns of a box, until nothing changes. It stands on
+//! ug_rows and ug_problem. `tighten` gives what 32 rounds leave, as specs/Rounds.antt says; every
+//! feasible point of the box with a value below the cutoff is left, and where nothing is left it
+//! names the row that shows it. The sums of the rows are kept up, and a row waits until one of its
+//! columns changes; the slow program that the definition is looks at all rows, for tests alone.
 #![tactic(auto)]
 
 mod awake;

@@ -1,7 +1,7 @@
 //! The outside as it is: files as a source and as a disk, and standard output as a sink.
 //! It stands on ug_io and ug_disk.
-//! `Reader`, `Writer` and `FileDisk` keep the contracts of the traits that they fill, and tell nothing
-//! of the bytes; each call that fails raises their count of faults, and its reason is kept.
+//! `Reader`, `Writer` and `FileDisk` keep the contracts of the traits that they fill, and tell
+//! nothing of the bytes; each call that fails raises their count of faults, and its reason is kept.
 //! What a real file gives and what a terminal takes, no contract can say.
 #![tactic(auto)]
 

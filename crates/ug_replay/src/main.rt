@@ -1,7 +1,7 @@
-//! A program that replays schedules: each line of its input is a call of a coordinator's book, and is
-//! written with what the book replies.
-//! It stands on ug_book and ug_mps. Its stored input has nine schedules that were worked by hand, and
-//! 59 of a model that was written apart from this code; its stored output has their replies.
+//! A program that replays schedules: each line of its input is a call of a coordinator's book, and
+//! is written with what the book replies.
+//! It stands on ug_book and ug_mps. Its stored input has nine schedules that were worked by hand,
+//! and 59 of a model that was written apart from this code; its stored output has their replies.
 //! It is proved to be safe and to end, and no more.
 #![tactic(auto)]
 

@@ -1,4 +1,4 @@
-//! One run: a problem in, an outcome out, without checkpoints, from the first, or from a checkpoint.
+//! One run: a problem in, an outcome out, without checkpoints, from a first one, or from a later.
 //! It stands on ug_restart for how a run begins and on ug_threads for how it goes on.
 //! Each call says with which book the run began, and that the one with which it ended is reached
 //! from it by what threads do at a desk; that an answer is right; and, with a disk, that what

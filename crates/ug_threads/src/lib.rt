@@ -1,5 +1,5 @@
 //! A solve by threads: a worker for each rank, which share one desk, and the caller, who saves.
-//! It stands on ug_desk for the shared book, on ug_base for tasks and on ug_saves for what is saved.
+//! It stands on ug_desk for the shared book, on ug_base for tasks, on ug_saves for what is saved.
 //! `solve_threads` answers with the book of a history from the given one: without a node, and then
 //! its answer is right where that was sound, or with as many deliveries as may be. With a saver all
 //! that recovery could find stays Covered at each moment, and at the end it finds the ending book.
