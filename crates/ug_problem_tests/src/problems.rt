@@ -16,7 +16,8 @@ fn one_term(alloc: Global, factor: i128) -> Result<Terms, AllocError>
 }
 
 fn digit(alloc: Global) -> Result<Column, AllocError>
-    ensures { IfOk result (λ column. column ≡ record { name = 120 ∷ []; low = pos 0; high = pos 9 }) }
+    ensures { IfOk result (λ column. column
+        ≡ record { name = 120 ∷ []; low = pos 0; high = pos 9 }) }
 {
     let name = Text::from_slice(alloc, b"x")?;
     Ok(Column {
@@ -110,6 +111,18 @@ fn shares_a_counted_one(alloc: Global) -> Option<bool> {
     shares(&counted)
 }
 
+// Whether a problem is that of a copy once it is counted.
+fn counted_is_of(copy: &Shared, own: Shared, alloc: Global) -> Option<bool> {
+    let counted = own.into_counted(alloc).ok()?;
+    Some(counted.problem().is(copy.problem()))
+}
+
+fn stays_when_counted(alloc: Global) -> Option<bool> {
+    let own = holder(alloc, 3)?;
+    let copy = own.share().ok()?;
+    counted_is_of(&copy, own, alloc)
+}
+
 fn is_another(alloc: Global) -> Option<bool> {
     let first = holder(alloc, 3)?;
     let other = holder(alloc, 4)?;
@@ -121,6 +134,7 @@ fn has_a_second_holder(rt: HostRuntime) {
     let alloc = rt.alloc();
     same(&rt, &shares_its_own(alloc), &Some(true));
     same(&rt, &shares_a_counted_one(alloc), &Some(true));
+    same(&rt, &stays_when_counted(alloc), &Some(true));
     same(&rt, &is_another(alloc), &Some(false));
 }
 
