@@ -137,8 +137,8 @@ fn saved(
     Err(SaveError::Memory)
 }
 
-// Whether two saves of a disk, the first after one whose gate could not be opened, go to the slots in
-// turn.
+// Whether two saves of a disk, the first after one whose gate could not be opened, go to the slots
+// in turn.
 fn goes_to_both(alloc: Global, disk: &mut MemoryDisk, saver: &mut Saver) -> bool
     requires { IsKept saver.old (Some (history_of disk.old)) }
 {

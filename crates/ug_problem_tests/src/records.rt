@@ -7,8 +7,8 @@ use ug_problem::{Problem, ProblemError};
 use ug_records::{RecordError, from_record, to_record};
 use ug_rows::Objective;
 
-// Twice the column is at most 5, and its double less 1 is maximised, in tenths: of what is minimised
-// the signs are turned.
+// Twice the column is at most 5, and its double less 1 is maximised, in tenths: of what is
+// minimised the signs are turned.
 const TEXT: &[u8] = b"OBJSENSE MAX
 ROWS
  N Z

@@ -1,5 +1,5 @@
-//! Commands, one after another over one disk, and what each of them tells. The notation of texts and
-//! lines is that of texts.rt.
+//! Commands, one after another over one disk, and what each of them tells. The notation of texts
+//! and lines is that of texts.rt.
 
 use crate::expect::{holds, holds_at, same, same_at};
 use crate::running::{disk_with, sound_disk, told};
@@ -54,7 +54,7 @@ fn first_slot() -> [u8; 113] {
     slot
 }
 
-// A disk whose slot 0 has the first image with another byte at this place, and whose slot 1 is empty.
+// A disk whose slot 0 has the first image with another byte at this place; its slot 1 is empty.
 fn changed(alloc: Global, at: usize, byte: u8) -> Result<MemoryDisk, Fail> {
     let mut slot = first_slot();
     if let Some(place) = slot.get_mut(at) {

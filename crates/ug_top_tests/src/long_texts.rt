@@ -1,5 +1,5 @@
-//! Texts at the limits on rows and columns, and one line beyond them. The limit on pairs is tried by bench/reading, since
-//! its text is large.
+//! Texts at the limits on rows and columns, and one line beyond them. The limit on pairs is tried
+//! by bench/reading, since its text is large.
 
 use crate::expect::holds;
 use crate::texts::{due, run_over};

@@ -82,7 +82,8 @@ fn first_line_of_run<R: Threads + Wait + Sync>(
     Ok(line.to_vec(alloc)?)
 }
 
-// Columns X, Y and W with rows P, Q and R: coefficients in the objective and the rows, right-hand sides, bounds.
+// Columns X, Y and W with rows P, Q and R: coefficients in the objective and the rows, right-hand
+// sides, bounds.
 const HEAD: [&str; 4] = [
     "ROWS\n N Z\n L P\n G Q\n E R\nCOLUMNS\n M 'MARKER' 'INTORG'\n",
     "OBJSENSE MAX\nROWS\n N Z\n L P\n L Q\n G R\nCOLUMNS\n M 'MARKER' 'INTORG'\n",

@@ -1,8 +1,9 @@
 //! Texts that are read, in a short notation, and what `run` answers to them.
 //!
-//! A case is a line `TEXT -> TOLD`; a line without an arrow is a heading. In both parts `/` and `;` are line feeds, `~` is
-//! a word of 256 letters, `^` one of 255, and `#` is the marker that sets integer on. A text may be edits of another:
-//! `21: UP D A 4/` puts this in the place of line 21, `9:` takes line 9 out, and `&` stands between edits.
+//! A case is a line `TEXT -> TOLD`; a line without an arrow is a heading. In both parts `/` and `;`
+//! are line feeds, `~` is a word of 256 letters, `^` one of 255, and `#` is the marker that sets
+//! integer on. A text may be edits of another: `21: UP D A 4/` puts this in the place of line 21,
+//! `9:` takes line 9 out, and `&` stands between edits.
 
 use crate::expect::same_at;
 use crate::running::{sound_disk, told};
