@@ -22,6 +22,8 @@ mod notices;
 #[cfg(test)]
 mod orders;
 #[cfg(test)]
+mod pools;
+#[cfg(test)]
 mod primitives;
 #[cfg(test)]
 mod problems;

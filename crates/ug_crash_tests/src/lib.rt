@@ -1,7 +1,7 @@
 //! Tests of disks, slots, saves and restarts, wherever the disk stops and whatever a crash leaves.
-//! They stand apart from the crates that they test, from ug_disk to ug_restart and ug_crashes.
+//! They stand apart from the crates that they test, from ug_disk to ug_crashes, and ug_real.
 //! Which field of a slot is named, what a restart answers, the slots that a run writes, byte for
-//! byte, saves and restarts stopped after each of their calls, and schedules with crashes. Nothing
+//! byte, stops after each call of saves and restarts, crashes by schedule, and real files. Nothing
 //! here is proved but that the tests are safe and end.
 #![tactic(auto)]
 
@@ -13,6 +13,8 @@ mod disks;
 mod expect;
 #[cfg(test)]
 mod fields;
+#[cfg(test)]
+mod files;
 #[cfg(test)]
 mod keepers;
 #[cfg(test)]

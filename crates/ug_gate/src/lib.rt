@@ -7,8 +7,6 @@
 
 mod gate;
 mod holding;
-#[cfg(test)]
-mod tests;
 mod yielding;
 
 pub use gate::{Gate, Moment, OpenGate, Standing};

@@ -20,6 +20,8 @@ mod problems;
 #[cfg(test)]
 mod records;
 #[cfg(test)]
+mod rounds;
+#[cfg(test)]
 mod searches;
 #[cfg(test)]
 mod tasks;

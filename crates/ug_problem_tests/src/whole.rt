@@ -20,7 +20,7 @@ pub struct Whole {
 const LARGEST: i128 = 1_000_000_000;
 
 // Whether the cutoff is one of small numbers.
-fn is_small(cutoff: Option<i128>) -> bool
+pub fn is_small(cutoff: Option<i128>) -> bool
     ensures { IsTrue result → IsSmallCutoff cutoff }
 {
     match cutoff {

@@ -2,7 +2,7 @@
 //! ug_rows and ug_problem. `tighten` gives what 32 rounds leave, as specs/Rounds.antt says; every
 //! feasible point of the box with a value below the cutoff is left, and where nothing is left it
 //! names the row that shows it. The sums of the rows are kept up, and a row waits until one of its
-//! columns changes; the slow program that the definition is looks at all rows, for tests alone.
+//! columns changes; `tighten_plain`, the slow program that the definition is, looks at all rows.
 #![tactic(auto)]
 
 mod awake;
@@ -10,20 +10,17 @@ mod cut;
 mod look;
 mod looking;
 mod measure;
-#[cfg(test)]
 mod plain;
 mod propagation;
 mod quotient;
 mod resting;
-#[cfg(test)]
 mod rounds;
 mod settle;
 mod sums;
-#[cfg(test)]
-mod tests;
 mod tight;
 mod working;
 
+pub use plain::tighten_plain;
 pub use propagation::tighten;
 pub use resting::Rest;
 pub use settle::{propagate, rest_after};

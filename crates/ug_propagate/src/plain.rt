@@ -188,7 +188,8 @@ fn tighten_sides(
     }
 }
 
-/// What bound propagation makes of a box, by the slow program that the definition is.
+/// What bound propagation makes of a box, by the slow program that the definition is: `tighten` is
+/// compared with it.
 #[tactic(auto, using(crate::proofs::Bodies::rounds_some, crate::proofs::Bodies::rounds_none))]
 pub fn tighten_plain(
     alloc: Global,

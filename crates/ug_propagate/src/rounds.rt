@@ -1,4 +1,4 @@
-//! The rounds as they are defined: each looks at all rows. They are there for tests alone.
+//! The rounds as they are defined: each looks at all rows. They are there to be compared with.
 
 ghost use Rattle.std.specs.Prelude.{◌≡◌, ◌≤◌, ◌*◌, ◌^◌, ◌↔◌, length, unsigned_abs, IfSome, IsTrue};
 ghost use Rattle.ug_propagate.specs.Rounds.{last_round, over_objective, over_rows, round, rounds_of};

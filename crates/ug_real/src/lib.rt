@@ -10,8 +10,6 @@ mod faults;
 mod reader;
 mod slot_copies;
 mod slot_files;
-#[cfg(test)]
-mod tests;
 mod writer;
 
 pub use disk::FileDisk;

@@ -14,6 +14,8 @@ mod expect;
 #[cfg(test)]
 mod family;
 #[cfg(test)]
+mod gates;
+#[cfg(test)]
 mod problems;
 #[cfg(test)]
 mod solving;

@@ -2,6 +2,7 @@ use crate::answer::{Answer, answer_of};
 use crate::cases::{CHOICE, KNAPSACK, ODD, RAMP, SQUARE};
 use crate::expect::{holds, holds_at, same};
 use crate::family::Member;
+use crate::gates::coming;
 use crate::problems::Small;
 use crate::solving::{settings, solved, solved_on, solved_without, sound_disk};
 use crate::trying::least_by_trying;
@@ -11,16 +12,8 @@ use std::test::Fail;
 use std::thread::Threads;
 use ug_checkpoint::load;
 use ug_disk::MemoryDisk;
-use ug_gate::{Coming, Hold, HoldingGate, Moment, OpenGate, YieldingGate};
+use ug_gate::{Hold, HoldingGate, Moment, OpenGate, YieldingGate};
 use ug_restart::{End, Outcome};
-
-fn coming(rank: u32, moment: Moment, number: u64) -> Coming {
-    Coming {
-        rank,
-        moment,
-        number,
-    }
-}
 
 // Rank 1 asks only once rank 0, which then has the root, asks again, and rank 0 only once rank 1
 // was answered.

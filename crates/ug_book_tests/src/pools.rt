@@ -1,10 +1,10 @@
 ghost use Rattle.std.specs.Prelude.{◌≡◌, ◌<◌};
 
-use crate::plain::PlainPool;
-use crate::pool::Pool;
+use crate::expect::{holds, same};
 use std::alloc::{AllocError, Global};
 use std::test::Fail;
 use ug_nodes::{Changes, Line, Name, Node, Ticket};
+use ug_pool::{PlainPool, Pool};
 
 fn name(number: u64, hand: u64) -> Name {
     let ticket = Ticket { run: 1, number };
@@ -56,55 +56,63 @@ fn takes_the_least_name_of_the_least_floor(rt: HostRuntime) -> Result<(), Fail> 
     put(alloc, &mut pool, 1, 4)?;
     put(alloc, &mut pool, 3, 2)?;
     put(alloc, &mut pool, 2, 2)?;
-    assert_eq!(rt; hand(pool.take_least()), Some(2));
+    same(&rt, &hand(pool.take_least()), &Some(2));
     pool.drop_from(4);
-    assert_eq!(rt; pool.len(), 1);
-    assert_eq!(rt; hand(pool.take_least()), Some(3));
-    assert_eq!(rt; hand(pool.take_least()), None);
-    assert_eq!(rt; pool.spare(), 3);
+    same(&rt, &pool.len(), &1);
+    same(&rt, &hand(pool.take_least()), &Some(3));
+    same(&rt, &hand(pool.take_least()), &None);
+    same(&rt, &pool.spare(), &3);
     Ok(())
 }
 
-fn put_line(alloc: Global, pool: &mut Pool, line: &Line) -> Result<(), AllocError> {
-    pool.reserve(1)?;
-    pool.put(node_of(alloc, line.clone()?), 0);
+// The line of the node of these names, which stands below the starting node of this hand number.
+fn line_of(alloc: Global, first: u64, names: &[(u64, u64)]) -> Result<Line, AllocError> {
+    let mut line = start(alloc, first)?;
+    for (number, hand) in names {
+        line = line.child(alloc, name(*number, *hand))?;
+    }
+    Ok(line)
+}
+
+// A starting node with two nodes below it, one of which has one below it, and another.
+const LINES: [(u64, &[(u64, u64)]); 5] = [
+    (0, &[]),
+    (0, &[(1, 2)]),
+    (0, &[(1, 2), (2, 0)]),
+    (0, &[(1, 3)]),
+    (1, &[]),
+];
+
+fn put_all(alloc: Global, pool: &mut Pool) -> Result<(), AllocError> {
+    for (first, names) in LINES {
+        pool.reserve(1)?;
+        pool.put(node_of(alloc, line_of(alloc, first, names)?), 0);
+    }
     Ok(())
+}
+
+// Whether the pool has the nodes of these names, in this order.
+fn has(pool: &Pool, names: &[(u64, u64)]) -> bool {
+    let mut same = pool.len() == names.len();
+    for (k, (number, hand)) in names.iter().enumerate() {
+        let entry = pool.get(k);
+        same = same && entry.is_some_and(|entry| entry.node.line.name() == name(*number, *hand));
+    }
+    same
 }
 
 #[test]
 fn drops_what_stands_below_a_node(rt: HostRuntime) -> Result<(), Fail> {
     let alloc = rt.alloc();
     let mut pool = Pool::new(alloc);
-    let a = start(alloc, 0)?;
-    let below = a.child(alloc, name(1, 2))?;
-    let lowest = below.child(alloc, name(2, 0))?;
-    let beside = a.child(alloc, name(1, 3))?;
-    let other = start(alloc, 1)?;
-    put_line(alloc, &mut pool, &a)?;
-    put_line(alloc, &mut pool, &below)?;
-    put_line(alloc, &mut pool, &lowest)?;
-    put_line(alloc, &mut pool, &beside)?;
-    put_line(alloc, &mut pool, &other)?;
-    assert!(rt;
-        pool.first().is_some_and(|entry| entry.floor == 0 && entry.node.line.name() == name(1, 0))
-    );
-    pool.drop_below(&below);
-    assert_eq!(rt; pool.len(), 4);
-    assert!(rt;
-        pool.get(2)
-            .is_some_and(|entry| entry.node.line.name() == name(1, 2))
-    );
-    pool.drop_below(&a);
-    assert_eq!(rt; pool.len(), 2);
-    assert!(rt;
-        pool.get(0)
-            .is_some_and(|entry| entry.node.line.as_slice() == a.as_slice())
-    );
-    assert!(rt;
-        pool.get(1)
-            .is_some_and(|entry| entry.node.line.as_slice() == other.as_slice())
-    );
-    assert_eq!(rt; pool.spare(), 3);
+    put_all(alloc, &mut pool)?;
+    holds(&rt, pool.first().is_some_and(|entry| entry.floor == 0));
+    holds(&rt, has(&pool, &[(1, 0), (1, 1), (1, 2), (1, 3), (2, 0)]));
+    pool.drop_below(&line_of(alloc, 0, &[(1, 2)])?);
+    holds(&rt, has(&pool, &[(1, 0), (1, 1), (1, 2), (1, 3)]));
+    pool.drop_below(&start(alloc, 0)?);
+    holds(&rt, has(&pool, &[(1, 0), (1, 1)]));
+    same(&rt, &pool.spare(), &3);
     Ok(())
 }
 
@@ -154,7 +162,7 @@ fn answers_as_the_plain_pool(rt: HostRuntime) -> Result<(), Fail> {
         let same = step(alloc, &mut pool, &mut plain, state >> 16)?;
         alike = alike && same;
     }
-    assert!(rt; alike);
+    holds(&rt, alike);
     Ok(())
 }
 
@@ -171,6 +179,6 @@ fn holds_twenty_thousand_nodes(rt: HostRuntime) -> Result<(), Fail> {
         in_order = in_order
             && taken.is_some_and(|hand| hand < 20_000 && hand * 7_919 % 20_000 == floor);
     }
-    assert!(rt; in_order && pool.len() == 0);
+    holds(&rt, in_order && pool.len() == 0);
     Ok(())
 }

@@ -1,0 +1,237 @@
+//! Bound propagation on small problems, by the fast body and by the slow one that the definition is.
+
+use crate::expect::{holds_at, same};
+use crate::whole::is_small;
+use std::alloc::Global;
+use ug_mps::read;
+use ug_problem::Problem;
+use ug_propagate::{Reason, Side, Sums, Tight, tighten, tighten_plain};
+use ug_rows::Interval;
+
+// 2 x is at most 7.
+const AT_MOST_7: &[u8] = b"ROWS
+ N Z
+ L r
+COLUMNS
+ M 'MARKER' 'INTORG'
+ x Z 1 r 2
+RHS
+ r 7
+BOUNDS
+ UP x 9
+ENDATA
+";
+
+// 2 x is at least 7.
+const AT_LEAST_7: &[u8] = b"ROWS
+ N Z
+ L r
+COLUMNS
+ M 'MARKER' 'INTORG'
+ x Z 1 r -2
+RHS
+ r -7
+BOUNDS
+ UP x 9
+ENDATA
+";
+
+// 2 x is at least 19.
+const AT_LEAST_19: &[u8] = b"ROWS
+ N Z
+ L r
+COLUMNS
+ M 'MARKER' 'INTORG'
+ x Z 1 r -2
+RHS
+ r -19
+BOUNDS
+ UP x 9
+ENDATA
+";
+
+// x is at least 5, and at most 2.
+const TOO_LITTLE: &[u8] = b"ROWS
+ N Z
+ G r
+COLUMNS
+ M 'MARKER' 'INTORG'
+ x Z 1 r 1
+RHS
+ r 5
+BOUNDS
+ UP x 2
+ENDATA
+";
+
+// x is at least y, and y at least x + 1.
+const CHASE: &[u8] = b"ROWS
+ N Z
+ G r
+ G s
+COLUMNS
+ M 'MARKER' 'INTORG'
+ x Z 1 r 1
+ x s -1
+ y r -1 s 1
+RHS
+ s 1
+BOUNDS
+ UP x 63
+ UP y 63
+ENDATA
+";
+
+// 2 x + 2 y + 2 w is 7.
+const ODD_SUM: &[u8] = b"ROWS
+ N Z
+ E r
+COLUMNS
+ M 'MARKER' 'INTORG'
+ x Z 1 r 2
+ y r 2
+ w r 2
+RHS
+ r 7
+BOUNDS
+ UP x 10
+ UP y 10
+ UP w 10
+ENDATA
+";
+
+// 3 x + 2 y is 7: the row tightens again at its second look.
+const SECOND_LOOK: &[u8] = b"ROWS
+ N Z
+ E r
+COLUMNS
+ M 'MARKER' 'INTORG'
+ x Z 1 r 3
+ y r 2
+RHS
+ r 7
+BOUNDS
+ UP x 10
+ UP y 10
+ENDATA
+";
+
+// 2 x + 3 y + w is at most 5, and 4 x + y + 2 w at most 11.
+const KNAPSACK: &[u8] = b"ROWS
+ N Z
+ L r
+ L s
+COLUMNS
+ M 'MARKER' 'INTORG'
+ x Z 1 r 2
+ x s 4
+ y r 3 s 1
+ w r 1 s 2
+RHS
+ r 5 s 11
+BOUNDS
+ UP x 10
+ UP y 10
+ UP w 10
+ENDATA
+";
+
+// What is left of each column, or why nothing is.
+type Outcome = Result<&'static [(i32, i32)], Reason>;
+
+// What the rounds leave of the root under a cutoff.
+const CASES: [(&[u8], Option<i128>, Outcome); 8] = [
+    (AT_MOST_7, None, Ok(&[(0, 3)])),
+    (AT_LEAST_7, Some(9), Ok(&[(4, 8)])),
+    (AT_LEAST_19, None, Err(NO_HIGH)),
+    (AT_LEAST_7, Some(4), Err(NO_VALUE)),
+    (TOO_LITTLE, None, Err(NO_LOW)),
+    (CHASE, None, Err(NO_LOW)),
+    (ODD_SUM, None, Ok(&[(0, 3), (0, 3), (0, 3)])),
+    (SECOND_LOOK, None, Ok(&[(1, 1), (2, 2)])),
+];
+
+const NO_LOW: Reason = Reason {
+    row: Some(0),
+    side: Side::Low,
+};
+
+const NO_HIGH: Reason = Reason {
+    row: Some(0),
+    side: Side::High,
+};
+
+const NO_VALUE: Reason = Reason {
+    row: None,
+    side: Side::High,
+};
+
+// Whether these are the intervals.
+fn are(sides: &[Interval], wanted: &[(i32, i32)]) -> bool {
+    sides.len() == wanted.len()
+        && sides.iter().zip(wanted).all(|(side, (low, high))| side.low == *low
+            && side.high == *high)
+}
+
+// Whether this is what was wanted.
+fn is_so(tight: &Tight, wanted: &Outcome) -> bool {
+    match (tight, wanted) {
+        (Tight::Kept(area), Ok(wanted)) => are(area.as_slice(), wanted),
+        (Tight::Empty(reason), Err(wanted)) => reason == wanted,
+        _ => false,
+    }
+}
+
+// Whether both bodies leave what is wanted of the root of this problem.
+fn both_leave(alloc: Global, text: &[u8], cutoff: Option<i128>, wanted: &Outcome) -> bool {
+    let Ok(problem) = read(alloc, text, None) else {
+        return false;
+    };
+    if !is_small(cutoff) {
+        return false;
+    }
+    tighten(alloc, &problem, cutoff, problem.root()).is_ok_and(|tight| is_so(&tight, wanted))
+        && tighten_plain(alloc, &problem, cutoff, problem.root()).is_ok_and(|tight| is_so(
+            &tight, wanted,
+        ))
+}
+
+#[test]
+fn both_bodies_leave_what_is_worked_out_by_hand(rt: HostRuntime) {
+    for (k, (text, cutoff, wanted)) in CASES.iter().enumerate() {
+        holds_at(&rt, both_leave(rt.alloc(), text, *cutoff, wanted), &k);
+    }
+}
+
+// The greatest sum of row 0 over the root, and sums of rows and of the objective after column 0 was
+// set to 0..2, then to 1..2.
+fn running_sums(alloc: Global, problem: &Problem) -> Option<[i128; 6]> {
+    if problem.columns().len() != 3 || problem.rows().len() != 2 {
+        return None;
+    }
+    let mut sums = Sums::new(alloc, problem, problem.root()).ok()?;
+    let before = sums.greatest(problem, Some(0));
+    sums.set(problem, 0, 0, 2);
+    let first = sums.greatest(problem, Some(0));
+    let second = sums.greatest(problem, Some(1));
+    let least = sums.least(problem, Some(0));
+    sums.set(problem, 0, 1, 2);
+    Some([
+        before,
+        first,
+        second,
+        least,
+        sums.least(problem, Some(0)),
+        sums.least(problem, None),
+    ])
+}
+
+#[test]
+fn sums_follow_a_column(rt: HostRuntime) {
+    let alloc = rt.alloc();
+    let sums = match read(alloc, KNAPSACK, None) {
+        Ok(problem) => running_sums(alloc, &problem),
+        Err(_) => None,
+    };
+    same(&rt, &sums, &Some([60, 44, 38, 0, 2, 1]));
+}
