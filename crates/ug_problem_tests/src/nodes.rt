@@ -201,42 +201,54 @@ fn name(run: u64, number: u64, hand: u64) -> Name {
     Name { ticket, hand }
 }
 
+// Whether the line has two names, and stands below these and no other.
+fn is_below_its_names(root: &Line, line: &Line) -> bool {
+    line.as_slice() == [name(1, 1, 1), name(1, 4, 2)].as_slice()
+        && line.name() == name(1, 4, 2)
+        && is_below(line, &name(1, 1, 1))
+        && is_below(line, &line.name())
+        && !is_below(line, &name(1, 4, 1))
+        && !is_below(root, &line.name())
+}
+
+// Whether the root is an ancestor of the line, and the line of none of the three.
+fn is_child_alone(root: &Line, line: &Line, sibling: &Line) -> bool {
+    is_ancestor(root, line)
+        && !is_ancestor(line, line)
+        && !is_ancestor(line, root)
+        && !is_ancestor(line, sibling)
+}
+
 #[test]
 fn stands_below_the_names_of_its_line(rt: HostRuntime) -> Result<(), Fail> {
     let alloc = rt.alloc();
     let root = Line::start(alloc, name(1, 1, 1))?;
     let line = root.child(alloc, name(1, 4, 2))?;
-    holds(
-        &rt,
-        line.as_slice() == [name(1, 1, 1), name(1, 4, 2)].as_slice(),
-    );
-    holds(&rt, line.name() == name(1, 4, 2));
-    holds(
-        &rt,
-        is_below(&line, &name(1, 1, 1)) && is_below(&line, &line.name()),
-    );
-    holds(
-        &rt,
-        !is_below(&line, &name(1, 4, 1)) && !is_below(&root, &line.name()),
-    );
-    holds(&rt, Line::checked(Vec::new(alloc)).is_none());
-    holds(&rt, is_ancestor(&root, &line) && !is_ancestor(&line, &line));
+    holds(&rt, is_below_its_names(&root, &line));
     let sibling = root.child(alloc, name(1, 4, 3))?;
-    holds(
-        &rt,
-        !is_ancestor(&line, &root) && !is_ancestor(&line, &sibling),
-    );
+    holds(&rt, is_child_alone(&root, &line, &sibling));
+    holds(&rt, Line::checked(Vec::new(alloc)).is_none());
+    Ok(())
+}
+
+// Whether a copy of a node of this line has the line, and no changes.
+fn is_copied(alloc: Global, line: Line) -> Result<bool, AllocError> {
     let changes = Changes::new(Vec::new(alloc));
     let node = Node { line, changes };
     let copy = node.clone()?;
-    holds(
-        &rt,
-        copy.line.as_slice() == node.line.as_slice() && copy.changes.as_slice().is_empty(),
-    );
-    holds(&rt, node.line.name().order(name(2, 1, 1)) == Ordering::Less);
-    holds(
-        &rt,
-        name(1, 4, 2).ticket.order(name(1, 3, 9).ticket) == Ordering::Greater,
-    );
+    Ok(copy.line.as_slice() == node.line.as_slice() && copy.changes.as_slice().is_empty())
+}
+
+#[test]
+fn node_is_copied(rt: HostRuntime) -> Result<(), Fail> {
+    let alloc = rt.alloc();
+    holds(&rt, is_copied(alloc, Line::start(alloc, name(1, 1, 1))?)?);
     Ok(())
+}
+
+#[test]
+fn names_go_by_run_and_number_first(rt: HostRuntime) {
+    holds(&rt, name(1, 4, 2).order(name(2, 1, 1)) == Ordering::Less);
+    let tickets = (name(1, 4, 2).ticket, name(1, 3, 9).ticket);
+    holds(&rt, tickets.0.order(tickets.1) == Ordering::Greater);
 }

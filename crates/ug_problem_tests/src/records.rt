@@ -54,21 +54,30 @@ fn is_spelled_so(alloc: Global, problem: &Problem, wanted: &[u8]) -> Result<bool
     Ok(to_record(alloc, problem)?.as_slice() == wanted)
 }
 
+// Whether nothing at all is spelled by bytes of 0.
+fn is_nothing_zeros(alloc: Global) -> Result<bool, Fail> {
+    let problem = nil(alloc)?;
+    Ok(is_spelled_so(alloc, &problem, &[0; 30])?)
+}
+
+// Whether the problem of the text is spelled so, if the text has no fault.
+fn is_text_spelled_so(alloc: Global, wanted: &[u8]) -> Option<bool> {
+    let problem = read(alloc, TEXT, None).ok()?;
+    is_spelled_so(alloc, &problem, wanted).ok()
+}
+
 #[test]
 fn records_are_spelled_so(rt: HostRuntime) -> Result<(), Fail> {
     let alloc = rt.alloc();
-    holds(&rt, is_spelled_so(alloc, &nil(alloc)?, &[0; 30])?);
-    match read(alloc, TEXT, None) {
-        Ok(small) => holds(&rt, is_spelled_so(alloc, &small, &SMALL)?),
-        Err(_) => panic!(rt; "the text has a fault"),
-    }
+    holds(&rt, is_nothing_zeros(alloc)?);
+    same(&rt, &is_text_spelled_so(alloc, &SMALL), &Some(true));
     Ok(())
 }
 
 // Where the first bad field begins.
 fn place(alloc: Global, bytes: &[u8]) -> Option<usize> {
-    match from_record(alloc, bytes) {
-        Err(RecordError::BadRecord { at }) => Some(at),
+    match from_record(alloc, bytes).err()? {
+        RecordError::BadRecord { at } => Some(at),
         _ => None,
     }
 }

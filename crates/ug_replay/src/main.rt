@@ -23,7 +23,7 @@ fn replayed(alloc: Global, book: &mut Option<Book>, line: &str) -> Option<String
     if line.is_empty() || line.starts_with("#") {
         return String::from_str(alloc, line).ok();
     }
-    let words = split(alloc, line, " ").ok()?;
+    let words = split(alloc, line, ' ').ok()?;
     if line.starts_with("schedule ") {
         *book = begin(alloc, &words);
         return String::from_str(alloc, line).ok();

@@ -8,7 +8,8 @@ pub fn word<'a>(words: &[&'a str], at: usize) -> &'a str {
     }
 }
 
-pub fn split<'a>(alloc: Global, text: &'a str, by: &str) -> Result<Vec<&'a str>, AllocError> {
+// The words of a text, which this character parts.
+pub fn split<'a>(alloc: Global, text: &'a str, by: char) -> Result<Vec<&'a str>, AllocError> {
     let mut words = Vec::new(alloc);
     for word in text.split(by) {
         words.push(word)?;

@@ -5,6 +5,7 @@ use crate::expect::{holds, holds_at, same, same_at};
 use crate::running::{disk_with, sound_disk, told};
 use crate::texts::{due, written};
 use std::alloc::Global;
+use std::process::Abort;
 use std::sync::Wait;
 use std::test::Fail;
 use std::thread::Threads;
@@ -69,24 +70,40 @@ fn slot_only(alloc: Global, zero: &[u8]) -> Result<MemoryDisk, Fail> {
     Ok(disk_with(alloc, zero, Vec::new(alloc), Vec::new(alloc)))
 }
 
+/// A command, the text that it gets, and the status and lines that it is to tell.
+type Case<'a> = (&'a str, &'a str, u8, &'a str);
+
+// Expects the commands, one after another over one disk, to tell what they are to.
+fn tell_so<R: Threads + Wait + Sync + Abort, D: Disk>(
+    rt: &R,
+    alloc: Global,
+    disk: &mut D,
+    cases: &[Case<'_>],
+) -> Result<(), Fail> {
+    for (line, text, status, lines) in cases {
+        let told = tells(rt, alloc, line, text, disk)?;
+        same_at(rt, &told, &due(alloc, *status, &[lines])?, line);
+    }
+    Ok(())
+}
+
 #[test]
 fn solvers_find_the_optimum(rt: HostRuntime) -> Result<(), Fail> {
     let alloc = rt.alloc();
-    let lines = [
+    for line in [
         "solve f",
         "solve f --solvers 4",
         "solve f --solvers 4 --racing",
         "solve f --solvers 2 --mode threads --low 1 --high 1",
         "solve f --solvers 3 --checkpoint d --every 1",
-    ];
-    for line in lines {
-        let told = tells(&rt, alloc, line, KNAPSACK, &mut sound_disk(alloc))?;
-        same_at(&rt, &told, &due(alloc, 0, &["optimal 13;A 2;C 1"])?, &line);
+    ] {
+        let case = (line, KNAPSACK, 0, "optimal 13;A 2;C 1");
+        tell_so(&rt, alloc, &mut sound_disk(alloc), &[case])?;
     }
     Ok(())
 }
 
-const STOPPED: [(&str, &str, u8, &str); 6] = [
+const STOPPED: [Case<'static>; 6] = [
     (
         "show --checkpoint d",
         "",
@@ -119,18 +136,13 @@ const STOPPED: [(&str, &str, u8, &str); 6] = [
 fn stopped_run_is_shown_and_goes_on(rt: HostRuntime) -> Result<(), Fail> {
     let alloc = rt.alloc();
     let mut disk = sound_disk(alloc);
-    let line = "solve f --checkpoint d --limit 0";
-    let told = tells(&rt, alloc, line, EMPTY, &mut disk)?;
-    same(&rt, &told, &due(alloc, 8, &["open none 1"])?);
+    let first = ("solve f --checkpoint d --limit 0", EMPTY, 8, "open none 1");
+    tell_so(&rt, alloc, &mut disk, &[first])?;
     let mut slot = first_slot();
     same(&rt, &disk.bytes(Slot::Zero), &slot.as_slice());
     slot[25] = 2;
     same(&rt, &disk.bytes(Slot::One), &slot.as_slice());
-    for (line, text, status, lines) in STOPPED {
-        let told = tells(&rt, alloc, line, text, &mut disk)?;
-        same_at(&rt, &told, &due(alloc, status, &[lines])?, &line);
-    }
-    Ok(())
+    tell_so(&rt, alloc, &mut disk, &STOPPED)
 }
 
 #[test]
@@ -155,7 +167,7 @@ fn each_run_has_the_next_number(rt: HostRuntime) -> Result<(), Fail> {
     Ok(())
 }
 
-const GAPS: [(&str, &str, u8, &str); 9] = [
+const GAPS: [Case<'static>; 9] = [
     ("solve f --gap 2", RAMP, 0, "within 2 3;X 3"),
     ("solve f --gap 3", RAMP, 0, "within 3 0"),
     ("solve f --gap 3 --checkpoint d", RAMP, 0, "within 3 0"),
@@ -189,37 +201,36 @@ const GAPS: [(&str, &str, u8, &str); 9] = [
 
 #[test]
 fn gap_is_kept_and_printed(rt: HostRuntime) -> Result<(), Fail> {
-    let alloc = rt.alloc();
-    let mut disk = sound_disk(alloc);
-    for (line, text, status, lines) in GAPS {
-        let told = tells(&rt, alloc, line, text, &mut disk)?;
-        same_at(&rt, &told, &due(alloc, status, &[lines])?, &line);
-    }
-    Ok(())
+    tell_so(&rt, rt.alloc(), &mut sound_disk(rt.alloc()), &GAPS)
 }
+
+// The fifth line of what is shown behind a run with a gap of 1 of an objective of two places.
+fn shown_gap<R: Threads + Wait + Sync>(rt: &R, alloc: Global) -> Result<Vec<u8>, Fail> {
+    let mut disk = sound_disk(alloc);
+    let line = "solve f --gap 1 --checkpoint d";
+    tells(rt, alloc, line, FRACTIONS, &mut disk)?;
+    let shown = tells(rt, alloc, "show --checkpoint d", "", &mut disk)?;
+    let line = shown.split(|byte| *byte == b'\n').nth(4);
+    Ok(line.unwrap_or(b"").to_vec(alloc)?)
+}
+
+// Commands over the first image with a gap of 3 in it.
+const GAP_OF_3: [Case<'static>; 2] = [
+    (
+        "show --checkpoint d",
+        "",
+        0,
+        "run 1;sequence 1;best none;heard 0;gap 3;nodes 1;node 0 0 0",
+    ),
+    ("restart f --checkpoint d", EMPTY, 16, "smaller gap 3 0"),
+];
 
 #[test]
 fn gap_of_a_slot_is_in_units_of_the_scaled_objective(rt: HostRuntime) -> Result<(), Fail> {
     let alloc = rt.alloc();
-    let mut disk = sound_disk(alloc);
-    tells(
-        &rt,
-        alloc,
-        "solve f --gap 1 --checkpoint d",
-        FRACTIONS,
-        &mut disk,
-    )?;
-    let shown = tells(&rt, alloc, "show --checkpoint d", "", &mut disk)?;
-    let gap = shown.split(|byte| *byte == b'\n').nth(4);
-    same(&rt, &gap, &Some(b"gap 100".as_slice()));
-
-    let mut disk = changed(alloc, 84, 3)?;
-    let shown = tells(&rt, alloc, "show --checkpoint d", "", &mut disk)?;
-    let lines = "run 1;sequence 1;best none;heard 0;gap 3;nodes 1;node 0 0 0";
-    same(&rt, &shown, &due(alloc, 0, &[lines])?);
-    let told = tells(&rt, alloc, "restart f --checkpoint d", EMPTY, &mut disk)?;
-    same(&rt, &told, &due(alloc, 16, &["smaller gap 3 0"])?);
-    Ok(())
+    let gap = shown_gap(&rt, alloc)?;
+    same(&rt, &gap.as_slice(), &b"gap 100".as_slice());
+    tell_so(&rt, alloc, &mut changed(alloc, 84, 3)?, &GAP_OF_3)
 }
 
 // Slots of which recovery makes nothing: the bytes of slot 0, a command, and what it tells.
@@ -236,9 +247,8 @@ const UNUSABLE: [(&[u8], &str, u8, &str); 6] = [
 fn slot_that_is_no_image_is_told(rt: HostRuntime) -> Result<(), Fail> {
     let alloc = rt.alloc();
     for (zero, line, status, lines) in UNUSABLE {
-        let mut disk = slot_only(alloc, zero)?;
-        let told = tells(&rt, alloc, line, EMPTY, &mut disk)?;
-        same_at(&rt, &told, &due(alloc, status, &[lines])?, &line);
+        let case = (line, EMPTY, status, lines);
+        tell_so(&rt, alloc, &mut slot_only(alloc, zero)?, &[case])?;
     }
     Ok(())
 }
@@ -248,9 +258,8 @@ fn run_or_sequence_of_two_to_the_62_is_spent(rt: HostRuntime) -> Result<(), Fail
     let alloc = rt.alloc();
     for at in [10, 18] {
         for line in ["restart f --checkpoint d", "solve f --checkpoint d"] {
-            let mut disk = changed(alloc, at, 0x40)?;
-            let told = tells(&rt, alloc, line, EMPTY, &mut disk)?;
-            same_at(&rt, &told, &due(alloc, 15, &["spent"])?, &line);
+            let case = (line, EMPTY, 15, "spent");
+            tell_so(&rt, alloc, &mut changed(alloc, at, 0x40)?, &[case])?;
         }
     }
     Ok(())
@@ -324,29 +333,20 @@ fn missed_save_of_a_snapshot_is_followed_by_the_last_save(rt: HostRuntime) -> Re
 
 #[test]
 fn instances_are_made_and_solved(rt: HostRuntime) -> Result<(), Fail> {
+    let made = [
+        ("gen 1 3", "", 0, "optimal 24"),
+        ("gen 1 4", "", 0, "optimal 93"),
+        ("gen 1 4 --solvers 3", "", 0, "optimal 93"),
+    ];
+    tell_so(&rt, rt.alloc(), &mut sound_disk(rt.alloc()), &made)
+}
+
+#[test]
+fn instance_has_one_answer_for_any_solvers(rt: HostRuntime) -> Result<(), Fail> {
     let alloc = rt.alloc();
-    for (line, lines) in [
-        ("gen 1 3", "optimal 24"),
-        ("gen 1 4", "optimal 93"),
-        ("gen 1 4 --solvers 3", "optimal 93"),
-    ] {
-        let told = tells(&rt, alloc, line, "", &mut sound_disk(alloc))?;
-        same_at(&rt, &told, &due(alloc, 0, &[lines])?, &line);
-    }
-    let one = tells(
-        &rt,
-        alloc,
-        "gen 7 24 --solvers 1",
-        "",
-        &mut sound_disk(alloc),
-    )?;
-    let four = tells(
-        &rt,
-        alloc,
-        "gen 7 24 --solvers 4",
-        "",
-        &mut sound_disk(alloc),
-    )?;
+    let mut disk = sound_disk(alloc);
+    let one = tells(&rt, alloc, "gen 7 24 --solvers 1", "", &mut disk)?;
+    let four = tells(&rt, alloc, "gen 7 24 --solvers 4", "", &mut disk)?;
     holds(&rt, one.starts_with(b"\0optimal "));
     same(&rt, &one, &four);
     Ok(())

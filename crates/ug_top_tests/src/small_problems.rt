@@ -29,10 +29,13 @@ fn advance(values: &mut [i32], sides: &[Interval]) -> bool {
 
 // The value of a point, if it is feasible.
 fn value_if_feasible(problem: &Problem, point: &Point) -> Option<i128> {
-    if point.as_slice().len() != problem.columns().len() || problem.first_broken(point).is_some() {
+    if point.as_slice().len() != problem.columns().len() {
         return None;
     }
-    Some(problem.value(point))
+    match problem.first_broken(point) {
+        Some(_) => None,
+        None => Some(problem.value(point)),
+    }
 }
 
 // The least value over all points, if one is feasible.
