@@ -17,7 +17,7 @@ use ug_propagate::{Working, propagate};
 use ug_rows::{IntBox, Interval, Point, has_point};
 
 /// What is seen in a box.
-#[derive(Debug, Drop)]
+#[derive(Drop)]
 pub enum Seen {
     /// No good point.
     Hopeless,

@@ -2,7 +2,7 @@ use ug_propagate::Rest;
 use ug_rows::Interval;
 
 /// A column that is narrowed to an interval.
-#[derive(Clone, Copy, Debug)]
+#[derive(Clone, Copy)]
 pub struct Narrowing {
     pub column: u32,
     pub side: Interval,
@@ -10,7 +10,7 @@ pub struct Narrowing {
 
 /// A box left to search, as a change against its parent: the working box as it was after `depth`
 /// changes, with one column narrowed. The whole box has none narrowed.
-#[derive(Clone, Copy, Debug)]
+#[derive(Clone, Copy)]
 pub struct Part {
     pub depth: usize,
     pub cut: Option<Narrowing>,

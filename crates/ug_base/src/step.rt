@@ -1,7 +1,7 @@
 use ug_rows::Point;
 
 /// What a step did with the last box left.
-#[derive(Debug, Drop)]
+#[derive(Drop)]
 pub enum Step {
     /// It has no feasible point with a value below the cutoff, and was dropped.
     Pruned,

@@ -1,5 +1,5 @@
 /// What comes next of an image: a line before a list, or an item of one.
-#[derive(Clone, Copy, Debug, PartialEq, Eq)]
+#[derive(Clone, Copy, PartialEq, Eq)]
 pub enum Stage {
     /// The version, up to the count of columns.
     Front,

@@ -6,7 +6,7 @@ use crate::params::{End, Params, Pick};
 use ug_rows::{IntBox, Interval};
 
 /// Where a box is halved: the column, and the value that ends its lower half.
-#[derive(Clone, Copy, Debug, PartialEq, Eq)]
+#[derive(Clone, Copy, PartialEq, Eq)]
 pub struct Branch {
     pub column: u32,
     pub middle: i32,

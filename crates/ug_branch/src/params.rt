@@ -2,7 +2,7 @@ ghost use Rattle.std.specs.Prelude.{◌≡◌, ℕ, ◌<◌, ◌/◌, ◌%◌};
 ghost use Rattle.ug_branch.specs.Numbers.{number_of, pick_bit, end_bit, half_bit};
 
 /// Which measure picks the column.
-#[derive(Clone, Copy, Debug, PartialEq, Eq)]
+#[derive(Clone, Copy, PartialEq, Eq)]
 pub enum Pick {
     /// Its place alone.
     Place,
@@ -11,21 +11,21 @@ pub enum Pick {
 }
 
 /// Which end of the columns wins.
-#[derive(Clone, Copy, Debug, PartialEq, Eq)]
+#[derive(Clone, Copy, PartialEq, Eq)]
 pub enum End {
     Lowest,
     Highest,
 }
 
 /// Which half is looked at first.
-#[derive(Clone, Copy, Debug, PartialEq, Eq)]
+#[derive(Clone, Copy, PartialEq, Eq)]
 pub enum Half {
     Lower,
     Upper,
 }
 
 /// How a box is branched on.
-#[derive(Clone, Copy, Debug, PartialEq, Eq)]
+#[derive(Clone, Copy, PartialEq, Eq)]
 pub struct Params {
     pub pick: Pick,
     pub end: End,

@@ -19,7 +19,7 @@ pub enum LoadError {
 }
 
 /// Why a checkpoint is not saved.
-#[derive(Clone, Copy, Debug, PartialEq, Eq)]
+#[derive(Clone, Copy, PartialEq, Eq)]
 pub enum SaveError {
     /// Memory ran out, and the disk was not touched.
     Memory,

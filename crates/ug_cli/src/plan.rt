@@ -1,5 +1,5 @@
 /// How many solvers there are, and how many open nodes the pool is to hold.
-#[derive(Clone, Copy, Debug, PartialEq, Eq)]
+#[derive(Clone, Copy, PartialEq, Eq)]
 pub struct Ranks {
     pub solvers: u32,
     /// Whether the solvers begin with a race.
@@ -11,7 +11,7 @@ pub struct Ranks {
 }
 
 /// How often is saved, and how far is gone.
-#[derive(Clone, Copy, Debug, PartialEq, Eq)]
+#[derive(Clone, Copy, PartialEq, Eq)]
 pub struct Bounds {
     /// A checkpoint is saved at each delivery whose number is a multiple of this.
     pub every: u32,
@@ -24,7 +24,7 @@ pub struct Bounds {
 }
 
 /// How a file is solved, in threads.
-#[derive(Clone, Copy, Debug, PartialEq, Eq)]
+#[derive(Clone, Copy, PartialEq, Eq)]
 pub struct Settings<'a> {
     pub ranks: Ranks,
     pub bounds: Bounds,
@@ -33,7 +33,7 @@ pub struct Settings<'a> {
 }
 
 /// Solve a file.
-#[derive(Clone, Copy, Debug, PartialEq, Eq)]
+#[derive(Clone, Copy, PartialEq, Eq)]
 pub struct Solve<'a> {
     pub file: &'a str,
     /// The folder of the checkpoint, where one is to be kept.
@@ -42,7 +42,7 @@ pub struct Solve<'a> {
 }
 
 /// Go on from a checkpoint.
-#[derive(Clone, Copy, Debug, PartialEq, Eq)]
+#[derive(Clone, Copy, PartialEq, Eq)]
 pub struct Restart<'a> {
     pub file: &'a str,
     /// The folder of the checkpoint.
@@ -51,14 +51,14 @@ pub struct Restart<'a> {
 }
 
 /// Print a checkpoint.
-#[derive(Clone, Copy, Debug, PartialEq, Eq)]
+#[derive(Clone, Copy, PartialEq, Eq)]
 pub struct Show<'a> {
     /// The folder of the checkpoint.
     pub checkpoint: &'a str,
 }
 
 /// Solve a made instance.
-#[derive(Clone, Copy, Debug, PartialEq, Eq)]
+#[derive(Clone, Copy, PartialEq, Eq)]
 pub struct Gen {
     pub seed: u32,
     pub size: u32,
@@ -66,7 +66,7 @@ pub struct Gen {
 }
 
 /// What the words ask for, with defaults filled in.
-#[derive(Clone, Copy, Debug, PartialEq, Eq)]
+#[derive(Clone, Copy, PartialEq, Eq)]
 pub enum Plan<'a> {
     Solve(Solve<'a>),
     Restart(Restart<'a>),

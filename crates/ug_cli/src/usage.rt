@@ -4,7 +4,7 @@ ghost use Rattle.ug_cli.specs.declared.usage.Usage.TheVariants.{Memory};
 use std::alloc::AllocError;
 
 /// Why the words give no plan.
-#[derive(Clone, Copy, Debug, PartialEq, Eq)]
+#[derive(Clone, Copy, PartialEq, Eq)]
 pub enum Usage {
     /// Memory ran out.
     Memory,

@@ -1,7 +1,7 @@
 use ug_lists::Items;
 
 /// What is wanted of the members.
-#[derive(Debug, Drop)]
+#[derive(Drop)]
 pub enum Wanted {
     /// That this rank hands this many nodes.
     Ask { rank: u32, count: u64 },

@@ -1,5 +1,5 @@
 /// A rank with an assignment, with what it last reported.
-#[derive(Clone, Copy, Debug, PartialEq, Eq)]
+#[derive(Clone, Copy, PartialEq, Eq)]
 pub struct Member {
     pub rank: u32,
     /// How many open nodes it has, 0 before its first report.

@@ -4,7 +4,7 @@ ghost use Rattle.ug_commands.specs.Ends.{status_of, text_of};
 use crate::status::Status;
 
 /// How a command ended, with the lines to write.
-#[derive(Debug, Drop)]
+#[derive(Drop)]
 pub enum Ended {
     /// With lines that were made.
     Lines { status: Status, text: Vec<u8> },

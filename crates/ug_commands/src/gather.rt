@@ -16,7 +16,7 @@ const MOST: usize = LIMIT + 1;
 const PIECE: usize = 65_536;
 
 /// Why a text was not gathered.
-#[derive(Clone, Copy, Debug, PartialEq, Eq)]
+#[derive(Clone, Copy, PartialEq, Eq)]
 pub enum GatherError {
     Memory,
     Fault,

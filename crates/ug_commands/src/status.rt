@@ -4,7 +4,7 @@ ghost use Rattle.ug_commands.specs.Lines.{code_of, status_of_fault};
 use ug_restart::StartFault;
 
 /// How a run of the program ended.
-#[derive(Clone, Copy, Debug, PartialEq, Eq)]
+#[derive(Clone, Copy, PartialEq, Eq)]
 pub enum Status {
     /// The answer was printed, or the checkpoint.
     Answered,

@@ -3,7 +3,7 @@ ghost use Rattle.std.specs.Prelude.{◌≡◌};
 use std::marker::Model;
 
 /// What speaks for one rank of a desk.
-#[derive(Debug, Drop)]
+#[derive(Drop)]
 pub struct Pass {
     rank: u32,
     heard: u64,

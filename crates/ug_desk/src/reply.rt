@@ -1,5 +1,5 @@
 /// What a pass is told that says what is left.
-#[derive(Clone, Copy, Debug, PartialEq, Eq)]
+#[derive(Clone, Copy, PartialEq, Eq)]
 pub struct Reply {
     /// The incumbent's cutoff, if there is an incumbent.
     pub cutoff: Option<i128>,

@@ -12,7 +12,7 @@ pub enum Took {
 }
 
 /// Where memory ended a `take`.
-#[derive(Clone, Copy, Debug, PartialEq, Eq)]
+#[derive(Clone, Copy, PartialEq, Eq)]
 pub enum Untaken {
     /// In the decision, of which so many steps stand.
     Deciding { stood: u64 },

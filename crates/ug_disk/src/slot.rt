@@ -6,7 +6,7 @@ pub enum Slot {
 }
 
 /// The places from one on, up to another that is not among them.
-#[derive(Clone, Copy, Debug, PartialEq, Eq)]
+#[derive(Clone, Copy, PartialEq, Eq)]
 pub struct Span {
     pub from: u64,
     pub end: u64,

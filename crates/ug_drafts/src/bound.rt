@@ -5,14 +5,14 @@ ghost use Rattle.ug_drafts.specs.Bounds.{infinity, amount, is_negative, finite, 
 use ug_problem::Decimal;
 
 /// A bound of a column.
-#[derive(Clone, Copy, Debug, PartialEq, Eq)]
+#[derive(Clone, Copy, PartialEq, Eq)]
 pub enum Bound {
     Infinite,
     Finite(i32),
 }
 
 /// An amount: a number, or infinity.
-#[derive(Clone, Copy, Debug, PartialEq, Eq)]
+#[derive(Clone, Copy, PartialEq, Eq)]
 pub enum Amount {
     /// Minus infinity.
     BelowAll,
@@ -23,7 +23,7 @@ pub enum Amount {
 }
 
 /// What is set of a column.
-#[derive(Clone, Copy, Debug, PartialEq, Eq)]
+#[derive(Clone, Copy, PartialEq, Eq)]
 pub struct Change {
     /// The lower bound, if it sets it.
     pub low: Option<Bound>,

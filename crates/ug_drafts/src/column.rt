@@ -5,7 +5,7 @@ ghost use Rattle.ug_drafts.specs.Kept.{with_change};
 use crate::bound::{Bound, Change};
 
 /// What a column has so far.
-#[derive(Clone, Copy, Debug)]
+#[derive(Clone, Copy)]
 pub struct ColumnDraft {
     /// The line in which it begins.
     pub line: u64,

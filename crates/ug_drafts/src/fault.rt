@@ -4,7 +4,7 @@ use std::alloc::{AllocError, AllocFailed};
 use ug_lists::Text;
 
 /// Why a text is refused. The word at fault is printed behind the kind, where one is named here.
-#[derive(Clone, Copy, Debug, PartialEq, Eq)]
+#[derive(Clone, Copy, PartialEq, Eq)]
 pub enum Kind {
     /// A byte that no word, blank or line end may hold, outside comments.
     Byte,
@@ -43,7 +43,7 @@ pub enum Kind {
 }
 
 /// A fault of the text: the first one.
-#[derive(Debug, Drop)]
+#[derive(Drop)]
 pub struct MpsFault {
     /// The line, counted from 1; 0 for an empty text.
     pub line: u64,
@@ -53,7 +53,7 @@ pub struct MpsFault {
 }
 
 /// Why no problem was read.
-#[derive(Debug, Drop)]
+#[derive(Drop)]
 pub enum MpsError {
     Memory,
     Fault(MpsFault),

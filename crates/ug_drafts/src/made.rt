@@ -14,7 +14,7 @@ use ug_rows::{Objective, Row, Term, Terms};
 const MOST_SCALE: u32 = 60;
 
 /// The numbers of a row times 10^`scale`, which are whole.
-#[derive(Debug, Drop)]
+#[derive(Drop)]
 pub struct Made {
     pub terms: Terms,
     pub sides: Sides,

@@ -7,14 +7,14 @@ use ug_lists::Items;
 use ug_problem::Decimal;
 
 /// A column's place, and the number with which a row has it.
-#[derive(Clone, Copy, Debug)]
+#[derive(Clone, Copy)]
 pub struct Factor {
     pub column: u32,
     pub number: Decimal,
 }
 
 /// What a row has so far.
-#[derive(Debug, Drop)]
+#[derive(Drop)]
 pub struct RowDraft {
     /// The line that names it.
     pub line: u64,
@@ -30,7 +30,7 @@ pub struct RowDraft {
 }
 
 /// What pairs give their rows.
-#[derive(Clone, Copy, Debug)]
+#[derive(Clone, Copy)]
 pub enum Part {
     /// A coefficient of the column at a place.
     Coefficient(u32),

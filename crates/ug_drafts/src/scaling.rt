@@ -13,7 +13,7 @@ use ug_problem::{Decimal, MOST_FACTOR, MOST_SIDE};
 use ug_rows::{Term, Terms};
 
 /// The right-hand side of a row, and its sides.
-#[derive(Clone, Copy, Debug)]
+#[derive(Clone, Copy)]
 pub struct Sides {
     pub side: i128,
     pub low: Option<i128>,

@@ -2,7 +2,7 @@ use ug_nodes::{Changes, Ticket};
 use ug_rows::Point;
 
 /// What a solver tells the coordinator. Values and cutoffs are of the minimised, scaled objective.
-#[derive(Clone, Debug, Drop)]
+#[derive(Clone, Drop)]
 pub enum Report {
     /// The problem is there.
     Ready,

@@ -1,5 +1,5 @@
 /// A moment of a worker's calls.
-#[derive(Clone, Copy, Debug, PartialEq, Eq)]
+#[derive(Clone, Copy, PartialEq, Eq)]
 pub enum Moment {
     /// Just before it asks.
     Asking,
@@ -8,7 +8,7 @@ pub enum Moment {
 }
 
 /// How a run stands.
-#[derive(Debug, Drop)]
+#[derive(Drop)]
 pub struct Standing {
     /// How many reports were heard.
     pub heard: u64,
@@ -38,7 +38,7 @@ pub trait Gate: Sync {
 }
 
 /// The real gate, which does nothing.
-#[derive(Clone, Copy, Debug)]
+#[derive(Clone, Copy)]
 pub struct OpenGate;
 
 impl Gate for OpenGate {

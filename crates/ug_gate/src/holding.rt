@@ -4,7 +4,7 @@ use std::sync::atomic::{AtomicU64, Ordering};
 use std::thread;
 
 /// That a rank comes to a moment for the time of this number, of which 1 is the first.
-#[derive(Clone, Copy, Debug, PartialEq, Eq)]
+#[derive(Clone, Copy, PartialEq, Eq)]
 pub struct Coming {
     pub rank: u32,
     pub moment: Moment,
@@ -12,7 +12,7 @@ pub struct Coming {
 }
 
 /// Where a rank is held, until another has come, for at most so many turns.
-#[derive(Clone, Copy, Debug)]
+#[derive(Clone, Copy)]
 pub struct Hold {
     pub at: Coming,
     pub until: Coming,

@@ -13,7 +13,7 @@ pub fn is_idle(state: &State) -> bool
 }
 
 /// How many ranks are absent, idle, and at work.
-#[derive(Clone, Copy, Debug)]
+#[derive(Clone, Copy)]
 pub struct Counts {
     pub absent: usize,
     pub idle: usize,

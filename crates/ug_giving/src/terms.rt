@@ -1,5 +1,5 @@
 /// What is given out under.
-#[derive(Clone, Copy, Debug)]
+#[derive(Clone, Copy)]
 pub struct Terms {
     pub run: u64,
     /// Whether all ranks begin with the root.
@@ -9,7 +9,7 @@ pub struct Terms {
 }
 
 /// Memory ran out after so many steps, which stand.
-#[derive(Clone, Copy, Debug, PartialEq, Eq)]
+#[derive(Clone, Copy, PartialEq, Eq)]
 pub struct Stopped {
     pub steps: u64,
 }

@@ -11,7 +11,7 @@ use ug_pool::{Entry, Pool};
 use ug_ranks::Ranks;
 
 /// What is to be given out.
-#[derive(Clone, Copy, Debug)]
+#[derive(Clone, Copy)]
 pub enum Turn {
     /// The one node held, to all ranks.
     Race,

@@ -1,5 +1,5 @@
 /// Why no image is read.
-#[derive(Clone, Copy, Debug, PartialEq, Eq)]
+#[derive(Clone, Copy, PartialEq, Eq)]
 pub enum ImageError {
     /// Memory ran out.
     Memory,

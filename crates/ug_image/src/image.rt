@@ -4,7 +4,7 @@ use ug_problem::Shared;
 use ug_rows::Point;
 
 /// A node as it is saved: a held node none of whose ancestors is held.
-#[derive(Clone, Debug, Drop)]
+#[derive(Clone, Drop)]
 pub struct SavedNode {
     pub name: Name,
     /// Its box, as the changes against the root's.

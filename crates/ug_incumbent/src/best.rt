@@ -10,7 +10,7 @@ use ug_problem::Problem;
 use ug_rows::Point;
 
 /// The best feasible point that was found, if there is one.
-#[derive(Debug, Drop)]
+#[derive(Drop)]
 pub struct Best {
     point: Option<Point>,
 }

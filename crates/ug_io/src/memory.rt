@@ -7,7 +7,7 @@ use crate::outside::{Failed, Sink, Source};
 use std::alloc::Global;
 
 /// Bytes in memory as a source. It never fails.
-#[derive(Debug, Drop)]
+#[derive(Drop)]
 pub struct MemorySource<'a> {
     pub rest: &'a [u8],
 }
@@ -36,7 +36,7 @@ fn move_front(rest: &mut &[u8], buffer: &mut [u8]) -> usize
 }
 
 /// Which calls of a scripted form fail, and how many bytes a call moves at most.
-#[derive(Debug, Drop)]
+#[derive(Drop)]
 pub struct Script {
     /// The calls that fail, counted from 1.
     failing: Vec<u64>,
@@ -91,7 +91,7 @@ impl Script {
 }
 
 /// Bytes in memory as a source, which fails where its script says.
-#[derive(Debug, Drop)]
+#[derive(Drop)]
 pub struct ScriptedSource<'a> {
     pub rest: &'a [u8],
     pub script: Script,
@@ -113,7 +113,7 @@ impl Source for ScriptedSource<'_> {
 
 /// A sink that keeps what is written in a vector. It fails where its script says, or memory is
 /// wanting.
-#[derive(Debug, Drop)]
+#[derive(Drop)]
 pub struct MemorySink {
     written: Vec<u8>,
     script: Script,

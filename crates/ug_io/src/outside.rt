@@ -2,7 +2,7 @@ ghost use Rattle.std.specs.Prelude.{◌≡◌, ◌<◌, ◌≤◌, ℕ, List, Op
 ghost use Rattle.ug_io.specs.Outside.{Rose, Gives, Takes, IsAtEnd};
 
 /// A call of the outside failed. The count of faults says that it did.
-#[derive(Clone, Copy, Debug, PartialEq, Eq)]
+#[derive(Clone, Copy, PartialEq, Eq)]
 pub struct Failed;
 
 /// What is read: a file, or bytes in memory.

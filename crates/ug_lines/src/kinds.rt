@@ -4,7 +4,7 @@ ghost use Rattle.ug_lines.specs.Kinds.{is_in_any_case, sense_of_word, row_kind_o
 use crate::section::is;
 
 /// The type of a row: the objective, or which sides it has.
-#[derive(Clone, Copy, Debug, PartialEq, Eq)]
+#[derive(Clone, Copy, PartialEq, Eq)]
 pub enum RowKind {
     /// `N`: the objective, where it is the first of its type.
     Objective,
@@ -17,7 +17,7 @@ pub enum RowKind {
 }
 
 /// The type of a bound.
-#[derive(Clone, Copy, Debug, PartialEq, Eq)]
+#[derive(Clone, Copy, PartialEq, Eq)]
 pub enum BoundKind {
     /// `UP`
     Upper,

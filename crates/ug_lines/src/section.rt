@@ -6,7 +6,7 @@ ghost use Rattle.ug_lines.specs.Kinds.{section_of_word};
 pub const END_WORD: &[u8] = b"ENDATA";
 
 /// The sections of a text.
-#[derive(Clone, Copy, Debug, PartialEq, Eq)]
+#[derive(Clone, Copy, PartialEq, Eq)]
 pub enum Section {
     Name,
     Objsense,

@@ -7,21 +7,21 @@ use crate::kinds::{BoundKind, bound_kind_of};
 use crate::section::{Section, is};
 
 /// A row's name and the word of a number.
-#[derive(Clone, Copy, Debug)]
+#[derive(Clone, Copy)]
 pub struct NamedWord<'a> {
     pub row: &'a [u8],
     pub number: &'a [u8],
 }
 
 /// One or two pairs of a row's name and the word of a number.
-#[derive(Clone, Copy, Debug)]
+#[derive(Clone, Copy)]
 pub struct NamedWords<'a> {
     pub first: NamedWord<'a>,
     pub second: Option<NamedWord<'a>>,
 }
 
 /// What the words of a data line are. They are slices of the line.
-#[derive(Clone, Copy, Debug)]
+#[derive(Clone, Copy)]
 pub enum LineShape<'a> {
     /// The sense, under `OBJSENSE`.
     Sense(&'a [u8]),

@@ -1,7 +1,7 @@
 use ug_rules::Heard;
 
 /// How many messages were answered how, and what else was done.
-#[derive(Clone, Copy, Debug)]
+#[derive(Clone, Copy)]
 pub struct Answers {
     pub kept: u64,
     pub stale: u64,

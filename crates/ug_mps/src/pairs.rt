@@ -11,14 +11,14 @@ use ug_lines::{NamedWord, NamedWords};
 use ug_problem::Decimal;
 
 /// A row's name and a number.
-#[derive(Clone, Copy, Debug)]
+#[derive(Clone, Copy)]
 pub struct NamedNumber<'a> {
     pub row: &'a [u8],
     pub number: Decimal,
 }
 
 /// One or two pairs of a row's name and a number.
-#[derive(Clone, Copy, Debug)]
+#[derive(Clone, Copy)]
 pub struct NamedNumbers<'a> {
     pub first: NamedNumber<'a>,
     pub second: Option<NamedNumber<'a>>,

@@ -5,7 +5,7 @@ use std::marker::Model;
 use ug_rows::Interval;
 
 /// A column whose bounds are not the root's.
-#[derive(Clone, Copy, Debug, PartialEq, Eq)]
+#[derive(Clone, Copy, PartialEq, Eq)]
 pub struct Change {
     /// The column, counted from 0.
     pub column: u32,
@@ -26,7 +26,7 @@ impl Change {
 }
 
 /// A box against the root's: the columns that differ, in strictly rising order.
-#[derive(Clone, Debug, Drop)]
+#[derive(Clone, Drop)]
 pub struct Changes {
     changes: Vec<Change>,
 }

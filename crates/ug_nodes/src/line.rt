@@ -7,7 +7,7 @@ use std::alloc::{AllocError, Global};
 use std::marker::Model;
 
 /// The names from a starting node down to a node, which comes last. It has at least one.
-#[derive(Clone, Debug, Drop)]
+#[derive(Clone, Drop)]
 pub struct Line {
     names: Vec<Name>,
 }

@@ -13,7 +13,7 @@ pub struct Ticket {
 }
 
 /// The name of a node. In order of the ticket, then of the hand number.
-#[derive(Clone, Copy, Debug, PartialEq, Eq, PartialOrd, Ord)]
+#[derive(Clone, Copy, PartialEq, Eq, PartialOrd, Ord)]
 pub struct Name {
     /// The ticket of the assignment that handed the node.
     pub ticket: Ticket,

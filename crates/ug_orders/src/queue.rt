@@ -8,7 +8,7 @@ use std::marker::Model;
 use ug_rules::Told;
 
 /// Orders for ranks, the earliest first.
-#[derive(Debug, Drop)]
+#[derive(Drop)]
 pub struct Queue {
     orders: VecDeque<Told>,
     spare: usize,

@@ -5,7 +5,7 @@ use std::cmp::Ordering;
 use ug_nodes::Node;
 
 /// An open node with its floor, below which no point of its box has a value.
-#[derive(Debug, Drop)]
+#[derive(Drop)]
 pub struct Entry {
     pub floor: i128,
     pub node: Node,

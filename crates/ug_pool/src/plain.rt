@@ -8,7 +8,7 @@ use std::marker::Model;
 use ug_nodes::{Line, Node, is_ancestor};
 
 /// Open nodes in no order, the latest first. Each call looks through all of them.
-#[derive(Debug, Drop)]
+#[derive(Drop)]
 pub struct PlainPool {
     entries: Vec<Entry>,
     spare: usize,

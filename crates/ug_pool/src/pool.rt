@@ -12,7 +12,7 @@ use std::marker::Model;
 use ug_nodes::{Line, Node, is_ancestor};
 
 /// Open nodes, in order of their floors, and of their names where the floors are the same.
-#[derive(Debug, Drop)]
+#[derive(Drop)]
 pub struct Pool {
     entries: VecDeque<Entry>,
     spare: usize,

@@ -2,7 +2,7 @@ use ug_lists::{Items, Text};
 use ug_rows::Row;
 
 /// A column: its name and its bounds, both included.
-#[derive(Clone, Debug, Drop)]
+#[derive(Clone, Drop)]
 pub struct Column {
     pub name: Text,
     pub low: i32,
@@ -10,7 +10,7 @@ pub struct Column {
 }
 
 /// A row and its name.
-#[derive(Clone, Debug, Drop)]
+#[derive(Clone, Drop)]
 pub struct NamedRow {
     pub name: Text,
     pub row: Row,

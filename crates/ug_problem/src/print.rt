@@ -7,14 +7,14 @@ use std::alloc::{AllocError, Global};
 use ug_rows::Objective;
 
 // The number `digits` / 10^`places`.
-#[derive(Clone, Copy, Debug)]
+#[derive(Clone, Copy)]
 struct Lowest {
     digits: u128,
     places: u8,
 }
 
 // What stands before the point, and the digits after it.
-#[derive(Debug, Drop)]
+#[derive(Drop)]
 struct Parts {
     whole: u128,
     fraction: Vec<u8>,

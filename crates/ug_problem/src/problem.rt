@@ -24,7 +24,7 @@ use ug_lists::Text;
 use ug_rows::{IntBox, Interval, Objective, Point, floor, value};
 
 /// A bounded integer program: columns, rows and an objective, all within the limits.
-#[derive(Debug, Drop)]
+#[derive(Drop)]
 pub struct Problem {
     columns: Columns,
     rows: NamedRows,

@@ -13,7 +13,7 @@ use ug_rows::{Objective, Term};
 
 /// Where a column stands: in a row, or in the objective as the row behind the last, with this
 /// factor.
-#[derive(Clone, Copy, Debug, PartialEq, Eq)]
+#[derive(Clone, Copy, PartialEq, Eq)]
 pub struct Standing {
     pub row: u32,
     pub factor: i128,

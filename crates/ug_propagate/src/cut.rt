@@ -9,7 +9,7 @@ use crate::tight::Reason;
 use ug_rows::{Interval, Term};
 
 /// What a bound makes of the interval of a column.
-#[derive(Clone, Copy, Debug)]
+#[derive(Clone, Copy)]
 pub enum Cut {
     /// It is as it was.
     Whole,

@@ -1,7 +1,7 @@
 use crate::tight::Reason;
 
 /// The row that is looked at, or `None` for the objective, and its sides.
-#[derive(Clone, Copy, Debug)]
+#[derive(Clone, Copy)]
 pub struct Look {
     pub row: Option<u32>,
     pub low: Option<i128>,
@@ -9,7 +9,7 @@ pub struct Look {
 }
 
 /// What a look at a row, or a round of looks, does to a box.
-#[derive(Clone, Copy, Debug)]
+#[derive(Clone, Copy)]
 pub enum Looked {
     /// The box is as it was.
     Same,

@@ -13,7 +13,7 @@ use ug_rows::{Extreme, Interval, Term, add_end, end_at};
 
 /// The least and the greatest sum of a row over a box, and a number that no span of a term is
 /// above.
-#[derive(Clone, Copy, Debug)]
+#[derive(Clone, Copy)]
 pub struct Ends {
     pub least: i128,
     pub greatest: i128,
@@ -21,14 +21,14 @@ pub struct Ends {
 }
 
 /// How far the least sum of a row is below its high side, and the greatest above its low side.
-#[derive(Clone, Copy, Debug)]
+#[derive(Clone, Copy)]
 pub struct Room {
     pub high: i128,
     pub low: i128,
 }
 
 /// How far the ends of an interval go.
-#[derive(Clone, Copy, Debug)]
+#[derive(Clone, Copy)]
 pub struct Moves {
     pub low: i64,
     pub high: i64,

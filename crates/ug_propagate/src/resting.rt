@@ -1,7 +1,7 @@
 ghost use Rattle.std.specs.Prelude.{◌≡◌, IsTrue};
 
 /// Which rows of a box need not be looked at when its rounds begin.
-#[derive(Clone, Copy, Debug)]
+#[derive(Clone, Copy)]
 pub enum Rest {
     /// It is not known of any.
     Unknown,

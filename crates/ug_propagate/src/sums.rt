@@ -16,7 +16,7 @@ use ug_problem::{NamedRow, Problem, Standing};
 use ug_rows::{IntBox, Interval, Term};
 
 /// The least and the greatest sum of a row over a box.
-#[derive(Clone, Copy, Debug)]
+#[derive(Clone, Copy)]
 pub struct Extremes {
     pub least: i128,
     pub greatest: i128,
@@ -241,7 +241,7 @@ fn objective_with(
 
 /// The least and the greatest sum of each row of a problem, and of its objective without the
 /// constant, over a box that may change a column at a time.
-#[derive(Debug, Drop)]
+#[derive(Drop)]
 pub struct Sums {
     sides: Vec<Interval>,
     sums: Vec<Extremes>,

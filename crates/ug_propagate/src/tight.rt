@@ -1,14 +1,14 @@
 use ug_rows::IntBox;
 
 /// A side of a row.
-#[derive(Clone, Copy, Debug, PartialEq, Eq)]
+#[derive(Clone, Copy, PartialEq, Eq)]
 pub enum Side {
     Low,
     High,
 }
 
 /// What shows that nothing is left of a box.
-#[derive(Clone, Copy, Debug, PartialEq, Eq)]
+#[derive(Clone, Copy, PartialEq, Eq)]
 pub struct Reason {
     /// The row, or `None` for the objective.
     pub row: Option<u32>,
@@ -16,7 +16,7 @@ pub struct Reason {
 }
 
 /// What bound propagation makes of a box.
-#[derive(Debug, Drop)]
+#[derive(Drop)]
 pub enum Tight {
     /// What is left of the box.
     Kept(IntBox),

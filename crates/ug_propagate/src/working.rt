@@ -22,7 +22,7 @@ use ug_problem::{Problem, Standing};
 use ug_rows::{IntBox, Interval};
 
 /// A column that was changed, and what its interval was before.
-#[derive(Clone, Copy, Debug)]
+#[derive(Clone, Copy)]
 pub struct Change {
     pub column: u32,
     pub before: Interval,

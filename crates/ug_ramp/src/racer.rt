@@ -1,5 +1,5 @@
 /// A rank in a race, with what it last reported.
-#[derive(Clone, Copy, Debug, PartialEq, Eq)]
+#[derive(Clone, Copy, PartialEq, Eq)]
 pub struct Racer {
     pub rank: u32,
     /// How many open nodes it has, 0 before its first report.

@@ -12,7 +12,7 @@ use ug_nodes::{Node, Ticket};
 use ug_rows::IntBox;
 
 /// The states of all ranks.
-#[derive(Debug, Drop)]
+#[derive(Drop)]
 pub struct Ranks {
     states: Vec<State>,
 }

@@ -7,7 +7,7 @@ use ug_rows::IntBox;
 pub type Boxes = Items<IntBox>;
 
 /// A rank's part in a race, with its last report.
-#[derive(Clone, Copy, Debug)]
+#[derive(Clone, Copy)]
 pub struct Racer {
     pub ticket: Ticket,
     pub params: Params,
@@ -18,7 +18,7 @@ pub struct Racer {
 }
 
 /// What a rank works on, with its last report.
-#[derive(Debug, Drop)]
+#[derive(Drop)]
 pub struct Work {
     pub ticket: Ticket,
     pub node: Node,
@@ -36,7 +36,7 @@ pub struct Work {
 }
 
 /// The state of a rank.
-#[derive(Debug, Drop)]
+#[derive(Drop)]
 pub enum State {
     /// It has not joined yet.
     Absent,

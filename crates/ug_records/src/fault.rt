@@ -4,7 +4,7 @@ ghost use Rattle.ug_records.specs.declared.fault.Fault.TheVariants.{Memory};
 use std::alloc::{AllocError, AllocFailed};
 
 /// Why a field was not read.
-#[derive(Clone, Copy, Debug, PartialEq, Eq)]
+#[derive(Clone, Copy, PartialEq, Eq)]
 pub enum Fault {
     Memory,
     /// It is cut short or breaks a rule; so many bytes are left from its first one on.

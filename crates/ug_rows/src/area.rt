@@ -5,14 +5,14 @@ use std::marker::Model;
 
 /// The values that a column may take: from `low` to `high`, both included. With its low above its
 /// high it has none.
-#[derive(Clone, Copy, Debug, PartialEq, Eq)]
+#[derive(Clone, Copy, PartialEq, Eq)]
 pub struct Interval {
     pub low: i32,
     pub high: i32,
 }
 
 /// A box: one interval per column, in the order of the columns.
-#[derive(Clone, Debug, Drop)]
+#[derive(Clone, Drop)]
 pub struct IntBox {
     sides: Vec<Interval>,
 }

@@ -6,7 +6,7 @@ use crate::sums::sum;
 use ug_lists::Items;
 
 /// A factor of a column, in a sum.
-#[derive(Clone, Copy, Debug, PartialEq, Eq)]
+#[derive(Clone, Copy, PartialEq, Eq)]
 pub struct Term {
     /// The column, counted from 0.
     pub column: u32,
@@ -17,7 +17,7 @@ pub struct Term {
 pub type Terms = Items<Term>;
 
 /// A linear sum with the sides that it has to keep to. A side that is `None` is no bound.
-#[derive(Clone, Debug, Drop)]
+#[derive(Clone, Drop)]
 pub struct Row {
     pub terms: Terms,
     pub low: Option<i128>,
@@ -25,7 +25,7 @@ pub struct Row {
 }
 
 /// What is minimised: a linear sum and a constant, both multiplied by 10 to the power of `scale`.
-#[derive(Clone, Debug, Drop)]
+#[derive(Clone, Drop)]
 pub struct Objective {
     pub terms: Terms,
     pub constant: i128,

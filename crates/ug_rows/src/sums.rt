@@ -7,7 +7,7 @@ use crate::area::{IntBox, Interval};
 use crate::row::{Objective, Row, Term};
 
 /// Which of the sums over a box.
-#[derive(Clone, Copy, Debug, PartialEq, Eq)]
+#[derive(Clone, Copy, PartialEq, Eq)]
 pub enum Extreme {
     Least,
     Greatest,

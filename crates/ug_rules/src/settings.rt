@@ -1,5 +1,5 @@
 /// How a coordinator works.
-#[derive(Clone, Copy, Debug, PartialEq, Eq)]
+#[derive(Clone, Copy, PartialEq, Eq)]
 pub struct Settings {
     /// How many ranks there are, at least 1.
     pub solvers: u32,

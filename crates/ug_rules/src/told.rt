@@ -1,7 +1,7 @@
 use ug_frames::Order;
 
 /// An order for a rank.
-#[derive(Debug, Drop)]
+#[derive(Drop)]
 pub struct Told {
     pub rank: u32,
     pub order: Order,

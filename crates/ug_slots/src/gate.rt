@@ -9,7 +9,7 @@ use ug_disk::{Disk, Slot};
 use ug_io::Failed;
 
 /// What is known of the gate of a slot.
-#[derive(Clone, Copy, Debug, PartialEq, Eq)]
+#[derive(Clone, Copy, PartialEq, Eq)]
 pub enum Gate {
     /// Nothing is pending in the slot, and its gate was not looked at.
     Unread,

@@ -1,7 +1,7 @@
 use ug_frames::Report;
 
 /// What may happen next.
-#[derive(Debug, Drop)]
+#[derive(Drop)]
 pub enum Event {
     /// A solver sends a report: it is the last of those that were sent.
     Send { report: Report },

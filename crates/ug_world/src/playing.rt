@@ -18,7 +18,7 @@ use ug_frames::Report;
 use ug_rules::Heard;
 
 /// Why an event did not happen.
-#[derive(Clone, Copy, Debug)]
+#[derive(Clone, Copy)]
 pub enum Halt {
     /// It hears the report at this place, where none was sent.
     NoSuch { place: usize },

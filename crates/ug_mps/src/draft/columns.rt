@@ -10,7 +10,7 @@ use ug_drafts::{Change, ColumnDraft};
 use ug_lists::Text;
 
 /// The place of the column of a line, and whether it begins there.
-#[derive(Clone, Copy, Debug)]
+#[derive(Clone, Copy)]
 pub struct ColumnPlace {
     pub at: u32,
     pub new: bool,

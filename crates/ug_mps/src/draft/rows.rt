@@ -17,7 +17,7 @@ use ug_lists::{Items, Text};
 use ug_problem::Decimal;
 
 /// The places of one or two rows.
-#[derive(Clone, Copy, Debug)]
+#[derive(Clone, Copy)]
 pub struct RowPlaces {
     pub first: u32,
     pub second: Option<u32>,

@@ -4,7 +4,7 @@ ghost use Rattle.ug_problem.specs.Digits.{IsKept, kept_of, read_of};
 use crate::decimal::power::times_power;
 
 // The number that digits spell without the zeros at their end, and how many those are.
-#[derive(Clone, Copy, Debug)]
+#[derive(Clone, Copy)]
 pub struct Digits {
     pub number: u128,
     pub zeros: u32,
