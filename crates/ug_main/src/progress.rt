@@ -2,8 +2,11 @@ use std::io::Eprint;
 use std::sync::atomic::{AtomicU64, Ordering};
 use ug_gate::{Gate, Moment, Standing};
 
+const MILLION: u64 = 1_000_000;
+
 /// Tells on standard error how a run gets on, where that is wanted: a line when it begins, one at
-/// each better incumbent, and one after 1000, 2000, 5000, 10000 and so on reports.
+/// each better incumbent, and one after 1000, 2000, 5000, 10000 and so on reports, from a million on
+/// at each million.
 #[derive(Drop)]
 pub struct Progress<'a, R> {
     rt: &'a R,
@@ -33,10 +36,10 @@ impl<'a, R> Progress<'a, R> {
     }
 }
 
-// The least of 2000, 5000, 10000, 20000 and so on that is above a count.
+// After how many reports the next line comes, once there were so many.
 fn after(heard: u64) -> u64 {
     let mut next = 1000u64;
-    for step in 0..57u32 {
+    for step in 0..9u32 {
         if next > heard {
             return next;
         }
@@ -46,7 +49,7 @@ fn after(heard: u64) -> u64 {
             next.saturating_mul(2)
         };
     }
-    u64::MAX
+    (heard / MILLION).saturating_add(1).saturating_mul(MILLION)
 }
 
 impl<'a, R: Eprint + Sync> Gate for Progress<'a, R> {
