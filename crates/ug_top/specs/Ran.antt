@@ -97,11 +97,16 @@ pub record IsCutShort (status : Status) (text : List ℕ) (written after : Optio
   pub front : TakesFront written after text
   pub fault : Rose writes risen
 
--- What was due is written, or the status is a write fault.
+-- what is due is written, or the status is a write fault
+abbrev pub HasTold : Status → List ℕ → Option (List ℕ) → Option (List ℕ) → ℕ → ℕ → Status → Type 0
+HasTold due text written after writes risen status =
+    IsWritten due status text written after writes risen
+    ⊎ IsCutShort status text written after writes risen
+
+-- What was due is told.
 pub record HasRun (words : List Text) (old new : Outside) (written after : Option (List ℕ))
     (writes risen : ℕ) (status : Status) : Type 0 where
   pub due_status : Status
   pub text : List ℕ
   pub due : IsDue words old new due_status text
-  pub wrote : IsWritten due_status status text written after writes risen
-      ⊎ IsCutShort status text written after writes risen
+  pub told : HasTold due_status text written after writes risen status

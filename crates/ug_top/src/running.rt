@@ -1,6 +1,7 @@
 ghost use Rattle.ug_cli.specs.Taken.{texts};
 ghost use Rattle.ug_commands.specs.Outside.{outside};
-ghost use Rattle.ug_top.specs.Ran.{HasRun, IsDue, due_status, due_text};
+ghost use Rattle.ug_commands.specs.Ends.{status_of, text_of};
+ghost use Rattle.ug_top.specs.Ran.{HasRun, HasTold, IsDue, due_status, due_text};
 
 use crate::write::write_all;
 use std::alloc::Global;
@@ -33,6 +34,14 @@ pub fn run<R: Threads + Wait + Sync, S: Source, K: Sink, D: Disk, G: Gate>(
     let Some(ended) = carry_out(rt, alloc, words, input, disk, gate) else {
         return Status::Usage;
     };
+    tell(out, &ended)
+}
+
+// Writes the lines with which it ended. The status is then the one due, unless the sink failed.
+fn tell<K: Sink>(out: &mut K, ended: &Ended) -> Status
+    ensures { HasTold (status_of ended.now) (text_of ended.now) (K.written out.old)
+        (K.written out.new) (K.faults out.old) (K.faults out.new) result }
+{
     match write_all(out, ended.text()) {
         Ok(()) => ended.status(),
         Err(Failed) => Status::WriteFault,
