@@ -27,14 +27,17 @@ fn advance(values: &mut [i32], sides: &[Interval]) -> bool {
     false
 }
 
-// The value of a point, if it is feasible.
-fn value_if_feasible(problem: &Problem, point: &Point) -> Option<i128> {
-    if point.as_slice().len() != problem.columns().len() {
-        return None;
-    }
-    match problem.first_broken(point) {
-        Some(_) => None,
-        None => Some(problem.value(point)),
+fn is_feasible(problem: &Problem, point: &Point) -> bool {
+    problem.first_broken(point).is_none()
+}
+
+// The value of a point of as many columns as the problem has. It knows nothing of what is feasible,
+// which the prover would look through.
+fn value(problem: &Problem, point: &Point) -> Option<i128> {
+    if point.as_slice().len() == problem.columns().len() {
+        Some(problem.value(point))
+    } else {
+        None
     }
 }
 
@@ -45,9 +48,11 @@ fn least_value(alloc: Global, problem: &Problem) -> Result<Option<i128>, Fail> {
     let mut best = None;
     for _ in 0..MOST_POINTS {
         let point = Point::from_vec(values.as_slice().to_vec(alloc)?);
-        if let Some(value) = value_if_feasible(problem, &point) {
-            if best.is_none_or(|before| value < before) {
-                best = Some(value);
+        if is_feasible(problem, &point) {
+            if let Some(value) = value(problem, &point) {
+                if best.is_none_or(|before| value < before) {
+                    best = Some(value);
+                }
             }
         }
         if !advance(values.as_mut_slice(), sides) {
