@@ -35,5 +35,7 @@ pub fn run_made<R: Threads + Wait + Sync, D: Disk, G: Gate>(
     };
     let settings = settings_made(asked.solvers);
     let outcome = solve_new(rt, alloc, Shared::own(problem), settings, disk, gate);
-    tell_end(alloc, &outcome)
+    let ended = tell_end(alloc, &outcome);
+    drop(outcome);
+    ended
 }

@@ -135,7 +135,9 @@ fn run_alone<R: Threads + Wait + Sync, D: Disk, G: Gate>(
 {
     let settings = settings_for(asked, problem.problem());
     let outcome = solve_new(rt, alloc, problem, settings, disk, gate);
-    tell_outcome(alloc, &outcome, asked.bounds.gap)
+    let ended = tell_outcome(alloc, &outcome, asked.bounds.gap);
+    drop(outcome);
+    ended
 }
 
 // Solves the problem and keeps a checkpoint.
@@ -157,7 +159,11 @@ fn run_saved<R: Threads + Wait + Sync, D: Disk, G: Gate>(
 {
     let settings = settings_for(asked, problem.problem());
     match solve_saved(rt, alloc, problem, settings, disk, gate) {
-        Ok(outcome) => tell_outcome(alloc, &outcome, asked.bounds.gap),
+        Ok(outcome) => {
+            let ended = tell_outcome(alloc, &outcome, asked.bounds.gap);
+            drop(outcome);
+            ended
+        }
         Err(fault) => tell_fault(alloc, &fault),
     }
 }
@@ -182,7 +188,11 @@ fn run_on<R: Threads + Wait + Sync, D: Disk, G: Gate>(
 {
     let settings = settings_for(asked, problem.problem());
     match go_on(rt, alloc, problem, settings, disk, gate) {
-        Ok(outcome) => tell_outcome(alloc, &outcome, asked.bounds.gap),
+        Ok(outcome) => {
+            let ended = tell_outcome(alloc, &outcome, asked.bounds.gap);
+            drop(outcome);
+            ended
+        }
         Err(fault) => tell_fault(alloc, &fault),
     }
 }

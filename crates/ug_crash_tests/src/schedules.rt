@@ -185,7 +185,9 @@ const SCHEDULES: [(&str, u8, Answer); 10] = [
 // How a schedule ends, if there is memory for it.
 fn ends(alloc: Global, text: &str, gap: u8) -> Option<Answer> {
     let played = play(alloc, text, gap, u64::MAX)?;
-    Some(answer_of(&played))
+    let answer = answer_of(&played);
+    drop(played);
+    Some(answer)
 }
 
 #[test]
@@ -226,7 +228,14 @@ fn calls_of(alloc: Global, text: &str) -> Option<u64> {
 
 // Whether a run whose disk stops after a call goes on as the second run or the third, unanswered.
 fn goes_on(alloc: Global, stop: u64) -> bool {
-    match play(alloc, "nsxx", 0, stop) {
+    let played = play(alloc, "nsxx", 0, stop);
+    let is_so = is_on(&played);
+    drop(played);
+    is_so
+}
+
+fn is_on(played: &Option<Result<PlayedDisk, PlayDiskFault>>) -> bool {
+    match played {
         Some(Ok(played)) => {
             (played.book.run() == 2 || played.book.run() == 3) && played.book.answer().is_none()
         }

@@ -19,12 +19,46 @@ fn fields_at(alloc: Global, bytes: &[u8]) -> Result<(Image, &[u8]), Fault>
     let (run, rest) = long_at(rest, 1)?;
     let (sequence, rest) = long_at(rest, 1)?;
     let (problem, rest) = problem_at(alloc, rest)?;
-    let (best, rest) = best_at(alloc, rest, problem.problem())?;
-    let (deliveries, rest) = deliveries_at(rest, version)?;
-    let (gap, rest) = gap_at(rest, version)?;
-    let (count, rest) = long_at(rest, 0)?;
+    let (best, rest) = match best_at(alloc, rest, problem.problem()) {
+        Ok(found) => found,
+        Err(fault) => {
+            drop(problem);
+            return Err(fault);
+        }
+    };
+    let (deliveries, rest) = match deliveries_at(rest, version) {
+        Ok(found) => found,
+        Err(fault) => {
+            drop(best);
+            drop(problem);
+            return Err(fault);
+        }
+    };
+    let (gap, rest) = match gap_at(rest, version) {
+        Ok(found) => found,
+        Err(fault) => {
+            drop(best);
+            drop(problem);
+            return Err(fault);
+        }
+    };
+    let (count, rest) = match long_at(rest, 0) {
+        Ok(found) => found,
+        Err(fault) => {
+            drop(best);
+            drop(problem);
+            return Err(fault);
+        }
+    };
     let root = problem.problem().root();
-    let (nodes, rest) = nodes_at(alloc, rest, version, run, root, count)?;
+    let (nodes, rest) = match nodes_at(alloc, rest, version, run, root, count) {
+        Ok(found) => found,
+        Err(fault) => {
+            drop(best);
+            drop(problem);
+            return Err(fault);
+        }
+    };
     Ok((
         Image {
             run,

@@ -24,7 +24,10 @@ pub fn of_snapshot(saver: &Saver, snapshot: Snapshot) -> Option<Image>
     ensures of { IfSome result (IsOfSnapshot snapshot) }
     ensures covered { IsCoveredOpening snapshot.opening → IfSome result IsCovered }
 {
-    let sequence = next_sequence(saver)?;
+    let Some(sequence) = next_sequence(saver) else {
+        drop(snapshot);
+        return None;
+    };
     Some(under(sequence, snapshot.into_image()))
 }
 

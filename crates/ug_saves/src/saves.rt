@@ -74,6 +74,7 @@ impl Saves {
             (time self.new (D.told disk.new) (D.faults disk.new)) }
     {
         if self.passes_over(&snapshot) {
+            drop(snapshot);
             return;
         }
         let calls = snapshot.count();
@@ -131,16 +132,22 @@ impl Saves {
             return false;
         };
         if !is_short(&image) {
+            drop(image);
             self.unsaved = one_more(self.unsaved);
             return false;
         }
         match self.saver.save(alloc, disk, &image) {
-            Ok(()) => true,
+            Ok(()) => {
+                drop(image);
+                true
+            }
             Err(SaveError::Memory) => {
+                drop(image);
                 self.unsaved = one_more(self.unsaved);
                 false
             }
             Err(SaveError::Fault) => {
+                drop(image);
                 self.missed = one_more(self.missed);
                 false
             }

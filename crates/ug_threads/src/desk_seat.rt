@@ -44,7 +44,7 @@ fn send_if_due<R: Wait>(
         return;
     }
     if let Ok(snapshot) = desk.snapshot(rt, pass) {
-        let _ = sender.try_send(rt, snapshot);
+        drop(sender.try_send(rt, snapshot));
     }
 }
 

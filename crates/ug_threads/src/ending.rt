@@ -14,6 +14,7 @@ pub fn of_opening(locked: Locked, opening: &Opening) -> Option<Book>
     ensures { IfSome result (IsEnding opening.now) }
 {
     if !locked.opening().is(opening) {
+        drop(locked);
         return None;
     }
     Some(locked.into_book())
@@ -36,6 +37,7 @@ pub fn end_of(ended: Option<Book>) -> End
     if book.settings().limit <= book.count() {
         return End::Limited(book);
     }
+    drop(book);
     End::Memory
 }
 

@@ -98,11 +98,14 @@ fn silently<R: Threads + Wait + Sync, G: Gate>(
 {
     let _problem = book.problem();
     let Ok(opening) = opening_of(alloc, &book) else {
+        drop(book);
         return wanting();
     };
     let solved = solve(rt, alloc, book, &opening, gate, None, Silent);
+    let end = end_of(solved.book);
+    drop(opening);
     Outcome {
-        end: end_of(solved.book),
+        end,
         missed: 0,
         unsaved: 0,
     }
@@ -130,13 +133,18 @@ fn with_saver<R: Threads + Wait + Sync, D: Disk, G: Gate>(
 {
     let _problem = book.problem();
     let Ok(opening) = opening_of(alloc, &book) else {
+        drop(book);
         return wanting();
     };
     let Ok(own) = copy_opening(&opening) else {
+        drop(opening);
+        drop(book);
         return wanting();
     };
     let saves = Saves::new(saver, own);
-    saving(rt, alloc, book, &opening, saves, disk, gate)
+    let outcome = saving(rt, alloc, book, &opening, saves, disk, gate);
+    drop(opening);
+    outcome
 }
 
 // With what is saved.

@@ -21,9 +21,9 @@ returns-clause-lines g c =
     (c.own.ensures ∙ c.in-Ok.ensures)
     (subst (λ (s : Settings). IsNewRun c.own.result s run.result)
     c.settings_made-settings.ensures.value run.ensures.ran))
-    run.ensures.untouched c.tell_end.result c.tell_end.ensures
+    run.ensures.untouched c.tell_end-ended.result c.tell_end-ended.ensures
 
 pub returns-clause-stored : goal.returns-clause-stored
 returns-clause-stored g c =
-    end_stored c.solve_new-outcome.result c.tell_end.result _ _ _ _ c.tell_end.ensures
+    end_stored c.solve_new-outcome.result c.tell_end-ended.result _ _ _ _ c.tell_end-ended.ensures
     c.solve_new-outcome.ensures.untouched.told c.solve_new-outcome.ensures.untouched.calm

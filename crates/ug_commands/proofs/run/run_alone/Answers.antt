@@ -17,15 +17,15 @@ returns-clause-run g c =
     (g.D.Disk.told c.solve_new-outcome.new.disk) (g.D.Disk.faults c.args.disk.now)
     (g.D.Disk.faults c.solve_new-outcome.new.disk) c.args.problem)
     (BeginsAlways c.args.problem)
-    c.args.asked.now.bounds.gap c.solve_new-outcome.result c.tell_outcome.result
+    c.args.asked.now.bounds.gap c.solve_new-outcome.result c.tell_outcome-ended.result
     (record {
       ran = subst (λ (s : Settings). IsNewRun c.args.problem s c.solve_new-outcome.result) is
           c.solve_new-outcome.ensures.ran;
       untouched = c.solve_new-outcome.ensures.untouched;
     })
-    c.tell_outcome.ensures
+    c.tell_outcome-ended.ensures
 
 pub returns-clause-stored : goal.returns-clause-stored
 returns-clause-stored g c =
-    alone_stored c.args.asked.now.bounds.gap c.solve_new-outcome.result c.tell_outcome.result _ _ _ _
-    c.tell_outcome.ensures c.solve_new-outcome.ensures.untouched
+    alone_stored c.args.asked.now.bounds.gap c.solve_new-outcome.result c.tell_outcome-ended.result _ _ _ _
+    c.tell_outcome-ended.ensures c.solve_new-outcome.ensures.untouched

@@ -18,18 +18,18 @@ returns-in-Ok-clause-run g c =
     (HasRunSaved c.args.asked.now old new (g.D.Disk.faults c.args.disk.now)
     (g.D.Disk.faults c.solve_saved.new.disk) c.args.problem)
     (HasNotBegun old new c.args.problem)
-    c.args.asked.now.bounds.gap c.in-Ok.outcome c.tell_outcome.result
+    c.args.asked.now.bounds.gap c.in-Ok.outcome c.tell_outcome-ended.result
     (record {
       ran = subst (λ (s : Settings). IsSavedRun c.args.problem s old c.in-Ok.outcome) is
           c.in-Ok.ensures.ran;
       kept = c.in-Ok.ensures.kept;
     })
-    c.tell_outcome.ensures
+    c.tell_outcome-ended.ensures
 
 pub returns-in-Ok-clause-stored : goal.returns-in-Ok-clause-stored
 returns-in-Ok-clause-stored g c =
-    outcome_stored c.args.asked.now.bounds.gap c.in-Ok.outcome c.tell_outcome.result _ _ _ _
-    c.tell_outcome.ensures c.solve_saved.ensures.never_falls c.solve_saved.ensures.any_moment
+    outcome_stored c.args.asked.now.bounds.gap c.in-Ok.outcome c.tell_outcome-ended.result _ _ _ _
+    c.tell_outcome-ended.ensures c.solve_saved.ensures.never_falls c.solve_saved.ensures.any_moment
 
 pub returns-in-Err-clause-run : goal.returns-in-Err-clause-run
 returns-in-Err-clause-run g c =

@@ -12,4 +12,4 @@ returns-in_default-copy_opening-clause-any_moment g c = λ sound now.
 
 pub returns-clause-any_moment : goal.returns-clause-any_moment
 returns-clause-any_moment g c = λ sound now.
-    c.saving.ensures.any_moment sound (covered_begun _ c.args.saver _ _ c.new-saves.ensures now)
+    c.saving-outcome.ensures.any_moment sound (covered_begun _ c.args.saver _ _ c.new-saves.ensures now)

@@ -61,13 +61,13 @@ returns-in-Err-Memory-clause-goes_on g c =
     (g.D.Disk.told c.args.disk.now) (g.D.Disk.told c.save.new.disk)
     c.in-Err-Memory.ensures.err_last c.save.ensures.alone) now)
 
-pub returns-clause-any_moment : goal.returns-clause-any_moment
-returns-clause-any_moment g c =
+pub returns-in-Err-Fault-clause-any_moment : goal.returns-in-Err-Fault-clause-any_moment
+returns-in-Err-Fault-clause-any_moment g c =
     saving c.args.self.now.saver _ _ c.in-Some.image (λ made. c.args.image ≡ Some made)
     c.in-Some.is c.save.ensures.any_moment
 
-pub returns-clause-goes_on : goal.returns-clause-goes_on
-returns-clause-goes_on g c =
+pub returns-in-Err-Fault-clause-goes_on : goal.returns-in-Err-Fault-clause-goes_on
+returns-in-Err-Fault-clause-goes_on g c =
     failed (IfSome c.args.image IsCovered) c.args.self.now c.save.new.self
     c.one_more-self-in-Err-Fault.result _ _ _ _
     c.one_more-self-in-Err-Fault.ensures.least c.one_more-self-in-Err-Fault.ensures.rises
