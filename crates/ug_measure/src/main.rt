@@ -1,8 +1,8 @@
-//! A program for measuring: `ug_measure book N` drives a book of 256 ranks through N made messages
-//! and prints how many were answered how; `image N` makes a book of N nodes of ten changes each and
-//! its image, `save N` saves that too, to a disk in memory, `load N` loads it again; `desk N` tells
-//! a desk N times what is left. Each run does the same. It stands on ug_book, ug_mps, ug_restart
-//! and ug_desk. It is proved to be safe and to end, and no more.
+//! A program for measuring and comparing: `ug_measure book N` drives a book of 256 ranks through N
+//! made messages; `image N` makes the image of a book of N nodes, `save N` saves it to a disk in
+//! memory, `load N` loads it again; `desk N` tells a desk N times what is left; with no words it
+//! replays the schedules of its input, of which some were worked by hand and others by a model that
+//! was written apart from this code. It is proved to be safe and to end, and no more.
 #![tactic(auto)]
 
 mod answers;
@@ -10,12 +10,14 @@ mod calls;
 mod driver;
 mod random;
 mod ranks;
+mod replay;
 mod saving;
 mod start;
 
 use crate::answers::Answers;
 use crate::calls::{Replies, call_desk};
 use crate::driver::drive;
+use crate::replay::replay;
 use crate::saving::{Size, Stage, save_nodes};
 use std::alloc::AllocError;
 use std::env;
@@ -32,6 +34,13 @@ enum Task {
     Desk { calls: u64 },
 }
 
+// What the words ask for.
+#[derive(Clone, Copy)]
+enum Wanted {
+    Replay,
+    Measure(Task),
+}
+
 fn stage_of(word: &str) -> Option<Stage> {
     match word {
         "image" => Some(Stage::Image),
@@ -41,22 +50,28 @@ fn stage_of(word: &str) -> Option<Stage> {
     }
 }
 
-// What the words ask for.
-fn wanted<R: Env + AllocGlobal>(rt: &R) -> Option<Task> {
+fn wanted<R: Env + AllocGlobal>(rt: &R) -> Option<Wanted> {
     let words: Vec<String> = env::args(rt).ok()?.skip(1).collect(rt.alloc()).ok()?;
+    if words.is_empty() {
+        return Some(Wanted::Replay);
+    }
     if words.len() != 2 {
         return None;
     }
-    let count = words.get(1)?.as_str();
-    if words.get(0)?.as_str() == "book" {
+    let task = task_of(words.get(0)?.as_str(), words.get(1)?.as_str())?;
+    Some(Wanted::Measure(task))
+}
+
+fn task_of(what: &str, count: &str) -> Option<Task> {
+    if what == "book" {
         let messages = count.parse::<u64>().ok()?;
         return Some(Task::Book { messages });
     }
-    if words.get(0)?.as_str() == "desk" {
+    if what == "desk" {
         let calls = count.parse::<u64>().ok()?;
         return Some(Task::Desk { calls });
     }
-    let stage = stage_of(words.get(0)?.as_str())?;
+    let stage = stage_of(what)?;
     let nodes = count.parse::<u32>().ok()?;
     Some(Task::Save { nodes, stage })
 }
@@ -113,16 +128,24 @@ fn measure<R: Print + AllocGlobal + Wait>(rt: &R, task: Task) -> Result<(), Allo
     Ok(())
 }
 
-fn main(rt: HostRuntime) -> ExitCode {
-    let Some(task) = wanted(&rt) else {
-        let _ = eprintln!(rt; "usage: ug_measure book|image|save|load|desk N");
-        return ExitCode::from(2);
-    };
-    match measure(&rt, task) {
+// Measures, and how that ended.
+fn measured<R: Print + AllocGlobal + Wait>(rt: &R, task: Task) -> ExitCode {
+    match measure(rt, task) {
         Ok(()) => ExitCode::from(0),
         Err(_) => {
             let _ = println!(rt; "memory");
             ExitCode::from(9)
+        }
+    }
+}
+
+fn main(rt: HostRuntime) -> ExitCode {
+    match wanted(&rt) {
+        Some(Wanted::Replay) => ExitCode::from(u8::from(replay(&rt).is_err())),
+        Some(Wanted::Measure(task)) => measured(&rt, task),
+        None => {
+            let _ = eprintln!(rt; "usage: ug_measure [book|image|save|load|desk N]");
+            ExitCode::from(2)
         }
     }
 }

@@ -1,7 +1,7 @@
 use ug_rows::Point;
 
 /// What is said of a problem in the end.
-#[derive(Debug, Drop)]
+#[derive(Drop)]
 pub enum Answer {
     /// This point is feasible, and no feasible point has a lesser value.
     Optimal(Point),

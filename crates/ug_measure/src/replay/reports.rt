@@ -1,7 +1,7 @@
 ghost use Rattle.std.specs.Prelude.{IfSome};
 ghost use Rattle.ug_rules.specs.Hearing.{IsHearable};
 
-use crate::words::{bound, count, small, value, word};
+use crate::replay::words::{bound, count, small, value, word};
 use std::alloc::Global;
 use ug_frames::Report;
 use ug_nodes::{Change, Changes, Ticket};

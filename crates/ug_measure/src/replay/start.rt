@@ -1,7 +1,7 @@
 ghost use Rattle.std.specs.Prelude.{IfSome};
 ghost use Rattle.ug_rules.specs.Books.{AreSettings};
 
-use crate::words::{count, small, word};
+use crate::replay::words::{count, small, word};
 use std::alloc::Global;
 use ug_book::{Book, Boxes};
 use ug_mps::read;

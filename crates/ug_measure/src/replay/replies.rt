@@ -1,8 +1,8 @@
 ghost use Rattle.std.specs.Prelude.{◌<◌, length, IfSome};
 
-use crate::reports::report;
-use crate::spelling::{answered, holds, orders, said};
-use crate::words::{small, word};
+use crate::replay::reports::report;
+use crate::replay::spelling::{answered, holds, orders, said};
+use crate::replay::words::{small, word};
 use std::alloc::Global;
 use ug_book::Book;
 
