@@ -1,4 +1,4 @@
-ghost use Rattle.std.specs.Prelude.{List, ℕ, ℤ, ◌≡◌, ◌*◌, ◌≤◌, ◌++◌, ◌/◌, ◌%◌, ◌^◌, IfOk, unsigned_abs};
+ghost use Rattle.std.specs.Prelude.{List, ℕ, ℤ, ◌≡◌, ◌*◌, ◌≤◌, ◌++◌, ◌/◌, ◌%◌, ◌^◌, IfOk, OnOk, unsigned_abs};
 ghost use Rattle.std.specs.Fmt.{decimal};
 ghost use Rattle.ug_rows.specs.declared.row.Objective.{Objective};
 ghost use Rattle.ug_problem.specs.Printed.{AreDigitsOf, IsLowest, IsSpelled, IsPrinted, fraction_of, shown_of, sign_of};
@@ -55,15 +55,37 @@ fn join(alloc: Global, z: i128, parts: &Parts) -> Result<Vec<u8>, AllocError>
         ++ fraction_of parts.now.fraction.items) }
 {
     let mut text = Vec::new(alloc);
+    match push_parts(alloc, &mut text, z, parts) {
+        Ok(()) => Ok(text),
+        Err(error) => {
+            drop(text);
+            Err(error)
+        }
+    }
+}
+
+fn push_parts(alloc: Global, text: &mut Vec<u8>, z: i128, parts: &Parts) -> Result<(), AllocError>
+    ensures { OnOk result (text.new.items ≡ text.old.items ++ sign_of z ++ decimal parts.now.whole
+        ++ fraction_of parts.now.fraction.items) }
+{
     if z < 0 {
         text.push(b'-')?;
     }
-    text.extend_from_slice(parts.whole.to_string(alloc)?.as_bytes())?;
+    push_number(alloc, text, parts.whole)?;
     if !parts.fraction.is_empty() {
         text.push(b'.')?;
         text.extend_from_slice(parts.fraction.as_slice())?;
     }
-    Ok(text)
+    Ok(())
+}
+
+fn push_number(alloc: Global, text: &mut Vec<u8>, number: u128) -> Result<(), AllocError>
+    ensures { OnOk result (text.new.items ≡ text.old.items ++ decimal number) }
+{
+    let digits = number.to_string(alloc)?;
+    let pushed = text.extend_from_slice(digits.as_bytes());
+    drop(digits);
+    pushed
 }
 
 // The value as the user reads it.

@@ -8,7 +8,7 @@ ghost use Rattle.ug_problem.specs.Feasible.{Feasible, IsFirstBroken};
 ghost use Rattle.ug_problem.specs.Instances.{IsFormed, bounds_of, instance_of, root_of};
 ghost use Rattle.ug_problem.specs.Limits.{IsProblem, IsRefused};
 ghost use Rattle.ug_problem.specs.Printed.{IsPrinted};
-ghost use Rattle.ug_problem.specs.Standings.{AreStandings};
+ghost use Rattle.ug_problem.specs.Standings.{AreKept, AreStandings};
 
 use crate::answer::Broken;
 use crate::column::{Column, Columns, NamedRow, NamedRows};
@@ -96,6 +96,92 @@ fn greater(a: i128, b: i128) -> i128
     if b < a { a } else { b }
 }
 
+// What a problem is made of.
+#[derive(Drop)]
+struct Parts {
+    columns: Columns,
+    rows: NamedRows,
+    objective: Objective,
+}
+
+fn copied_parts(
+    columns: &Columns,
+    rows: &NamedRows,
+    objective: &Objective,
+) -> Result<Parts, AllocError>
+    ensures columns { IfOk result (λ parts. parts.columns ≡ columns.now) }
+    ensures rows { IfOk result (λ parts. parts.rows ≡ rows.now) }
+    ensures objective { IfOk result (λ parts. parts.objective ≡ objective.now) }
+{
+    let columns = copied_columns(columns)?;
+    let rows = match copied_rows(rows) {
+        Ok(rows) => rows,
+        Err(error) => {
+            drop(columns);
+            return Err(error);
+        }
+    };
+    match copied_objective(objective) {
+        Ok(objective) => Ok(Parts {
+            columns,
+            rows,
+            objective,
+        }),
+        Err(error) => {
+            drop(columns);
+            drop(rows);
+            Err(error)
+        }
+    }
+}
+
+// What is kept of a problem beside its parts.
+#[derive(Drop)]
+struct Derived {
+    root: IntBox,
+    standings: Standings,
+}
+
+// The box of all bounds, and where each column stands, if the parts are within the limits.
+fn derived_from(
+    alloc: Global,
+    columns: &[Column],
+    rows: &[NamedRow],
+    objective: &Objective,
+) -> Result<Derived, ProblemError>
+    requires { IsFormed (instance_of columns.now rows.now objective.now) }
+    ensures root { IfOk result (λ g. g.root
+        ≡ root_of (instance_of columns.now rows.now objective.now)) }
+    ensures standings { IfOk result (λ g. AreKept
+        (instance_of columns.now rows.now objective.now) g.standings) }
+    ensures kept { OnOk result (IsProblem (instance_of columns.now rows.now objective.now)) }
+    ensures refused { IfErr result (IsRefused (instance_of columns.now rows.now objective.now)) }
+{
+    check_limits(columns, rows, objective)?;
+    let root = IntBox::from_vec(bounds(alloc, columns)?);
+    match gather(alloc, columns, rows, objective) {
+        Ok(standings) => Ok(Derived { root, standings }),
+        Err(error) => {
+            drop(root);
+            Err(ProblemError::from(error))
+        }
+    }
+}
+
+fn copied_derived(root: &IntBox, standings: &Standings) -> Result<Derived, AllocError>
+    ensures root { IfOk result (λ derived. derived.root ≡ root.now) }
+    ensures standings { IfOk result (λ derived. derived.standings ≡ standings.now) }
+{
+    let standings = copied_standings(standings)?;
+    match root.clone() {
+        Ok(root) => Ok(Derived { root, standings }),
+        Err(error) => {
+            drop(standings);
+            Err(error)
+        }
+    }
+}
+
 impl Problem {
     /// The problem of these parts. It takes memory for the box of all bounds, and for where each
     /// column stands.
@@ -110,16 +196,21 @@ impl Problem {
         ensures kept { OnOk result (IsProblem (instance_of columns rows objective)) }
         ensures refused { IfErr result (IsRefused (instance_of columns rows objective)) }
     {
-        check_limits(columns.as_slice(), rows.as_slice(), &objective)?;
-        let root = IntBox::from_vec(bounds(alloc, columns.as_slice())?);
-        let standings = gather(alloc, columns.as_slice(), rows.as_slice(), &objective)?;
-        Ok(Problem {
-            columns,
-            rows,
-            objective,
-            root,
-            standings,
-        })
+        match derived_from(alloc, columns.as_slice(), rows.as_slice(), &objective) {
+            Ok(Derived { root, standings }) => Ok(Problem {
+                columns,
+                rows,
+                objective,
+                root,
+                standings,
+            }),
+            Err(error) => {
+                drop(columns);
+                drop(rows);
+                drop(objective);
+                Err(error)
+            }
+        }
     }
 
     /// The columns, in the order of the file.
@@ -167,13 +258,27 @@ impl Problem {
     pub fn copy(&self) -> Result<Problem, AllocError>
         ensures { IfOk result (λ p. p ≡ self.now) }
     {
-        Ok(Problem {
-            columns: copied_columns(&self.columns)?,
-            rows: copied_rows(&self.rows)?,
-            objective: copied_objective(&self.objective)?,
-            root: self.root.clone()?,
-            standings: copied_standings(&self.standings)?,
-        })
+        let Derived { root, standings } = copied_derived(&self.root, &self.standings)?;
+        match copied_parts(&self.columns, &self.rows, &self.objective) {
+            Ok(
+                Parts {
+                    columns,
+                    rows,
+                    objective,
+                },
+            ) => Ok(Problem {
+                columns,
+                rows,
+                objective,
+                root,
+                standings,
+            }),
+            Err(error) => {
+                drop(root);
+                drop(standings);
+                Err(error)
+            }
+        }
     }
 
     /// Whether two problems are the same: columns, rows, objective and all names. It takes no
