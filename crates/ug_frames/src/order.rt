@@ -3,7 +3,7 @@ use ug_lists::Bytes;
 use ug_nodes::{Changes, Ticket};
 
 /// What the coordinator tells a solver. Values and cutoffs are of the minimised, scaled objective.
-#[derive(Clone, Drop)]
+#[derive(Drop)]
 pub enum Order {
     /// The problem, as its record, and how far from the best an answer may be. It comes first.
     Setup {

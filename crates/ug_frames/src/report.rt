@@ -1,8 +1,9 @@
+use std::alloc::AllocError;
 use ug_nodes::{Changes, Ticket};
 use ug_rows::Point;
 
 /// What a solver tells the coordinator. Values and cutoffs are of the minimised, scaled objective.
-#[derive(Clone, Drop)]
+#[derive(Drop)]
 pub enum Report {
     /// The problem is there.
     Ready,
@@ -35,7 +36,7 @@ pub enum Report {
 }
 
 impl Report {
-    ghost use Rattle.std.specs.Prelude.{◌≡◌};
+    ghost use Rattle.std.specs.Prelude.{◌≡◌, IfOk};
     ghost use Rattle.ug_frames.specs.Reports.{ticket_of};
 
     /// The ticket of the assignment that the report speaks of, if it speaks of one.
@@ -49,5 +50,46 @@ impl Report {
             Report::Done { ticket, .. } => Some(*ticket),
             Report::Ready | Report::Ended => None,
         }
+    }
+
+    /// A copy of the report.
+    pub fn copy(&self) -> Result<Report, AllocError>
+        ensures { IfOk result (λ copy. copy ≡ self.now) }
+    {
+        Ok(match self {
+            Report::Ready => Report::Ready,
+            Report::Solution { ticket, point } => Report::Solution {
+                ticket: *ticket,
+                point: point.clone()?,
+            },
+            Report::Hand {
+                ticket,
+                number,
+                changes,
+            } => Report::Hand {
+                ticket: *ticket,
+                number: *number,
+                changes: changes.clone()?,
+            },
+            Report::State {
+                ticket,
+                open,
+                floor,
+            } => Report::State {
+                ticket: *ticket,
+                open: *open,
+                floor: *floor,
+            },
+            Report::Done {
+                ticket,
+                cutoff,
+                count,
+            } => Report::Done {
+                ticket: *ticket,
+                cutoff: *cutoff,
+                count: *count,
+            },
+            Report::Ended => Report::Ended,
+        })
     }
 }

@@ -138,7 +138,7 @@ impl Playing {
         ensures wide { length self.new.book.ranks ≡ length self.old.book.ranks }
         ensures same { IsSameRun self.old.book self.new.book }
     {
-        let copy = report.clone()?;
+        let copy = report.copy()?;
         self.sent.push(copy)?;
         Ok(())
     }
@@ -185,7 +185,7 @@ fn copy_of(sent: &[Report], place: usize) -> Result<Report, Halt>
         return Err(Halt::NoSuch { place });
     };
     know(report);
-    Ok(report.clone()?)
+    Ok(report.copy()?)
 }
 
 // The changes of a hand rise: their type has it so.
