@@ -26,12 +26,16 @@ pub fn read(alloc: Global, text: &[u8], boxed: Option<u32>) -> Result<Problem, M
         lines += 1;
         match take_line(alloc, &mut draft, lines, content(piece), through) {
             Ok(()) => {}
-            Err(error) => return Err(error),
+            Err(error) => {
+                drop(draft);
+                return Err(error);
+            }
         }
         if draft.is_ended() {
             return draft.finish(boxed);
         }
         rest = after;
     }
+    drop(draft);
     Err(bare_fault(lines, Kind::NoEnd))
 }

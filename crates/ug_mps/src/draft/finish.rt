@@ -52,12 +52,27 @@ impl Draft {
             rows,
             columns,
             maximise,
+            begun,
+            set,
             ..
         } = self;
+        drop(begun);
+        drop(set);
         let (names, drafts) = columns.into_parts();
-        let columns = make_columns(alloc, boxed, names, drafts)?;
+        let columns = match make_columns(alloc, boxed, names, drafts) {
+            Ok(columns) => columns,
+            Err(error) => {
+                drop(rows);
+                return Err(error);
+            }
+        };
         let (names, drafts) = rows.into_parts();
-        let parts = make_rows(alloc, maximise, names, drafts)?;
-        problem_of(alloc, columns, parts)
+        match make_rows(alloc, maximise, names, drafts) {
+            Ok(parts) => problem_of(alloc, columns, parts),
+            Err(error) => {
+                drop(columns);
+                Err(error)
+            }
+        }
     }
 }
