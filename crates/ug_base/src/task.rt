@@ -89,6 +89,37 @@ fn only_left(alloc: Global, work: &Working, problem: &Problem) -> Result<Vec<Par
     Ok(parts)
 }
 
+// What a search begins with.
+#[derive(Drop)]
+struct Beginning {
+    work: Working,
+    parts: Vec<Part>,
+}
+
+// The working box of the whole box, and this as the one box left.
+fn begun(alloc: Global, problem: &Problem, whole: &IntBox) -> Result<Beginning, AllocError>
+    requires { length whole.now ≡ length problem.now.columns }
+    ensures area { IfOk result (λ b. b.work.sums.area ≡ whole.now) }
+    ensures work { IfOk result (λ b. IsBox problem.now b.work) }
+    ensures trail { IfOk result (λ b. b.work.trail ≡ []) }
+    ensures parts { IfOk result (λ b. b.parts.items
+        ≡ record {
+          depth = 0;
+          cut = None;
+          floor = box_floor problem.now.objective b.work.sums.area;
+          rest = Unknown;
+        } ∷ []) }
+{
+    let work = Working::new(alloc, problem, whole)?;
+    match only_left(alloc, &work, problem) {
+        Ok(parts) => Ok(Beginning { work, parts }),
+        Err(error) => {
+            drop(work);
+            Err(error)
+        }
+    }
+}
+
 // The cutoff of a point under a gap.
 fn cutoff_at(problem: &Shared, gap: i128, point: &Point) -> Option<i128>
     requires width { length point.now ≡ length problem.now.columns }
@@ -126,20 +157,25 @@ impl Task {
     {
         // The problem's type keeps that it is one.
         let _columns = problem.problem().columns();
-        let work = Working::new(alloc, problem.problem(), &whole)?;
-        let parts = only_left(alloc, &work, problem.problem())?;
-        Ok(Task {
-            alloc,
-            problem,
-            ticket,
-            params,
-            whole,
-            cutoff,
-            gap,
-            work,
-            parts,
-            handed: Vec::new(alloc),
-        })
+        match begun(alloc, problem.problem(), &whole) {
+            Ok(begun) => Ok(Task {
+                alloc,
+                problem,
+                ticket,
+                params,
+                whole,
+                cutoff,
+                gap,
+                work: begun.work,
+                parts: begun.parts,
+                handed: Vec::new(alloc),
+            }),
+            Err(error) => {
+                drop(problem);
+                drop(whole);
+                Err(error)
+            }
+        }
     }
 
     /// Takes the last box left, and drops it, answers its one point, or puts its halves in its

@@ -33,11 +33,13 @@ fn greater_of(zero: Image, one: Image) -> Found
     ensures { Some result ≡ chosen (Some zero) (Some one) }
 {
     if zero.sequence < one.sequence {
+        drop(zero);
         Found {
             slot: Slot::One,
             image: one,
         }
     } else {
+        drop(one);
         Found {
             slot: Slot::Zero,
             image: zero,

@@ -24,7 +24,9 @@ pub fn load<D: Disk>(alloc: Global, disk: &mut D) -> Result<Option<Found>, LoadE
         → D.faults disk.new ≡ D.faults disk.old) }
 {
     let both = read_both(alloc, disk)?;
-    recovered(alloc, &both)
+    let found = recovered(alloc, &both);
+    drop(both);
+    found
 }
 
 // What recovery finds in two slots.
@@ -33,6 +35,11 @@ fn recovered(alloc: Global, both: &Both) -> Result<Option<Found>, LoadError>
     ensures refused { IfErr result (IsCause both.now.zero.items both.now.one.items) }
 {
     let zero = image_in(alloc, Slot::Zero, &both.zero)?;
-    let one = image_in(alloc, Slot::One, &both.one)?;
-    Ok(greater(zero, one))
+    match image_in(alloc, Slot::One, &both.one) {
+        Ok(one) => Ok(greater(zero, one)),
+        Err(error) => {
+            drop(zero);
+            Err(error)
+        }
+    }
 }

@@ -95,8 +95,17 @@ impl Saver {
             → D.faults disk.new ≡ D.faults disk.old }
     {
         let mut buffer = zeros(alloc, BLOCK)?;
-        let mut body = Body::new(alloc, image)?;
-        self.keeper.save(disk, &mut body, &mut buffer)?;
+        let mut body = match Body::new(alloc, image) {
+            Ok(body) => body,
+            Err(error) => {
+                drop(buffer);
+                return Err(SaveError::from(error));
+            }
+        };
+        let saved = self.keeper.save(disk, &mut body, &mut buffer);
+        drop(body);
+        drop(buffer);
+        saved?;
         self.sequence = image.sequence;
         Ok(())
     }

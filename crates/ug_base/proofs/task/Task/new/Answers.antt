@@ -9,17 +9,17 @@ use Rattle.ug_base.proofs.task.Task.new.Goals as goal
 
 pub invariant_of-result : goal.invariant_of-result
 invariant_of-result c =
-    let work = c.in_ok-work.work in
+    let work = c.in-Ok.begun.work in
     record {
-      task = new_task _ work c.in_ok-parts.parts.items c.args.gap _ (subst IsProblem c.problem-2.ensures.value c.columns-columns.ensures.problem)
-          c.requires.below c.requires.cutoff c.requires.gap (search rules) c.in_ok-parts.ensures c.in_ok-work.ensures.trail
-          c.in_ok-work.ensures.area refl c.new-2.ensures.items;
-      chain = new_chain c.args.problem c.args.whole work c.in_ok-parts.parts.items
-          (subst (λ (p : Instance). c.in_ok-parts.parts.items ≡ record {
+      task = new_task _ work c.in-Ok.begun.parts.items c.args.gap _ (subst IsProblem c.problem.ensures.value c.columns-columns.ensures.problem)
+          c.requires.below c.requires.cutoff c.requires.gap (search rules) c.in-Ok.ensures.parts c.in-Ok.ensures.trail
+          c.in-Ok.ensures.area refl c.new.ensures.items;
+      chain = new_chain c.args.problem c.args.whole work c.in-Ok.begun.parts.items
+          (subst (λ (p : Instance). c.in-Ok.begun.parts.items ≡ record {
             depth = 0;
             cut = None;
             floor = box_floor p.objective work.sums.area;
             rest = Unknown;
-          } ∷ []) c.problem-4.ensures.value c.in_ok-parts.ensures)
-          (subst (λ (p : Instance). IsBox p work) c.problem-3.ensures.value c.in_ok-work.ensures.work) c.in_ok-work.ensures.trail c.in_ok-work.ensures.area;
+          } ∷ []) c.problem-2.ensures.value c.in-Ok.ensures.parts)
+          (subst (λ (p : Instance). IsBox p work) c.problem-2.ensures.value c.in-Ok.ensures.work) c.in-Ok.ensures.trail c.in-Ok.ensures.area;
     }

@@ -17,73 +17,73 @@ returns-in_err-buffer-clause-any_moment g c =
     (λ slot. has_new image slot c.requires.image c.requires.fits) c.requires.next
     (c.requires.kept.rests, c.requires.kept.images)
 
-pub returns-in_err-body-clause-any_moment : goal.returns-in_err-body-clause-any_moment
-returns-in_err-body-clause-any_moment g c =
+pub returns-in-Err-clause-any_moment : goal.returns-in-Err-clause-any_moment
+returns-in-Err-clause-any_moment g c =
     let saver = c.args.self.now in
     let image = c.args.image.now in
     safe_before (last_of saver.keeper) saver.sequence (g.D.Disk.told c.args.disk.now) image
     (λ slot. has_new image slot c.requires.image c.requires.fits) c.requires.next
     (c.requires.kept.rests, c.requires.kept.images)
 
-pub returns-in_err-save-clause-any_moment : goal.returns-in_err-save-clause-any_moment
-returns-in_err-save-clause-any_moment g c =
+pub returns-in_err-saved-clause-any_moment : goal.returns-in_err-saved-clause-any_moment
+returns-in_err-saved-clause-any_moment g c =
     let saver = c.args.self.now in
     let image = c.args.image.now in
     let old = g.D.Disk.told c.args.disk.now in
-    let new = g.D.Disk.told c.save.new.disk in
+    let new = g.D.Disk.told c.save-saved.new.disk in
     safe (last_of saver.keeper) saver.sequence old new image
     (λ slot. has_new image slot c.requires.image c.requires.fits) c.requires.next
     (c.requires.kept.rests, c.requires.kept.images)
     (subst (λ (b : List ℕ). Leaves (OnlyOpens old (target_of saver.keeper) (IsOldOrNew b)) old new)
-    c.in_ok-body.ensures.rest c.save.ensures.any_moment)
+    c.in-Ok.ensures.rest c.save-saved.ensures.any_moment)
 
-pub returns-in_err-save-clause-kept : goal.returns-in_err-save-clause-kept
-returns-in_err-save-clause-kept g c =
+pub returns-in_err-saved-clause-kept : goal.returns-in_err-saved-clause-kept
+returns-in_err-saved-clause-kept g c =
     let saver = c.args.self.now in
     let image = c.args.image.now in
     let old = g.D.Disk.told c.args.disk.now in
-    let new = g.D.Disk.told c.save.new.disk in
-    kept_failed saver.keeper c.save.new.self old new saver.sequence image
+    let new = g.D.Disk.told c.save-saved.new.disk in
+    kept_failed saver.keeper c.save-saved.new.self old new saver.sequence image
     (λ slot. has_new image slot c.requires.image c.requires.fits) c.requires.kept
-    c.save.ensures.knows c.in_err-save.ensures.kept
+    c.save-saved.ensures.knows c.in_err-saved.ensures.kept
     (subst (λ (b : List ℕ). Becomes old new (target_of saver.keeper) (MaySave b))
-    c.in_ok-body.ensures.rest c.save.ensures.now)
+    c.in-Ok.ensures.rest c.save-saved.ensures.now)
 
 pub returns-clause-any_moment : goal.returns-clause-any_moment
 returns-clause-any_moment g c =
     let saver = c.args.self.now in
     let image = c.args.image.now in
     let old = g.D.Disk.told c.args.disk.now in
-    let new = g.D.Disk.told c.save.new.disk in
+    let new = g.D.Disk.told c.save-saved.new.disk in
     safe (last_of saver.keeper) saver.sequence old new image
     (λ slot. has_new image slot c.requires.image c.requires.fits) c.requires.next
     (c.requires.kept.rests, c.requires.kept.images)
     (subst (λ (b : List ℕ). Leaves (OnlyOpens old (target_of saver.keeper) (IsOldOrNew b)) old new)
-    c.in_ok-body.ensures.rest c.save.ensures.any_moment)
+    c.in-Ok.ensures.rest c.save-saved.ensures.any_moment)
 
 pub returns-clause-acknowledged : goal.returns-clause-acknowledged
 returns-clause-acknowledged g c =
     let saver = c.args.self.now in
     let image = c.args.image.now in
     let old = g.D.Disk.told c.args.disk.now in
-    let new = g.D.Disk.told c.save.new.disk in
+    let new = g.D.Disk.told c.save-saved.new.disk in
     finds (last_of saver.keeper) saver.sequence old new image
     (λ slot. has_new image slot c.requires.image c.requires.fits) c.requires.next
     (c.requires.kept.rests, c.requires.kept.images)
     (subst (λ (b : List ℕ). Becomes old new (target_of saver.keeper) (HasSaved b))
-    c.in_ok-body.ensures.rest c.in_ok-save.ensures.saved)
+    c.in-Ok.ensures.rest c.in_ok-saved.ensures.saved)
 
 pub returns-clause-kept : goal.returns-clause-kept
 returns-clause-kept g c =
     let saver = c.args.self.now in
     let image = c.args.image.now in
     let old = g.D.Disk.told c.args.disk.now in
-    let new = g.D.Disk.told c.save.new.disk in
-    kept_saved saver.keeper c.save.new.self old new saver.sequence image
+    let new = g.D.Disk.told c.save-saved.new.disk in
+    kept_saved saver.keeper c.save-saved.new.self old new saver.sequence image
     (λ slot. has_new image slot c.requires.image c.requires.fits) c.requires.kept
-    c.save.ensures.knows c.in_ok-save.ensures.last
+    c.save-saved.ensures.knows c.in_ok-saved.ensures.last
     (subst (λ (b : List ℕ). Becomes old new (target_of saver.keeper) (HasSaved b))
-    c.in_ok-body.ensures.rest c.in_ok-save.ensures.saved)
+    c.in-Ok.ensures.rest c.in_ok-saved.ensures.saved)
 
 pub returns-in_err-buffer-clause-alone : goal.returns-in_err-buffer-clause-alone
 returns-in_err-buffer-clause-alone g c =
@@ -91,29 +91,29 @@ returns-in_err-buffer-clause-alone g c =
     let slot = target_of c.args.self.now.keeper in
     becomes_same (λ a b. Unit {0}) told slot (stands_all (λ s. Unit {0}) told slot (λ s. tt))
 
-pub returns-in_err-body-clause-alone : goal.returns-in_err-body-clause-alone
-returns-in_err-body-clause-alone g c =
+pub returns-in-Err-clause-alone : goal.returns-in-Err-clause-alone
+returns-in-Err-clause-alone g c =
     let told = g.D.Disk.told c.args.disk.now in
     let slot = target_of c.args.self.now.keeper in
     becomes_same (λ a b. Unit {0}) told slot (stands_all (λ s. Unit {0}) told slot (λ s. tt))
 
-pub returns-in_err-save-clause-alone : goal.returns-in_err-save-clause-alone
-returns-in_err-save-clause-alone g c =
-    becomes_is _ (λ a b. Unit {0}) (g.D.Disk.told c.args.disk.now) (g.D.Disk.told c.save.new.disk)
-    (target_of c.args.self.now.keeper) c.save.ensures.now (λ a b r. tt)
+pub returns-in_err-saved-clause-alone : goal.returns-in_err-saved-clause-alone
+returns-in_err-saved-clause-alone g c =
+    becomes_is _ (λ a b. Unit {0}) (g.D.Disk.told c.args.disk.now) (g.D.Disk.told c.save-saved.new.disk)
+    (target_of c.args.self.now.keeper) c.save-saved.ensures.now (λ a b r. tt)
 
 pub returns-clause-alone : goal.returns-clause-alone
 returns-clause-alone g c =
-    becomes_is _ (λ a b. Unit {0}) (g.D.Disk.told c.args.disk.now) (g.D.Disk.told c.save.new.disk)
-    (target_of c.args.self.now.keeper) c.save.ensures.now (λ a b r. tt)
+    becomes_is _ (λ a b. Unit {0}) (g.D.Disk.told c.args.disk.now) (g.D.Disk.told c.save-saved.new.disk)
+    (target_of c.args.self.now.keeper) c.save-saved.ensures.now (λ a b r. tt)
 
 pub returns-clause-written : goal.returns-clause-written
 returns-clause-written g c =
     let image = c.args.image.now in
     let old = g.D.Disk.told c.args.disk.now in
-    let new = g.D.Disk.told c.save.new.disk in
+    let new = g.D.Disk.told c.save-saved.new.disk in
     let slot = target_of c.args.self.now.keeper in
     stands_after (HasSaved (body_of image)) (λ state. Has state.bytes image) old new slot
     (subst (λ (b : List ℕ). Becomes old new slot (HasSaved b))
-    c.in_ok-body.ensures.rest c.in_ok-save.ensures.saved)
+    c.in-Ok.ensures.rest c.in_ok-saved.ensures.saved)
     (λ before after saved. has_new image after.bytes c.requires.image c.requires.fits saved.1)
