@@ -35,10 +35,14 @@ pub fn first_book(
 {
     let run = match next_run(found) {
         Ok(run) => run,
-        Err(fault) => return Err(fault),
+        Err(fault) => {
+            drop(problem);
+            return Err(fault);
+        }
     };
     let saver = Saver::new(found);
     let Ok(boxes) = root_alone(alloc) else {
+        drop(problem);
         return Err(StartFault::Memory);
     };
     match Book::new(alloc, problem, run, None, boxes, settings) {
@@ -64,10 +68,15 @@ pub fn next_book(
 {
     let run = match next_run_of(alloc, &found, problem.problem(), &settings) {
         Ok(run) => run,
-        Err(fault) => return Err(fault),
+        Err(fault) => {
+            drop(found);
+            drop(problem);
+            return Err(fault);
+        }
     };
     let saver = Saver::new(Some(&found));
     let Ok(kept) = kept_of(alloc, found) else {
+        drop(problem);
         return Err(StartFault::Memory);
     };
     match Book::new(alloc, problem, run, kept.best, kept.boxes, settings) {
@@ -109,9 +118,20 @@ fn kept_of(alloc: Global, found: Found) -> Result<Kept, AllocError>
     ensures boxes { IfOk result (λ kept. kept.boxes ≡ boxes_saved found.image.nodes) }
 {
     let Found { image, .. } = found;
-    let Image { best, nodes, .. } = image;
-    let boxes = boxes_of(alloc, nodes)?;
-    Ok(Kept { best, boxes })
+    let Image {
+        problem,
+        best,
+        nodes,
+        ..
+    } = image;
+    drop(problem);
+    match boxes_of(alloc, nodes) {
+        Ok(boxes) => Ok(Kept { best, boxes }),
+        Err(error) => {
+            drop(best);
+            Err(error)
+        }
+    }
 }
 
 // The root box alone.

@@ -25,7 +25,9 @@ pub fn image_of(alloc: Global, book: &Book, sequence: u64) -> Result<Image, Allo
     ensures covered { IsSoundBook book.now → IfOk result IsCovered }
 {
     let nodes = book.primitive()?;
-    let image = with_nodes(alloc, book, nodes.as_slice(), sequence)?;
+    let made = with_nodes(alloc, book, nodes.as_slice(), sequence);
+    drop(nodes);
+    let image = made?;
     within(image)
 }
 
@@ -41,13 +43,27 @@ fn with_nodes(
     ensures numbers { IfOk result HasNumbers }
     ensures book { IsBook book.now }
 {
-    let problem = book.problem();
-    let nodes = saved(alloc, nodes)?;
+    let problem = book.problem().share()?;
+    let best = match copied(alloc, book.best()) {
+        Ok(best) => best,
+        Err(error) => {
+            drop(problem);
+            return Err(error);
+        }
+    };
+    let nodes = match saved(alloc, nodes) {
+        Ok(nodes) => nodes,
+        Err(error) => {
+            drop(problem);
+            drop(best);
+            return Err(error);
+        }
+    };
     Ok(Image {
         run: book.run(),
         sequence,
-        problem: problem.share()?,
-        best: copied(alloc, book.best())?,
+        problem,
+        best,
         deliveries: book.count(),
         gap: book.settings().gap,
         nodes,
@@ -62,6 +78,7 @@ fn within(image: Image) -> Result<Image, AllocError>
     if length(&image) < 1 << 63 {
         Ok(image)
     } else {
+        drop(image);
         Err(AllocError)
     }
 }

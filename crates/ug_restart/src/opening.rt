@@ -69,6 +69,8 @@ pub fn save_first<D: Disk>(
         → D.faults disk.new ≡ D.faults disk.old }
 {
     let image = image_of(alloc, book, saver.sequence() + 1)?;
-    saver.save(alloc, disk, &image)?;
+    let saved = saver.save(alloc, disk, &image);
+    drop(image);
+    saved?;
     Ok(())
 }

@@ -42,15 +42,23 @@ pub fn begin<D: Disk>(
 {
     let found = match load(alloc, disk) {
         Ok(found) => found,
-        Err(error) => return Err(StartFault::from(error)),
+        Err(error) => {
+            drop(problem);
+            return Err(StartFault::from(error));
+        }
     };
-    let (book, mut saver) = match first_book(alloc, found.as_ref(), problem, settings) {
+    let started = first_book(alloc, found.as_ref(), problem, settings);
+    drop(found);
+    let (book, mut saver) = match started {
         Ok(started) => started,
         Err(fault) => return Err(fault),
     };
     match save_first(alloc, disk, &book, &mut saver) {
         Ok(()) => Ok((book, saver)),
-        Err(fault) => Err(fault),
+        Err(fault) => {
+            drop(book);
+            Err(fault)
+        }
     }
 }
 
@@ -80,8 +88,14 @@ pub fn restart<D: Disk>(
 {
     let found = match load(alloc, disk) {
         Ok(Some(found)) => found,
-        Ok(None) => return Err(StartFault::NoCheckpoint),
-        Err(error) => return Err(StartFault::from(error)),
+        Ok(None) => {
+            drop(problem);
+            return Err(StartFault::NoCheckpoint);
+        }
+        Err(error) => {
+            drop(problem);
+            return Err(StartFault::from(error));
+        }
     };
     let (book, mut saver) = match next_book(alloc, found, problem, settings) {
         Ok(started) => started,
@@ -89,6 +103,9 @@ pub fn restart<D: Disk>(
     };
     match save_first(alloc, disk, &book, &mut saver) {
         Ok(()) => Ok((book, saver)),
-        Err(fault) => Err(fault),
+        Err(fault) => {
+            drop(book);
+            Err(fault)
+        }
     }
 }

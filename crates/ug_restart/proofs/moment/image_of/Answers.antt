@@ -21,7 +21,7 @@ returns-clause-moment c =
 pub returns-clause-image : goal.returns-clause-image
 returns-clause-image c =
     passed_on c.within.result c.in_ok-image.image IsImage c.within.ensures.same
-    (image_is c.args.book.now (lent c.in_ok-nodes.nodes.items) c.with_nodes.ensures.book
+    (image_is c.args.book.now (lent c.in_ok-nodes.nodes.items) c.with_nodes-made.ensures.book
     (record {
       each = c.in_ok-nodes.ensures.each;
       rising = c.in_ok-nodes.ensures.rising;

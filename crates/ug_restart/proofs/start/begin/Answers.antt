@@ -8,38 +8,38 @@ use Rattle.ug_restart.proofs.start.begin.Goals as goal
 pub returns-in-Err-clause-any_moment : goal.returns-in-Err-clause-any_moment
 returns-in-Err-clause-any_moment g c = alone _ _ _ c.load.ensures.any_moment
 
-pub returns-in-Err-first_book-clause-any_moment : goal.returns-in-Err-first_book-clause-any_moment
-returns-in-Err-first_book-clause-any_moment g c = alone _ _ _ c.load.ensures.any_moment
+pub returns-in-Err-started-clause-any_moment : goal.returns-in-Err-started-clause-any_moment
+returns-in-Err-started-clause-any_moment g c = alone _ _ _ c.load.ensures.any_moment
 
 pub returns-in-Ok-save_first-clause-any_moment : goal.returns-in-Ok-save_first-clause-any_moment
 returns-in-Ok-save_first-clause-any_moment g c =
     both (IsBegun c.args.problem c.args.settings (g.D.Disk.told c.args.disk.now)) _ _ _
-    c.in-Ok.found c.in-Ok-first_book.started.1 c.in-Ok-first_book.started.0 c.in-Ok.ensures.found
-    (saver_last c.in-Ok.found _ c.in-Ok-first_book.started.1 c.as_ref.ensures.value
-    c.in-Ok-first_book.ensures.saver)
-    (beginning c.args.problem c.args.settings _ _ c.in-Ok.found _ c.in-Ok-first_book.started.0
-    c.in-Ok.ensures.found c.as_ref.ensures.value c.in-Ok-first_book.ensures.room
-    c.in-Ok-first_book.ensures.book)
+    c.in-Ok.found c.in-Ok-started.started.1 c.in-Ok-started.started.0 c.in-Ok.ensures.found
+    (saver_last c.in-Ok.found _ c.in-Ok-started.started.1 c.as_ref.ensures.value
+    c.in-Ok-started.ensures.saver)
+    (beginning c.args.problem c.args.settings _ _ c.in-Ok.found _ c.in-Ok-started.started.0
+    c.in-Ok.ensures.found c.as_ref.ensures.value c.in-Ok-started.ensures.room
+    c.in-Ok-started.ensures.book)
     c.load.ensures.any_moment c.save_first.ensures.any_moment
 
-pub returns-clause-any_moment : goal.returns-clause-any_moment
-returns-clause-any_moment g c =
+pub returns-in-Err-save_first-clause-any_moment : goal.returns-in-Err-save_first-clause-any_moment
+returns-in-Err-save_first-clause-any_moment g c =
     both (IsBegun c.args.problem c.args.settings (g.D.Disk.told c.args.disk.now)) _ _ _
-    c.in-Ok.found c.in-Ok-first_book.started.1 c.in-Ok-first_book.started.0 c.in-Ok.ensures.found
-    (saver_last c.in-Ok.found _ c.in-Ok-first_book.started.1 c.as_ref.ensures.value
-    c.in-Ok-first_book.ensures.saver)
-    (beginning c.args.problem c.args.settings _ _ c.in-Ok.found _ c.in-Ok-first_book.started.0
-    c.in-Ok.ensures.found c.as_ref.ensures.value c.in-Ok-first_book.ensures.room
-    c.in-Ok-first_book.ensures.book)
+    c.in-Ok.found c.in-Ok-started.started.1 c.in-Ok-started.started.0 c.in-Ok.ensures.found
+    (saver_last c.in-Ok.found _ c.in-Ok-started.started.1 c.as_ref.ensures.value
+    c.in-Ok-started.ensures.saver)
+    (beginning c.args.problem c.args.settings _ _ c.in-Ok.found _ c.in-Ok-started.started.0
+    c.in-Ok.ensures.found c.as_ref.ensures.value c.in-Ok-started.ensures.room
+    c.in-Ok-started.ensures.book)
     c.load.ensures.any_moment c.save_first.ensures.any_moment
 
-pub returns-clause-calm : goal.returns-clause-calm
-returns-clause-calm g c not =
+pub returns-in-Err-save_first-clause-calm : goal.returns-in-Err-save_first-clause-calm
+returns-in-Err-save_first-clause-calm g c not =
     c.save_first.ensures.calm (not_told_as c.in-Err-save_first.fault c.save_first.result
     c.in-Err-save_first.is not)
     ∙ c.in-Ok.ensures.calm
 
-pub returns-clause-refused : goal.returns-clause-refused
-returns-clause-refused g c =
+pub returns-in-Err-save_first-clause-refused : goal.returns-in-Err-save_first-clause-refused
+returns-in-Err-save_first-clause-refused g c =
     let P : Result Unit StartFault → Type 0 = λ r. IfErr r IsNotSaved in
     not_saved _ _ c.in-Err-save_first.fault (subst P c.in-Err-save_first.is c.save_first.ensures.refused)
