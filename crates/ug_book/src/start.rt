@@ -43,27 +43,48 @@ impl Book {
         ensures sound { IfOk result (λ book. IsSoundBook book
             ↔ Covered problem settings.gap best (map (area_by (root_of problem)) boxes)) }
     {
-        let problem = problem.into_counted(alloc)?;
+        let problem = match problem.into_counted(alloc) {
+            Ok(problem) => problem,
+            Err(error) => {
+                drop(best);
+                drop(boxes);
+                return Err(error);
+            }
+        };
         let floor = problem.problem().floor(problem.problem().root());
         let best = Best::new(best);
         let announced = current_cutoff(problem.problem(), &best, &settings);
-        let pool = start_pool(alloc, problem.problem(), floor, run, boxes)?;
-        let ranks = Ranks::new(alloc, settings.solvers)?;
-        Ok(Book {
-            alloc,
-            problem,
-            floor,
-            run,
-            settings,
-            best,
-            pool,
-            ranks,
-            raced: None,
-            last: 0,
-            orders: Queue::new(alloc),
-            heard: 0,
-            announced,
-        })
+        let pool = match start_pool(alloc, problem.problem(), floor, run, boxes) {
+            Ok(pool) => pool,
+            Err(error) => {
+                drop(problem);
+                drop(best);
+                return Err(error);
+            }
+        };
+        match Ranks::new(alloc, settings.solvers) {
+            Ok(ranks) => Ok(Book {
+                alloc,
+                problem,
+                floor,
+                run,
+                settings,
+                best,
+                pool,
+                ranks,
+                raced: None,
+                last: 0,
+                orders: Queue::new(alloc),
+                heard: 0,
+                announced,
+            }),
+            Err(error) => {
+                drop(problem);
+                drop(best);
+                drop(pool);
+                Err(error)
+            }
+        }
     }
 }
 

@@ -13,6 +13,7 @@ ghost use Rattle.ug_world.specs.Halts.{IsHalted, IsNotThere};
 use crate::event::Event;
 use std::alloc::{AllocError, AllocFailed, Global};
 use std::marker::Model;
+use std::mem;
 use ug_book::Book;
 use ug_frames::Report;
 use ug_rules::Heard;
@@ -94,7 +95,7 @@ impl Playing {
     {
         // The problem tells that the book is one.
         let _lent = book.problem();
-        self.book = book;
+        drop(mem::replace(&mut self.book, book));
     }
 
     /// The book and the replies.
@@ -102,7 +103,12 @@ impl Playing {
         ensures book { result.0 ≡ self.book }
         ensures replies { result.1.items ≡ self.replies }
     {
-        let Playing { book, replies, .. } = self;
+        let Playing {
+            book,
+            sent,
+            replies,
+        } = self;
+        drop(sent);
         (book, replies)
     }
 
@@ -151,8 +157,8 @@ impl Playing {
         ensures wide { length self.new.book.ranks ≡ length self.old.book.ranks }
         ensures same { IsSameRun self.old.book self.new.book }
     {
-        let report = copy_of(&self.sent, place)?;
         self.replies.reserve(1)?;
+        let report = copy_of(&self.sent, place)?;
         let answer = self.book.hear(rank, report);
         if answer == Heard::Memory {
             return Err(Halt::Memory);

@@ -63,7 +63,8 @@ pub fn play(alloc: Global, book: Book, events: &[Event]) -> Result<Played, PlayF
 fn stop(playing: Playing, halt: Halt, done: usize) -> PlayFault
     ensures { result ≡ fault_of halt done playing.book }
 {
-    let (book, _) = playing.end();
+    let (book, replies) = playing.end();
+    drop(replies);
     match halt {
         Halt::NoSuch { place } => PlayFault::NoSuch { place, book },
         Halt::Memory => PlayFault::Memory { book, done },

@@ -18,36 +18,36 @@ use Rattle.ug_book.proofs.book.Book.new.Goals as goal
 pub invariant_of-result : goal.invariant_of-result
 invariant_of-result c =
     let p = c.args.problem in
-    let q = c.in_ok-problem.problem in
-    let same : q ≡ p = c.in_ok-problem.ensures in
-    let third = c.problem-4.ensures.value in
-    let fourth = c.problem-5.ensures.value in
-    let entries : c.in_ok-pool.pool.entries
+    let q = c.in-Ok.problem in
+    let same : q ≡ p = c.in-Ok.ensures in
+    let third = c.problem-3.ensures.value in
+    let fourth = c.problem-4.ensures.value in
+    let entries : c.in-Ok-start_pool.pool.entries
     ≡ with_entries (start_entries q c.args.run 0 c.args.boxes) [] =
-    c.in_ok-pool.ensures.entries
+    c.in-Ok-start_pool.ensures.entries
     ∙ ap (λ (k : Instance). with_entries (start_entries k c.args.run 0 c.args.boxes) []) fourth in
     let known : c.current_cutoff-announced.result
     ≡ best_cutoff q c.args.settings.gap c.new-best.result =
     c.current_cutoff-announced.ensures
     ∙ ap (λ (k : Instance). best_cutoff k c.args.settings.gap c.new-best.result) third in
     let is = started_is p q c.args.run c.args.best c.new-best.result c.args.boxes c.args.settings
-    c.in_ok-pool.pool.entries c.in_ok-ranks.ranks c.new-2.result.orders c.current_cutoff-announced.result
-    same c.new-best.ensures entries c.in_ok-ranks.ensures
-    (ap (λ (k : Queued). k.orders) c.new-2.ensures) known in
-    let none = ap (λ (ss : List State). length (nodes_of ss)) c.in_ok-ranks.ensures in
+    c.in-Ok-start_pool.pool.entries c.in-Ok-new.ranks c.new-in-Ok-new.result.orders c.current_cutoff-announced.result
+    same c.new-best.ensures entries c.in-Ok-new.ensures
+    (ap (λ (k : Queued). k.orders) c.new-in-Ok-new.ensures) known in
+    let none = ap (λ (ss : List State). length (nodes_of ss)) c.in-Ok-new.ensures in
     let work = ap length (no_work c.args.settings.solvers) in
-    let first = c.problem-2.ensures.value in
-    let second = c.problem-3.ensures.value in
+    let first = c.problem.ensures.value in
+    let second = c.problem-2.ensures.value in
     let root = c.root.ensures.value in
     let value = c.floor-floor.ensures.value in
     let floor : c.floor-floor.result ≡ box_floor q.objective (root_of q) = cc in
     let floors = subst
     (λ (k : Instance). All (HasItsFloor k) (with_entries (start_entries p c.args.run 0 c.args.boxes) []))
     (fourth ∙ same)
-    (subst (λ (es : List Entry). All (HasItsFloor c.problem-5.result.now) es)
+    (subst (λ (es : List Entry). All (HasItsFloor c.problem-4.result.now) es)
     (entries
     ∙ ap (λ (k : Instance). with_entries (start_entries k c.args.run 0 c.args.boxes) []) same)
-    c.in_ok-pool.ensures.floors) in
+    c.in-Ok-start_pool.ensures.floors) in
     record {
       book = subst IsBook (sym is) (start_book p c.args.run c.args.best c.args.boxes c.args.settings
           (subst IsProblem (second ∙ same) c.root.ensures.problem) c.requires.run c.requires.best
@@ -58,24 +58,24 @@ invariant_of-result c =
       room = record { pool = omega (arith, none, work); orders = omega (arith, none, work) };
     }
 
-pub returns-clause-sound : goal.returns-clause-sound
-returns-clause-sound c =
+pub returns-in-Ok-new-clause-sound : goal.returns-in-Ok-new-clause-sound
+returns-in-Ok-new-clause-sound c =
     let p = c.args.problem in
-    let q = c.in_ok-problem.problem in
-    let same : q ≡ p = c.in_ok-problem.ensures in
-    let third = c.problem-4.ensures.value in
-    let fourth = c.problem-5.ensures.value in
-    let entries : c.in_ok-pool.pool.entries
+    let q = c.in-Ok.problem in
+    let same : q ≡ p = c.in-Ok.ensures in
+    let third = c.problem-3.ensures.value in
+    let fourth = c.problem-4.ensures.value in
+    let entries : c.in-Ok-start_pool.pool.entries
     ≡ with_entries (start_entries q c.args.run 0 c.args.boxes) [] =
-    c.in_ok-pool.ensures.entries
+    c.in-Ok-start_pool.ensures.entries
     ∙ ap (λ (k : Instance). with_entries (start_entries k c.args.run 0 c.args.boxes) []) fourth in
     let known : c.current_cutoff-announced.result
     ≡ best_cutoff q c.args.settings.gap c.new-best.result =
     c.current_cutoff-announced.ensures
     ∙ ap (λ (k : Instance). best_cutoff k c.args.settings.gap c.new-best.result) third in
     let is = started_is p q c.args.run c.args.best c.new-best.result c.args.boxes c.args.settings
-    c.in_ok-pool.pool.entries c.in_ok-ranks.ranks c.new-2.result.orders
-    c.current_cutoff-announced.result same c.new-best.ensures entries c.in_ok-ranks.ensures
-    (ap (λ (k : Queued). k.orders) c.new-2.ensures) known in
+    c.in-Ok-start_pool.pool.entries c.in-Ok-new.ranks c.new-in-Ok-new.result.orders
+    c.current_cutoff-announced.result same c.new-best.ensures entries c.in-Ok-new.ensures
+    (ap (λ (k : Queued). k.orders) c.new-in-Ok-new.ensures) known in
     let both = start_is_sound p c.args.run c.args.best c.args.boxes c.args.settings in
     (λ s. both.0 (subst IsSoundBook is s), λ covered. subst IsSoundBook (sym is) (both.1 covered))
