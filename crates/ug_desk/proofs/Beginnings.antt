@@ -1,6 +1,7 @@
 -- What a book was made of is read from it: its primitive nodes are the starting ones, in order.
 use Rattle.std.proofs.Common.{◌≡◌, ◌⊎◌, inl, inr, ℕ, zero, suc, ◌+◌, ◌<◌, ◌≤◌, List, [], ◌∷◌, ◌++◌, length, take, get_or, refl, sym, ap, ◌∙◌, subst, arith}
-use Rattle.std.specs.Prelude.{◌↔◌, Contains, Option, replicate}
+use Rattle.std.specs.Prelude.{◌↔◌, Contains, Option, Result, Ok, Err, IfOk, replicate}
+use Rattle.std.specs.declared.alloc.AllocError.{AllocError}
 use Rattle.std.specs.List.{AllPairs}
 use Rattle.std.specs.Borrow.{Bor}
 use Rattle.std.proofs.lemmas.List.{get_or_default, length-replicate}
@@ -230,6 +231,17 @@ opening_so b made p run best boxes settings e f g h i =
     ∙ (ap (λ (k : Option (List ℤ)). started b.problem b.run k boxes settings) g
     ∙ (ap (λ (k : List (List Change)). started b.problem b.run b.best k settings) h
     ∙ (ap (λ (k : Settings). started b.problem b.run b.best made.0 k) i ∙ sym made.1))))
+
+-- the same of an opening that is made so, if there is memory for it
+pub opened_so : (b : BookState) (made : IsMade b) (p : Instance) (run : ℕ)
+    (best : Option (List ℤ)) (boxes : List (List Change)) (settings : Settings)
+    (r : Result Opening AllocError)
+    → IfOk r (λ o. o ≡ record { problem = p; run = run; best = best; boxes = boxes; settings = settings })
+    → p ≡ b.problem → run ≡ b.run → best ≡ b.best → boxes ≡ made.0 → settings ≡ b.settings
+    → IfOk r (λ o. opening_book o ≡ b)
+opened_so b made p run best boxes settings (Ok o) is e f g h i =
+    ap opening_book is ∙ opening_so b made p run best boxes settings e f g h i
+opened_so b made p run best boxes settings (Err error) is e f g h i = tt
 
 abbrev with_tickets : BookState → List Ticket → Standing
 with_tickets b tickets = record { book = b; tickets = tickets }

@@ -7,7 +7,9 @@ use crate::opening::Opening;
 use std::alloc::{AllocError, Global};
 use ug_book::{Book, Boxes};
 use ug_nodes::{Changes, Node, Ticket};
+use ug_problem::Shared;
 use ug_rows::Point;
+use ug_rules::Settings;
 
 /// What a book was made of that is as it was made.
 pub fn opening_of(alloc: Global, book: &Book) -> Result<Opening, AllocError>
@@ -15,13 +17,55 @@ pub fn opening_of(alloc: Global, book: &Book) -> Result<Opening, AllocError>
     ensures { IfOk result (λ opening. opening_book opening ≡ book.now) }
 {
     let nodes = book.primitive()?;
-    Ok(Opening {
-        problem: book.problem().share()?,
-        run: book.run(),
-        best: copied(book.best())?,
-        boxes: boxes_of(alloc, nodes.as_slice())?,
-        settings: *book.settings(),
-    })
+    let made = boxes_of(alloc, nodes.as_slice());
+    drop(nodes);
+    let boxes = made?;
+    opening_with(
+        book.problem(),
+        book.run(),
+        book.best(),
+        boxes,
+        *book.settings(),
+    )
+}
+
+// The opening of these boxes, with copies of the rest.
+fn opening_with(
+    problem: &Shared,
+    run: u64,
+    best: Option<&Point>,
+    boxes: Boxes,
+    settings: Settings,
+) -> Result<Opening, AllocError>
+    ensures { IfOk result (λ opening. opening ≡ record {
+      problem = problem.now;
+      run = run;
+      best = option_copied best.entry;
+      boxes = boxes;
+      settings = settings;
+    }) }
+{
+    let best = match copied(best) {
+        Ok(best) => best,
+        Err(error) => {
+            drop(boxes);
+            return Err(error);
+        }
+    };
+    match problem.share() {
+        Ok(problem) => Ok(Opening {
+            problem,
+            run,
+            best,
+            boxes,
+            settings,
+        }),
+        Err(error) => {
+            drop(best);
+            drop(boxes);
+            Err(error)
+        }
+    }
 }
 
 // A copy of a point that is lent, if one is.
@@ -57,13 +101,14 @@ fn copy_of(changes: &Changes) -> Result<Changes, AllocError>
 pub fn copy_opening(opening: &Opening) -> Result<Opening, AllocError>
     ensures { IfOk result (λ copy. copy ≡ opening.now) }
 {
-    Ok(Opening {
-        problem: opening.problem.share()?,
-        run: opening.run,
-        best: copied(opening.best.as_ref())?,
-        boxes: opening.boxes.clone()?,
-        settings: opening.settings,
-    })
+    let boxes = opening.boxes.clone()?;
+    opening_with(
+        &opening.problem,
+        opening.run,
+        opening.best.as_ref(),
+        boxes,
+        opening.settings,
+    )
 }
 
 /// A ticket for each of so many passes.

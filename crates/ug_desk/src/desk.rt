@@ -35,16 +35,30 @@ impl Desk {
             → slice_index made.1.items r ≡ r) }
     {
         let count = book.settings().solvers;
-        let passes = passes(alloc, count)?;
-        let opening = opening_of(alloc, &book)?;
-        let locked = Locked::new(alloc, opening, book)?;
-        let desk = Desk {
+        let passes = match passes(alloc, count) {
+            Ok(passes) => passes,
+            Err(error) => {
+                drop(book);
+                return Err(error);
+            }
+        };
+        match locked_over(alloc, book) {
+            Ok(locked) => Ok((Desk::over(locked, count), passes)),
+            Err(error) => {
+                drop(passes);
+                Err(error)
+            }
+        }
+    }
+
+    // The desk of what is to be behind its lock, with so many passes.
+    fn over(locked: Locked, passes: u32) -> Desk {
+        Desk {
             lock: Mutex::new(locked),
             stirred: Mutex::new(0),
             bell: Condvar::new(),
-            passes: count,
-        };
-        Ok((desk, passes))
+            passes,
+        }
     }
 
     /// Joins the pass's rank where it is absent or dead, decides, and answers what there is for it.
@@ -90,6 +104,7 @@ impl Desk {
         requires { task.boxes ≡ [] }
     {
         let heard = self.lock.lock(rt).done_for(pass, &task);
+        drop(task);
         self.stir(rt);
         heard
     }
@@ -97,6 +112,7 @@ impl Desk {
     /// The rank is gone, in the middle of a task. It takes no memory.
     pub fn give_up<R: Wait>(&self, rt: &R, pass: &mut Pass, task: Task) {
         self.lock.lock(rt).give_up_for(pass, &task);
+        drop(task);
         self.stir(rt);
     }
 
@@ -137,6 +153,19 @@ impl Desk {
         *stirred = stirred.wrapping_add(1);
         drop(stirred);
         self.bell.notify_all();
+    }
+}
+
+// What stands behind the lock over a book that is as it was made.
+fn locked_over(alloc: Global, book: Book) -> Result<Locked, AllocError>
+    requires { IsMade book }
+{
+    match opening_of(alloc, &book) {
+        Ok(opening) => Locked::new(alloc, opening, book),
+        Err(error) => {
+            drop(book);
+            Err(error)
+        }
     }
 }
 

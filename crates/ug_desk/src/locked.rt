@@ -61,14 +61,20 @@ impl Locked {
             run: opening.run,
             number: 0,
         };
-        let tickets = tickets(alloc, opening.settings.solvers, first)?;
-        Ok(Locked {
-            alloc,
-            opening,
-            book,
-            tickets,
-            count: 0,
-        })
+        match tickets(alloc, opening.settings.solvers, first) {
+            Ok(tickets) => Ok(Locked {
+                alloc,
+                opening,
+                book,
+                tickets,
+                count: 0,
+            }),
+            Err(error) => {
+                drop(opening);
+                drop(book);
+                Err(error)
+            }
+        }
     }
 
     /// What the book was made of.
@@ -91,7 +97,15 @@ impl Locked {
         ensures value { result ≡ self.now.book }
         ensures locked { IsLocked self }
     {
-        self.book
+        let Locked {
+            opening,
+            book,
+            tickets,
+            ..
+        } = self;
+        drop(opening);
+        drop(tickets);
+        book
     }
 
     /// The pass's rank joins where it is absent or dead, the book decides, and the pass gets a new
@@ -196,12 +210,17 @@ impl Locked {
         ensures { IfOk result (IsSnapshotOf self.now (one_more self.now.count)) }
     {
         let opening = copy_opening(&self.opening)?;
-        let image = image_of(self.alloc, &self.book, 1)?;
-        Ok(Snapshot {
-            opening,
-            image,
-            count: one_more(self.count),
-        })
+        match image_of(self.alloc, &self.book, 1) {
+            Ok(image) => Ok(Snapshot {
+                opening,
+                image,
+                count: one_more(self.count),
+            }),
+            Err(error) => {
+                drop(opening);
+                Err(error)
+            }
+        }
     }
 
     // The ticket of the last work of a pass.

@@ -45,6 +45,8 @@ impl Snapshot {
         ensures value { result ≡ self.image }
         ensures snapshot { IsSnapshot self }
     {
-        self.image
+        let Snapshot { opening, image, .. } = self;
+        drop(opening);
+        image
     }
 }

@@ -25,7 +25,13 @@ pub fn make_task(
     ensures { IfOk result (λ task. task ≡ task_of book.now ticket params node.now) }
 {
     let whole = whole_box(alloc, book.problem().problem(), &node.changes)?;
-    let problem = book.problem().share()?;
+    let problem = match book.problem().share() {
+        Ok(problem) => problem,
+        Err(error) => {
+            drop(whole);
+            return Err(error);
+        }
+    };
     let cutoff = cutoff_of_best(book);
     let gap = book.settings().gap;
     Task::new(alloc, problem, ticket, params, whole, cutoff, gap)

@@ -5,7 +5,7 @@ use Rattle.ug_nodes.specs.declared.node.Node.{Node}
 use Rattle.ug_primitive.specs.Primitive.{IsPrimitive, lent}
 use Rattle.ug_rules.specs.State.{BookState, held_nodes}
 use Rattle.ug_desk.specs.Openings.{changes_in}
-use Rattle.ug_desk.proofs.Beginnings.{boxes_told, opening_so}
+use Rattle.ug_desk.proofs.Beginnings.{boxes_told, opened_so}
 use Rattle.ug_desk.proofs.begin.opening_of.Goals as goal
 
 pub returns : goal.returns
@@ -16,11 +16,10 @@ returns c =
     let each = subst
     (λ (k : BookState). (n : Node) → Contains nodes n ↔ IsPrimitive (held_nodes k) n) made.1
     c.in_ok-nodes.ensures.each in
-    let boxes = c.in_ok-boxes_of.ensures
+    let boxes = c.in_ok-boxes.ensures
     ∙ (ap (λ (ns : List (Bor Node)). changes_in (lent ns)) c.as_slice.ensures.value
     ∙ boxes_told b.problem b.run b.best made.0 b.settings nodes each
     c.in_ok-nodes.ensures.rising) in
-    opening_so b made c.in_ok-share.field-0 c.run.result c.in_ok-copied.field-0
-    c.in_ok-boxes_of.field-0 c.settings.result.now
-    (c.in_ok-share.ensures ∙ c.problem.ensures.value) c.run.ensures
-    (c.in_ok-copied.ensures ∙ c.best.ensures) boxes c.settings.ensures.value
+    opened_so b made c.problem.result.now c.run.result _
+    c.in_ok-boxes.boxes c.settings.result.now c.opening_with.result c.opening_with.ensures
+    c.problem.ensures.value c.run.ensures c.best.ensures boxes c.settings.ensures.value

@@ -1,4 +1,4 @@
-use Rattle.std.proofs.Common.{List, [], refl, arith}
+use Rattle.std.proofs.Common.{[], refl, arith}
 use Rattle.ug_problem.proofs.SameLists.{all_same}
 use Rattle.ug_desk.proofs.opening.are_same_boxes.Goals as goal
 

@@ -7,20 +7,20 @@ use Rattle.ug_desk.proofs.locked.Locked.copy.Goals as goal
 
 pub invariant_of-result : goal.invariant_of-result
 invariant_of-result c =
-    snapshot_so (state_of c.self.inside) c.in_ok-opening.opening c.in_ok-image.image
-    c.one_more.result c.self.invariant c.in_ok-opening.ensures c.in_ok-image.ensures.moment
-    c.in_ok-image.ensures.image c.in_ok-image.ensures.covered
+    snapshot_so (state_of c.self.inside) c.in_ok-opening.opening c.in-Ok.image
+    c.one_more.result c.self.invariant c.in_ok-opening.ensures c.in-Ok.ensures.moment
+    c.in-Ok.ensures.image c.in-Ok.ensures.covered
 
-pub returns : goal.returns
-returns c =
+pub returns-in-Ok : goal.returns-in-Ok
+returns-in-Ok c =
     let s : SnapshotState = record {
       opening = c.in_ok-opening.opening;
-      image = c.in_ok-image.image;
+      image = c.in-Ok.image;
       count = c.one_more.result;
     } in
     subst (λ (l : LockedState). IsSnapshotOf l (one_more l.count) s) c.self.view_is
     (record {
       its_opening = c.in_ok-opening.ensures;
-      moment = c.in_ok-image.ensures.moment;
+      moment = c.in-Ok.ensures.moment;
       calls_are = c.one_more.ensures;
     })
