@@ -27,17 +27,40 @@ pub struct Replies {
 pub fn call_desk<R: Wait>(rt: &R, alloc: Global, calls: u64) -> Result<Replies, AllocError> {
     let book = book(alloc, problem(alloc)?, settings())?;
     let (desk, passes) = Desk::new(alloc, book)?;
+    let replies = tell_all(rt, &desk, passes, calls);
+    drop(desk);
+    Ok(replies)
+}
+
+// Takes what there is for each pass, and tells so often what is left of it.
+fn tell_all<R: Wait>(rt: &R, desk: &Desk, passes: Vec<Pass>, calls: u64) -> Replies {
     let mut replies = Replies {
         going: 0,
         other: 0,
         snapshots: 0,
     };
     for mut pass in passes {
-        if matches!(desk.take(rt, &mut pass), Ok(Took::Work(_))) {
-            tell(rt, &desk, &mut pass, calls, &mut replies);
+        if takes_work(rt, desk, &mut pass) {
+            tell(rt, desk, &mut pass, calls, &mut replies);
         }
     }
-    Ok(replies)
+    replies
+}
+
+// Whether there is work for the pass, which it takes.
+fn takes_work<R: Wait>(rt: &R, desk: &Desk, pass: &mut Pass) -> bool {
+    let took = desk.take(rt, pass);
+    let works = matches!(took, Ok(Took::Work(_)));
+    drop(took);
+    works
+}
+
+// Whether a snapshot was made.
+fn is_copied<R: Wait>(rt: &R, desk: &Desk, pass: &mut Pass) -> bool {
+    let snapshot = desk.snapshot(rt, pass);
+    let is_made = snapshot.is_ok();
+    drop(snapshot);
+    is_made
 }
 
 // Tells so often that two boxes are left.
@@ -47,7 +70,7 @@ fn tell<R: Wait>(rt: &R, desk: &Desk, pass: &mut Pass, calls: u64, replies: &mut
             Ok(reply) if !reply.stop => replies.going = replies.going.saturating_add(1),
             _ => replies.other = replies.other.saturating_add(1),
         }
-        if call % 1000 == 0 && desk.snapshot(rt, pass).is_ok() {
+        if call % 1000 == 0 && is_copied(rt, desk, pass) {
             replies.snapshots = replies.snapshots.saturating_add(1);
         }
     }
@@ -59,8 +82,14 @@ fn book(alloc: Global, problem: Shared, settings: Settings) -> Result<Book, Allo
     ensures { IfOk result (λ book. book ≡ started problem 1 None ([] ∷ []) settings) }
 {
     let mut boxes = Boxes::new(alloc);
-    boxes.push(Changes::new(Vec::new(alloc)))?;
-    Book::new(alloc, problem, 1, None, boxes, settings)
+    match boxes.push(Changes::new(Vec::new(alloc))) {
+        Ok(()) => Book::new(alloc, problem, 1, None, boxes, settings),
+        Err(error) => {
+            drop(problem);
+            drop(boxes);
+            Err(error)
+        }
+    }
 }
 
 // The settings of one rank.

@@ -6,11 +6,13 @@ use crate::random::Random;
 use crate::ranks::Solver;
 use crate::start::{RANKS, begin, problem};
 use std::alloc::{AllocError, Global};
+use std::mem;
 use ug_book::Book;
 use ug_frames::Report;
 use ug_nodes::Ticket;
 use ug_problem::Shared;
 use ug_rows::Point;
+use ug_rules::Told;
 
 // A book with its solvers.
 #[derive(Drop)]
@@ -30,19 +32,26 @@ pub fn drive(alloc: Global, count: u64) -> Result<Answers, AllocError> {
 
 fn drive_with(alloc: Global, problem: &Shared, count: u64) -> Result<Answers, AllocError> {
     let mut crew = crew_of(alloc, problem)?;
-    crew.send(problem, count)
+    let answers = crew.send(problem, count);
+    drop(crew);
+    answers
 }
 
 fn crew_of(alloc: Global, problem: &Shared) -> Result<Crew, AllocError> {
-    let book = begin(alloc, problem)?;
     let solvers = solvers(alloc)?;
-    Ok(Crew {
-        alloc,
-        book,
-        solvers,
-        random: Random::new(),
-        answers: Answers::new(),
-    })
+    match begin(alloc, problem) {
+        Ok(book) => Ok(Crew {
+            alloc,
+            book,
+            solvers,
+            random: Random::new(),
+            answers: Answers::new(),
+        }),
+        Err(error) => {
+            drop(solvers);
+            Err(error)
+        }
+    }
 }
 
 fn solvers(alloc: Global) -> Result<Vec<Solver>, AllocError> {
@@ -67,7 +76,8 @@ impl Crew {
     }
 
     fn begin_anew(&mut self, problem: &Shared) -> Result<(), AllocError> {
-        self.book = begin(self.alloc, problem)?;
+        let book = begin(self.alloc, problem)?;
+        drop(mem::replace(&mut self.book, book));
         self.all_join()
     }
 
@@ -96,9 +106,7 @@ impl Crew {
             return Err(AllocError);
         };
         while let Some(told) = self.book.next_order() {
-            if let Some(solver) = self.solvers.get_mut(told.rank as usize) {
-                solver.obey(&told.order)?;
-            }
+            obey(&mut self.solvers, told)?;
         }
         Ok(())
     }
@@ -142,6 +150,16 @@ impl Crew {
             solver.works = false;
         }
     }
+}
+
+// The solver of the rank that is told an order obeys.
+fn obey(solvers: &mut [Solver], told: Told) -> Result<(), AllocError> {
+    let obeyed = match solvers.get_mut(told.rank as usize) {
+        Some(solver) => solver.obey(&told.order),
+        None => Ok(()),
+    };
+    drop(told);
+    obeyed
 }
 
 // What a solver says next.

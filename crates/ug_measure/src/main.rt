@@ -50,16 +50,19 @@ fn stage_of(word: &str) -> Option<Stage> {
     }
 }
 
-fn wanted<R: Env + AllocGlobal>(rt: &R) -> Option<Wanted> {
+fn asked_for<R: Env + AllocGlobal>(rt: &R) -> Option<Wanted> {
     let words: Vec<String> = env::args(rt).ok()?.skip(1).collect(rt.alloc()).ok()?;
-    if words.is_empty() {
-        return Some(Wanted::Replay);
+    let wanted = asked_by(&words);
+    drop(words);
+    wanted
+}
+
+fn asked_by(words: &[String]) -> Option<Wanted> {
+    match words {
+        [] => Some(Wanted::Replay),
+        [what, count] => Some(Wanted::Measure(task_of(what.as_str(), count.as_str())?)),
+        _ => None,
     }
-    if words.len() != 2 {
-        return None;
-    }
-    let task = task_of(words.get(0)?.as_str(), words.get(1)?.as_str())?;
-    Some(Wanted::Measure(task))
 }
 
 fn task_of(what: &str, count: &str) -> Option<Task> {
@@ -140,7 +143,7 @@ fn measured<R: Print + AllocGlobal + Wait>(rt: &R, task: Task) -> ExitCode {
 }
 
 fn main(rt: HostRuntime) -> ExitCode {
-    match wanted(&rt) {
+    match asked_for(&rt) {
         Some(Wanted::Replay) => ExitCode::from(u8::from(replay(&rt).is_err())),
         Some(Wanted::Measure(task)) => measured(&rt, task),
         None => {

@@ -52,8 +52,6 @@ impl Solver {
     /// The next box that it hands: its own with the next column halved that is whole, if there is
     /// one.
     pub fn next_box(&self, alloc: Global) -> Result<Option<Changes>, AllocError> {
-        let mut list = Vec::with_capacity(alloc, self.changes.len() + 1)?;
-        list.extend_from_slice(&self.changes)?;
         let column = match self.changes.last() {
             Some(change) => change.column.wrapping_add(1),
             None => 0,
@@ -62,11 +60,9 @@ impl Solver {
             return Ok(None);
         }
         let low = if self.hands % 2 == 0 { 0 } else { 4 };
-        list.push(Change {
-            column,
-            low,
-            high: low + 3,
-        })?;
+        let high = low + 3;
+        let mut list = Vec::from_slice(alloc, &self.changes)?;
+        list.push(Change { column, low, high })?;
         Ok(Changes::checked(list))
     }
 }

@@ -10,49 +10,56 @@ use crate::replay::replies::reply;
 use crate::replay::start::begin;
 use crate::replay::words::{count, split, word};
 use std::alloc::Global;
-use std::io;
 use std::io::{Input, Print};
+use std::{io, mem};
 use ug_book::Book;
 
-// The line with what the book replies to it; None where it is no call that can be made now.
-fn replayed(alloc: Global, book: &mut Option<Book>, line: &str) -> Option<String> {
-    if line.is_empty() || line.starts_with("#") {
-        return String::from_str(alloc, line).ok();
+// Adds the line with what is replied to its words; None where it is no call that can be made now.
+fn push_reply(
+    alloc: Global,
+    text: &mut String,
+    book: &mut Option<Book>,
+    line: &str,
+    words: &[&str],
+) -> Option<()> {
+    match word(words, 0) {
+        "schedule" => {
+            drop(mem::replace(book, begin(alloc, words)));
+            text.push_str(line).ok()
+        }
+        "messages" => push_driven(alloc, text, line, count(word(words, 1))?),
+        _ => reply(alloc, text, book.as_mut()?, line, words),
     }
-    let words = split(alloc, line, ' ').ok()?;
-    if line.starts_with("schedule ") {
-        drop(book.take());
-        *book = begin(alloc, &words);
-        return String::from_str(alloc, line).ok();
-    }
-    if line.starts_with("messages ") {
-        return driven(alloc, line, count(word(&words, 1))?);
-    }
-    let book = book.as_mut()?;
-    reply(alloc, book, line, &words)
 }
 
-// The line with what books of 256 ranks answer to so many made messages.
-fn driven(alloc: Global, line: &str, messages: u64) -> Option<String> {
+// Adds the line with what books of 256 ranks answer to so many made messages.
+fn push_driven(alloc: Global, text: &mut String, line: &str, messages: u64) -> Option<()> {
     let Answers {
         kept,
         stale,
         other,
         ..
     } = drive(alloc, messages).ok()?;
-    format!(in alloc; "{line} -> kept {kept}, stale {stale}, other {other}").ok()
+    let driven = format!(in alloc; "{line} -> kept {kept}, stale {stale}, other {other}").ok()?;
+    let pushed = text.push_str(&driven);
+    drop(driven);
+    pushed.ok()
 }
 
-/// Replays the schedules of standard input: each line is a call of a coordinator's book, and is
-/// written with what the book replies.
-pub fn replay<R: Input + Print + AllocGlobal>(rt: &R) -> io::Result<()> {
-    let alloc = rt.alloc();
-    let mut book = None;
-    for line in rt.lines(alloc) {
-        print_line(rt, alloc, &mut book, &line?)?;
+// Adds what a line comes to.
+fn push_replayed(
+    alloc: Global,
+    text: &mut String,
+    book: &mut Option<Book>,
+    line: &str,
+) -> Option<()> {
+    if line.is_empty() || line.starts_with("#") {
+        return text.push_str(line).ok();
     }
-    drop(book);
-    Ok(())
+    let words = split(alloc, line, ' ').ok()?;
+    let pushed = push_reply(alloc, text, book, line, &words);
+    drop(words);
+    pushed
 }
 
 fn print_line<R: Print>(
@@ -61,8 +68,34 @@ fn print_line<R: Print>(
     book: &mut Option<Book>,
     line: &str,
 ) -> io::Result<()> {
-    match replayed(alloc, book, line) {
-        Some(text) => println!(rt; "{text}"),
+    let mut text = String::new(alloc);
+    let printed = match push_replayed(alloc, &mut text, book, line) {
+        Some(()) => println!(rt; "{text}"),
         None => println!(rt; "cannot be replayed: {line}"),
+    };
+    drop(text);
+    printed
+}
+
+fn replay_lines<R: Input + Print>(
+    rt: &R,
+    alloc: Global,
+    book: &mut Option<Book>,
+) -> io::Result<()> {
+    for line in rt.lines(alloc) {
+        let line = line?;
+        let printed = print_line(rt, alloc, book, &line);
+        drop(line);
+        printed?;
     }
+    Ok(())
+}
+
+/// Replays the schedules of standard input: each line is a call of a coordinator's book, and is
+/// written with what the book replies.
+pub fn replay<R: Input + Print + AllocGlobal>(rt: &R) -> io::Result<()> {
+    let mut book = None;
+    let replayed = replay_lines(rt, rt.alloc(), &mut book);
+    drop(book);
+    replayed
 }

@@ -37,14 +37,23 @@ pub struct Size {
 /// Saves the image of a book of so many nodes, each of ten changes, and loads it.
 pub fn save_nodes(alloc: Global, count: u32, stage: Stage) -> Result<Size, AllocError> {
     let image = image(alloc, count)?;
+    let size = size_of(alloc, &image, stage);
+    drop(image);
+    size
+}
+
+// How large the image is, and how many of its nodes are loaded again.
+fn size_of(alloc: Global, image: &Image, stage: Stage) -> Result<Size, AllocError>
+    requires { IsImage image.now }
+{
     let loaded = if stage == Stage::Image {
         0
     } else {
-        saved(alloc, &image, stage)?
+        saved(alloc, image, stage)?
     };
     Ok(Size {
         nodes: image.nodes.len(),
-        bytes: length(&image),
+        bytes: length(image),
         loaded,
     })
 }
@@ -54,7 +63,9 @@ fn image(alloc: Global, count: u32) -> Result<Image, AllocError>
     ensures { IfOk result IsImage }
 {
     let book = book_of(alloc, count)?;
-    image_of(alloc, &book, 1)
+    let image = image_of(alloc, &book, 1);
+    drop(book);
+    image
 }
 
 // Saves the image on a new disk, and says how many nodes are loaded again.
@@ -62,11 +73,24 @@ fn saved(alloc: Global, image: &Image, stage: Stage) -> Result<usize, AllocError
     requires { IsImage image.now }
 {
     let mut disk = new_disk(alloc);
-    save(alloc, &mut disk, image)?;
+    let loaded = saved_on(alloc, &mut disk, image, stage);
+    drop(disk);
+    loaded
+}
+
+fn saved_on(
+    alloc: Global,
+    disk: &mut MemoryDisk,
+    image: &Image,
+    stage: Stage,
+) -> Result<usize, AllocError>
+    requires { IsImage image.now }
+{
+    save(alloc, disk, image)?;
     if stage == Stage::Save {
         return Ok(0);
     }
-    loaded(alloc, &mut disk)
+    loaded(alloc, disk)
 }
 
 // A disk of two empty slots, whose calls end.
@@ -81,7 +105,13 @@ fn new_disk(alloc: Global) -> MemoryDisk {
 // A book of one solver with so many boxes.
 fn book_of(alloc: Global, count: u32) -> Result<Book, AllocError> {
     let problem = problem(alloc)?;
-    let boxes = boxes_of(alloc, problem.problem().root(), count)?;
+    let boxes = match boxes_of(alloc, problem.problem().root(), count) {
+        Ok(boxes) => boxes,
+        Err(error) => {
+            drop(problem);
+            return Err(error);
+        }
+    };
     let settings = Settings {
         solvers: 1,
         racing: false,
@@ -111,32 +141,40 @@ fn changes_of(alloc: Global, root: &IntBox, number: u32) -> Result<Changes, Allo
 {
     let mut list = Vec::new(alloc);
     for place in 0..10u32 {
-        let bit = (number >> place) & 1;
+        let low = if (number >> (place + 10)) & 1 == 1 {
+            1
+        } else {
+            0
+        };
         list.push(Change {
-            column: place * 10 + bit,
-            low: if (number >> (place + 10)) & 1 == 1 {
-                1
-            } else {
-                0
-            },
+            column: place * 10 + ((number >> place) & 1),
+            low,
             high: 6,
         })?;
     }
     let Some(changes) = Changes::checked(list) else {
         return Err(AllocError);
     };
-    match area_of(alloc, root, &changes) {
-        Ok(_) => Ok(changes),
-        Err(_) => Err(AllocError),
+    let area = area_of(alloc, root, &changes);
+    let is_box = area.is_ok();
+    drop(area);
+    if is_box {
+        return Ok(changes);
     }
+    drop(changes);
+    Err(AllocError)
 }
 
 fn save(alloc: Global, disk: &mut MemoryDisk, image: &Image) -> Result<(), AllocError>
     requires { IsImage image.now }
 {
-    let Ok(None) = load(alloc, disk) else {
-        return Err(AllocError);
-    };
+    match load(alloc, disk) {
+        Ok(None) => {}
+        found => {
+            drop(found);
+            return Err(AllocError);
+        }
+    }
     let mut saver = Saver::new(None);
     if image.sequence == 0 || length(image) >= 1 << 63 {
         return Err(AllocError);
@@ -149,8 +187,11 @@ fn save(alloc: Global, disk: &mut MemoryDisk, image: &Image) -> Result<(), Alloc
 
 // How many nodes are loaded.
 fn loaded(alloc: Global, disk: &mut MemoryDisk) -> Result<usize, AllocError> {
-    match load(alloc, disk) {
+    let loaded = load(alloc, disk);
+    let count = match &loaded {
         Ok(Some(found)) => Ok(found.image.nodes.len()),
         _ => Err(AllocError),
-    }
+    };
+    drop(loaded);
+    count
 }

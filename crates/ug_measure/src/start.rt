@@ -10,27 +10,46 @@ pub const RANKS: u32 = 256;
 
 // 100 columns from 0 to 7, whose sum is minimised.
 fn text(alloc: Global) -> Result<String, AllocError> {
-    let mut text = String::from_str(alloc, "ROWS\n N Z\nCOLUMNS\n M 'MARKER' 'INTORG'\n")?;
+    let mut text = String::new(alloc);
+    match push_all(alloc, &mut text) {
+        Ok(()) => Ok(text),
+        Err(error) => {
+            drop(text);
+            Err(error)
+        }
+    }
+}
+
+fn push_all(alloc: Global, text: &mut String) -> Result<(), AllocError> {
+    text.push_str("ROWS\n N Z\nCOLUMNS\n M 'MARKER' 'INTORG'\n")?;
     for column in 0..100u32 {
-        let line = format!(in alloc; " C{column} Z 1\n")?;
-        text.push_str(&line)?;
+        push_line(text, format!(in alloc; " C{column} Z 1\n")?)?;
     }
     text.push_str("BOUNDS\n")?;
     for column in 0..100u32 {
-        let line = format!(in alloc; " UP B C{column} 7\n")?;
-        text.push_str(&line)?;
+        push_line(text, format!(in alloc; " UP B C{column} 7\n")?)?;
     }
-    text.push_str("ENDATA\n")?;
-    Ok(text)
+    text.push_str("ENDATA\n")
+}
+
+fn push_line(text: &mut String, line: String) -> Result<(), AllocError> {
+    let pushed = text.push_str(&line);
+    drop(line);
+    pushed
 }
 
 /// The problem of all books.
 pub fn problem(alloc: Global) -> Result<Shared, AllocError> {
     let text = text(alloc)?;
-    let Ok(problem) = read(alloc, text.as_bytes(), None) else {
-        return Err(AllocError);
-    };
-    Shared::own(problem).into_counted(alloc)
+    let read = read(alloc, text.as_bytes(), None);
+    drop(text);
+    match read {
+        Ok(problem) => Shared::own(problem).into_counted(alloc),
+        Err(error) => {
+            drop(error);
+            Err(AllocError)
+        }
+    }
 }
 
 /// A book of the root's box.
@@ -50,5 +69,11 @@ pub fn begin(alloc: Global, problem: &Shared) -> Result<Book, AllocError> {
     };
     let mut boxes = Boxes::new(alloc);
     boxes.push(root)?;
-    Book::new(alloc, problem.share()?, 1, None, boxes, settings)
+    match problem.share() {
+        Ok(problem) => Book::new(alloc, problem, 1, None, boxes, settings),
+        Err(error) => {
+            drop(boxes);
+            Err(error)
+        }
+    }
 }

@@ -1,7 +1,7 @@
 ghost use Rattle.std.specs.Prelude.{◌<◌, length, IfSome};
 
 use crate::replay::reports::report;
-use crate::replay::spelling::{answered, holds, orders, said};
+use crate::replay::spelling::{push_answer, push_heard, push_holds, push_orders};
 use crate::replay::words::{small, word};
 use std::alloc::Global;
 use ug_book::Book;
@@ -18,50 +18,60 @@ fn rank_of(book: &Book, word: &str) -> Option<u32>
     }
 }
 
-fn hear(alloc: Global, book: &mut Book, words: &[&str]) -> Option<String> {
+fn hear(alloc: Global, text: &mut String, book: &mut Book, words: &[&str]) -> Option<()> {
     let rank = rank_of(book, word(words, 1))?;
     let report = report(alloc, words)?;
     let answer = book.hear(rank, report);
-    said(alloc, answer).ok()
+    push_heard(alloc, text, answer).ok()
 }
 
-fn join(alloc: Global, book: &mut Book, words: &[&str]) -> Option<String> {
+fn join(book: &mut Book, words: &[&str]) -> Option<()> {
     let rank = rank_of(book, word(words, 1))?;
     book.join(rank);
-    Some(String::new(alloc))
+    Some(())
 }
 
-fn gone(alloc: Global, book: &mut Book, words: &[&str]) -> Option<String> {
+fn gone(book: &mut Book, words: &[&str]) -> Option<()> {
     let rank = rank_of(book, word(words, 1))?;
     book.gone(rank);
-    Some(String::new(alloc))
+    Some(())
 }
 
-fn decide(alloc: Global, book: &mut Book) -> Option<String> {
+fn decide(alloc: Global, text: &mut String, book: &mut Book) -> Option<()> {
     book.decide().ok()?;
-    orders(alloc, book).ok()
+    push_orders(alloc, text, book).ok()
 }
 
-// What the book replies to these words, which may be nothing.
-fn answer(alloc: Global, book: &mut Book, words: &[&str]) -> Option<String> {
+// Adds what the book replies to these words, which may be nothing.
+fn push_reply(alloc: Global, text: &mut String, book: &mut Book, words: &[&str]) -> Option<()> {
     match word(words, 0) {
-        "join" => join(alloc, book, words),
-        "gone" => gone(alloc, book, words),
-        "decide" => decide(alloc, book),
-        "hear" => hear(alloc, book, words),
-        "answer" => answered(alloc, book).ok(),
+        "join" => join(book, words),
+        "gone" => gone(book, words),
+        "decide" => decide(alloc, text, book),
+        "hear" => hear(alloc, text, book, words),
+        "answer" => push_answer(alloc, text, book).ok(),
         _ => None,
     }
 }
 
-/// The line with what the book replies; None where the line is no call.
-pub fn reply(alloc: Global, book: &mut Book, line: &str, words: &[&str]) -> Option<String> {
+/// Adds a line and what the book replies; None where the line is no call.
+pub fn reply(
+    alloc: Global,
+    text: &mut String,
+    book: &mut Book,
+    line: &str,
+    words: &[&str],
+) -> Option<()> {
     if line == "held" {
-        return holds(alloc, book).ok();
+        return push_holds(alloc, text, book).ok();
     }
-    let text = answer(alloc, book, words)?;
-    if text.is_empty() {
-        return String::from_str(alloc, line).ok();
+    text.push_str(line).ok()?;
+    text.push_str(" -> ").ok()?;
+    let bare = text.len();
+    push_reply(alloc, text, book, words)?;
+    if text.len() == bare {
+        text.clear();
+        text.push_str(line).ok()?;
     }
-    format!(in alloc; "{line} -> {text}").ok()
+    Some(())
 }

@@ -23,21 +23,37 @@ fn change(word: &str) -> Option<Change> {
     Some(Change { column, low, high })
 }
 
-fn changes(alloc: Global, word: &str) -> Option<Changes> {
-    let mut list = Vec::new(alloc);
+fn push_changes(list: &mut Vec<Change>, word: &str) -> Option<()> {
     if word != "[]" {
         for part in word.split(',') {
             list.push(change(part)?).ok()?;
         }
     }
+    Some(())
+}
+
+fn changes(alloc: Global, word: &str) -> Option<Changes> {
+    let mut list = Vec::new(alloc);
+    if push_changes(&mut list, word).is_none() {
+        drop(list);
+        return None;
+    }
     Changes::checked(list)
 }
 
-fn point(alloc: Global, word: &str) -> Option<Point> {
+fn push_values(values: &mut Vec<i32>, word: &str) -> Option<()> {
     let inner = word.strip_prefix('[')?.strip_suffix(']')?;
-    let mut values = Vec::new(alloc);
     for part in inner.split(',') {
         values.push(bound(part)?).ok()?;
+    }
+    Some(())
+}
+
+fn point(alloc: Global, word: &str) -> Option<Point> {
+    let mut values = Vec::new(alloc);
+    if push_values(&mut values, word).is_none() {
+        drop(values);
+        return None;
     }
     Some(Point::from_vec(values))
 }

@@ -4,74 +4,107 @@ use ug_frames::Order;
 use ug_nodes::{Change, Changes, Node, Ticket};
 use ug_problem::Broken;
 use ug_rows::Point;
-use ug_rules::Heard;
+use ug_rules::{Heard, Told};
 
-fn optional(alloc: Global, value: Option<i128>) -> Result<String, AllocError> {
+// Adds a piece at the end of a text, if there was memory for it.
+fn push(text: &mut String, piece: Result<String, AllocError>) -> Result<(), AllocError> {
+    let piece = piece?;
+    let pushed = text.push_str(&piece);
+    drop(piece);
+    pushed
+}
+
+fn push_optional(alloc: Global, text: &mut String, value: Option<i128>) -> Result<(), AllocError> {
     match value {
-        Some(value) => format!(in alloc; "{value}"),
-        None => format!(in alloc; "none"),
+        Some(value) => push(text, format!(in alloc; "{value}")),
+        None => text.push_str("none"),
     }
 }
 
-fn broken(alloc: Global, broken: Broken) -> Result<String, AllocError> {
-    match broken {
-        Broken::Length(n) => format!(in alloc; "Broken Broken(what='Length', number={n})"),
-        Broken::Column(n) => format!(in alloc; "Broken Broken(what='Column', number={n})"),
-        Broken::Row(n) => format!(in alloc; "Broken Broken(what='Row', number={n})"),
-    }
+fn push_broken(alloc: Global, text: &mut String, broken: Broken) -> Result<(), AllocError> {
+    let (what, number) = match broken {
+        Broken::Length(number) => ("Length", number as u64),
+        Broken::Column(number) => ("Column", u64::from(number)),
+        Broken::Row(number) => ("Row", u64::from(number)),
+    };
+    push(
+        text,
+        format!(in alloc; "Broken Broken(what='{what}', number={number})"),
+    )
 }
 
-// What an answer is in the words of the model.
-pub fn said(alloc: Global, answer: Heard) -> Result<String, AllocError> {
+// A word and two numbers.
+fn push_two(
+    alloc: Global,
+    text: &mut String,
+    word: &str,
+    one: i128,
+    other: i128,
+) -> Result<(), AllocError> {
+    push(text, format!(in alloc; "{word} {one} {other}"))
+}
+
+/// Adds what an answer is in the words of the model.
+pub fn push_heard(alloc: Global, text: &mut String, answer: Heard) -> Result<(), AllocError> {
     match answer {
-        Heard::Kept => format!(in alloc; "Kept"),
-        Heard::Stale => format!(in alloc; "Stale"),
-        Heard::Early => format!(in alloc; "Early"),
-        Heard::Broken(first) => broken(alloc, first),
-        Heard::NotBetter { kept, given } => format!(in alloc; "NotBetter {kept} {given}"),
-        Heard::InRace => format!(in alloc; "InRace"),
-        Heard::Again => format!(in alloc; "Again"),
-        Heard::Gap { want, got } => format!(in alloc; "Gap {want} {got}"),
-        Heard::Outside { column } => format!(in alloc; "Outside {column}"),
+        Heard::Kept => text.push_str("Kept"),
+        Heard::Stale => text.push_str("Stale"),
+        Heard::Early => text.push_str("Early"),
+        Heard::Broken(first) => push_broken(alloc, text, first),
+        Heard::NotBetter { kept, given } => push_two(alloc, text, "NotBetter", kept, given),
+        Heard::InRace => text.push_str("InRace"),
+        Heard::Again => text.push_str("Again"),
+        Heard::Gap { want, got } => {
+            push_two(alloc, text, "Gap", i128::from(want), i128::from(got))
+        }
+        Heard::Outside { column } => push(text, format!(in alloc; "Outside {column}")),
         Heard::Unbacked { cutoff, incumbent } => {
-            let incumbent = optional(alloc, incumbent)?;
-            format!(in alloc; "Unbacked {cutoff} {incumbent}")
+            push(text, format!(in alloc; "Unbacked {cutoff} "))?;
+            push_optional(alloc, text, incumbent)
         }
-        Heard::Short { told, taken } => format!(in alloc; "Short {told} {taken}"),
-        Heard::Memory => format!(in alloc; "Memory"),
-    }
-}
-
-fn named(alloc: Global, ticket: Ticket) -> Result<String, AllocError> {
-    let run = ticket.run;
-    let number = ticket.number;
-    format!(in alloc; "{run}.{number}")
-}
-
-fn spelled_one(alloc: Global, change: Change) -> Result<String, AllocError> {
-    let column = change.column;
-    let low = change.low;
-    let high = change.high;
-    format!(in alloc; "{column}={low}..{high}")
-}
-
-fn spelled(alloc: Global, changes: &Changes) -> Result<String, AllocError> {
-    let mut text = String::new(alloc);
-    for change in changes.as_slice() {
-        if !text.is_empty() {
-            text.push_str(",")?;
+        Heard::Short { told, taken } => {
+            push_two(alloc, text, "Short", i128::from(told), i128::from(taken))
         }
-        let part = spelled_one(alloc, *change)?;
-        text.push_str(&part)?;
+        Heard::Memory => text.push_str("Memory"),
     }
-    if text.is_empty() {
-        text.push_str("[]")?;
-    }
-    Ok(text)
 }
 
-// What an order is in the words of the model.
-fn ordered(alloc: Global, order: &Order) -> Result<String, AllocError> {
+fn push_ticket(alloc: Global, text: &mut String, ticket: Ticket) -> Result<(), AllocError> {
+    let Ticket { run, number } = ticket;
+    push(text, format!(in alloc; "{run}.{number}"))
+}
+
+fn push_change(alloc: Global, text: &mut String, change: Change) -> Result<(), AllocError> {
+    let Change { column, low, high } = change;
+    push(text, format!(in alloc; "{column}={low}..{high}"))
+}
+
+fn push_changes(alloc: Global, text: &mut String, changes: &Changes) -> Result<(), AllocError> {
+    let changes = changes.as_slice();
+    if changes.is_empty() {
+        return text.push_str("[]");
+    }
+    for (at, change) in changes.iter().enumerate() {
+        text.push_str(if at == 0 { "" } else { "," })?;
+        push_change(alloc, text, *change)?;
+    }
+    Ok(())
+}
+
+// An order's word and its ticket.
+fn push_ticketed(
+    alloc: Global,
+    text: &mut String,
+    word: &str,
+    ticket: Ticket,
+) -> Result<(), AllocError> {
+    text.push_str(word)?;
+    text.push_str(" ")?;
+    push_ticket(alloc, text, ticket)
+}
+
+// Adds what an order is in the words of the model.
+fn push_order(alloc: Global, text: &mut String, order: &Order) -> Result<(), AllocError> {
     match order {
         Order::Work {
             ticket,
@@ -80,98 +113,106 @@ fn ordered(alloc: Global, order: &Order) -> Result<String, AllocError> {
             cutoff,
             changes,
         } => {
-            let ticket = named(alloc, *ticket)?;
+            push_ticketed(alloc, text, "Work", *ticket)?;
             let params = params.number();
             let race = u8::from(*race);
-            let cutoff = optional(alloc, *cutoff)?;
-            let changes = spelled(alloc, changes)?;
-            format!(in alloc; "Work {ticket} {params} {race} {cutoff} {changes}")
+            push(text, format!(in alloc; " {params} {race} "))?;
+            push_optional(alloc, text, *cutoff)?;
+            text.push_str(" ")?;
+            push_changes(alloc, text, changes)
         }
-        Order::Incumbent { cutoff } => format!(in alloc; "Incumbent {cutoff}"),
+        Order::Incumbent { cutoff } => push(text, format!(in alloc; "Incumbent {cutoff}")),
         Order::CollectIn { ticket, count } => {
-            let ticket = named(alloc, *ticket)?;
-            format!(in alloc; "CollectIn {ticket} {count}")
+            push_ticketed(alloc, text, "CollectIn", *ticket)?;
+            push(text, format!(in alloc; " {count}"))
         }
-        Order::CollectOut { ticket } => {
-            let ticket = named(alloc, *ticket)?;
-            format!(in alloc; "CollectOut {ticket}")
-        }
-        Order::Winner { ticket } => {
-            let ticket = named(alloc, *ticket)?;
-            format!(in alloc; "Winner {ticket}")
-        }
-        Order::Stop { ticket } => {
-            let ticket = named(alloc, *ticket)?;
-            format!(in alloc; "Stop {ticket}")
-        }
-        Order::Setup { .. } => format!(in alloc; "Setup"),
-        Order::End => format!(in alloc; "End"),
+        Order::CollectOut { ticket } => push_ticketed(alloc, text, "CollectOut", *ticket),
+        Order::Winner { ticket } => push_ticketed(alloc, text, "Winner", *ticket),
+        Order::Stop { ticket } => push_ticketed(alloc, text, "Stop", *ticket),
+        Order::Setup { .. } => text.push_str("Setup"),
+        Order::End => text.push_str("End"),
     }
 }
 
-// The orders that wait, each with its rank.
-pub fn orders(alloc: Global, book: &mut Book) -> Result<String, AllocError> {
-    let mut text = String::new(alloc);
+fn push_told(alloc: Global, text: &mut String, told: &Told) -> Result<(), AllocError> {
+    let rank = told.rank;
+    push(text, format!(in alloc; "{rank} "))?;
+    push_order(alloc, text, &told.order)
+}
+
+/// Adds the orders that wait, each with its rank.
+pub fn push_orders(alloc: Global, text: &mut String, book: &mut Book) -> Result<(), AllocError> {
+    let mut joint = "";
     while let Some(told) = book.next_order() {
-        if !text.is_empty() {
-            text.push_str("; ")?;
-        }
-        let rank = told.rank;
-        let order = ordered(alloc, &told.order)?;
-        let part = format!(in alloc; "{rank} {order}")?;
-        text.push_str(&part)?;
+        text.push_str(joint)?;
+        let pushed = push_told(alloc, text, &told);
+        drop(told);
+        pushed?;
+        joint = "; ";
     }
-    Ok(text)
+    Ok(())
 }
 
 // The own names of the nodes.
-fn names(alloc: Global, nodes: &[&Node]) -> Result<String, AllocError> {
-    let mut text = String::new(alloc);
+fn push_names(alloc: Global, text: &mut String, nodes: &[&Node]) -> Result<(), AllocError> {
     for node in nodes {
         let name = node.line.name();
-        let ticket = named(alloc, name.ticket)?;
         let hand = name.hand;
-        let part = format!(in alloc; " {ticket}/{hand}")?;
-        text.push_str(&part)?;
+        text.push_str(" ")?;
+        push_ticket(alloc, text, name.ticket)?;
+        push(text, format!(in alloc; "/{hand}"))?;
     }
-    Ok(text)
+    Ok(())
 }
 
-// The point of an incumbent.
-fn pointed(alloc: Global, best: Option<&Point>) -> Result<String, AllocError> {
-    let mut text = String::new(alloc);
-    let Some(point) = best else {
-        text.push_str("None")?;
-        return Ok(text);
-    };
-    for value in point.as_slice() {
-        text.push_str(if text.is_empty() { "(" } else { ", " })?;
-        let part = format!(in alloc; "{value}")?;
-        text.push_str(&part)?;
+fn push_point(alloc: Global, text: &mut String, point: &Point) -> Result<(), AllocError> {
+    for (at, value) in point.as_slice().iter().enumerate() {
+        text.push_str(if at == 0 { "(" } else { ", " })?;
+        push(text, format!(in alloc; "{value}"))?;
     }
-    text.push_str(")")?;
-    Ok(text)
+    text.push_str(")")
 }
 
-// What a book holds, in the words of the model.
-pub fn holds(alloc: Global, book: &Book) -> Result<String, AllocError> {
+// The names of all nodes that are held, in order.
+fn push_held(alloc: Global, text: &mut String, book: &Book) -> Result<(), AllocError> {
     let mut nodes = book.held()?;
-    nodes.sort_by_key(|node| node.line.name())?;
-    let held = names(alloc, &nodes)?;
-    let primitive = names(alloc, &book.primitive()?)?;
-    let best = pointed(alloc, book.best())?;
-    let heard = book.count();
-    format!(in alloc; "held{held}; primitive{primitive}; best {best}; heard {heard}")
+    let sorted = nodes.sort_by_key(|node| node.line.name());
+    let pushed = push_names(alloc, text, &nodes);
+    drop(nodes);
+    sorted?;
+    pushed
 }
 
-// What the book answers in the end.
-pub fn answered(alloc: Global, book: &Book) -> Result<String, AllocError> {
+fn push_primitive(alloc: Global, text: &mut String, book: &Book) -> Result<(), AllocError> {
+    let nodes = book.primitive()?;
+    let pushed = push_names(alloc, text, &nodes);
+    drop(nodes);
+    pushed
+}
+
+/// Adds what a book holds, in the words of the model.
+pub fn push_holds(alloc: Global, text: &mut String, book: &Book) -> Result<(), AllocError> {
+    text.push_str("held")?;
+    push_held(alloc, text, book)?;
+    text.push_str("; primitive")?;
+    push_primitive(alloc, text, book)?;
+    text.push_str("; best ")?;
+    match book.best() {
+        Some(point) => push_point(alloc, text, point)?,
+        None => text.push_str("None")?,
+    }
+    let heard = book.count();
+    push(text, format!(in alloc; "; heard {heard}"))
+}
+
+/// Adds what the book answers in the end.
+pub fn push_answer(alloc: Global, text: &mut String, book: &Book) -> Result<(), AllocError> {
     match book.answer() {
         Some(Answered::Optimal(point)) => {
-            let point = pointed(alloc, Some(point))?;
-            format!(in alloc; "optimal {point}")
+            text.push_str("optimal ")?;
+            push_point(alloc, text, point)
         }
-        Some(Answered::Infeasible) => format!(in alloc; "infeasible"),
-        None => format!(in alloc; "none"),
+        Some(Answered::Infeasible) => text.push_str("infeasible"),
+        None => text.push_str("none"),
     }
 }

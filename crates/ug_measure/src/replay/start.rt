@@ -1,4 +1,4 @@
-ghost use Rattle.std.specs.Prelude.{IfSome};
+ghost use Rattle.std.specs.Prelude.{◌≡◌, [], ◌∷◌, IfSome};
 ghost use Rattle.ug_rules.specs.Books.{AreSettings};
 
 use crate::replay::words::{count, small, word};
@@ -76,11 +76,24 @@ fn problem(alloc: Global, name: &str) -> Option<Shared> {
     Some(Shared::own(problem))
 }
 
-// The book with which a schedule begins.
+// The root's box alone.
+fn root_alone(alloc: Global) -> Option<Boxes>
+    ensures { IfSome result (λ boxes. boxes ≡ [] ∷ []) }
+{
+    let mut boxes = Boxes::new(alloc);
+    boxes.push(Changes::new(Vec::new(alloc))).ok()?;
+    Some(boxes)
+}
+
+/// The book with which a schedule begins.
 pub fn begin(alloc: Global, words: &[&str]) -> Option<Book> {
     let settings = settings(words)?;
-    let problem = problem(alloc, word(words, 2))?;
-    let mut boxes = Boxes::new(alloc);
-    boxes.push(Changes::checked(Vec::new(alloc))?).ok()?;
-    Book::new(alloc, problem, 1, None, boxes, settings).ok()
+    let boxes = root_alone(alloc)?;
+    match problem(alloc, word(words, 2)) {
+        Some(problem) => Book::new(alloc, problem, 1, None, boxes, settings).ok(),
+        None => {
+            drop(boxes);
+            None
+        }
+    }
 }

@@ -1,5 +1,5 @@
 use Rattle.std.proofs.Common.{length}
-use Rattle.ug_measure.proofs.replay.spelling.orders.Given as goal
+use Rattle.ug_measure.proofs.replay.spelling.push_orders.Given as goal
 
 abbrev pub decreases-loop-told : goal.decreases-loop-told
 decreases-loop-told l = length l.book.orders
