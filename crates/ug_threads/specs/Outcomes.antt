@@ -1,5 +1,5 @@
 -- What a solve promises.
-use Rattle.std.specs.Prelude.{◌≡◌, ◌≢◌, ◌≤◌, ◌⊎◌, ◌+◌, ℕ, [], Option}
+use Rattle.std.specs.Prelude.{◌≡◌, ◌≤◌, ◌⊎◌, ◌+◌, ℕ, [], Option}
 use Rattle.ug_disk.specs.Histories.{History}
 use Rattle.ug_rules.specs.State.{BookState, held_nodes}
 use Rattle.ug_rules.specs.Books.{IsSoundBook}

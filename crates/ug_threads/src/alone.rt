@@ -33,8 +33,13 @@ fn begun_again(alloc: Global, opening: &Opening) -> Result<Locked, AllocError>
     requires { IsBook (opening_book opening.now) }
 {
     let copy = copy_opening(opening)?;
-    let book = book_again(alloc, opening)?;
-    Locked::new(alloc, copy, book)
+    match book_again(alloc, opening) {
+        Ok(book) => Locked::new(alloc, copy, book),
+        Err(error) => {
+            drop(copy);
+            Err(error)
+        }
+    }
 }
 
 // The book that starts with the opening.
@@ -115,12 +120,15 @@ impl Seat for OwnSeat {
 
     fn done(&mut self, task: Task) -> Heard {
         self.is_there();
-        self.locked.done(0, &task)
+        let heard = self.locked.done(0, &task);
+        drop(task);
+        heard
     }
 
     fn give_up(&mut self, task: Task) {
         self.is_there();
         self.locked.give_up(0, &task);
+        drop(task);
     }
 
     fn leave(&mut self) {

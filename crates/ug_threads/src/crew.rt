@@ -42,15 +42,17 @@ pub fn start<'s, E, R: Threads + Wait + Sync, G: Gate>(
     let mut started = 0u32;
     for place in places {
         let own = sender_for(&sender, every);
-        match scope.spawn(move || sit(rt, alloc, desk, place, gate, own, every)) {
-            Ok(_) => started = started.saturating_add(1),
-            Err(_) => desk.leave(rt, &mut place.lock(rt)),
+        let spawned = scope.spawn(move || sit(rt, alloc, desk, place, gate, own, every));
+        if spawned.is_ok() {
+            started = started.saturating_add(1);
+        } else {
+            desk.leave(rt, &mut place.lock(rt));
         }
+        drop(spawned);
     }
-    if started == 0 {
-        if let Some(place) = places.first() {
-            sit(rt, alloc, desk, place, gate, Some(sender), every);
-        }
+    match places.first() {
+        Some(place) if started == 0 => sit(rt, alloc, desk, place, gate, Some(sender), every),
+        _ => drop(sender),
     }
 }
 
@@ -82,4 +84,5 @@ fn sit<R: Wait, G: Gate>(
         seen: 0,
     };
     work(rt, &mut seat);
+    drop(seat);
 }

@@ -50,8 +50,10 @@ fn send_if_due<R: Wait>(
 
 // How the run stands now, if memory suffices.
 fn standing<R: Wait>(rt: &R, alloc: Global, desk: &Desk, pass: &mut Pass) -> Option<Standing> {
-    let snapshot = desk.snapshot(rt, pass).ok()?;
-    standing_of(alloc, &snapshot.into_image())
+    let image = desk.snapshot(rt, pass).ok()?.into_image();
+    let standing = standing_of(alloc, &image);
+    drop(image);
+    standing
 }
 
 impl<'a, R: Wait, G: Gate> Seat for DeskSeat<'a, R, G> {
@@ -71,6 +73,7 @@ impl<'a, R: Wait, G: Gate> Seat for DeskSeat<'a, R, G> {
         if self.gate.wants(self.pass.heard(), heard == Heard::Kept) {
             if let Some(standing) = standing(self.rt, self.alloc, self.desk, self.pass) {
                 self.gate.tell(&standing);
+                drop(standing);
             }
         }
         heard
@@ -92,6 +95,7 @@ impl<'a, R: Wait, G: Gate> Seat for DeskSeat<'a, R, G> {
         if self.gate.wants(self.pass.heard(), false) {
             if let Some(standing) = standing(self.rt, self.alloc, self.desk, self.pass) {
                 self.gate.tell(&standing);
+                drop(standing);
             }
         }
         reply

@@ -62,7 +62,9 @@ impl Listener for Silent {
 
     ghost goes_on = { λ x y z a b. heard_both };
 
-    fn take(&mut self, _snapshot: Snapshot) {}
+    fn take(&mut self, snapshot: Snapshot) {
+        drop(snapshot);
+    }
 }
 
 /// Saves what is sent.

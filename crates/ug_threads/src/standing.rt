@@ -2,6 +2,8 @@ use std::alloc::Global;
 use ug_book::Book;
 use ug_gate::{Gate, Standing};
 use ug_image::Image;
+use ug_problem::Problem;
+use ug_rows::Point;
 
 /// Tells the gate that a run of the book begins.
 pub fn tell_begin<G: Gate>(gate: &G, book: &Book) {
@@ -16,18 +18,22 @@ pub fn tell_begin<G: Gate>(gate: &G, book: &Book) {
 /// How a run stands, by an image of it; nothing where memory is wanting for the value of the
 /// incumbent.
 pub fn standing_of(alloc: Global, image: &Image) -> Option<Standing> {
-    let mut standing = Standing {
-        heard: image.deliveries,
-        best: None,
-        nodes: image.nodes.len(),
+    let best = match &image.best {
+        Some(best) => Some(value_text(alloc, image.problem.problem(), best)?),
+        None => None,
     };
-    if let Some(best) = &image.best {
-        let problem = image.problem.problem();
-        if best.as_slice().len() != problem.columns().len() {
-            return None;
-        }
-        let value = problem.print_value(alloc, problem.value(best)).ok()?;
-        standing.best = Some(value.into_vec());
+    Some(Standing {
+        heard: image.deliveries,
+        best,
+        nodes: image.nodes.len(),
+    })
+}
+
+// The value of a point, as it is printed.
+fn value_text(alloc: Global, problem: &Problem, point: &Point) -> Option<Vec<u8>> {
+    if point.as_slice().len() != problem.columns().len() {
+        return None;
     }
-    Some(standing)
+    let value = problem.print_value(alloc, problem.value(point)).ok()?;
+    Some(value.into_vec())
 }

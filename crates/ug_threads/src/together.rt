@@ -46,14 +46,12 @@ pub fn solve<R: Threads + Wait + Sync, G: Gate, T: Listener + Drop>(
     ensures ready { T.ready result.listener }
     ensures moves { T.moves listener result.listener }
 {
-    let solved = at_desk(rt, alloc, book, opening, gate, every, listener);
-    if solved.book.is_some() {
-        return solved;
-    }
-    Solved {
-        book: alone(rt, alloc, opening),
-        listener: solved.listener,
-    }
+    let Solved { book, listener } = at_desk(rt, alloc, book, opening, gate, every, listener);
+    let book = match book {
+        Some(book) => Some(book),
+        None => alone(rt, alloc, opening),
+    };
+    Solved { book, listener }
 }
 
 // Solves by threads at a desk. There is no book where memory is wanting for desk or threads.
@@ -78,12 +76,12 @@ fn at_desk<R: Threads + Wait + Sync, G: Gate, T: Listener + Drop>(
             listener,
         };
     };
-    let Room {
-        desk,
+    let Room { desk, seating } = room;
+    let Seating {
         places,
         sender,
         receiver,
-    } = room;
+    } = seating;
     let listener = run(
         rt,
         alloc,
@@ -105,6 +103,12 @@ fn at_desk<R: Threads + Wait + Sync, G: Gate, T: Listener + Drop>(
 #[derive(Drop)]
 struct Room {
     desk: Desk,
+    seating: Seating,
+}
+
+// Where the passes lie, and where snapshots go.
+#[derive(Drop)]
+struct Seating {
     places: Vec<Mutex<Pass>>,
     sender: Sender<Snapshot>,
     receiver: Receiver<Snapshot>,
@@ -113,15 +117,29 @@ struct Room {
 fn make_room(alloc: Global, book: Book) -> Result<Room, AllocError>
     requires { IsMade book }
 {
-    let (sender, receiver) = bounded(alloc, WAITING)?;
     let (desk, passes) = Desk::new(alloc, book)?;
+    match make_seating(alloc, passes) {
+        Ok(seating) => Ok(Room { desk, seating }),
+        Err(error) => {
+            drop(desk);
+            Err(error)
+        }
+    }
+}
+
+fn make_seating(alloc: Global, passes: Vec<Pass>) -> Result<Seating, AllocError> {
     let places = places(alloc, passes)?;
-    Ok(Room {
-        desk,
-        places,
-        sender,
-        receiver,
-    })
+    match bounded(alloc, WAITING) {
+        Ok((sender, receiver)) => Ok(Seating {
+            places,
+            sender,
+            receiver,
+        }),
+        Err(_) => {
+            drop(places);
+            Err(AllocError)
+        }
+    }
 }
 
 // Runs the workers to their end, while the caller listens.
@@ -158,7 +176,15 @@ fn run<R: Threads + Wait + Sync, G: Gate, T: Listener + Drop>(
 fn closed(alloc: Global, desk: Desk, places: Vec<Mutex<Pass>>, opening: &Opening) -> Option<Book>
     ensures { IfSome result (IsEnding opening.now) }
 {
-    let passes = passes(alloc, places).ok()?;
-    let locked = desk.close(passes).ok()?;
-    of_opening(locked, opening)
+    let Ok(passes) = passes(alloc, places) else {
+        drop(desk);
+        return None;
+    };
+    match desk.close(passes) {
+        Ok(locked) => of_opening(locked, opening),
+        Err(all) => {
+            drop(all);
+            None
+        }
+    }
 }

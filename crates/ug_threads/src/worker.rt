@@ -52,7 +52,10 @@ fn search<R: Wait, S: Seat>(rt: &R, seat: &mut S, mut task: Task) -> bool {
             seat.done(task);
             true
         }
-        Left::Dropped => true,
+        Left::Dropped => {
+            drop(task);
+            true
+        }
         Left::Wanting => {
             seat.give_up(task);
             false
@@ -102,7 +105,9 @@ fn hands<S: Seat>(seat: &mut S, task: &mut Task, collect: u32) -> Result<(), All
         let Some(handed) = task.hand()? else {
             return Ok(());
         };
-        if seat.hand(handed.number, &handed.area) == Heard::Memory {
+        let heard = seat.hand(handed.number, &handed.area);
+        drop(handed);
+        if heard == Heard::Memory {
             return Err(AllocError);
         }
     }
