@@ -1,6 +1,6 @@
 //! A worker, wherever it sits.
 
-ghost use Rattle.std.specs.Prelude.{◌≡◌, ◌<◌, [], length, IfOk};
+ghost use Rattle.std.specs.Prelude.{◌≡◌, ◌<◌, [], length, IfErr, IfOk};
 ghost use Rattle.ug_threads.specs.Workers.{LeftAs};
 
 use crate::seat::Seat;
@@ -69,20 +69,31 @@ fn rounds<R: Wait, S: Seat>(rt: &R, seat: &mut S, task: &mut Task) -> Left
 {
     let mut collect = 0;
     for _ in rt.forever() {
-        if steps(seat, task).is_err() || hands(seat, task, collect).is_err() {
-            return Left::Wanting;
-        }
-        let left = task.left();
-        if left == 0 {
-            return Left::Nothing;
-        }
-        match tell(seat, task, left) {
-            Ok(Some(asked)) => collect = asked,
-            Ok(None) => return Left::Dropped,
-            Err(_) => return Left::Wanting,
+        match round(seat, task, collect) {
+            Ok(asked) => collect = asked,
+            Err(left) => return left,
         }
     }
     unreachable!()
+}
+
+// Some steps, and what is then to be handed and told. It says how many boxes are asked for, or how
+// the worker stands to a task that ends here.
+fn round<S: Seat>(seat: &mut S, task: &mut Task, collect: u32) -> Result<u32, Left>
+    ensures { IfErr result (λ left. LeftAs left task.new) }
+{
+    if steps(seat, task).is_err() || hands(seat, task, collect).is_err() {
+        return Err(Left::Wanting);
+    }
+    let left = task.left();
+    if left == 0 {
+        return Err(Left::Nothing);
+    }
+    match tell(seat, task, left) {
+        Ok(Some(asked)) => Ok(asked),
+        Ok(None) => Err(Left::Dropped),
+        Err(_) => Err(Left::Wanting),
+    }
 }
 
 // Makes so many steps, or fewer where no box is left, and tells each point that is found.
