@@ -1,4 +1,4 @@
-ghost use Rattle.std.specs.Prelude.{◌≡◌, ◌<◌, ◌≤◌, ◌^◌, ◌++◌, length, take, drop, IfOk, OnOk, OnErr, IfSome, IsErrOf};
+ghost use Rattle.std.specs.Prelude.{◌≡◌, ◌<◌, ◌≤◌, ◌^◌, ◌++◌, length, take, drop, IfOk, IfErr, OnOk, OnErr, IfSome, IsErrOf};
 ghost use Rattle.ug_io.specs.Outside.{Rose, Gives, IsAtEnd};
 ghost use Rattle.ug_mps.specs.Ending.{HasNoEnd, begins_legibly, legible_by, mark};
 ghost use Rattle.ug_mps.specs.declared.ending.Tail.TheVariants as Tail;
@@ -53,21 +53,36 @@ pub fn gather<S: Source>(alloc: Global, input: &mut S) -> Result<Vec<u8>, Gather
     ensures memory { IsErrOf result GatherError.Memory
         → S.faults input.new ≡ S.faults input.old }
 {
-    let mut bytes = Vec::new(alloc);
     let mut buffer = zeros(alloc, PIECE)?;
+    let mut bytes = Vec::new(alloc);
     let mut line = 0;
     let mut from = 0;
     loop {
         match see(&bytes, line, from) {
-            Seen::Ended(cut) => return ended(alloc, input, bytes, cut),
-            Seen::Passed => return Ok(bytes),
+            Seen::Ended(cut) => {
+                drop(buffer);
+                return ended(alloc, input, bytes, cut);
+            }
+            Seen::Passed => {
+                drop(buffer);
+                return Ok(bytes);
+            }
             Seen::Open(begins) => line = begins,
         }
         buffer.truncate(room(bytes.len()));
         from = bytes.len();
-        let n = read_on(input, &mut buffer, &mut bytes)?;
-        if n == 0 {
-            return Ok(bytes);
+        match read_on(input, &mut buffer, &mut bytes) {
+            Ok(n) => {
+                if n == 0 {
+                    drop(buffer);
+                    return Ok(bytes);
+                }
+            }
+            Err(error) => {
+                drop(buffer);
+                drop(bytes);
+                return Err(error);
+            }
         }
     }
 }
@@ -118,14 +133,46 @@ fn ended<S: Source>(
     ensures memory { IsErrOf result GatherError.Memory
         → S.faults input.new ≡ S.faults input.old }
 {
-    let mut bytes = bytes;
-    let mut buffer = zeros(alloc, PIECE)?;
     let tail = tail_of(false, bytes.split_at(cut).1);
+    match passed(alloc, input, tail) {
+        Ok(legible) => cut_off(bytes, cut, legible),
+        Err(error) => {
+            drop(bytes);
+            Err(error)
+        }
+    }
+}
+
+// The bytes up to `cut`, and a mark for the rest of the line.
+fn cut_off(bytes: Vec<u8>, cut: usize, legible: bool) -> Result<Vec<u8>, GatherError>
+    requires { cut ≤ length bytes.items }
+    ensures text { IfOk result (λ text. text.items ≡ take cut bytes.items ++ mark legible) }
+    ensures memory { IfErr result (λ e. e ≡ Memory) }
+{
+    let mut bytes = bytes;
     bytes.truncate(cut);
-    if !pass(input, &mut buffer, tail)? {
-        bytes.extend_from_slice(b" \0")?;
+    if !legible && bytes.extend_from_slice(b" \0").is_err() {
+        drop(bytes);
+        return Err(GatherError::Memory);
     }
     Ok(bytes)
+}
+
+// Reads on over the rest of the ENDATA line by pieces, and says whether it is legible.
+fn passed<S: Source>(alloc: Global, input: &mut S, tail: Tail) -> Result<bool, GatherError>
+    ensures legible { IfOk result (λ legible. IfSome (S.left input.old)
+        (λ more. legible ≡ legible_by tail more)) }
+    ensures stops { OnOk result (StopsAtFeed tail (S.left input.old) (S.left input.new)) }
+    ensures fault { IsErrOf result GatherError.Fault
+        → Rose (S.faults input.old) (S.faults input.new) }
+    ensures calm { OnOk result (S.faults input.new ≡ S.faults input.old) }
+    ensures memory { IsErrOf result GatherError.Memory
+        → S.faults input.new ≡ S.faults input.old }
+{
+    let mut buffer = zeros(alloc, PIECE)?;
+    let passed = pass(input, &mut buffer, tail);
+    drop(buffer);
+    passed
 }
 
 // Reads on over the rest of the ENDATA line, and says whether it is legible. Memory is said to be

@@ -20,7 +20,11 @@ pub fn show<D: Disk>(alloc: Global, disk: &mut D) -> Ended
         (D.faults disk.old) (D.faults disk.new) (status_of result) }
 {
     match load(alloc, disk) {
-        Ok(Some(found)) => shown(alloc, &found.image),
+        Ok(Some(found)) => {
+            let ended = shown(alloc, &found.image);
+            drop(found);
+            ended
+        }
         Ok(None) => tell_fault(alloc, &StartFault::NoCheckpoint),
         Err(LoadError::Memory) => Ended::Memory,
         Err(LoadError::Fault) => tell_fault(alloc, &StartFault::DiskFault),

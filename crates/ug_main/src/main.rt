@@ -91,7 +91,11 @@ where
     } else {
         FileDisk::new(rt, rt.alloc(), paths.folder)
     };
-    carry_out(rt, words, paths, &mut input, &mut out, &mut disk, is_told)
+    let status = carry_out(rt, words, paths, &mut input, &mut out, &mut disk, is_told);
+    drop(disk);
+    drop(out);
+    drop(input);
+    status
 }
 
 // Does what the words ask for, with these objects. Why it failed goes to standard error: the

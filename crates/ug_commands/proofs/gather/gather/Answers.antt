@@ -6,12 +6,12 @@ use Rattle.ug_commands.proofs.gather.gather.Goals as goal
 
 pub returns-then-n-eq0-clause-enough : goal.returns-then-n-eq0-clause-enough
 returns-then-n-eq0-clause-enough g c =
-    enough_last _ _ _ _ _ _ c.if-n-eq0.true c.in_ok-n.ensures.bytes c.loop-cut.invariant.came (c.in_ok-n.ensures.end c.if-n-eq0.true)
+    enough_last _ _ _ _ _ _ c.if-n-eq0.true c.in-Ok.ensures.bytes c.loop-cut.invariant.came (c.in-Ok.ensures.end c.if-n-eq0.true)
 
 pub returns-then-n-eq0-clause-stops : goal.returns-then-n-eq0-clause-stops
 returns-then-n-eq0-clause-stops g c =
-    stops_last _ _ _ c.loop-cut.bytes.items _ c.in-Open.begins c.in_ok-n.n (subst (λ l. IsLineAt l c.in-Open.begins (length l)) c.deref.ensures.value c.in-Open.ensures.last)
-    c.if-n-eq0.true c.loop-cut.invariant.came c.in_ok-n.ensures.taken
+    stops_last _ _ _ c.loop-cut.bytes.items _ c.in-Open.begins c.in-Ok.n (subst (λ l. IsLineAt l c.in-Open.begins (length l)) c.deref.ensures.value c.in-Open.ensures.last)
+    c.if-n-eq0.true c.loop-cut.invariant.came c.in-Ok.ensures.taken
 
 pub returns-in-Ended-clause-stops : goal.returns-in-Ended-clause-stops
 returns-in-Ended-clause-stops g c =

@@ -5,8 +5,8 @@ use Rattle.ug_restart.proofs.Goings.{image_of_loaded}
 use Rattle.ug_commands.proofs.Stored.{image_stored}
 use Rattle.ug_commands.proofs.show.show.Goals as goal
 
-pub shown-requires : goal.shown-requires
-shown-requires g c =
+pub shown-ended-requires : goal.shown-ended-requires
+shown-ended-requires g c =
     let old = g.D.Disk.told c.args.disk.now in
     let new = g.D.Disk.told c.load.new.disk in
     image_of_loaded old new c.in-Ok-Some.found
@@ -15,5 +15,5 @@ shown-requires g c =
 
 pub returns-in-Ok-Some-clause-stored : goal.returns-in-Ok-Some-clause-stored
 returns-in-Ok-Some-clause-stored g c =
-    image_stored c.in-Ok-Some.found.image c.shown.result _ _ _ _ c.shown.ensures
+    image_stored c.in-Ok-Some.found.image c.shown-ended.result _ _ _ _ c.shown-ended.ensures
     c.in-Ok-Some.ensures.calm c.load.ensures.any_moment
