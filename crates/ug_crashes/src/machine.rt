@@ -11,6 +11,7 @@ use crate::ranks::check_rank;
 use crate::saving::save;
 use crate::starting::begin_again;
 use std::alloc::{AllocError, Global};
+use std::mem;
 use ug_book::Book;
 use ug_checkpoint::Saver;
 use ug_disk::MemoryDisk;
@@ -64,8 +65,10 @@ impl Machine {
             playing,
             saver,
             disk,
+            noted,
             ..
         } = self;
+        drop(noted);
         let (book, replies) = playing.end();
         (book, saver, disk, replies)
     }
@@ -129,7 +132,7 @@ impl Machine {
     {
         self.goes_on()?;
         let image = image_of(self.alloc, self.playing.book(), 1)?;
-        self.noted = Some(image);
+        drop(mem::replace(&mut self.noted, Some(image)));
         Ok(())
     }
 
@@ -168,7 +171,7 @@ impl Machine {
         ensures restarted { HasRestarted settings (world_of self.old) (world_of self.new) }
         ensures able { IsAble (world_of self.new) }
     {
-        self.noted = None;
+        drop(mem::replace(&mut self.noted, None));
         match begin_again(self.alloc, &mut self.disk, self.playing.book(), settings) {
             Ok((book, saver)) => {
                 self.playing.replace(book);
