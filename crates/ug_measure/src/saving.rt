@@ -1,4 +1,6 @@
-ghost use Rattle.std.specs.Prelude.{All, IfOk};
+ghost use Rattle.std.specs.Prelude.{◌≡◌, Some, All, IfOk};
+ghost use Rattle.ug_disk.specs.Memories.{history_of};
+ghost use Rattle.ug_checkpoint.specs.Savers.{IsKept, sequence_of};
 ghost use Rattle.ug_nodes.specs.Changes.{AreChangesOf};
 ghost use Rattle.ug_image.specs.Images.{IsImage};
 
@@ -169,13 +171,25 @@ fn save(alloc: Global, disk: &mut MemoryDisk, image: &Image) -> Result<(), Alloc
     requires { IsImage image.now }
 {
     match load(alloc, disk) {
-        Ok(None) => {}
+        Ok(None) => save_by(alloc, disk, Saver::new(None), image),
         found => {
             drop(found);
-            return Err(AllocError);
+            Err(AllocError)
         }
     }
-    let mut saver = Saver::new(None);
+}
+
+fn save_by(
+    alloc: Global,
+    disk: &mut MemoryDisk,
+    saver: Saver,
+    image: &Image,
+) -> Result<(), AllocError>
+    requires kept { IsKept saver (Some (history_of disk.old)) }
+    requires first { sequence_of saver ≡ 0 }
+    requires image { IsImage image.now }
+{
+    let mut saver = saver;
     if image.sequence == 0 || length(image) >= 1 << 63 {
         return Err(AllocError);
     }

@@ -22,14 +22,23 @@ fn text(alloc: Global) -> Result<String, AllocError> {
 
 fn push_all(alloc: Global, text: &mut String) -> Result<(), AllocError> {
     text.push_str("ROWS\n N Z\nCOLUMNS\n M 'MARKER' 'INTORG'\n")?;
-    for column in 0..100u32 {
-        push_line(text, format!(in alloc; " C{column} Z 1\n")?)?;
-    }
+    push_lines(alloc, text, " ", "Z 1")?;
     text.push_str("BOUNDS\n")?;
-    for column in 0..100u32 {
-        push_line(text, format!(in alloc; " UP B C{column} 7\n")?)?;
-    }
+    push_lines(alloc, text, " UP B ", "7")?;
     text.push_str("ENDATA\n")
+}
+
+// A line for each column.
+fn push_lines(
+    alloc: Global,
+    text: &mut String,
+    before: &str,
+    after: &str,
+) -> Result<(), AllocError> {
+    for column in 0..100u32 {
+        push_line(text, format!(in alloc; "{before}C{column} {after}\n")?)?;
+    }
+    Ok(())
 }
 
 fn push_line(text: &mut String, line: String) -> Result<(), AllocError> {

@@ -44,6 +44,16 @@ fn push_two(
     push(text, format!(in alloc; "{word} {one} {other}"))
 }
 
+fn push_unbacked(
+    alloc: Global,
+    text: &mut String,
+    cutoff: i128,
+    incumbent: Option<i128>,
+) -> Result<(), AllocError> {
+    push(text, format!(in alloc; "Unbacked {cutoff} "))?;
+    push_optional(alloc, text, incumbent)
+}
+
 /// Adds what an answer is in the words of the model.
 pub fn push_heard(alloc: Global, text: &mut String, answer: Heard) -> Result<(), AllocError> {
     match answer {
@@ -58,10 +68,7 @@ pub fn push_heard(alloc: Global, text: &mut String, answer: Heard) -> Result<(),
             push_two(alloc, text, "Gap", i128::from(want), i128::from(got))
         }
         Heard::Outside { column } => push(text, format!(in alloc; "Outside {column}")),
-        Heard::Unbacked { cutoff, incumbent } => {
-            push(text, format!(in alloc; "Unbacked {cutoff} "))?;
-            push_optional(alloc, text, incumbent)
-        }
+        Heard::Unbacked { cutoff, incumbent } => push_unbacked(alloc, text, cutoff, incumbent),
         Heard::Short { told, taken } => {
             push_two(alloc, text, "Short", i128::from(told), i128::from(taken))
         }
@@ -103,6 +110,40 @@ fn push_ticketed(
     push_ticket(alloc, text, ticket)
 }
 
+fn push_collect(
+    alloc: Global,
+    text: &mut String,
+    ticket: Ticket,
+    count: u32,
+) -> Result<(), AllocError> {
+    push_ticketed(alloc, text, "CollectIn", ticket)?;
+    push(text, format!(in alloc; " {count}"))
+}
+
+fn push_work(
+    alloc: Global,
+    text: &mut String,
+    ticket: Ticket,
+    params: u8,
+    race: bool,
+) -> Result<(), AllocError> {
+    push_ticketed(alloc, text, "Work", ticket)?;
+    let race = u8::from(race);
+    push(text, format!(in alloc; " {params} {race} "))
+}
+
+// The cutoff of a box, and its changes.
+fn push_box(
+    alloc: Global,
+    text: &mut String,
+    cutoff: Option<i128>,
+    changes: &Changes,
+) -> Result<(), AllocError> {
+    push_optional(alloc, text, cutoff)?;
+    text.push_str(" ")?;
+    push_changes(alloc, text, changes)
+}
+
 // Adds what an order is in the words of the model.
 fn push_order(alloc: Global, text: &mut String, order: &Order) -> Result<(), AllocError> {
     match order {
@@ -113,19 +154,11 @@ fn push_order(alloc: Global, text: &mut String, order: &Order) -> Result<(), All
             cutoff,
             changes,
         } => {
-            push_ticketed(alloc, text, "Work", *ticket)?;
-            let params = params.number();
-            let race = u8::from(*race);
-            push(text, format!(in alloc; " {params} {race} "))?;
-            push_optional(alloc, text, *cutoff)?;
-            text.push_str(" ")?;
-            push_changes(alloc, text, changes)
+            push_work(alloc, text, *ticket, params.number(), *race)?;
+            push_box(alloc, text, *cutoff, changes)
         }
         Order::Incumbent { cutoff } => push(text, format!(in alloc; "Incumbent {cutoff}")),
-        Order::CollectIn { ticket, count } => {
-            push_ticketed(alloc, text, "CollectIn", *ticket)?;
-            push(text, format!(in alloc; " {count}"))
-        }
+        Order::CollectIn { ticket, count } => push_collect(alloc, text, *ticket, *count),
         Order::CollectOut { ticket } => push_ticketed(alloc, text, "CollectOut", *ticket),
         Order::Winner { ticket } => push_ticketed(alloc, text, "Winner", *ticket),
         Order::Stop { ticket } => push_ticketed(alloc, text, "Stop", *ticket),
@@ -175,6 +208,7 @@ fn push_point(alloc: Global, text: &mut String, point: &Point) -> Result<(), All
 
 // The names of all nodes that are held, in order.
 fn push_held(alloc: Global, text: &mut String, book: &Book) -> Result<(), AllocError> {
+    text.push_str("held")?;
     let mut nodes = book.held()?;
     let sorted = nodes.sort_by_key(|node| node.line.name());
     let pushed = push_names(alloc, text, &nodes);
@@ -184,23 +218,26 @@ fn push_held(alloc: Global, text: &mut String, book: &Book) -> Result<(), AllocE
 }
 
 fn push_primitive(alloc: Global, text: &mut String, book: &Book) -> Result<(), AllocError> {
+    text.push_str("; primitive")?;
     let nodes = book.primitive()?;
     let pushed = push_names(alloc, text, &nodes);
     drop(nodes);
     pushed
 }
 
-/// Adds what a book holds, in the words of the model.
-pub fn push_holds(alloc: Global, text: &mut String, book: &Book) -> Result<(), AllocError> {
-    text.push_str("held")?;
-    push_held(alloc, text, book)?;
-    text.push_str("; primitive")?;
-    push_primitive(alloc, text, book)?;
+fn push_best(alloc: Global, text: &mut String, book: &Book) -> Result<(), AllocError> {
     text.push_str("; best ")?;
     match book.best() {
-        Some(point) => push_point(alloc, text, point)?,
-        None => text.push_str("None")?,
+        Some(point) => push_point(alloc, text, point),
+        None => text.push_str("None"),
     }
+}
+
+/// Adds what a book holds, in the words of the model.
+pub fn push_holds(alloc: Global, text: &mut String, book: &Book) -> Result<(), AllocError> {
+    push_held(alloc, text, book)?;
+    push_primitive(alloc, text, book)?;
+    push_best(alloc, text, book)?;
     let heard = book.count();
     push(text, format!(in alloc; "; heard {heard}"))
 }
