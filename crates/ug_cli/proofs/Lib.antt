@@ -1,3 +1,4 @@
+pub mod Added
 pub mod Exclusive
 pub mod Parses
 pub mod Spelled

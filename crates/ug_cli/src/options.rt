@@ -1,5 +1,5 @@
 ghost use Rattle.std.specs.Prelude.{◌≡◌, false, IfOk};
-ghost use Rattle.clap.specs.Words.{app_of, rule_of, with_rule};
+ghost use Rattle.clap.specs.Words.{App, app_of, rule_of, with_rule, with_subcommand};
 ghost use Rattle.clap.specs.declared.builder.command.Command.TheViews.{out-Command};
 ghost use Rattle.ug_cli.specs.Options.{bare as bare_app, bounds_rules, ranks_rules, ug, with_rules};
 ghost use Rattle.ug_cli.specs.Options.{defaulted as defaulted_rule, demanded as demanded_rule};
@@ -50,40 +50,57 @@ fn flag<'a>(alloc: Global, name: &'a str) -> Arg<'a>
     Arg::new(alloc, name).long(name).action(ArgAction::SetTrue)
 }
 
-// The command with one argument more.
-fn add<'a>(command: Command<'a>, arg: Arg<'a>) -> Result<Command<'a>, AllocError>
-    requires command { (out-Command command).has_globals ≡ false }
+// The command with one argument more, if there is memory for it and was for those before.
+fn add<'a>(
+    command: Result<Command<'a>, AllocError>,
+    arg: Arg<'a>,
+) -> Result<Command<'a>, AllocError>
+    requires command { IfOk command (λ c. (out-Command c).has_globals ≡ false) }
     requires arg { arg.global ≡ false }
-    ensures app { IfOk result (λ c. app_of c
-        ≡ with_rule (app_of command.entry) (rule_of arg.entry)) }
+    ensures app { (app : App) → IfOk command.entry (λ c. app_of c ≡ app)
+        → IfOk result (λ c. app_of c ≡ with_rule app (rule_of arg.entry)) }
     ensures local { IfOk result (λ c. (out-Command c).has_globals ≡ false) }
 {
-    command.arg(arg)
+    match command {
+        Ok(command) => command.arg(arg),
+        Err(error) => {
+            drop(arg);
+            Err(error)
+        }
+    }
 }
 
 // The command with the numbers of the ranks.
-fn with_ranks<'a>(alloc: Global, command: Command<'a>) -> Result<Command<'a>, AllocError>
-    requires { (out-Command command).has_globals ≡ false }
-    ensures app { IfOk result (λ c. app_of c ≡ with_rules (app_of command.entry) ranks_rules) }
+fn with_ranks<'a>(
+    alloc: Global,
+    command: Result<Command<'a>, AllocError>,
+) -> Result<Command<'a>, AllocError>
+    requires { IfOk command (λ c. (out-Command c).has_globals ≡ false) }
+    ensures app { (app : App) → IfOk command.entry (λ c. app_of c ≡ app)
+        → IfOk result (λ c. app_of c ≡ with_rules app ranks_rules) }
     ensures local { IfOk result (λ c. (out-Command c).has_globals ≡ false) }
 {
-    let command = add(command, defaulted(alloc, "mode", "threads"))?;
-    let command = add(command, defaulted(alloc, "solvers", "1"))?;
-    let command = add(command, flag(alloc, "racing"))?;
-    let command = add(command, optional(alloc, "low"))?;
+    let command = add(command, defaulted(alloc, "mode", "threads"));
+    let command = add(command, defaulted(alloc, "solvers", "1"));
+    let command = add(command, flag(alloc, "racing"));
+    let command = add(command, optional(alloc, "low"));
     add(command, optional(alloc, "high"))
 }
 
 // The command with the numbers of the bounds.
-fn with_bounds<'a>(alloc: Global, command: Command<'a>) -> Result<Command<'a>, AllocError>
-    requires { (out-Command command).has_globals ≡ false }
-    ensures app { IfOk result (λ c. app_of c ≡ with_rules (app_of command.entry) bounds_rules) }
+fn with_bounds<'a>(
+    alloc: Global,
+    command: Result<Command<'a>, AllocError>,
+) -> Result<Command<'a>, AllocError>
+    requires { IfOk command (λ c. (out-Command c).has_globals ≡ false) }
+    ensures app { (app : App) → IfOk command.entry (λ c. app_of c ≡ app)
+        → IfOk result (λ c. app_of c ≡ with_rules app bounds_rules) }
     ensures local { IfOk result (λ c. (out-Command c).has_globals ≡ false) }
 {
-    let command = add(command, defaulted(alloc, "every", "100"))?;
-    let command = add(command, defaulted(alloc, "limit", "1099511627776"))?;
-    let command = add(command, optional(alloc, "box"))?;
-    let command = add(command, defaulted(alloc, "gap", "0"))?;
+    let command = add(command, defaulted(alloc, "every", "100"));
+    let command = add(command, defaulted(alloc, "limit", "1099511627776"));
+    let command = add(command, optional(alloc, "box"));
+    let command = add(command, defaulted(alloc, "gap", "0"));
     add(command, defaulted(alloc, "sockets", "."))
 }
 
@@ -91,33 +108,39 @@ fn solve<'a>(alloc: Global) -> Result<Command<'a>, AllocError>
     ensures app { IfOk result (λ c. app_of c ≡ solve_app) }
     ensures local { IfOk result (λ c. (out-Command c).has_globals ≡ false) }
 {
-    let command = add(Command::new(alloc, "solve"), positional(alloc, "file"))?;
-    let command = add(command, optional(alloc, "checkpoint"))?;
-    with_bounds(alloc, with_ranks(alloc, command)?)
+    let command = add(Ok(Command::new(alloc, "solve")), positional(alloc, "file"));
+    let command = add(command, optional(alloc, "checkpoint"));
+    with_bounds(alloc, with_ranks(alloc, command))
 }
 
 fn restart<'a>(alloc: Global) -> Result<Command<'a>, AllocError>
     ensures app { IfOk result (λ c. app_of c ≡ restart_app) }
     ensures local { IfOk result (λ c. (out-Command c).has_globals ≡ false) }
 {
-    let command = add(Command::new(alloc, "restart"), positional(alloc, "file"))?;
-    let command = add(command, demanded(alloc, "checkpoint"))?;
-    with_bounds(alloc, with_ranks(alloc, command)?)
+    let command = add(
+        Ok(Command::new(alloc, "restart")),
+        positional(alloc, "file"),
+    );
+    let command = add(command, demanded(alloc, "checkpoint"));
+    with_bounds(alloc, with_ranks(alloc, command))
 }
 
 fn show<'a>(alloc: Global) -> Result<Command<'a>, AllocError>
     ensures app { IfOk result (λ c. app_of c ≡ show_app) }
     ensures local { IfOk result (λ c. (out-Command c).has_globals ≡ false) }
 {
-    add(Command::new(alloc, "show"), demanded(alloc, "checkpoint"))
+    add(
+        Ok(Command::new(alloc, "show")),
+        demanded(alloc, "checkpoint"),
+    )
 }
 
 fn generate<'a>(alloc: Global) -> Result<Command<'a>, AllocError>
     ensures app { IfOk result (λ c. app_of c ≡ gen_app) }
     ensures local { IfOk result (λ c. (out-Command c).has_globals ≡ false) }
 {
-    let command = add(Command::new(alloc, "gen"), positional(alloc, "seed"))?;
-    let command = add(command, positional(alloc, "size"))?;
+    let command = add(Ok(Command::new(alloc, "gen")), positional(alloc, "seed"));
+    let command = add(command, positional(alloc, "size"));
     add(command, defaulted(alloc, "solvers", "1"))
 }
 
@@ -133,13 +156,49 @@ fn bare<'a>(alloc: Global) -> Command<'a>
         .subcommand_required(true)
 }
 
+// The program with one command more, if there is memory for both.
+fn with<'a>(
+    program: Result<Command<'a>, AllocError>,
+    command: Result<Command<'a>, AllocError>,
+) -> Result<Command<'a>, AllocError>
+    requires { IfOk command (λ c. (out-Command c).has_globals ≡ false) }
+    ensures { (app inner : App) → IfOk program.entry (λ c. app_of c ≡ app)
+        → IfOk command.entry (λ c. app_of c ≡ inner)
+        → IfOk result (λ c. app_of c ≡ with_subcommand app inner.top) }
+{
+    match program {
+        Ok(program) => held(program, command),
+        Err(error) => {
+            drop(command);
+            Err(error)
+        }
+    }
+}
+
+// The program with a command, if there was memory for that.
+fn held<'a>(
+    program: Command<'a>,
+    command: Result<Command<'a>, AllocError>,
+) -> Result<Command<'a>, AllocError>
+    requires { IfOk command (λ c. (out-Command c).has_globals ≡ false) }
+    ensures { (inner : App) → IfOk command.entry (λ c. app_of c ≡ inner)
+        → IfOk result (λ c. app_of c ≡ with_subcommand (app_of program.entry) inner.top) }
+{
+    match command {
+        Ok(command) => program.subcommand(command),
+        Err(error) => {
+            drop(program);
+            Err(error)
+        }
+    }
+}
+
 /// The whole command line.
 pub fn command<'a>(alloc: Global) -> Result<Command<'a>, AllocError>
     ensures { IfOk result (λ c. app_of c ≡ ug) }
 {
-    bare(alloc)
-        .subcommand(solve(alloc)?)?
-        .subcommand(restart(alloc)?)?
-        .subcommand(show(alloc)?)?
-        .subcommand(generate(alloc)?)
+    let program = with(Ok(bare(alloc)), solve(alloc));
+    let program = with(program, restart(alloc));
+    let program = with(program, show(alloc));
+    with(program, generate(alloc))
 }

@@ -1,10 +1,14 @@
-use Rattle.std.proofs.Common.{◌∙◌, ap₂}
-use Rattle.std.proofs.lemmas.Result.{IfOk-weaker}
-use Rattle.clap.specs.Simple.{with_rule}
+use Rattle.std.proofs.Common.{codes}
+use Rattle.clap.specs.Words.{app_of, new_app, with_rule}
+use Rattle.ug_cli.specs.Options.{positional}
+use Rattle.ug_cli.proofs.Added.{by_rule}
 use Rattle.ug_cli.proofs.options.generate.Goals as goal
 
 pub returns-clause-app : goal.returns-clause-app
 returns-clause-app c =
-    let one = c.in_ok-command.ensures.app ∙ ap₂ with_rule c.new.ensures.app c.positional.ensures.rule in
-    let two = c.in_ok-command-2.ensures.app ∙ ap₂ with_rule one c.positional-2.ensures.rule in
-    IfOk-weaker c.add-3.result _ _ (λ m h. h ∙ ap₂ with_rule two c.defaulted.ensures.rule) c.add-3.ensures.app
+    let none = new_app (codes "gen") in
+    let seed = with_rule none (positional (codes "seed")) in
+    let size = with_rule seed (positional (codes "size")) in
+    let one = by_rule app_of _ none _ _ c.positional.ensures.rule (c.add-command.ensures.app none c.new.ensures.app) in
+    let two = by_rule app_of _ seed _ _ c.positional-2.ensures.rule (c.add-command-2.ensures.app seed one) in
+    by_rule app_of _ size _ _ c.defaulted.ensures.rule (c.add.ensures.app size two)

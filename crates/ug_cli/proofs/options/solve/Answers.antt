@@ -1,12 +1,14 @@
-use Rattle.std.proofs.Common.{◌∙◌, ap, ap₂}
-use Rattle.std.proofs.lemmas.Result.{IfOk-weaker}
-use Rattle.clap.specs.Simple.{App, with_rule}
-use Rattle.ug_cli.specs.Options.{ranks_rules, bounds_rules, with_rules}
+use Rattle.std.proofs.Common.{codes}
+use Rattle.clap.specs.Words.{app_of, new_app, with_rule}
+use Rattle.ug_cli.specs.Options.{optional, positional, ranks_rules, with_rules}
+use Rattle.ug_cli.proofs.Added.{by_rule}
 use Rattle.ug_cli.proofs.options.solve.Goals as goal
 
 pub returns-clause-app : goal.returns-clause-app
 returns-clause-app c =
-    let one = c.in_ok-command.ensures.app ∙ ap₂ with_rule c.new.ensures.app c.positional.ensures.rule in
-    let two = c.in_ok-command-2.ensures.app ∙ ap₂ with_rule one c.optional.ensures.rule in
-    let three = c.in_ok-with_ranks.ensures.app ∙ ap (λ (a : App). with_rules a ranks_rules) two in
-    IfOk-weaker c.with_bounds.result _ _ (λ m h. h ∙ ap (λ (a : App). with_rules a bounds_rules) three) c.with_bounds.ensures.app
+    let none = new_app (codes "solve") in
+    let file = with_rule none (positional (codes "file")) in
+    let folder = with_rule file (optional (codes "checkpoint")) in
+    let one = by_rule app_of _ none _ _ c.positional.ensures.rule (c.add-command.ensures.app none c.new.ensures.app) in
+    let two = by_rule app_of _ file _ _ c.optional.ensures.rule (c.add-command-2.ensures.app file one) in
+    c.with_bounds.ensures.app (with_rules folder ranks_rules) (c.with_ranks.ensures.app folder two)
