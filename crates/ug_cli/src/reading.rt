@@ -1,6 +1,9 @@
-ghost use Rattle.std.specs.Prelude.{◌≡◌, List, [], Option, IfSome, IfNone, IfOk, MatchResult};
+ghost use Rattle.std.specs.Prelude.{◌≡◌, ◌↔◌, List, [], Option, IfSome, IfNone, IfOk, IsTrue, codes};
+ghost use Rattle.std.specs.Prelude.{MatchResult};
 ghost use Rattle.clap.specs.Words.{found_of, rows_of, subcommand_of, subcommand_rows_of};
 ghost use Rattle.clap.specs.Faults.{fault_of};
+ghost use Rattle.clap.specs.Values.{kind_of};
+ghost use Rattle.clap.specs.declared.error.kind.ErrorKind.TheVariants.{OutOfMemory};
 ghost use Rattle.ug_cli.specs.Options.{ug};
 ghost use Rattle.ug_cli.specs.Taken.{AskedIn, Asks, IsGen, IsRefused, IsRestart, IsShow, IsSolve};
 ghost use Rattle.ug_cli.specs.Taken.{IsUnread, TakenWords, ranks_of as stated_ranks, texts};
@@ -11,61 +14,61 @@ use crate::plan::{Gen, Plan, Ranks, Restart, Show, Solve};
 use crate::settings::settings_of;
 use crate::usage::Usage;
 use clap::ArgMatches;
-use clap::error::ErrorKind;
+use clap::error::{Error, ErrorKind};
 use std::alloc::Global;
 
-fn solve_of<'a>(matches: &ArgMatches<'a>) -> Option<Solve<'a>>
-    ensures found { IfSome result (IsSolve (rows_of (found_of matches.now))) }
-    ensures none { IfNone result ((solve : Solve)
-        → IsSolve (rows_of (found_of matches.now)) solve → ⊥) }
+fn solve_of<'a>(matches: &ArgMatches<'a>) -> Option<Plan<'a>>
+    ensures found { IfSome result (Asks (codes "solve") (rows_of (found_of matches.now))) }
+    ensures none { IfNone result ((plan : Plan)
+        → Asks (codes "solve") (rows_of (found_of matches.now)) plan → ⊥) }
 {
     let file = text_of(matches, "file")?;
     let checkpoint = text_of(matches, "checkpoint");
     let settings = settings_of(matches)?;
-    Some(Solve {
+    Some(Plan::Solve(Solve {
         file,
         checkpoint,
         settings,
-    })
+    }))
 }
 
-fn restart_of<'a>(matches: &ArgMatches<'a>) -> Option<Restart<'a>>
-    ensures found { IfSome result (IsRestart (rows_of (found_of matches.now))) }
-    ensures none { IfNone result ((restart : Restart)
-        → IsRestart (rows_of (found_of matches.now)) restart → ⊥) }
+fn restart_of<'a>(matches: &ArgMatches<'a>) -> Option<Plan<'a>>
+    ensures found { IfSome result (Asks (codes "restart") (rows_of (found_of matches.now))) }
+    ensures none { IfNone result ((plan : Plan)
+        → Asks (codes "restart") (rows_of (found_of matches.now)) plan → ⊥) }
 {
     let file = text_of(matches, "file")?;
     let checkpoint = text_of(matches, "checkpoint")?;
     let settings = settings_of(matches)?;
-    Some(Restart {
+    Some(Plan::Restart(Restart {
         file,
         checkpoint,
         settings,
-    })
+    }))
 }
 
-fn show_of<'a>(matches: &ArgMatches<'a>) -> Option<Show<'a>>
-    ensures found { IfSome result (IsShow (rows_of (found_of matches.now))) }
-    ensures none { IfNone result ((show : Show)
-        → IsShow (rows_of (found_of matches.now)) show → ⊥) }
+fn show_of<'a>(matches: &ArgMatches<'a>) -> Option<Plan<'a>>
+    ensures found { IfSome result (Asks (codes "show") (rows_of (found_of matches.now))) }
+    ensures none { IfNone result ((plan : Plan)
+        → Asks (codes "show") (rows_of (found_of matches.now)) plan → ⊥) }
 {
     let folder = text_of(matches, "checkpoint")?;
-    Some(Show { checkpoint: folder })
+    Some(Plan::Show(Show { checkpoint: folder }))
 }
 
-fn gen_of(matches: &ArgMatches<'_>) -> Option<Gen>
-    ensures found { IfSome result (IsGen (rows_of (found_of matches.now))) }
-    ensures none { IfNone result ((gen : Gen)
-        → IsGen (rows_of (found_of matches.now)) gen → ⊥) }
+fn gen_of<'a>(matches: &ArgMatches<'a>) -> Option<Plan<'a>>
+    ensures found { IfSome result (Asks (codes "gen") (rows_of (found_of matches.now))) }
+    ensures none { IfNone result ((plan : Plan)
+        → Asks (codes "gen") (rows_of (found_of matches.now)) plan → ⊥) }
 {
     let seed = given(matches, "seed", 1, 2_147_483_646)?;
     let size = given(matches, "size", 1, 40)?;
     let solvers = given(matches, "solvers", 1, 256)?;
-    Some(Gen {
+    Some(Plan::Gen(Gen {
         seed: seed as u32,
         size: size as u32,
         solvers: solvers as u32,
-    })
+    }))
 }
 
 // The plan for which the command of this name asks.
@@ -75,18 +78,16 @@ fn plan_of<'a>(name: &str, matches: &ArgMatches<'a>) -> Option<Plan<'a>>
         → Asks name.now (rows_of (found_of matches.now)) plan → ⊥) }
 {
     if name == "solve" {
-        return Some(Plan::Solve(solve_of(matches)?));
+        solve_of(matches)
+    } else if name == "restart" {
+        restart_of(matches)
+    } else if name == "show" {
+        show_of(matches)
+    } else if name == "gen" {
+        gen_of(matches)
+    } else {
+        None
     }
-    if name == "restart" {
-        return Some(Plan::Restart(restart_of(matches)?));
-    }
-    if name == "show" {
-        return Some(Plan::Show(show_of(matches)?));
-    }
-    if name == "gen" {
-        return Some(Plan::Gen(gen_of(matches)?));
-    }
-    None
 }
 
 // The plan for which the command asks that was met.
@@ -109,10 +110,25 @@ fn parsed<'a>(alloc: Global, words: &'a [String]) -> Result<ArgMatches<'a>, Usag
     let command = command(alloc)?;
     match command.try_get_matches_from(words) {
         Ok(matches) => Ok(matches),
-        Err(error) => match error.kind() {
-            ErrorKind::OutOfMemory => Err(Usage::Memory),
-            _ => Err(Usage::Words),
-        },
+        Err(error) => {
+            let is_memory = is_memory(&error);
+            drop(error);
+            Err(if is_memory {
+                Usage::Memory
+            } else {
+                Usage::Words
+            })
+        }
+    }
+}
+
+// Whether clap ran out of memory.
+fn is_memory(error: &Error) -> bool
+    ensures { IsTrue result ↔ (kind_of error.now ≡ OutOfMemory) }
+{
+    match error.kind() {
+        ErrorKind::OutOfMemory => true,
+        _ => false,
     }
 }
 
@@ -134,7 +150,9 @@ pub fn read_words<'a>(alloc: Global, words: &'a [String]) -> Result<Plan<'a>, Us
     ensures { MatchResult result (TakenWords (texts words.now)) (IsRefused (texts words.now)) }
 {
     let matches = parsed(alloc, words)?;
-    let Some(plan) = asked(&matches) else {
+    let plan = asked(&matches);
+    drop(matches);
+    let Some(plan) = plan else {
         return Err(Usage::Words);
     };
     match ranks_in(&plan) {
