@@ -77,16 +77,12 @@ fn plan_of<'a>(name: &str, matches: &ArgMatches<'a>) -> Option<Plan<'a>>
     ensures none { IfNone result ((plan : Plan)
         → Asks name.now (rows_of (found_of matches.now)) plan → ⊥) }
 {
-    if name == "solve" {
-        solve_of(matches)
-    } else if name == "restart" {
-        restart_of(matches)
-    } else if name == "show" {
-        show_of(matches)
-    } else if name == "gen" {
-        gen_of(matches)
-    } else {
-        None
+    match name {
+        "solve" => solve_of(matches),
+        "restart" => restart_of(matches),
+        "show" => show_of(matches),
+        "gen" => gen_of(matches),
+        _ => None,
     }
 }
 
