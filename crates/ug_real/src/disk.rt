@@ -33,39 +33,6 @@ fn reads_alone() -> io::Error {
     )
 }
 
-impl<R: Files<File = File>> Access<'_, R> {
-    fn len(&mut self, slot: Slot) -> io::Result<u64> {
-        match self {
-            Access::Writing(files) => files.len(slot),
-            Access::Reading(copies) => copies.len(slot),
-        }
-    }
-
-    fn read(&mut self, slot: Slot, at: u64, buffer: &mut [u8]) -> io::Result<usize>
-        ensures { IfOk result (λ n. n ≤ length buffer.new) }
-    {
-        match self {
-            Access::Writing(files) => files.read(slot, at, buffer),
-            Access::Reading(copies) => copies.read(slot, at, buffer),
-        }
-    }
-
-    fn write(&mut self, slot: Slot, at: u64, bytes: &[u8]) -> io::Result<()> {
-        match self {
-            Access::Writing(files) => files.write(slot, at, bytes),
-            Access::Reading(_) => Err(reads_alone()),
-        }
-    }
-
-    fn sync(&mut self, slot: Slot) -> io::Result<()> {
-        match self {
-            Access::Writing(files) => files.sync(slot),
-            // Nothing was written here that could wait to reach the disk.
-            Access::Reading(_) => Ok(()),
-        }
-    }
-}
-
 impl<'a, R: Files<File = File>> FileDisk<'a, R> {
     /// The slots of a folder for writing. The folder and the files are made where they are not
     /// there, at the first call; from then on no other `FileDisk` writes the folder until this one
@@ -100,22 +67,35 @@ impl<R: Files<File = File>> Disk for FileDisk<'_, R> {
     ghost faults = { λ d. d.faults.count };
 
     fn len(&mut self, slot: Slot) -> Result<u64, Failed> {
-        let got = self.access.len(slot);
+        let got = match &mut self.access {
+            Access::Writing(files) => files.len(slot),
+            Access::Reading(copies) => copies.len(slot),
+        };
         self.faults.counted(got)
     }
 
     fn read_at(&mut self, slot: Slot, at: u64, buffer: &mut [u8]) -> Result<usize, Failed> {
-        let got = self.access.read(slot, at, buffer);
+        let got = match &mut self.access {
+            Access::Writing(files) => files.read(slot, at, buffer),
+            Access::Reading(copies) => copies.read(slot, at, buffer),
+        };
         self.faults.counted(got)
     }
 
     fn write_at(&mut self, slot: Slot, at: u64, bytes: &[u8]) -> Result<(), Failed> {
-        let got = self.access.write(slot, at, bytes);
+        let got = match &mut self.access {
+            Access::Writing(files) => files.write(slot, at, bytes),
+            Access::Reading(_) => Err(reads_alone()),
+        };
         self.faults.counted(got)
     }
 
     fn sync(&mut self, slot: Slot) -> Result<(), Failed> {
-        let got = self.access.sync(slot);
+        let got = match &mut self.access {
+            Access::Writing(files) => files.sync(slot),
+            // Nothing was written here that could wait to reach the disk.
+            Access::Reading(_) => Ok(()),
+        };
         self.faults.counted(got)
     }
 }

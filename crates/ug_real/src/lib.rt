@@ -7,6 +7,7 @@
 
 mod disk;
 mod faults;
+mod kept;
 mod reader;
 mod slot_copies;
 mod slot_files;

@@ -1,4 +1,4 @@
-ghost use Rattle.std.specs.Prelude.{None};
+ghost use Rattle.std.specs.Prelude.{◌≤◌, None, length, IfOk};
 
 use crate::faults::Faults;
 use std::fs::OpenOptions;
@@ -32,24 +32,31 @@ impl<'a, R: Files> Reader<'a, R> {
     }
 }
 
+// Reads some bytes of the file, which is opened where it is not open.
+fn read_some<R: Files>(
+    rt: &R,
+    path: &str,
+    file: &mut Option<R::File>,
+    buffer: &mut [u8],
+) -> io::Result<usize>
+    ensures { IfOk result (λ n. n ≤ length buffer.new) }
+{
+    match file {
+        Some(file) => file.read(buffer),
+        None => match OpenOptions::new().read(true).open(rt, path) {
+            Ok(opened) => file.insert(opened).read(buffer),
+            Err(error) => Err(error),
+        },
+    }
+}
+
 impl<R: Files> Source for Reader<'_, R> {
     ghost left = { λ _. None };
 
     ghost faults = { λ r. r.faults.count };
 
     fn read(&mut self, buffer: &mut [u8]) -> Result<usize, Failed> {
-        if self.file.is_none() {
-            match OpenOptions::new().read(true).open(self.rt, self.path) {
-                Ok(file) => self.file = Some(file),
-                Err(error) => return Err(self.faults.add(error)),
-            }
-        }
-        match &mut self.file {
-            Some(file) => match file.read(buffer) {
-                Ok(n) => Ok(n),
-                Err(error) => Err(self.faults.add(error)),
-            },
-            None => Err(self.faults.add(io::Error::from(io::ErrorKind::NotFound))),
-        }
+        let got = read_some(self.rt, self.path, &mut self.file, buffer);
+        self.faults.counted(got)
     }
 }

@@ -1,12 +1,12 @@
 ghost use Rattle.std.specs.Prelude.{◌≡◌, ◌≤◌, ◌-◌, min, length, take, drop, IfOk};
 
-use crate::slot_files::name_of;
+use crate::kept::Kept;
+use crate::slot_files::open_slot;
 use std::alloc::Global;
-use std::fs::File;
-use std::io;
+use std::fs::{File, OpenOptions};
 use std::io::{ErrorKind, Read};
-use std::path::Path;
 use std::rt::Files;
+use std::{io, mem};
 use ug_disk::Slot;
 
 /// How often a slot is read again, where another program is writing it.
@@ -19,8 +19,7 @@ pub struct SlotCopies<'a, R: Files<File = File>> {
     rt: &'a R,
     alloc: Global,
     path: &'a str,
-    zero: Option<Vec<u8>>,
-    one: Option<Vec<u8>>,
+    kept: Kept<Vec<u8>>,
 }
 
 // Copies some of the bytes from a place on to the front of the buffer.
@@ -34,83 +33,117 @@ fn copy(bytes: &[u8], at: u64, buffer: &mut [u8]) -> usize
     n
 }
 
+// The bytes, if what was done to get them succeeded.
+fn with(bytes: Vec<u8>, done: io::Result<()>) -> io::Result<Vec<u8>> {
+    match done {
+        Ok(()) => Ok(bytes),
+        Err(error) => {
+            drop(bytes);
+            Err(error)
+        }
+    }
+}
+
+// All bytes of the file.
+fn contents(alloc: Global, mut file: File) -> io::Result<Vec<u8>> {
+    let mut bytes = Vec::new(alloc);
+    let done = read_all(&mut file, &mut bytes);
+    drop(file);
+    with(bytes, done)
+}
+
+fn read_all(file: &mut File, bytes: &mut Vec<u8>) -> io::Result<()> {
+    match file.read_to_end(bytes) {
+        Ok(_) => Ok(()),
+        Err(error) => Err(error),
+    }
+}
+
+// Whether the second reading failed, or gave the bytes that the first one gave.
+fn is_last(first: &io::Result<Vec<u8>>, second: &io::Result<Vec<u8>>) -> bool {
+    match (first, second) {
+        (Ok(before), Ok(after)) => before == after,
+        _ => true,
+    }
+}
+
+// No bytes, if the error is that there is no file.
+fn unless_missing(alloc: Global, error: io::Error) -> io::Result<Vec<u8>> {
+    if error.kind() == ErrorKind::NotFound {
+        drop(error);
+        return Ok(Vec::new(alloc));
+    }
+    Err(error)
+}
+
 impl<'a, R: Files<File = File>> SlotCopies<'a, R> {
     pub fn new(rt: &'a R, alloc: Global, path: &'a str) -> SlotCopies<'a, R> {
         SlotCopies {
             rt,
             alloc,
             path,
-            zero: None,
-            one: None,
+            kept: Kept::new(),
         }
     }
 
     // All bytes of the slot's file at one reading. A file that is not there has none.
     fn whole(&self, slot: Slot) -> io::Result<Vec<u8>> {
-        let path = Path::new(self.path).join(self.alloc, name_of(slot))?;
-        let mut bytes = Vec::new(self.alloc);
-        match File::open(self.rt, path.as_path()) {
-            Ok(mut file) => {
-                file.read_to_end(&mut bytes)?;
-                Ok(bytes)
-            }
-            Err(error) if error.kind() == ErrorKind::NotFound => Ok(bytes),
-            Err(error) => Err(error),
+        match open_slot(
+            self.rt,
+            self.alloc,
+            self.path,
+            slot,
+            OpenOptions::new().read(true),
+        ) {
+            Ok(file) => contents(self.alloc, file),
+            Err(error) => unless_missing(self.alloc, error),
         }
     }
 
     // The bytes that two readings in a row gave: another program may be writing the slot.
     fn settled(&self, slot: Slot) -> io::Result<Vec<u8>> {
-        let mut last = self.whole(slot)?;
-        for _ in 0..MOST_READINGS {
-            let next = self.whole(slot)?;
-            if next == last {
-                return Ok(next);
-            }
-            last = next;
+        let mut last = self.whole(slot);
+        if last.is_err() {
+            return last;
         }
+        for _ in 0..MOST_READINGS {
+            let next = self.whole(slot);
+            if is_last(&last, &next) {
+                drop(last);
+                return next;
+            }
+            drop(mem::replace(&mut last, next));
+        }
+        drop(last);
         Err(io::Error::new(ErrorKind::ResourceBusy, "the slot changes at each reading"))
     }
 
-    // Copies the slot where it is not copied.
-    fn load(&mut self, slot: Slot) -> io::Result<()> {
-        match slot {
-            Slot::Zero => {
-                if self.zero.is_none() {
-                    self.zero = Some(self.settled(slot)?);
-                }
-            }
-            Slot::One => {
-                if self.one.is_none() {
-                    self.one = Some(self.settled(slot)?);
-                }
-            }
+    // The slot's bytes, copied where they are not.
+    fn bytes(&mut self, slot: Slot) -> io::Result<&Vec<u8>> {
+        if self.kept.of(slot).is_none() {
+            let got = self.settled(slot);
+            return self.kept.keep(slot, got);
         }
-        Ok(())
-    }
-
-    fn bytes(&self, slot: Slot) -> &[u8] {
-        let kept = match slot {
-            Slot::Zero => &self.zero,
-            Slot::One => &self.one,
-        };
-        match kept {
-            Some(bytes) => bytes.as_slice(),
-            None => &[],
-        }
+        self.kept
+            .of(slot)
+            .ok_or(io::Error::from(ErrorKind::NotFound))
     }
 
     /// How many bytes the slot has.
     pub fn len(&mut self, slot: Slot) -> io::Result<u64> {
-        self.load(slot)?;
-        Ok(self.bytes(slot).len() as u64)
+        match self.bytes(slot) {
+            Ok(bytes) => Ok(bytes.len() as u64),
+            Err(error) => Err(error),
+        }
     }
 
     /// Reads some of the slot's bytes from a place on.
     pub fn read(&mut self, slot: Slot, at: u64, buffer: &mut [u8]) -> io::Result<usize>
         ensures { IfOk result (λ n. n ≤ length buffer.new) }
     {
-        self.load(slot)?;
-        Ok(copy(self.bytes(slot), at, buffer))
+        match self.bytes(slot) {
+            Ok(bytes) => Ok(copy(bytes, at, buffer)),
+            Err(error) => Err(error),
+        }
     }
 }

@@ -1,5 +1,6 @@
 ghost use Rattle.std.specs.Prelude.{◌≤◌, length, IfOk};
 
+use crate::kept::{Kept, keep};
 use std::alloc::Global;
 use std::fs::{File, OpenOptions, TryLockError};
 use std::io::ErrorKind;
@@ -9,8 +10,8 @@ use std::rt::Files;
 use std::{fs, io};
 use ug_disk::Slot;
 
-/// The name of the slot's file.
-pub fn name_of(slot: Slot) -> &'static str {
+// The name of the slot's file.
+fn name_of(slot: Slot) -> &'static str {
     match slot {
         Slot::Zero => "slot0",
         Slot::One => "slot1",
@@ -24,13 +25,40 @@ pub struct SlotFiles<'a, R: Files<File = File>> {
     alloc: Global,
     path: &'a str,
     folder: Option<File>,
-    zero: Option<File>,
-    one: Option<File>,
+    kept: Kept<File>,
+}
+
+/// The slot's file in the folder, opened in these ways.
+pub fn open_slot<R: Files<File = File>>(
+    rt: &R,
+    alloc: Global,
+    folder: &str,
+    slot: Slot,
+    ways: &OpenOptions,
+) -> io::Result<File> {
+    let path = Path::new(folder).join(alloc, name_of(slot))?;
+    let file = ways.open(rt, path.as_path());
+    drop(path);
+    file
 }
 
 // The file that was opened.
-fn opened(file: &Option<File>) -> io::Result<&File> {
-    file.as_ref().ok_or(io::Error::from(ErrorKind::NotFound))
+fn opened(file: Option<&File>) -> io::Result<&File> {
+    file.ok_or(io::Error::from(ErrorKind::NotFound))
+}
+
+fn len_of(file: &File) -> io::Result<u64> {
+    match file.metadata() {
+        Ok(metadata) => Ok(metadata.len()),
+        Err(error) => Err(error),
+    }
+}
+
+// The ways in which a slot's file is opened that is written.
+fn for_writing() -> OpenOptions {
+    let mut ways = OpenOptions::new();
+    ways.read(true).write(true).create(true);
+    ways
 }
 
 // Why a folder is not locked that is.
@@ -41,6 +69,32 @@ fn busy() -> io::Error {
     )
 }
 
+// Locks the folder.
+fn lock_now(folder: &File) -> io::Result<()> {
+    match folder.try_lock() {
+        Ok(()) => Ok(()),
+        Err(TryLockError::WouldBlock) => Err(busy()),
+        Err(TryLockError::Error(error)) => Err(error),
+    }
+}
+
+// The folder, locked.
+fn locked(folder: File) -> io::Result<File> {
+    match lock_now(&folder) {
+        Ok(()) => Ok(folder),
+        Err(error) => {
+            drop(folder);
+            Err(error)
+        }
+    }
+}
+
+// The folder of this path, made where it is not there, and locked.
+fn locked_folder<R: Files<File = File>>(rt: &R, path: &str) -> io::Result<File> {
+    fs::create_dir_all(rt, path)?;
+    File::open(rt, path).and_then(locked)
+}
+
 impl<'a, R: Files<File = File>> SlotFiles<'a, R> {
     pub fn new(rt: &'a R, alloc: Global, path: &'a str) -> SlotFiles<'a, R> {
         SlotFiles {
@@ -48,79 +102,63 @@ impl<'a, R: Files<File = File>> SlotFiles<'a, R> {
             alloc,
             path,
             folder: None,
-            zero: None,
-            one: None,
+            kept: Kept::new(),
         }
     }
 
-    // Makes the folder where it is not there, and locks it where it is not.
-    fn lock(&mut self) -> io::Result<()> {
+    // The folder, made where it is not there, and locked where it is not.
+    fn lock(&mut self) -> io::Result<&File> {
         if self.folder.is_none() {
-            fs::create_dir_all(self.rt, self.path)?;
-            let folder = File::open(self.rt, self.path)?;
-            match folder.try_lock() {
-                Ok(()) => self.folder = Some(folder),
-                Err(TryLockError::WouldBlock) => return Err(busy()),
-                Err(TryLockError::Error(error)) => return Err(error),
-            }
+            return keep(&mut self.folder, locked_folder(self.rt, self.path));
         }
-        Ok(())
+        opened(self.folder.as_ref())
     }
 
-    // The slot's file, made where it is not there.
-    fn make(&self, slot: Slot) -> io::Result<File> {
-        let path = Path::new(self.path).join(self.alloc, name_of(slot))?;
-        OpenOptions::new()
-            .read(true)
-            .write(true)
-            .create(true)
-            .open(self.rt, path.as_path())
+    // The slot's file in the locked folder, made where it is not there.
+    fn make(&mut self, slot: Slot) -> io::Result<File> {
+        match self.lock() {
+            Ok(_) => open_slot(self.rt, self.alloc, self.path, slot, &for_writing()),
+            Err(error) => Err(error),
+        }
     }
 
-    // Opens the slot's file where it is not open.
-    fn open(&mut self, slot: Slot) -> io::Result<()> {
-        self.lock()?;
-        if self.kept(slot).is_none() {
-            let file = self.make(slot)?;
-            match slot {
-                Slot::Zero => self.zero = Some(file),
-                Slot::One => self.one = Some(file),
-            }
+    // The slot's file, opened where it is not open.
+    fn file(&mut self, slot: Slot) -> io::Result<&File> {
+        if self.kept.of(slot).is_none() {
+            let got = self.make(slot);
+            return self.kept.keep(slot, got);
         }
-        Ok(())
-    }
-
-    fn kept(&self, slot: Slot) -> &Option<File> {
-        match slot {
-            Slot::Zero => &self.zero,
-            Slot::One => &self.one,
-        }
+        opened(self.kept.of(slot))
     }
 
     /// How many bytes the slot has.
     pub fn len(&mut self, slot: Slot) -> io::Result<u64> {
-        self.open(slot)?;
-        Ok(opened(self.kept(slot))?.metadata()?.len())
+        self.file(slot).and_then(len_of)
     }
 
     /// Reads some of the slot's bytes from a place on.
     pub fn read(&mut self, slot: Slot, at: u64, buffer: &mut [u8]) -> io::Result<usize>
         ensures { IfOk result (λ n. n ≤ length buffer.new) }
     {
-        self.open(slot)?;
-        opened(self.kept(slot))?.read_at(buffer, at)
+        match self.file(slot) {
+            Ok(file) => file.read_at(buffer, at),
+            Err(error) => Err(error),
+        }
     }
 
     /// Writes all of the bytes from a place on.
     pub fn write(&mut self, slot: Slot, at: u64, bytes: &[u8]) -> io::Result<()> {
-        self.open(slot)?;
-        opened(self.kept(slot))?.write_all_at(bytes, at)
+        match self.file(slot) {
+            Ok(file) => file.write_all_at(bytes, at),
+            Err(error) => Err(error),
+        }
     }
 
     /// Waits until the slot's bytes, and then its name in the folder, are on the disk.
     pub fn sync(&mut self, slot: Slot) -> io::Result<()> {
-        self.open(slot)?;
-        opened(self.kept(slot))?.sync_all()?;
-        opened(&self.folder)?.sync_all()
+        match self.file(slot).and_then(File::sync_all) {
+            Ok(()) => self.lock().and_then(File::sync_all),
+            Err(error) => Err(error),
+        }
     }
 }
