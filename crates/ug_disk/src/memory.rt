@@ -12,6 +12,7 @@ use crate::script::{Calls, Script, Turn};
 use crate::slot::{NotAllowed, Slot};
 use crate::stored::StoredSlots;
 use std::alloc::{AllocError, Global};
+use std::mem;
 use ug_io::Failed;
 
 /// Two slots of bytes in memory. It keeps what is pending and what each change took away, so it
@@ -68,15 +69,30 @@ impl MemoryDisk {
         ensures goes { OnOk result (¬ HasStopped self.new) }
         ensures faults { faults_of self.new ≡ faults_of self.old }
     {
-        if !self.slots.zero.may_leave(&zero) {
-            return Err(NotAllowed { slot: Slot::Zero });
+        let allowed = self.allows(&zero, &one);
+        if allowed.is_err() {
+            drop(zero);
+            drop(one);
+            return allowed;
         }
-        if !self.slots.one.may_leave(&one) {
-            return Err(NotAllowed { slot: Slot::One });
-        }
-        self.slots = StoredSlots::new(self.alloc, zero, one);
+        drop(mem::replace(&mut self.slots, StoredSlots::new(self.alloc, zero, one)));
         self.past.clear();
         self.calls.resume();
+        Ok(())
+    }
+
+    // Whether a crash now may leave these images; if not, for which slot first.
+    fn allows(&self, zero: &[u8], one: &[u8]) -> Result<(), NotAllowed>
+        ensures allowed { OnOk result (MayLeaveBoth (history_of self.now).now zero.now one.now) }
+        ensures forbidden { IfErr result (λ e.
+            IsFirstForbidden (history_of self.now).now zero.now one.now e.slot) }
+    {
+        if !self.slots.zero.may_leave(zero) {
+            return Err(NotAllowed { slot: Slot::Zero });
+        }
+        if !self.slots.one.may_leave(one) {
+            return Err(NotAllowed { slot: Slot::One });
+        }
         Ok(())
     }
 

@@ -47,7 +47,9 @@ pub fn read_all<D: Disk>(alloc: Global, disk: &mut D, slot: Slot) -> Result<Vec<
     ensures memory { IsErrOf result ReadError.Memory → D.faults disk.new ≡ D.faults disk.old }
 {
     let mut buffer = zeros(alloc, PIECE)?;
-    read_by(alloc, disk, slot, &mut buffer)
+    let read = read_by(alloc, disk, slot, &mut buffer);
+    drop(buffer);
+    read
 }
 
 // The same, by pieces that the buffer takes.
@@ -68,11 +70,17 @@ fn read_by<D: Disk>(
 {
     let mut bytes = Vec::new(alloc);
     loop {
-        let n = disk.read_at(slot, bytes.len() as u64, buffer)?;
+        let Ok(n) = disk.read_at(slot, bytes.len() as u64, buffer) else {
+            drop(bytes);
+            return Err(ReadError::Fault);
+        };
         if n == 0 {
             return Ok(bytes);
         }
-        bytes.extend_from_slice(&buffer[..n])?;
+        if bytes.extend_from_slice(&buffer[..n]).is_err() {
+            drop(bytes);
+            return Err(ReadError::Memory);
+        }
     }
 }
 

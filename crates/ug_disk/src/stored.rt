@@ -90,18 +90,23 @@ impl Stored {
         ensures kept { IfOk result (λ kept. restored kept self.new ≡ self.old) }
         ensures err { OnErr result (self.new ≡ self.old) }
     {
-        let kept = Kept::Bytes {
-            at,
-            len: piece.len() as u64,
-            over: copy(alloc, &self.bytes, at, piece.len())?,
-            longest: self.longest,
-        };
         self.loose.reserve(1)?;
-        overwrite(&mut self.bytes, at as usize, piece)?;
-        let end = at + piece.len() as u64;
+        let over = copy(alloc, &self.bytes, at, piece.len())?;
+        if overwrite(&mut self.bytes, at as usize, piece).is_err() {
+            drop(over);
+            return Err(AllocError);
+        }
+        let longest = self.longest;
+        let len = piece.len() as u64;
+        let end = at + len;
         let _ = self.loose.push(Span { from: at, end });
-        self.longest = self.longest.max(end);
-        Ok(kept)
+        self.longest = longest.max(end);
+        Ok(Kept::Bytes {
+            at,
+            len,
+            over,
+            longest,
+        })
     }
 
     /// What a write does that fails on its way: a crash may leave any bytes in its place.
@@ -111,17 +116,19 @@ impl Stored {
         ensures kept { IfOk result (λ kept. restored kept self.new ≡ self.old) }
         ensures err { OnErr result (self.new ≡ self.old) }
     {
-        let kept = Kept::Bytes {
-            at,
-            len: piece.len() as u64,
-            over: copy(alloc, &self.bytes, at, piece.len())?,
-            longest: self.longest,
-        };
         self.loose.reserve(1)?;
-        let end = at + piece.len() as u64;
+        let over = copy(alloc, &self.bytes, at, piece.len())?;
+        let longest = self.longest;
+        let len = piece.len() as u64;
+        let end = at + len;
         let _ = self.loose.push(Span { from: at, end });
-        self.longest = self.longest.max(end);
-        Ok(kept)
+        self.longest = longest.max(end);
+        Ok(Kept::Bytes {
+            at,
+            len,
+            over,
+            longest,
+        })
     }
 
     /// Nothing is pending any more. It gives what was.

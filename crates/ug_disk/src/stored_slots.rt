@@ -1,12 +1,23 @@
-ghost use Rattle.std.specs.Prelude.{◌≡◌, ◌≤◌, length, IfOk, OnErr};
+ghost use Rattle.std.specs.Prelude.{◌≡◌, ◌≤◌, length, Ok, IfOk, IsErr, OnErr};
 ghost use Rattle.ug_disk.specs.Slots.{IsReal, synced, loosened, written};
 ghost use Rattle.ug_disk.specs.Histories.{slot_of};
 ghost use Rattle.ug_disk.specs.Memories.{HasChanged, slots_of};
 
-use crate::change::Change;
+use crate::change::{Change, Kept};
 use crate::slot::Slot;
 use crate::stored::{Stored, StoredSlots};
 use std::alloc::{AllocError, Global};
+
+// The change of a slot that took this from it.
+fn changed(slot: Slot, kept: Result<Kept, AllocError>) -> Result<Change, AllocError>
+    ensures ok { IfOk result (λ change. (change.slot ≡ slot) × (kept ≡ Ok change.kept)) }
+    ensures err { OnErr result (IsErr kept) }
+{
+    match kept {
+        Ok(kept) => Ok(Change { slot, kept }),
+        Err(error) => Err(error),
+    }
+}
 
 impl StoredSlots {
     /// Slots of these bytes, with nothing pending.
@@ -42,10 +53,10 @@ impl StoredSlots {
         ensures err { OnErr result (self.new ≡ self.old) }
     {
         let kept = match slot {
-            Slot::Zero => self.zero.write(alloc, at, piece)?,
-            Slot::One => self.one.write(alloc, at, piece)?,
+            Slot::Zero => self.zero.write(alloc, at, piece),
+            Slot::One => self.one.write(alloc, at, piece),
         };
-        Ok(Change { slot, kept })
+        changed(slot, kept)
     }
 
     /// What a write does that fails on its way.
@@ -62,10 +73,10 @@ impl StoredSlots {
         ensures err { OnErr result (self.new ≡ self.old) }
     {
         let kept = match slot {
-            Slot::Zero => self.zero.loosen(alloc, at, piece)?,
-            Slot::One => self.one.loosen(alloc, at, piece)?,
+            Slot::Zero => self.zero.loosen(alloc, at, piece),
+            Slot::One => self.one.loosen(alloc, at, piece),
         };
-        Ok(Change { slot, kept })
+        changed(slot, kept)
     }
 
     /// Nothing is pending in the slot any more.

@@ -2,8 +2,8 @@ use Rattle.std.proofs.Common.{◌≡◌, ◌-◌, ◌^◌, ◌<◌, vec_len, len
 use Rattle.ug_disk.specs.Histories.{Reads}
 use Rattle.ug_disk.proofs.reading.read_by.Given as goal
 
-abbrev pub invariant-loop-bytes : goal.invariant-loop-bytes
-invariant-loop-bytes g l = record {
+abbrev pub invariant-loop-n : goal.invariant-loop-n
+invariant-loop-n g l = record {
   same : g.D.Disk.told l.disk ≡ g.D.Disk.told l.initial.disk;
   came : Reads (g.D.Disk.told l.initial.disk) l.slot (λ there. l.bytes.items ≡ take
       (vec_len l.bytes) there);
@@ -11,5 +11,5 @@ invariant-loop-bytes g l = record {
   calm : g.D.Disk.faults l.disk ≡ g.D.Disk.faults l.initial.disk;
 }
 
-abbrev pub decreases-loop-bytes : goal.decreases-loop-bytes
-decreases-loop-bytes g l = 2 ^ 64 - vec_len l.bytes
+abbrev pub decreases-loop-n : goal.decreases-loop-n
+decreases-loop-n g l = 2 ^ 64 - vec_len l.bytes
