@@ -109,26 +109,17 @@ pub fn marker_of(word: &[u8]) -> Option<bool>
 pub fn bound_kind_of(word: &[u8]) -> Option<BoundKind>
     ensures { result ≡ bound_kind_of word.now }
 {
-    if is(word, b"UP") {
-        Some(BoundKind::Upper)
-    } else if is(word, b"LO") {
-        Some(BoundKind::Lower)
-    } else if is(word, b"FX") {
-        Some(BoundKind::Fixed)
-    } else if is(word, b"LI") {
-        Some(BoundKind::IntegerLower)
-    } else if is(word, b"UI") {
-        Some(BoundKind::IntegerUpper)
-    } else if is(word, b"FR") {
-        Some(BoundKind::Free)
-    } else if is(word, b"MI") {
-        Some(BoundKind::MinusInfinity)
-    } else if is(word, b"PL") {
-        Some(BoundKind::PlusInfinity)
-    } else if is(word, b"BV") {
-        Some(BoundKind::Binary)
-    } else {
-        None
+    match word {
+        b"UP" => Some(BoundKind::Upper),
+        b"LO" => Some(BoundKind::Lower),
+        b"FX" => Some(BoundKind::Fixed),
+        b"LI" => Some(BoundKind::IntegerLower),
+        b"UI" => Some(BoundKind::IntegerUpper),
+        b"FR" => Some(BoundKind::Free),
+        b"MI" => Some(BoundKind::MinusInfinity),
+        b"PL" => Some(BoundKind::PlusInfinity),
+        b"BV" => Some(BoundKind::Binary),
+        _ => None,
     }
 }
 

@@ -1,7 +1,8 @@
 ghost use Rattle.std.specs.Prelude.{◌≡◌, ◌∷◌, [], map, codes, Some, None, if◌then◌else◌};
 ghost use Rattle.std.specs.Option.{option_map};
 ghost use Rattle.ug_lines.specs.Shapes.{pairs_of, coefficients_of, column_of, sides_of, numbered_bound_of, bare_bound_of, bound_of_kind, bound_of, row_of, sense_of, shape_of};
-ghost use Rattle.ug_lines.specs.Shaped.{pairs_shaped, shape_shaped};
+ghost use Rattle.ug_lines.specs.Shapes.{sides as sides_shaped};
+ghost use Rattle.ug_lines.specs.Shaped.{pairs_shaped, shape_shaped, word_of};
 
 use crate::kinds::{BoundKind, bound_kind_of};
 use crate::section::{Section, is};
@@ -106,20 +107,25 @@ fn column<'a>(words: &[&'a [u8]]) -> Option<LineShape<'a>>
     }
 }
 
+// Right-hand sides or ranges of a set, if there is one.
+fn sides_of_set<'a>(set: Option<&'a [u8]>, words: &[&'a [u8]]) -> Option<LineShape<'a>>
+    ensures { option_map shape_shaped result
+        ≡ option_map (sides_shaped (word_of set.entry)) (pairs_of (map (λ word. word.now) words.now)) }
+{
+    match pairs(words) {
+        Some(pairs) => Some(LineShape::Sides(set, pairs)),
+        None => None,
+    }
+}
+
 // A line of RHS or RANGES.
 fn sides<'a>(words: &[&'a [u8]]) -> Option<LineShape<'a>>
     ensures { option_map shape_shaped result ≡ sides_of (map (λ word. word.now) words.now) }
 {
     match words {
-        [row, number] => Some(LineShape::Sides(None, one(row, number))),
-        [set, row, number] => Some(LineShape::Sides(Some(set), one(row, number))),
-        [row, number, other, more] => {
-            Some(LineShape::Sides(None, two(row, number, other, more)))
-        }
-        [set, row, number, other, more] => {
-            Some(LineShape::Sides(Some(set), two(row, number, other, more)))
-        }
-        _ => None,
+        [_, _] | [_, _, _, _] => sides_of_set(None, words),
+        [set, more @ ..] => sides_of_set(Some(set), more),
+        [] => None,
     }
 }
 
