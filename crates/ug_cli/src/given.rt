@@ -69,7 +69,7 @@ pub fn given_if(matches: &ArgMatches<'_>, name: &str, least: u64, most: u64) -> 
         → IsGivenIf least most (word_of name.now (rows_of (found_of matches.now))) number → ⊥) }
 {
     match text_of(matches, name) {
-        Some(word) => Some(Some(number_of(word, least, most)?)),
+        Some(word) => number_of(word, least, most).map(Some),
         None => Some(None),
     }
 }

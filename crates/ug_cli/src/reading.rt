@@ -22,14 +22,15 @@ fn solve_of<'a>(matches: &ArgMatches<'a>) -> Option<Plan<'a>>
     ensures none { IfNone result ((plan : Plan)
         → Asks (codes "solve") (rows_of (found_of matches.now)) plan → ⊥) }
 {
-    let file = text_of(matches, "file")?;
     let checkpoint = text_of(matches, "checkpoint");
-    let settings = settings_of(matches)?;
-    Some(Plan::Solve(Solve {
-        file,
-        checkpoint,
-        settings,
-    }))
+    match (text_of(matches, "file"), settings_of(matches)) {
+        (Some(file), Some(settings)) => Some(Plan::Solve(Solve {
+            file,
+            checkpoint,
+            settings,
+        })),
+        _ => None,
+    }
 }
 
 fn restart_of<'a>(matches: &ArgMatches<'a>) -> Option<Plan<'a>>
@@ -37,14 +38,16 @@ fn restart_of<'a>(matches: &ArgMatches<'a>) -> Option<Plan<'a>>
     ensures none { IfNone result ((plan : Plan)
         → Asks (codes "restart") (rows_of (found_of matches.now)) plan → ⊥) }
 {
-    let file = text_of(matches, "file")?;
-    let checkpoint = text_of(matches, "checkpoint")?;
-    let settings = settings_of(matches)?;
-    Some(Plan::Restart(Restart {
-        file,
-        checkpoint,
-        settings,
-    }))
+    let file = text_of(matches, "file");
+    let checkpoint = text_of(matches, "checkpoint");
+    match (file, checkpoint, settings_of(matches)) {
+        (Some(file), Some(checkpoint), Some(settings)) => Some(Plan::Restart(Restart {
+            file,
+            checkpoint,
+            settings,
+        })),
+        _ => None,
+    }
 }
 
 fn show_of<'a>(matches: &ArgMatches<'a>) -> Option<Plan<'a>>
@@ -61,14 +64,17 @@ fn gen_of<'a>(matches: &ArgMatches<'a>) -> Option<Plan<'a>>
     ensures none { IfNone result ((plan : Plan)
         → Asks (codes "gen") (rows_of (found_of matches.now)) plan → ⊥) }
 {
-    let seed = given(matches, "seed", 1, 2_147_483_646)?;
-    let size = given(matches, "size", 1, 40)?;
-    let solvers = given(matches, "solvers", 1, 256)?;
-    Some(Plan::Gen(Gen {
-        seed: seed as u32,
-        size: size as u32,
-        solvers: solvers as u32,
-    }))
+    let seed = given(matches, "seed", 1, 2_147_483_646);
+    let size = given(matches, "size", 1, 40);
+    let solvers = given(matches, "solvers", 1, 256);
+    match (seed, size, solvers) {
+        (Some(seed), Some(size), Some(solvers)) => Some(Plan::Gen(Gen {
+            seed: seed as u32,
+            size: size as u32,
+            solvers: solvers as u32,
+        })),
+        _ => None,
+    }
 }
 
 // The plan for which the command of this name asks.

@@ -31,9 +31,10 @@ fn box_of(matches: &ArgMatches<'_>) -> Option<Option<u32>>
         → IsGivenIf 0 1000000000 (word_of (codes "box") (rows_of (found_of matches.now))) number
         → ⊥) }
 {
-    match given_if(matches, "box", 0, 1_000_000_000)? {
-        Some(number) => Some(Some(number as u32)),
-        None => Some(None),
+    match given_if(matches, "box", 0, 1_000_000_000) {
+        Some(Some(number)) => Some(Some(number as u32)),
+        Some(None) => Some(None),
+        None => None,
     }
 }
 
@@ -42,16 +43,19 @@ fn bounds_of(matches: &ArgMatches<'_>) -> Option<Bounds>
     ensures none { IfNone result ((bounds : Bounds)
         → AreBounds (rows_of (found_of matches.now)) bounds → ⊥) }
 {
-    let every = given(matches, "every", 1, 4_294_967_295)?;
-    let limit = given(matches, "limit", 0, 1_099_511_627_776)?;
-    let boxed = box_of(matches)?;
-    let gap = given(matches, "gap", 0, 1_000_000_000_000_000_000)?;
-    Some(Bounds {
-        every: every as u32,
-        limit,
-        boxed,
-        gap,
-    })
+    let every = given(matches, "every", 1, 4_294_967_295);
+    let limit = given(matches, "limit", 0, 1_099_511_627_776);
+    let boxed = box_of(matches);
+    let gap = given(matches, "gap", 0, 1_000_000_000_000_000_000);
+    match (every, limit, boxed, gap) {
+        (Some(every), Some(limit), Some(boxed), Some(gap)) => Some(Bounds {
+            every: every as u32,
+            limit,
+            boxed,
+            gap,
+        }),
+        _ => None,
+    }
 }
 
 /// The settings of a solve.
@@ -63,12 +67,16 @@ pub fn settings_of<'a>(matches: &ArgMatches<'a>) -> Option<Settings<'a>>
     if !has_word(matches, "mode", "threads") {
         return None;
     }
-    let ranks = ranks_of(matches)?;
-    let bounds = bounds_of(matches)?;
-    let sockets = text_of(matches, "sockets")?;
-    Some(Settings {
-        ranks,
-        bounds,
-        sockets,
-    })
+    match (
+        ranks_of(matches),
+        bounds_of(matches),
+        text_of(matches, "sockets"),
+    ) {
+        (Some(ranks), Some(bounds), Some(sockets)) => Some(Settings {
+            ranks,
+            bounds,
+            sockets,
+        }),
+        _ => None,
+    }
 }
