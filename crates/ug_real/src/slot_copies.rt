@@ -33,29 +33,17 @@ fn copy(bytes: &[u8], at: u64, buffer: &mut [u8]) -> usize
     n
 }
 
-// The bytes, if what was done to get them succeeded.
-fn with(bytes: Vec<u8>, done: io::Result<()>) -> io::Result<Vec<u8>> {
-    match done {
-        Ok(()) => Ok(bytes),
+// All bytes of the file.
+fn contents(alloc: Global, mut file: File) -> io::Result<Vec<u8>> {
+    let mut bytes = Vec::new(alloc);
+    let read = file.read_to_end(&mut bytes);
+    drop(file);
+    match read {
+        Ok(_) => Ok(bytes),
         Err(error) => {
             drop(bytes);
             Err(error)
         }
-    }
-}
-
-// All bytes of the file.
-fn contents(alloc: Global, mut file: File) -> io::Result<Vec<u8>> {
-    let mut bytes = Vec::new(alloc);
-    let done = read_all(&mut file, &mut bytes);
-    drop(file);
-    with(bytes, done)
-}
-
-fn read_all(file: &mut File, bytes: &mut Vec<u8>) -> io::Result<()> {
-    match file.read_to_end(bytes) {
-        Ok(_) => Ok(()),
-        Err(error) => Err(error),
     }
 }
 

@@ -54,13 +54,6 @@ fn len_of(file: &File) -> io::Result<u64> {
     }
 }
 
-// The ways in which a slot's file is opened that is written.
-fn for_writing() -> OpenOptions {
-    let mut ways = OpenOptions::new();
-    ways.read(true).write(true).create(true);
-    ways
-}
-
 // Why a folder is not locked that is.
 fn busy() -> io::Error {
     io::Error::new(
@@ -69,20 +62,15 @@ fn busy() -> io::Error {
     )
 }
 
-// Locks the folder.
-fn lock_now(folder: &File) -> io::Result<()> {
-    match folder.try_lock() {
-        Ok(()) => Ok(()),
-        Err(TryLockError::WouldBlock) => Err(busy()),
-        Err(TryLockError::Error(error)) => Err(error),
-    }
-}
-
 // The folder, locked.
 fn locked(folder: File) -> io::Result<File> {
-    match lock_now(&folder) {
+    match folder.try_lock() {
         Ok(()) => Ok(folder),
-        Err(error) => {
+        Err(TryLockError::WouldBlock) => {
+            drop(folder);
+            Err(busy())
+        }
+        Err(TryLockError::Error(error)) => {
             drop(folder);
             Err(error)
         }
@@ -116,8 +104,10 @@ impl<'a, R: Files<File = File>> SlotFiles<'a, R> {
 
     // The slot's file in the locked folder, made where it is not there.
     fn make(&mut self, slot: Slot) -> io::Result<File> {
+        let mut ways = OpenOptions::new();
+        ways.read(true).write(true).create(true);
         match self.lock() {
-            Ok(_) => open_slot(self.rt, self.alloc, self.path, slot, &for_writing()),
+            Ok(_) => open_slot(self.rt, self.alloc, self.path, slot, &ways),
             Err(error) => Err(error),
         }
     }
