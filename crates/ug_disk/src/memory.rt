@@ -69,30 +69,19 @@ impl MemoryDisk {
         ensures goes { OnOk result (¬ HasStopped self.new) }
         ensures faults { faults_of self.new ≡ faults_of self.old }
     {
-        let allowed = self.allows(&zero, &one);
-        if allowed.is_err() {
+        if !self.slots.zero.may_leave(&zero) {
             drop(zero);
             drop(one);
-            return allowed;
+            return Err(NotAllowed { slot: Slot::Zero });
+        }
+        if !self.slots.one.may_leave(&one) {
+            drop(zero);
+            drop(one);
+            return Err(NotAllowed { slot: Slot::One });
         }
         drop(mem::replace(&mut self.slots, StoredSlots::new(self.alloc, zero, one)));
         self.past.clear();
         self.calls.resume();
-        Ok(())
-    }
-
-    // Whether a crash now may leave these images; if not, for which slot first.
-    fn allows(&self, zero: &[u8], one: &[u8]) -> Result<(), NotAllowed>
-        ensures allowed { OnOk result (MayLeaveBoth (history_of self.now).now zero.now one.now) }
-        ensures forbidden { IfErr result (λ e.
-            IsFirstForbidden (history_of self.now).now zero.now one.now e.slot) }
-    {
-        if !self.slots.zero.may_leave(zero) {
-            return Err(NotAllowed { slot: Slot::Zero });
-        }
-        if !self.slots.one.may_leave(one) {
-            return Err(NotAllowed { slot: Slot::One });
-        }
         Ok(())
     }
 
