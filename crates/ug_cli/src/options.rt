@@ -166,29 +166,12 @@ fn with<'a>(
         → IfOk command.entry (λ c. app_of c ≡ inner)
         → IfOk result (λ c. app_of c ≡ with_subcommand app inner.top) }
 {
-    match program {
-        Ok(program) => held(program, command),
-        Err(error) => {
-            drop(command);
-            Err(error)
-        }
-    }
-}
-
-// The program with a command, if there was memory for that.
-fn held<'a>(
-    program: Command<'a>,
-    command: Result<Command<'a>, AllocError>,
-) -> Result<Command<'a>, AllocError>
-    requires { IfOk command (λ c. (out-Command c).has_globals ≡ false) }
-    ensures { (inner : App) → IfOk command.entry (λ c. app_of c ≡ inner)
-        → IfOk result (λ c. app_of c ≡ with_subcommand (app_of program.entry) inner.top) }
-{
-    match command {
-        Ok(command) => program.subcommand(command),
-        Err(error) => {
+    match (program, command) {
+        (Ok(program), Ok(command)) => program.subcommand(command),
+        (program, command) => {
             drop(program);
-            Err(error)
+            drop(command);
+            Err(AllocError)
         }
     }
 }

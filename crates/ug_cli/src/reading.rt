@@ -1,12 +1,9 @@
-ghost use Rattle.std.specs.Prelude.{◌≡◌, ◌↔◌, List, [], Option, IfSome, IfNone, IfOk, IsTrue, codes};
-ghost use Rattle.std.specs.Prelude.{MatchResult};
+ghost use Rattle.std.specs.Prelude.{◌≡◌, List, [], Option, IfSome, IfNone, IfOk, MatchResult, codes};
 ghost use Rattle.clap.specs.Words.{found_of, rows_of, subcommand_of, subcommand_rows_of};
 ghost use Rattle.clap.specs.Faults.{fault_of};
-ghost use Rattle.clap.specs.Values.{kind_of};
-ghost use Rattle.clap.specs.declared.error.kind.ErrorKind.TheVariants.{OutOfMemory};
 ghost use Rattle.ug_cli.specs.Options.{ug};
-ghost use Rattle.ug_cli.specs.Taken.{AskedIn, Asks, IsGen, IsRefused, IsRestart, IsShow, IsSolve};
-ghost use Rattle.ug_cli.specs.Taken.{IsUnread, TakenWords, ranks_of as stated_ranks, texts};
+ghost use Rattle.ug_cli.specs.Taken.{AskedIn, Asks, IsRefused, IsUnread, TakenWords};
+ghost use Rattle.ug_cli.specs.Taken.{ranks_of as stated_ranks, texts};
 
 use crate::given::{given, text_of};
 use crate::options::command;
@@ -14,7 +11,7 @@ use crate::plan::{Gen, Plan, Ranks, Restart, Show, Solve};
 use crate::settings::settings_of;
 use crate::usage::Usage;
 use clap::ArgMatches;
-use clap::error::{Error, ErrorKind};
+use clap::error::ErrorKind;
 use std::alloc::Global;
 
 fn solve_of<'a>(matches: &ArgMatches<'a>) -> Option<Plan<'a>>
@@ -113,24 +110,13 @@ fn parsed<'a>(alloc: Global, words: &'a [String]) -> Result<ArgMatches<'a>, Usag
     match command.try_get_matches_from(words) {
         Ok(matches) => Ok(matches),
         Err(error) => {
-            let is_memory = is_memory(&error);
+            let kind = error.kind();
             drop(error);
-            Err(if is_memory {
-                Usage::Memory
-            } else {
-                Usage::Words
-            })
+            match kind {
+                ErrorKind::OutOfMemory => Err(Usage::Memory),
+                _ => Err(Usage::Words),
+            }
         }
-    }
-}
-
-// Whether clap ran out of memory.
-fn is_memory(error: &Error) -> bool
-    ensures { IsTrue result ↔ (kind_of error.now ≡ OutOfMemory) }
-{
-    match error.kind() {
-        ErrorKind::OutOfMemory => true,
-        _ => false,
     }
 }
 
