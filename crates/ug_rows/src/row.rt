@@ -3,6 +3,7 @@ ghost use Rattle.ug_rows.specs.Rows.{IsLinear, Keeps, value_of};
 
 use crate::point::Point;
 use crate::sums::sum;
+use std::alloc::AllocError;
 use ug_lists::Items;
 
 /// A factor of a column, in a sum.
@@ -17,7 +18,7 @@ pub struct Term {
 pub type Terms = Items<Term>;
 
 /// A linear sum with the sides that it has to keep to. A side that is `None` is no bound.
-#[derive(Clone, Drop)]
+#[derive(Drop)]
 pub struct Row {
     pub terms: Terms,
     pub low: Option<i128>,
@@ -25,7 +26,7 @@ pub struct Row {
 }
 
 /// What is minimised: a linear sum and a constant, both multiplied by 10 to the power of `scale`.
-#[derive(Clone, Drop)]
+#[derive(Drop)]
 pub struct Objective {
     pub terms: Terms,
     pub constant: i128,
@@ -34,6 +35,37 @@ pub struct Objective {
     pub maximise: bool,
     /// The power of ten by which values are divided when printed.
     pub scale: u8,
+}
+
+impl Clone for Row {
+    ghost is_clone = { λ row copy. copy ≡ row };
+
+    fn clone(&self) -> Result<Row, AllocError> {
+        match self.terms.clone() {
+            Ok(terms) => Ok(Row {
+                terms,
+                low: self.low,
+                high: self.high,
+            }),
+            Err(error) => Err(error),
+        }
+    }
+}
+
+impl Clone for Objective {
+    ghost is_clone = { λ objective copy. copy ≡ objective };
+
+    fn clone(&self) -> Result<Objective, AllocError> {
+        match self.terms.clone() {
+            Ok(terms) => Ok(Objective {
+                terms,
+                constant: self.constant,
+                maximise: self.maximise,
+                scale: self.scale,
+            }),
+            Err(error) => Err(error),
+        }
+    }
 }
 
 /// Whether a point keeps to a row.
