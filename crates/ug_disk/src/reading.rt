@@ -77,9 +77,9 @@ fn read_by<D: Disk>(
         if n == 0 {
             return Ok(bytes);
         }
-        if bytes.extend_from_slice(&buffer[..n]).is_err() {
+        if let Err(error) = bytes.extend_from_slice(&buffer[..n]) {
             drop(bytes);
-            return Err(ReadError::Memory);
+            return Err(ReadError::from(error));
         }
     }
 }

@@ -91,10 +91,12 @@ impl Stored {
         ensures err { OnErr result (self.new ≡ self.old) }
     {
         self.loose.reserve(1)?;
-        let over = copy(alloc, &self.bytes, at, piece.len())?;
-        if overwrite(&mut self.bytes, at as usize, piece).is_err() {
-            drop(over);
+        let Ok(over) = copy(alloc, &self.bytes, at, piece.len()) else {
             return Err(AllocError);
+        };
+        if let Err(error) = overwrite(&mut self.bytes, at as usize, piece) {
+            drop(over);
+            return Err(error);
         }
         let longest = self.longest;
         let len = piece.len() as u64;
@@ -117,7 +119,9 @@ impl Stored {
         ensures err { OnErr result (self.new ≡ self.old) }
     {
         self.loose.reserve(1)?;
-        let over = copy(alloc, &self.bytes, at, piece.len())?;
+        let Ok(over) = copy(alloc, &self.bytes, at, piece.len()) else {
+            return Err(AllocError);
+        };
         let longest = self.longest;
         let len = piece.len() as u64;
         let end = at + len;
