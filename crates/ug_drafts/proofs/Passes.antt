@@ -56,7 +56,7 @@ pub fault_of_turn : {P : Type 0} (fault : P → Option MpsFault) (all before : L
 fault_of_turn fault all before p f n turn e = first_at fault all (length before) p f turn.there (ap (first_fault fault) (sym turn.before_it) ∙ n) turn.next e
 
 -- an error at the next pair is one of all of them
-error_of_turn : {P : Type 0} (fault : P → Option MpsFault) (all before : List P) (p : P) (e : MpsError) → first_fault fault before ≡ None → IsTurn all before p → IsOf (fault p) e → IsOf (first_fault fault all) e
+pub error_of_turn : {P : Type 0} (fault : P → Option MpsFault) (all before : List P) (p : P) (e : MpsError) → first_fault fault before ≡ None → IsTurn all before p → IsOf (fault p) e → IsOf (first_fault fault all) e
 error_of_turn fault all before p Memory n turn is = tt
 error_of_turn fault all before p (Fault f) n turn is = fault_of_turn fault all before p f n turn is
 

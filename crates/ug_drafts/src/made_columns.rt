@@ -1,4 +1,4 @@
-ghost use Rattle.std.specs.Prelude.{◌≡◌, map, None, Some, MatchResult};
+ghost use Rattle.std.specs.Prelude.{◌≡◌, [], ◌∷◌, ◌++◌, map, None, Some, MatchResult};
 ghost use Rattle.std.specs.List.{zip};
 ghost use Rattle.ug_drafts.specs.Bounds.{IsBox, is_infinite, bound_or};
 ghost use Rattle.ug_drafts.specs.FirstFaults.{IsOf, first_fault};
@@ -97,10 +97,35 @@ pub fn make_columns(
 {
     let mut columns = Vec::with_capacity(alloc, drafts.len())?;
     for (name, draft) in names.into_iter().zip(drafts) {
-        match column_of(boxed, name, draft) {
-            Ok(column) => columns.push(column)?,
-            Err(fault) => return Err(MpsError::Fault(fault)),
+        match push_column(&mut columns, boxed, name, draft) {
+            Ok(()) => {}
+            Err(error) => {
+                drop(columns);
+                return Err(error);
+            }
         }
     }
     Ok(columns)
+}
+
+// Adds a column of the problem, or tells its fault.
+fn push_column(
+    columns: &mut Vec<Column>,
+    boxed: Option<u32>,
+    name: Text,
+    draft: ColumnDraft,
+) -> Result<(), MpsError>
+    requires { IsBox boxed }
+    ensures { MatchResult result
+        (λ _. (column_fault_kept boxed (name, draft) ≡ None)
+        × (columns.new.items ≡ columns.old.items ++ made_column boxed (name, draft) ∷ []))
+        (IsOf (column_fault_kept boxed (name, draft))) }
+{
+    match column_of(boxed, name, draft) {
+        Ok(column) => {
+            columns.push(column)?;
+            Ok(())
+        }
+        Err(fault) => Err(MpsError::Fault(fault)),
+    }
 }

@@ -7,6 +7,7 @@ use crate::fault::{Kind, MpsError, MpsFault};
 use crate::made::make;
 use crate::row::RowDraft;
 use std::alloc::Global;
+use std::mem;
 use ug_lists::{Items, Text};
 use ug_problem::NamedRows;
 use ug_rows::{Objective, Terms};
@@ -49,17 +50,31 @@ impl RowsAndObjective {
             (IsOf (row_fault_kept (name, draft))) }
     {
         if draft.role.is_ignored() {
+            drop(name);
+            drop(draft);
             return Ok(());
         }
-        let Some(made) = make(alloc, &draft)? else {
-            return Err(MpsError::Fault(MpsFault {
-                line: draft.line,
-                kind: Kind::TooWide,
-                word: Some(name),
-            }));
+        let line = draft.line;
+        let is_objective = draft.role.is_objective();
+        let making = make(alloc, &draft);
+        drop(draft);
+        let made = match making {
+            Ok(Some(made)) => made,
+            Ok(None) => {
+                return Err(MpsError::Fault(MpsFault {
+                    line,
+                    kind: Kind::TooWide,
+                    word: Some(name),
+                }));
+            }
+            Err(error) => {
+                drop(name);
+                return Err(MpsError::from(error));
+            }
         };
-        if draft.role.is_objective() {
-            self.objective = made.into_objective(maximise);
+        if is_objective {
+            drop(name);
+            drop(mem::replace(&mut self.objective, made.into_objective(maximise)));
             return Ok(());
         }
         self.rows.push(made.into_row(name))?;

@@ -1,12 +1,13 @@
+use Rattle.std.proofs.Common.{refl}
 use Rattle.ug_drafts.specs.Made.{column_fault_kept}
 use Rattle.ug_drafts.proofs.SideBySide.{turn_of, end_of}
-use Rattle.ug_drafts.proofs.Passes.{fault_of_turn, columns_more}
+use Rattle.ug_drafts.proofs.Passes.{error_of_turn, columns_more}
 use Rattle.ug_drafts.proofs.made_columns.make_columns.Goals as goal
 
 pub loop-name-preserved : goal.loop-name-preserved
 loop-name-preserved c =
-    columns_more c.args.boxed c.loop-name.yielded (c.in-Some.name, c.in-Some.draft) c.loop-name.columns.items c.push.new.self.items c.in-Ok.column
-    c.loop-name.invariant c.in-Ok.ensures.0 c.in-Ok.ensures.1 c.in_ok-push-in-Ok.ensures.items
+    columns_more c.args.boxed c.loop-name.yielded (c.in-Some.name, c.in-Some.draft) c.loop-name.columns.items c.push_column.new.columns.items _
+    c.loop-name.invariant c.in-Ok.ensures.0 refl c.in-Ok.ensures.1
 
 pub returns-in-Err : goal.returns-in-Err
 returns-in-Err c =
@@ -14,7 +15,7 @@ returns-in-Err c =
     c.into_iter-name-iterator.ensures.into_iter_gives c.zip-name-items.ensures.first c.into_iter.ensures.rest c.into_iter.ensures.len
     c.zip-name-items.ensures.second.0 c.zip-name-items.ensures.second.1
     c.loop-name.yielded c.loop-name.name-iterator c.next.new.self c.next.result (c.in-Some.name, c.in-Some.draft) c.loop-name.yielded_by c.in-Some.is c.next.ensures.steps in
-    fault_of_turn (column_fault_kept c.args.boxed) _ c.loop-name.yielded (c.in-Some.name, c.in-Some.draft) c.in-Err.fault c.loop-name.invariant.none turn c.in-Err.ensures
+    error_of_turn (column_fault_kept c.args.boxed) _ c.loop-name.yielded (c.in-Some.name, c.in-Some.draft) c.in-Err.error c.loop-name.invariant.none turn c.in-Err.ensures
 
 pub returns : goal.returns
 returns c =
