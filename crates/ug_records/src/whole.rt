@@ -62,10 +62,28 @@ fn parts_at(alloc: Global, bytes: &[u8]) -> Result<((Columns, NamedRows, Objecti
 {
     let (width, rest) = count_at(bytes, 10_000)?;
     let (columns, rest) = columns_at(alloc, rest, width)?;
-    let (height, rest) = count_at(rest, 10_000)?;
-    let ((rows, room), rest) = rows_at(alloc, rest, width, 1_000_000, height)?;
-    let (objective, rest) = objective_at(alloc, rest, width, room)?;
-    Ok(((columns, rows, objective), rest))
+    let (height, rest) = match count_at(rest, 10_000) {
+        Ok(found) => found,
+        Err(fault) => {
+            drop(columns);
+            return Err(fault);
+        }
+    };
+    let ((rows, room), rest) = match rows_at(alloc, rest, width, 1_000_000, height) {
+        Ok(found) => found,
+        Err(fault) => {
+            drop(columns);
+            return Err(fault);
+        }
+    };
+    match objective_at(alloc, rest, width, room) {
+        Ok((objective, rest)) => Ok(((columns, rows, objective), rest)),
+        Err(fault) => {
+            drop(columns);
+            drop(rows);
+            Err(fault)
+        }
+    }
 }
 
 /// The parts of the problem whose record the bytes are.
@@ -75,6 +93,7 @@ pub fn parts_of(alloc: Global, bytes: &[u8]) -> Result<(Columns, NamedRows, Obje
 {
     let (parts, rest) = parts_at(alloc, bytes)?;
     if !rest.is_empty() {
+        drop(parts);
         return Err(Fault::Bad(rest.len()));
     }
     Ok(parts)
