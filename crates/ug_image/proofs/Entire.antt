@@ -10,7 +10,7 @@ use Rattle.ug_records.proofs.Simple.{small_reader}
 use Rattle.ug_image.specs.declared.image.Image.{Image}
 use Rattle.ug_image.specs.declared.image.SavedNode.{SavedNode}
 use Rattle.ug_image.specs.Spelling.{long_field, problem_fields, best_fields, deliveries_field, gap_field, nodes_fields, spelled_in}
-use Rattle.ug_image.specs.Reading.{long_at, problem_at, best_at, deliveries_at, gap_at, nodes_at, fields_at, image_at}
+use Rattle.ug_image.specs.Reading.{long_at, problem_at, best_at, deliveries_at, gap_at, nodes_at, behind_problem, fields_at, image_at}
 use Rattle.ug_image.proofs.Plain.{IsNone, IsGapOf, long_reader, deliveries_reader, gap_reader}
 use Rattle.ug_image.proofs.Named.{AreReadNodes, nodes_reader, size_of}
 use Rattle.ug_image.proofs.Bests.{IsGoodBest, IsReadProblem, best_reader, problem_reader}
@@ -224,7 +224,7 @@ pub record IsTaken (bytes : List ℕ) (image : Image) (rest : List ℕ) : Type 0
 
 fields_taken : (bytes : List ℕ) (image : Image) (rest : List ℕ) → IsBytes bytes
     → fields_at bytes ≡ Ok (image, rest) → IsTaken bytes image rest
-unfolding fields_at
+unfolding fields_at behind_problem
 fields_taken bytes image rest h e =
     let b1 = bind_ok (small_at 1 3 bytes) after_version (image, rest) e in
     let v = b1.0.0 in
@@ -263,7 +263,7 @@ fields_taken bytes image rest h e =
 
 fields_again : (v : ℕ) (image : Image) (rest : List ℕ) → IsRead v image
     → fields_at (spelled_in v image ++ rest) ≡ Ok (image, rest)
-unfolding fields_at
+unfolding fields_at behind_problem
 fields_again v i rest is =
     ap (λ t. fields_at (t ++ rest)) (in_order v i)
     ∙ ap (λ t. small_at 1 3 t >>= after_version) (append_assoc (v ∷ []) (from_run v i) rest)
@@ -319,7 +319,7 @@ module _ {X Y : Type 0} (Good : X → Type 0) (field : X → List ℕ) (read : L
 
 fields_within : (bytes : List ℕ) (left : ℕ) → IsBytes bytes → fields_at bytes ≡ Err left
     → left ≤ length bytes
-unfolding fields_at
+unfolding fields_at behind_problem
 fields_within bytes left h e =
     step _ _ _ after_version (small_reader 1 3)
     (λ v rest1 left1 g1 h1 e1. step _ _ _ (after_run v) (long_reader 1)

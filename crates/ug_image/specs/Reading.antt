@@ -234,23 +234,19 @@ nodes_at version run root n bytes =
     then (named_at run root n bytes >>= λ nodes. Ok (nodes.0.0, nodes.1))
     else (bare_at run root n bytes >>= λ nodes. Ok (nodes.0.0, nodes.1))
 
--- the fields of an image, and what stands behind them
-unfoldable pub fields_at : List ℕ → Reading Image
-fields_at bytes = do
-  version ← small_at 1 3 bytes
-  run ← long_at 1 version.1
-  sequence ← long_at 1 run.1
-  problem ← problem_at sequence.1
-  best ← best_at problem.0 problem.1
-  deliveries ← deliveries_at version.0 best.1
-  gap ← gap_at version.0 deliveries.1
+-- the fields behind the problem of an image in this version, with this run and sequence
+unfoldable pub behind_problem : ℕ → ℕ → ℕ → Instance → List ℕ → Reading Image
+behind_problem version run sequence problem bytes = do
+  best ← best_at problem bytes
+  deliveries ← deliveries_at version best.1
+  gap ← gap_at version deliveries.1
   count ← long_at 0 gap.1
-  nodes ← nodes_at version.0 run.0 (root_of problem.0) count.0 count.1
+  nodes ← nodes_at version run (root_of problem) count.0 count.1
   Ok (
     record {
-      run = run.0;
-      sequence = sequence.0;
-      problem = problem.0;
+      run = run;
+      sequence = sequence;
+      problem = problem;
       best = best.0;
       deliveries = deliveries.0;
       gap = gap.0;
@@ -258,6 +254,15 @@ fields_at bytes = do
     },
     nodes.1,
   )
+
+-- the fields of an image, and what stands behind them
+unfoldable pub fields_at : List ℕ → Reading Image
+fields_at bytes = do
+  version ← small_at 1 3 bytes
+  run ← long_at 1 version.1
+  sequence ← long_at 1 run.1
+  problem ← problem_at sequence.1
+  behind_problem version.0 run.0 sequence.0 problem.0 problem.1
 
 -- a whole image: its fields, and nothing behind them
 unfoldable pub image_at : List ℕ → Result Image ℕ
