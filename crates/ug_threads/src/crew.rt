@@ -39,9 +39,27 @@ pub fn start<'s, E, R: Threads + Wait + Sync, G: Gate>(
     sender: Sender<Snapshot>,
     every: Option<u64>,
 ) {
+    let started = start_each(scope, rt, alloc, desk, places, gate, &sender, every);
+    match places.first() {
+        Some(place) if started == 0 => sit(rt, alloc, desk, place, gate, Some(sender), every),
+        _ => drop(sender),
+    }
+}
+
+// Starts a thread for each pass, and says how many were started. One whose thread was not leaves.
+fn start_each<'s, E, R: Threads + Wait + Sync, G: Gate>(
+    scope: &'s Scope<'s, E>,
+    rt: &'s R,
+    alloc: Global,
+    desk: &'s Desk,
+    places: &'s [Mutex<Pass>],
+    gate: &'s G,
+    sender: &Sender<Snapshot>,
+    every: Option<u64>,
+) -> u32 {
     let mut started = 0u32;
     for place in places {
-        let own = sender_for(&sender, every);
+        let own = sender_for(sender, every);
         let spawned = scope.spawn(move || sit(rt, alloc, desk, place, gate, own, every));
         if spawned.is_ok() {
             started = started.saturating_add(1);
@@ -50,10 +68,7 @@ pub fn start<'s, E, R: Threads + Wait + Sync, G: Gate>(
         }
         drop(spawned);
     }
-    match places.first() {
-        Some(place) if started == 0 => sit(rt, alloc, desk, place, gate, Some(sender), every),
-        _ => drop(sender),
-    }
+    started
 }
 
 // A sender of one's own, where snapshots are wanted and there is memory for it.
