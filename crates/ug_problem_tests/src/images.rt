@@ -1,60 +1,83 @@
-use crate::expect::{holds, holds_at};
-use std::alloc::{AllocError, Global};
-use std::test::Fail;
+use crate::expect::{holds, holds_at, same};
+use std::alloc::Global;
 use ug_image::{Image, ImageError, decode};
 
 // The image of run 1 and sequence 2 of a problem with no column and no row, of which the root is
 // left, in version 3.
-const NOTHING: [u8; 104] = [
+const NOTHING: &[u8] = &[
     3, 0, 0, 0, 0, 0, 0, 0, 1, 0, 0, 0, 0, 0, 0, 0, 2, 0, 0, 0, 30, 0, 0, 0, 0, 0, 0, 0, 0, 0, 0,
     0, 0, 0, 0, 0, 0, 0, 0, 0, 0, 0, 0, 0, 0, 0, 0, 0, 0, 0, 0, 0, 0, 0, 0, 0, 0, 0, 0, 0, 0, 0, 0,
     0, 0, 0, 0, 0, 0, 0, 0, 0, 0, 0, 0, 0, 0, 0, 0, 0, 0, 0, 0, 1, 0, 0, 0, 0, 0, 0, 0, 0, 0, 0, 0,
     0, 0, 0, 0, 0, 0, 0, 0, 0,
 ];
 
-// These bytes under a version, without those from one place to another.
-fn in_version(
-    alloc: Global,
-    whole: &[u8],
-    version: u8,
-    from: usize,
-    to: usize,
-) -> Result<Vec<u8>, AllocError> {
-    let mut bytes = Vec::new(alloc);
-    for (at, byte) in whole.iter().enumerate() {
-        if at < from || to <= at {
-            bytes.push(*byte)?;
-        }
+// The same in version 2, which has no gap.
+const SECOND: &[u8] = &[
+    2, 0, 0, 0, 0, 0, 0, 0, 1, 0, 0, 0, 0, 0, 0, 0, 2, 0, 0, 0, 30, 0, 0, 0, 0, 0, 0, 0, 0, 0, 0,
+    0, 0, 0, 0, 0, 0, 0, 0, 0, 0, 0, 0, 0, 0, 0, 0, 0, 0, 0, 0, 0, 0, 0, 0, 0, 0, 0, 0, 0, 0, 0, 0,
+    0, 0, 0, 0, 1, 0, 0, 0, 0, 0, 0, 0, 0, 0, 0, 0, 0, 0, 0, 0, 0, 0, 0, 0, 0,
+];
+
+// And in version 1, which has neither deliveries nor the node's name.
+const FIRST: &[u8] = &[
+    1, 0, 0, 0, 0, 0, 0, 0, 1, 0, 0, 0, 0, 0, 0, 0, 2, 0, 0, 0, 30, 0, 0, 0, 0, 0, 0, 0, 0, 0, 0,
+    0, 0, 0, 0, 0, 0, 0, 0, 0, 0, 0, 0, 0, 0, 0, 0, 0, 0, 0, 0, 0, 0, 0, 0, 0, 0, 0, 0, 1, 0, 0, 0,
+    0,
+];
+
+fn is_of_nothing(image: &Image) -> bool {
+    image.run == 1
+        && image.sequence == 2
+        && image.best.is_none()
+        && image.deliveries == 0
+        && image.gap == 0
+        && image.nodes.len() == 1
+}
+
+// Whether that image is read.
+fn reads(alloc: Global, bytes: &[u8]) -> bool {
+    let Ok(image) = decode(alloc, bytes) else {
+        return false;
+    };
+    let is_it = is_of_nothing(&image);
+    drop(image);
+    is_it
+}
+
+// Where the field begins that is bad, if one is.
+fn place(alloc: Global, bytes: &[u8]) -> Option<usize> {
+    match decode(alloc, bytes).err()? {
+        ImageError::BadAt { at } => Some(at),
+        ImageError::Memory => None,
     }
+}
+
+#[test]
+fn reads_three_versions(rt: HostRuntime) {
+    holds(&rt, reads(rt.alloc(), NOTHING));
+    holds(&rt, reads(rt.alloc(), SECOND));
+    holds(&rt, reads(rt.alloc(), FIRST));
+}
+
+// Where the bad field begins of version 2 under another version.
+fn place_under(alloc: Global, version: u8) -> Option<usize> {
+    let mut bytes = SECOND.to_vec(alloc).ok()?;
     if let Some(first) = bytes.first_mut() {
         *first = version;
     }
-    Ok(bytes)
+    let place = place(alloc, &bytes);
+    drop(bytes);
+    place
 }
 
-fn is_it(read: Result<Image, ImageError>) -> bool {
-    match read {
-        Ok(image) => {
-            image.run == 1
-                && image.sequence == 2
-                && image.best.is_none()
-                && image.deliveries == 0
-                && image.gap == 0
-                && image.nodes.len() == 1
-        }
-        Err(_) => false,
-    }
-}
-
-fn place(read: Result<Image, ImageError>) -> Option<usize> {
-    match read {
-        Err(ImageError::BadAt { at }) => Some(at),
-        Ok(_) | Err(ImageError::Memory) => None,
-    }
+#[test]
+fn names_a_version_that_is_none(rt: HostRuntime) {
+    same(&rt, &place_under(rt.alloc(), 0), &Some(0));
+    same(&rt, &place_under(rt.alloc(), 4), &Some(0));
 }
 
 // Where the field begins that is cut short where so many bytes are left.
-const CUTS: [(usize, usize); 20] = [
+const CUTS: &[(usize, usize)] = &[
     (0, 0),
     (1, 1),
     (8, 1),
@@ -78,23 +101,9 @@ const CUTS: [(usize, usize); 20] = [
 ];
 
 #[test]
-fn reads_three_versions_and_names_the_field_that_is_cut_short(rt: HostRuntime) -> Result<(), Fail> {
-    let alloc = rt.alloc();
-    holds(&rt, is_it(decode(alloc, &NOTHING)));
-    let second = in_version(alloc, &NOTHING, 2, 60, 76)?;
-    holds(&rt, is_it(decode(alloc, &second)));
-    let unnamed = in_version(alloc, &second, 1, 68, 84)?;
-    holds(
-        &rt,
-        is_it(decode(alloc, &in_version(alloc, &unnamed, 1, 52, 60)?)),
-    );
-    for version in [0, 4] {
-        let other = in_version(alloc, &second, version, 104, 104)?;
-        holds(&rt, place(decode(alloc, &other)) == Some(0));
-    }
+fn names_the_field_that_is_cut_short(rt: HostRuntime) {
     for (left, at) in CUTS {
-        let cut = NOTHING.get(..left).unwrap_or(&[]);
-        holds_at(&rt, place(decode(alloc, cut)) == Some(at), &left);
+        let cut = NOTHING.get(..*left).unwrap_or(&[]);
+        holds_at(&rt, place(rt.alloc(), cut) == Some(*at), left);
     }
-    Ok(())
 }

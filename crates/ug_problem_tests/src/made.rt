@@ -1,46 +1,46 @@
 ghost use Rattle.std.specs.Prelude.{◌≤◌};
 
-use crate::expect::holds;
+use crate::expect::same;
 use std::alloc::{AllocError, Global};
 use ug_gen::make;
-use ug_problem::Problem;
+use ug_problem::{Column, Problem};
 use ug_rows::Term;
 
-// The factors of the terms, in their order.
-fn factors(alloc: Global, terms: &[Term]) -> Result<Vec<i128>, AllocError> {
-    terms.iter().map(|term| term.factor).collect(alloc)
+// Whether the terms have these factors, in their order.
+fn are_factors(terms: &[Term], factors: &[i128]) -> bool {
+    for (term, factor) in terms.iter().zip(factors) {
+        if term.factor != *factor {
+            return false;
+        }
+    }
+    terms.len() == factors.len()
 }
 
 // Whether the row has these factors and this high side, and no low one.
-fn row_is(
-    alloc: Global,
-    problem: &Problem,
-    at: usize,
-    weights: &[i128],
-    most: i128,
-) -> Result<bool, AllocError> {
+fn row_is(problem: &Problem, at: usize, weights: &[i128], most: i128) -> bool {
     match problem.rows().get(at) {
         Some(named) => {
             let row = &named.row;
-            let sides = row.low.is_none() && row.high == Some(most);
-            Ok(sides && factors(alloc, row.terms.as_slice())?.as_slice() == weights)
+            row.low.is_none()
+                && row.high == Some(most)
+                && are_factors(row.terms.as_slice(), weights)
         }
-        None => Ok(false),
+        None => false,
     }
 }
 
 // What is wanted of a row: its factors, and its high side.
 type Wanted = (&'static [i128], i128);
 
-const THREE: [Wanted; 3] = [(&[50, 23, 10], 41), (&[24, 45, 41], 55), (&[9, 29, 16], 27)];
+const THREE: &[Wanted] = &[(&[50, 23, 10], 41), (&[24, 45, 41], 55), (&[9, 29, 16], 27)];
 
-const FOUR: [Wanted; 3] = [
+const FOUR: &[Wanted] = &[
     (&[50, 23, 10, 43], 63),
     (&[24, 45, 41, 38], 74),
     (&[9, 29, 16, 4], 29),
 ];
 
-const NAMES: [&[u8]; 3] = [b"C1", b"C2", b"C3"];
+const NAMES: &[&[u8]] = &[b"C1", b"C2", b"C3"];
 
 // The instance of seed 1. Nothing is promised of it here, so that the test's proof computes none.
 fn made(alloc: Global, size: u32) -> Result<Problem, AllocError>
@@ -50,59 +50,75 @@ fn made(alloc: Global, size: u32) -> Result<Problem, AllocError>
     make(alloc, 1, size)
 }
 
-fn rows_are(alloc: Global, problem: &Problem, wanted: &[Wanted]) -> Result<bool, AllocError> {
+fn rows_are(problem: &Problem, wanted: &[Wanted]) -> bool {
     for (at, (weights, most)) in wanted.iter().enumerate() {
-        if !row_is(alloc, problem, at, weights, *most)? {
-            return Ok(false);
-        }
-    }
-    Ok(true)
-}
-
-// Whether the profits are these, which are lost where they are not taken.
-fn profits_are(alloc: Global, problem: &Problem, wanted: &[i128]) -> Result<bool, AllocError> {
-    let objective = problem.objective();
-    let profits = factors(alloc, objective.terms.as_slice())?;
-    Ok(objective.maximise && profits.as_slice() == wanted)
-}
-
-// Whether the columns have these names, and are 0 or 1.
-fn columns_are(problem: &Problem, names: &[&[u8]]) -> bool {
-    for (column, name) in problem.columns().iter().zip(names.iter()) {
-        if column.name.as_slice() != *name || (column.low, column.high) != (0, 1) {
+        if !row_is(problem, at, weights, *most) {
             return false;
         }
     }
-    problem.columns().len() == names.len()
+    true
 }
 
-fn makes_rows(alloc: Global, size: u32, wanted: &[Wanted]) -> Result<bool, AllocError>
+// Whether the profits are these, which are lost where they are not taken.
+fn profits_are(problem: &Problem, wanted: &[i128]) -> bool {
+    let objective = problem.objective();
+    objective.maximise && are_factors(objective.terms.as_slice(), wanted)
+}
+
+// Whether the column has this name, and is 0 or 1.
+fn column_is(column: &Column, name: &[u8]) -> bool {
+    column.name.as_slice() == name && column.low == 0 && column.high == 1
+}
+
+// Whether the columns are so.
+fn columns_are(columns: &[Column], names: &[&[u8]]) -> bool {
+    for (column, name) in columns.iter().zip(names) {
+        if !column_is(column, name) {
+            return false;
+        }
+    }
+    columns.len() == names.len()
+}
+
+fn makes_rows(alloc: Global, size: u32, wanted: &[Wanted]) -> Option<bool>
     requires least { 1 ≤ size }
     requires most { size ≤ 40 }
 {
-    rows_are(alloc, &made(alloc, size)?, wanted)
+    let problem = made(alloc, size).ok()?;
+    let are = rows_are(&problem, wanted);
+    drop(problem);
+    Some(are)
 }
 
-fn makes_profits(alloc: Global, size: u32, wanted: &[i128]) -> Result<bool, AllocError>
+fn makes_profits(alloc: Global, size: u32, wanted: &[i128]) -> Option<bool>
     requires least { 1 ≤ size }
     requires most { size ≤ 40 }
 {
-    profits_are(alloc, &made(alloc, size)?, wanted)
+    let problem = made(alloc, size).ok()?;
+    let are = profits_are(&problem, wanted);
+    drop(problem);
+    Some(are)
 }
 
-fn makes_columns(alloc: Global, size: u32, names: &[&[u8]]) -> Result<bool, AllocError>
+fn makes_columns(alloc: Global, size: u32, names: &[&[u8]]) -> Option<bool>
     requires least { 1 ≤ size }
     requires most { size ≤ 40 }
 {
-    Ok(columns_are(&made(alloc, size)?, names))
+    let problem = made(alloc, size).ok()?;
+    let are = columns_are(problem.columns(), names);
+    drop(problem);
+    Some(are)
 }
 
 #[test]
-fn seed_one_makes_these_instances(rt: HostRuntime) -> Result<(), AllocError> {
+fn seed_one_makes_these_instances(rt: HostRuntime) {
     let alloc = rt.alloc();
-    holds(&rt, makes_rows(alloc, 3, &THREE)?);
-    holds(&rt, makes_columns(alloc, 3, &NAMES)?);
-    holds(&rt, makes_rows(alloc, 4, &FOUR)?);
-    holds(&rt, makes_profits(alloc, 4, &[-8, -31, -24, -93])?);
-    Ok(())
+    same(&rt, &makes_rows(alloc, 3, THREE), &Some(true));
+    same(&rt, &makes_columns(alloc, 3, NAMES), &Some(true));
+    same(&rt, &makes_rows(alloc, 4, FOUR), &Some(true));
+    same(
+        &rt,
+        &makes_profits(alloc, 4, &[-8, -31, -24, -93]),
+        &Some(true),
+    );
 }

@@ -4,7 +4,7 @@ ghost use Rattle.ug_rows.specs.Rows.{IsLinear};
 use crate::expect::{holds, same};
 use std::alloc::{AllocError, Global};
 use std::cmp::Ordering;
-use std::test::Fail;
+use std::process::Abort;
 use ug_lists::Items;
 use ug_nodes::{
     AreaError, Change, Changes, Line, Name, Node, Ticket, area_of, changes_of, first_outside,
@@ -27,133 +27,145 @@ fn area(alloc: Global, x: (i32, i32), y: (i32, i32)) -> Result<IntBox, AllocErro
     Ok(IntBox::from_vec(Vec::from_slice(alloc, &[x, y])?))
 }
 
-fn change(column: u32, low: i32, high: i32) -> Change {
-    Change { column, low, high }
+// The box of two columns from 0 to 7.
+fn square(alloc: Global) -> Result<IntBox, AllocError>
+    ensures { IfOk result (λ area. length area ≡ 2) }
+{
+    area(alloc, (0, 7), (0, 7))
 }
+
+// A column, and its new low and high bound.
+type Told = (u32, i32, i32);
 
 // The changes, if their columns rise.
-fn list(alloc: Global, changes: &[Change]) -> Result<Option<Changes>, AllocError> {
-    Ok(Changes::checked(Vec::from_slice(alloc, changes)?))
+fn list(alloc: Global, told: &[Told]) -> Result<Option<Changes>, AllocError> {
+    let mut changes = Vec::new(alloc);
+    for (column, low, high) in told {
+        changes.push(Change {
+            column: *column,
+            low: *low,
+            high: *high,
+        })?;
+    }
+    Ok(Changes::checked(changes))
 }
 
-// What `area_of` answers over the box of two columns from 0 to 7, where it makes none.
-fn refused(alloc: Global, changes: &[Change]) -> Result<Option<AreaError>, AllocError> {
-    let root = area(alloc, (0, 7), (0, 7))?;
-    Ok(match list(alloc, changes)? {
-        Some(changes) => area_of(alloc, &root, &changes).err(),
-        None => None,
-    })
+// The same of changes whose columns do.
+fn listed(rt: &impl Abort, alloc: Global, told: &[Told]) -> Changes {
+    let changes = list(alloc, told).expect(rt, "memory");
+    changes.expect(rt, "rising")
 }
 
-#[test]
-fn spells_a_box_and_reads_it_back(rt: HostRuntime) -> Result<(), Fail> {
-    let alloc = rt.alloc();
-    let root = area(alloc, (0, 7), (0, 7))?;
-    let upper = area(alloc, (4, 7), (0, 7))?;
-    let changes = changes_of(alloc, &root, &upper)?;
-    holds(&rt, changes.as_slice() == [change(0, 4, 7)].as_slice());
-    let back = area_of(alloc, &root, &changes).ok();
-    holds(
-        &rt,
-        back.is_some_and(|back| back.as_slice() == upper.as_slice()),
-    );
-    holds(&rt, changes_of(alloc, &root, &root)?.as_slice().is_empty());
-    Ok(())
+// Whether they do.
+fn rise(alloc: Global, told: &[Told]) -> Option<bool> {
+    let changes = list(alloc, told).ok()?;
+    let rise = changes.is_some();
+    drop(changes);
+    Some(rise)
 }
 
-#[test]
-fn names_the_first_change_that_is_none(rt: HostRuntime) -> Result<(), Fail> {
-    let alloc = rt.alloc();
-    let outside = |column| Some(AreaError::Outside { column });
-    same(
-        &rt,
-        &refused(alloc, &[change(0, 4, 7), change(1, 0, 7)])?,
-        &outside(1),
-    );
-    same(
-        &rt,
-        &refused(alloc, &[change(0, 5, 4), change(2, 0, 1)])?,
-        &outside(0),
-    );
-    same(&rt, &refused(alloc, &[change(2, 0, 1)])?, &outside(2));
-    same(
-        &rt,
-        &refused(alloc, &[change(0, 1, 7), change(1, 1, 8)])?,
-        &outside(1),
-    );
-    same(&rt, &refused(alloc, &[change(0, -1, 7)])?, &outside(0));
-    same(
-        &rt,
-        &refused(alloc, &[change(0, 1, 7), change(1, 7, 7)])?,
-        &None,
-    );
-    holds(
-        &rt,
-        list(alloc, &[change(1, 1, 7), change(0, 1, 7)])?.is_none(),
-    );
-    holds(
-        &rt,
-        list(alloc, &[change(1, 1, 7), change(1, 2, 7)])?.is_none(),
-    );
-    Ok(())
+// Whether these are the changes.
+fn are(changes: &Changes, told: &[Told]) -> bool {
+    let changes = changes.as_slice();
+    changes.len() == told.len()
+        && changes.iter().zip(told).all(|(change, told)| (change.column, change.low, change.high)
+            == *told)
 }
 
-// What `first_outside` answers over two columns from 0 to 7, if `told` spells a box below that.
-fn outside(
-    alloc: Global,
-    told: &[Change],
-    changes: &[Change],
-) -> Result<Option<Option<u32>>, AllocError> {
-    let root = area(alloc, (0, 7), (0, 7))?;
-    let Some(told) = list(alloc, told)? else {
-        return Ok(None);
+// Whether the changes spell this box.
+fn spell(alloc: Global, root: &IntBox, changes: &Changes, area: &IntBox) -> bool {
+    let Ok(spelled) = area_of(alloc, root, changes) else {
+        return false;
     };
-    let Some(changes) = list(alloc, changes)? else {
-        return Ok(None);
-    };
-    Ok(match area_of(alloc, &root, &told) {
-        Ok(_) => Some(first_outside(&root, &told, &changes)),
-        Err(_) => None,
-    })
+    let is_same = spelled.as_slice() == area.as_slice();
+    drop(spelled);
+    is_same
+}
+
+// Whether the box whose first column has these bounds is spelled so below the square, and read
+// back.
+fn is_spelled_so(rt: &impl Abort, alloc: Global, x: (i32, i32), told: &[Told]) -> bool {
+    let root = square(alloc).expect(rt, "memory");
+    let area = area(alloc, x, (0, 7)).expect(rt, "memory");
+    let changes = changes_of(alloc, &root, &area).expect(rt, "memory");
+    let is_so = are(&changes, told) && spell(alloc, &root, &changes, &area);
+    drop(changes);
+    drop(area);
+    drop(root);
+    is_so
 }
 
 #[test]
-fn names_the_least_column_outside(rt: HostRuntime) -> Result<(), Fail> {
+fn spells_a_box_and_reads_it_back(rt: HostRuntime) {
     let alloc = rt.alloc();
-    let x = [change(0, 4, 7)];
-    let y = [change(1, 0, 3)];
-    same(
-        &rt,
-        &outside(alloc, &x, &[change(0, 4, 7), change(1, 2, 2)])?,
-        &Some(None),
-    );
-    same(&rt, &outside(alloc, &x, &[])?, &Some(Some(0)));
-    same(
-        &rt,
-        &outside(alloc, &y, &[change(2, 0, 1)])?,
-        &Some(Some(1)),
-    );
-    same(
-        &rt,
-        &outside(alloc, &y, &[change(0, 5, 4), change(1, 0, 4)])?,
-        &Some(Some(0)),
-    );
-    same(
-        &rt,
-        &outside(alloc, &x, &[change(0, 3, 7)])?,
-        &Some(Some(0)),
-    );
-    same(
-        &rt,
-        &outside(alloc, &x, &[change(0, 5, 6), change(1, 0, 7)])?,
-        &Some(Some(1)),
-    );
-    same(
-        &rt,
-        &outside(alloc, &[], &[change(2, 0, 1)])?,
-        &Some(Some(2)),
-    );
-    Ok(())
+    holds(&rt, is_spelled_so(&rt, alloc, (4, 7), &[(0, 4, 7)]));
+    holds(&rt, is_spelled_so(&rt, alloc, (0, 7), &[]));
+}
+
+// Why `area_of` makes no box of these changes below the square; none where it makes one.
+fn refused(rt: &impl Abort, alloc: Global, told: &[Told]) -> Option<AreaError> {
+    let root = square(alloc).expect(rt, "memory");
+    let changes = listed(rt, alloc, told);
+    let error = area_of(alloc, &root, &changes).err();
+    drop(changes);
+    drop(root);
+    error
+}
+
+// Changes, and the column of the first that is none.
+const FIRST_BAD: &[(&[Told], Option<u32>)] = &[
+    (&[(0, 4, 7), (1, 0, 7)], Some(1)),
+    (&[(0, 5, 4), (2, 0, 1)], Some(0)),
+    (&[(2, 0, 1)], Some(2)),
+    (&[(0, 1, 7), (1, 1, 8)], Some(1)),
+    (&[(0, -1, 7)], Some(0)),
+    (&[(0, 1, 7), (1, 7, 7)], None),
+];
+
+#[test]
+fn names_the_first_change_that_is_none(rt: HostRuntime) {
+    for (told, column) in FIRST_BAD {
+        let error = column.map(|column| AreaError::Outside { column });
+        same(&rt, &refused(&rt, rt.alloc(), told), &error);
+    }
+}
+
+#[test]
+fn columns_of_changes_rise(rt: HostRuntime) {
+    let alloc = rt.alloc();
+    same(&rt, &rise(alloc, &[(1, 1, 7), (0, 1, 7)]), &Some(false));
+    same(&rt, &rise(alloc, &[(1, 1, 7), (1, 2, 7)]), &Some(false));
+}
+
+// What `first_outside` answers below the square, if `told` spells a box below that.
+fn outside(rt: &impl Abort, alloc: Global, told: &[Told], changes: &[Told]) -> Option<u32> {
+    let root = square(alloc).expect(rt, "memory");
+    let told = listed(rt, alloc, told);
+    let changes = listed(rt, alloc, changes);
+    drop(area_of(alloc, &root, &told).expect(rt, "they spell no box"));
+    let column = first_outside(&root, &told, &changes);
+    drop(told);
+    drop(changes);
+    drop(root);
+    column
+}
+
+// What spells a box below the square, changes, and their least column outside that box.
+const OUTSIDE: &[(&[Told], &[Told], Option<u32>)] = &[
+    (&[(0, 4, 7)], &[(0, 4, 7), (1, 2, 2)], None),
+    (&[(0, 4, 7)], &[], Some(0)),
+    (&[(1, 0, 3)], &[(2, 0, 1)], Some(1)),
+    (&[(1, 0, 3)], &[(0, 5, 4), (1, 0, 4)], Some(0)),
+    (&[(0, 4, 7)], &[(0, 3, 7)], Some(0)),
+    (&[(0, 4, 7)], &[(0, 5, 6), (1, 0, 7)], Some(1)),
+    (&[], &[(2, 0, 1)], Some(2)),
+];
+
+#[test]
+fn names_the_least_column_outside(rt: HostRuntime) {
+    for (told, changes, column) in OUTSIDE {
+        same(&rt, &outside(&rt, rt.alloc(), told, changes), column);
+    }
 }
 
 // Two x less three y, and one.
@@ -177,23 +189,24 @@ fn objective(alloc: Global) -> Result<Objective, AllocError>
     })
 }
 
+// The floor of the square, and that of the box that these changes spell below it.
+fn floors(rt: &impl Abort, alloc: Global, told: &[Told]) -> (i128, i128) {
+    let root = square(alloc).expect(rt, "memory");
+    let objective = objective(alloc).expect(rt, "memory");
+    let changes = listed(rt, alloc, told);
+    drop(area_of(alloc, &root, &changes).expect(rt, "they spell no box"));
+    let first = floor(&objective, &root);
+    let moved = floor_of_changes(&objective, &root, first, &changes);
+    drop(changes);
+    drop(objective);
+    drop(root);
+    (first, moved)
+}
+
 #[test]
-fn moves_the_floor_with_the_changes(rt: HostRuntime) -> Result<(), Fail> {
-    let alloc = rt.alloc();
-    let objective = objective(alloc)?;
-    let root = area(alloc, (0, 7), (0, 7))?;
-    let root_floor = floor(&objective, &root);
-    let changes = list(alloc, &[change(0, 4, 7), change(1, 0, 3)])?.ok_or("rising")?;
-    if area_of(alloc, &root, &changes).is_err() {
-        panic!(rt; "they spell no box");
-    }
-    same(&rt, &root_floor, &-20);
-    same(
-        &rt,
-        &floor_of_changes(&objective, &root, root_floor, &changes),
-        &0,
-    );
-    Ok(())
+fn moves_the_floor_with_the_changes(rt: HostRuntime) {
+    let floors = floors(&rt, rt.alloc(), &[(0, 4, 7), (1, 0, 3)]);
+    same(&rt, &floors, &(-20, 0));
 }
 
 fn name(run: u64, number: u64, hand: u64) -> Name {
@@ -220,30 +233,37 @@ fn is_child_alone(root: &Line, line: &Line, sibling: &Line) -> bool {
 }
 
 #[test]
-fn stands_below_the_names_of_its_line(rt: HostRuntime) -> Result<(), Fail> {
+fn stands_below_the_names_of_its_line(rt: HostRuntime) {
     let alloc = rt.alloc();
-    let root = Line::start(alloc, name(1, 1, 1))?;
-    let line = root.child(alloc, name(1, 4, 2))?;
+    let root = Line::start(alloc, name(1, 1, 1)).expect(&rt, "memory");
+    let line = root.child(alloc, name(1, 4, 2)).expect(&rt, "memory");
+    let sibling = root.child(alloc, name(1, 4, 3)).expect(&rt, "memory");
     holds(&rt, is_below_its_names(&root, &line));
-    let sibling = root.child(alloc, name(1, 4, 3))?;
     holds(&rt, is_child_alone(&root, &line, &sibling));
-    holds(&rt, Line::checked(Vec::new(alloc)).is_none());
-    Ok(())
-}
-
-// Whether a copy of a node of this line has the line, and no changes.
-fn is_copied(alloc: Global, line: Line) -> Result<bool, AllocError> {
-    let changes = Changes::new(Vec::new(alloc));
-    let node = Node { line, changes };
-    let copy = node.clone()?;
-    Ok(copy.line.as_slice() == node.line.as_slice() && copy.changes.as_slice().is_empty())
+    drop(root);
+    drop(line);
+    drop(sibling);
 }
 
 #[test]
-fn node_is_copied(rt: HostRuntime) -> Result<(), Fail> {
-    let alloc = rt.alloc();
-    holds(&rt, is_copied(alloc, Line::start(alloc, name(1, 1, 1))?)?);
-    Ok(())
+fn line_has_a_name(rt: HostRuntime) {
+    holds(&rt, Line::checked(Vec::new(rt.alloc())).is_none());
+}
+
+// Whether a node has the line of another one, and no changes.
+fn is_copy_of(copy: &Node, node: &Node) -> bool {
+    copy.line.as_slice() == node.line.as_slice() && copy.changes.as_slice().is_empty()
+}
+
+#[test]
+fn node_is_copied(rt: HostRuntime) {
+    let line = Line::start(rt.alloc(), name(1, 1, 1)).expect(&rt, "memory");
+    let changes = Changes::new(Vec::new(rt.alloc()));
+    let node = Node { line, changes };
+    let copy = node.clone().expect(&rt, "memory");
+    holds(&rt, is_copy_of(&copy, &node));
+    drop(node);
+    drop(copy);
 }
 
 #[test]

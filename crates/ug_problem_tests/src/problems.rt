@@ -2,8 +2,9 @@ ghost use Rattle.std.specs.Prelude.{◌≡◌, ◌≢◌, ◌≤◌, ◌*◌, �
 ghost use Rattle.ug_rows.specs.declared.row.Term.{Term};
 ghost use Rattle.ug_problem.specs.Instances.{IsFormed, instance_of};
 
-use crate::expect::{holds, same};
+use crate::expect::{holds, holds_at, same};
 use std::alloc::{AllocError, Global};
+use std::process::Abort;
 use ug_lists::{Items, Text};
 use ug_problem::{Column, Columns, NamedRow, NamedRows, Problem, ProblemError, Shared};
 use ug_rows::{Objective, Row, Term, Terms};
@@ -79,7 +80,7 @@ fn made(alloc: Global, factor: i128, maximise: bool, scale: u8) -> Result<Proble
 #[test]
 fn is_made_unless_a_row_is_too_wide(rt: HostRuntime) {
     let widest = 1_000_000_000_000_000_000_000_000;
-    holds(&rt, made(rt.alloc(), widest, false, 0).is_ok());
+    same(&rt, &made(rt.alloc(), widest, false, 0).err(), &None);
     same(
         &rt,
         &made(rt.alloc(), widest + 1, false, 0).err(),
@@ -88,81 +89,77 @@ fn is_made_unless_a_row_is_too_wide(rt: HostRuntime) {
 }
 
 // A holder of a problem with this factor.
-fn holder(alloc: Global, factor: i128) -> Option<Shared>
+fn holder(rt: &impl Abort, alloc: Global, factor: i128) -> Shared
     requires { factor ≢ pos 0 }
 {
-    Some(Shared::own(made(alloc, factor, false, 0).ok()?))
+    Shared::own(made(alloc, factor, false, 0).expect(rt, "memory"))
 }
 
 // Whether a second holder has the same problem.
-fn shares(first: &Shared) -> Option<bool> {
-    let second = first.share().ok()?;
-    Some(second.problem().is(first.problem()))
-}
-
-fn shares_its_own(alloc: Global) -> Option<bool> {
-    let own = holder(alloc, 3)?;
-    shares(&own)
-}
-
-fn shares_a_counted_one(alloc: Global) -> Option<bool> {
-    let own = holder(alloc, 3)?;
-    let counted = own.into_counted(alloc).ok()?;
-    shares(&counted)
-}
-
-// Whether a problem is that of a copy once it is counted.
-fn counted_is_of(copy: &Shared, own: Shared, alloc: Global) -> Option<bool> {
-    let counted = own.into_counted(alloc).ok()?;
-    Some(counted.problem().is(copy.problem()))
-}
-
-fn stays_when_counted(alloc: Global) -> Option<bool> {
-    let own = holder(alloc, 3)?;
-    let copy = own.share().ok()?;
-    counted_is_of(&copy, own, alloc)
-}
-
-fn is_another(alloc: Global) -> Option<bool> {
-    let first = holder(alloc, 3)?;
-    let other = holder(alloc, 4)?;
-    Some(other.problem().is(first.problem()))
+fn shares(rt: &impl Abort, first: &Shared) -> bool {
+    let second = first.share().expect(rt, "memory");
+    let is_same = second.problem().is(first.problem());
+    drop(second);
+    is_same
 }
 
 #[test]
 fn has_a_second_holder(rt: HostRuntime) {
-    let alloc = rt.alloc();
-    same(&rt, &shares_its_own(alloc), &Some(true));
-    same(&rt, &shares_a_counted_one(alloc), &Some(true));
-    same(&rt, &stays_when_counted(alloc), &Some(true));
-    same(&rt, &is_another(alloc), &Some(false));
-}
-
-// Whether this text is printed of a value.
-fn prints(alloc: Global, value: i128, maximise: bool, scale: u8, text: &str) -> bool
-    requires value { unsigned_abs value ≤ 2 * 10 ^ 37 }
-    requires scale { scale ≤ 60 }
-{
-    let Ok(problem) = made(alloc, 1, maximise, scale) else {
-        return false;
-    };
-    match problem.print_value(alloc, value) {
-        Ok(printed) => printed.as_slice() == text.as_bytes(),
-        Err(_) => false,
-    }
+    let own = holder(&rt, rt.alloc(), 3);
+    holds(&rt, shares(&rt, &own));
+    let other = holder(&rt, rt.alloc(), 4);
+    holds(&rt, !other.problem().is(own.problem()));
+    drop(own);
+    drop(other);
 }
 
 #[test]
+fn counted_one_has_a_second_holder_and_is_that_of_a_copy(rt: HostRuntime) {
+    let own = holder(&rt, rt.alloc(), 3);
+    let copy = own.share().expect(&rt, "memory");
+    let counted = own.into_counted(rt.alloc()).expect(&rt, "memory");
+    holds(&rt, shares(&rt, &counted));
+    holds(&rt, counted.problem().is(copy.problem()));
+    drop(copy);
+    drop(counted);
+}
+
+// Whether this text is printed of a value that is small enough.
+fn prints(alloc: Global, value: i128, maximise: bool, scale: u8, text: &str) -> bool {
+    if scale > 60 || value.unsigned_abs() > 10_000_000_000_000_000_000_000_000_000_000_000_000 {
+        return false;
+    }
+    let Ok(problem) = made(alloc, 1, maximise, scale) else {
+        return false;
+    };
+    let printed = problem.print_value(alloc, value);
+    drop(problem);
+    printed.is_ok_and(|printed| printed.as_slice() == text.as_bytes())
+}
+
+// A value, whether it is maximised, its scale, and what is printed of it.
+const PRINTED: &[(i128, bool, u8, &str)] = &[
+    (225, false, 2, "2.25"),
+    (-7, false, 0, "-7"),
+    (100, false, 2, "1"),
+    (5, false, 3, "0.005"),
+    (0, true, 3, "0"),
+    (-13, true, 0, "13"),
+    (
+        10_000_000_000_000_000_000_000_000_000_000_000_000,
+        true,
+        60,
+        "-0.00000000000000000000001",
+    ),
+];
+
+#[test]
 fn prints_in_lowest_terms(rt: HostRuntime) {
-    let tiny = 10_000_000_000_000_000_000_000_000_000_000_000_000;
-    holds(&rt, prints(rt.alloc(), 225, false, 2, "2.25"));
-    holds(&rt, prints(rt.alloc(), -7, false, 0, "-7"));
-    holds(&rt, prints(rt.alloc(), 100, false, 2, "1"));
-    holds(&rt, prints(rt.alloc(), 5, false, 3, "0.005"));
-    holds(&rt, prints(rt.alloc(), 0, true, 3, "0"));
-    holds(&rt, prints(rt.alloc(), -13, true, 0, "13"));
-    holds(
-        &rt,
-        prints(rt.alloc(), tiny, true, 60, "-0.00000000000000000000001"),
-    );
+    for (value, maximise, scale, text) in PRINTED {
+        holds_at(
+            &rt,
+            prints(rt.alloc(), *value, *maximise, *scale, text),
+            value,
+        );
+    }
 }

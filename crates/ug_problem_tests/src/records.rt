@@ -1,6 +1,5 @@
-use crate::expect::{holds, same};
+use crate::expect::{same, same_at};
 use std::alloc::{AllocError, Global};
-use std::test::Fail;
 use ug_lists::Items;
 use ug_mps::read;
 use ug_problem::{Problem, ProblemError};
@@ -35,7 +34,7 @@ fn nil(alloc: Global) -> Result<Problem, ProblemError> {
     Problem::new(alloc, Items::new(alloc), Items::new(alloc), objective)
 }
 
-const SMALL: [u8; 104] = [
+const SMALL: &[u8] = &[
     0, 0, 0, 1, // columns
     1, b'X', 255, 255, 255, 255, 0, 0, 0, 7, //
     0, 0, 0, 1, // rows
@@ -55,23 +54,25 @@ fn is_spelled_so(alloc: Global, problem: &Problem, wanted: &[u8]) -> Result<bool
 }
 
 // Whether nothing at all is spelled by bytes of 0.
-fn is_nothing_zeros(alloc: Global) -> Result<bool, Fail> {
-    let problem = nil(alloc)?;
-    Ok(is_spelled_so(alloc, &problem, &[0; 30])?)
+fn is_nothing_zeros(alloc: Global) -> Option<bool> {
+    let problem = nil(alloc).ok()?;
+    let is_so = is_spelled_so(alloc, &problem, &[0; 30]);
+    drop(problem);
+    is_so.ok()
 }
 
 // Whether the problem of the text is spelled so, if the text has no fault.
 fn is_text_spelled_so(alloc: Global, wanted: &[u8]) -> Option<bool> {
     let problem = read(alloc, TEXT, None).ok()?;
-    is_spelled_so(alloc, &problem, wanted).ok()
+    let is_so = is_spelled_so(alloc, &problem, wanted);
+    drop(problem);
+    is_so.ok()
 }
 
 #[test]
-fn records_are_spelled_so(rt: HostRuntime) -> Result<(), Fail> {
-    let alloc = rt.alloc();
-    holds(&rt, is_nothing_zeros(alloc)?);
-    same(&rt, &is_text_spelled_so(alloc, &SMALL), &Some(true));
-    Ok(())
+fn records_are_spelled_so(rt: HostRuntime) {
+    same(&rt, &is_nothing_zeros(rt.alloc()), &Some(true));
+    same(&rt, &is_text_spelled_so(rt.alloc(), SMALL), &Some(true));
 }
 
 // Where the first bad field begins.
@@ -83,22 +84,18 @@ fn place(alloc: Global, bytes: &[u8]) -> Option<usize> {
 }
 
 // The same with another value at one byte.
-fn place_with(
-    alloc: Global,
-    written: &[u8],
-    byte: usize,
-    value: u8,
-) -> Result<Option<usize>, AllocError> {
-    let mut bytes = Vec::new(alloc);
-    bytes.extend_from_slice(written)?;
-    if let Some(b) = bytes.get_mut(byte) {
-        *b = value;
+fn place_with(alloc: Global, written: &[u8], byte: usize, value: u8) -> Option<Option<usize>> {
+    let mut bytes = written.to_vec(alloc).ok()?;
+    if let Some(place) = bytes.get_mut(byte) {
+        *place = value;
     }
-    Ok(place(alloc, &bytes))
+    let place = place(alloc, &bytes);
+    drop(bytes);
+    Some(place)
 }
 
 // At this byte of the small record this value: where the bad field begins.
-const SPOILED: [(usize, u8, usize); 14] = [
+const SPOILED: &[(usize, u8, usize)] = &[
     (2, 40, 0), // 10,241 columns
     (4, 0, 4), // a name of no bytes
     (5, b' ', 5), // a blank in a name
@@ -115,35 +112,50 @@ const SPOILED: [(usize, u8, usize); 14] = [
     (88, 127, 88), // a factor above 10^24
 ];
 
-// Where the first bad field begins with a second term of the objective, in the column of the first.
-fn place_with_a_term_more(alloc: Global) -> Result<Option<usize>, AllocError> {
-    let mut bytes = SMALL.to_vec(alloc)?;
-    bytes.extend_from_slice(&[0, 0, 0, 0, 0, 0, 0, 0, 0, 0, 0, 0, 0, 0, 0, 0, 0, 0, 0, 2])?;
-    place_with(alloc, &bytes, 83, 2)
+// The small record with a second term of the objective, in the column of the first.
+fn with_a_term_more(alloc: Global) -> Result<Vec<u8>, AllocError> {
+    let mut bytes = Vec::new(alloc);
+    bytes.extend_from_slice(SMALL)?;
+    bytes.extend_from_slice(&[0, 0, 0, 0])?;
+    bytes.extend_from_slice(&2i128.to_be_bytes())?;
+    Ok(bytes)
+}
+
+// Where its first bad field begins, if it says that there are two.
+fn place_with_a_term_more(alloc: Global) -> Option<Option<usize>> {
+    let bytes = with_a_term_more(alloc).ok()?;
+    let place = place_with(alloc, &bytes, 83, 2);
+    drop(bytes);
+    place
 }
 
 #[test]
-fn bad_fields_are_named(rt: HostRuntime) -> Result<(), AllocError> {
-    let alloc = rt.alloc();
+fn bad_fields_are_named(rt: HostRuntime) {
     for (byte, value, at) in SPOILED {
-        same(&rt, &place_with(alloc, &SMALL, byte, value)?, &Some(at));
+        let place = place_with(rt.alloc(), SMALL, *byte, *value);
+        same_at(&rt, &place, &Some(Some(*at)), byte);
     }
+}
+
+#[test]
+fn record_that_is_too_short_or_too_long_is_named(rt: HostRuntime) {
+    let alloc = rt.alloc();
     same(&rt, &place(alloc, &[0; 29]), &Some(26));
     same(&rt, &place(alloc, &[0; 31]), &Some(30));
-    same(&rt, &place_with_a_term_more(alloc)?, &Some(104));
-    Ok(())
+    same(&rt, &place_with_a_term_more(alloc), &Some(Some(104)));
+}
+
+// Whether a record is that of the problem that is read of it.
+fn is_read_back(alloc: Global, bytes: &[u8]) -> Option<bool> {
+    let problem = from_record(alloc, bytes).ok()?;
+    let is_so = is_spelled_so(alloc, &problem, bytes);
+    drop(problem);
+    is_so.ok()
 }
 
 #[test]
-fn a_record_is_read_back(rt: HostRuntime) -> Result<(), Fail> {
-    let alloc = rt.alloc();
-    let problem = from_record(alloc, &SMALL)?;
-    same(
-        &rt,
-        &to_record(alloc, &problem)?.as_slice(),
-        &SMALL.as_slice(),
-    );
+fn a_record_is_read_back(rt: HostRuntime) {
+    same(&rt, &is_read_back(rt.alloc(), SMALL), &Some(true));
     // a low bound may stand above the high one
-    same(&rt, &place_with(alloc, &SMALL, 6, 0)?, &None);
-    Ok(())
+    same(&rt, &place_with(rt.alloc(), SMALL, 6, 0), &Some(None));
 }

@@ -1,8 +1,10 @@
 //! Bound propagation on small problems, by the fast body and by the slow one that the definition is.
 
+ghost use Rattle.ug_problem.specs.Better.{IsSmallCutoff};
+
 use crate::expect::{holds_at, same};
 use crate::whole::is_small;
-use std::alloc::Global;
+use std::alloc::{AllocError, Global};
 use ug_mps::read;
 use ug_problem::Problem;
 use ug_propagate::{Reason, Side, Sums, Tight, tighten, tighten_plain};
@@ -140,7 +142,7 @@ ENDATA
 type Outcome = Result<&'static [(i32, i32)], Reason>;
 
 // What the rounds leave of the root under a cutoff.
-const CASES: [(&[u8], Option<i128>, Outcome); 8] = [
+const CASES: &[(&[u8], Option<i128>, Outcome)] = &[
     (AT_MOST_7, None, Ok(&[(0, 3)])),
     (AT_LEAST_7, Some(9), Ok(&[(4, 8)])),
     (AT_LEAST_19, None, Err(NO_HIGH)),
@@ -174,7 +176,7 @@ fn are(sides: &[Interval], wanted: &[(i32, i32)]) -> bool {
 }
 
 // Whether this is what was wanted.
-fn is_so(tight: &Tight, wanted: &Outcome) -> bool {
+fn is_wanted(tight: &Tight, wanted: &Outcome) -> bool {
     match (tight, wanted) {
         (Tight::Kept(area), Ok(wanted)) => are(area.as_slice(), wanted),
         (Tight::Empty(reason), Err(wanted)) => reason == wanted,
@@ -182,18 +184,35 @@ fn is_so(tight: &Tight, wanted: &Outcome) -> bool {
     }
 }
 
-// Whether both bodies leave what is wanted of the root of this problem.
-fn both_leave(alloc: Global, text: &[u8], cutoff: Option<i128>, wanted: &Outcome) -> bool {
-    let Ok(problem) = read(alloc, text, None) else {
+// Whether it is, if there was memory for it.
+fn is_so(tight: Result<Tight, AllocError>, wanted: &Outcome) -> bool {
+    let Ok(tight) = tight else {
         return false;
     };
+    let is_so = is_wanted(&tight, wanted);
+    drop(tight);
+    is_so
+}
+
+fn both_leave_of(alloc: Global, problem: &Problem, cutoff: Option<i128>, wanted: &Outcome) -> bool
+    requires { IsSmallCutoff cutoff }
+{
+    let root = problem.root();
+    is_so(tighten(alloc, problem, cutoff, root), wanted)
+        && is_so(tighten_plain(alloc, problem, cutoff, root), wanted)
+}
+
+// Whether both bodies leave what is wanted of the root of this problem.
+fn both_leave(alloc: Global, text: &[u8], cutoff: Option<i128>, wanted: &Outcome) -> bool {
     if !is_small(cutoff) {
         return false;
     }
-    tighten(alloc, &problem, cutoff, problem.root()).is_ok_and(|tight| is_so(&tight, wanted))
-        && tighten_plain(alloc, &problem, cutoff, problem.root()).is_ok_and(|tight| is_so(
-            &tight, wanted,
-        ))
+    let Ok(problem) = read(alloc, text, None) else {
+        return false;
+    };
+    let leave = both_leave_of(alloc, &problem, cutoff, wanted);
+    drop(problem);
+    leave
 }
 
 #[test]
@@ -216,22 +235,27 @@ fn running_sums(alloc: Global, problem: &Problem) -> Option<[i128; 6]> {
     let second = sums.greatest(problem, Some(1));
     let least = sums.least(problem, Some(0));
     sums.set(problem, 0, 1, 2);
-    Some([
+    let told = [
         before,
         first,
         second,
         least,
         sums.least(problem, Some(0)),
         sums.least(problem, None),
-    ])
+    ];
+    drop(sums);
+    Some(told)
+}
+
+fn sums_of_the_knapsack(alloc: Global) -> Option<[i128; 6]> {
+    let problem = read(alloc, KNAPSACK, None).ok()?;
+    let sums = running_sums(alloc, &problem);
+    drop(problem);
+    sums
 }
 
 #[test]
 fn sums_follow_a_column(rt: HostRuntime) {
-    let alloc = rt.alloc();
-    let sums = match read(alloc, KNAPSACK, None) {
-        Ok(problem) => running_sums(alloc, &problem),
-        Err(_) => None,
-    };
+    let sums = sums_of_the_knapsack(rt.alloc());
     same(&rt, &sums, &Some([60, 44, 38, 0, 2, 1]));
 }

@@ -1,14 +1,16 @@
-ghost use Rattle.std.specs.Prelude.{◌<◌, ◌≤◌, ◌*◌, ◌^◌, unsigned_abs};
+ghost use Rattle.std.specs.Prelude.{◌<◌, ◌≤◌, ◌*◌, ◌^◌, IfSome, unsigned_abs};
+ghost use Rattle.ug_rows.specs.Boxes.{IsBelow};
+ghost use Rattle.ug_problem.specs.Instances.{root_of};
 ghost use Rattle.ug_problem.specs.Better.{IsGap};
 
 use crate::expect::{holds, same, same_at};
-use std::alloc::Global;
+use std::alloc::{AllocError, Global};
 use ug_base::{Step, Task};
 use ug_branch::Params;
 use ug_mps::read;
 use ug_nodes::Ticket;
-use ug_problem::Shared;
-use ug_rows::{Interval, below};
+use ug_problem::{Problem, Shared};
+use ug_rows::{IntBox, Interval, below};
 
 // Two columns from 0 to 7, whose sum is at least 5 and minimised.
 const SQUARE: &[u8] = b"ROWS
@@ -26,18 +28,30 @@ BOUNDS
 ENDATA
 ";
 
+/// The whole box of a problem, if there is memory for it.
+pub fn whole_of(problem: &Problem) -> Option<IntBox>
+    ensures { IfSome result (λ whole. IsBelow whole (root_of problem.now)) }
+{
+    let whole = problem.root().clone().ok()?;
+    if below(&whole, problem.root()) {
+        Some(whole)
+    } else {
+        drop(whole);
+        None
+    }
+}
+
 // The task of all of the square, with these params and this gap.
 fn task(alloc: Global, number: u8, gap: i128) -> Option<Task>
     requires number { number < 8 }
     requires gap { IsGap gap }
 {
-    let problem = read(alloc, SQUARE, None).ok()?;
-    let whole = problem.root().clone().ok()?;
-    if !below(&whole, problem.root()) {
+    let problem = Shared::own(read(alloc, SQUARE, None).ok()?);
+    let Some(whole) = whole_of(problem.problem()) else {
+        drop(problem);
         return None;
-    }
+    };
     let ticket = Ticket { run: 1, number: 3 };
-    let problem = Shared::own(problem);
     Task::new(
         alloc,
         problem,
@@ -61,26 +75,39 @@ fn letter(step: &Step) -> u8 {
     }
 }
 
-// Whether the search of the square goes as it does by hand: what each step did, the boxes left and
-// their least floor.
+// The letter for the next step, if there is memory for it.
+fn next_letter(task: &mut Task) -> Option<u8> {
+    let step = task.step().ok()?;
+    let letter = letter(&step);
+    drop(step);
+    Some(letter)
+}
+
+// Whether the next step has this letter.
+fn steps_so(task: &mut Task, told: u8) -> bool {
+    next_letter(task) == Some(told)
+}
+
+// What each step of the search of the square does, the boxes left and their least floor, by hand.
+const BY_HAND: &[(u8, u64, Option<i128>)] = &[
+    (b'S', 2, Some(0)),
+    (b'S', 3, Some(2)),
+    (b'S', 4, Some(4)),
+    (b'S', 5, Some(4)),
+    (b'S', 6, Some(4)),
+    (b'F', 5, Some(4)),
+    (b'P', 4, Some(4)),
+    (b'P', 3, Some(4)),
+    (b'P', 2, Some(4)),
+    (b'P', 1, Some(4)),
+    (b'P', 0, None),
+    (b'E', 0, None),
+];
+
+// Whether the search of the square goes as it does by hand.
 fn goes_as_by_hand(task: &mut Task) -> bool {
-    for (told, left, lowest) in [
-        (b'S', 2, Some(0)),
-        (b'S', 3, Some(2)),
-        (b'S', 4, Some(4)),
-        (b'S', 5, Some(4)),
-        (b'S', 6, Some(4)),
-        (b'F', 5, Some(4)),
-        (b'P', 4, Some(4)),
-        (b'P', 3, Some(4)),
-        (b'P', 2, Some(4)),
-        (b'P', 1, Some(4)),
-        (b'P', 0, None),
-        (b'E', 0, None),
-    ] {
-        let step = task.step();
-        let same = step.is_ok_and(|step| letter(&step) == told);
-        if !same || task.left() != left || task.lowest() != lowest {
+    for (told, left, lowest) in BY_HAND {
+        if !steps_so(task, *told) || task.left() != *left || task.lowest() != *lowest {
             return false;
         }
     }
@@ -92,11 +119,10 @@ fn ends_under(alloc: Global, gap: i128) -> Option<i128>
     requires { IsGap gap }
 {
     let mut task = task(alloc, 0, gap)?;
-    if task.lowest() == Some(0) && goes_as_by_hand(&mut task) {
-        task.cutoff()
-    } else {
-        None
-    }
+    let is_so = task.lowest() == Some(0) && goes_as_by_hand(&mut task);
+    let cutoff = task.cutoff();
+    drop(task);
+    if is_so { cutoff } else { None }
 }
 
 #[test]
@@ -107,16 +133,24 @@ fn searches_the_square_under_gaps(rt: HostRuntime) {
     same(&rt, &ends_under(alloc, 9), &Some(0));
 }
 
+// Steps a task until nothing is left.
+fn search(task: &mut Task) -> Result<(), AllocError> {
+    loop {
+        if matches!(task.step()?, Step::Empty) {
+            return Ok(());
+        }
+    }
+}
+
 // The cutoff with which the search of the square ends.
 fn ends_with(alloc: Global, number: u8) -> Option<i128>
     requires { number < 8 }
 {
     let mut task = task(alloc, number, 0)?;
-    loop {
-        if matches!(task.step().ok()?, Step::Empty) {
-            return task.cutoff();
-        }
-    }
+    let is_over = search(&mut task).is_ok();
+    let cutoff = task.cutoff();
+    drop(task);
+    if is_over { cutoff } else { None }
 }
 
 #[test]
@@ -124,11 +158,6 @@ fn ends_with_the_least_value(rt: HostRuntime) {
     for number in 0..8 {
         same_at(&rt, &ends_with(rt.alloc(), number), &Some(5), &number);
     }
-}
-
-// Whether the next step has this letter.
-fn steps_so(task: &mut Task, told: u8) -> bool {
-    task.step().is_ok_and(|step| letter(&step) == told)
 }
 
 // Whether the task has this cutoff behind what lowers it.
@@ -151,7 +180,10 @@ fn is_lowered(task: &mut Task) -> bool {
 #[test]
 fn lowers_the_cutoff(rt: HostRuntime) {
     match task(rt.alloc(), 0, 0) {
-        Some(mut task) => holds(&rt, is_lowered(&mut task)),
+        Some(mut task) => {
+            holds(&rt, is_lowered(&mut task));
+            drop(task);
+        }
         None => panic!(rt; "no memory"),
     }
 }
@@ -197,7 +229,10 @@ fn hands_first(task: &mut Task) -> bool {
 #[test]
 fn hands_the_first_boxes(rt: HostRuntime) {
     match task(rt.alloc(), 0, 0) {
-        Some(mut task) => holds(&rt, hands_first(&mut task)),
+        Some(mut task) => {
+            holds(&rt, hands_first(&mut task));
+            drop(task);
+        }
         None => panic!(rt; "no memory"),
     }
 }

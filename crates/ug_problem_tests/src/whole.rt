@@ -74,6 +74,11 @@ fn upper_half(area: &IntBox, column: usize, middle: i32) -> Option<IntBox> {
     )
 }
 
+// Puts a box behind the boxes, if there is one.
+fn put(boxes: &mut Vec<IntBox>, area: Option<IntBox>) -> Option<()> {
+    boxes.push(area?).ok()
+}
+
 // Puts the two halves of a box behind the boxes, the one that is looked at first last.
 fn put_halves(
     boxes: &mut Vec<IntBox>,
@@ -82,19 +87,16 @@ fn put_halves(
     branch: Branch,
 ) -> Option<()> {
     let column = branch.column as usize;
-    let lower = lower_half(area, column, branch.middle)?;
-    let upper = upper_half(area, column, branch.middle)?;
     match params.half {
         Half::Lower => {
-            boxes.push(upper).ok()?;
-            boxes.push(lower).ok()?;
+            put(boxes, upper_half(area, column, branch.middle))?;
+            put(boxes, lower_half(area, column, branch.middle))
         }
         Half::Upper => {
-            boxes.push(lower).ok()?;
-            boxes.push(upper).ok()?;
+            put(boxes, lower_half(area, column, branch.middle))?;
+            put(boxes, upper_half(area, column, branch.middle))
         }
     }
-    Some(())
 }
 
 // What is left of a box.
@@ -141,7 +143,11 @@ fn go_on(
         }
         None => {
             let point = point_of(alloc, left.as_slice())?;
-            whole.cutoff = Some(cutoff_of(problem, gap, &point)?);
+            let Some(cutoff) = cutoff_of(problem, gap, &point) else {
+                drop(point);
+                return None;
+            };
+            whole.cutoff = Some(cutoff);
             Some(Step::Found(point))
         }
     }
@@ -160,9 +166,15 @@ pub fn step(
     let Some(last) = whole.boxes.pop() else {
         return Some(Step::Empty);
     };
-    match left_of(alloc, problem, whole.cutoff, &last)? {
+    let left = left_of(alloc, problem, whole.cutoff, &last);
+    drop(last);
+    match left? {
         Tight::Empty(_) => Some(Step::Pruned),
-        Tight::Kept(left) => go_on(alloc, problem, params, gap, whole, &left),
+        Tight::Kept(left) => {
+            let step = go_on(alloc, problem, params, gap, whole, &left);
+            drop(left);
+            step
+        }
     }
 }
 
