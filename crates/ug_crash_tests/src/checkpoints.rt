@@ -1,14 +1,13 @@
-ghost use Rattle.std.specs.Prelude.{Some, IfOk};
+ghost use Rattle.std.specs.Prelude.{Some};
 ghost use Rattle.ug_disk.specs.Memories.{history_of};
 ghost use Rattle.ug_checkpoint.specs.Savers.{IsKept};
 
 use crate::expect::{holds, same};
+use crate::savers::{opened, save_bytes};
 use crate::slots::{disk_of, script_of};
 use std::alloc::{AllocError, Global};
-use ug_blocks::length;
 use ug_checkpoint::{LoadError, SaveError, Saver, load};
 use ug_disk::{MemoryDisk, Slot};
-use ug_image::decode;
 
 // A slot with the image of a run of a problem that has neither columns nor rows: the gate, 104
 // bytes, version 3, run 1, the sequence, a record of 30 bytes, no best point, no deliveries, gap 0,
@@ -29,11 +28,12 @@ fn slot_of(sequence: u8) -> [u8; 113] {
 type Answer = Result<Option<(Slot, u64)>, LoadError>;
 
 fn answer_of(alloc: Global, disk: &mut MemoryDisk) -> Answer {
-    match load(alloc, disk) {
-        Ok(Some(found)) => Ok(Some((found.slot, found.image.sequence))),
-        Ok(None) => Ok(None),
-        Err(error) => Err(error),
-    }
+    let Some(found) = load(alloc, disk)? else {
+        return Ok(None);
+    };
+    let answer = (found.slot, found.image.sequence);
+    drop(found);
+    Ok(Some(answer))
 }
 
 // The same with another byte at a place.
@@ -48,7 +48,7 @@ fn changed(sequence: u8, at: usize, byte: u8) -> [u8; 113] {
 // Of each slot the sequence, a place and the byte there; how many bytes slot 0 has; what is found.
 type Case = ((u8, usize, u8), (u8, usize, u8), usize, Answer);
 
-const CASES: [Case; 10] = [
+const CASES: &[Case] = &[
     ((2, 0, 1), (1, 0, 1), 113, Ok(Some((Slot::Zero, 2)))),
     ((1, 0, 1), (2, 0, 1), 113, Ok(Some((Slot::One, 2)))),
     ((3, 0, 1), (3, 0, 1), 113, Ok(Some((Slot::Zero, 3)))),
@@ -93,29 +93,23 @@ const CASES: [Case; 10] = [
     ),
 ];
 
-#[test]
-fn load_finds_the_greater_sequence(rt: HostRuntime) -> Result<(), AllocError> {
-    let alloc = rt.alloc();
-    for (zero, one, len, answer) in CASES {
-        let zero = changed(zero.0, zero.1, zero.2);
-        let one = changed(one.0, one.1, one.2);
-        let mut disk = disk_of(
-            alloc,
-            &zero[..len.min(113)],
-            &one,
-            script_of(alloc, &[], &[])?,
-        )?;
-        same(&rt, &answer_of(alloc, &mut disk), &answer);
-    }
-    Ok(())
+// A disk with the slots of a case.
+fn disk_for(alloc: Global, case: &Case) -> Result<MemoryDisk, AllocError> {
+    let (zero, one, len, _) = *case;
+    let zero = changed(zero.0, zero.1, zero.2);
+    let one = changed(one.0, one.1, one.2);
+    let script = script_of(alloc, &[], &[])?;
+    disk_of(alloc, &zero[..len.min(113)], &one, script)
 }
 
-// A saver of the slots as a load leaves them.
-fn opened(alloc: Global, disk: &mut MemoryDisk) -> Result<Saver, LoadError>
-    ensures { IfOk result (λ saver. IsKept saver (Some (history_of disk.new))) }
-{
-    let found = load(alloc, disk)?;
-    Ok(Saver::new(found.as_ref()))
+#[test]
+fn load_finds_the_greater_sequence(rt: HostRuntime) {
+    for case in CASES {
+        let mut disk = disk_for(rt.alloc(), case).expect(&rt, "memory");
+        let answer = answer_of(rt.alloc(), &mut disk);
+        drop(disk);
+        same(&rt, &answer, &case.3);
+    }
 }
 
 // How a save of the image of this sequence ends, if it is above the last one.
@@ -128,26 +122,31 @@ fn saved(
     requires { IsKept saver.old (Some (history_of disk.old)) }
     ensures { IsKept saver.new (Some (history_of disk.new)) }
 {
-    let Ok(image) = decode(alloc, &slot_of(sequence)[9..]) else {
-        return Err(SaveError::Memory);
-    };
-    if saver.sequence() < image.sequence && length(&image) < 1 << 63 {
-        return saver.save(alloc, disk, &image);
-    }
-    Err(SaveError::Memory)
+    save_bytes(alloc, disk, saver, &slot_of(sequence)[9..])
 }
 
-// Whether two saves of a disk, the first after one whose gate could not be opened, go to the slots
-// in turn.
+// Whether a save whose gate could not be opened is none.
+fn fails_at_first(alloc: Global, disk: &mut MemoryDisk, saver: &mut Saver) -> bool
+    requires { IsKept saver.old (Some (history_of disk.old)) }
+    ensures { IsKept saver.new (Some (history_of disk.new)) }
+{
+    saved(alloc, disk, saver, 1) == Err(SaveError::Fault) && saver.sequence() == 0
+}
+
+// Whether the slots have the images of the first two sequences.
+fn has_both(disk: &MemoryDisk) -> bool {
+    disk.bytes(Slot::Zero) == slot_of(1).as_slice()
+        && disk.bytes(Slot::One) == slot_of(2).as_slice()
+}
+
+// Whether two saves of a disk behind that one go to the slots in turn.
 fn goes_to_both(alloc: Global, disk: &mut MemoryDisk, saver: &mut Saver) -> bool
     requires { IsKept saver.old (Some (history_of disk.old)) }
 {
-    saved(alloc, disk, saver, 1) == Err(SaveError::Fault)
-        && saver.sequence() == 0
+    fails_at_first(alloc, disk, saver)
         && saved(alloc, disk, saver, 1) == Ok(())
         && saved(alloc, disk, saver, 2) == Ok(())
-        && disk.bytes(Slot::Zero) == slot_of(1).as_slice()
-        && disk.bytes(Slot::One) == slot_of(2).as_slice()
+        && has_both(disk)
         && answer_of(alloc, disk) == Ok(Some((Slot::One, 2)))
 }
 
@@ -176,12 +175,15 @@ fn saves_a_third(alloc: Global, disk: &mut MemoryDisk) -> bool {
     }
 }
 
+// An empty disk whose tenth call fails, which is the opening of the first save's gate.
+fn failing_disk(alloc: Global) -> Result<MemoryDisk, AllocError> {
+    disk_of(alloc, &[], &[], script_of(alloc, &[10], &[])?)
+}
+
 #[test]
-fn saves_go_to_the_slots_in_turn(rt: HostRuntime) -> Result<(), AllocError> {
-    let alloc = rt.alloc();
-    // The tenth call is the opening of the first save's gate.
-    let mut disk = disk_of(alloc, &[], &[], script_of(alloc, &[10], &[])?)?;
-    holds(&rt, saves_in_turn(alloc, &mut disk));
-    holds(&rt, saves_a_third(alloc, &mut disk));
-    Ok(())
+fn saves_go_to_the_slots_in_turn(rt: HostRuntime) {
+    let mut disk = failing_disk(rt.alloc()).expect(&rt, "memory");
+    holds(&rt, saves_in_turn(rt.alloc(), &mut disk));
+    holds(&rt, saves_a_third(rt.alloc(), &mut disk));
+    drop(disk);
 }

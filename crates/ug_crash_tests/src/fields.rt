@@ -1,7 +1,6 @@
 use crate::expect::holds_at;
 use crate::slots::disk_with;
 use std::alloc::{AllocError, Global};
-use std::test::Fail;
 use ug_checkpoint::{LoadError, load};
 use ug_disk::Slot;
 
@@ -9,31 +8,32 @@ use ug_disk::Slot;
 // rows. The best point is 5, and of its two nodes the first has the column from 0 to 3.
 fn image() -> [u8; 154] {
     let mut image = [0u8; 154];
-    let parts: [(usize, u8); 14] = [
-        (0, 3),
-        (8, 1),
-        (16, 5),
-        (20, 40),
-        (24, 1),
-        (25, 1),
-        (26, b'x'),
-        (34, 7),
-        (61, 1),
-        (65, 1),
-        (69, 5),
-        (101, 2),
-        (121, 1),
-        (133, 3),
-    ];
-    for (at, byte) in parts {
-        if at < 154 {
-            image[at] = byte;
+    for (at, byte) in PARTS {
+        if *at < 154 {
+            image[*at] = *byte;
         }
     }
-    // The second node is named by hand 1.
-    image[149] = 1;
     image
 }
+
+// Its bytes that are not 0. The second node is named by hand 1.
+const PARTS: &[(usize, u8)] = &[
+    (0, 3),
+    (8, 1),
+    (16, 5),
+    (20, 40),
+    (24, 1),
+    (25, 1),
+    (26, b'x'),
+    (34, 7),
+    (61, 1),
+    (65, 1),
+    (69, 5),
+    (101, 2),
+    (121, 1),
+    (133, 3),
+    (149, 1),
+];
 
 // Whether a place of version 3 is in a version too: the deliveries, the gap and the names of the
 // nodes are not in the first, and the gap is not in the second.
@@ -50,51 +50,85 @@ fn place_in(version: u8, at: usize) -> usize {
     (0..at).filter(|before| is_in(version, *before)).count()
 }
 
-// A slot with an image in a version, of which a byte is another, cut to so many bytes or with one
-// more; the gate is open and the length that of what is there.
-fn slot_of(
-    alloc: Global,
-    version: u8,
-    (at, byte): (usize, u8),
-    len: usize,
-) -> Result<Vec<u8>, AllocError> {
-    let mut whole = image();
-    whole[0] = version;
+// The image with another byte at a place, under a version.
+fn changed(version: u8, (at, byte): (usize, u8)) -> [u8; 154] {
+    let mut image = image();
+    image[0] = version;
     if at < 154 {
-        whole[at] = byte;
+        image[at] = byte;
     }
-    let mut bytes = Vec::new(alloc);
-    for (at, byte) in whole.iter().enumerate() {
+    image
+}
+
+// Puts what is in a version of an image, cut to so many bytes or with one more.
+fn put_cut(bytes: &mut Vec<u8>, version: u8, image: &[u8], len: usize) -> Result<(), AllocError> {
+    for (at, byte) in image.iter().enumerate() {
         if is_in(version, at) {
             bytes.push(*byte)?;
         }
     }
     bytes.push(0)?;
     bytes.truncate(len);
+    Ok(())
+}
+
+// A slot with these bytes: the gate is open and the length that of what is there.
+fn opened(alloc: Global, bytes: &[u8]) -> Result<Vec<u8>, AllocError> {
     let mut slot = Vec::new(alloc);
     let len = u8::try_from(bytes.len()).unwrap_or(0);
     slot.extend_from_slice(&[1, 0, 0, 0, 0, 0, 0, 0, len])?;
-    slot.extend_from_slice(&bytes)?;
+    slot.extend_from_slice(bytes)?;
     Ok(slot)
+}
+
+// A slot with an image in a version, of which a byte is another, cut to so many bytes or with one
+// more.
+fn slot_of(
+    alloc: Global,
+    version: u8,
+    change: (usize, u8),
+    len: usize,
+) -> Result<Vec<u8>, AllocError> {
+    let mut bytes = Vec::new(alloc);
+    let put = put_cut(&mut bytes, version, &changed(version, change), len);
+    let slot = opened(alloc, &bytes);
+    drop(bytes);
+    put?;
+    slot
 }
 
 // Which place of the image is named.
 fn bad_place(alloc: Global, slot: &[u8]) -> Result<Option<usize>, AllocError> {
     let mut disk = disk_with(alloc, slot, &[])?;
-    Ok(match load(alloc, &mut disk) {
-        Err(
+    let error = load(alloc, &mut disk).err();
+    drop(disk);
+    match error {
+        Some(
             LoadError::BadImage {
                 slot: Slot::Zero,
                 at,
             },
-        ) => at.checked_sub(9),
-        _ => None,
-    })
+        ) => Ok(at.checked_sub(9)),
+        _ => Ok(None),
+    }
+}
+
+// The same of that slot.
+fn bad_place_of(
+    alloc: Global,
+    version: u8,
+    change: (usize, u8),
+    len: usize,
+) -> Result<Option<usize>, AllocError> {
+    let slot = slot_of(alloc, version, change, len)?;
+    let place = bad_place(alloc, &slot);
+    drop(slot);
+    place
 }
 
 // Where the fields of version 3 begin, but for those of the problem: one whose bytes are cut short
 // is named at its length.
-const FIELDS: [usize; 19] = [
+const FIELDS: &[usize] = &[
     0, 1, 9, 17, 61, 62, 66, 70, 78, 94, 102, 110, 118, 122, 126, 130, 134, 142, 150,
 ];
 
@@ -102,39 +136,52 @@ const FIELDS: [usize; 19] = [
 fn cut_field(version: u8, len: usize) -> usize {
     let mut found = 0;
     for field in FIELDS {
-        let place = place_in(version, field);
-        if is_in(version, field) && place <= len {
+        let place = place_in(version, *field);
+        if is_in(version, *field) && place <= len {
             found = place;
         }
     }
     found
 }
 
-// Whether a whole image of a version is read, and the right field named wherever it is cut and
-// where a byte follows it.
+// Whether a whole image of a version is read, and its end named where a byte follows it.
+fn whole_is_read(alloc: Global, version: u8) -> Result<bool, AllocError> {
+    let whole = place_in(version, 154);
+    let read = bad_place_of(alloc, version, (0, version), whole)?;
+    let more = bad_place_of(alloc, version, (0, version), whole.saturating_add(1))?;
+    Ok(read.is_none() && more == Some(whole))
+}
+
+// Whether the right field is named wherever an image of a version is cut.
 fn cuts_are_named(alloc: Global, version: u8) -> Result<bool, AllocError> {
     let whole = place_in(version, 154);
     for len in 0..whole {
-        let slot = slot_of(alloc, version, (0, version), len)?;
-        if bad_place(alloc, &slot)? != Some(cut_field(version, len)) {
+        let place = bad_place_of(alloc, version, (0, version), len)?;
+        if place != Some(cut_field(version, len)) {
             return Ok(false);
         }
     }
-    let slot = slot_of(alloc, version, (0, version), whole)?;
-    let more = slot_of(alloc, version, (0, version), whole.saturating_add(1))?;
-    Ok(bad_place(alloc, &slot)?.is_none() && bad_place(alloc, &more)? == Some(whole))
+    Ok(true)
 }
 
 #[test]
-fn field_that_is_cut_short_is_named(rt: HostRuntime) -> Result<(), Fail> {
+fn field_that_is_cut_short_is_named(rt: HostRuntime) {
     for version in 1..4 {
-        holds_at(&rt, cuts_are_named(rt.alloc(), version)?, &version);
+        holds_at(
+            &rt,
+            cuts_are_named(rt.alloc(), version) == Ok(true),
+            &version,
+        );
+        holds_at(
+            &rt,
+            whole_is_read(rt.alloc(), version) == Ok(true),
+            &version,
+        );
     }
-    Ok(())
 }
 
 // A place of version 3, the byte there, and the place that is then named.
-const EVERYWHERE: [(usize, u8, usize); 28] = [
+const EVERYWHERE: &[(usize, u8, usize)] = &[
     // The run and the sequence are at least 1.
     (8, 0, 1),
     (16, 0, 9),
@@ -175,7 +222,7 @@ const EVERYWHERE: [(usize, u8, usize); 28] = [
 ];
 
 // The same of what versions 1 and 2 have not.
-const LATER: [(u8, (usize, u8, usize)); 9] = [
+const LATER: &[(u8, (usize, u8, usize))] = &[
     (3, (78, 128, 78)),
     (3, (78, 127, 78)),
     (3, (101, 1, 134)),
@@ -188,28 +235,30 @@ const LATER: [(u8, (usize, u8, usize)); 9] = [
 ];
 
 // Whether this place is named where a byte of a version is another.
-fn is_named(
-    alloc: Global,
-    version: u8,
-    (at, byte, named): (usize, u8, usize),
-) -> Result<bool, AllocError> {
-    let slot = slot_of(alloc, version, (at, byte), place_in(version, 154))?;
-    Ok(bad_place(alloc, &slot)? == Some(place_in(version, named)))
+fn is_named(alloc: Global, version: u8, (at, byte, named): (usize, u8, usize)) -> bool {
+    let place = bad_place_of(alloc, version, (at, byte), place_in(version, 154));
+    place == Ok(Some(place_in(version, named)))
 }
 
 #[test]
-fn field_that_breaks_a_rule_is_named(rt: HostRuntime) -> Result<(), Fail> {
-    let alloc = rt.alloc();
+fn version_that_is_none_is_named(rt: HostRuntime) {
     for version in [0u8, 4, 255] {
-        holds_at(&rt, is_named(alloc, version, (0, version, 0))?, &version);
+        holds_at(
+            &rt,
+            is_named(rt.alloc(), version, (0, version, 0)),
+            &version,
+        );
     }
+}
+
+#[test]
+fn field_that_breaks_a_rule_is_named(rt: HostRuntime) {
     for version in 1..4 {
-        for case in &EVERYWHERE {
-            holds_at(&rt, is_named(alloc, version, *case)?, &version);
+        for case in EVERYWHERE {
+            holds_at(&rt, is_named(rt.alloc(), version, *case), &version);
         }
     }
-    for (version, case) in &LATER {
-        holds_at(&rt, is_named(alloc, *version, *case)?, &version);
+    for (version, case) in LATER {
+        holds_at(&rt, is_named(rt.alloc(), *version, *case), version);
     }
-    Ok(())
 }

@@ -1,70 +1,111 @@
-use crate::expect::{holds, same};
+use crate::expect::holds;
 use std::alloc::Global;
+use std::fs::{File, Files};
 use std::io;
-use std::test::Fail;
 use ug_disk::{Disk, Slot, read_all};
 use ug_real::FileDisk;
-
-// All bytes of the slot, where no call failed.
-fn bytes_of<D: Disk>(alloc: Global, disk: &mut D, slot: Slot) -> Option<Vec<u8>> {
-    read_all(alloc, disk, slot).ok()
-}
 
 // Whether the last call that failed did so for this cause.
 fn failed_for(error: Option<&io::Error>, kind: io::ErrorKind) -> bool {
     error.is_some_and(|error| error.kind() == kind)
 }
 
-#[test]
-fn one_disk_writes_a_folder_and_others_read_it(rt: HostRuntime) -> Result<(), Fail> {
-    let alloc = rt.alloc();
-    let mut disk = FileDisk::new(&rt, alloc, "saved/here");
-    holds(&rt, disk.write_at(Slot::Zero, 0, b"abcdef").is_ok());
-    holds(&rt, disk.write_at(Slot::Zero, 2, b"XY").is_ok());
-    holds(&rt, disk.write_at(Slot::One, 0, b"z").is_ok());
-    holds(
-        &rt,
-        disk.sync(Slot::Zero).is_ok() && disk.sync(Slot::One).is_ok(),
-    );
-    same(&rt, &disk.len(Slot::Zero).ok(), &Some(6));
+// Whether all bytes of the slot are these.
+fn has<D: Disk>(alloc: Global, disk: &mut D, slot: Slot, wanted: &[u8]) -> bool {
+    let Ok(bytes) = read_all(alloc, disk, slot) else {
+        return false;
+    };
+    let has = bytes.as_slice() == wanted;
+    drop(bytes);
+    has
+}
+
+fn syncs<R: Files<File = File>>(disk: &mut FileDisk<'_, R>) -> bool {
+    disk.sync(Slot::Zero).is_ok() && disk.sync(Slot::One).is_ok()
+}
+
+fn writes_twice<R: Files<File = File>>(disk: &mut FileDisk<'_, R>) -> bool {
+    disk.write_at(Slot::Zero, 0, b"abcdef").is_ok() && disk.write_at(Slot::Zero, 2, b"XY").is_ok()
+}
+
+// Whether both slots are written and synced, and slot 0 is read.
+fn writes<R: Files<File = File>>(disk: &mut FileDisk<'_, R>) -> bool {
+    writes_twice(disk)
+        && disk.write_at(Slot::One, 0, b"z").is_ok()
+        && syncs(disk)
+        && reads_two(disk)
+}
+
+// Whether a read from place 4 on of the slot's six bytes gives the last two.
+fn reads_two<R: Files<File = File>>(disk: &mut FileDisk<'_, R>) -> bool {
     let mut piece = [0u8; 3];
-    same(&rt, &disk.read_at(Slot::Zero, 4, &mut piece).ok(), &Some(2));
-    same(&rt, &piece, &[b'e', b'f', 0]);
+    disk.len(Slot::Zero).ok() == Some(6)
+        && disk.read_at(Slot::Zero, 4, &mut piece).ok() == Some(2)
+        && piece == [b'e', b'f', 0]
+}
 
-    let mut second = FileDisk::new(&rt, alloc, "saved/here");
-    holds(&rt, second.len(Slot::One).is_err());
-    holds(&rt, failed_for(second.error(), io::ErrorKind::ResourceBusy));
-    let mut reading = FileDisk::reading(&rt, alloc, "saved/here");
-    let zero = bytes_of(alloc, &mut reading, Slot::Zero);
-    same(&rt, &zero.as_deref(), &Some(b"abXYef".as_slice()));
-    same(&rt, &reading.len(Slot::One).ok(), &Some(1));
-    holds(
-        &rt,
-        reading.write_at(Slot::One, 0, b"y").is_err() && reading.sync(Slot::One).is_ok(),
-    );
+// Whether a disk may not write a folder that another one writes.
+fn is_busy<R: Files<File = File>>(disk: &mut FileDisk<'_, R>) -> bool {
+    disk.len(Slot::One).is_err() && failed_for(disk.error(), io::ErrorKind::ResourceBusy)
+}
 
+// Whether a disk does not write, and has nothing to sync.
+fn writes_nothing<R: Files<File = File>>(disk: &mut FileDisk<'_, R>) -> bool {
+    disk.write_at(Slot::One, 0, b"y").is_err() && disk.sync(Slot::One).is_ok()
+}
+
+// Whether a disk for reading alone reads what another one wrote.
+fn is_read<R: Files<File = File>>(rt: &R, alloc: Global) -> bool {
+    let mut disk = FileDisk::reading(rt, alloc, "saved/here");
+    let is_read = has(alloc, &mut disk, Slot::Zero, b"abXYef")
+        && disk.len(Slot::One).ok() == Some(1)
+        && writes_nothing(&mut disk);
     drop(disk);
-    let one = bytes_of(alloc, &mut second, Slot::One);
-    same(&rt, &one.as_deref(), &Some(b"z".as_slice()));
-    Ok(())
+    is_read
 }
 
 #[test]
-fn a_folder_that_is_not_there_is_empty_and_one_below_a_file_is_a_fault(
-    rt: HostRuntime,
-) -> Result<(), Fail> {
+fn one_disk_writes_a_folder_and_others_read_it(rt: HostRuntime) {
     let alloc = rt.alloc();
-    let mut reading = FileDisk::reading(&rt, alloc, "nowhere");
-    same(&rt, &reading.len(Slot::Zero).ok(), &Some(0));
-    let mut made = FileDisk::new(&rt, alloc, "made");
-    same(&rt, &made.len(Slot::Zero).ok(), &Some(0));
-    let mut below = FileDisk::new(&rt, alloc, "made/slot0/below");
-    holds(
-        &rt,
-        below.len(Slot::Zero).is_err() && below.error().is_some(),
-    );
-    let mut alone = FileDisk::reading(&rt, alloc, "made/slot0/below");
-    holds(&rt, alone.len(Slot::Zero).is_err());
-    holds(&rt, failed_for(alone.error(), io::ErrorKind::NotADirectory));
-    Ok(())
+    let mut disk = FileDisk::new(&rt, alloc, "saved/here");
+    holds(&rt, writes(&mut disk));
+
+    let mut second = FileDisk::new(&rt, alloc, "saved/here");
+    holds(&rt, is_busy(&mut second));
+    holds(&rt, is_read(&rt, alloc));
+    drop(disk);
+    holds(&rt, has(alloc, &mut second, Slot::One, b"z"));
+    drop(second);
+}
+
+// Whether slot 0 is empty.
+fn is_empty<R: Files<File = File>>(mut disk: FileDisk<'_, R>) -> bool {
+    let len = disk.len(Slot::Zero);
+    drop(disk);
+    len.ok() == Some(0)
+}
+
+// Whether a call is a fault, for which there is a cause.
+fn is_fault<R: Files<File = File>>(mut disk: FileDisk<'_, R>) -> bool {
+    let is_fault = disk.len(Slot::Zero).is_err() && disk.error().is_some();
+    drop(disk);
+    is_fault
+}
+
+// Whether a call is a fault, since what the folder stands in is none.
+fn is_below_a_file<R: Files<File = File>>(mut disk: FileDisk<'_, R>) -> bool {
+    let is_fault = disk.len(Slot::Zero).is_err()
+        && failed_for(disk.error(), io::ErrorKind::NotADirectory);
+    drop(disk);
+    is_fault
+}
+
+#[test]
+fn a_folder_that_is_not_there_is_empty_and_one_below_a_file_is_a_fault(rt: HostRuntime) {
+    let alloc = rt.alloc();
+    holds(&rt, is_empty(FileDisk::reading(&rt, alloc, "nowhere")));
+    holds(&rt, is_empty(FileDisk::new(&rt, alloc, "made")));
+    let below = "made/slot0/below";
+    holds(&rt, is_fault(FileDisk::new(&rt, alloc, below)));
+    holds(&rt, is_below_a_file(FileDisk::reading(&rt, alloc, below)));
 }

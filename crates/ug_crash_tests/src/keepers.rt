@@ -1,12 +1,14 @@
-ghost use Rattle.std.specs.Prelude.{◌<◌, Some, length};
+ghost use Rattle.std.specs.Prelude.{◌<◌, Some, IfOk, length};
 ghost use Rattle.ug_disk.specs.Memories.{history_of};
 ghost use Rattle.ug_slots.specs.Runs.{AreSynced};
 ghost use Rattle.ug_slots.specs.Keepers.{Knows};
 
 use crate::expect::same;
+use crate::slots::disk_with;
+use crate::stops::{FILLS, Range, crash};
 use std::alloc::{AllocError, Global};
-use std::test::Fail;
-use ug_disk::{MemoryDisk, Script, Slot};
+use std::process::Abort;
+use ug_disk::{MemoryDisk, Slot};
 use ug_slots::{Keeper, Pieces, read_both};
 
 // A body in memory.
@@ -49,17 +51,17 @@ fn left_of(slot: &[u8]) -> Left {
 // 2, 2, 2 and is known to be open, else it has 3, 3, 3 behind a shut gate that was not looked at;
 // how many bytes a block has; after which call the disk stops; which places are pending then; and
 // what a crash leaves that leaves there what was written, or each byte 0, 255 or 1.
-type Case = (bool, usize, u64, (usize, usize), [Left; 4]);
+type Case = (bool, usize, u64, (usize, usize), &'static [Left]);
 
-const SHUT: [Left; 4] = [Left::Shut, Left::Shut, Left::Shut, Left::Shut];
+const SHUT: &[Left] = &[Left::Shut, Left::Shut, Left::Shut, Left::Shut];
 
-const NEW: [Left; 4] = [Left::New, Left::New, Left::New, Left::New];
+const NEW: &[Left] = &[Left::New, Left::New, Left::New, Left::New];
 
-const FORMER: [Left; 4] = [Left::Shut, Left::Shut, Left::Shut, Left::Former];
+const FORMER: &[Left] = &[Left::Shut, Left::Shut, Left::Shut, Left::Former];
 
-const EITHER: [Left; 4] = [Left::New, Left::Shut, Left::Shut, Left::New];
+const EITHER: &[Left] = &[Left::New, Left::Shut, Left::Shut, Left::New];
 
-const CASES: [Case; 18] = [
+const CASES: &[Case] = &[
     (true, 8, 1, (0, 1), FORMER),
     (true, 8, 2, (0, 0), SHUT),
     (true, 8, 3, (1, 4), SHUT),
@@ -103,52 +105,89 @@ fn keeper_of(disk: &mut MemoryDisk, is_open: bool, buffer: &mut [u8]) -> Keeper
     keeper
 }
 
-// The disk after the save, and whether that was made.
-fn stopped(alloc: Global, case: Case) -> Result<(MemoryDisk, bool), AllocError> {
-    let (is_open, block, stop, ..) = case;
+// The disk on which the save of a case is made, or is stopped.
+fn disk_for(alloc: Global, case: &Case) -> Result<MemoryDisk, AllocError>
+    ensures { IfOk result (λ disk. AreSynced (Some (history_of disk))) }
+{
+    let (is_open, _, stop, ..) = *case;
+    if is_open {
+        return disk_with(alloc, &[], &[stop.saturating_add(14)]);
+    }
+    disk_with(alloc, &[0, 3, 3, 3], &[stop])
+}
+
+// Whether the save is made, in blocks of so many bytes.
+fn saves(disk: &mut MemoryDisk, is_open: bool, block: usize) -> bool
+    requires { AreSynced (Some (history_of disk.old)) }
+{
     let mut buffer = [0u8; 8];
-    let script = Script {
-        failing: Vec::new(alloc),
-        stopping: [if is_open {
-            stop.saturating_add(14)
-        } else {
-            stop
-        }]
-        .to_vec(alloc)?,
-    };
-    let shut: &[u8] = &[0, 3, 3, 3];
-    let zero: &[u8] = if is_open { &[] } else { shut };
-    let mut disk = MemoryDisk::new(alloc, zero.to_vec(alloc)?, Vec::new(alloc), script);
-    let mut keeper = keeper_of(&mut disk, is_open, &mut buffer);
+    let mut keeper = keeper_of(disk, is_open, &mut buffer);
     let buffer = &mut buffer[..block.clamp(1, 8)];
-    let made = keeper
-        .save(&mut disk, &mut Body { rest: &[4, 5, 6] }, buffer)
-        .is_ok();
-    Ok((disk, made))
+    keeper
+        .save(disk, &mut Body { rest: &[4, 5, 6] }, buffer)
+        .is_ok()
+}
+
+// What a load finds in slot 0, if it finds these bytes in slot 1.
+fn left_in(alloc: Global, disk: &mut MemoryDisk, last: &[u8]) -> Option<Left> {
+    let both = read_both(alloc, disk).ok()?;
+    let is_last = both.one.as_slice() == last;
+    let left = left_of(&both.zero);
+    drop(both);
+    if is_last { Some(left) } else { None }
+}
+
+// What a load finds after a crash, if it finds these bytes in slot 1.
+fn left_by(
+    alloc: Global,
+    disk: &mut MemoryDisk,
+    places: Range,
+    fill: Option<u8>,
+    last: &[u8],
+) -> Option<Left> {
+    crash(alloc, disk, places, fill)?;
+    left_in(alloc, disk, last)
+}
+
+// What is left by a crash that fills what is pending with a byte or leaves it as it was written,
+// and whether the save was made; none where slot 1 is not as it was.
+fn left_after(
+    alloc: Global,
+    disk: &mut MemoryDisk,
+    case: &Case,
+    fill: Option<u8>,
+) -> Option<(Left, bool)>
+    requires { AreSynced (Some (history_of disk.old)) }
+{
+    let (is_open, block, _, (from, end), _) = *case;
+    let last: &[u8] = if is_open { &[1, 7, 7] } else { &[] };
+    let made = saves(disk, is_open, block);
+    if disk.bytes(Slot::One) != last {
+        return None;
+    }
+    let left = left_by(alloc, disk, Range { from, end }, fill, last)?;
+    Some((left, made))
+}
+
+fn left_of_case(alloc: Global, case: &Case, fill: Option<u8>) -> Option<(Left, bool)> {
+    let mut disk = disk_for(alloc, case).ok()?;
+    let left = left_after(alloc, &mut disk, case, fill);
+    drop(disk);
+    left
+}
+
+// Expects crashes of a case to leave what it says.
+fn leaves(rt: &impl Abort, alloc: Global, case: &Case) {
+    let (_, _, _, (from, end), left) = *case;
+    for (fill, left) in FILLS.iter().zip(left.iter()) {
+        let made = from == end && *left == Left::New;
+        same(rt, &left_of_case(alloc, case, *fill), &Some((*left, made)));
+    }
 }
 
 #[test]
-fn a_crash_in_a_save_leaves_old_or_new(rt: HostRuntime) -> Result<(), Fail> {
-    let alloc = rt.alloc();
+fn a_crash_in_a_save_leaves_old_or_new(rt: HostRuntime) {
     for case in CASES {
-        let (is_open, _, _, (from, end), left) = case;
-        for (fill, left) in [None, Some(0), Some(255), Some(1)].into_iter().zip(left) {
-            let (mut disk, made) = stopped(alloc, case)?;
-            let mut zero = disk.bytes(Slot::Zero).to_vec(alloc)?;
-            let one = disk.bytes(Slot::One).to_vec(alloc)?;
-            let last: &[u8] = if is_open { &[1, 7, 7] } else { &[] };
-            same(&rt, &one.as_slice(), &last);
-            for place in from..end {
-                if let (Some(byte), Some(fill)) = (zero.get_mut(place), fill) {
-                    *byte = fill;
-                }
-            }
-            same(&rt, &disk.crash(zero, one), &Ok(()));
-            let both = read_both(alloc, &mut disk)?;
-            same(&rt, &left_of(&both.zero), &left);
-            same(&rt, &both.one.as_slice(), &last);
-            same(&rt, &made, &(from == end && left == Left::New));
-        }
+        leaves(&rt, rt.alloc(), case);
     }
-    Ok(())
 }

@@ -18,6 +18,8 @@ mod files;
 #[cfg(test)]
 mod keepers;
 #[cfg(test)]
+mod savers;
+#[cfg(test)]
 mod schedules;
 #[cfg(test)]
 mod slots;

@@ -4,12 +4,12 @@ ghost use Rattle.ug_checkpoint.specs.Savers.{IsKept};
 ghost use Rattle.ug_crashes.specs.Events.{IsDiskEvent};
 
 use crate::expect::{holds, holds_at, same_at};
-use crate::slots::{nothing, settings, slot_of};
+use crate::slots::{disk_with, nothing, settings, slot_of};
 use std::alloc::Global;
 use ug_book::{Answered, Book};
 use ug_checkpoint::Saver;
 use ug_crashes::{DiskEvent, Halted, PlayDiskFault, PlayedDisk, play_disk};
-use ug_disk::{MemoryDisk, Script, Slot};
+use ug_disk::{MemoryDisk, Slot};
 use ug_frames::Report;
 use ug_nodes::Ticket;
 use ug_problem::Shared;
@@ -29,20 +29,17 @@ struct Begun {
 fn run_on_a_disk(alloc: Global, gap: u8, stop: u64) -> Option<Begun>
     ensures { IfSome result (λ b. IsKept b.saver (Some (history_of b.disk))) }
 {
-    let Ok(stopping) = [stop].to_vec(alloc) else {
+    let problem = Shared::own(nothing(alloc, false).ok()?);
+    let Ok(mut disk) = disk_with(alloc, &[], &[stop]) else {
+        drop(problem);
         return None;
     };
-    let Ok(problem) = nothing(alloc, false) else {
-        return None;
-    };
-    let script = Script {
-        failing: Vec::new(alloc),
-        stopping,
-    };
-    let mut disk = MemoryDisk::new(alloc, Vec::new(alloc), Vec::new(alloc), script);
-    match begin(alloc, &mut disk, Shared::own(problem), settings(gap)) {
+    match begin(alloc, &mut disk, problem, settings(gap)) {
         Ok((book, saver)) => Some(Begun { book, saver, disk }),
-        Err(_) => None,
+        Err(_) => {
+            drop(disk);
+            None
+        }
     }
 }
 
@@ -146,6 +143,18 @@ fn play_on(alloc: Global, begun: Begun, events: &[DiskEvent]) -> Result<PlayedDi
     play_disk(alloc, book, saver, disk, events)
 }
 
+fn play_events(
+    alloc: Global,
+    events: &[DiskEvent],
+    gap: u8,
+    stop: u64,
+) -> Option<Result<PlayedDisk, PlayDiskFault>>
+    requires { All IsDiskEvent events.now }
+{
+    let begun = run_on_a_disk(alloc, gap, stop)?;
+    Some(play_on(alloc, begun, events))
+}
+
 fn play(
     alloc: Global,
     text: &str,
@@ -153,8 +162,9 @@ fn play(
     stop: u64,
 ) -> Option<Result<PlayedDisk, PlayDiskFault>> {
     let events = events_of(alloc, text)?;
-    let begun = run_on_a_disk(alloc, gap, stop)?;
-    Some(play_on(alloc, begun, &events))
+    let played = play_events(alloc, &events, gap, stop);
+    drop(events);
+    played
 }
 
 // The run at the end and how many reports were heard, or why and where the schedule stopped.
@@ -169,7 +179,7 @@ fn answer_of(played: &Result<PlayedDisk, PlayDiskFault>) -> Answer {
 
 const NO_GREATER_GAP: Halted = Halted::Refused(StartFault::SmallerGap { kept: 3, asked: 0 });
 
-const SCHEDULES: [(&str, u8, Answer); 10] = [
+const SCHEDULES: &[(&str, u8, Answer)] = &[
     ("jdnsfe0x1rjdfe23nsx", 0, Ok((3, 4))),
     ("jd0", 0, Err((Halted::NoSuch { place: 0 }, 2))),
     ("J", 0, Err((Halted::NoRank { rank: 5 }, 0))),
@@ -193,7 +203,7 @@ fn ends(alloc: Global, text: &str, gap: u8) -> Option<Answer> {
 #[test]
 fn schedules_end_or_say_why_not(rt: HostRuntime) {
     for (text, gap, wanted) in SCHEDULES {
-        same_at(&rt, &ends(rt.alloc(), text, gap), &Some(wanted), &text);
+        same_at(&rt, &ends(rt.alloc(), text, *gap), &Some(*wanted), text);
     }
 }
 
@@ -206,24 +216,28 @@ fn is_answered(played: &PlayedDisk) -> bool {
 
 #[test]
 fn report_of_an_earlier_run_is_stale(rt: HostRuntime) {
-    match play(rt.alloc(), "jdnsfe0x1rjdfe23nsx", 0, u64::MAX) {
-        Some(Ok(played)) => holds(&rt, is_answered(&played)),
-        _ => panic!(rt; "it stopped"),
-    }
+    let played = play(rt.alloc(), "jdnsfe0x1rjdfe23nsx", 0, u64::MAX);
+    holds(
+        &rt,
+        matches!(&played, Some(Ok(played)) if is_answered(played)),
+    );
+    drop(played);
 }
 
 // How many calls of the disk there were when the run had begun.
 fn calls_at_first(alloc: Global) -> Option<u64> {
     let begun = run_on_a_disk(alloc, 0, u64::MAX)?;
-    Some(begun.disk.calls())
+    let calls = begun.disk.calls();
+    drop(begun);
+    Some(calls)
 }
 
 // How many calls of the disk there were at the end of a schedule.
 fn calls_of(alloc: Global, text: &str) -> Option<u64> {
-    match play(alloc, text, 0, u64::MAX)? {
-        Ok(played) => Some(played.disk.calls()),
-        Err(_) => None,
-    }
+    let played = play(alloc, text, 0, u64::MAX)?.ok()?;
+    let calls = played.disk.calls();
+    drop(played);
+    Some(calls)
 }
 
 // Whether a run whose disk stops after a call goes on as the second run or the third, unanswered.

@@ -1,5 +1,8 @@
 //! Disks, problems and settings for tests.
 
+ghost use Rattle.std.specs.Prelude.{Some, IfOk};
+ghost use Rattle.ug_disk.specs.Memories.{history_of};
+ghost use Rattle.ug_slots.specs.Runs.{AreSynced};
 ghost use Rattle.ug_rules.specs.Books.{AreSettings};
 
 use std::alloc::{AllocError, Global};
@@ -38,14 +41,18 @@ pub fn disk_of(
     zero: &[u8],
     one: &[u8],
     script: Script,
-) -> Result<MemoryDisk, AllocError> {
+) -> Result<MemoryDisk, AllocError>
+    ensures { IfOk result (λ disk. AreSynced (Some (history_of disk))) }
+{
     let zero = zero.to_vec(alloc)?;
     let one = one.to_vec(alloc)?;
     Ok(MemoryDisk::new(alloc, zero, one, script))
 }
 
 /// A disk with these bytes in slot 0 and none in slot 1, which stops after these of its calls.
-pub fn disk_with(alloc: Global, zero: &[u8], stopping: &[u64]) -> Result<MemoryDisk, AllocError> {
+pub fn disk_with(alloc: Global, zero: &[u8], stopping: &[u64]) -> Result<MemoryDisk, AllocError>
+    ensures { IfOk result (λ disk. AreSynced (Some (history_of disk))) }
+{
     disk_of(alloc, zero, &[], script_of(alloc, &[], stopping)?)
 }
 

@@ -1,62 +1,53 @@
-ghost use Rattle.std.specs.Prelude.{Some, IfOk, IfSome};
+ghost use Rattle.std.specs.Prelude.{Some, IfSome};
 ghost use Rattle.ug_disk.specs.Memories.{history_of};
 ghost use Rattle.ug_checkpoint.specs.Savers.{IsKept};
 
 use crate::expect::{holds, holds_at, same};
+use crate::savers::{opened, save_bytes};
 use crate::slots::{disk_with, nothing, settings, slot_of};
 use std::alloc::{AllocError, Global};
-use ug_blocks::length;
-use ug_checkpoint::{LoadError, Saver, load};
+use ug_checkpoint::{Saver, load};
 use ug_disk::{MemoryDisk, Slot};
-use ug_image::decode;
 use ug_problem::Shared;
 use ug_restart::restart;
 
-// Places from one to another, without the last.
+/// Places from one to another, without the last.
 #[derive(Clone, Copy)]
-struct Range {
-    from: usize,
-    end: usize,
+pub struct Range {
+    pub from: usize,
+    pub end: usize,
 }
 
 // The image of run 1 under a sequence, of a problem with one column of 16 letters and no rows, with
 // so many nodes: 109 bytes and 20 a node.
-fn image(alloc: Global, sequence: u8, nodes: u16) -> Result<Vec<u8>, AllocError> {
-    let mut bytes = Vec::new(alloc);
-    bytes.extend_from_slice(&[3, 0, 0, 0, 0, 0, 0, 0, 1, 0, 0, 0, 0, 0, 0, 0, sequence])?;
-    bytes.extend_from_slice(&[0, 0, 0, 55, 0, 0, 0, 1, 16])?;
-    bytes.extend_from_slice(b"sixteen_letters_")?;
-    bytes.extend_from_slice(&[0u8; 34])?;
-    bytes.extend_from_slice(&[0u8; 31])?;
+fn put_image(bytes: &mut Vec<u8>, sequence: u8, nodes: u16) -> Result<(), AllocError> {
+    bytes.extend_from_slice(b"\x03\0\0\0\0\0\0\0\x01\0\0\0\0\0\0\0")?;
+    bytes.push(sequence)?;
+    bytes.extend_from_slice(b"\0\0\0\x37\0\0\0\x01\x10sixteen_letters_")?;
+    put_zeros(bytes, 65)?;
+    put_nodes(bytes, nodes)
+}
+
+fn put_zeros(bytes: &mut Vec<u8>, count: usize) -> Result<(), AllocError> {
+    for _ in 0..count {
+        bytes.push(0)?;
+    }
+    Ok(())
+}
+
+fn put_node(bytes: &mut Vec<u8>, node: u16) -> Result<(), AllocError> {
+    put_zeros(bytes, 14)?;
+    bytes.extend_from_slice(&u16::to_be_bytes(node))?;
+    put_zeros(bytes, 4)
+}
+
+// Their count, and the nodes.
+fn put_nodes(bytes: &mut Vec<u8>, nodes: u16) -> Result<(), AllocError> {
     bytes.extend_from_slice(&u16::to_be_bytes(nodes))?;
     for node in 0..nodes {
-        bytes.extend_from_slice(&[0u8; 14])?;
-        bytes.extend_from_slice(&u16::to_be_bytes(node))?;
-        bytes.extend_from_slice(&[0u8; 4])?;
+        put_node(bytes, node)?;
     }
-    Ok(bytes)
-}
-
-// A saver of the slots as a load leaves them.
-fn opened(alloc: Global, disk: &mut MemoryDisk) -> Result<Saver, LoadError>
-    ensures { IfOk result (λ saver. IsKept saver (Some (history_of disk.new))) }
-{
-    let found = load(alloc, disk)?;
-    Ok(Saver::new(found.as_ref()))
-}
-
-// Saves an image, if it is one and its sequence is above the last one.
-fn save(alloc: Global, disk: &mut MemoryDisk, saver: &mut Saver, bytes: &[u8]) -> bool
-    requires { IsKept saver.old (Some (history_of disk.old)) }
-    ensures { IsKept saver.new (Some (history_of disk.new)) }
-{
-    let Ok(image) = decode(alloc, bytes) else {
-        return false;
-    };
-    if saver.sequence() < image.sequence && length(&image) < 1 << 63 {
-        return saver.save(alloc, disk, &image).is_ok();
-    }
-    false
+    Ok(())
 }
 
 // The bytes with this one in the places from one to another.
@@ -69,29 +60,51 @@ fn filled(mut bytes: Vec<u8>, places: Range, fill: Option<u8>) -> Vec<u8> {
     bytes
 }
 
-// A crash leaves what was written but for these places of slot 0, where it leaves this byte.
-fn crash(alloc: Global, disk: &mut MemoryDisk, places: Range, fill: Option<u8>) -> Option<()> {
+/// A crash leaves what was written but for these places of slot 0, where it leaves this byte.
+pub fn crash(alloc: Global, disk: &mut MemoryDisk, places: Range, fill: Option<u8>) -> Option<()> {
     let zero = disk.bytes(Slot::Zero).to_vec(alloc).ok()?;
-    let one = disk.bytes(Slot::One).to_vec(alloc).ok()?;
+    let Ok(one) = disk.bytes(Slot::One).to_vec(alloc) else {
+        drop(zero);
+        return None;
+    };
     disk.crash(filled(zero, places, fill), one).ok()
 }
 
-// The run and the sequence that recovery finds after that crash; none where a crash may not be so.
+// The run and the sequence that recovery finds.
+fn recovered(alloc: Global, disk: &mut MemoryDisk) -> Option<(u64, u64)> {
+    let found = load(alloc, disk).ok()??;
+    let told = (found.image.run, found.image.sequence);
+    drop(found);
+    Some(told)
+}
+
+// The same after that crash; none where a crash may not be so.
 fn found(
     alloc: Global,
-    mut disk: MemoryDisk,
+    disk: &mut MemoryDisk,
     places: Range,
     fill: Option<u8>,
 ) -> Option<(u64, u64)> {
-    crash(alloc, &mut disk, places, fill)?;
-    recovered(alloc, &mut disk)
+    crash(alloc, disk, places, fill)?;
+    recovered(alloc, disk)
 }
 
-fn recovered(alloc: Global, disk: &mut MemoryDisk) -> Option<(u64, u64)> {
-    match load(alloc, disk) {
-        Ok(Some(found)) => Some((found.image.run, found.image.sequence)),
-        _ => None,
-    }
+// Saves the image under a sequence, with so many nodes.
+fn save_image(
+    alloc: Global,
+    disk: &mut MemoryDisk,
+    saver: &mut Saver,
+    sequence: u8,
+    nodes: u16,
+) -> Option<()>
+    requires { IsKept saver.old (Some (history_of disk.old)) }
+    ensures { IsKept saver.new (Some (history_of disk.new)) }
+{
+    let mut bytes = Vec::new(alloc);
+    let put = put_image(&mut bytes, sequence, nodes);
+    let _ = save_bytes(alloc, disk, saver, &bytes);
+    drop(bytes);
+    put.ok()
 }
 
 // Two images are saved, and then a third over the first, with so many nodes.
@@ -99,38 +112,36 @@ fn two_saves(alloc: Global, disk: &mut MemoryDisk) -> Option<Saver>
     ensures { IfSome result (λ saver. IsKept saver (Some (history_of disk.new))) }
 {
     let mut saver = opened(alloc, disk).ok()?;
-    save(alloc, disk, &mut saver, &image(alloc, 1, 1).ok()?);
-    save(alloc, disk, &mut saver, &image(alloc, 2, 1).ok()?);
+    save_image(alloc, disk, &mut saver, 1, 1)?;
+    save_image(alloc, disk, &mut saver, 2, 1)?;
     Some(saver)
 }
 
-fn save_third(alloc: Global, disk: &mut MemoryDisk, nodes: u16) -> Option<()> {
-    let bytes = image(alloc, 3, nodes).ok()?;
+fn three_saves(alloc: Global, disk: &mut MemoryDisk, nodes: u16) -> Option<()> {
     let mut saver = two_saves(alloc, disk)?;
-    save(alloc, disk, &mut saver, &bytes);
-    Some(())
-}
-
-fn three_saves(alloc: Global, nodes: u16, stop: u64) -> Option<MemoryDisk> {
-    let mut disk = disk_with(alloc, &[], &[stop]).ok()?;
-    save_third(alloc, &mut disk, nodes)?;
-    Some(disk)
+    save_image(alloc, disk, &mut saver, 3, nodes)
 }
 
 // How many calls the first two saves make.
 fn calls_of_two(alloc: Global) -> Option<u64> {
     let mut disk = disk_with(alloc, &[], &[]).ok()?;
-    two_saves(alloc, &mut disk)?;
-    Some(disk.calls())
+    let is_saved = two_saves(alloc, &mut disk).is_some();
+    let calls = disk.calls();
+    drop(disk);
+    if is_saved { Some(calls) } else { None }
 }
 
 // How many calls all three make.
 fn calls_of_three(alloc: Global, nodes: u16) -> Option<u64> {
-    let disk = three_saves(alloc, nodes, u64::MAX)?;
-    Some(disk.calls())
+    let mut disk = disk_with(alloc, &[], &[]).ok()?;
+    let is_saved = three_saves(alloc, &mut disk, nodes).is_some();
+    let calls = disk.calls();
+    drop(disk);
+    if is_saved { Some(calls) } else { None }
 }
 
-const FILLS: [Option<u8>; 4] = [None, Some(0), Some(255), Some(1)];
+/// What a crash may leave of pending places: what was written, or these bytes.
+pub const FILLS: &[Option<u8>] = &[None, Some(0), Some(255), Some(1)];
 
 // What recovery finds where the third save stopped there and a crash leaves its gate so.
 fn found_after(
@@ -140,8 +151,13 @@ fn found_after(
     end: usize,
     fill: Option<u8>,
 ) -> Option<(u64, u64)> {
-    let disk = three_saves(alloc, nodes, stop)?;
-    found(alloc, disk, Range { from: 0, end }, fill)
+    let mut disk = disk_with(alloc, &[], &[stop]).ok()?;
+    let found = match three_saves(alloc, &mut disk, nodes) {
+        Some(()) => found(alloc, &mut disk, Range { from: 0, end }, fill),
+        None => None,
+    };
+    drop(disk);
+    found
 }
 
 // Whether recovery finds the second image where the third save stopped so many calls before its
@@ -156,7 +172,7 @@ fn finds_one_of_two(alloc: Global, nodes: u16, all: u64, left: u64) -> bool {
         } else {
             2
         };
-        let found = found_after(alloc, nodes, all.saturating_sub(left), end, fill);
+        let found = found_after(alloc, nodes, all.saturating_sub(left), end, *fill);
         if found != Some((1, sequence)) {
             return false;
         }
@@ -164,19 +180,22 @@ fn finds_one_of_two(alloc: Global, nodes: u16, all: u64, left: u64) -> bool {
     true
 }
 
+// So many nodes, and the calls of a third save of so many: a body of 137 bytes is one block, and
+// one of 65,537 is two.
+const BODIES: &[(u16, u64)] = &[(1, 6), (3271, 7)];
+
 #[test]
 fn save_over_an_older_image_leaves_one_of_two(rt: HostRuntime) {
     let alloc = rt.alloc();
     let two = calls_of_two(alloc).unwrap_or(u64::MAX);
-    // A body of 137 bytes is one block, and one of 65,537 is two.
-    for (nodes, count) in [(1u16, 6u64), (3271, 7)] {
-        let all = calls_of_three(alloc, nodes).unwrap_or(0);
-        same(&rt, &all.saturating_sub(two), &count);
-        for left in 0..count {
+    for (nodes, count) in BODIES {
+        let all = calls_of_three(alloc, *nodes).unwrap_or(0);
+        same(&rt, &all.saturating_sub(two), count);
+        for left in 0..*count {
             holds_at(
                 &rt,
-                finds_one_of_two(alloc, nodes, all, left),
-                &(nodes, left),
+                finds_one_of_two(alloc, *nodes, all, left),
+                &(*nodes, left),
             );
         }
     }
@@ -185,29 +204,36 @@ fn save_over_an_older_image_leaves_one_of_two(rt: HostRuntime) {
 // Loads the slots, and saves an image after what they have.
 fn load_and_save(alloc: Global, disk: &mut MemoryDisk, bytes: &[u8]) -> Option<()> {
     let mut saver = opened(alloc, disk).ok()?;
-    save(alloc, disk, &mut saver, bytes);
+    let _ = save_bytes(alloc, disk, &mut saver, bytes);
     Some(())
 }
 
-// A second image is saved until the disk stops, and its calls go on.
-fn resumed(alloc: Global, stops: &[u64]) -> Option<MemoryDisk> {
-    let mut disk = disk_with(alloc, &slot_of(1, 1, 0), stops).ok()?;
-    load_and_save(alloc, &mut disk, &slot_of(1, 2, 0)[9..])?;
-    disk.resume();
-    Some(disk)
+// A disk whose slot 0 has a first image, which stops after these of its calls.
+fn first_disk(alloc: Global, stops: &[u64]) -> Option<MemoryDisk> {
+    disk_with(alloc, &slot_of(1, 1, 0), stops).ok()
 }
 
-// And a run goes on from it until the disk stops again.
-fn again(alloc: Global, stops: &[u64]) -> Option<MemoryDisk> {
-    let problem = nothing(alloc, false).ok()?;
-    let mut disk = resumed(alloc, stops)?;
-    let _ = restart(alloc, &mut disk, Shared::own(problem), settings(0));
-    Some(disk)
+// A second image is saved.
+fn save_second(alloc: Global, disk: &mut MemoryDisk) -> Option<()> {
+    load_and_save(alloc, disk, &slot_of(1, 2, 0)[9..])
+}
+
+// A second image is saved until the disk stops, its calls go on, and so does a run from the image
+// until the disk stops again.
+fn go_on_again(alloc: Global, disk: &mut MemoryDisk) -> Option<()> {
+    save_second(alloc, disk)?;
+    disk.resume();
+    let problem = Shared::own(nothing(alloc, false).ok()?);
+    drop(restart(alloc, disk, problem, settings(0)));
+    Some(())
 }
 
 fn calls_of_again(alloc: Global) -> Option<u64> {
-    let disk = again(alloc, &[])?;
-    Some(disk.calls())
+    let mut disk = first_disk(alloc, &[])?;
+    let is_so = go_on_again(alloc, &mut disk).is_some();
+    let calls = disk.calls();
+    drop(disk);
+    if is_so { Some(calls) } else { None }
 }
 
 // What recovery finds where the restart stopped there and a crash leaves these places so.
@@ -217,34 +243,61 @@ fn found_again(
     places: Range,
     fill: Option<u8>,
 ) -> Option<Option<(u64, u64)>> {
-    let disk = again(alloc, stops)?;
-    Some(found(alloc, disk, places, fill))
+    let mut disk = first_disk(alloc, stops)?;
+    let found = match go_on_again(alloc, &mut disk) {
+        Some(()) => Some(found(alloc, &mut disk, places, fill)),
+        None => None,
+    };
+    drop(disk);
+    found
+}
+
+// How many calls there were after the second image is saved, and after a load of it.
+fn calls_to_load(alloc: Global, disk: &mut MemoryDisk) -> Option<(u64, u64)> {
+    save_second(alloc, disk)?;
+    let saved = disk.calls();
+    drop(load(alloc, disk));
+    Some((saved, disk.calls()))
 }
 
 // After which call the gate of the second image is written, and not synced; and after which the
 // restart has loaded what it goes on from.
 fn stops_of(alloc: Global) -> Option<(u64, u64)> {
-    let mut disk = disk_with(alloc, &slot_of(1, 1, 0), &[]).ok()?;
-    load_and_save(alloc, &mut disk, &slot_of(1, 2, 0)[9..])?;
-    let saved = disk.calls();
-    let _ = load(alloc, &mut disk);
-    Some((saved.saturating_sub(1), disk.calls().saturating_sub(1)))
+    let mut disk = first_disk(alloc, &[])?;
+    let calls = calls_to_load(alloc, &mut disk);
+    drop(disk);
+    let (saved, loaded) = calls?;
+    Some((saved.saturating_sub(1), loaded.saturating_sub(1)))
 }
 
-// How many images a crash may leave of slot 0 where the restart stopped there; none where recovery
-// finds in one of them what it should not. Places are the gate, what stands behind it, and both.
+// How many images a crash may leave of these places of slot 0 where the restart stopped there; none
+// where recovery finds in one of them what it should not.
+fn images_in(alloc: Global, stops: &[u64], places: Range, is_all: bool) -> Option<u64> {
+    let mut images = 0u64;
+    for fill in FILLS {
+        match found_again(alloc, stops, places, *fill)? {
+            Some((2, 3)) => {}
+            Some((1, 2)) if !is_all => {}
+            None => continue,
+            _ => return None,
+        }
+        images = images.saturating_add(1);
+    }
+    Some(images)
+}
+
+// The gate, what stands behind it, and both.
+const PLACES: &[(usize, usize)] = &[(0, 1), (1, 113), (0, 113)];
+
+// The same of all these places.
 fn images_left(alloc: Global, open: u64, stop: u64, is_all: bool) -> Option<u64> {
     let mut images = 0u64;
-    for (from, end) in [(0, 1), (1, 113), (0, 113)] {
-        for fill in FILLS {
-            match found_again(alloc, &[open, stop], Range { from, end }, fill)? {
-                Some((2, 3)) => {}
-                Some((1, 2)) if !is_all => {}
-                None => continue,
-                _ => return None,
-            }
-            images = images.saturating_add(1);
-        }
+    for (from, end) in PLACES {
+        let places = Range {
+            from: *from,
+            end: *end,
+        };
+        images = images.saturating_add(images_in(alloc, &[open, stop], places, is_all)?);
     }
     Some(images)
 }
