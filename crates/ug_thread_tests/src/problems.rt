@@ -22,30 +22,51 @@ pub struct Small<'a> {
 
 /// The problem, if it is one.
 pub fn made(alloc: Global, small: &Small<'_>) -> Option<Problem> {
-    let bytes = record(alloc, small).ok()?;
-    from_record(alloc, &bytes).ok()
+    let mut bytes = Vec::new(alloc);
+    let problem = match put_problem(&mut bytes, small) {
+        Ok(()) => from_record(alloc, &bytes).ok(),
+        Err(_) => None,
+    };
+    drop(bytes);
+    problem
 }
 
-fn record(alloc: Global, small: &Small<'_>) -> Result<Vec<u8>, AllocError> {
-    let mut bytes = Vec::new(alloc);
-    put_count(&mut bytes, small.columns.len())?;
-    for (low, high) in small.columns {
-        put_name(&mut bytes)?;
-        bytes.extend_from_slice(&low.to_be_bytes())?;
-        bytes.extend_from_slice(&high.to_be_bytes())?;
+// Puts the problem's record.
+fn put_problem(bytes: &mut Vec<u8>, small: &Small<'_>) -> Result<(), AllocError> {
+    put_columns(bytes, small.columns)?;
+    put_rows(bytes, small.rows)?;
+    // Minimised, without decimals or a constant.
+    bytes.extend_from_slice(&[0; 18])?;
+    put_terms(bytes, small.objective)
+}
+
+fn put_columns(bytes: &mut Vec<u8>, columns: &[(i32, i32)]) -> Result<(), AllocError> {
+    put_count(bytes, columns.len())?;
+    for column in columns {
+        put_column(bytes, *column)?;
     }
-    put_count(&mut bytes, small.rows.len())?;
-    for row in small.rows {
-        put_name(&mut bytes)?;
-        put_side(&mut bytes, row.low)?;
-        put_side(&mut bytes, row.high)?;
-        put_terms(&mut bytes, row.factors)?;
+    Ok(())
+}
+
+fn put_column(bytes: &mut Vec<u8>, (low, high): (i32, i32)) -> Result<(), AllocError> {
+    put_name(bytes)?;
+    bytes.extend_from_slice(&low.to_be_bytes())?;
+    bytes.extend_from_slice(&high.to_be_bytes())
+}
+
+fn put_rows(bytes: &mut Vec<u8>, rows: &[SmallRow<'_>]) -> Result<(), AllocError> {
+    put_count(bytes, rows.len())?;
+    for row in rows {
+        put_row(bytes, row)?;
     }
-    // Minimised, without decimals.
-    bytes.extend_from_slice(&[0, 0])?;
-    bytes.extend_from_slice(&0i128.to_be_bytes())?;
-    put_terms(&mut bytes, small.objective)?;
-    Ok(bytes)
+    Ok(())
+}
+
+fn put_row(bytes: &mut Vec<u8>, row: &SmallRow<'_>) -> Result<(), AllocError> {
+    put_name(bytes)?;
+    put_side(bytes, row.low)?;
+    put_side(bytes, row.high)?;
+    put_terms(bytes, row.factors)
 }
 
 fn put_count(bytes: &mut Vec<u8>, count: usize) -> Result<(), AllocError> {

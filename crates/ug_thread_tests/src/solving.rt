@@ -79,9 +79,12 @@ pub fn solved_without<R: Threads + Wait + Sync, G: Gate>(
     };
     let mut disk = sound_disk(alloc);
     let outcome = solve_threads(rt, alloc, book, None, &mut disk, gate);
-    if disk.calls() == 0 {
+    let calls = disk.calls();
+    drop(disk);
+    if calls == 0 {
         Some(outcome)
     } else {
+        drop(outcome);
         None
     }
 }
@@ -96,10 +99,12 @@ pub fn solved<R: Threads + Wait + Sync, G: Gate>(
     gate: &G,
 ) -> Answer {
     let settings = settings(solvers, racing, u64::MAX);
-    match solved_without(rt, alloc, small, settings, gate) {
-        Some(outcome) => answer_of(&outcome),
-        None => Answer::Other,
-    }
+    let Some(outcome) = solved_without(rt, alloc, small, settings, gate) else {
+        return Answer::Other;
+    };
+    let answer = answer_of(&outcome);
+    drop(outcome);
+    answer
 }
 
 /// The outcome of a solve that begins on a disk.
