@@ -2,11 +2,11 @@ ghost use Rattle.std.specs.Prelude.{◌≡◌, [], ◌∷◌, IfOk, OnOk};
 ghost use Rattle.ug_rules.specs.Books.{AreSettings};
 ghost use Rattle.ug_desk.specs.Openings.{IsMade};
 
-use crate::expect::{holds, same};
+use crate::expect::holds;
 use crate::problems::square;
 use std::alloc::{AllocError, Global};
 use std::sync::Wait;
-use std::thread::join;
+use std::thread::{Threads, join};
 use ug_base::{Step, Task};
 use ug_book::{Answered, Book, Boxes};
 use ug_desk::{Desk, Pass, Took};
@@ -48,43 +48,35 @@ fn book(alloc: Global, problem: Shared) -> Result<Book, AllocError>
     Book::new(alloc, problem, 1, None, boxes, settings())
 }
 
-// A desk over the square, and its passes.
-fn desk(alloc: Global) -> Option<(Desk, Vec<Pass>)> {
-    let problem = Shared::own(square(alloc).ok()?);
-    match book(alloc, problem) {
-        Ok(book) => Desk::new(alloc, book).ok(),
-        Err(_) => None,
-    }
-}
-
-// The first pass and the second.
-fn two(mut passes: Vec<Pass>) -> Option<(Pass, Pass)> {
-    let second = passes.pop()?;
-    let first = passes.pop()?;
-    Some((first, second))
-}
-
 // A desk over the square, and its two passes.
-fn open(alloc: Global) -> Option<(Desk, Pass, Pass)> {
-    let (desk, passes) = desk(alloc)?;
-    let (first, second) = two(passes)?;
-    Some((desk, first, second))
+fn open(alloc: Global) -> Option<(Desk, Vec<Pass>)> {
+    let problem = Shared::own(square(alloc).ok()?);
+    let Ok(book) = book(alloc, problem) else {
+        return None;
+    };
+    Desk::new(alloc, book).ok()
 }
 
 // The work that a pass takes.
 fn work<R: Wait>(rt: &R, desk: &Desk, pass: &mut Pass) -> Option<Task> {
-    match desk.take(rt, pass) {
-        Ok(Took::Work(task)) => Some(task),
-        _ => None,
+    match desk.take(rt, pass).ok()? {
+        Took::Work(task) => Some(task),
+        Took::Wait | Took::Over => None,
     }
 }
 
 fn waits<R: Wait>(rt: &R, desk: &Desk, pass: &mut Pass) -> bool {
-    matches!(desk.take(rt, pass), Ok(Took::Wait))
+    let took = desk.take(rt, pass);
+    let waits = matches!(&took, Ok(Took::Wait));
+    drop(took);
+    waits
 }
 
 fn is_over<R: Wait>(rt: &R, desk: &Desk, pass: &mut Pass) -> bool {
-    matches!(desk.take(rt, pass), Ok(Took::Over))
+    let took = desk.take(rt, pass);
+    let is_over = matches!(&took, Ok(Took::Over));
+    drop(took);
+    is_over
 }
 
 fn splits(task: &mut Task) -> bool {
@@ -100,10 +92,12 @@ fn is_asked_for<R: Wait>(rt: &R, desk: &Desk, pass: &mut Pass, count: u32) -> bo
 }
 
 fn hands<R: Wait>(rt: &R, desk: &Desk, pass: &mut Pass, task: &mut Task) -> bool {
-    match task.hand() {
-        Ok(Some(handed)) => { desk.hand(rt, pass, handed.number, &handed.area) == Heard::Kept }
-        _ => false,
-    }
+    let Ok(Some(handed)) = task.hand() else {
+        return false;
+    };
+    let heard = desk.hand(rt, pass, handed.number, &handed.area);
+    drop(handed);
+    heard == Heard::Kept
 }
 
 // Whether a task is of the upper half of the first column, under the second ticket.
@@ -132,26 +126,41 @@ fn hands_when_asked<R: Wait>(
 
 // Whether the work that a pass takes is of the upper half.
 fn takes_upper_half<R: Wait>(rt: &R, desk: &Desk, pass: &mut Pass) -> bool {
-    match work(rt, desk, pass) {
-        Some(given) => is_upper_half(&given),
-        None => false,
-    }
+    let Some(given) = work(rt, desk, pass) else {
+        return false;
+    };
+    let is_so = is_upper_half(&given);
+    drop(given);
+    is_so
 }
 
 // Whether the first pass takes work and hands a box of it, which the second one takes.
 fn box_goes_over<R: Wait>(rt: &R, desk: &Desk, first: &mut Pass, second: &mut Pass) -> bool {
-    match work(rt, desk, first) {
-        Some(mut task) => hands_when_asked(rt, desk, first, second, &mut task),
-        None => false,
+    let Some(mut task) = work(rt, desk, first) else {
+        return false;
+    };
+    let hands = hands_when_asked(rt, desk, first, second, &mut task);
+    drop(task);
+    hands
+}
+
+// Whether the first of two passes hands a box, which is then the work of the second.
+fn box_is_work<R: Wait>(rt: &R, desk: &Desk, passes: &mut [Pass]) -> bool {
+    match passes {
+        [first, second] => {
+            box_goes_over(rt, desk, first, second) && takes_upper_half(rt, desk, second)
+        }
+        _ => false,
     }
 }
 
 #[test]
 fn box_handed_is_the_work_of_the_pass_that_waited(rt: HostRuntime) {
     match open(rt.alloc()) {
-        Some((desk, mut first, mut second)) => {
-            holds(&rt, box_goes_over(&rt, &desk, &mut first, &mut second));
-            holds(&rt, takes_upper_half(&rt, &desk, &mut second));
+        Some((desk, mut passes)) => {
+            holds(&rt, box_is_work(&rt, &desk, &mut passes));
+            drop(passes);
+            drop(desk);
         }
         None => panic!(rt; "no memory"),
     }
@@ -192,7 +201,10 @@ fn ends<R: Wait>(rt: &R, desk: &Desk, pass: &mut Pass, mut task: Task) -> bool {
     task.lower(5);
     match search(&mut task) {
         Ok(()) => desk.done(rt, pass, task) == Heard::Kept,
-        Err(_) => false,
+        Err(_) => {
+            drop(task);
+            false
+        }
     }
 }
 
@@ -205,14 +217,13 @@ fn has_least(book: &Book) -> bool {
 }
 
 // Whether the book of a desk that is closed has the point (0, 5) for its answer.
-fn closes_with_least(alloc: Global, desk: Desk, passes: [Pass; 2]) -> bool {
-    let Ok(passes) = Vec::from_array(alloc, passes) else {
+fn closes_with_least(desk: Desk, passes: Vec<Pass>) -> bool {
+    let Some(locked) = desk.close(passes).ok() else {
         return false;
     };
-    match desk.close(passes) {
-        Ok(locked) => has_least(locked.book()),
-        Err(_) => false,
-    }
+    let has_least = has_least(locked.book());
+    drop(locked);
+    has_least
 }
 
 // Whether the first pass finds the point and then nothing below it, while the second one waits.
@@ -232,31 +243,54 @@ fn root_is_done<R: Wait>(
     }
 }
 
+// Whether the root is done by the first of two passes, after three calls, and the desk is over for
+// the second.
+fn is_over_with_the_root<R: Wait>(rt: &R, alloc: Global, desk: &Desk, passes: &mut [Pass]) -> bool {
+    match passes {
+        [first, second] => {
+            root_is_done(rt, alloc, desk, first, second)
+                && first.heard() == 3
+                && is_over(rt, desk, second)
+        }
+        _ => false,
+    }
+}
+
 #[test]
 fn desk_is_over_where_the_root_is_done(rt: HostRuntime) {
     match open(rt.alloc()) {
-        Some((desk, mut first, mut second)) => {
-            let alloc = rt.alloc();
+        Some((desk, mut passes)) => {
             holds(
                 &rt,
-                root_is_done(&rt, alloc, &desk, &mut first, &mut second),
+                is_over_with_the_root(&rt, rt.alloc(), &desk, &mut passes),
             );
-            same(&rt, &first.heard(), &3);
-            holds(&rt, is_over(&rt, &desk, &mut second));
-            holds(&rt, closes_with_least(alloc, desk, [first, second]));
+            holds(&rt, closes_with_least(desk, passes));
         }
         None => panic!(rt; "no memory"),
+    }
+}
+
+// Takes and searches, or waits. Whether the desk is not over.
+fn goes_on<R: Wait>(rt: &R, desk: &Desk, pass: &mut Pass) -> bool {
+    let seen = desk.stirred(rt);
+    match desk.take(rt, pass).ok() {
+        Some(Took::Work(task)) => {
+            finish(rt, desk, pass, task);
+            true
+        }
+        Some(Took::Wait) => {
+            desk.rest(rt, seen);
+            true
+        }
+        Some(Took::Over) | None => false,
     }
 }
 
 // Takes and searches until the desk is over.
 fn solve<R: Wait>(rt: &R, desk: &Desk, pass: &mut Pass) {
     for _ in rt.forever() {
-        let seen = desk.stirred(rt);
-        match desk.take(rt, pass) {
-            Ok(Took::Work(task)) => finish(rt, desk, pass, task),
-            Ok(Took::Wait) => desk.rest(rt, seen),
-            _ => break,
+        if !goes_on(rt, desk, pass) {
+            break;
         }
     }
 }
@@ -286,16 +320,23 @@ fn find<R: Wait>(rt: &R, desk: &Desk, pass: &mut Pass, task: &mut Task) -> Resul
     }
 }
 
+// Both passes of two take and search until the desk is over. Whether there are two.
+fn solve_both<R: Threads + Wait + Sync>(rt: &R, desk: &Desk, passes: &mut [Pass]) -> bool {
+    match passes {
+        [first, second] => {
+            join(rt, || solve(rt, desk, first), || solve(rt, desk, second));
+            true
+        }
+        _ => false,
+    }
+}
+
 #[test]
 fn two_threads_share_a_desk(rt: HostRuntime) {
     match open(rt.alloc()) {
-        Some((desk, mut first, mut second)) => {
-            join(
-                &rt,
-                || solve(&rt, &desk, &mut first),
-                || solve(&rt, &desk, &mut second),
-            );
-            holds(&rt, closes_with_least(rt.alloc(), desk, [first, second]));
+        Some((desk, mut passes)) => {
+            holds(&rt, solve_both(&rt, &desk, &mut passes));
+            holds(&rt, closes_with_least(desk, passes));
         }
         None => panic!(rt; "no memory"),
     }

@@ -3,12 +3,12 @@ ghost use Rattle.ug_ranks.specs.declared.state.State.TheVariants.{Idle};
 
 use crate::expect::{holds, same};
 use std::alloc::{AllocError, Global};
-use std::test::Fail;
+use std::process::Abort;
 use ug_frames::Order;
 use ug_giving::{Terms, give_out};
 use ug_nodes::{Changes, Line, Name, Node, Ticket};
 use ug_orders::Queue;
-use ug_pool::Pool;
+use ug_pool::{Entry, Pool};
 use ug_ranks::Ranks;
 
 fn put(alloc: Global, pool: &mut Pool, hand: u64, floor: i128) -> Result<(), AllocError> {
@@ -20,18 +20,43 @@ fn put(alloc: Global, pool: &mut Pool, hand: u64, floor: i128) -> Result<(), All
     Ok(())
 }
 
-// The rank that is told next, the number of its ticket, that of its params, and whether it races.
-fn told(orders: &mut Queue) -> Option<(u32, u64, u8, bool)> {
-    let told = orders.next()?;
-    match told.order {
+// Puts a node for each of these floors, named by hand numbers from 0 on.
+fn put_each(alloc: Global, pool: &mut Pool, floors: &[i128]) -> Result<(), AllocError> {
+    for (hand, floor) in floors.iter().enumerate() {
+        put(alloc, pool, hand as u64, *floor)?;
+    }
+    Ok(())
+}
+
+// The number of a ticket, that of the params, and whether it races, where work is told.
+fn work(order: &Order) -> Option<(u64, u8, bool)> {
+    match order {
         Order::Work {
             ticket,
             params,
             race,
             ..
-        } => Some((told.rank, ticket.number, params.number(), race)),
+        } => Some((ticket.number, params.number(), *race)),
         _ => None,
     }
+}
+
+// A rank that is told of work, the number of its ticket, that of its params, and whether it races.
+type Told = (u32, u64, u8, bool);
+
+// What is told next.
+fn next(orders: &mut Queue) -> Option<Told> {
+    let told = orders.next()?;
+    let rank = told.rank;
+    let work = work(&told.order);
+    drop(told);
+    let (number, params, race) = work?;
+    Some((rank, number, params, race))
+}
+
+// The three that are told first.
+fn told_first(orders: &mut Queue) -> [Option<Told>; 3] {
+    [next(orders), next(orders), next(orders)]
 }
 
 fn two_idle(alloc: Global) -> Result<Ranks, AllocError>
@@ -43,22 +68,24 @@ fn two_idle(alloc: Global) -> Result<Ranks, AllocError>
     Ok(ranks)
 }
 
-#[test]
-fn gives_the_least_nodes_to_the_lowest_ranks(rt: HostRuntime) -> Result<(), Fail> {
-    let alloc = rt.alloc();
-    let terms = Terms {
-        run: 1,
-        racing: false,
-        cutoff: Some(9),
-    };
-    let mut ranks = two_idle(alloc)?;
+/// What is left where nodes were given out to two idle ranks, and in how many steps they were.
+#[derive(Drop)]
+struct Given {
+    steps: Option<u64>,
+    last: u64,
+    pool: Pool,
+    raced: Option<Entry>,
+    orders: Queue,
+}
+
+// Gives out nodes with these floors after the last ticket number.
+fn give_each(rt: &impl Abort, alloc: Global, terms: Terms, floors: &[i128], last: u64) -> Given {
+    let mut ranks = two_idle(alloc).expect(rt, "memory");
     let mut pool = Pool::new(alloc);
-    put(alloc, &mut pool, 0, 5)?;
-    put(alloc, &mut pool, 1, 3)?;
-    put(alloc, &mut pool, 2, 4)?;
+    holds(rt, put_each(alloc, &mut pool, floors).is_ok());
     let mut orders = Queue::new(alloc);
     let mut raced = None;
-    let mut last = 6;
+    let mut last = last;
     let steps = give_out(
         alloc,
         terms,
@@ -68,70 +95,52 @@ fn gives_the_least_nodes_to_the_lowest_ranks(rt: HostRuntime) -> Result<(), Fail
         &mut raced,
         &mut orders,
     );
-    holds(&rt, steps == Ok(2) && last == 8 && pool.len() == 1);
-    same(&rt, &told(&mut orders), &Some((0, 7, 0, false)));
-    same(&rt, &told(&mut orders), &Some((1, 8, 0, false)));
-    same(&rt, &told(&mut orders), &None);
-    Ok(())
+    drop(ranks);
+    Given {
+        steps: steps.ok(),
+        last,
+        pool,
+        raced,
+        orders,
+    }
+}
+
+fn terms(racing: bool, cutoff: Option<i128>) -> Terms {
+    Terms {
+        run: 1,
+        racing,
+        cutoff,
+    }
 }
 
 #[test]
-fn gives_nothing_where_ticket_numbers_are_spent(rt: HostRuntime) -> Result<(), Fail> {
-    let alloc = rt.alloc();
-    let terms = Terms {
-        run: 1,
-        racing: false,
-        cutoff: None,
-    };
-    let mut ranks = two_idle(alloc)?;
-    let mut pool = Pool::new(alloc);
-    put(alloc, &mut pool, 0, 5)?;
-    let mut orders = Queue::new(alloc);
-    let mut raced = None;
-    let mut last = u64::MAX;
-    let steps = give_out(
-        alloc,
-        terms,
-        &mut last,
-        &mut ranks,
-        &mut pool,
-        &mut raced,
-        &mut orders,
-    );
-    holds(&rt, steps == Ok(0) && last == u64::MAX && pool.len() == 1);
-    same(&rt, &told(&mut orders), &None);
-    Ok(())
+fn gives_the_least_nodes_to_the_lowest_ranks(rt: HostRuntime) {
+    let mut given = give_each(&rt, rt.alloc(), terms(false, Some(9)), &[5, 3, 4], 6);
+    same(&rt, &given.steps, &Some(2));
+    holds(&rt, given.last == 8 && given.pool.len() == 1);
+    let wanted = [Some((0, 7, 0, false)), Some((1, 8, 0, false)), None];
+    same(&rt, &told_first(&mut given.orders), &wanted);
+    drop(given);
 }
 
 #[test]
-fn begins_a_race(rt: HostRuntime) -> Result<(), Fail> {
-    let alloc = rt.alloc();
-    let terms = Terms {
-        run: 1,
-        racing: true,
-        cutoff: None,
-    };
-    let mut ranks = two_idle(alloc)?;
-    let mut pool = Pool::new(alloc);
-    put(alloc, &mut pool, 0, 5)?;
-    let mut orders = Queue::new(alloc);
-    let mut raced = None;
-    let mut last = 0;
-    let steps = give_out(
-        alloc,
-        terms,
-        &mut last,
-        &mut ranks,
-        &mut pool,
-        &mut raced,
-        &mut orders,
-    );
+fn gives_nothing_where_ticket_numbers_are_spent(rt: HostRuntime) {
+    let mut given = give_each(&rt, rt.alloc(), terms(false, None), &[5], u64::MAX);
+    same(&rt, &given.steps, &Some(0));
+    holds(&rt, given.last == u64::MAX && given.pool.len() == 1);
+    same(&rt, &next(&mut given.orders), &None);
+    drop(given);
+}
+
+#[test]
+fn begins_a_race(rt: HostRuntime) {
+    let mut given = give_each(&rt, rt.alloc(), terms(true, None), &[5], 0);
+    same(&rt, &given.steps, &Some(1));
     holds(
         &rt,
-        steps == Ok(1) && last == 2 && pool.len() == 0 && raced.is_some(),
+        given.last == 2 && given.pool.len() == 0 && given.raced.is_some(),
     );
-    same(&rt, &told(&mut orders), &Some((0, 1, 0, true)));
-    same(&rt, &told(&mut orders), &Some((1, 2, 1, true)));
-    same(&rt, &told(&mut orders), &None);
-    Ok(())
+    let wanted = [Some((0, 1, 0, true)), Some((1, 2, 1, true)), None];
+    same(&rt, &told_first(&mut given.orders), &wanted);
+    drop(given);
 }

@@ -23,7 +23,7 @@ fn offered(alloc: Global, best: &mut Best, problem: &Problem, values: &[i32]) ->
 }
 
 // Expects these answers to points of the line, one after another.
-fn offers(rt: &impl Abort, alloc: Global, problem: &Problem, best: &mut Best)
+fn offers_first(rt: &impl Abort, alloc: Global, problem: &Problem, best: &mut Best)
     requires { IfSome best.old (Feasible problem.now) }
     ensures { IfSome best.new (Feasible problem.now) }
 {
@@ -36,6 +36,13 @@ fn offers(rt: &impl Abort, alloc: Global, problem: &Problem, best: &mut Best)
     );
     let outside = Offered::Broken(Broken::Column(0));
     same(rt, &offered(alloc, best, problem, &[1]), &Some(outside));
+}
+
+// And these then.
+fn offers_more(rt: &impl Abort, alloc: Global, problem: &Problem, best: &mut Best)
+    requires { IfSome best.old (Feasible problem.now) }
+    ensures { IfSome best.new (Feasible problem.now) }
+{
     let equal = Offered::NotBetter { kept: 5, given: 5 };
     same(rt, &offered(alloc, best, problem, &[5]), &Some(equal));
     same(
@@ -47,6 +54,24 @@ fn offers(rt: &impl Abort, alloc: Global, problem: &Problem, best: &mut Best)
     same(rt, &offered(alloc, best, problem, &[6]), &Some(greater));
 }
 
+// Its cutoffs without a gap, and under gaps of 1 and 5.
+fn cutoffs(best: &Best, problem: &Problem) -> [Option<i128>; 3]
+    requires { IfSome best.now (Feasible problem.now) }
+{
+    [
+        best.cutoff(problem, 0),
+        best.cutoff(problem, 1),
+        best.cutoff(problem, 5),
+    ]
+}
+
+fn has_point(best: &Best, values: &[i32]) -> bool {
+    match best.point() {
+        Some(point) => point.as_slice() == values,
+        None => false,
+    }
+}
+
 // Expects nothing first, and then the point that is left with its cutoffs.
 fn keeps_the_least(rt: &impl Abort, alloc: Global, problem: &Problem) {
     let mut best = Best::none();
@@ -54,21 +79,20 @@ fn keeps_the_least(rt: &impl Abort, alloc: Global, problem: &Problem) {
         rt,
         best.point().is_none() && best.cutoff(problem, 0).is_none(),
     );
-    offers(rt, alloc, problem, &mut best);
-    holds(
-        rt,
-        best.point()
-            .is_some_and(|point| point.as_slice() == [4].as_slice()),
-    );
-    same(rt, &best.cutoff(problem, 0), &Some(4));
-    same(rt, &best.cutoff(problem, 1), &Some(3));
-    same(rt, &best.cutoff(problem, 5), &Some(2));
+    offers_first(rt, alloc, problem, &mut best);
+    offers_more(rt, alloc, problem, &mut best);
+    holds(rt, has_point(&best, &[4]));
+    same(rt, &cutoffs(&best, problem), &[Some(4), Some(3), Some(2)]);
+    drop(best);
 }
 
 #[test]
 fn takes_lesser_values_alone(rt: HostRuntime) {
     match line(rt.alloc()) {
-        Ok(problem) => keeps_the_least(&rt, rt.alloc(), &problem),
+        Ok(problem) => {
+            keeps_the_least(&rt, rt.alloc(), &problem);
+            drop(problem);
+        }
         Err(_) => panic!(rt; "no problem"),
     }
 }
@@ -77,4 +101,5 @@ fn takes_lesser_values_alone(rt: HostRuntime) {
 fn begins_with_a_known_point(rt: HostRuntime) {
     let known = Best::new(point(rt.alloc(), &[9]).ok());
     holds(&rt, known.point().is_some());
+    drop(known);
 }

@@ -1,8 +1,7 @@
 ghost use Rattle.std.specs.Prelude.{◌<◌};
 
-use crate::expect::same;
+use crate::expect::{holds, same};
 use std::alloc::{AllocError, Global};
-use std::test::Fail;
 use ug_frames::Order;
 use ug_nodes::Ticket;
 use ug_orders::Queue;
@@ -19,7 +18,9 @@ fn stop(rank: u32, number: u64) -> Told {
 // The rank that is told next.
 fn rank(told: Option<Told>) -> Option<u32> {
     let told = told?;
-    Some(told.rank)
+    let rank = told.rank;
+    drop(told);
+    Some(rank)
 }
 
 fn put(queue: &mut Queue, told: Told) -> Result<(), AllocError> {
@@ -29,29 +30,28 @@ fn put(queue: &mut Queue, told: Told) -> Result<(), AllocError> {
 }
 
 #[test]
-fn tells_the_earliest_order_first(rt: HostRuntime) -> Result<(), Fail> {
+fn tells_the_earliest_order_first(rt: HostRuntime) {
     let mut queue = Queue::new(rt.alloc());
-    put(&mut queue, stop(3, 1))?;
-    put(&mut queue, stop(1, 2))?;
+    holds(&rt, put(&mut queue, stop(3, 1)).is_ok());
+    holds(&rt, put(&mut queue, stop(1, 2)).is_ok());
     same(&rt, &rank(queue.next()), &Some(3));
-    put(&mut queue, stop(2, 3))?;
-    same(&rt, &rank(queue.next()), &Some(1));
-    same(&rt, &rank(queue.next()), &Some(2));
-    same(&rt, &rank(queue.next()), &None);
-    Ok(())
+    holds(&rt, put(&mut queue, stop(2, 3)).is_ok());
+    let last = [rank(queue.next()), rank(queue.next()), rank(queue.next())];
+    same(&rt, &last, &[Some(1), Some(2), None]);
+    drop(queue);
 }
 
 #[test]
-fn keeps_count_of_its_room(rt: HostRuntime) -> Result<(), Fail> {
+fn keeps_count_of_its_room(rt: HostRuntime) {
     let mut queue = Queue::new(rt.alloc());
     same(&rt, &queue.spare(), &0);
-    queue.reserve(2)?;
+    holds(&rt, queue.reserve(2).is_ok());
     same(&rt, &queue.spare(), &2);
     queue.push(stop(0, 1));
     same(&rt, &queue.spare(), &1);
-    queue.reserve(1)?;
+    holds(&rt, queue.reserve(1).is_ok());
     same(&rt, &queue.spare(), &1);
-    let _ = queue.next();
+    same(&rt, &rank(queue.next()), &Some(0));
     same(&rt, &queue.spare(), &2);
-    Ok(())
+    drop(queue);
 }

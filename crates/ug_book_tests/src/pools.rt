@@ -2,7 +2,6 @@ ghost use Rattle.std.specs.Prelude.{◌≡◌, ◌<◌};
 
 use crate::expect::{holds, same};
 use std::alloc::{AllocError, Global};
-use std::test::Fail;
 use ug_nodes::{Changes, Line, Name, Node, Ticket};
 use ug_pool::{PlainPool, Pool};
 
@@ -29,7 +28,9 @@ fn node(alloc: Global, hand: u64) -> Result<Node, AllocError> {
 
 fn hand(node: Option<Node>) -> Option<u64> {
     let node = node?;
-    Some(node.line.name().hand)
+    let hand = node.line.name().hand;
+    drop(node);
+    Some(hand)
 }
 
 fn put(alloc: Global, pool: &mut Pool, hand: u64, floor: i128) -> Result<(), AllocError> {
@@ -49,20 +50,29 @@ fn put_plain(
     Ok(())
 }
 
+// Puts nodes of these hand numbers and floors.
+fn put_each(alloc: Global, pool: &mut Pool, nodes: &[(u64, i128)]) -> Result<(), AllocError> {
+    for (hand, floor) in nodes {
+        put(alloc, pool, *hand, *floor)?;
+    }
+    Ok(())
+}
+
 #[test]
-fn takes_the_least_name_of_the_least_floor(rt: HostRuntime) -> Result<(), Fail> {
+fn takes_the_least_name_of_the_least_floor(rt: HostRuntime) {
     let alloc = rt.alloc();
     let mut pool = Pool::new(alloc);
-    put(alloc, &mut pool, 1, 4)?;
-    put(alloc, &mut pool, 3, 2)?;
-    put(alloc, &mut pool, 2, 2)?;
+    holds(
+        &rt,
+        put_each(alloc, &mut pool, &[(1, 4), (3, 2), (2, 2)]).is_ok(),
+    );
     same(&rt, &hand(pool.take_least()), &Some(2));
     pool.drop_from(4);
     same(&rt, &pool.len(), &1);
-    same(&rt, &hand(pool.take_least()), &Some(3));
-    same(&rt, &hand(pool.take_least()), &None);
+    let last = [hand(pool.take_least()), hand(pool.take_least())];
+    same(&rt, &last, &[Some(3), None]);
     same(&rt, &pool.spare(), &3);
-    Ok(())
+    drop(pool);
 }
 
 // The line of the node of these names, which stands below the starting node of this hand number.
@@ -75,7 +85,7 @@ fn line_of(alloc: Global, first: u64, names: &[(u64, u64)]) -> Result<Line, Allo
 }
 
 // A starting node with two nodes below it, one of which has one below it, and another.
-const LINES: [(u64, &[(u64, u64)]); 5] = [
+const LINES: &[(u64, &[(u64, u64)])] = &[
     (0, &[]),
     (0, &[(1, 2)]),
     (0, &[(1, 2), (2, 0)]),
@@ -86,7 +96,7 @@ const LINES: [(u64, &[(u64, u64)]); 5] = [
 fn put_all(alloc: Global, pool: &mut Pool) -> Result<(), AllocError> {
     for (first, names) in LINES {
         pool.reserve(1)?;
-        pool.put(node_of(alloc, line_of(alloc, first, names)?), 0);
+        pool.put(node_of(alloc, line_of(alloc, *first, names)?), 0);
     }
     Ok(())
 }
@@ -101,25 +111,86 @@ fn has(pool: &Pool, names: &[(u64, u64)]) -> bool {
     same
 }
 
+// Drops what stands below the node of a line. Whether there was memory for the line.
+fn drop_below(alloc: Global, pool: &mut Pool, first: u64, names: &[(u64, u64)]) -> bool {
+    let Ok(line) = line_of(alloc, first, names) else {
+        return false;
+    };
+    pool.drop_below(&line);
+    drop(line);
+    true
+}
+
+fn first_floor(pool: &Pool) -> Option<i128> {
+    Some(pool.first()?.floor)
+}
+
+// Whether what is left where that is dropped are the nodes of these names.
+fn drops_to(
+    alloc: Global,
+    pool: &mut Pool,
+    first: u64,
+    names: &[(u64, u64)],
+    left: &[(u64, u64)],
+) -> bool {
+    drop_below(alloc, pool, first, names) && has(pool, left)
+}
+
 #[test]
-fn drops_what_stands_below_a_node(rt: HostRuntime) -> Result<(), Fail> {
+fn drops_what_stands_below_a_node(rt: HostRuntime) {
     let alloc = rt.alloc();
     let mut pool = Pool::new(alloc);
-    put_all(alloc, &mut pool)?;
-    holds(&rt, pool.first().is_some_and(|entry| entry.floor == 0));
+    holds(&rt, put_all(alloc, &mut pool).is_ok());
+    same(&rt, &first_floor(&pool), &Some(0));
     holds(&rt, has(&pool, &[(1, 0), (1, 1), (1, 2), (1, 3), (2, 0)]));
-    pool.drop_below(&line_of(alloc, 0, &[(1, 2)])?);
-    holds(&rt, has(&pool, &[(1, 0), (1, 1), (1, 2), (1, 3)]));
-    pool.drop_below(&start(alloc, 0)?);
-    holds(&rt, has(&pool, &[(1, 0), (1, 1)]));
+    let left = [(1, 0), (1, 1), (1, 2), (1, 3)];
+    holds(&rt, drops_to(alloc, &mut pool, 0, &[(1, 2)], &left));
+    holds(&rt, drops_to(alloc, &mut pool, 0, &[], &[(1, 0), (1, 1)]));
     same(&rt, &pool.spare(), &3);
-    Ok(())
+    drop(pool);
 }
 
 fn next(state: u64) -> u64 {
     state
         .wrapping_mul(6364136223846793005)
         .wrapping_add(1442695040888963407)
+}
+
+fn put_both(
+    alloc: Global,
+    pool: &mut Pool,
+    plain: &mut PlainPool,
+    hand: u64,
+    floor: i128,
+) -> Result<(), AllocError> {
+    put(alloc, pool, hand, floor)?;
+    put_plain(alloc, plain, hand, floor)
+}
+
+fn drop_below_both(
+    alloc: Global,
+    pool: &mut Pool,
+    plain: &mut PlainPool,
+    hand: u64,
+) -> Result<(), AllocError> {
+    let line = start(alloc, hand)?;
+    pool.drop_below(&line);
+    plain.drop_below(&line);
+    drop(line);
+    Ok(())
+}
+
+fn take_both(pool: &mut Pool, plain: &mut PlainPool) -> bool {
+    hand(pool.take_least()) == hand(plain.take_least())
+}
+
+fn drop_from_both(pool: &mut Pool, plain: &mut PlainPool, floor: i128) {
+    pool.drop_from(floor);
+    plain.drop_from(floor);
+}
+
+fn are_as_long(pool: &Pool, plain: &PlainPool) -> bool {
+    pool.len() == plain.len() && pool.spare() == plain.spare()
 }
 
 // One operation on both pools, and whether they answered alike.
@@ -133,52 +204,68 @@ fn step(
     let mut alike = true;
     match draw % 64 {
         0..=39 => {
-            put(alloc, pool, draw / 8192 % 1000, floor)?;
-            put_plain(alloc, plain, draw / 8192 % 1000, floor)?;
+            put_both(alloc, pool, plain, draw / 8192 % 1000, floor)?;
         }
-        40..=61 => alike = hand(pool.take_least()) == hand(plain.take_least()),
-        62 => {
-            let line = start(alloc, draw / 8192 % 10)?;
-            pool.drop_below(&line);
-            plain.drop_below(&line);
-        }
-        _ => {
-            pool.drop_from(20 + floor);
-            plain.drop_from(20 + floor);
-        }
+        40..=61 => alike = take_both(pool, plain),
+        62 => drop_below_both(alloc, pool, plain, draw / 8192 % 10)?,
+        _ => drop_from_both(pool, plain, 20 + floor),
     }
-    Ok(alike && pool.len() == plain.len() && pool.spare() == plain.spare())
+    Ok(alike && are_as_long(pool, plain))
 }
 
-#[test]
-fn answers_as_the_plain_pool(rt: HostRuntime) -> Result<(), Fail> {
-    let alloc = rt.alloc();
-    let mut pool = Pool::new(alloc);
-    let mut plain = PlainPool::new(alloc);
+// Whether they answer many operations alike.
+fn are_alike(alloc: Global, pool: &mut Pool, plain: &mut PlainPool) -> Result<bool, AllocError> {
     let mut state = 1;
-    let mut alike = true;
     for _ in 0..5000 {
         state = next(state);
-        let same = step(alloc, &mut pool, &mut plain, state >> 16)?;
-        alike = alike && same;
+        if !step(alloc, pool, plain, state >> 16)? {
+            return Ok(false);
+        }
     }
-    holds(&rt, alike);
-    Ok(())
+    Ok(true)
 }
 
 #[test]
-fn holds_twenty_thousand_nodes(rt: HostRuntime) -> Result<(), Fail> {
-    let alloc = rt.alloc();
-    let mut pool = Pool::new(alloc);
-    for k in 0..20_000 {
-        put(alloc, &mut pool, k, i128::from(k * 7_919 % 20_000))?;
+fn answers_as_the_plain_pool(rt: HostRuntime) {
+    let mut pool = Pool::new(rt.alloc());
+    let mut plain = PlainPool::new(rt.alloc());
+    holds(
+        &rt,
+        are_alike(rt.alloc(), &mut pool, &mut plain) == Ok(true),
+    );
+    drop(pool);
+    drop(plain);
+}
+
+// The floors of twenty thousand nodes are all different, and not in the order of their names.
+fn put_many(alloc: Global, pool: &mut Pool) -> Result<(), AllocError> {
+    for hand in 0..20_000 {
+        put(alloc, pool, hand, i128::from(hand * 7_919 % 20_000))?;
     }
-    let mut in_order = true;
-    for floor in 0..20_000 {
-        let taken = hand(pool.take_least());
-        in_order = in_order
-            && taken.is_some_and(|hand| hand < 20_000 && hand * 7_919 % 20_000 == floor);
-    }
-    holds(&rt, in_order && pool.len() == 0);
     Ok(())
+}
+
+// Whether the node that is taken next has this floor.
+fn takes(pool: &mut Pool, floor: u64) -> bool {
+    match hand(pool.take_least()) {
+        Some(hand) => hand < 20_000 && hand * 7_919 % 20_000 == floor,
+        None => false,
+    }
+}
+
+fn are_in_order(pool: &mut Pool) -> bool {
+    for floor in 0..20_000 {
+        if !takes(pool, floor) {
+            return false;
+        }
+    }
+    pool.len() == 0
+}
+
+#[test]
+fn holds_twenty_thousand_nodes(rt: HostRuntime) {
+    let mut pool = Pool::new(rt.alloc());
+    holds(&rt, put_many(rt.alloc(), &mut pool).is_ok());
+    holds(&rt, are_in_order(&mut pool));
+    drop(pool);
 }

@@ -1,6 +1,5 @@
 use crate::expect::{holds, same};
 use std::alloc::{AllocError, Global};
-use std::test::Fail;
 use ug_branch::Params;
 use ug_frames::Order;
 use ug_nodes::{Changes, Line, Name, Node, Ticket};
@@ -24,13 +23,19 @@ fn root(alloc: Global) -> Result<Entry, AllocError> {
 // The rank that is told next, and whether it has won.
 fn next(orders: &mut Queue) -> Option<(u32, bool)> {
     let told = orders.next()?;
-    Some((told.rank, matches!(&told.order, Order::Winner { .. })))
+    let next = (told.rank, matches!(&told.order, Order::Winner { .. }));
+    drop(told);
+    Some(next)
+}
+
+fn is_won_by_the_second(ranks: &Ranks) -> bool {
+    matches!(ranks.as_slice(), [State::Idle, State::Active(_)])
 }
 
 #[test]
-fn gives_the_root_to_the_racer_that_is_ahead(rt: HostRuntime) -> Result<(), Fail> {
+fn gives_the_root_to_the_racer_that_is_ahead(rt: HostRuntime) {
     let alloc = rt.alloc();
-    let mut ranks = Ranks::new(alloc, 2)?;
+    let mut ranks = Ranks::new(alloc, 2).expect(&rt, "memory");
     ranks.idle(0);
     ranks.idle(1);
     ranks.race(0, ticket(1), Params::new(0));
@@ -38,15 +43,14 @@ fn gives_the_root_to_the_racer_that_is_ahead(rt: HostRuntime) -> Result<(), Fail
     ranks.note(0, 3, -5);
     ranks.note(1, 3, -4);
     let mut orders = Queue::new(alloc);
-    let mut raced = Some(root(alloc)?);
-    end_race(alloc, 3, &mut ranks, &mut orders, &mut raced)?;
+    let mut raced = Some(root(alloc).expect(&rt, "memory"));
+    let ended = end_race(alloc, 3, &mut ranks, &mut orders, &mut raced);
+    holds(&rt, ended.is_ok());
     holds(&rt, raced.is_none());
-    holds(
-        &rt,
-        matches!(ranks.as_slice(), [State::Idle, State::Active(_)]),
-    );
-    same(&rt, &next(&mut orders), &Some((1, true)));
-    same(&rt, &next(&mut orders), &Some((0, false)));
-    same(&rt, &next(&mut orders), &None);
-    Ok(())
+    holds(&rt, is_won_by_the_second(&ranks));
+    let told = [next(&mut orders), next(&mut orders), next(&mut orders)];
+    same(&rt, &told, &[Some((1, true)), Some((0, false)), None]);
+    drop(ranks);
+    drop(orders);
+    drop(raced);
 }

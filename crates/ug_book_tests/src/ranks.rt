@@ -1,6 +1,8 @@
+ghost use Rattle.std.specs.Prelude.{◌≡◌, ◌<◌, length};
+
 use crate::expect::{holds, same};
 use std::alloc::{AllocError, Global};
-use std::test::Fail;
+use std::process::Abort;
 use ug_branch::Params;
 use ug_nodes::{Changes, Line, Name, Node, Ticket};
 use ug_ranks::{Ranks, State};
@@ -51,45 +53,59 @@ fn work(state: &State) -> Option<(usize, u64, i128, u32)> {
     }
 }
 
+// The hand number of a node that a rank held, and its floor.
+fn hand(held: Option<(Node, i128)>) -> Option<(u64, i128)> {
+    let (node, floor) = held?;
+    let hand = node.line.name().hand;
+    drop(node);
+    Some((hand, floor))
+}
+
+// Two boxes are taken of a rank.
+fn take_two(rt: &impl Abort, alloc: Global, ranks: &mut Ranks, rank: u32)
+    requires { rank < length ranks.old }
+    ensures { length ranks.new ≡ length ranks.old }
+{
+    let first = area(alloc, 0).expect(rt, "memory");
+    holds(rt, ranks.take(rank, first).is_ok());
+    let second = area(alloc, 5).expect(rt, "memory");
+    holds(rt, ranks.take(rank, second).is_ok());
+}
+
 #[test]
-fn works_as_it_was_told(rt: HostRuntime) -> Result<(), Fail> {
+fn works_as_it_was_told(rt: HostRuntime) {
     let alloc = rt.alloc();
     let params = Params::new(0);
-    let mut ranks = Ranks::new(alloc, 3)?;
+    let mut ranks = Ranks::new(alloc, 3).expect(&rt, "memory");
     holds(&rt, are(&ranks, b"aaa"));
     ranks.idle(1);
     ranks.idle(2);
     holds(&rt, are(&ranks, b"aii") && ranks.free(0).is_none());
-    ranks.give(1, ticket(1), node(alloc, 4)?, -3, params);
+    let node = node(alloc, 4).expect(&rt, "memory");
+    ranks.give(1, ticket(1), node, -3, params);
     ranks.note(1, 8, -2);
     ranks.ask(1, 1);
-    ranks.take(1, area(alloc, 0)?)?;
-    ranks.take(1, area(alloc, 5)?)?;
+    take_two(&rt, alloc, &mut ranks, 1);
     holds(&rt, are(&ranks, b"iwi"));
     same(&rt, &work(ranks.state(1)), &Some((2, 8, -2, 0)));
-    let held = ranks
-        .kill(1)
-        .map(|(node, floor)| (node.line.name().hand, floor));
-    same(&rt, &held, &Some((4, -3)));
+    same(&rt, &hand(ranks.kill(1)), &Some((4, -3)));
     holds(&rt, are(&ranks, b"idi"));
-    Ok(())
+    drop(ranks);
 }
 
 #[test]
-fn works_on_after_a_race(rt: HostRuntime) -> Result<(), Fail> {
+fn works_on_after_a_race(rt: HostRuntime) {
     let alloc = rt.alloc();
-    let mut ranks = Ranks::new(alloc, 1)?;
+    let mut ranks = Ranks::new(alloc, 1).expect(&rt, "memory");
     ranks.idle(0);
     ranks.race(0, ticket(1), Params::new(5));
     ranks.note(0, 20, 6);
     ranks.ask(0, 3);
     holds(&rt, are(&ranks, b"r"));
-    ranks.win(0, node(alloc, 0)?, 1);
+    let node = node(alloc, 0).expect(&rt, "memory");
+    ranks.win(0, node, 1);
     same(&rt, &work(ranks.state(0)), &Some((0, 20, 6, 0)));
-    let held = ranks
-        .free(0)
-        .map(|(node, floor)| (node.line.name().hand, floor));
-    same(&rt, &held, &Some((0, 1)));
+    same(&rt, &hand(ranks.free(0)), &Some((0, 1)));
     holds(&rt, are(&ranks, b"i"));
-    Ok(())
+    drop(ranks);
 }
