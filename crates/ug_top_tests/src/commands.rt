@@ -4,10 +4,9 @@
 use crate::expect::{holds, holds_at, same, same_at};
 use crate::running::{disk_with, sound_disk, told};
 use crate::texts::{due, written};
-use std::alloc::Global;
+use std::alloc::{AllocError, Global};
 use std::process::Abort;
 use std::sync::Wait;
-use std::test::Fail;
 use std::thread::Threads;
 use ug_disk::{Disk, MemoryDisk, Slot};
 
@@ -34,29 +33,28 @@ fn tells<R: Threads + Wait + Sync, D: Disk>(
     line: &str,
     text: &str,
     disk: &mut D,
-) -> Result<Vec<u8>, Fail> {
-    told(rt, alloc, line, written(alloc, text)?.as_slice(), disk)
+) -> Result<Vec<u8>, AllocError> {
+    let text = written(alloc, text)?;
+    let told = told(rt, alloc, line, text.as_slice(), disk);
+    drop(text);
+    told
 }
 
 // The first image of the empty problem: run 1 and sequence 1, no incumbent, and the root.
 fn first_slot() -> [u8; 113] {
     let mut slot = [0u8; 113];
-    for (at, byte) in [
-        (0, 1),
-        (8, 0x68),
-        (9, 3),
-        (17, 1),
-        (25, 1),
-        (29, 0x1e),
-        (92, 1),
-    ] {
-        slot[at] = byte;
-    }
+    slot[0] = 1;
+    slot[8] = 0x68;
+    slot[9] = 3;
+    slot[17] = 1;
+    slot[25] = 1;
+    slot[29] = 0x1e;
+    slot[92] = 1;
     slot
 }
 
 // A disk whose slot 0 has the first image with another byte at this place; its slot 1 is empty.
-fn changed(alloc: Global, at: usize, byte: u8) -> Result<MemoryDisk, Fail> {
+fn changed(alloc: Global, at: usize, byte: u8) -> Result<MemoryDisk, AllocError> {
     let mut slot = first_slot();
     if let Some(place) = slot.get_mut(at) {
         *place = byte;
@@ -65,7 +63,7 @@ fn changed(alloc: Global, at: usize, byte: u8) -> Result<MemoryDisk, Fail> {
 }
 
 // A disk of which slot 0 alone has bytes.
-fn slot_only(alloc: Global, zero: &[u8]) -> Result<MemoryDisk, Fail> {
+fn slot_only(alloc: Global, zero: &[u8]) -> Result<MemoryDisk, AllocError> {
     let zero = zero.to_vec(alloc)?;
     Ok(disk_with(alloc, zero, Vec::new(alloc), Vec::new(alloc)))
 }
@@ -73,37 +71,57 @@ fn slot_only(alloc: Global, zero: &[u8]) -> Result<MemoryDisk, Fail> {
 /// A command, the text that it gets, and the status and lines that it is to tell.
 type Case<'a> = (&'a str, &'a str, u8, &'a str);
 
-// Expects the commands, one after another over one disk, to tell what they are to.
+// Expects a command to tell what it is to.
+fn tells_so<R: Threads + Wait + Sync + Abort, D: Disk>(
+    rt: &R,
+    alloc: Global,
+    disk: &mut D,
+    case: &Case<'_>,
+) {
+    let (line, text, status, lines) = *case;
+    let told = tells(rt, alloc, line, text, disk).expect(rt, "memory");
+    let due = due(alloc, status, &[lines]).expect(rt, "memory");
+    same_at(rt, &told, &due, &line);
+    drop(told);
+    drop(due);
+}
+
+// The same of commands, one after another over one disk.
 fn tell_so<R: Threads + Wait + Sync + Abort, D: Disk>(
     rt: &R,
     alloc: Global,
     disk: &mut D,
     cases: &[Case<'_>],
-) -> Result<(), Fail> {
-    for (line, text, status, lines) in cases {
-        let told = tells(rt, alloc, line, text, disk)?;
-        same_at(rt, &told, &due(alloc, *status, &[lines])?, line);
+) {
+    for case in cases {
+        tells_so(rt, alloc, disk, case);
     }
-    Ok(())
 }
+
+// The same over a disk with nothing on it.
+fn tell_so_alone<R: Threads + Wait + Sync + Abort>(rt: &R, alloc: Global, cases: &[Case<'_>]) {
+    let mut disk = sound_disk(alloc);
+    tell_so(rt, alloc, &mut disk, cases);
+    drop(disk);
+}
+
+const SOLVES: &[&str] = &[
+    "solve f",
+    "solve f --solvers 4",
+    "solve f --solvers 4 --racing",
+    "solve f --solvers 2 --mode threads --low 1 --high 1",
+    "solve f --solvers 3 --checkpoint d --every 1",
+];
 
 #[test]
-fn solvers_find_the_optimum(rt: HostRuntime) -> Result<(), Fail> {
-    let alloc = rt.alloc();
-    for line in [
-        "solve f",
-        "solve f --solvers 4",
-        "solve f --solvers 4 --racing",
-        "solve f --solvers 2 --mode threads --low 1 --high 1",
-        "solve f --solvers 3 --checkpoint d --every 1",
-    ] {
-        let case = (line, KNAPSACK, 0, "optimal 13;A 2;C 1");
-        tell_so(&rt, alloc, &mut sound_disk(alloc), &[case])?;
+fn solvers_find_the_optimum(rt: HostRuntime) {
+    for line in SOLVES {
+        let case = (*line, KNAPSACK, 0, "optimal 13;A 2;C 1");
+        tell_so_alone(&rt, rt.alloc(), &[case]);
     }
-    Ok(())
 }
 
-const STOPPED: [Case<'static>; 6] = [
+const STOPPED: &[Case<'static>] = &[
     (
         "show --checkpoint d",
         "",
@@ -132,42 +150,87 @@ const STOPPED: [Case<'static>; 6] = [
     ),
 ];
 
+// Whether the disk has the images of the sequences 1 and 2 of run 1.
+fn has_two_images(disk: &MemoryDisk) -> bool {
+    let first = first_slot();
+    let mut second = first_slot();
+    second[25] = 2;
+    disk.bytes(Slot::Zero) == first.as_slice() && disk.bytes(Slot::One) == second.as_slice()
+}
+
 #[test]
-fn stopped_run_is_shown_and_goes_on(rt: HostRuntime) -> Result<(), Fail> {
+fn stopped_run_is_shown_and_goes_on(rt: HostRuntime) {
     let alloc = rt.alloc();
     let mut disk = sound_disk(alloc);
     let first = ("solve f --checkpoint d --limit 0", EMPTY, 8, "open none 1");
-    tell_so(&rt, alloc, &mut disk, &[first])?;
-    let mut slot = first_slot();
-    same(&rt, &disk.bytes(Slot::Zero), &slot.as_slice());
-    slot[25] = 2;
-    same(&rt, &disk.bytes(Slot::One), &slot.as_slice());
-    tell_so(&rt, alloc, &mut disk, &STOPPED)
+    tell_so(&rt, alloc, &mut disk, &[first]);
+    holds(&rt, has_two_images(&disk));
+    tell_so(&rt, alloc, &mut disk, STOPPED);
+    drop(disk);
+}
+
+// Whether a run told the optimum or, but for the third, that it is open.
+fn is_open_or(told: &[u8], optimum: &[u8], run: usize) -> bool {
+    run < 2 && told.starts_with(b"\x08open ") || told == optimum
+}
+
+// Expects a run of the knapsack to find the optimum or, but for the third, to stay open.
+fn goes_on<R: Threads + Wait + Sync + Abort>(
+    rt: &R,
+    alloc: Global,
+    disk: &mut MemoryDisk,
+    run: usize,
+    line: &str,
+) {
+    let told = tells(rt, alloc, line, KNAPSACK, disk).expect(rt, "memory");
+    let optimum = due(alloc, 0, &["optimal 13;A 2;C 1"]).expect(rt, "memory");
+    holds_at(rt, is_open_or(&told, &optimum, run), &line);
+    drop(told);
+    drop(optimum);
+}
+
+// Expects the disk to show the number of the run.
+fn shows_its_number<R: Threads + Wait + Sync + Abort>(
+    rt: &R,
+    alloc: Global,
+    disk: &mut MemoryDisk,
+    run: usize,
+    line: &str,
+) {
+    let shown = tells(rt, alloc, "show --checkpoint d", "", disk).expect(rt, "memory");
+    let first = format!(in alloc; "\0run {}\n", run.saturating_add(1)).expect(rt, "memory");
+    holds_at(rt, shown.starts_with(first.as_bytes()), &line);
+    drop(shown);
+    drop(first);
+}
+
+const RUNS: &[&str] = &["solve f --limit 3", "restart f --limit 1", "restart f"];
+
+// Expects that of three runs over one disk.
+fn numbers_rise<R: Threads + Wait + Sync + Abort>(
+    rt: &R,
+    alloc: Global,
+    disk: &mut MemoryDisk,
+    every: &str,
+) {
+    for (run, command) in RUNS.iter().enumerate() {
+        let line = format!(in alloc; "{command} --checkpoint d{every}").expect(rt, "memory");
+        goes_on(rt, alloc, disk, run, line.as_str());
+        shows_its_number(rt, alloc, disk, run, line.as_str());
+        drop(line);
+    }
 }
 
 #[test]
-fn each_run_has_the_next_number(rt: HostRuntime) -> Result<(), Fail> {
-    let alloc = rt.alloc();
-    let optimum = due(alloc, 0, &["optimal 13;A 2;C 1"])?;
+fn each_run_has_the_next_number(rt: HostRuntime) {
     for every in ["", " --every 1"] {
-        let mut disk = sound_disk(alloc);
-        for (run, command) in ["solve f --limit 3", "restart f --limit 1", "restart f"]
-            .iter()
-            .enumerate()
-        {
-            let line = format!(in alloc; "{command} --checkpoint d{every}")?;
-            let told = tells(&rt, alloc, line.as_str(), KNAPSACK, &mut disk)?;
-            let is_open = run < 2 && told.starts_with(b"\x08open ");
-            holds_at(&rt, is_open || told == optimum, &line);
-            let shown = tells(&rt, alloc, "show --checkpoint d", "", &mut disk)?;
-            let first = format!(in alloc; "\0run {}\n", run.saturating_add(1))?;
-            holds_at(&rt, shown.starts_with(first.as_bytes()), &line);
-        }
+        let mut disk = sound_disk(rt.alloc());
+        numbers_rise(&rt, rt.alloc(), &mut disk, every);
+        drop(disk);
     }
-    Ok(())
 }
 
-const GAPS: [Case<'static>; 9] = [
+const GAPS: &[Case<'static>] = &[
     ("solve f --gap 2", RAMP, 0, "within 2 3;X 3"),
     ("solve f --gap 3", RAMP, 0, "within 3 0"),
     ("solve f --gap 3 --checkpoint d", RAMP, 0, "within 3 0"),
@@ -200,22 +263,31 @@ const GAPS: [Case<'static>; 9] = [
 ];
 
 #[test]
-fn gap_is_kept_and_printed(rt: HostRuntime) -> Result<(), Fail> {
-    tell_so(&rt, rt.alloc(), &mut sound_disk(rt.alloc()), &GAPS)
+fn gap_is_kept_and_printed(rt: HostRuntime) {
+    tell_so_alone(&rt, rt.alloc(), GAPS);
 }
 
-// The fifth line of what is shown behind a run with a gap of 1 of an objective of two places.
-fn shown_gap<R: Threads + Wait + Sync>(rt: &R, alloc: Global) -> Result<Vec<u8>, Fail> {
-    let mut disk = sound_disk(alloc);
+fn fifth_line(told: &[u8]) -> &[u8] {
+    told.split(|byte| *byte == b'\n').nth(4).unwrap_or(b"")
+}
+
+// Expects this fifth line of what is shown behind a run with a gap of 1 of an objective of two
+// places.
+fn shows_gap<R: Threads + Wait + Sync + Abort>(
+    rt: &R,
+    alloc: Global,
+    disk: &mut MemoryDisk,
+    gap: &[u8],
+) {
     let line = "solve f --gap 1 --checkpoint d";
-    tells(rt, alloc, line, FRACTIONS, &mut disk)?;
-    let shown = tells(rt, alloc, "show --checkpoint d", "", &mut disk)?;
-    let line = shown.split(|byte| *byte == b'\n').nth(4);
-    Ok(line.unwrap_or(b"").to_vec(alloc)?)
+    drop(tells(rt, alloc, line, FRACTIONS, disk).expect(rt, "memory"));
+    let shown = tells(rt, alloc, "show --checkpoint d", "", disk).expect(rt, "memory");
+    same(rt, &fifth_line(&shown), &gap);
+    drop(shown);
 }
 
 // Commands over the first image with a gap of 3 in it.
-const GAP_OF_3: [Case<'static>; 2] = [
+const GAP_OF_3: &[Case<'static>] = &[
     (
         "show --checkpoint d",
         "",
@@ -226,15 +298,17 @@ const GAP_OF_3: [Case<'static>; 2] = [
 ];
 
 #[test]
-fn gap_of_a_slot_is_in_units_of_the_scaled_objective(rt: HostRuntime) -> Result<(), Fail> {
-    let alloc = rt.alloc();
-    let gap = shown_gap(&rt, alloc)?;
-    same(&rt, &gap.as_slice(), &b"gap 100".as_slice());
-    tell_so(&rt, alloc, &mut changed(alloc, 84, 3)?, &GAP_OF_3)
+fn gap_of_a_slot_is_in_units_of_the_scaled_objective(rt: HostRuntime) {
+    let mut disk = sound_disk(rt.alloc());
+    shows_gap(&rt, rt.alloc(), &mut disk, b"gap 100");
+    drop(disk);
+    let mut disk = changed(rt.alloc(), 84, 3).expect(&rt, "memory");
+    tell_so(&rt, rt.alloc(), &mut disk, GAP_OF_3);
+    drop(disk);
 }
 
 // Slots of which recovery makes nothing: the bytes of slot 0, a command, and what it tells.
-const UNUSABLE: [(&[u8], &str, u8, &str); 6] = [
+const UNUSABLE: &[(&[u8], &str, u8, &str)] = &[
     (b"", "restart f --checkpoint d", 10, "no checkpoint"),
     (b"", "show --checkpoint d", 10, "no checkpoint"),
     (b"\x01", "restart f --checkpoint d", 10, "no checkpoint"),
@@ -244,110 +318,153 @@ const UNUSABLE: [(&[u8], &str, u8, &str); 6] = [
 ];
 
 #[test]
-fn slot_that_is_no_image_is_told(rt: HostRuntime) -> Result<(), Fail> {
-    let alloc = rt.alloc();
+fn slot_that_is_no_image_is_told(rt: HostRuntime) {
     for (zero, line, status, lines) in UNUSABLE {
-        let case = (line, EMPTY, status, lines);
-        tell_so(&rt, alloc, &mut slot_only(alloc, zero)?, &[case])?;
+        let mut disk = slot_only(rt.alloc(), zero).expect(&rt, "memory");
+        tells_so(&rt, rt.alloc(), &mut disk, &(*line, EMPTY, *status, *lines));
+        drop(disk);
     }
-    Ok(())
+}
+
+// Expects a command over the first image with the highest byte of a number that is spent.
+fn is_spent<R: Threads + Wait + Sync + Abort>(rt: &R, alloc: Global, at: usize, line: &str) {
+    let mut disk = changed(alloc, at, 0x40).expect(rt, "memory");
+    tells_so(rt, alloc, &mut disk, &(line, EMPTY, 15, "spent"));
+    drop(disk);
 }
 
 #[test]
-fn run_or_sequence_of_two_to_the_62_is_spent(rt: HostRuntime) -> Result<(), Fail> {
-    let alloc = rt.alloc();
+fn run_or_sequence_of_two_to_the_62_is_spent(rt: HostRuntime) {
     for at in [10, 18] {
-        for line in ["restart f --checkpoint d", "solve f --checkpoint d"] {
-            let case = (line, EMPTY, 15, "spent");
-            tell_so(&rt, alloc, &mut changed(alloc, at, 0x40)?, &[case])?;
-        }
+        is_spent(&rt, rt.alloc(), at, "restart f --checkpoint d");
+        is_spent(&rt, rt.alloc(), at, "solve f --checkpoint d");
     }
-    Ok(())
+}
+
+// A disk with nothing on it, of whose calls this one fails.
+fn failing_disk(alloc: Global, call: u64) -> Result<MemoryDisk, AllocError> {
+    let failing = [call].to_vec(alloc)?;
+    Ok(disk_with(alloc, Vec::new(alloc), Vec::new(alloc), failing))
+}
+
+/// What a solve tells of a disk of which a call fails.
+#[derive(Clone, Copy, Debug, PartialEq, Eq)]
+enum Told {
+    Fault,
+    Missed,
+    Optimum,
+    Other,
+}
+
+fn told_by(told: &[u8]) -> Told {
+    if told == b"\x06disk fault\n".as_slice() {
+        Told::Fault
+    } else if told == b"\0optimal 0\nmissed 1\n".as_slice() {
+        Told::Missed
+    } else if told == b"\0optimal 0\n".as_slice() {
+        Told::Optimum
+    } else {
+        Told::Other
+    }
 }
 
 // What is told of a solve with a checkpoint, of whose disk this call fails.
-fn told_where_it_fails<R: Threads + Wait + Sync>(
-    rt: &R,
-    alloc: Global,
-    call: u64,
-) -> Result<Vec<u8>, Fail> {
-    let failing = [call].to_vec(alloc)?;
-    let mut disk = disk_with(alloc, Vec::new(alloc), Vec::new(alloc), failing);
-    tells(rt, alloc, "solve f --checkpoint d", EMPTY, &mut disk)
+fn told_where_it_fails<R: Threads + Wait + Sync + Abort>(rt: &R, alloc: Global, call: u64) -> Told {
+    let mut disk = failing_disk(alloc, call).expect(rt, "memory");
+    let told = tells(rt, alloc, "solve f --checkpoint d", EMPTY, &mut disk).expect(rt, "memory");
+    drop(disk);
+    let by = told_by(&told);
+    drop(told);
+    by
 }
 
 #[test]
-fn disk_that_fails_is_a_fault_first_and_a_missed_save_later(rt: HostRuntime) -> Result<(), Fail> {
-    let alloc = rt.alloc();
-    let fault = due(alloc, 6, &["disk fault"])?;
-    let missed = due(alloc, 0, &["optimal 0;missed 1"])?;
-    let mut calls = [0u32, 0, 0];
+fn disk_that_fails_is_a_fault_first_and_a_missed_save_later(rt: HostRuntime) {
+    let mut faults = 0u32;
+    let mut missed = 0u32;
+    let mut found = 0u32;
     for call in 1..40 {
-        let told = told_where_it_fails(&rt, alloc, call)?;
-        if told == fault && calls[1] == 0 {
-            calls[0] = calls[0].saturating_add(1);
-        } else if told == missed && calls[2] == 0 {
-            calls[1] = calls[1].saturating_add(1);
-        } else {
-            same_at(&rt, &told, &due(alloc, 0, &["optimal 0"])?, &call);
-            calls[2] = calls[2].saturating_add(1);
+        match told_where_it_fails(&rt, rt.alloc(), call) {
+            Told::Fault if missed == 0 => faults = faults.saturating_add(1),
+            Told::Missed if found == 0 => missed = missed.saturating_add(1),
+            told => {
+                same_at(&rt, &told, &Told::Optimum, &call);
+                found = found.saturating_add(1);
+            }
         }
     }
     // Six calls of a save at least are behind six of the first one, and some load before.
-    holds(&rt, calls[0] > 6 && calls[1] >= 6 && calls[2] > 0);
-    Ok(())
+    holds(&rt, faults > 6 && missed >= 6 && found > 0);
 }
 
-// Of a solve that saves after each report, of whose disk this call fails: what is told, and whether
-// recovery then finds the book with which it ended.
-fn saved_where_it_fails<R: Threads + Wait + Sync>(
+// Whether recovery finds the book with which the first run ended.
+fn shows_its_end<R: Threads + Wait + Sync + Abort>(
+    rt: &R,
+    alloc: Global,
+    disk: &mut MemoryDisk,
+) -> bool {
+    let shown = tells(rt, alloc, "show --checkpoint d", "", disk).expect(rt, "memory");
+    let is_ended = shown.starts_with(b"\0run 1\n") && shown.ends_with(b"\nnodes 0\n");
+    drop(shown);
+    is_ended
+}
+
+// Whether a solve that saves after each report misses a save, and nothing else, where this call of
+// its disk fails; and whether recovery then finds the book with which it ended.
+fn missed_where_it_fails<R: Threads + Wait + Sync + Abort>(
     rt: &R,
     alloc: Global,
     call: u64,
-) -> Result<(Vec<u8>, bool), Fail> {
-    let failing = [call].to_vec(alloc)?;
-    let mut disk = disk_with(alloc, Vec::new(alloc), Vec::new(alloc), failing);
+) -> (bool, bool) {
+    let mut disk = failing_disk(alloc, call).expect(rt, "memory");
     let line = "solve f --checkpoint d --every 1";
-    let told = tells(rt, alloc, line, KNAPSACK, &mut disk)?;
-    let shown = tells(rt, alloc, "show --checkpoint d", "", &mut disk)?;
-    let is_ended = shown.starts_with(b"\0run 1\n") && shown.ends_with(b"\nnodes 0\n");
-    Ok((told, is_ended))
+    let told = tells(rt, alloc, line, KNAPSACK, &mut disk).expect(rt, "memory");
+    let is_missed = told.as_slice() == b"\0optimal 13\nA 2\nC 1\nmissed 1\n".as_slice();
+    drop(told);
+    let is_ended = shows_its_end(rt, alloc, &mut disk);
+    drop(disk);
+    (is_missed, is_ended)
 }
 
 // The first save behind that of the root's image is of a snapshot, however the solver gets on.
 #[test]
-fn missed_save_of_a_snapshot_is_followed_by_the_last_save(rt: HostRuntime) -> Result<(), Fail> {
-    let alloc = rt.alloc();
-    let missed = due(alloc, 0, &["optimal 13;A 2;C 1;missed 1"])?;
+fn missed_save_of_a_snapshot_is_followed_by_the_last_save(rt: HostRuntime) {
     let mut met = 0u32;
     for call in 1..40 {
-        let (told, is_ended) = saved_where_it_fails(&rt, alloc, call)?;
-        if told == missed && met < 6 {
+        let (is_missed, is_ended) = missed_where_it_fails(&rt, rt.alloc(), call);
+        if is_missed && met < 6 {
             holds_at(&rt, is_ended, &call);
             met = met.saturating_add(1);
         }
     }
     same(&rt, &met, &6);
-    Ok(())
 }
 
-#[test]
-fn instances_are_made_and_solved(rt: HostRuntime) -> Result<(), Fail> {
-    let made = [
-        ("gen 1 3", "", 0, "optimal 24"),
-        ("gen 1 4", "", 0, "optimal 93"),
-        ("gen 1 4 --solvers 3", "", 0, "optimal 93"),
-    ];
-    tell_so(&rt, rt.alloc(), &mut sound_disk(rt.alloc()), &made)
-}
+const MADE: &[Case<'static>] = &[
+    ("gen 1 3", "", 0, "optimal 24"),
+    ("gen 1 4", "", 0, "optimal 93"),
+    ("gen 1 4 --solvers 3", "", 0, "optimal 93"),
+];
 
 #[test]
-fn instance_has_one_answer_for_any_solvers(rt: HostRuntime) -> Result<(), Fail> {
-    let alloc = rt.alloc();
+fn instances_are_made_and_solved(rt: HostRuntime) {
+    tell_so_alone(&rt, rt.alloc(), MADE);
+}
+
+// What a command tells that reads no text and keeps nothing.
+fn told_alone<R: Threads + Wait + Sync + Abort>(rt: &R, alloc: Global, line: &str) -> Vec<u8> {
     let mut disk = sound_disk(alloc);
-    let one = tells(&rt, alloc, "gen 7 24 --solvers 1", "", &mut disk)?;
-    let four = tells(&rt, alloc, "gen 7 24 --solvers 4", "", &mut disk)?;
+    let told = tells(rt, alloc, line, "", &mut disk).expect(rt, "memory");
+    drop(disk);
+    told
+}
+
+#[test]
+fn instance_has_one_answer_for_any_solvers(rt: HostRuntime) {
+    let one = told_alone(&rt, rt.alloc(), "gen 7 24 --solvers 1");
+    let four = told_alone(&rt, rt.alloc(), "gen 7 24 --solvers 4");
     holds(&rt, one.starts_with(b"\0optimal "));
     same(&rt, &one, &four);
-    Ok(())
+    drop(one);
+    drop(four);
 }

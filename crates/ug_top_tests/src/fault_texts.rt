@@ -4,9 +4,12 @@
 //! That a text of more than 268,435,456 bytes is refused as `TooLong` is proved and not tried here,
 //! for its size; that there are too many rows or columns is tried in long_texts.rt.
 
-use crate::expect::{same, same_at};
-use crate::texts::{due, edited, outcome};
-use std::test::Fail;
+use crate::expect::holds;
+use crate::texts::{edited, status_of, tells};
+use std::alloc::{AllocError, Global};
+use std::process::Abort;
+use std::sync::Wait;
+use std::thread::Threads;
 
 const KNAP: &str = "NAME BASE
 OBJSENSE MAX
@@ -342,19 +345,35 @@ Rows in order, the objective in its place.
 5: L Q/ & 6: L P/ & 10: A Z 5 P 1e25/ & 11: A Q 1e25 R 3/ -> 5 TooWide Q
 ";
 
+const FAULTS: &[&str] = &[SHAPES, WORDS, LIMITS, ORDER];
+
+// Expects a run over edits of the knapsack to tell this status and these lines.
+fn edits_tell<R: Threads + Wait + Sync + Abort>(
+    rt: &R,
+    alloc: Global,
+    (edits, boxed): (&str, Option<&str>),
+    told: (u8, &[&str]),
+    case: &str,
+) {
+    let text = edited(alloc, KNAP, edits).expect(rt, "memory");
+    tells(rt, alloc, (text.as_str(), boxed), told, case);
+    drop(text);
+}
+
+// Expects the edits of a case to be refused for its fault.
+fn is_refused<R: Threads + Wait + Sync + Abort>(rt: &R, alloc: Global, case: &str) {
+    if let Some((edits, fault)) = case.split_once(" -> ") {
+        edits_tell(rt, alloc, (edits, None), (3, &["refused ", fault]), case);
+    }
+}
+
 #[test]
-fn faults_of_texts(rt: HostRuntime) -> Result<(), Fail> {
-    let alloc = rt.alloc();
-    for table in [SHAPES, WORDS, LIMITS, ORDER] {
+fn faults_of_texts(rt: HostRuntime) {
+    for table in FAULTS {
         for case in table.lines() {
-            if let Some((edits, fault)) = case.split_once(" -> ") {
-                let text = edited(alloc, KNAP, edits)?;
-                let told = outcome(&rt, alloc, text.as_str(), None)?;
-                same_at(&rt, &told, &due(alloc, 3, &["refused ", fault])?, &case);
-            }
+            is_refused(&rt, rt.alloc(), case);
         }
     }
-    Ok(())
 }
 
 // Edits of the knapsack that are read after all.
@@ -379,35 +398,48 @@ const BOXED: &str = "
 24: -> refused 23 NoEnd
 ";
 
-#[test]
-fn knapsacks_that_are_read(rt: HostRuntime) -> Result<(), Fail> {
-    let alloc = rt.alloc();
-    for (table, boxed) in [(READ, None), (BOXED, Some("50"))] {
-        for case in table.lines() {
-            if let Some((edits, lines)) = case.split_once(" -> ") {
-                let status = if lines.starts_with("refused") { 3 } else { 0 };
-                let text = edited(alloc, KNAP, edits)?;
-                let told = outcome(&rt, alloc, text.as_str(), boxed)?;
-                same_at(&rt, &told, &due(alloc, status, &[lines])?, &case);
-            }
-        }
+const KNAPSACKS: &[(&str, Option<&str>)] = &[(READ, None), (BOXED, Some("50"))];
+
+// Expects the edits of a case to tell what it says.
+fn is_told<R: Threads + Wait + Sync + Abort>(
+    rt: &R,
+    alloc: Global,
+    case: &str,
+    boxed: Option<&str>,
+) {
+    if let Some((edits, lines)) = case.split_once(" -> ") {
+        let status = status_of(lines);
+        edits_tell(rt, alloc, (edits, boxed), (status, &[lines]), case);
     }
-    Ok(())
 }
 
 #[test]
-fn knapsacks_cut_short(rt: HostRuntime) -> Result<(), Fail> {
-    let alloc = rt.alloc();
-    let mut text = String::new(alloc);
-    for (count, line) in KNAP.lines().enumerate() {
-        let fault = format!(in alloc; "refused {count} NoEnd")?;
-        same(
-            &rt,
-            &outcome(&rt, alloc, text.as_str(), None)?,
-            &due(alloc, 3, &[fault.as_str()])?,
-        );
-        text.push_str(line)?;
-        text.push_str("/")?;
+fn knapsacks_that_are_read(rt: HostRuntime) {
+    for (table, boxed) in KNAPSACKS {
+        for case in table.lines() {
+            is_told(&rt, rt.alloc(), case, *boxed);
+        }
     }
-    Ok(())
+}
+
+// Expects a text of so many lines without an end to be refused for that.
+fn has_no_end<R: Threads + Wait + Sync + Abort>(rt: &R, alloc: Global, text: &str, count: usize) {
+    let fault = format!(in alloc; "refused {count} NoEnd").expect(rt, "memory");
+    tells(rt, alloc, (text, None), (3, &[fault.as_str()]), text);
+    drop(fault);
+}
+
+fn push_line(text: &mut String, line: &str) -> Result<(), AllocError> {
+    text.push_str(line)?;
+    text.push_str("/")
+}
+
+#[test]
+fn knapsacks_cut_short(rt: HostRuntime) {
+    let mut text = String::new(rt.alloc());
+    for (count, line) in KNAP.lines().enumerate() {
+        has_no_end(&rt, rt.alloc(), text.as_str(), count);
+        holds(&rt, push_line(&mut text, line).is_ok());
+    }
+    drop(text);
 }

@@ -2,7 +2,6 @@
 
 use std::alloc::{AllocError, Global};
 use std::sync::Wait;
-use std::test::Fail;
 use std::thread::Threads;
 use ug_disk::{Disk, MemoryDisk};
 use ug_gate::OpenGate;
@@ -14,9 +13,17 @@ pub fn words_of(alloc: Global, line: &str) -> Result<Vec<String>, AllocError> {
     let mut words = Vec::new(alloc);
     for word in line.split(' ') {
         let text = if word == "''" { "" } else { word };
-        words.push(String::from_str(alloc, text)?)?;
+        if let Err(error) = push_word(alloc, &mut words, text) {
+            drop(words);
+            return Err(error);
+        }
     }
     Ok(words)
+}
+
+fn push_word(alloc: Global, words: &mut Vec<String>, text: &str) -> Result<(), AllocError> {
+    words.push(String::from_str(alloc, text)?)?;
+    Ok(())
 }
 
 /// A disk of two slots of these bytes, of whose calls some fail.
@@ -41,13 +48,21 @@ pub fn told_of<R: Threads + Wait + Sync, S: Source, D: Disk>(
     line: &str,
     input: &mut S,
     disk: &mut D,
-) -> Result<Vec<u8>, Fail> {
+) -> Result<Vec<u8>, AllocError> {
     let words = words_of(alloc, line)?;
     let mut out = MemorySink::new(alloc, Script::new(Vec::new(alloc), 64));
     let status = run(rt, alloc, &words, input, &mut out, disk, &OpenGate);
+    drop(words);
+    let told = behind(alloc, status.code(), out.bytes());
+    drop(out);
+    told
+}
+
+// The bytes behind a status.
+fn behind(alloc: Global, status: u8, bytes: &[u8]) -> Result<Vec<u8>, AllocError> {
     let mut told = Vec::new(alloc);
-    told.push(status.code())?;
-    told.extend_from_slice(out.bytes())?;
+    told.push(status)?;
+    told.extend_from_slice(bytes)?;
     Ok(told)
 }
 
@@ -58,6 +73,6 @@ pub fn told<R: Threads + Wait + Sync, D: Disk>(
     line: &str,
     text: &[u8],
     disk: &mut D,
-) -> Result<Vec<u8>, Fail> {
+) -> Result<Vec<u8>, AllocError> {
     told_of(rt, alloc, line, &mut MemorySource { rest: text }, disk)
 }

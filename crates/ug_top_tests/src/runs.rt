@@ -2,9 +2,9 @@
 
 use crate::expect::{same, same_at};
 use crate::running::{sound_disk, told, told_of, words_of};
-use std::alloc::Global;
+use std::alloc::{AllocError, Global};
+use std::process::Abort;
 use std::sync::Wait;
-use std::test::Fail;
 use std::thread::Threads;
 use ug_gate::OpenGate;
 use ug_io::{MemorySink, MemorySource, Script, ScriptedSource};
@@ -18,75 +18,99 @@ fn failing<'a>(
     text: &'a str,
     call: u64,
     most: usize,
-) -> Result<ScriptedSource<'a>, Fail> {
+) -> Result<ScriptedSource<'a>, AllocError> {
     Ok(ScriptedSource {
         rest: text.as_bytes(),
         script: Script::new([call].to_vec(alloc)?, most),
     })
 }
 
-#[test]
-fn source_that_fails(rt: HostRuntime) -> Result<(), Fail> {
-    let alloc = rt.alloc();
-    // The first read fails.
-    let mut input = failing(alloc, EMPTY, 1, 5)?;
-    let told = told_of(&rt, alloc, "solve f", &mut input, &mut sound_disk(alloc))?;
-    same(&rt, &told.as_slice(), &b"\x04read fault\n".as_slice());
-    // The source would fail behind the ENDATA line, where nothing is read.
-    let mut input = failing(alloc, "ROWS\n N Z\nENDATA\nmore\n", 3, 9)?;
-    let told = told_of(&rt, alloc, "solve f", &mut input, &mut sound_disk(alloc))?;
-    same(&rt, &told.as_slice(), &b"\0optimal 0\n".as_slice());
-    Ok(())
-}
-
-// What was written, and the status, where this write fails, each of which takes up to six bytes.
-fn cut_short<R: Threads + Wait + Sync>(
+// Expects a solve of what a source gives to tell this.
+fn tells<R: Threads + Wait + Sync + Abort>(
     rt: &R,
     alloc: Global,
-    call: u64,
-) -> Result<(u8, Vec<u8>), Fail> {
+    input: &mut ScriptedSource<'_>,
+    wanted: &[u8],
+) {
+    let mut disk = sound_disk(alloc);
+    let told = told_of(rt, alloc, "solve f", input, &mut disk).expect(rt, "memory");
+    drop(disk);
+    same(rt, &told.as_slice(), &wanted);
+    drop(told);
+}
+
+#[test]
+fn source_that_fails(rt: HostRuntime) {
+    let alloc = rt.alloc();
+    // The first read fails.
+    let mut input = failing(alloc, EMPTY, 1, 5).expect(&rt, "memory");
+    tells(&rt, alloc, &mut input, b"\x04read fault\n");
+    drop(input);
+    // The source would fail behind the ENDATA line, where nothing is read.
+    let text = "ROWS\n N Z\nENDATA\nmore\n";
+    let mut input = failing(alloc, text, 3, 9).expect(&rt, "memory");
+    tells(&rt, alloc, &mut input, b"\0optimal 0\n");
+    drop(input);
+}
+
+// The status of a solve that writes to this sink.
+fn status_over<R: Threads + Wait + Sync + Abort>(
+    rt: &R,
+    alloc: Global,
+    out: &mut MemorySink,
+) -> u8 {
     let mut input = MemorySource {
         rest: EMPTY.as_bytes(),
     };
-    let mut out = MemorySink::new(alloc, Script::new([call].to_vec(alloc)?, 6));
-    let words = words_of(alloc, "solve f")?;
+    let words = words_of(alloc, "solve f").expect(rt, "memory");
     let mut disk = sound_disk(alloc);
-    let status = run(
-        rt, alloc, &words, &mut input, &mut out, &mut disk, &OpenGate,
-    );
-    Ok((status.code(), out.bytes().to_vec(alloc)?))
+    let status = run(rt, alloc, &words, &mut input, out, &mut disk, &OpenGate);
+    drop(words);
+    drop(disk);
+    status.code()
+}
+
+// Expects this to be written where this write fails, each of which takes up to six bytes.
+fn is_cut_short<R: Threads + Wait + Sync + Abort>(rt: &R, alloc: Global, call: u64, written: &str) {
+    let failing = [call].to_vec(alloc).expect(rt, "memory");
+    let mut out = MemorySink::new(alloc, Script::new(failing, 6));
+    same(rt, &status_over(rt, alloc, &mut out), &5);
+    same(rt, &out.bytes(), &written.as_bytes());
+    drop(out);
 }
 
 #[test]
-fn sink_that_fails(rt: HostRuntime) -> Result<(), Fail> {
-    let alloc = rt.alloc();
-    for (call, written) in [(1, ""), (2, "optima")] {
-        let (status, bytes) = cut_short(&rt, alloc, call)?;
-        same(&rt, &status, &5);
-        same(&rt, &bytes.as_slice(), &written.as_bytes());
-    }
-    Ok(())
+fn sink_that_fails(rt: HostRuntime) {
+    is_cut_short(&rt, rt.alloc(), 1, "");
+    is_cut_short(&rt, rt.alloc(), 2, "optima");
+}
+
+const NO_COMMANDS: &[&str] = &[
+    "''",
+    "solve",
+    "check f",
+    "solve f --box",
+    "solve f --solvers 0",
+    "solve f --low 5 --high 4",
+    "solve f --mode processes",
+    "restart f",
+    "show",
+    "gen 0 3",
+    "worker --socket s",
+];
+
+// Expects the words of a line to tell nothing, with the status of words that are no command.
+fn is_no_command<R: Threads + Wait + Sync + Abort>(rt: &R, alloc: Global, line: &str) {
+    let mut disk = sound_disk(alloc);
+    let told = told(rt, alloc, line, EMPTY.as_bytes(), &mut disk).expect(rt, "memory");
+    drop(disk);
+    same_at(rt, &told.as_slice(), &b"\x02".as_slice(), &line);
+    drop(told);
 }
 
 #[test]
-fn words_that_are_no_command(rt: HostRuntime) -> Result<(), Fail> {
-    let alloc = rt.alloc();
-    let lines = [
-        "''",
-        "solve",
-        "check f",
-        "solve f --box",
-        "solve f --solvers 0",
-        "solve f --low 5 --high 4",
-        "solve f --mode processes",
-        "restart f",
-        "show",
-        "gen 0 3",
-        "worker --socket s",
-    ];
-    for line in lines {
-        let told = told(&rt, alloc, line, EMPTY.as_bytes(), &mut sound_disk(alloc))?;
-        same_at(&rt, &told.as_slice(), &b"\x02".as_slice(), &line);
+fn words_that_are_no_command(rt: HostRuntime) {
+    for line in NO_COMMANDS {
+        is_no_command(&rt, rt.alloc(), line);
     }
-    Ok(())
 }

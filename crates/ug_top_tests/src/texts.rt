@@ -7,32 +7,37 @@
 
 use crate::expect::same_at;
 use crate::running::{sound_disk, told};
-use std::alloc::Global;
+use std::alloc::{AllocError, Global};
+use std::process::Abort;
 use std::sync::Wait;
-use std::test::Fail;
 use std::thread::Threads;
 
 // ---- the notation
 
 // Letters for a long word.
-fn push_letters(bytes: &mut Vec<u8>, count: u32) -> Result<(), Fail> {
+fn push_letters(bytes: &mut Vec<u8>, count: u32) -> Result<(), AllocError> {
     for _ in 0..count {
         bytes.push(b'x')?;
     }
     Ok(())
 }
 
+// What a byte of the notation stands for.
+fn push_written(bytes: &mut Vec<u8>, byte: u8) -> Result<(), AllocError> {
+    match byte {
+        b'/' | b';' => Ok(bytes.push(b'\n')?),
+        b'^' => push_letters(bytes, 255),
+        b'~' => push_letters(bytes, 256),
+        b'#' => bytes.extend_from_slice(b" M 'MARKER' 'INTORG'"),
+        _ => Ok(bytes.push(byte)?),
+    }
+}
+
 /// The bytes that the notation stands for.
-pub fn written(alloc: Global, notation: &str) -> Result<Vec<u8>, Fail> {
+pub fn written(alloc: Global, notation: &str) -> Result<Vec<u8>, AllocError> {
     let mut bytes = Vec::new(alloc);
     for byte in notation.bytes() {
-        match byte {
-            b'/' | b';' => bytes.push(b'\n')?,
-            b'^' => push_letters(&mut bytes, 255)?,
-            b'~' => push_letters(&mut bytes, 256)?,
-            b'#' => bytes.extend_from_slice(b" M 'MARKER' 'INTORG'")?,
-            _ => bytes.push(byte)?,
-        }
+        push_written(&mut bytes, byte)?;
     }
     Ok(bytes)
 }
@@ -49,29 +54,32 @@ fn in_place(edits: &str, line: Option<usize>) -> Option<&str> {
     None
 }
 
+// A line, or what is put in its place.
+fn push_edited(text: &mut String, line: &str, in_place: Option<&str>) -> Result<(), AllocError> {
+    match in_place {
+        Some(lines) => text.push_str(lines),
+        None => {
+            text.push_str(line)?;
+            text.push_str("/")
+        }
+    }
+}
+
 // The base text with the edits, in the notation.
-pub fn edited(alloc: Global, base: &str, edits: &str) -> Result<String, Fail> {
+pub fn edited(alloc: Global, base: &str, edits: &str) -> Result<String, AllocError> {
     let mut text = String::new(alloc);
     for (at, line) in base.lines().enumerate() {
-        match in_place(edits, at.checked_add(1)) {
-            Some(lines) => text.push_str(lines)?,
-            None => {
-                text.push_str(line)?;
-                text.push_str("/")?;
-            }
-        }
+        push_edited(&mut text, line, in_place(edits, at.checked_add(1)))?;
     }
     Ok(text)
 }
 
 // The line of the command, with a box if one is given.
-fn command(alloc: Global, boxed: Option<&str>) -> Result<String, Fail> {
-    let mut line = String::from_str(alloc, "solve f")?;
-    if let Some(number) = boxed {
-        line.push_str(" --box ")?;
-        line.push_str(number)?;
+fn command(alloc: Global, boxed: Option<&str>) -> Result<String, AllocError> {
+    match boxed {
+        Some(number) => format!(in alloc; "solve f --box {number}"),
+        None => String::from_str(alloc, "solve f"),
     }
-    Ok(line)
 }
 
 /// The status of a solve of the bytes, and behind it what was written.
@@ -80,9 +88,13 @@ pub fn run_over<R: Threads + Wait + Sync>(
     alloc: Global,
     text: &[u8],
     boxed: Option<&str>,
-) -> Result<Vec<u8>, Fail> {
+) -> Result<Vec<u8>, AllocError> {
     let line = command(alloc, boxed)?;
-    told(rt, alloc, line.as_str(), text, &mut sound_disk(alloc))
+    let mut disk = sound_disk(alloc);
+    let told = told(rt, alloc, line.as_str(), text, &mut disk);
+    drop(line);
+    drop(disk);
+    told
 }
 
 /// The same for a text in the notation.
@@ -91,19 +103,44 @@ pub fn outcome<R: Threads + Wait + Sync>(
     alloc: Global,
     text: &str,
     boxed: Option<&str>,
-) -> Result<Vec<u8>, Fail> {
-    run_over(rt, alloc, written(alloc, text)?.as_slice(), boxed)
+) -> Result<Vec<u8>, AllocError> {
+    let text = written(alloc, text)?;
+    let told = run_over(rt, alloc, text.as_slice(), boxed);
+    drop(text);
+    told
+}
+
+fn push_part(alloc: Global, told: &mut Vec<u8>, part: &str) -> Result<(), AllocError> {
+    let part = written(alloc, part)?;
+    let pushed = told.extend_from_slice(part.as_slice());
+    drop(part);
+    pushed
 }
 
 /// This status, and behind it these lines.
-pub fn due(alloc: Global, status: u8, lines: &[&str]) -> Result<Vec<u8>, Fail> {
+pub fn due(alloc: Global, status: u8, lines: &[&str]) -> Result<Vec<u8>, AllocError> {
     let mut told = Vec::new(alloc);
     told.push(status)?;
     for part in lines {
-        told.extend_from_slice(written(alloc, part)?.as_slice())?;
+        push_part(alloc, &mut told, part)?;
     }
     told.push(b'\n')?;
     Ok(told)
+}
+
+/// Expects a run over a text to tell this status and these lines.
+pub fn tells<R: Threads + Wait + Sync + Abort>(
+    rt: &R,
+    alloc: Global,
+    (text, boxed): (&str, Option<&str>),
+    (status, lines): (u8, &[&str]),
+    case: &str,
+) {
+    let told = outcome(rt, alloc, text, boxed).expect(rt, "memory");
+    let due = due(alloc, status, lines).expect(rt, "memory");
+    same_at(rt, &told, &due, &case);
+    drop(told);
+    drop(due);
 }
 
 // ---- texts as a whole
@@ -157,21 +194,19 @@ ROWS/ N Z/ENDATA -> optimal 0
 ROWS/ N Z/ENDATA/\0\r/ROWS -> optimal 0
 ";
 
+/// The status with which a run tells these lines.
+pub fn status_of(lines: &str) -> u8 {
+    if lines.starts_with("refused") { 3 } else { 0 }
+}
+
 #[test]
-fn texts_that_are_read(rt: HostRuntime) -> Result<(), Fail> {
-    let alloc = rt.alloc();
+fn texts_that_are_read(rt: HostRuntime) {
     for case in READ.lines() {
         if let Some((text, told)) = case.split_once(" -> ") {
-            let status = if told.starts_with("refused") { 3 } else { 0 };
-            same_at(
-                &rt,
-                &outcome(&rt, alloc, text, None)?,
-                &due(alloc, status, &[told])?,
-                &case,
-            );
+            let status = status_of(told);
+            tells(&rt, rt.alloc(), (text, None), (status, &[told]), case);
         }
     }
-    Ok(())
 }
 
 // ---- texts of one column: its least and its greatest value
@@ -191,12 +226,24 @@ BOUNDS
 ENDATA
 ";
 
-// What is told of a value of the column.
-fn due_at(alloc: Global, value: &str) -> Result<Vec<u8>, Fail> {
+// Expects a run over a text to tell of a value of its column.
+fn tells_value<R: Threads + Wait + Sync + Abort>(
+    rt: &R,
+    alloc: Global,
+    over: (&str, Option<&str>),
+    value: &str,
+    case: &str,
+) {
     match value {
-        "infeasible" => due(alloc, 0, &[value]),
-        "0" => due(alloc, 0, &["optimal 0"]),
-        _ => due(alloc, 0, &["optimal ", value, ";X ", value]),
+        "infeasible" => tells(rt, alloc, over, (0, &[value]), case),
+        "0" => tells(rt, alloc, over, (0, &["optimal 0"]), case),
+        _ => tells(
+            rt,
+            alloc,
+            over,
+            (0, &["optimal ", value, ";X ", value]),
+            case,
+        ),
     }
 }
 
@@ -389,52 +436,68 @@ A column's pairs on one line or on two.
 6: X P 1/ X Z 1/ -> -50 90
 ";
 
-// Runs over both senses, and tells of the least and of the greatest value.
-fn extremes<R: Threads + Wait + Sync>(
+// Expects a run over edits of the text of one column to tell of a value of it.
+fn edits_tell_value<R: Threads + Wait + Sync + Abort>(
     rt: &R,
     alloc: Global,
-    edits: &str,
-    boxed: Option<&str>,
-) -> Result<(Vec<u8>, Vec<u8>), Fail> {
-    let text = edited(alloc, ONE, edits)?;
-    let least = outcome(rt, alloc, text.as_str(), boxed)?;
-    let mut reversed = String::from_str(alloc, "OBJSENSE/ MAX/")?;
-    reversed.push_str(text.as_str())?;
-    Ok((least, outcome(rt, alloc, reversed.as_str(), boxed)?))
+    (edits, boxed): (&str, Option<&str>),
+    value: &str,
+    case: &str,
+) {
+    let text = edited(alloc, ONE, edits).expect(rt, "memory");
+    tells_value(rt, alloc, (text.as_str(), boxed), value, case);
+    drop(text);
 }
 
-// Compares the least and the greatest value of the column with those of the case.
-fn told_of_both(alloc: Global, values: &str) -> Result<(Vec<u8>, Vec<u8>), Fail> {
-    let (least, greatest) = values.split_once(' ').unwrap_or((values, values));
-    Ok((due_at(alloc, least)?, due_at(alloc, greatest)?))
+// The same of edits of it in the other sense.
+fn reversed_tell_value<R: Threads + Wait + Sync + Abort>(
+    rt: &R,
+    alloc: Global,
+    (edits, boxed): (&str, Option<&str>),
+    value: &str,
+    case: &str,
+) {
+    let text = edited(alloc, ONE, edits).expect(rt, "memory");
+    let reversed = format!(in alloc; "OBJSENSE/ MAX/{text}").expect(rt, "memory");
+    drop(text);
+    tells_value(rt, alloc, (reversed.as_str(), boxed), value, case);
+    drop(reversed);
+}
+
+// Expects the runs over both senses to tell of the least and of the greatest value of the case.
+fn tells_both<R: Threads + Wait + Sync + Abort>(
+    rt: &R,
+    alloc: Global,
+    case: &str,
+    boxed: Option<&str>,
+) {
+    if let Some((edits, values)) = case.split_once(" -> ") {
+        let (least, greatest) = values.split_once(' ').unwrap_or((values, values));
+        edits_tell_value(rt, alloc, (edits, boxed), least, case);
+        reversed_tell_value(rt, alloc, (edits, boxed), greatest, case);
+    }
+}
+
+const TABLES: &[&str] = &[ROW_TYPES, NUMBERS, SETS, BOUNDS, LAYOUT];
+
+// The same of the cases of a table.
+fn tell_both<R: Threads + Wait + Sync + Abort>(
+    rt: &R,
+    alloc: Global,
+    table: &str,
+    boxed: Option<&str>,
+) {
+    for case in table.lines() {
+        tells_both(rt, alloc, case, boxed);
+    }
 }
 
 #[test]
-fn texts_of_one_column(rt: HostRuntime) -> Result<(), Fail> {
-    let alloc = rt.alloc();
-    for table in [ROW_TYPES, NUMBERS, SETS, BOUNDS, LAYOUT] {
-        for case in table.lines() {
-            if let Some((edits, values)) = case.split_once(" -> ") {
-                same_at(
-                    &rt,
-                    &extremes(&rt, alloc, edits, None)?,
-                    &told_of_both(alloc, values)?,
-                    &case,
-                );
-            }
-        }
+fn texts_of_one_column(rt: HostRuntime) {
+    for table in TABLES {
+        tell_both(&rt, rt.alloc(), table, None);
     }
-    for case in BOXED.lines() {
-        if let Some((edits, values)) = case.split_once(" -> ") {
-            same_at(
-                &rt,
-                &extremes(&rt, alloc, edits, Some("50"))?,
-                &told_of_both(alloc, values)?,
-                &case,
-            );
-        }
-    }
-    Ok(())
+    tell_both(&rt, rt.alloc(), BOXED, Some("50"));
 }
 
 const SENSES: &str = "
@@ -454,18 +517,10 @@ const SENSES: &str = "
 ";
 
 #[test]
-fn senses(rt: HostRuntime) -> Result<(), Fail> {
-    let alloc = rt.alloc();
+fn senses(rt: HostRuntime) {
     for case in SENSES.lines() {
         if let Some((edits, value)) = case.split_once(" -> ") {
-            let text = edited(alloc, ONE, edits)?;
-            same_at(
-                &rt,
-                &outcome(&rt, alloc, text.as_str(), None)?,
-                &due_at(alloc, value)?,
-                &case,
-            );
+            edits_tell_value(&rt, rt.alloc(), (edits, None), value, case);
         }
     }
-    Ok(())
 }

@@ -1,7 +1,6 @@
 use crate::expect::{holds, holds_at};
 use crate::running::words_of;
-use std::alloc::{AllocError, Global};
-use std::test::Fail;
+use std::alloc::Global;
 use ug_cli::{Bounds, Gen, Plan, Ranks, Restart, Settings, Show, Solve, Usage, read_words};
 
 // The settings with these ranks, and otherwise what they are by default.
@@ -24,7 +23,9 @@ fn settings_with(solvers: u32, low: u32, high: u32) -> Settings<'static> {
 }
 
 // Words, and the file, the solvers, the low and the high that they give to a solve.
-const SOLVED: [(&str, &str, u32, u32, u32); 5] = [
+type Solved = (&'static str, &'static str, u32, u32, u32);
+
+const SOLVED: &[Solved] = &[
     ("solve m", "m", 1, 1, 2),
     ("solve --solvers 3 m", "m", 3, 3, 5),
     ("solve m --low 7", "m", 1, 7, 11),
@@ -62,7 +63,7 @@ const MADE: Gen = Gen {
     solvers: 4,
 };
 
-const REFUSED: [&str; 45] = [
+const REFUSED: &[&str] = &[
     "''",
     "prove m",
     "solve",
@@ -110,63 +111,78 @@ const REFUSED: [&str; 45] = [
     "help",
 ];
 
-const CROSSED: [(&str, u32, u32); 3] = [
+const CROSSED: &[(&str, u32, u32)] = &[
     ("solve m --low 5 --high 4", 5, 4),
     ("solve m --solvers 4 --high 3", 4, 3),
     ("restart m --checkpoint c --low 2 --high 1", 2, 1),
 ];
 
 // Whether the words of the line give this plan.
-fn gives(alloc: Global, line: &str, plan: Plan<'_>) -> Result<bool, AllocError> {
-    let words = words_of(alloc, line)?;
-    Ok(read_words(alloc, &words) == Ok(plan))
+fn gives(alloc: Global, line: &str, plan: Plan<'_>) -> bool {
+    let Ok(words) = words_of(alloc, line) else {
+        return false;
+    };
+    let gives = read_words(alloc, &words) == Ok(plan);
+    drop(words);
+    gives
 }
 
 // Whether the words of the line are refused so.
-fn fails(alloc: Global, line: &str, usage: Usage) -> Result<bool, AllocError> {
-    let words = words_of(alloc, line)?;
-    Ok(read_words(alloc, &words) == Err(usage))
+fn fails(alloc: Global, line: &str, usage: Usage) -> bool {
+    let Ok(words) = words_of(alloc, line) else {
+        return false;
+    };
+    let fails = read_words(alloc, &words) == Err(usage);
+    drop(words);
+    fails
+}
+
+// Whether the words are read as the plan of that solve.
+fn gives_solve(alloc: Global, solved: &Solved) -> bool {
+    let (line, file, solvers, low, high) = *solved;
+    let solve = Solve {
+        file,
+        checkpoint: None,
+        settings: settings_with(solvers, low, high),
+    };
+    gives(alloc, line, Plan::Solve(solve))
 }
 
 #[test]
-fn words_are_read_as_plans(rt: HostRuntime) -> Result<(), Fail> {
-    let alloc = rt.alloc();
-    for (line, file, solvers, low, high) in SOLVED {
-        let plan = Plan::Solve(Solve {
-            file,
-            checkpoint: None,
-            settings: settings_with(solvers, low, high),
-        });
-        holds_at(&rt, gives(alloc, line, plan)?, &line);
+fn words_of_a_solve_are_read_as_its_plan(rt: HostRuntime) {
+    for solved in SOLVED {
+        holds_at(&rt, gives_solve(rt.alloc(), solved), &solved.0);
     }
-    holds(&rt, gives(alloc, GREATEST, Plan::Solve(ALL))?);
+    holds(&rt, gives(rt.alloc(), GREATEST, Plan::Solve(ALL)));
+}
+
+#[test]
+fn words_are_read_as_plans(rt: HostRuntime) {
+    let alloc = rt.alloc();
     let restart = Plan::Restart(Restart {
         file: "m",
         checkpoint: "c",
         settings: settings_with(1, 1, 2),
     });
-    holds(&rt, gives(alloc, "restart m --checkpoint c", restart)?);
+    holds(&rt, gives(alloc, "restart m --checkpoint c", restart));
     let show = Plan::Show(Show { checkpoint: "c" });
-    holds(&rt, gives(alloc, "show --checkpoint c", show)?);
+    holds(&rt, gives(alloc, "show --checkpoint c", show));
     holds(
         &rt,
-        gives(alloc, "gen 2147483646 40 --solvers 4", Plan::Gen(MADE))?,
+        gives(alloc, "gen 2147483646 40 --solvers 4", Plan::Gen(MADE)),
     );
-    Ok(())
 }
 
 #[test]
-fn other_words_are_refused(rt: HostRuntime) -> Result<(), Fail> {
-    let alloc = rt.alloc();
+fn other_words_are_refused(rt: HostRuntime) {
     for line in REFUSED {
-        holds_at(&rt, fails(alloc, line, Usage::Words)?, &line);
+        holds_at(&rt, fails(rt.alloc(), line, Usage::Words), line);
     }
     for (line, low, high) in CROSSED {
-        holds_at(
-            &rt,
-            fails(alloc, line, Usage::HighBelowLow { low, high })?,
-            &line,
-        );
+        let usage = Usage::HighBelowLow {
+            low: *low,
+            high: *high,
+        };
+        holds_at(&rt, fails(rt.alloc(), line, usage), line);
     }
-    Ok(())
 }
