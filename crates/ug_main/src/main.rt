@@ -122,32 +122,14 @@ where
 {
     let gate = Progress::new(rt, is_told);
     let status = run(rt, rt.alloc(), words, input, out, disk, &gate);
-    let reason = match status {
-        Status::ReadFault => input.reason(),
-        Status::WriteFault => out.sink.reason(),
-        Status::DiskFault => disk.reason(),
-        _ => None,
-    };
-    tell_why(rt, paths, status, reason, out.kept());
-    status
-}
-
-// Says why a run ended with a status that is no answer, if it did: by the system's words for the
-// last call that failed, or by what the run printed.
-fn tell_why<R: Eprint>(
-    rt: &R,
-    paths: Paths<'_>,
-    status: Status,
-    reason: Option<&io::Error>,
-    output: &[u8],
-) {
     match status {
-        Status::ReadFault => explain(rt, paths.file, reason),
-        Status::WriteFault => explain(rt, "standard output", reason),
-        Status::Refused => explain_refusal(rt, paths.file, output),
-        Status::DiskFault => explain(rt, paths.folder, reason),
+        Status::ReadFault => explain(rt, paths.file, input.reason()),
+        Status::WriteFault => explain(rt, "standard output", out.sink.reason()),
+        Status::Refused => explain_refusal(rt, paths.file, out.kept()),
+        Status::DiskFault => explain(rt, paths.folder, disk.reason()),
         _ => advise(rt, paths.folder, status),
     }
+    status
 }
 
 // Says what is the matter with the checkpoint in this folder.
