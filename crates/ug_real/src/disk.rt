@@ -45,9 +45,9 @@ impl<'a, R: Files<File = File>> FileDisk<'a, R> {
     }
 
     /// The slots of a folder for reading alone, also while another program writes them. Nothing is
-    /// made, and a file that is not there is an empty slot. A slot is copied at the first call on
-    /// it, as two readings in a row gave it. A write is a fault, and a sync has nothing to do: what
-    /// a crash would leave is for the program that writes.
+    /// made, and a file that is not there is an empty slot. Both slots are copied when one is first
+    /// looked at, as two readings of both in a row gave them. A write is a fault, and a sync has
+    /// nothing to do: what a crash would leave is for the program that writes.
     pub fn reading(rt: &'a R, alloc: Global, folder: &'a str) -> FileDisk<'a, R> {
         FileDisk {
             access: Access::Reading(SlotCopies::new(rt, alloc, folder)),

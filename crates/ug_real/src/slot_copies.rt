@@ -1,6 +1,6 @@
 ghost use Rattle.std.specs.Prelude.{◌≡◌, ◌≤◌, ◌-◌, min, length, take, drop, IfOk};
 
-use crate::kept::Kept;
+use crate::kept::keep;
 use crate::slot_files::open_slot;
 use std::alloc::Global;
 use std::fs::{File, OpenOptions};
@@ -9,17 +9,34 @@ use std::rt::Files;
 use std::{io, mem};
 use ug_disk::Slot;
 
-/// How often a slot is read again, where another program is writing it.
-const MOST_READINGS: u32 = 100;
+/// How often the slots are read again, where another program is writing them. Where they lie in
+/// memory, large images can follow each other so fast that a hundred readings are too few.
+const MOST_READINGS: u32 = 1000;
 
-/// Copies of both slots, each made at the first call on it. Nothing in the folder is made or
-/// locked.
+/// Copies of both slots as they stood at one moment, made at the first call. Nothing in the folder
+/// is made or locked.
 #[derive(Drop)]
 pub struct SlotCopies<'a, R: Files<File = File>> {
     rt: &'a R,
     alloc: Global,
     path: &'a str,
-    kept: Kept<Vec<u8>>,
+    kept: Option<Copies>,
+}
+
+// All bytes of each slot.
+#[derive(Drop, PartialEq)]
+struct Copies {
+    zero: Vec<u8>,
+    one: Vec<u8>,
+}
+
+impl Copies {
+    fn of(&self, slot: Slot) -> &Vec<u8> {
+        match slot {
+            Slot::Zero => &self.zero,
+            Slot::One => &self.one,
+        }
+    }
 }
 
 // Copies some of the bytes from a place on to the front of the buffer.
@@ -48,7 +65,7 @@ fn contents(alloc: Global, mut file: File) -> io::Result<Vec<u8>> {
 }
 
 // Whether the second reading failed, or gave the bytes that the first one gave.
-fn is_last(first: &io::Result<Vec<u8>>, second: &io::Result<Vec<u8>>) -> bool {
+fn is_last(first: &io::Result<Copies>, second: &io::Result<Copies>) -> bool {
     match (first, second) {
         (Ok(before), Ok(after)) => before == after,
         _ => true,
@@ -70,7 +87,7 @@ impl<'a, R: Files<File = File>> SlotCopies<'a, R> {
             rt,
             alloc,
             path,
-            kept: Kept::new(),
+            kept: None,
         }
     }
 
@@ -88,14 +105,28 @@ impl<'a, R: Files<File = File>> SlotCopies<'a, R> {
         }
     }
 
-    // The bytes that two readings in a row gave: another program may be writing the slot.
-    fn settled(&self, slot: Slot) -> io::Result<Vec<u8>> {
-        let mut last = self.whole(slot);
+    // All bytes of both slots at one reading, slot 0 first.
+    fn both(&self) -> io::Result<Copies> {
+        let zero = self.whole(Slot::Zero)?;
+        match self.whole(Slot::One) {
+            Ok(one) => Ok(Copies { zero, one }),
+            Err(error) => {
+                drop(zero);
+                Err(error)
+            }
+        }
+    }
+
+    // What two readings of both slots in a row gave: so they stood, both at once, between the two.
+    // Another program may be writing a slot, and go on to the other before that one is read: of
+    // slots that are copied one by one each could have its gate shut.
+    fn settled(&self) -> io::Result<Copies> {
+        let mut last = self.both();
         if last.is_err() {
             return last;
         }
         for _ in 0..MOST_READINGS {
-            let next = self.whole(slot);
+            let next = self.both();
             if is_last(&last, &next) {
                 drop(last);
                 return next;
@@ -103,24 +134,24 @@ impl<'a, R: Files<File = File>> SlotCopies<'a, R> {
             drop(mem::replace(&mut last, next));
         }
         drop(last);
-        Err(io::Error::new(ErrorKind::ResourceBusy, "the slot changes at each reading"))
+        Err(io::Error::new(ErrorKind::ResourceBusy, "the slots change at each reading"))
     }
 
-    // The slot's bytes, copied where they are not.
-    fn bytes(&mut self, slot: Slot) -> io::Result<&Vec<u8>> {
-        if self.kept.of(slot).is_none() {
-            let got = self.settled(slot);
-            return self.kept.keep(slot, got);
+    // Both slots, copied where they are not.
+    fn copies(&mut self) -> io::Result<&Copies> {
+        if self.kept.is_none() {
+            let got = self.settled();
+            return keep(&mut self.kept, got);
         }
         self.kept
-            .of(slot)
+            .as_ref()
             .ok_or(io::Error::from(ErrorKind::NotFound))
     }
 
     /// How many bytes the slot has.
     pub fn len(&mut self, slot: Slot) -> io::Result<u64> {
-        match self.bytes(slot) {
-            Ok(bytes) => Ok(bytes.len() as u64),
+        match self.copies() {
+            Ok(copies) => Ok(copies.of(slot).len() as u64),
             Err(error) => Err(error),
         }
     }
@@ -129,8 +160,8 @@ impl<'a, R: Files<File = File>> SlotCopies<'a, R> {
     pub fn read(&mut self, slot: Slot, at: u64, buffer: &mut [u8]) -> io::Result<usize>
         ensures { IfOk result (λ n. n ≤ length buffer.new) }
     {
-        match self.bytes(slot) {
-            Ok(bytes) => Ok(copy(bytes, at, buffer)),
+        match self.copies() {
+            Ok(copies) => Ok(copy(copies.of(slot), at, buffer)),
             Err(error) => Err(error),
         }
     }
