@@ -11,6 +11,7 @@ ghost use Rattle.ug_commands.specs.Outside.{outside};
 ghost use Rattle.ug_main.specs.Files.{HasRunOnFiles, IsUnbegun};
 ghost use Rattle.ug_top.specs.Ran.{HasRun};
 
+mod descriptors;
 mod front;
 mod paths;
 mod progress;
@@ -18,6 +19,7 @@ mod reasons;
 mod refusals;
 mod words;
 
+use crate::descriptors::take_standard;
 use crate::front::Front;
 use crate::paths::{Paths, paths_of};
 use crate::progress::Progress;
@@ -158,6 +160,7 @@ fn explain<R: Eprint>(rt: &R, file: &str, error: Option<&io::Error>) {
 }
 
 fn main(rt: HostRuntime) -> ExitCode {
+    let standard = take_standard(&rt);
     let status = match words_of(&rt) {
         Ok(words) => obey(&rt, &words, wants_progress(&rt)),
         Err(status) => unbegun(&rt, status),
@@ -165,5 +168,6 @@ fn main(rt: HostRuntime) -> ExitCode {
     if status == Status::Usage {
         let _ = eprintln!(rt; "usage: ug solve|restart|gen|show");
     }
+    drop(standard);
     ExitCode::from(status.code())
 }
