@@ -5,6 +5,7 @@
 //! What a real file gives and what a terminal takes, no contract can say.
 #![tactic(auto)]
 
+mod again;
 mod disk;
 mod faults;
 mod kept;

@@ -1,9 +1,9 @@
 ghost use Rattle.std.specs.Prelude.{◌≤◌, None, length, IfOk};
 
+use crate::again;
 use crate::faults::Faults;
 use std::fs::OpenOptions;
 use std::io;
-use std::io::Read;
 use std::rt::Files;
 use ug_io::{Failed, Source};
 
@@ -42,9 +42,9 @@ fn read_some<R: Files>(
     ensures { IfOk result (λ n. n ≤ length buffer.new) }
 {
     match file {
-        Some(file) => file.read(buffer),
+        Some(file) => again::read(file, buffer),
         None => match OpenOptions::new().read(true).open(rt, path) {
-            Ok(opened) => file.insert(opened).read(buffer),
+            Ok(opened) => again::read(file.insert(opened), buffer),
             Err(error) => Err(error),
         },
     }

@@ -1,5 +1,6 @@
 ghost use Rattle.std.specs.Prelude.{◌≤◌, length, IfOk};
 
+use crate::again;
 use crate::kept::{Kept, keep};
 use std::alloc::Global;
 use std::fs::{File, OpenOptions, TryLockError};
@@ -131,7 +132,7 @@ impl<'a, R: Files<File = File>> SlotFiles<'a, R> {
         ensures { IfOk result (λ n. n ≤ length buffer.new) }
     {
         match self.file(slot) {
-            Ok(file) => file.read_at(buffer, at),
+            Ok(file) => again::read_at(file, buffer, at),
             Err(error) => Err(error),
         }
     }

@@ -1,5 +1,6 @@
 ghost use Rattle.std.specs.Prelude.{None};
 
+use crate::again;
 use crate::faults::Faults;
 use std::io;
 use std::io::Write;
@@ -33,7 +34,7 @@ impl<W: Write + Drop> Sink for Writer<W> {
     ghost faults = { λ w. w.faults.count };
 
     fn write(&mut self, bytes: &[u8]) -> Result<usize, Failed> {
-        match self.to.write(bytes) {
+        match again::write(&mut self.to, bytes) {
             Ok(0) if !bytes.is_empty() => {
                 Err(self.faults.add(io::Error::from(io::ErrorKind::WriteZero)))
             }

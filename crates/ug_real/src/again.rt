@@ -1,0 +1,60 @@
+ghost use Rattle.std.specs.Prelude.{◌≡◌, ◌≤◌, length, IfOk, IfSome};
+
+use std::fs::File;
+use std::io;
+use std::io::{ErrorKind, Read, Write};
+use std::os::unix::fs::FileExt;
+
+// What a call gave, or nothing where a signal interrupted it before it had done anything.
+fn unless_interrupted(got: io::Result<usize>) -> Option<io::Result<usize>>
+    ensures { IfSome result (λ given. given ≡ got) }
+{
+    match got {
+        Err(error) if error.kind() == ErrorKind::Interrupted => {
+            drop(error);
+            None
+        }
+        given => Some(given),
+    }
+}
+
+// The error of a call that signals interrupt at each try.
+fn interrupted() -> io::Error {
+    io::Error::from(ErrorKind::Interrupted)
+}
+
+/// Reads some bytes, and tries again where a signal interrupts the call.
+pub fn read<F: Read>(from: &mut F, buffer: &mut [u8]) -> io::Result<usize>
+    ensures { IfOk result (λ n. n ≤ length buffer.new) }
+{
+    for _ in 0..u64::MAX {
+        if let Some(got) = unless_interrupted(from.read(buffer)) {
+            return got;
+        }
+    }
+    Err(interrupted())
+}
+
+/// Reads some bytes from a place on, and tries again where a signal interrupts the call.
+pub fn read_at(file: &File, buffer: &mut [u8], at: u64) -> io::Result<usize>
+    ensures { IfOk result (λ n. n ≤ length buffer.new) }
+{
+    for _ in 0..u64::MAX {
+        if let Some(got) = unless_interrupted(file.read_at(buffer, at)) {
+            return got;
+        }
+    }
+    Err(interrupted())
+}
+
+/// Writes some of the bytes, and tries again where a signal interrupts the call.
+pub fn write<W: Write>(to: &mut W, bytes: &[u8]) -> io::Result<usize>
+    ensures { IfOk result (λ n. n ≤ length bytes.now) }
+{
+    for _ in 0..u64::MAX {
+        if let Some(got) = unless_interrupted(to.write(bytes)) {
+            return got;
+        }
+    }
+    Err(interrupted())
+}
