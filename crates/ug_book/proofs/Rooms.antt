@@ -12,8 +12,8 @@ use Rattle.ug_ranks.specs.declared.state.State.{State}
 use Rattle.ug_ranks.specs.declared.state.State.TheVariants.{Absent, Idle, Racing, Active, Dead}
 use Rattle.ug_ranks.specs.States.{state_at}
 use Rattle.ug_ranks.specs.Changes.{grown}
-use Rattle.ug_deaths.proofs.Works.{few_work}
-use Rattle.ug_hands.specs.Hands.{IsHandTaken, IsNothingTaken, IsWorking}
+use Rattle.ug_stock.proofs.Works.{few_work}
+use Rattle.ug_stock.specs.Hands.{IsHandTaken, IsNothingTaken, IsWorking}
 use Rattle.ug_rules.specs.State.{node_at, nodes_of, raced_node}
 use Rattle.ug_rules.proofs.RoomLemmas.{writing_counts}
 use Rattle.ug_book.specs.Hands.{HasPlaces}

@@ -23,7 +23,7 @@ use Rattle.ug_pool.specs.Pools.{IsInOrder, IsPut, Pooled, with_entry}
 use Rattle.ug_ranks.specs.declared.state.State.{State}
 use Rattle.ug_ranks.specs.declared.state.State.TheVariants.{Absent, Dead}
 use Rattle.ug_ranks.specs.States.{state_at}
-use Rattle.ug_primitive.specs.Primitive.{times}
+use Rattle.ug_nodes.specs.Primitive.{times}
 use Rattle.ug_ledger.specs.Ledgers.{Current, boxes_of, hand_name}
 use Rattle.ug_ledger.specs.Starts.{IsStart}
 use Rattle.ug_ledger.proofs.BoxLemmas.{covered_by}

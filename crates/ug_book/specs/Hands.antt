@@ -6,7 +6,7 @@ use Rattle.ug_pool.specs.declared.entry.Entry.{Entry}
 use Rattle.ug_pool.specs.Pools.{Pooled}
 use Rattle.ug_ranks.specs.declared.state.State.{State}
 use Rattle.ug_ranks.specs.declared.state.State.TheVariants.{Absent, Idle, Racing, Active, Dead}
-use Rattle.ug_hands.specs.Hands.{IsNext, IsRefused}
+use Rattle.ug_stock.specs.Hands.{IsNext, IsRefused}
 use Rattle.ug_rules.specs.declared.heard.Heard.{Heard}
 use Rattle.ug_rules.specs.declared.heard.Heard.TheVariants.{InRace}
 use Rattle.ug_rules.specs.State.{nodes_of, raced_node}

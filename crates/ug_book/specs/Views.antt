@@ -4,7 +4,7 @@ use Rattle.ug_rows.specs.Sums.{box_floor}
 use Rattle.ug_problem.specs.Instances.{root_of}
 use Rattle.ug_rules.specs.State.{BookState}
 use Rattle.ug_rules.specs.Books.{IsBook}
-use Rattle.ug_deaths.specs.Parts.{HasRoom, parts_of}
+use Rattle.ug_stock.specs.Parts.{HasRoom, parts_of}
 use Rattle.ug_book.specs.declared.book.Book.TheInside.{Inside}
 
 -- what the fields of a book say

@@ -1,11 +1,11 @@
+use crate::best::Best;
 use std::alloc::Global;
 use std::marker::Model;
-use ug_incumbent::Best;
-use ug_orders::Queue;
 use ug_pool::{Entry, Pool};
 use ug_problem::Shared;
 use ug_ranks::Ranks;
 use ug_rules::Settings;
+use ug_stock::Queue;
 
 /// What a coordinator holds and knows.
 #[derive(Drop)]

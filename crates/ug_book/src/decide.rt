@@ -6,10 +6,10 @@ ghost use Rattle.ug_rules.specs.Deciding.{IsDecided, Stands};
 ghost use Rattle.ug_rules.specs.DecidingLaws.{IsSettled};
 ghost use Rattle.ug_book.specs.Views.{IsSameRun};
 
+use crate::best::Best;
 use crate::book::Book;
 use crate::parts::make_parts;
 use crate::unfinished::Unfinished;
-use ug_incumbent::Best;
 use ug_problem::Problem;
 use ug_rules::Settings;
 

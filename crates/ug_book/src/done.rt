@@ -9,16 +9,15 @@ ghost use Rattle.ug_rules.specs.Hearing.{IsDoneDue, IsDueUnder, done_at};
 ghost use Rattle.ug_book.specs.Heard.{taken_up};
 ghost use Rattle.ug_book.specs.Dones.{hands_taken, is_backed};
 
+use crate::best::Best;
 use crate::joining::has_ticket;
 use crate::working::is_working;
-use ug_deaths::is_racing;
-use ug_incumbent::Best;
 use ug_nodes::Ticket;
 use ug_pool::Entry;
 use ug_problem::Problem;
-use ug_races::free_racers;
 use ug_ranks::{Ranks, State};
 use ug_rules::Heard;
+use ug_stock::{free_racers, is_racing};
 
 // A Done of a rank, under a ticket.
 pub fn hear_done(

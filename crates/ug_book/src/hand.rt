@@ -4,7 +4,7 @@ ghost use Rattle.ug_problem.specs.Instances.{root_of};
 ghost use Rattle.ug_nodes.specs.Changes.{AreChangesOf, IsRising};
 ghost use Rattle.ug_frames.specs.declared.report.Report.TheVariants.{Hand};
 ghost use Rattle.ug_ranks.specs.States.{state_at};
-ghost use Rattle.ug_hands.specs.Hands.{IsHandTaken, IsWorking};
+ghost use Rattle.ug_stock.specs.Hands.{IsHandTaken, IsWorking};
 ghost use Rattle.ug_rules.specs.State.{BookState};
 ghost use Rattle.ug_rules.specs.Books.{KeepsItsFloor};
 ghost use Rattle.ug_rules.specs.Hearing.{IsDueUnder, handed_at};
@@ -13,12 +13,12 @@ ghost use Rattle.ug_book.specs.Hands.{HasPlaces, IsNotTaken, IsToBeTaken};
 
 use crate::joining::has_ticket;
 use std::alloc::{AllocError, Global};
-use ug_hands::{judge, take};
 use ug_nodes::{Changes, Ticket};
 use ug_pool::{Entry, Pool};
 use ug_problem::Problem;
 use ug_ranks::{Ranks, State};
 use ug_rules::Heard;
+use ug_stock::{judge, take};
 
 // A hand of a rank, under a ticket.
 pub fn hear_hand(

@@ -6,18 +6,17 @@ ghost use Rattle.ug_rules.specs.Deaths.{killed};
 ghost use Rattle.ug_rules.specs.Hearing.{IsDue, IsHearable, after_hearing};
 ghost use Rattle.ug_rules.specs.HearingLaws.{IsTrueReport};
 ghost use Rattle.ug_rules.specs.State.{BookState};
-ghost use Rattle.ug_deaths.specs.Parts.{HasRoom, parts_of, with_parts};
+ghost use Rattle.ug_stock.specs.Parts.{HasRoom, parts_of, with_parts};
 ghost use Rattle.ug_book.specs.Views.{IsSameRun};
 ghost use Rattle.ug_book.specs.Heard.{heard_after, is_deadly, killed_under};
 
 use crate::book::Book;
 use crate::report::take_report;
-use ug_deaths::die;
 use ug_frames::Report;
-use ug_orders::Queue;
 use ug_pool::{Entry, Pool};
 use ug_ranks::Ranks;
 use ug_rules::Heard;
+use ug_stock::{Queue, die};
 
 impl Book {
     /// Hears a report of a rank, and answers what is due. After an answer that is a death the rank

@@ -1,6 +1,6 @@
 ghost use Rattle.std.specs.Prelude.{◌≡◌, ◌++◌, IfOk, OnOk};
 ghost use Rattle.std.specs.Option.{option_copied};
-ghost use Rattle.ug_primitive.specs.Primitive.{lent};
+ghost use Rattle.ug_nodes.specs.Primitive.{lent};
 ghost use Rattle.ug_rules.specs.State.{node_at, nodes_in, nodes_of, raced_node};
 
 use std::alloc::{AllocError, Global};

@@ -1,10 +1,11 @@
 //! The book: the coordinator's core for N ranks. It holds the pool, the ranks and the incumbent,
 //! hears reports, decides, gives orders and answers.
-//! It stands on ug_rules, which says what each event does, and on the small crates whose calls it
-//! makes. Each call does exactly what its rule says. Whatever is heard no better point is lost,
-//! with one premise on one report: that a Done is true of its ticket's box.
+//! It stands on ug_rules, which says what each event does, and on ug_stock, which carries them out.
+//! Each call does exactly what its rule says. Whatever is heard no better point is lost, with one
+//! premise on one report: that a Done is true of its ticket's box.
 #![tactic(auto)]
 
+mod best;
 mod book;
 mod current;
 mod decide;
@@ -22,6 +23,7 @@ mod start;
 mod unfinished;
 mod working;
 
+pub use best::Best;
 pub use book::Book;
 pub use current::CurrentWork;
 pub use reads::Answered;

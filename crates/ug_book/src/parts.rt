@@ -1,18 +1,15 @@
 ghost use Rattle.std.specs.Prelude.{◌≡◌, ◌<◌, ◌≤◌, ◌+◌, ◌^◌, length, IfErr, OnOk};
-ghost use Rattle.ug_deaths.specs.Parts.{HasRoom, parts_of};
-ghost use Rattle.ug_races.specs.Races.{StandsAlone};
+ghost use Rattle.ug_stock.specs.Parts.{HasRoom, parts_of};
+ghost use Rattle.ug_stock.specs.Races.{StandsAlone};
 ghost use Rattle.ug_rules.specs.Deciding.{below_cutoff};
 ghost use Rattle.ug_book.specs.Decisions.{HasDecided, HasStood, desk_of};
 
 use crate::unfinished::Unfinished;
 use std::alloc::Global;
-use ug_giving::{Terms, give_out};
-use ug_notices::{announce, collect};
-use ug_orders::Queue;
 use ug_pool::{Entry, Pool};
-use ug_races::end_race;
 use ug_ranks::Ranks;
 use ug_rules::Settings;
+use ug_stock::{Queue, Terms, announce, collect, end_race, give_out};
 
 // Makes the five parts of a decision, in order.
 pub fn make_parts(

@@ -10,6 +10,7 @@ ghost use Rattle.ug_rules.specs.HearingLaws.{HasRisingChanges};
 ghost use Rattle.ug_book.specs.Heard.{IsAnswered, touched};
 ghost use Rattle.ug_book.specs.Hands.{HasPlaces};
 
+use crate::best::Best;
 use crate::done::hear_done;
 use crate::hand::hear_hand;
 use crate::joining::{hear_ended, hear_ready};
@@ -17,7 +18,6 @@ use crate::note::hear_state;
 use crate::solution::hear_solution;
 use std::alloc::Global;
 use ug_frames::Report;
-use ug_incumbent::Best;
 use ug_pool::{Entry, Pool};
 use ug_problem::Problem;
 use ug_ranks::Ranks;

@@ -5,10 +5,10 @@ ghost use Rattle.ug_rules.specs.State.{BookState};
 ghost use Rattle.ug_rules.specs.Hearing.{IsDueUnder, IsSolutionDue};
 ghost use Rattle.ug_book.specs.Heard.{best_under};
 
+use crate::best::Best;
 use crate::joining::has_ticket;
-use ug_incumbent::{Best, Offered};
 use ug_nodes::Ticket;
-use ug_problem::Problem;
+use ug_problem::{Offered, Problem};
 use ug_ranks::State;
 use ug_rows::Point;
 use ug_rules::Heard;

@@ -7,18 +7,18 @@ ghost use Rattle.ug_nodes.specs.Changes.{AreChangesOf, area_by};
 ghost use Rattle.ug_rules.specs.Books.{AreSettings, HasItsFloor, IsSoundBook};
 ghost use Rattle.ug_book.specs.Starts.{IsStartPut, start_entries, started, with_entries};
 
+use crate::best::Best;
 use crate::book::Book;
 use crate::decide::current_cutoff;
 use std::alloc::{AllocError, Global};
-use ug_incumbent::Best;
 use ug_lists::Items;
 use ug_nodes::{Changes, Line, Name, Node, Ticket, floor_of_changes};
-use ug_orders::Queue;
 use ug_pool::Pool;
 use ug_problem::{Problem, Shared};
 use ug_ranks::Ranks;
 use ug_rows::Point;
 use ug_rules::Settings;
+use ug_stock::Queue;
 
 /// Boxes, each as its changes against the root's.
 pub type Boxes = Items<Changes>;

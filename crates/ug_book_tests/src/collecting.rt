@@ -1,6 +1,7 @@
 use crate::expect::{holds, same};
 use std::alloc::{AllocError, Global};
-use ug_collect::{Member, Wanted, wanted};
+use ug_rules::{Member, Wanted};
+use ug_stock::wanted;
 
 // Three members, of which these are collecting.
 fn members(collecting: [bool; 3]) -> [Member; 3] {

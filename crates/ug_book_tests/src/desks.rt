@@ -1,6 +1,6 @@
 ghost use Rattle.std.specs.Prelude.{◌≡◌, [], ◌∷◌, IfOk, OnOk};
 ghost use Rattle.ug_rules.specs.Books.{AreSettings};
-ghost use Rattle.ug_desk.specs.Openings.{IsMade};
+ghost use Rattle.ug_snapshot.specs.Openings.{IsMade};
 
 use crate::expect::holds;
 use crate::problems::square;
@@ -9,11 +9,12 @@ use std::sync::Wait;
 use std::thread::{Threads, join};
 use ug_base::{Step, Task};
 use ug_book::{Answered, Book, Boxes};
-use ug_desk::{Desk, Pass, Took};
+use ug_desk::{Desk, Pass};
 use ug_nodes::{Changes, Ticket};
 use ug_problem::Shared;
 use ug_rows::{Interval, Point};
 use ug_rules::{Heard, Settings};
+use ug_worker::Took;
 
 // Two ranks, and from two to three nodes in the pool.
 fn settings() -> Settings
@@ -40,7 +41,7 @@ fn root(alloc: Global) -> Result<Boxes, AllocError>
     Ok(boxes)
 }
 
-#[tactic(auto, using(ug_desk::proofs::Beginnings::made_so))]
+#[tactic(auto, using(ug_snapshot::proofs::Beginnings::made_so))]
 fn book(alloc: Global, problem: Shared) -> Result<Book, AllocError>
     ensures { IfOk result IsMade }
 {

@@ -5,11 +5,10 @@ use crate::expect::{holds, same};
 use std::alloc::{AllocError, Global};
 use std::process::Abort;
 use ug_frames::Order;
-use ug_giving::{Terms, give_out};
 use ug_nodes::{Changes, Line, Name, Node, Ticket};
-use ug_orders::Queue;
 use ug_pool::{Entry, Pool};
 use ug_ranks::Ranks;
+use ug_stock::{Queue, Terms, give_out};
 
 fn put(alloc: Global, pool: &mut Pool, hand: u64, floor: i128) -> Result<(), AllocError> {
     let ticket = Ticket { run: 1, number: 0 };

@@ -5,8 +5,8 @@ use crate::expect::{holds, same};
 use crate::problems::line;
 use std::alloc::{AllocError, Global};
 use std::process::Abort;
-use ug_incumbent::{Best, Offered};
-use ug_problem::{Broken, Problem};
+use ug_book::Best;
+use ug_problem::{Broken, Offered, Problem};
 use ug_rows::Point;
 
 fn point(alloc: Global, values: &[i32]) -> Result<Point, AllocError> {

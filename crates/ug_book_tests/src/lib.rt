@@ -1,5 +1,5 @@
 //! Tests of the book, of the small crates that it is made of, and of the desk.
-//! They stand apart from the crates that they test, from ug_ramp to ug_book, ug_world and ug_desk.
+//! They stand apart from the crates that they test, from ug_nodes to ug_book, ug_world and ug_desk.
 //! Each call on its usual path, the cases that rules are easily misread in, long schedules against
 //! replies that were worked out elsewhere, and many threads on one desk. Nothing here is proved but
 //! that the tests are safe and end.

@@ -5,9 +5,8 @@ use std::alloc::{AllocError, Global};
 use ug_branch::Params;
 use ug_frames::Order;
 use ug_nodes::{Changes, Line, Name, Node, Ticket};
-use ug_notices::{announce, collect};
-use ug_orders::Queue;
 use ug_ranks::Ranks;
+use ug_stock::{Queue, announce, collect};
 
 fn node(alloc: Global) -> Result<Node, AllocError> {
     let ticket = Ticket { run: 1, number: 0 };

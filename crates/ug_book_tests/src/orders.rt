@@ -4,8 +4,8 @@ use crate::expect::{holds, same};
 use std::alloc::{AllocError, Global};
 use ug_frames::Order;
 use ug_nodes::Ticket;
-use ug_orders::Queue;
 use ug_rules::Told;
+use ug_stock::Queue;
 
 fn stop(rank: u32, number: u64) -> Told {
     let ticket = Ticket { run: 1, number };

@@ -1,7 +1,6 @@
 use crate::expect::{holds, same};
 use std::alloc::{AllocError, Global};
-use ug_nodes::{Changes, Line, Name, Node, Ticket, is_ancestor};
-use ug_primitive::primitive;
+use ug_nodes::{Changes, Line, Name, Node, Ticket, is_ancestor, primitive};
 
 fn name(number: u64, hand: u64) -> Name {
     let ticket = Ticket { run: 1, number };

@@ -3,10 +3,9 @@ use std::alloc::{AllocError, Global};
 use ug_branch::Params;
 use ug_frames::Order;
 use ug_nodes::{Changes, Line, Name, Node, Ticket};
-use ug_orders::Queue;
 use ug_pool::Entry;
-use ug_races::end_race;
 use ug_ranks::{Ranks, State};
+use ug_stock::{Queue, end_race};
 
 fn ticket(number: u64) -> Ticket {
     Ticket { run: 1, number }

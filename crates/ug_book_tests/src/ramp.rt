@@ -1,5 +1,6 @@
 use crate::expect::same;
-use ug_ramp::{Racer, winner};
+use ug_rules::Racer;
+use ug_stock::winner;
 
 fn racer(rank: u32, open: u64, floor: i128) -> Racer {
     Racer { rank, open, floor }

@@ -7,8 +7,8 @@ use Rattle.std.proofs.lemmas.Bool.{cases_lt, cases_eq, cases_cond, cond-true, co
 use Rattle.ug_records.proofs.Numbers.{length-bytes}
 use Rattle.ug_disk.specs.declared.slot.Slot.{Slot}
 use Rattle.ug_disk.specs.declared.slot.Slot.TheVariants.{Zero, One}
-use Rattle.ug_slots.specs.Gates.{IsOpen, HasBody}
-use Rattle.ug_slots.specs.Runs.{image_of, other}
+use Rattle.ug_checkpoint.specs.Gates.{IsOpen, HasBody}
+use Rattle.ug_checkpoint.specs.Runs.{image_of, other}
 use Rattle.ug_image.specs.declared.image.Image.{Image}
 use Rattle.ug_image.specs.Images.{IsImage}
 use Rattle.ug_image.specs.Spelling.{IsOfVersion, long_field, spelled}

@@ -6,10 +6,10 @@ use Rattle.ug_disk.specs.declared.slot.Slot.TheVariants.{Zero, One}
 use Rattle.ug_disk.specs.Slots.{SlotState, MayLeave, synced}
 use Rattle.ug_disk.specs.Histories.{History, slot_of}
 use Rattle.ug_disk.proofs.Images.{only_bytes}
-use Rattle.ug_slots.specs.declared.keeper.Keeper.{Keeper}
-use Rattle.ug_slots.specs.Gates.{IsOpen, IsSynced, HasBody, Opens}
-use Rattle.ug_slots.specs.Keepers.{Knows, last_of, next_after, target_of}
-use Rattle.ug_slots.specs.Runs.{AreSynced, Stands, Becomes, Have, HasSaved, MaySave, other}
+use Rattle.ug_checkpoint.specs.declared.slots.keeper.Keeper.{Keeper}
+use Rattle.ug_checkpoint.specs.Gates.{IsOpen, IsSynced, HasBody, Opens}
+use Rattle.ug_checkpoint.specs.Keepers.{Knows, last_of, next_after, target_of}
+use Rattle.ug_checkpoint.specs.Runs.{AreSynced, Stands, Becomes, Have, HasSaved, MaySave, other}
 use Rattle.ug_image.specs.declared.image.Image.{Image}
 use Rattle.ug_checkpoint.specs.declared.found.Found.{Found}
 use Rattle.ug_checkpoint.specs.declared.saver.Saver.{Saver}

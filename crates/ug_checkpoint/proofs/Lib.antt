@@ -3,3 +3,7 @@ pub mod Giving
 pub mod Having
 pub mod Keeping
 pub mod Saving
+pub mod Behind
+pub mod Going
+pub mod Shutting
+pub mod Syncing

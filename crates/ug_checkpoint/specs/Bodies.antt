@@ -2,7 +2,7 @@
 use Rattle.std.specs.Prelude.{◌≡◌, ◌⊎◌, ℕ, ◌+◌, ◌≤◌, List, ◌++◌, length, take, drop, Option, None}
 use Rattle.std.specs.Prelude.{Some}
 use Rattle.std.specs.Int.{w64, from_be_bytes}
-use Rattle.ug_slots.specs.Gates.{IsOpen}
+use Rattle.ug_checkpoint.specs.Gates.{IsOpen}
 use Rattle.ug_image.specs.declared.image.Image.{Image}
 use Rattle.ug_image.specs.Answers.{IsFirstBad}
 use Rattle.ug_image.specs.Spelling.{Spell, long_field, spelled}

@@ -4,3 +4,6 @@ pub mod Given
 pub mod Laws
 pub mod Recovery
 pub mod Savers
+pub mod Gates
+pub mod Keepers
+pub mod Runs

@@ -3,7 +3,7 @@ use Rattle.std.specs.Prelude.{◌≡◌, ℕ, List, Option, None, Some, nat_lt, 
 use Rattle.ug_disk.specs.declared.slot.Slot.{Slot}
 use Rattle.ug_disk.specs.declared.slot.Slot.TheVariants.{Zero, One}
 use Rattle.ug_disk.specs.Histories.{History}
-use Rattle.ug_slots.specs.Runs.{Have, CouldLeave}
+use Rattle.ug_checkpoint.specs.Runs.{Have, CouldLeave}
 use Rattle.ug_image.specs.declared.image.Image.{Image}
 use Rattle.ug_checkpoint.specs.declared.error.LoadError.{LoadError}
 use Rattle.ug_checkpoint.specs.declared.error.LoadError.TheVariants.{Memory, Fault, BadImage}

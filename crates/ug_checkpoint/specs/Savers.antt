@@ -4,9 +4,9 @@ use Rattle.ug_disk.specs.declared.slot.Slot.{Slot}
 use Rattle.ug_disk.specs.Slots.{SlotState}
 use Rattle.ug_disk.specs.Histories.{History, slot_of}
 use Rattle.ug_disk.specs.Crashes.{MayLeaveBoth}
-use Rattle.ug_slots.specs.Gates.{IsSynced, Opens}
-use Rattle.ug_slots.specs.Keepers.{Knows, last_of, target_of}
-use Rattle.ug_slots.specs.Runs.{Becomes, Stands, CouldLeave, other}
+use Rattle.ug_checkpoint.specs.Gates.{IsSynced, Opens}
+use Rattle.ug_checkpoint.specs.Keepers.{Knows, last_of, target_of}
+use Rattle.ug_checkpoint.specs.Runs.{Becomes, Stands, CouldLeave, other}
 use Rattle.ug_image.specs.declared.image.Image.{Image}
 use Rattle.ug_checkpoint.specs.declared.found.Found.{Found}
 use Rattle.ug_checkpoint.specs.declared.saver.Saver.{Saver}

@@ -2,10 +2,9 @@ ghost use Rattle.std.specs.Prelude.{◌≡◌, ◌≤◌, ◌<◌, ◌+◌, ◌^
 ghost use Rattle.ug_image.specs.Images.{IsImage};
 ghost use Rattle.ug_image.specs.Spelling.{spelled};
 
+use crate::slots::pieces::Pieces;
 use std::alloc::{AllocError, Global};
-use ug_blocks::{Blocks, length};
-use ug_image::Image;
-use ug_slots::Pieces;
+use ug_image::{Blocks, Image, length};
 
 /// The body of a checkpoint: the length of an image in eight bytes, and the image.
 #[derive(Drop)]

@@ -1,5 +1,5 @@
 //! Checkpoints: images of a run in the two slots of a disk, saved in turn and found again.
-//! It stands on ug_slots for the saving of bytes, on ug_image and ug_blocks for an image's bytes.
+//! It stands on ug_image for an image's bytes, and on ug_disk; `slots` keeps bodies of bytes.
 //! `load` finds the image with the greater sequence of the slots that are open, or names the first
 //! field that is bad. `Saver::save` keeps that at each moment a crash leaves two slots in which a
 //! load finds what it could find before, the last acknowledged image, or the whole new one.
@@ -11,6 +11,7 @@ mod found;
 mod laws;
 mod loading;
 mod saver;
+mod slots;
 mod stored;
 
 pub use error::{LoadError, SaveError};
@@ -18,3 +19,6 @@ pub use found::Found;
 pub use laws::recovery_is_one;
 pub use loading::load;
 pub use saver::Saver;
+pub use slots::keeper::Keeper;
+pub use slots::loading::{Both, read_both};
+pub use slots::pieces::Pieces;

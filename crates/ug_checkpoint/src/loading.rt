@@ -1,15 +1,15 @@
 ghost use Rattle.std.specs.Prelude.{◌≡◌, ◌≤◌, IfOk, IfErr, OnOk, IsErrOf};
 ghost use Rattle.ug_io.specs.Outside.{Rose};
 ghost use Rattle.ug_disk.specs.Crashes.{Leaves};
-ghost use Rattle.ug_slots.specs.Runs.{CouldLeave};
+ghost use Rattle.ug_checkpoint.specs.Runs.{CouldLeave};
 ghost use Rattle.ug_checkpoint.specs.Recovery.{HasFound, IsRefused, IsCause, Recovered};
 
 use crate::error::LoadError;
 use crate::found::{Found, greater};
+use crate::slots::loading::{Both, read_both};
 use crate::stored::image_in;
 use std::alloc::Global;
 use ug_disk::{Disk, Slot};
-use ug_slots::{Both, read_both};
 
 /// Finds the last checkpoint: of the slots that are open the image with the greater sequence, and
 /// none where both are shut. Both slots are synced first, so that nothing older is pending.

@@ -10,10 +10,10 @@ ghost use Rattle.ug_checkpoint.specs.Recovery.{HasFound};
 use crate::body::Body;
 use crate::error::SaveError;
 use crate::found::Found;
+use crate::slots::keeper::Keeper;
 use std::alloc::{AllocError, Global};
 use ug_disk::Disk;
 use ug_image::Image;
-use ug_slots::Keeper;
 
 /// How many bytes are written at once.
 const BLOCK: usize = 65_536;

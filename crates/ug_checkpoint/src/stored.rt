@@ -1,6 +1,6 @@
 ghost use Rattle.std.specs.Prelude.{◌≡◌, ◌↔◌, length, IsTrue, IfOk, IfErr, MatchOption};
 ghost use Rattle.std.specs.Int.{w64, from_be_bytes};
-ghost use Rattle.ug_slots.specs.Gates.{IsOpen};
+ghost use Rattle.ug_checkpoint.specs.Gates.{IsOpen};
 ghost use Rattle.ug_checkpoint.specs.Bodies.{IsWhole, Stores, stored};
 ghost use Rattle.ug_checkpoint.specs.Recovery.{IsCauseIn};
 

@@ -1,15 +1,15 @@
 ghost use Rattle.std.specs.Prelude.{◌<◌, Some, IfOk, length};
 ghost use Rattle.ug_disk.specs.Memories.{history_of};
-ghost use Rattle.ug_slots.specs.Runs.{AreSynced};
-ghost use Rattle.ug_slots.specs.Keepers.{Knows};
+ghost use Rattle.ug_checkpoint.specs.Runs.{AreSynced};
+ghost use Rattle.ug_checkpoint.specs.Keepers.{Knows};
 
 use crate::expect::same;
 use crate::slots::disk_with;
 use crate::stops::{FILLS, Range, crash};
 use std::alloc::{AllocError, Global};
 use std::process::Abort;
+use ug_checkpoint::{Keeper, Pieces, read_both};
 use ug_disk::{MemoryDisk, Slot};
-use ug_slots::{Keeper, Pieces, read_both};
 
 // A body in memory.
 #[derive(Drop)]

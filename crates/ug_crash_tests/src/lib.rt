@@ -1,5 +1,5 @@
 //! Tests of disks, slots, saves and restarts, wherever the disk stops and whatever a crash leaves.
-//! They stand apart from the crates that they test, from ug_disk to ug_crashes, and ug_real.
+//! They stand apart from the crates that they test, from ug_disk to ug_world, and ug_real.
 //! Which field of a slot is named, what a restart answers, the slots that a run writes, byte for
 //! byte, stops after each call of saves and restarts, crashes by schedule, and real files. Nothing
 //! here is proved but that the tests are safe and end.

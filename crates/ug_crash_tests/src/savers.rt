@@ -6,10 +6,9 @@ ghost use Rattle.ug_image.specs.Images.{IsImage};
 ghost use Rattle.ug_checkpoint.specs.Savers.{IsKept};
 
 use std::alloc::Global;
-use ug_blocks::length;
 use ug_checkpoint::{LoadError, SaveError, Saver, load};
 use ug_disk::MemoryDisk;
-use ug_image::{Image, decode};
+use ug_image::{Image, decode, length};
 
 /// A saver of the slots as a load leaves them.
 pub fn opened(alloc: Global, disk: &mut MemoryDisk) -> Result<Saver, LoadError>

@@ -1,14 +1,13 @@
 ghost use Rattle.std.specs.Prelude.{Some, All, IfSome};
 ghost use Rattle.ug_disk.specs.Memories.{history_of};
 ghost use Rattle.ug_checkpoint.specs.Savers.{IsKept};
-ghost use Rattle.ug_crashes.specs.Events.{IsDiskEvent};
+ghost use Rattle.ug_world.specs.DiskEvents.{IsDiskEvent};
 
 use crate::expect::{holds, holds_at, same_at};
 use crate::slots::{disk_with, nothing, settings, slot_of};
 use std::alloc::Global;
 use ug_book::{Answered, Book};
 use ug_checkpoint::Saver;
-use ug_crashes::{DiskEvent, Halted, PlayDiskFault, PlayedDisk, play_disk};
 use ug_disk::{MemoryDisk, Slot};
 use ug_frames::Report;
 use ug_nodes::Ticket;
@@ -16,7 +15,7 @@ use ug_problem::Shared;
 use ug_restart::{StartFault, begin};
 use ug_rows::Point;
 use ug_rules::Heard;
-use ug_world::Event;
+use ug_world::{DiskEvent, Event, Halted, PlayDiskFault, PlayedDisk, play_disk};
 
 // A run that has begun on a disk of two empty slots, which stops after one of its calls.
 #[derive(Drop)]

@@ -2,7 +2,7 @@
 
 ghost use Rattle.std.specs.Prelude.{Some, IfOk};
 ghost use Rattle.ug_disk.specs.Memories.{history_of};
-ghost use Rattle.ug_slots.specs.Runs.{AreSynced};
+ghost use Rattle.ug_checkpoint.specs.Runs.{AreSynced};
 ghost use Rattle.ug_rules.specs.Books.{AreSettings};
 
 use std::alloc::{AllocError, Global};

@@ -10,7 +10,8 @@ use ug_book::Book;
 use ug_checkpoint::{SaveError, Saver};
 use ug_disk::{MemoryDisk, Slot};
 use ug_problem::{Problem, ProblemError, Shared};
-use ug_restart::{StartFault, begin, image_of, restart};
+use ug_restart::{StartFault, begin, restart};
+use ug_snapshot::image_of;
 
 // Saves the next image of the book, if its sequence is above the last one.
 fn saved(

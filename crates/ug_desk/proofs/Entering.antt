@@ -7,11 +7,11 @@ use Rattle.ug_rules.specs.State.{BookState}
 use Rattle.ug_rules.specs.Books.{IsSoundBook}
 use Rattle.ug_book.specs.Views.{IsSameRun}
 use Rattle.ug_book.specs.declared.unfinished.Unfinished.{Unfinished}
-use Rattle.ug_desk.specs.declared.took.Took.{Took}
-use Rattle.ug_desk.specs.declared.took.Took.TheVariants.{Work, Wait, Over}
-use Rattle.ug_desk.specs.declared.took.Untaken.{Untaken}
-use Rattle.ug_desk.specs.declared.reply.Reply.{Reply}
-use Rattle.ug_desk.specs.Openings.{Standing, own_ticket}
+use Rattle.ug_worker.specs.declared.took.Took.{Took}
+use Rattle.ug_worker.specs.declared.took.Took.TheVariants.{Work, Wait, Over}
+use Rattle.ug_worker.specs.declared.took.Untaken.{Untaken}
+use Rattle.ug_worker.specs.declared.reply.Reply.{Reply}
+use Rattle.ug_desk.specs.Standings.{Standing, own_ticket}
 use Rattle.ug_desk.specs.Takes.{HasAnswered, IsCutShort, tickets_after}
 use Rattle.ug_desk.specs.Reports.{HasNotStated, HasStated}
 use Rattle.ug_desk.specs.Histories.{Call, Entry, Replays, Step, stated, taken}

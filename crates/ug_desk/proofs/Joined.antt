@@ -3,8 +3,8 @@ use Rattle.std.proofs.Common.{◌≡◌, ℕ, zero, suc, true, false, List, [], 
 use Rattle.std.specs.Prelude.{ℤ, Option, Some, None, slice_set, if◌then◌else◌, ◌<◌, length}
 use Rattle.ug_nodes.specs.declared.node.Node.{Node}
 use Rattle.ug_pool.specs.declared.entry.Entry.{Entry}
-use Rattle.ug_collect.specs.declared.demand.Wanted.{Wanted}
-use Rattle.ug_collect.specs.declared.demand.Wanted.TheVariants.{Ask, Enough, Nothing}
+use Rattle.ug_rules.specs.declared.demand.Wanted.{Wanted}
+use Rattle.ug_rules.specs.declared.demand.Wanted.TheVariants.{Ask, Enough, Nothing}
 use Rattle.ug_ranks.specs.declared.state.State.{State}
 use Rattle.ug_ranks.specs.declared.state.State.TheVariants.{Absent, Idle, Racing, Active, Dead}
 use Rattle.ug_ranks.specs.States.{state_at}

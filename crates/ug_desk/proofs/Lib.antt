@@ -4,5 +4,5 @@ pub mod Works
 pub mod Joined
 pub mod Ends
 pub mod Entering
-pub mod Beginnings
 pub mod Saving
+pub mod Begun

@@ -4,11 +4,11 @@ use Rattle.ug_rules.specs.declared.settings.Settings.{Settings}
 use Rattle.ug_rules.specs.Books.{IsSoundBook}
 use Rattle.ug_image.specs.declared.image.Image.{Image}
 use Rattle.ug_image.specs.Images.{IsImage}
-use Rattle.ug_restart.specs.Moments.{IsCovered, IsImageOf}
-use Rattle.ug_desk.specs.declared.opening.Opening.{Opening}
-use Rattle.ug_desk.specs.Openings.{IsCoveredOpening}
+use Rattle.ug_snapshot.specs.Moments.{IsCovered, IsImageOf}
+use Rattle.ug_snapshot.specs.declared.opening.Opening.{Opening}
+use Rattle.ug_snapshot.specs.Openings.{IsCoveredOpening}
 use Rattle.ug_desk.specs.Entries.{IsLocked, LockedState}
-use Rattle.ug_desk.specs.Snapshots.{IsSnapshot}
+use Rattle.ug_snapshot.specs.Snapshots.{IsSnapshot}
 
 -- what is read of a locked value is a snapshot
 pub snapshot_so : (l : LockedState) (o : Opening) (image : Image) (count : ℕ) → IsLocked l

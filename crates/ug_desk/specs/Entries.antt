@@ -7,8 +7,11 @@ use Rattle.ug_rules.specs.Books.{IsSoundBook}
 use Rattle.ug_book.specs.Reads.{is_alive}
 use Rattle.ug_book.specs.Views.{IsSameRun}
 use Rattle.ug_base.specs.Tasks.{TaskState}
-use Rattle.ug_desk.specs.declared.opening.Opening.{Opening}
-use Rattle.ug_desk.specs.Openings.{IsCoveredOpening, Standing, opening_book, opening_standing}
+use Rattle.ug_snapshot.specs.Moments.{IsImageOf}
+use Rattle.ug_snapshot.specs.declared.opening.Opening.{Opening}
+use Rattle.ug_snapshot.specs.Snapshots.{SnapshotState}
+use Rattle.ug_snapshot.specs.Openings.{IsCoveredOpening, opening_book}
+use Rattle.ug_desk.specs.Standings.{Standing, opening_standing}
 use Rattle.ug_desk.specs.Dones.{IsOfTicket}
 use Rattle.ug_desk.specs.Histories.{Call, Entry, Replays, Step, ended}
 
@@ -55,3 +58,9 @@ pub record IsOfOther (r : ℕ) (task : TaskState) (answer : Heard) (old new : Lo
 abbrev pub HasEnded : ℕ → TaskState → Heard → LockedState → LockedState → Type 0
 HasEnded r task answer old new =
     HasEntered r (ended task answer) old new ⊎ IsOfOther r task answer old new
+
+-- the snapshot is of what stands, and of a history of so many calls
+pub record IsSnapshotOf (l : LockedState) (calls : ℕ) (s : SnapshotState) : Type 0 where
+  pub its_opening : s.opening ≡ l.opening
+  pub moment : IsImageOf l.now.book 1 s.image
+  pub calls_are : s.count ≡ calls

@@ -6,10 +6,10 @@ use Rattle.ug_rules.specs.State.{BookState}
 use Rattle.ug_rules.specs.Deaths.{killed}
 use Rattle.ug_book.specs.declared.unfinished.Unfinished.{Unfinished}
 use Rattle.ug_base.specs.Tasks.{TaskState}
-use Rattle.ug_desk.specs.declared.took.Took.{Took}
-use Rattle.ug_desk.specs.declared.took.Untaken.{Untaken}
-use Rattle.ug_desk.specs.declared.reply.Reply.{Reply}
-use Rattle.ug_desk.specs.Openings.{OfBook, Standing, own_ticket}
+use Rattle.ug_worker.specs.declared.took.Took.{Took}
+use Rattle.ug_worker.specs.declared.took.Untaken.{Untaken}
+use Rattle.ug_worker.specs.declared.reply.Reply.{Reply}
+use Rattle.ug_desk.specs.Standings.{OfBook, Standing, own_ticket}
 use Rattle.ug_desk.specs.Takes.{HasTaken, IsCutShort}
 use Rattle.ug_desk.specs.Reports.{HasHanded, HasNotStated, HasOffered, HasStated}
 use Rattle.ug_desk.specs.Dones.{HasDone}

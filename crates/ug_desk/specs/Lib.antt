@@ -1,5 +1,4 @@
 pub mod Areas
-pub mod Openings
 pub mod Decided
 pub mod Takes
 pub mod Reports
@@ -9,5 +8,4 @@ pub mod Histories
 pub mod Entries
 pub mod Passes
 pub mod Views
-pub mod Snapshots
-pub mod SnapshotViews
+pub mod Standings

@@ -3,7 +3,7 @@ use Rattle.std.specs.Prelude.{◌≡◌, ◌≢◌, ℕ, ◌<◌, ◌≤◌, tru
 use Rattle.ug_rows.specs.declared.area.Interval.{Interval}
 use Rattle.ug_rules.specs.declared.heard.Heard.{Heard}
 use Rattle.ug_rules.specs.declared.heard.Heard.TheVariants.{Stale}
-use Rattle.ug_desk.specs.declared.reply.Reply.{Reply}
+use Rattle.ug_worker.specs.declared.reply.Reply.{Reply}
 use Rattle.ug_desk.specs.Histories.{handed}
 use Rattle.ug_desk.specs.Entries.{HasEntered, LockedState}
 

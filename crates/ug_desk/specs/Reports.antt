@@ -14,7 +14,7 @@ use Rattle.ug_rules.specs.State.{BookState, cutoff_of_best}
 use Rattle.ug_rules.specs.Ranks.{is_racing, ticket_at}
 use Rattle.ug_rules.specs.Hearing.{IsDue, after_hearing}
 use Rattle.ug_book.specs.Currents.{asked_at}
-use Rattle.ug_desk.specs.declared.reply.Reply.{Reply}
+use Rattle.ug_worker.specs.declared.reply.Reply.{Reply}
 use Rattle.ug_desk.specs.Decided.{HasDecided, HasStood}
 
 -- the book hears the report of rank r, and gives the answer that is due

@@ -15,12 +15,12 @@ use Rattle.ug_ledger.specs.Ledgers.{Current, IsCurrent}
 use Rattle.ug_rules.specs.State.{BookState, cutoff_of_best, held_nodes, ledger_of}
 use Rattle.ug_rules.specs.Hearing.{kept}
 use Rattle.ug_base.specs.Tasks.{TaskState}
-use Rattle.ug_desk.specs.declared.took.Took.{Took}
-use Rattle.ug_desk.specs.declared.took.Took.TheVariants.{Work, Wait, Over}
-use Rattle.ug_desk.specs.declared.took.Untaken.{Untaken}
-use Rattle.ug_desk.specs.declared.took.Untaken.TheVariants.{Deciding, Making}
+use Rattle.ug_worker.specs.declared.took.Took.{Took}
+use Rattle.ug_worker.specs.declared.took.Took.TheVariants.{Work, Wait, Over}
+use Rattle.ug_worker.specs.declared.took.Untaken.{Untaken}
+use Rattle.ug_worker.specs.declared.took.Untaken.TheVariants.{Deciding, Making}
 use Rattle.ug_desk.specs.Decided.{HasDecided, HasStood}
-use Rattle.ug_desk.specs.Openings.{Standing}
+use Rattle.ug_desk.specs.Standings.{Standing}
 
 -- the rank joined, where it was absent or dead: what a rank does whose Ready is kept
 abbrev pub with_joined : ℕ → BookState → BookState

@@ -4,9 +4,9 @@ ghost use Rattle.ug_rules.specs.Ranks.{is_joined};
 ghost use Rattle.ug_desk.specs.Takes.{IsAnswer, IsOver, IsUnderWay};
 
 use crate::task::make_task;
-use crate::took::Took;
 use std::alloc::{AllocError, Global};
 use ug_book::Book;
+use ug_worker::Took;
 
 /// What the book gives a rank that has joined.
 #[tactic(auto, using(crate::proofs::Works::current_changes, crate::proofs::Works::at_work))]

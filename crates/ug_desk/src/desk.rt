@@ -1,18 +1,16 @@
 ghost use Rattle.std.specs.Prelude.{◌≡◌, ℕ, ◌<◌, [], length, slice_index, IfOk};
-ghost use Rattle.ug_desk.specs.Openings.{IsMade};
+ghost use Rattle.ug_snapshot.specs.Openings.{IsMade};
 
-use crate::begin::opening_of;
 use crate::locked::Locked;
 use crate::pass::Pass;
-use crate::reply::Reply;
-use crate::snapshot::Snapshot;
-use crate::took::{Took, Untaken};
 use std::alloc::{AllocError, Global};
 use std::sync::{Condvar, Mutex, Wait};
 use ug_base::Task;
 use ug_book::{Book, Unfinished};
 use ug_rows::{IntBox, Point};
 use ug_rules::Heard;
+use ug_snapshot::{Snapshot, opening_of};
+use ug_worker::{Reply, Took, Untaken};
 
 /// One book that threads share, each through passes of its own. What a call does is said by the
 /// call of `Locked` of the same name, which is lent what is behind the lock. A pass of another desk

@@ -3,21 +3,20 @@
 
 ghost use Rattle.std.specs.Prelude.{◌≡◌, ◌↔◌, ◌<◌, [], length, IsTrue, MatchBool, Ok, OnErr, OnOk};
 ghost use Rattle.ug_rules.specs.declared.heard.Heard.TheVariants.{Stale};
-ghost use Rattle.ug_desk.specs.declared.took.Took.TheVariants.{Over};
+ghost use Rattle.ug_worker.specs.declared.took.Took.TheVariants.{Over};
 ghost use Rattle.ug_desk.specs.Histories.{given_up, left, offered, stated, taken, copied};
 ghost use Rattle.ug_desk.specs.Entries.{HasEnded, HasEntered, HasEnteredAlive};
 ghost use Rattle.ug_desk.specs.Passes.{HasHandedHere, IsElsewhere, IsFor, stopped};
 
 use crate::locked::Locked;
 use crate::pass::Pass;
-use crate::reply::Reply;
-use crate::snapshot::Snapshot;
-use crate::took::{Took, Untaken};
 use std::alloc::AllocError;
 use ug_base::Task;
 use ug_book::Unfinished;
 use ug_rows::{IntBox, Point};
 use ug_rules::Heard;
+use ug_snapshot::Snapshot;
+use ug_worker::{Reply, Took, Untaken};
 
 impl Locked {
     pub(crate) fn take_for(&mut self, pass: &mut Pass) -> Result<Took, Untaken>

@@ -1,28 +1,26 @@
 ghost use Rattle.std.specs.Prelude.{◌≡◌, ◌<◌, [], length, IfOk, OnErr, OnOk};
-ghost use Rattle.ug_desk.specs.Openings.{opening_book, opening_standing, own_ticket};
+ghost use Rattle.ug_snapshot.specs.Openings.{opening_book};
+ghost use Rattle.ug_desk.specs.Standings.{opening_standing, own_ticket};
 ghost use Rattle.ug_desk.specs.Histories.{taken, offered, handed, stated, given_up, left, copied};
 ghost use Rattle.ug_desk.specs.Entries.{HasEnded, HasEntered, HasEnteredAlive, IsLocked, one_more};
-ghost use Rattle.ug_desk.specs.Snapshots.{IsSnapshotOf};
+ghost use Rattle.ug_desk.specs.Entries.{IsSnapshotOf};
 
-use crate::begin::{copy_opening, tickets};
 use crate::done::done;
 use crate::hand::hand;
-use crate::opening::Opening;
-use crate::reply::Reply;
-use crate::snapshot::Snapshot;
 use crate::state::state;
 use crate::take::{note, take};
 use crate::ticket::is_of_ticket;
-use crate::took::{Took, Untaken};
+use crate::tickets::tickets;
 use std::alloc::{AllocError, Global};
 use std::marker::Model;
 use ug_base::Task;
 use ug_book::{Book, Unfinished};
 use ug_frames::Report;
 use ug_nodes::Ticket;
-use ug_restart::image_of;
 use ug_rows::{IntBox, Point};
 use ug_rules::Heard;
+use ug_snapshot::{Opening, Snapshot, copy_opening, image_of};
+use ug_worker::{Reply, Took, Untaken};
 
 /// The value behind the lock of a desk.
 #[derive(Drop)]
@@ -211,11 +209,7 @@ impl Locked {
     {
         let opening = copy_opening(&self.opening)?;
         match image_of(self.alloc, &self.book, 1) {
-            Ok(image) => Ok(Snapshot {
-                opening,
-                image,
-                count: one_more(self.count),
-            }),
+            Ok(image) => Ok(Snapshot::new(opening, image, one_more(self.count))),
             Err(error) => {
                 drop(opening);
                 Err(error)

@@ -8,10 +8,10 @@ ghost use Rattle.ug_desk.specs.Reports.{HasHalted, HasMovedOn, HasNotStated, Has
 use crate::answer::is_spent;
 use crate::best::cutoff_of_best;
 use crate::decide::decide;
-use crate::reply::Reply;
 use ug_book::{Book, Unfinished};
 use ug_frames::Report;
 use ug_nodes::Ticket;
+use ug_worker::Reply;
 
 /// A rank tells what is left under a ticket. Where it races the book then decides.
 pub fn state(

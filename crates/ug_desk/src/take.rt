@@ -5,10 +5,10 @@ ghost use Rattle.ug_desk.specs.Takes.{HasAnswered, IsCutShort, tickets_after};
 
 use crate::answer::answer;
 use crate::decide::decide;
-use crate::took::{Took, Untaken};
 use std::alloc::Global;
 use ug_book::Book;
 use ug_nodes::Ticket;
+use ug_worker::{Took, Untaken};
 
 /// The rank joins where it is absent or dead, the book decides, and answers what it has for the
 /// rank.

@@ -9,3 +9,10 @@ pub mod Entire
 pub mod Shorts
 pub mod Wholes
 pub mod Verdicts
+pub mod Fills
+pub mod Lent
+pub mod Lists
+pub mod Narrow
+pub mod Nexts
+pub mod Sizes
+pub mod Whole

@@ -3,3 +3,6 @@ pub mod Spelling
 pub mod Reading
 pub mod Answers
 pub mod Laws
+pub mod Lengths
+pub mod Rests
+pub mod Steps

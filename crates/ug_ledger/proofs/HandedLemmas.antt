@@ -21,7 +21,7 @@ use Rattle.ug_ledger.proofs.DoneLemmas.{not_own}
 use Rattle.ug_ledger.proofs.LessLemmas.{still_given}
 use Rattle.ug_ledger.proofs.NameLemmas.{has_own, one_line, own_or_none, times_at_most, times_none}
 use Rattle.ug_ledger.proofs.RankLemmas.{set_cases}
-use Rattle.ug_primitive.specs.Primitive.{times}
+use Rattle.ug_nodes.specs.Primitive.{times}
 
 -- the line that the next hand makes goes through this hand
 goes_itself : (c : Current) (area : List Interval) (i : ℕ) → i ≡ length c.taken

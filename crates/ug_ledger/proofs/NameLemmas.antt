@@ -11,7 +11,7 @@ use Rattle.ug_nodes.specs.Lines.{is_same_name}
 use Rattle.ug_nodes.specs.Names.{no_name, own_name}
 use Rattle.ug_nodes.proofs.Orders.{same_name, same_ticket}
 use Rattle.ug_ledger.specs.Names.{AreNamed}
-use Rattle.ug_primitive.specs.Primitive.{times}
+use Rattle.ug_nodes.specs.Primitive.{times}
 
 -- the test of two names tells whether they are the same
 same_or_not : (a b : Name)

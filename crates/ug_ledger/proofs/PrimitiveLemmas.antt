@@ -13,7 +13,7 @@ use Rattle.ug_nodes.specs.Nodes.{box_of}
 use Rattle.ug_nodes.proofs.LineLemmas.{ancestor_from_test, ancestor_shorter, test_from_ancestor}
 use Rattle.ug_ledger.specs.Ledgers.{Ledger}
 use Rattle.ug_ledger.specs.Sound.{AreNested}
-use Rattle.ug_primitive.specs.Primitive.{IsPrimitive}
+use Rattle.ug_nodes.specs.Primitive.{IsPrimitive}
 use Rattle.ug_ledger.specs.EndLaws.{PrimitiveAreCovered}
 use Rattle.ug_ledger.proofs.BoxLemmas.{covered_by}
 

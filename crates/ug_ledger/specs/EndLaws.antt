@@ -8,7 +8,7 @@ use Rattle.ug_nodes.specs.declared.node.Node.{Node}
 use Rattle.ug_ledger.specs.Ledgers.{Ledger, boxes_of}
 use Rattle.ug_ledger.specs.Sound.{IsLedger, Sound}
 use Rattle.ug_ledger.specs.Starts.{IsStart}
-use Rattle.ug_primitive.specs.Primitive.{IsPrimitive}
+use Rattle.ug_nodes.specs.Primitive.{IsPrimitive}
 use Rattle.ug_ledger.specs.Answers.{answer_of}
 
 -- starting nodes are a ledger

@@ -13,7 +13,7 @@ use Rattle.ug_nodes.specs.declared.node.Node.{Node}
 use Rattle.ug_nodes.specs.Lines.{IsAncestor}
 use Rattle.ug_nodes.specs.Nodes.{box_of}
 use Rattle.ug_ledger.specs.Ledgers.{Current, IsCurrent, Ledger, hand_name}
-use Rattle.ug_primitive.specs.Primitive.{times}
+use Rattle.ug_nodes.specs.Primitive.{times}
 
 -- the first ledger holds each node that the second holds
 abbrev pub HoldsAllOf : Ledger → Ledger → Type 0

@@ -3,7 +3,7 @@ use Rattle.std.specs.Prelude.{◌≡◌, ℕ, ◌≤◌, [], ◌∷◌, Contains
 use Rattle.ug_nodes.specs.declared.name.Name.{Name}
 use Rattle.ug_nodes.specs.declared.node.Node.{Node}
 use Rattle.ug_ledger.specs.Ledgers.{Current, IsCurrent, Ledger, hand_name}
-use Rattle.ug_primitive.specs.Primitive.{times}
+use Rattle.ug_nodes.specs.Primitive.{times}
 
 -- starting nodes: no ticket was given yet, and the line of each is one name, that of no other
 pub record IsStart (l : Ledger) : Type 0 where

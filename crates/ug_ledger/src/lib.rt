@@ -1,5 +1,5 @@
 //! What a coordinator holds, as a ledger of nodes and tickets, and the laws of what happens to it.
-//! It stands on ug_primitive, ug_nodes, ug_problem, ug_rows and ug_lists.
+//! It stands on ug_nodes, ug_problem, ug_rows and ug_lists.
 //! specs/Sound.antt says in six parts when a ledger is sound, specs/Moves.antt what an event does.
 //! The laws: each event keeps the six, with a premise where a node was worked off and nowhere else;
 //! the primitive nodes of a sound ledger are Covered; where it holds nothing its answer is right.

@@ -1,9 +1,9 @@
 -- What the program did with real files, of whose bytes nothing is told.
 use Rattle.std.specs.Prelude.{◌≡◌, ℕ, List, None}
 use Rattle.clap.specs.Walk.{Text}
-use Rattle.ug_commands.specs.Outside.{outside}
-use Rattle.ug_commands.specs.declared.status.Status.{Status}
-use Rattle.ug_commands.specs.declared.status.Status.TheVariants.{Memory}
+use Rattle.ug_top.specs.Outside.{outside}
+use Rattle.ug_top.specs.declared.status.Status.{Status}
+use Rattle.ug_top.specs.declared.status.Status.TheVariants.{Memory}
 use Rattle.ug_top.specs.Ran.{HasRun}
 
 -- what the words ask for was done, and this status says how it ended; how often reading, saving and

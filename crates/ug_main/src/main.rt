@@ -7,7 +7,7 @@
 
 ghost use Rattle.std.specs.Prelude.{◌≡◌, ◌⊎◌};
 ghost use Rattle.ug_cli.specs.Taken.{texts};
-ghost use Rattle.ug_commands.specs.Outside.{outside};
+ghost use Rattle.ug_top.specs.Outside.{outside};
 ghost use Rattle.ug_main.specs.Files.{HasRunOnFiles, IsUnbegun};
 ghost use Rattle.ug_top.specs.Ran.{HasRun};
 

@@ -1,6 +1,6 @@
 use std::io::Eprint;
 use std::sync::atomic::{AtomicU64, Ordering};
-use ug_gate::{Gate, Moment, Standing};
+use ug_threads::{Gate, Moment, Standing};
 
 const MILLION: u64 = 1_000_000;
 

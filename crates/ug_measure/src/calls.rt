@@ -6,10 +6,11 @@ use crate::start::problem;
 use std::alloc::{AllocError, Global};
 use std::sync::Wait;
 use ug_book::{Book, Boxes};
-use ug_desk::{Desk, Pass, Took};
+use ug_desk::{Desk, Pass};
 use ug_nodes::Changes;
 use ug_problem::Shared;
 use ug_rules::Settings;
+use ug_worker::Took;
 
 /// What a desk answered to those who said what is left.
 #[derive(Clone, Copy)]

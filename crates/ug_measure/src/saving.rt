@@ -6,15 +6,14 @@ ghost use Rattle.ug_image.specs.Images.{IsImage};
 
 use crate::start::problem;
 use std::alloc::{AllocError, Global};
-use ug_blocks::length;
 use ug_book::{Book, Boxes};
 use ug_checkpoint::{Saver, load};
 use ug_disk::{MemoryDisk, Script};
-use ug_image::Image;
+use ug_image::{Image, length};
 use ug_nodes::{Change, Changes, area_of};
-use ug_restart::image_of;
 use ug_rows::IntBox;
 use ug_rules::Settings;
+use ug_snapshot::image_of;
 
 /// How far a save goes.
 #[derive(Clone, Copy, PartialEq, Eq)]

@@ -5,3 +5,7 @@ pub mod Areas
 pub mod LineLemmas
 pub mod Passes
 pub mod Floors
+pub mod Found
+pub mod Fronts
+pub mod Kept
+pub mod Named

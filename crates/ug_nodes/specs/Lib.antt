@@ -4,3 +4,5 @@ pub mod Changes
 pub mod Nodes
 pub mod Outside
 pub mod Steps
+pub mod Primitive
+pub mod SortedLines

@@ -1,10 +1,11 @@
 //! What a coordinator and its solvers say of subproblems: names, lines, and boxes as changes.
-//! It stands on ug_lists and ug_rows.
-//! `is_below` and `is_ancestor` say how nodes stand to one another; `changes_of` and `area_of` turn
-//! a box below the root into its one list of changes and back (`one_list_for_each_box`);
-//! `first_outside` and `floor_of_changes` judge changes and move a floor with them, making no box.
+//! It stands on ug_lists and ug_rows. `is_below` and `is_ancestor` say how nodes stand to one
+//! another; `primitive` gives those of the nodes held that have no ancestor among them; `changes_of`
+//! and `area_of` turn a box below the root into its one list of changes and back; `first_outside`
+//! and `floor_of_changes` judge changes and move a floor with them, making no box.
 #![tactic(auto)]
 
+mod ahead;
 mod change;
 mod floor;
 mod laws;
@@ -12,6 +13,8 @@ mod line;
 mod name;
 mod node;
 mod outside;
+mod primitives;
+mod sorted_lines;
 mod spelling;
 
 pub use change::{Change, Changes};
@@ -21,4 +24,5 @@ pub use line::{Line, is_ancestor, is_below};
 pub use name::{Name, Ticket};
 pub use node::Node;
 pub use outside::first_outside;
+pub use primitives::primitive;
 pub use spelling::{AreaError, area_of, changes_of};

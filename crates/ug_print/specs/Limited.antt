@@ -7,7 +7,7 @@ use Rattle.ug_problem.specs.Instances.{Instance}
 use Rattle.ug_problem.specs.Printed.{IsPrinted}
 use Rattle.ug_nodes.specs.declared.node.Node.{Node}
 use Rattle.ug_rules.specs.State.{BookState}
-use Rattle.ug_restart.specs.Moments.{ArePrimitive}
+use Rattle.ug_snapshot.specs.Moments.{ArePrimitive}
 use Rattle.ug_print.specs.Lines.{line, further, named_line}
 
 -- the value of the best point as it is printed, and `none` where there is none

@@ -3,7 +3,7 @@ ghost use Rattle.ug_print.specs.Refusals.{refused_line, kind_name};
 
 use crate::words::{push_number, push_word};
 use std::alloc::{AllocError, Global};
-use ug_mps::{Kind, MpsFault};
+use ug_drafts::{Kind, MpsFault};
 
 /// The line of a refusal: the line of the fault, its kind and its word.
 pub fn refusal(alloc: Global, fault: &MpsFault) -> Result<Vec<u8>, AllocError>

@@ -9,3 +9,4 @@ pub mod Printed
 pub mod Right
 pub mod Shared
 pub mod Standings
+pub mod Offers

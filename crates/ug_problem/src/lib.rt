@@ -2,7 +2,7 @@
 //! `Decimal`, an exact number that is read, rounded and scaled. It stands on ug_rows.
 //! `Problem::new` makes one exactly where all is within its limit, and names what is not;
 //! `first_broken` is `None` exactly where a point is feasible, `value` is its value, `print_value`
-//! spells it; `standings` tells which rows a column stands in. specs/ says what a right answer is.
+//! spells it; specs/ says what a right answer is, what is better, and what an offer is answered.
 #![tactic(auto)]
 
 mod answer;
@@ -12,6 +12,7 @@ mod error;
 mod feasible;
 mod laws;
 mod limits;
+mod offered;
 mod print;
 mod problem;
 mod same;
@@ -27,6 +28,7 @@ pub use decimal::{
 pub use error::ProblemError;
 pub use laws::better_is_below_the_cutoff;
 pub use limits::{MOST_COLUMNS, MOST_FACTOR, MOST_ROWS, MOST_SIDE, MOST_TERMS};
+pub use offered::Offered;
 pub use print::prints_one_text;
 pub use problem::Problem;
 pub use shared::Shared;

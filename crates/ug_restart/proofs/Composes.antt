@@ -15,7 +15,7 @@ use Rattle.ug_nodes.specs.declared.change.Change.{Change}
 use Rattle.ug_problem.specs.Instances.{Instance}
 use Rattle.ug_book.specs.Starts.{started}
 use Rattle.ug_image.specs.declared.image.Image.{Image}
-use Rattle.ug_slots.specs.Runs.{CouldLeave}
+use Rattle.ug_checkpoint.specs.Runs.{CouldLeave}
 use Rattle.ug_checkpoint.specs.declared.found.Found.{Found}
 use Rattle.ug_checkpoint.specs.declared.saver.Saver.{Saver}
 use Rattle.ug_checkpoint.specs.Bodies.{Has, Stores}

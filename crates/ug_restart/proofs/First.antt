@@ -5,10 +5,10 @@ use Rattle.ug_disk.specs.Crashes.{Leaves}
 use Rattle.ug_disk.proofs.Moments.{LeavesNow, starts, weakens}
 use Rattle.ug_rules.specs.State.{BookState}
 use Rattle.ug_image.specs.declared.image.Image.{Image}
-use Rattle.ug_slots.specs.Runs.{CouldLeave}
+use Rattle.ug_checkpoint.specs.Runs.{CouldLeave}
 use Rattle.ug_checkpoint.specs.declared.saver.Saver.{Saver}
 use Rattle.ug_checkpoint.specs.Savers.{IsSafe, IsWritten, Finds, last_slot, next_slot, sequence_of}
-use Rattle.ug_restart.specs.Moments.{IsImageOf}
+use Rattle.ug_snapshot.specs.Moments.{IsImageOf}
 use Rattle.ug_restart.specs.Openings.{IsAcknowledgedStart, IsSafeFirst}
 use Rattle.ug_checkpoint.specs.declared.error.SaveError.{SaveError}
 use Rattle.ug_checkpoint.specs.declared.error.SaveError.TheVariants.{Fault}

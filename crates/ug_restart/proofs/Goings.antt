@@ -17,7 +17,7 @@ use Rattle.ug_image.specs.declared.image.SavedNode.{SavedNode}
 use Rattle.ug_image.specs.Images.{AreSavedNodes, IsImage}
 use Rattle.ug_checkpoint.specs.declared.found.Found.{Found}
 use Rattle.ug_checkpoint.specs.Recovery.{HasFound}
-use Rattle.ug_restart.specs.Moments.{IsCovered, boxes_in}
+use Rattle.ug_snapshot.specs.Moments.{IsCovered, boxes_in}
 use Rattle.ug_restart.specs.Openings.{CoversWhatIsFound, IsNotSaved}
 use Rattle.ug_restart.specs.Starts.{IsGoneOn, IsNotGoneOn, boxes_saved, gone_on, next_run}
 use Rattle.ug_restart.specs.Books.{HasNoNext, MayGoOn}

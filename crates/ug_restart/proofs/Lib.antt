@@ -1,6 +1,8 @@
-mod Saves
-pub mod Helds
 mod First
 pub mod Firsts
 pub mod Composes
 pub mod Goings
+pub mod Covering
+pub mod Going
+mod Lasts
+pub mod Making

@@ -1,62 +1,55 @@
--- The image of one moment of a run.
-use Rattle.std.specs.Prelude.{◌≡◌, ◌↔◌, ℕ, ◌<◌, ◌^◌, List, length, map, Contains}
-use Rattle.std.specs.List.{AllPairs}
-use Rattle.ug_rows.specs.declared.area.Interval.{Interval}
-use Rattle.ug_problem.specs.Instances.{root_of}
-use Rattle.ug_problem.specs.Better.{Covered}
-use Rattle.ug_nodes.specs.declared.node.Node.{Node}
-use Rattle.ug_nodes.specs.Names.{own_name}
-use Rattle.ug_nodes.specs.Changes.{area_by}
-use Rattle.ug_primitive.specs.Primitive.{IsNamedBefore, IsPrimitive}
-use Rattle.ug_rules.specs.State.{BookState, held_nodes}
+-- What a crash leaves at the moments of a save, and what of it is Covered.
+use Rattle.std.specs.Prelude.{◌≡◌, ◌⊎◌, ℕ, List, Option, Some, IfSome}
+use Rattle.ug_disk.specs.Histories.{History}
+use Rattle.ug_disk.specs.Crashes.{Leaves, MayLeaveBoth}
+use Rattle.ug_checkpoint.specs.Runs.{CouldLeave}
 use Rattle.ug_image.specs.declared.image.Image.{Image}
-use Rattle.ug_image.specs.declared.image.SavedNode.{SavedNode}
-use Rattle.ug_image.specs.Images.{node_at}
+use Rattle.ug_checkpoint.specs.declared.found.Found.{Found}
+use Rattle.ug_checkpoint.specs.declared.saver.Saver.{Saver}
+use Rattle.ug_checkpoint.specs.Recovery.{Recovered}
+use Rattle.ug_checkpoint.specs.Savers.{CouldFind, Finds, IsLast, last_slot}
+use Rattle.ug_snapshot.specs.Moments.{IsCovered}
 
--- what is saved of a node: its own name, and its box
-abbrev pub saved_of : Node → SavedNode
-saved_of n = record { name = own_name n.line; changes = n.changes }
+-- whatever a crash leaves, recovery finds an image that has P
+pub record FindsOne (P : Image → Type 0) (told : Option History) : Type 0 where
+  pub found : Found
+  pub finds : Finds told found
+  pub is : P found.image
 
--- the nodes are all primitive nodes of the book, in order of name
-pub record ArePrimitive (b : BookState) (nodes : List Node) : Type 0 where
-  pub each : (n : Node) → Contains nodes n ↔ IsPrimitive (held_nodes b) n
-  pub rising : AllPairs IsNamedBefore nodes
+-- recovery finds an image that has P
+pub record IsNewOne (P : Image → Type 0) (found : Option Found) : Type 0 where
+  pub new : Found
+  pub same : found ≡ Some new
+  pub is : P new.image
 
--- the book's problem, run, incumbent, deliveries and gap under this sequence, with these nodes
-abbrev pub image_with : BookState → List Node → ℕ → Image
-image_with b nodes sequence = record {
-  run = b.run;
-  sequence = sequence;
-  problem = b.problem;
-  best = b.best;
-  deliveries = b.heard;
-  gap = b.settings.gap;
-  nodes = map saved_of nodes;
-}
+-- recovery finds what it could find before, the last acknowledged image, or one that has P
+pub record IsSafe (saver : Saver) (told : Option History) (P : Image → Type 0)
+    (zero one : List ℕ) : Type 0 where
+  pub found : Option Found
+  pub recovered : Recovered zero one found
+  pub is : (CouldFind told found ⊎ IsLast (last_slot saver) told found) ⊎ IsNewOne P found
 
--- the image of a book under this sequence: the names and boxes of its nodes are those of the
--- primitive nodes, in order of name
-pub record IsImageOf (b : BookState) (sequence : ℕ) (image : Image) : Type 0 where
-  pub nodes : List Node
-  pub primitive : ArePrimitive b nodes
-  pub is : image ≡ image_with b nodes sequence
+-- What the save of an image that has P may leave: that, or what a crash could leave before.
+abbrev pub IsSafeSave : Saver → Option History → (Image → Type 0) → List ℕ → List ℕ → Type 0
+IsSafeSave saver told P zero one = CouldLeave told zero one ⊎ IsSafe saver told P zero one
 
--- the boxes of the nodes that were saved
-abbrev pub boxes_in : List Interval → List SavedNode → List (List Interval)
-boxes_in root nodes = map (λ (node : SavedNode). area_by root node.changes) nodes
+-- what recovery finds in these two slots is Covered
+abbrev pub IsCoveredFind : List ℕ → List ℕ → Type 0
+IsCoveredFind zero one =
+    (found : Found) → Recovered zero one (Some found) → IsCovered found.image
 
--- the image is Covered: under its gap each point better than its incumbent lies in one of its nodes
-abbrev pub IsCovered : Image → Type 0
-IsCovered image = Covered image.problem image.gap image.best
-    (boxes_in (root_of image.problem) image.nodes)
+-- from the one time to the other, at each moment, all that recovery could find is Covered
+abbrev pub AllCovered : Option History → Option History → Type 0
+AllCovered old new = Leaves IsCoveredFind old new
 
--- the hand numbers are numbers of 64 bits
-abbrev pub HaveHands : List SavedNode → Type 0
-HaveHands nodes = (k : ℕ) → k < length nodes → (node_at nodes k).name.hand < 2 ^ 64
+-- the last acknowledged image is Covered, if there is one
+pub record LastIsCovered (saver : Saver) (told : Option History) : Type 0 where
+  pub found : Option Found
+  pub last : IsLast (last_slot saver) told found
+  pub covered : IfSome found (λ f. IsCovered f.image)
 
--- the numbers of the image are numbers of 64 bits
-pub record HasNumbers (image : Image) : Type 0 where
-  pub run : image.run < 2 ^ 64
-  pub sequence : image.sequence < 2 ^ 64
-  pub deliveries : image.deliveries < 2 ^ 64
-  pub count : length image.nodes < 2 ^ 64
+-- all that recovery could find now is Covered, and so is the last acknowledged image
+pub record IsCoveredNow (saver : Saver) (told : Option History) : Type 0 where
+  pub could : IfSome told (λ history. (zero one : List ℕ)
+      → MayLeaveBoth history.now zero one → IsCoveredFind zero one)
+  pub last : LastIsCovered saver told

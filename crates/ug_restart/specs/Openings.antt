@@ -6,8 +6,8 @@ use Rattle.ug_checkpoint.specs.declared.found.Found.{Found}
 use Rattle.ug_checkpoint.specs.declared.saver.Saver.{Saver}
 use Rattle.ug_checkpoint.specs.Recovery.{Recovered}
 use Rattle.ug_checkpoint.specs.Savers.{CouldFind, Finds, IsLast, IsWritten, last_slot, sequence_of}
-use Rattle.ug_slots.specs.Runs.{CouldLeave}
-use Rattle.ug_restart.specs.Moments.{IsCovered, IsImageOf}
+use Rattle.ug_checkpoint.specs.Runs.{CouldLeave}
+use Rattle.ug_snapshot.specs.Moments.{IsCovered, IsImageOf}
 use Rattle.ug_restart.specs.Starts.{IsFirstImage}
 use Rattle.ug_restart.specs.declared.fault.StartFault.{StartFault}
 use Rattle.ug_restart.specs.declared.fault.StartFault.TheVariants.{Memory, DiskFault, BadImage}

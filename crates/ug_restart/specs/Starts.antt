@@ -10,11 +10,11 @@ use Rattle.ug_rules.specs.State.{BookState}
 use Rattle.ug_book.specs.Starts.{started}
 use Rattle.ug_image.specs.declared.image.Image.{Image}
 use Rattle.ug_image.specs.declared.image.SavedNode.{SavedNode}
-use Rattle.ug_slots.specs.Runs.{CouldLeave}
+use Rattle.ug_checkpoint.specs.Runs.{CouldLeave}
 use Rattle.ug_checkpoint.specs.declared.found.Found.{Found}
 use Rattle.ug_checkpoint.specs.Recovery.{Recovered, HasFound, Loaded, IsFirstBadSlot}
 use Rattle.ug_checkpoint.specs.Savers.{CouldFind}
-use Rattle.ug_restart.specs.Moments.{IsImageOf}
+use Rattle.ug_snapshot.specs.Moments.{IsImageOf}
 use Rattle.ug_restart.specs.declared.fault.StartFault.{StartFault}
 use Rattle.ug_restart.specs.declared.fault.StartFault.TheVariants.{Memory, DiskFault, BadImage}
 use Rattle.ug_restart.specs.declared.fault.StartFault.TheVariants.{NoCheckpoint, OtherProblem}

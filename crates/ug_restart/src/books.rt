@@ -2,7 +2,7 @@ ghost use Rattle.std.specs.Prelude.{◌≡◌, [], ◌∷◌, Some, IfOk, IfErr,
 ghost use Rattle.std.specs.Option.{option_copied};
 ghost use Rattle.ug_image.specs.Images.{IsImage};
 ghost use Rattle.ug_rules.specs.Books.{AreSettings, IsSoundBook};
-ghost use Rattle.ug_restart.specs.Moments.{IsCovered};
+ghost use Rattle.ug_snapshot.specs.Moments.{IsCovered};
 ghost use Rattle.ug_restart.specs.Starts.{IsSpent, begun, boxes_saved, gone_on, next_run};
 ghost use Rattle.ug_restart.specs.Books.{HasNoFirst, HasNoNext, IsSaverOf, MayGoOn};
 

@@ -8,12 +8,12 @@ ghost use Rattle.ug_restart.specs.Openings.{IsAcknowledgedStart, IsNotSaved, IsS
 ghost use Rattle.ug_restart.specs.declared.fault.StartFault.TheVariants.{Spent, SmallerGap};
 
 use crate::fault::StartFault;
-use crate::moment::image_of;
 use std::alloc::Global;
 use ug_book::Book;
 use ug_checkpoint::{Found, Saver};
 use ug_disk::Disk;
 use ug_rules::Settings;
+use ug_snapshot::image_of;
 
 /// The most that a stored run or sequence may be, and 1.
 const SPENT: u64 = 1 << 62;

@@ -3,7 +3,7 @@ ghost use Rattle.ug_io.specs.Outside.{Rose};
 ghost use Rattle.ug_disk.specs.Crashes.{Leaves};
 ghost use Rattle.ug_rules.specs.Books.{AreSettings, IsSoundBook};
 ghost use Rattle.ug_checkpoint.specs.Savers.{IsKept};
-ghost use Rattle.ug_restart.specs.Moments.{IsCovered};
+ghost use Rattle.ug_snapshot.specs.Moments.{IsCovered};
 ghost use Rattle.ug_restart.specs.Starts.{IsBegun, IsGoneOn, IsNotBegun, IsNotGoneOn, IsSafeStart};
 ghost use Rattle.ug_restart.specs.Openings.{IsAcknowledgedStart, CoversWhatIsFound};
 

@@ -11,7 +11,7 @@ use Rattle.ug_pool.specs.declared.entry.Entry.{Entry}
 use Rattle.ug_pool.specs.Pools.{is_before, with_entry}
 use Rattle.ug_ranks.specs.declared.state.State.{State}
 use Rattle.ug_ranks.specs.States.{state_at}
-use Rattle.ug_primitive.specs.Primitive.{times}
+use Rattle.ug_nodes.specs.Primitive.{times}
 use Rattle.ug_rules.specs.State.{BookState, held_nodes, node_at, nodes_in, nodes_of, raced_node}
 use Rattle.ug_rules.proofs.WorkLemmas.{idled}
 

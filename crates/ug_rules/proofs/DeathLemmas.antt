@@ -18,7 +18,7 @@ use Rattle.ug_ranks.specs.declared.state.State.TheVariants.{Absent, Idle, Racing
 use Rattle.ug_ranks.specs.States.{state_at}
 use Rattle.ug_ledger.specs.Ledgers.{Current, IsCurrent}
 use Rattle.ug_ledger.specs.Names.{AreNamed}
-use Rattle.ug_primitive.specs.Primitive.{times}
+use Rattle.ug_nodes.specs.Primitive.{times}
 use Rattle.ug_ledger.specs.Moves.{HasTakenIn}
 use Rattle.ug_ledger.proofs.TakenInLemmas.{taken_in_ledger, taken_in_sound}
 use Rattle.ug_rules.specs.State.{BookState, current_for, current_of, held_nodes, ledger_of, node_at, nodes_in, nodes_of, raced_node}

@@ -12,7 +12,7 @@ use Rattle.ug_ranks.specs.declared.state.State.TheVariants.{Idle, Active}
 use Rattle.ug_ranks.specs.States.{state_at}
 use Rattle.ug_ledger.specs.Ledgers.{Current, IsCurrent}
 use Rattle.ug_ledger.specs.Names.{AreNamed}
-use Rattle.ug_primitive.specs.Primitive.{times}
+use Rattle.ug_nodes.specs.Primitive.{times}
 use Rattle.ug_ledger.specs.Moves.{HasDone}
 use Rattle.ug_ledger.specs.Dones.{IsSearched}
 use Rattle.ug_ledger.proofs.DoneLemmas.{done_ledger, done_sound}

@@ -20,7 +20,7 @@ use Rattle.ug_nodes.proofs.Areas.{area_by_width}
 use Rattle.ug_pool.specs.declared.entry.Entry.{Entry}
 use Rattle.ug_pool.specs.Pools.{IsInOrder}
 use Rattle.ug_pool.proofs.Rises.{filter_in_order}
-use Rattle.ug_primitive.specs.Primitive.{times}
+use Rattle.ug_nodes.specs.Primitive.{times}
 use Rattle.ug_ledger.specs.Moves.{HasDropped, HasNoBetter}
 use Rattle.ug_ledger.proofs.LessLemmas.{dropped_ledger, dropped_sound}
 use Rattle.ug_rules.specs.State.{BookState, cutoff_of_best, held_nodes, ledger_of, nodes_in}

@@ -10,7 +10,7 @@ use Rattle.ug_nodes.specs.declared.node.Node.{Node}
 use Rattle.ug_pool.specs.declared.entry.Entry.{Entry}
 use Rattle.ug_pool.specs.Pools.{IsInOrder}
 use Rattle.ug_pool.proofs.Places.{rest_in_order}
-use Rattle.ug_primitive.specs.Primitive.{times}
+use Rattle.ug_nodes.specs.Primitive.{times}
 use Rattle.ug_ranks.specs.declared.state.Work.{Work}
 use Rattle.ug_ranks.specs.declared.state.State.{State}
 use Rattle.ug_ranks.specs.declared.state.State.TheVariants.{Absent, Idle, Racing, Active, Dead}

@@ -17,7 +17,7 @@ use Rattle.ug_ranks.specs.declared.state.State.{State}
 use Rattle.ug_ranks.specs.declared.state.State.TheVariants.{Active}
 use Rattle.ug_ranks.specs.States.{state_at}
 use Rattle.ug_ranks.specs.Changes.{grown}
-use Rattle.ug_primitive.specs.Primitive.{times}
+use Rattle.ug_nodes.specs.Primitive.{times}
 use Rattle.ug_ledger.specs.Moves.{HasHanded, handed_node}
 use Rattle.ug_ledger.proofs.HandedWork.{handed_ledger, handed_sound}
 use Rattle.ug_rules.specs.State.{BookState, current_for, current_of, held_nodes, ledger_of, node_at, nodes_of}

@@ -9,7 +9,7 @@ use Rattle.ug_nodes.proofs.Orders.{ticket_either, ticket_not_itself}
 use Rattle.ug_pool.specs.declared.entry.Entry.{Entry}
 use Rattle.ug_frames.specs.declared.report.Report.{Report}
 use Rattle.ug_frames.specs.declared.report.Report.TheVariants.{Ready, Solution, Hand, State as Reported, Done, Ended}
-use Rattle.ug_incumbent.specs.Offers.{IsBetter}
+use Rattle.ug_problem.specs.Offers.{IsBetter}
 use Rattle.ug_ranks.specs.declared.state.Work.{Work}
 use Rattle.ug_ranks.specs.declared.state.State.{State}
 use Rattle.ug_ranks.specs.declared.state.State.TheVariants.{Absent, Idle, Racing, Active, Dead}

@@ -15,7 +15,7 @@ use Rattle.ug_ranks.specs.declared.state.State.{State}
 use Rattle.ug_ranks.specs.declared.state.State.TheVariants.{Idle, Racing, Dead}
 use Rattle.ug_ranks.specs.States.{state_at}
 use Rattle.ug_ledger.specs.Ledgers.{Current, IsCurrent}
-use Rattle.ug_primitive.specs.Primitive.{times}
+use Rattle.ug_nodes.specs.Primitive.{times}
 use Rattle.ug_ledger.specs.Moves.{HasDone, HasEnded}
 use Rattle.ug_ledger.specs.Dones.{IsSearched}
 use Rattle.ug_ledger.proofs.LessLemmas.{alone_keeps_work, ended_ledger, ended_sound}

@@ -5,8 +5,8 @@ use Rattle.std.specs.Prelude.{All, Contains, ◌&&◌, nat_eq, nat_lt, if◌then
 use Rattle.std.proofs.lemmas.Int.{ints}
 use Rattle.std.proofs.lemmas.Bool.{cases_Bool}
 use Rattle.std.proofs.lemmas.List.Elements.{All-contains_itself, All-tail, All-weaker}
-use Rattle.ug_collect.specs.declared.demand.Wanted.{Wanted}
-use Rattle.ug_collect.specs.declared.demand.Wanted.TheVariants.{Ask, Enough, Nothing}
+use Rattle.ug_rules.specs.declared.demand.Wanted.{Wanted}
+use Rattle.ug_rules.specs.declared.demand.Wanted.TheVariants.{Ask, Enough, Nothing}
 use Rattle.ug_pool.specs.declared.entry.Entry.{Entry}
 use Rattle.ug_nodes.specs.declared.node.Node.{Node}
 use Rattle.ug_ranks.specs.declared.state.Work.{Work}

@@ -3,8 +3,8 @@ use Rattle.std.proofs.Common.{inl, inr, ℕ, ℤ, List, [], ◌∷◌, ◌++◌,
 use Rattle.std.specs.Prelude.{Option, Some, None}
 use Rattle.std.proofs.lemmas.Bool.{cases_Bool, cases_lt}
 use Rattle.std.proofs.lemmas.List.{set_past}
-use Rattle.ug_collect.specs.declared.demand.Wanted.{Wanted}
-use Rattle.ug_collect.specs.declared.demand.Wanted.TheVariants.{Ask, Enough, Nothing}
+use Rattle.ug_rules.specs.declared.demand.Wanted.{Wanted}
+use Rattle.ug_rules.specs.declared.demand.Wanted.TheVariants.{Ask, Enough, Nothing}
 use Rattle.ug_ranks.specs.States.{state_at}
 use Rattle.ug_ranks.specs.Changes.{asked_for}
 use Rattle.ug_rules.specs.declared.told.Told.{Told}

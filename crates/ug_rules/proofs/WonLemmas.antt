@@ -8,8 +8,8 @@ use Rattle.ug_problem.specs.Instances.{root_of}
 use Rattle.ug_nodes.specs.declared.name.Name.{Name}
 use Rattle.ug_nodes.specs.declared.node.Node.{Node}
 use Rattle.ug_pool.specs.declared.entry.Entry.{Entry}
-use Rattle.ug_primitive.specs.Primitive.{times}
-use Rattle.ug_ramp.specs.declared.racer.Racer.{Racer as Reported}
+use Rattle.ug_nodes.specs.Primitive.{times}
+use Rattle.ug_rules.specs.declared.racer.Racer.{Racer as Reported}
 use Rattle.ug_ranks.specs.declared.state.Racer.{Racer}
 use Rattle.ug_ranks.specs.declared.state.Work.{Work}
 use Rattle.ug_ranks.specs.declared.state.State.{State}

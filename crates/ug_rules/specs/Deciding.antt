@@ -9,11 +9,11 @@ use Rattle.ug_branch.specs.declared.params.End.TheVariants.{Lowest, Highest}
 use Rattle.ug_branch.specs.declared.params.Half.TheVariants.{Lower, Upper}
 use Rattle.ug_pool.specs.declared.entry.Entry.{Entry}
 use Rattle.ug_pool.specs.Pools.{with_floor_below}
-use Rattle.ug_ramp.specs.declared.racer.Racer.{Racer}
-use Rattle.ug_ramp.specs.Racers.{IsWinner}
-use Rattle.ug_collect.specs.declared.demand.Wanted.{Wanted}
-use Rattle.ug_collect.specs.declared.demand.Wanted.TheVariants.{Ask, Enough, Nothing}
-use Rattle.ug_collect.specs.Wants.{IsWanted}
+use Rattle.ug_rules.specs.declared.racer.Racer.{Racer}
+use Rattle.ug_rules.specs.Winning.{IsWinner}
+use Rattle.ug_rules.specs.declared.demand.Wanted.{Wanted}
+use Rattle.ug_rules.specs.declared.demand.Wanted.TheVariants.{Ask, Enough, Nothing}
+use Rattle.ug_rules.specs.Wants.{IsWanted}
 use Rattle.ug_frames.specs.declared.order.Order.TheVariants.{Work as WorkOrder, Incumbent}
 use Rattle.ug_frames.specs.declared.order.Order.TheVariants.{CollectIn, CollectOut, Winner, Stop}
 use Rattle.ug_ranks.specs.declared.state.State.{State}

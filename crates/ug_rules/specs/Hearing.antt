@@ -11,7 +11,7 @@ use Rattle.ug_pool.specs.Pools.{with_entry}
 use Rattle.ug_frames.specs.declared.report.Report.{Report}
 use Rattle.ug_frames.specs.declared.report.Report.TheVariants.{Ready, Solution, Hand}
 use Rattle.ug_frames.specs.declared.report.Report.TheVariants.{State as Reported, Done, Ended}
-use Rattle.ug_incumbent.specs.Offers.{IsBetter, IsBroken, IsNotBetter}
+use Rattle.ug_problem.specs.Offers.{IsBetter, IsBroken, IsNotBetter}
 use Rattle.ug_ranks.specs.declared.state.Work.{Work}
 use Rattle.ug_ranks.specs.declared.state.State.{State}
 use Rattle.ug_ranks.specs.declared.state.State.TheVariants.{Absent, Idle, Racing, Active, Dead}

@@ -8,7 +8,7 @@ use Rattle.ug_nodes.specs.Changes.{IsRising}
 use Rattle.ug_frames.specs.declared.report.Report.{Report}
 use Rattle.ug_frames.specs.declared.report.Report.TheVariants.{Ready, Solution, Hand}
 use Rattle.ug_frames.specs.declared.report.Report.TheVariants.{State as Reported, Done, Ended}
-use Rattle.ug_incumbent.specs.Offers.{IsBetter}
+use Rattle.ug_problem.specs.Offers.{IsBetter}
 use Rattle.ug_ranks.specs.declared.state.Racer.{Racer}
 use Rattle.ug_ranks.specs.declared.state.Work.{Work}
 use Rattle.ug_ranks.specs.declared.state.State.TheVariants.{Racing, Active}

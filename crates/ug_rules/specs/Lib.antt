@@ -7,3 +7,7 @@ pub mod Books
 pub mod HearingLaws
 pub mod Room
 pub mod DecidingLaws
+pub mod Asking
+pub mod Firsts
+pub mod Wants
+pub mod Winning

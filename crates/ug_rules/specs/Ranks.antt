@@ -4,8 +4,8 @@ use Rattle.std.specs.Prelude.{◌++◌, Option, Some, None, map}
 use Rattle.ug_nodes.specs.declared.name.Ticket.{Ticket}
 use Rattle.ug_ranks.specs.declared.state.State.{State}
 use Rattle.ug_ranks.specs.declared.state.State.TheVariants.{Absent, Idle, Racing, Active, Dead}
-use Rattle.ug_collect.specs.declared.member.Member.{Member}
-use Rattle.ug_ramp.specs.declared.racer.Racer.{Racer}
+use Rattle.ug_rules.specs.declared.member.Member.{Member}
+use Rattle.ug_rules.specs.declared.racer.Racer.{Racer}
 
 abbrev pub is_absent : State → Bool
 is_absent Absent = true

@@ -1,16 +1,20 @@
 //! The rules of the coordinator: what each event does to what a book has, as functions on lists.
-//! It stands on ug_ledger and on the small crates whose calls a book makes.
+//! It stands on ug_ledger, and on the crates of what a book has: ug_ranks, ug_pool and ug_frames.
 //! `Settings`, `Heard` and `Told` are the book's plain types; specs/ has State (what a book has),
-//! Hearing (the answers), Deaths, Deciding, and Books (what every book is, and when it is sound).
-//! The laws: whatever is heard or decided, both stay; a book that holds nothing has a right answer.
+//! Hearing, Deaths, Winning (who wins a race), Asking, Deciding, and Books (what every book is, and
+//! when it is sound). The laws: both stay; a book that holds nothing has a right answer.
 #![tactic(auto)]
 
+mod demand;
 mod heard;
 mod laws_of_deciding;
 mod laws_of_hearing;
+mod member;
+mod racer;
 mod settings;
 mod told;
 
+pub use demand::Wanted;
 pub use heard::Heard;
 pub use laws_of_deciding::{
     answers_are_right, decided_is_settled, deciding_keeps_books, parts_keep_books,
@@ -19,5 +23,7 @@ pub use laws_of_hearing::{
     deaths_make_room, dones_keep_books, events_are_moves, events_keep_books, hearing_keeps_books,
     hearing_takes_no_room, other_events_are_none, stops_have_places,
 };
+pub use member::Member;
+pub use racer::Racer;
 pub use settings::Settings;
 pub use told::Told;

@@ -1,6 +1,8 @@
 use crate::expect::same;
+use crate::holding::{Coming, Hold, HoldingGate};
+use crate::yielding::YieldingGate;
 use std::thread::join;
-use ug_gate::{Coming, Gate, Hold, HoldingGate, Moment, OpenGate, YieldingGate};
+use ug_threads::{Gate, Moment, OpenGate};
 
 // When a rank has come to a moment so many times.
 fn coming(rank: u32, moment: Moment, number: u64) -> Coming {

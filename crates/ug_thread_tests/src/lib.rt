@@ -16,6 +16,8 @@ mod family;
 #[cfg(test)]
 mod gates;
 #[cfg(test)]
+mod holding;
+#[cfg(test)]
 mod problems;
 #[cfg(test)]
 mod solving;
@@ -23,3 +25,5 @@ mod solving;
 mod tests;
 #[cfg(test)]
 mod trying;
+#[cfg(test)]
+mod yielding;

@@ -2,7 +2,7 @@
 
 ghost use Rattle.std.specs.Prelude.{◌≡◌, ◌<◌, [], ◌∷◌, IfOk};
 ghost use Rattle.ug_rules.specs.Books.{AreSettings};
-ghost use Rattle.ug_desk.specs.Openings.{IsMade};
+ghost use Rattle.ug_snapshot.specs.Openings.{IsMade};
 
 use crate::answer::{Answer, answer_of};
 use crate::problems::{Small, made};
@@ -11,12 +11,11 @@ use std::sync::Wait;
 use std::thread::Threads;
 use ug_book::{Book, Boxes};
 use ug_disk::{MemoryDisk, Script};
-use ug_gate::{Gate, OpenGate};
 use ug_nodes::Changes;
 use ug_problem::Shared;
 use ug_restart::{Outcome, begin};
 use ug_rules::Settings;
-use ug_threads::solve_threads;
+use ug_threads::{Gate, OpenGate, solve_threads};
 
 /// One box in the pool is enough, each delivery is followed by a snapshot, and so many may be
 /// heard.
@@ -43,7 +42,7 @@ fn root(alloc: Global) -> Result<Boxes, AllocError>
     Ok(boxes)
 }
 
-#[tactic(auto, using(ug_desk::proofs::Beginnings::made_so))]
+#[tactic(auto, using(ug_snapshot::proofs::Beginnings::made_so))]
 fn book(alloc: Global, problem: Shared, settings: Settings) -> Result<Book, AllocError>
     requires { AreSettings settings }
     ensures { IfOk result IsMade }

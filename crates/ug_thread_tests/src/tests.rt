@@ -3,16 +3,18 @@ use crate::cases::{CHOICE, KNAPSACK, ODD, RAMP, SQUARE};
 use crate::expect::{holds, holds_at, same};
 use crate::family::Member;
 use crate::gates::each_waits;
+use crate::holding::HoldingGate;
 use crate::problems::Small;
 use crate::solving::{settings, solved, solved_on, solved_without, sound_disk};
 use crate::trying::least_by_trying;
+use crate::yielding::YieldingGate;
 use std::alloc::Global;
 use std::sync::Wait;
 use std::thread::Threads;
 use ug_checkpoint::load;
 use ug_disk::MemoryDisk;
-use ug_gate::{HoldingGate, OpenGate, YieldingGate};
 use ug_restart::{End, Outcome};
+use ug_threads::OpenGate;
 
 // When rank 0 asks again, it has the root.
 #[test]

@@ -8,14 +8,14 @@ use Rattle.ug_rules.specs.State.{BookState}
 use Rattle.ug_rules.specs.Books.{IsSoundBook}
 use Rattle.ug_restart.specs.declared.outcome.End.{End}
 use Rattle.ug_restart.specs.declared.outcome.End.TheVariants.{Answered, Limited, Stranded, Memory}
-use Rattle.ug_desk.specs.declared.opening.Opening.{Opening}
-use Rattle.ug_desk.specs.Openings.{IsCoveredOpening, opening_book}
-use Rattle.ug_saves.specs.declared.saves.Saves.{Saves}
-use Rattle.ug_saves.specs.Saves.{IsOfBook, NoneIsCounted, begun, missed_of, opening_of, saver_of, unsaved_of}
-use Rattle.ug_saves.specs.Moments.{AllCovered, FindsOne, IsCoveredFind, IsCoveredNow}
-use Rattle.ug_saves.specs.Going.{GoesOn, Time, time}
-use Rattle.ug_saves.proofs.Covering.{covered_each}
-use Rattle.ug_saves.proofs.Going.{goes_on, goes_where}
+use Rattle.ug_snapshot.specs.declared.opening.Opening.{Opening}
+use Rattle.ug_snapshot.specs.Openings.{IsCoveredOpening, opening_book}
+use Rattle.ug_restart.specs.declared.saves.Saves.{Saves}
+use Rattle.ug_restart.specs.Saves.{IsOfBook, NoneIsCounted, begun, missed_of, opening_of, saver_of, unsaved_of}
+use Rattle.ug_restart.specs.Moments.{AllCovered, FindsOne, IsCoveredFind, IsCoveredNow}
+use Rattle.ug_restart.specs.Going.{GoesOn, Time, time}
+use Rattle.ug_restart.proofs.Covering.{covered_each}
+use Rattle.ug_restart.proofs.Going.{goes_on, goes_where}
 use Rattle.ug_threads.specs.Ends.{IfBook}
 use Rattle.ug_threads.proofs.Endings.{opening_covered}
 

@@ -12,8 +12,8 @@ use Rattle.ug_rules.specs.State.{nodes_in}
 use Rattle.ug_rules.specs.Books.{HasItsFloor, IsBook}
 use Rattle.ug_rules.proofs.PoolLemmas.{entry_kept, entry_new}
 use Rattle.ug_book.specs.Starts.{start_entries, start_entry, with_entries}
-use Rattle.ug_desk.specs.declared.opening.Opening.{Opening}
-use Rattle.ug_desk.specs.Openings.{opening_book}
+use Rattle.ug_snapshot.specs.declared.opening.Opening.{Opening}
+use Rattle.ug_snapshot.specs.Openings.{opening_book}
 
 kept_in : (es pool : List Entry) (n : Node) → Contains (nodes_in pool) n
     → Contains (nodes_in (with_entries es pool)) n

@@ -1,4 +1,3 @@
 pub mod Ends
-pub mod Workers
 pub mod Listening
 pub mod Outcomes

@@ -5,8 +5,8 @@ use Rattle.ug_rules.specs.State.{BookState, held_nodes}
 use Rattle.ug_rules.specs.Books.{IsSoundBook}
 use Rattle.ug_restart.specs.declared.outcome.End.{End}
 use Rattle.ug_restart.specs.declared.outcome.Outcome.{Outcome}
-use Rattle.ug_saves.specs.Saves.{IsOfBook}
-use Rattle.ug_saves.specs.Moments.{FindsOne}
+use Rattle.ug_restart.specs.Saves.{IsOfBook}
+use Rattle.ug_restart.specs.Moments.{FindsOne}
 use Rattle.ug_threads.specs.Ends.{IfAnswered, IfBook, IfLimited, IsLimited, IsReplayOf, IsRight}
 use Rattle.ug_threads.specs.Ends.{IsStranded}
 

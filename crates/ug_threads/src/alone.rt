@@ -2,19 +2,19 @@
 
 ghost use Rattle.std.specs.Prelude.{◌≡◌, ◌<◌, ◌↔◌, [], length, IfOk, IfSome, IsTrue};
 ghost use Rattle.ug_rules.specs.Books.{IsBook};
-ghost use Rattle.ug_desk.specs.Openings.{opening_book};
+ghost use Rattle.ug_snapshot.specs.Openings.{opening_book};
 ghost use Rattle.ug_threads.specs.Ends.{IsEnding};
 
 use crate::ending::of_opening;
-use crate::seat::Seat;
-use crate::worker::work;
 use std::alloc::{AllocError, Global};
 use std::sync::Wait;
 use ug_base::Task;
 use ug_book::{Book, Unfinished};
-use ug_desk::{Locked, Opening, Reply, Took, Untaken, copy_opening};
+use ug_desk::Locked;
 use ug_rows::{IntBox, Point};
 use ug_rules::Heard;
+use ug_snapshot::{Opening, copy_opening};
+use ug_worker::{Reply, Seat, Took, Untaken, work};
 
 /// The ending book of a run that begins with the opening, in which rank 0 alone works.
 pub fn alone<R: Wait>(rt: &R, alloc: Global, opening: &Opening) -> Option<Book>

@@ -1,13 +1,14 @@
 //! The threads of a solve, one for each pass.
 
 use crate::desk_seat::DeskSeat;
-use crate::worker::work;
+use crate::gate::Gate;
 use crossbeam_channel::Sender;
 use std::alloc::{AllocError, Global};
 use std::sync::{Mutex, Wait};
 use std::thread::{Scope, Threads};
-use ug_desk::{Desk, Pass, Snapshot};
-use ug_gate::Gate;
+use ug_desk::{Desk, Pass};
+use ug_snapshot::Snapshot;
+use ug_worker::work;
 
 /// The passes, each where its thread finds it.
 pub fn places(alloc: Global, passes: Vec<Pass>) -> Result<Vec<Mutex<Pass>>, AllocError> {

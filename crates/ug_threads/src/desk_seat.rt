@@ -1,16 +1,17 @@
 ghost use Rattle.std.specs.Prelude.{◌≡◌, ◌<◌, []};
 
-use crate::seat::Seat;
+use crate::gate::{Gate, Moment, Standing};
 use crate::standing::standing_of;
 use crossbeam_channel::Sender;
 use std::alloc::Global;
 use std::sync::Wait;
 use ug_base::Task;
 use ug_book::Unfinished;
-use ug_desk::{Desk, Pass, Reply, Snapshot, Took, Untaken};
-use ug_gate::{Gate, Moment, Standing};
+use ug_desk::{Desk, Pass};
 use ug_rows::{IntBox, Point};
 use ug_rules::Heard;
+use ug_snapshot::Snapshot;
+use ug_worker::{Reply, Seat, Took, Untaken};
 
 /// A seat at a desk that threads share, with what a worker brings along.
 #[derive(Drop)]

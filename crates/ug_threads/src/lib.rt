@@ -1,20 +1,20 @@
 //! A solve by threads: a worker for each rank, which share one desk, and the caller, who saves.
-//! It stands on ug_desk for the shared book, on ug_base for tasks, on ug_saves for what is saved.
-//! `solve_threads` answers with the book of a history from the given one: without a node, and then
-//! its answer is right where that was sound, or with as many deliveries as may be. With a saver all
-//! that recovery could find stays Covered at each moment, and at the end it finds the ending book.
+//! It stands on ug_desk for the shared book, on ug_worker for what a thread does, and on ug_restart
+//! for what is saved. `solve_threads` answers with the book of a history from the given one: without
+//! a node, and then its answer is right where that was sound, or with as many deliveries as may be.
+//! With a saver what recovery could find stays Covered at each moment, and it finds the ending book.
 #![tactic(auto)]
 
 mod alone;
 mod crew;
 mod desk_seat;
 mod ending;
+mod gate;
 mod listener;
 mod saving;
-mod seat;
 mod solve;
 mod standing;
 mod together;
-mod worker;
 
+pub use gate::{Gate, Moment, OpenGate, Standing};
 pub use solve::solve_threads;

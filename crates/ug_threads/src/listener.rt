@@ -1,16 +1,16 @@
 ghost use Rattle.std.specs.Prelude.{◌≡◌};
 ghost use Rattle.ug_checkpoint.specs.Savers.{IsKept};
-ghost use Rattle.ug_desk.specs.Openings.{IsCoveredOpening};
-ghost use Rattle.ug_saves.specs.Saves.{opening_of, saver_of};
-ghost use Rattle.ug_saves.specs.Going.{GoesOn, time};
+ghost use Rattle.ug_snapshot.specs.Openings.{IsCoveredOpening};
+ghost use Rattle.ug_restart.specs.Saves.{opening_of, saver_of};
+ghost use Rattle.ug_restart.specs.Going.{GoesOn, time};
 ghost use Rattle.ug_threads.specs.Listening.{nothing_heard, one_after_another, unheard, heard_both};
 
 use crossbeam_channel::Receiver;
 use std::alloc::Global;
 use std::sync::Wait;
-use ug_desk::Snapshot;
 use ug_disk::Disk;
-use ug_saves::Saves;
+use ug_restart::Saves;
+use ug_snapshot::Snapshot;
 
 /// Who takes the snapshots that workers send.
 pub trait Listener {

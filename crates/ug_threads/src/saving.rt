@@ -3,15 +3,14 @@
 ghost use Rattle.std.specs.Prelude.{◌≡◌};
 ghost use Rattle.ug_checkpoint.specs.Savers.{IsKept};
 ghost use Rattle.ug_rules.specs.Books.{IsSoundBook};
-ghost use Rattle.ug_saves.specs.Saves.{IsOfBook, NoneIsCounted, saver_of};
-ghost use Rattle.ug_saves.specs.Moments.{FindsOne};
-ghost use Rattle.ug_saves.specs.Going.{GoesOn, time};
+ghost use Rattle.ug_restart.specs.Saves.{IsOfBook, NoneIsCounted, saver_of};
+ghost use Rattle.ug_restart.specs.Moments.{FindsOne};
+ghost use Rattle.ug_restart.specs.Going.{GoesOn, time};
 ghost use Rattle.ug_threads.specs.Ends.{IfBook};
 
 use std::alloc::Global;
 use ug_disk::Disk;
-use ug_restart::End;
-use ug_saves::Saves;
+use ug_restart::{End, Saves};
 
 /// Saves the ending book, if there is one.
 pub fn save_end<D: Disk>(alloc: Global, disk: &mut D, saves: &mut Saves, end: &End)

@@ -3,14 +3,15 @@ ghost use Rattle.ug_io.specs.Outside.{Rose};
 ghost use Rattle.ug_checkpoint.specs.Savers.{IsKept};
 ghost use Rattle.ug_rules.specs.State.{BookState, held_nodes};
 ghost use Rattle.ug_rules.specs.Books.{IsSoundBook, IsBook};
-ghost use Rattle.ug_desk.specs.Openings.{IsMade, opening_book};
-ghost use Rattle.ug_saves.specs.Saves.{missed_of, opening_of, saver_of, unsaved_of};
-ghost use Rattle.ug_saves.specs.Moments.{AllCovered, IsCoveredNow};
-ghost use Rattle.ug_saves.specs.Going.{GoesOn, time};
+ghost use Rattle.ug_snapshot.specs.Openings.{IsMade, opening_book};
+ghost use Rattle.ug_restart.specs.Saves.{missed_of, opening_of, saver_of, unsaved_of};
+ghost use Rattle.ug_restart.specs.Moments.{AllCovered, IsCoveredNow};
+ghost use Rattle.ug_restart.specs.Going.{GoesOn, time};
 ghost use Rattle.ug_threads.specs.Ends.{IfAnswered, IfBook, IfLimited, IsLimited, IsReplayOf, IsRight, IsStranded};
 ghost use Rattle.ug_threads.specs.Outcomes.{HasEnded, IsSavedOrCounted, IsUntouched};
 
 use crate::ending::end_of;
+use crate::gate::Gate;
 use crate::listener::{Saving, Silent};
 use crate::saving::save_end;
 use crate::standing::tell_begin;
@@ -20,11 +21,9 @@ use std::sync::Wait;
 use std::thread::Threads;
 use ug_book::Book;
 use ug_checkpoint::Saver;
-use ug_desk::{Opening, copy_opening, opening_of};
 use ug_disk::Disk;
-use ug_gate::Gate;
-use ug_restart::{End, Outcome};
-use ug_saves::Saves;
+use ug_restart::{End, Outcome, Saves};
+use ug_snapshot::{Opening, copy_opening, opening_of};
 
 /// Solves by as many threads as the book has ranks, all of which have ended when it returns. The
 /// book is as it was made. With a saver the snapshots that the workers send are saved, and at last

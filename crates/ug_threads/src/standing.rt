@@ -1,6 +1,6 @@
+use crate::gate::{Gate, Standing};
 use std::alloc::Global;
 use ug_book::Book;
-use ug_gate::{Gate, Standing};
 use ug_image::Image;
 use ug_problem::Problem;
 use ug_rows::Point;

@@ -2,12 +2,13 @@
 
 ghost use Rattle.std.specs.Prelude.{◌≡◌, IfSome};
 ghost use Rattle.ug_rules.specs.Books.{IsBook};
-ghost use Rattle.ug_desk.specs.Openings.{IsMade, opening_book};
+ghost use Rattle.ug_snapshot.specs.Openings.{IsMade, opening_book};
 ghost use Rattle.ug_threads.specs.Ends.{IsEnding};
 
 use crate::alone::alone;
 use crate::crew::{passes, places, start};
 use crate::ending::of_opening;
+use crate::gate::Gate;
 use crate::listener::{Listener, listen};
 use crossbeam_channel::{Receiver, Sender, bounded};
 use std::alloc::{AllocError, Global};
@@ -15,8 +16,8 @@ use std::sync::{Mutex, Wait};
 use std::thread;
 use std::thread::Threads;
 use ug_book::Book;
-use ug_desk::{Desk, Opening, Pass, Snapshot};
-use ug_gate::Gate;
+use ug_desk::{Desk, Pass};
+use ug_snapshot::{Opening, Snapshot};
 
 /// How many snapshots may wait to be saved. Where so many do, no other is made.
 const WAITING: usize = 2;

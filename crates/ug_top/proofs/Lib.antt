@@ -1,2 +1,10 @@
 mod Moved
 mod Runs
+mod Accounts
+pub mod Books
+pub mod Covering
+mod Gathered
+mod Scales
+mod Stored
+mod Tellings
+mod Texts

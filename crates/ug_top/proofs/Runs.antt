@@ -13,15 +13,15 @@ use Rattle.ug_cli.specs.declared.plan.Gen.{Gen}
 use Rattle.ug_cli.specs.declared.plan.Plan.{Plan}
 use Rattle.ug_cli.specs.declared.plan.Plan.TheVariants as plans
 use Rattle.ug_cli.specs.declared.plan.Settings.{Settings as Asked}
-use Rattle.ug_commands.specs.Outside.{Outside}
-use Rattle.ug_commands.specs.Ends.{AreFileLines, AreLinesOf, AreSolveLines, IsPlannedOf, status_of}
-use Rattle.ug_commands.specs.Lines.{States}
-use Rattle.ug_commands.specs.Plans.{IsPlanned, IsPlannedGen}
-use Rattle.ug_commands.specs.Unread.{HasStopped}
-use Rattle.ug_commands.specs.declared.ended.Ended.{Ended}
-use Rattle.ug_commands.specs.declared.ended.Ended.TheVariants as ends
-use Rattle.ug_commands.specs.declared.status.Status.{Status}
-use Rattle.ug_commands.specs.declared.status.Status.TheVariants as statuses
+use Rattle.ug_top.specs.Outside.{Outside}
+use Rattle.ug_top.specs.Ends.{AreFileLines, AreLinesOf, AreSolveLines, IsPlannedOf, status_of}
+use Rattle.ug_top.specs.Lines.{States}
+use Rattle.ug_top.specs.Plans.{IsPlanned, IsPlannedGen}
+use Rattle.ug_top.specs.Unread.{HasStopped}
+use Rattle.ug_top.specs.declared.ended.Ended.{Ended}
+use Rattle.ug_top.specs.declared.ended.Ended.TheVariants as ends
+use Rattle.ug_top.specs.declared.status.Status.{Status}
+use Rattle.ug_top.specs.declared.status.Status.TheVariants as statuses
 use Rattle.ug_top.specs.Ran.{IsComplete, IsCompleteOf, IsReadTo, IsToldOf}
 
 abbrev OneOutcome : Type 0

@@ -1,1 +1,10 @@
 pub mod Ran
+pub mod Ends
+pub mod Enough
+pub mod Lines
+pub mod Outcomes
+pub mod Outside
+pub mod Plans
+pub mod Runs
+pub mod Scaled
+pub mod Unread

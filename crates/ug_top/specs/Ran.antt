@@ -9,14 +9,14 @@ use Rattle.ug_print.specs.Lines.{memory_line}
 use Rattle.ug_cli.specs.Taken.{TakenWords}
 use Rattle.ug_cli.specs.declared.plan.Plan.{Plan}
 use Rattle.ug_cli.specs.declared.plan.Plan.TheVariants as plans
-use Rattle.ug_commands.specs.Outside.{Outside}
-use Rattle.ug_commands.specs.Enough.{StopsAtEnd}
-use Rattle.ug_commands.specs.Ends.{AreLinesOf, IsAccounted, IsDiskless, IsLeftAlone, status_of}
-use Rattle.ug_commands.specs.Ends.{text_of}
-use Rattle.ug_commands.specs.declared.ended.Ended.{Ended}
-use Rattle.ug_commands.specs.declared.status.Status.{Status}
-use Rattle.ug_commands.specs.declared.status.Status.TheVariants.{Usage, Refused, ReadFault}
-use Rattle.ug_commands.specs.declared.status.Status.TheVariants.{WriteFault, Memory}
+use Rattle.ug_top.specs.Outside.{Outside}
+use Rattle.ug_top.specs.Enough.{StopsAtEnd}
+use Rattle.ug_top.specs.Ends.{AreLinesOf, IsAccounted, IsDiskless, IsLeftAlone, status_of}
+use Rattle.ug_top.specs.Ends.{text_of}
+use Rattle.ug_top.specs.declared.ended.Ended.{Ended}
+use Rattle.ug_top.specs.declared.status.Status.{Status}
+use Rattle.ug_top.specs.declared.status.Status.TheVariants.{Usage, Refused, ReadFault}
+use Rattle.ug_top.specs.declared.status.Status.TheVariants.{WriteFault, Memory}
 
 -- the first fault of the text was told, unless the source failed or memory was wanting
 abbrev pub IsToldOf : Status → Type 0

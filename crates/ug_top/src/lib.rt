@@ -1,11 +1,23 @@
 //! The top call: words in, lines and a status out.
-//! It stands on ug_cli for what words ask for, and on ug_commands for what each plan comes to.
-//! `run` does all that the program does: it reads the words, does what they ask for, and writes the
-//! lines. Its contract says what was written for each status, and when each comes.
+//! It stands on ug_cli for what words ask for, ug_mps for texts, ug_threads for runs, ug_print for
+//! lines. `run` does all that the program does: it reads the words, does what they ask for by
+//! `run_plan`, and writes the lines. Its contract says what was written for each status, and when
+//! each comes. A run is new or goes on; with a disk recovery's images stay Covered all along it.
 #![tactic(auto)]
 
+mod command;
+mod ended;
+mod gather;
+mod made;
+mod one_run;
+mod outcome;
+mod reading;
 mod running;
+mod scaled;
+mod settings;
+mod show;
+mod status;
 mod write;
 
 pub use running::run;
-pub use ug_commands::Status;
+pub use status::Status;

@@ -1,18 +1,20 @@
 ghost use Rattle.ug_cli.specs.Taken.{texts};
-ghost use Rattle.ug_commands.specs.Outside.{outside};
-ghost use Rattle.ug_commands.specs.Ends.{status_of, text_of};
+ghost use Rattle.ug_top.specs.Outside.{outside};
+ghost use Rattle.ug_top.specs.Ends.{status_of, text_of};
 ghost use Rattle.ug_top.specs.Ran.{HasRun, HasTold, IsDue, due_status, due_text};
 
+use crate::command::run_plan;
+use crate::ended::Ended;
+use crate::status::Status;
 use crate::write::write_all;
 use std::alloc::Global;
 use std::sync::Wait;
 use std::thread::Threads;
 use ug_cli::{Usage, crossed_is_not_taken, read_words};
-use ug_commands::{Ended, Status, run_plan};
 use ug_disk::Disk;
-use ug_gate::Gate;
 use ug_io::{Failed, Sink, Source};
 use ug_mps::one_outcome;
+use ug_threads::Gate;
 
 /// Does all that the program does: reads the words, which are those behind the program's name, does
 /// what they ask for, and writes the lines of it. `Memory` alone has no cause: it may come in place

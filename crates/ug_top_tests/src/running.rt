@@ -4,8 +4,8 @@ use std::alloc::{AllocError, Global};
 use std::sync::Wait;
 use std::thread::Threads;
 use ug_disk::{Disk, MemoryDisk};
-use ug_gate::OpenGate;
 use ug_io::{MemorySink, MemorySource, Script, Source};
+use ug_threads::OpenGate;
 use ug_top::run;
 
 /// The words of a line, which blanks part; `''` is an empty word.

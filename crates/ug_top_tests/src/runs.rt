@@ -6,8 +6,8 @@ use std::alloc::{AllocError, Global};
 use std::process::Abort;
 use std::sync::Wait;
 use std::thread::Threads;
-use ug_gate::OpenGate;
 use ug_io::{MemorySink, MemorySource, Script, ScriptedSource};
+use ug_threads::OpenGate;
 use ug_top::run;
 
 const EMPTY: &str = "ROWS\n N Z\nENDATA\n";

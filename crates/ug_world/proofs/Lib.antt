@@ -5,3 +5,6 @@ pub mod Decided
 pub mod Trusted
 pub mod Courses
 pub mod Plays
+pub mod All
+pub mod DiskLaws
+pub mod DiskPlays

@@ -3,7 +3,7 @@ use Rattle.std.specs.Prelude.{◌≡◌, List, length, All, Contains}
 use Rattle.ug_problem.specs.Instances.{root_of}
 use Rattle.ug_problem.specs.Better.{Covered}
 use Rattle.ug_nodes.specs.declared.node.Node.{Node}
-use Rattle.ug_primitive.specs.Primitive.{IsPrimitive}
+use Rattle.ug_nodes.specs.Primitive.{IsPrimitive}
 use Rattle.ug_ledger.specs.Ledgers.{boxes_of}
 use Rattle.ug_frames.specs.declared.report.Report.{Report}
 use Rattle.ug_rules.specs.State.{BookState, held_nodes}

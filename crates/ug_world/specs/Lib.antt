@@ -4,3 +4,9 @@ pub mod Honest
 pub mod Laws
 pub mod Plays
 pub mod Halts
+pub mod DiskEvents
+pub mod DiskHalts
+pub mod DiskLaws
+pub mod DiskPlays
+pub mod Machines
+pub mod Saves

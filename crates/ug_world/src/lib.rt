@@ -1,16 +1,28 @@
-//! Schedules: lists of what may happen between a coordinator and its solvers, played on a book.
-//! It stands on ug_book, and on ug_rules and ug_ledger for the rules and for what is sound.
-//! `play` makes the calls of the book, and nothing else; its contract says that the book and the
-//! replies are those of the rules, event by event. The law: whatever happens, in whatever order, a
-//! sound book stays sound at every moment, as long as the solvers are honest.
+//! Schedules: lists of what may happen between a coordinator, its solvers and a disk, played.
+//! It stands on ug_book for `play`, and on ug_restart for `play_disk`, with saves, crashes and
+//! restarts on a disk in memory: they make the calls that the events are, and say what each does.
+//! The laws: whatever happens, in whatever order, no better point is lost, by the book nor by what
+//! recovery finds, as long as the solvers are honest.
 #![tactic(auto)]
 
+mod disk_event;
+mod disk_law;
+mod disk_schedule;
 mod event;
+mod halt;
 mod law;
+mod machine;
 mod playing;
+mod ranks;
+mod saving;
 mod schedule;
+mod starting;
 
+pub use disk_event::DiskEvent;
+pub use disk_law::crashes_lose_nothing;
+pub use disk_schedule::{PlayDiskFault, PlayedDisk, play_disk};
 pub use event::Event;
+pub use halt::Halted;
 pub use law::honest_solvers_lose_nothing;
 pub use playing::{Halt, Playing};
 pub use schedule::{PlayFault, Played, Replies, play};

@@ -7,7 +7,7 @@ use Rattle.ug_problem.specs.Instances.{root_of}
 use Rattle.ug_problem.proofs.Floors.{floor_within}
 use Rattle.ug_pool.specs.Pools.{Pooled}
 use Rattle.ug_ranks.specs.declared.state.State.{State}
-use Rattle.ug_deaths.proofs.Works.{few_work}
+use Rattle.ug_stock.proofs.Works.{few_work}
 use Rattle.ug_book.proofs.Rooms.{few_raced, places_kept}
 use Rattle.ug_book.proofs.hand.take_hand.Goals as goal
 

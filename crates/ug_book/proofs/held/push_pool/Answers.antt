@@ -4,7 +4,7 @@ use Rattle.std.specs.Option.{option_copied}
 use Rattle.std.proofs.lemmas.List.{append_assoc}
 use Rattle.ug_nodes.specs.declared.node.Node.{Node}
 use Rattle.ug_pool.specs.declared.entry.Entry.{Entry}
-use Rattle.ug_primitive.specs.Primitive.{lent}
+use Rattle.ug_nodes.specs.Primitive.{lent}
 use Rattle.ug_rules.specs.State.{nodes_in, raced_node}
 use Rattle.ug_book.proofs.Nodes.{one_entry_more}
 use Rattle.ug_book.proofs.held.push_pool.Goals as goal

@@ -1,5 +1,5 @@
 use Rattle.std.proofs.Common.{◌≡◌, ◌++◌, take}
-use Rattle.ug_primitive.specs.Primitive.{lent}
+use Rattle.ug_nodes.specs.Primitive.{lent}
 use Rattle.ug_rules.specs.State.{nodes_in}
 use Rattle.ug_book.proofs.held.push_pool.Given as goal
 

@@ -1,7 +1,7 @@
 use Rattle.std.proofs.Common.{◌≡◌, ℕ, ◌<◌, ◌≤◌, List, refl, sym, ap, ◌∙◌, arith}
 use Rattle.std.specs.Prelude.{ℤ, Option}
 use Rattle.ug_pool.specs.declared.entry.Entry.{Entry}
-use Rattle.ug_orders.specs.Queues.{Queued}
+use Rattle.ug_stock.specs.Queues.{Queued}
 use Rattle.ug_rules.specs.declared.settings.Settings.{Settings}
 use Rattle.ug_rules.specs.State.{BookState}
 use Rattle.ug_rules.specs.Deciding.{announced_as, below_cutoff, dropped, announced, IsRaceEnded}

@@ -2,7 +2,7 @@ use Rattle.std.proofs.Common.{◌≡◌, ℕ, ◌+◌, List, refl, inr, subst, r
 use Rattle.ug_image.specs.declared.error.ImageError.{ImageError}
 use Rattle.ug_image.specs.declared.error.ImageError.TheVariants.{BadAt}
 use Rattle.ug_image.specs.Answers.{IsRefused}
-use Rattle.ug_slots.specs.Gates.{IsOpen}
+use Rattle.ug_checkpoint.specs.Gates.{IsOpen}
 use Rattle.ug_checkpoint.specs.Bodies.{IsBad, IsWhole, stored}
 use Rattle.ug_checkpoint.proofs.stored.image_in.Goals as goal
 

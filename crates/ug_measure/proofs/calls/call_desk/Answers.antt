@@ -1,5 +1,5 @@
 use Rattle.std.proofs.Common.{[], ◌∷◌}
-use Rattle.ug_desk.proofs.Beginnings.{made_so}
+use Rattle.ug_snapshot.proofs.Beginnings.{made_so}
 use Rattle.ug_measure.proofs.calls.call_desk.Goals as goal
 
 pub new-requires : goal.new-requires

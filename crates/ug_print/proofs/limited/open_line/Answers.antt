@@ -4,7 +4,7 @@ use Rattle.std.proofs.lemmas.List.{length-map}
 use Rattle.std.proofs.lemmas.Result.{IfOk-weaker}
 use Rattle.ug_problem.specs.Instances.{Instance}
 use Rattle.ug_nodes.specs.declared.node.Node.{Node}
-use Rattle.ug_primitive.specs.Primitive.{lent}
+use Rattle.ug_nodes.specs.Primitive.{lent}
 use Rattle.ug_print.specs.Limited.{open_line, IsBestWord}
 use Rattle.ug_print.proofs.limited.open_line.Goals as goal
 

@@ -1,5 +1,5 @@
 use Rattle.std.proofs.Common.{[], ◌∷◌}
-use Rattle.ug_desk.proofs.Beginnings.{made_so}
+use Rattle.ug_snapshot.proofs.Beginnings.{made_so}
 use Rattle.ug_thread_tests.proofs.solving.solved_on.Goals as goal
 
 -- the book with which a run begins is as it was made

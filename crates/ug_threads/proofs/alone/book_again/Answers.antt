@@ -2,7 +2,7 @@ use Rattle.std.proofs.Common.{sym, subst}
 use Rattle.std.specs.Prelude.{All}
 use Rattle.ug_problem.specs.Instances.{root_of}
 use Rattle.ug_nodes.specs.Changes.{AreChangesOf}
-use Rattle.ug_desk.specs.declared.opening.Opening.{Opening}
+use Rattle.ug_snapshot.specs.declared.opening.Opening.{Opening}
 use Rattle.ug_threads.proofs.Starting.{opening_boxes}
 use Rattle.ug_threads.proofs.alone.book_again.Goals as goal
 

@@ -1,8 +1,8 @@
 use Rattle.std.proofs.Common.{◌≡◌, ◌⊎◌, ℕ, ◌+◌, ◌≤◌, sym, subst}
 use Rattle.ug_restart.specs.declared.outcome.End.{End}
-use Rattle.ug_saves.specs.Saves.{IsOfBook, NoneIsCounted, missed_of, unsaved_of}
-use Rattle.ug_saves.specs.Moments.{FindsOne}
-use Rattle.ug_saves.specs.Going.{GoesOn, Time}
+use Rattle.ug_restart.specs.Saves.{IsOfBook, NoneIsCounted, missed_of, unsaved_of}
+use Rattle.ug_restart.specs.Moments.{FindsOne}
+use Rattle.ug_restart.specs.Going.{GoesOn, Time}
 use Rattle.ug_threads.specs.Ends.{IfBook}
 use Rattle.ug_threads.proofs.Endings.{has_ended}
 use Rattle.ug_threads.proofs.Outcomes.{both_go, saved_or_counted}

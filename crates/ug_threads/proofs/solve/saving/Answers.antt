@@ -1,6 +1,6 @@
 use Rattle.std.proofs.Common.{◌≡◌, Option, sym, subst, rules}
 use Rattle.ug_disk.specs.Histories.{History}
-use Rattle.ug_saves.specs.Moments.{AllCovered}
+use Rattle.ug_restart.specs.Moments.{AllCovered}
 use Rattle.ug_threads.proofs.Outcomes.{time_covered}
 use Rattle.ug_threads.proofs.solve.saving.Goals as goal
 

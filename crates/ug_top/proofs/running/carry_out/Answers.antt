@@ -1,6 +1,6 @@
 use Rattle.std.proofs.Common.{inl}
-use Rattle.ug_commands.specs.Outside.{outside}
-use Rattle.ug_commands.specs.Ends.{status_of, text_of}
+use Rattle.ug_top.specs.Outside.{outside}
+use Rattle.ug_top.specs.Ends.{status_of, text_of}
 use Rattle.ug_top.proofs.Runs.{lines_complete, read_to, taken_planned}
 use Rattle.ug_top.proofs.running.carry_out.Goals as goal
 

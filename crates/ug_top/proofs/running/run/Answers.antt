@@ -1,4 +1,4 @@
-use Rattle.ug_commands.specs.Ends.{status_of, text_of}
+use Rattle.ug_top.specs.Ends.{status_of, text_of}
 use Rattle.ug_top.proofs.running.run.Goals as goal
 
 pub returns : goal.returns

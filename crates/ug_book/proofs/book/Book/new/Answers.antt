@@ -8,7 +8,7 @@ use Rattle.ug_problem.specs.Better.{best_cutoff}
 use Rattle.ug_problem.specs.Limits.{IsProblem}
 use Rattle.ug_pool.specs.declared.entry.Entry.{Entry}
 use Rattle.ug_ranks.specs.declared.state.State.{State}
-use Rattle.ug_orders.specs.Queues.{Queued}
+use Rattle.ug_stock.specs.Queues.{Queued}
 use Rattle.ug_rules.specs.State.{nodes_of}
 use Rattle.ug_rules.specs.Books.{HasItsFloor, IsBook, IsSoundBook}
 use Rattle.ug_book.specs.Starts.{start_entries, with_entries}

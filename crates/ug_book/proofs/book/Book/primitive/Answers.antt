@@ -1,7 +1,7 @@
 use Rattle.std.proofs.Common.{List, ap, subst, sym, ◌∙◌}
 use Rattle.std.specs.Prelude.{◌↔◌, Contains, IfOk}
 use Rattle.ug_nodes.specs.declared.node.Node.{Node}
-use Rattle.ug_primitive.specs.Primitive.{AreNamedOnce, IsPrimitive, lent}
+use Rattle.ug_nodes.specs.Primitive.{AreNamedOnce, IsPrimitive, lent}
 use Rattle.ug_ledger.proofs.PrimitiveLemmas.{primitive_covered}
 use Rattle.ug_rules.specs.State.{ledger_of}
 use Rattle.ug_rules.specs.Books.{IsBook}

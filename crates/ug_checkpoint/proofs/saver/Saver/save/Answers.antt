@@ -1,8 +1,8 @@
 use Rattle.std.proofs.Common.{List, ℕ, subst}
 use Rattle.ug_disk.specs.Crashes.{Leaves}
-use Rattle.ug_slots.specs.Keepers.{last_of, target_of}
-use Rattle.ug_slots.proofs.Going.{becomes_is, becomes_same, stands_after, stands_all}
-use Rattle.ug_slots.specs.Runs.{Becomes, OnlyOpens, IsOldOrNew, MaySave, HasSaved}
+use Rattle.ug_checkpoint.specs.Keepers.{last_of, target_of}
+use Rattle.ug_checkpoint.proofs.Going.{becomes_is, becomes_same, stands_after, stands_all}
+use Rattle.ug_checkpoint.specs.Runs.{Becomes, OnlyOpens, IsOldOrNew, MaySave, HasSaved}
 use Rattle.ug_checkpoint.specs.Bodies.{Has, body_of}
 use Rattle.ug_checkpoint.proofs.Finding.{has_new}
 use Rattle.ug_checkpoint.proofs.Keeping.{kept_saved, kept_failed}

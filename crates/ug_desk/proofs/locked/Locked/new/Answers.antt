@@ -1,4 +1,4 @@
-use Rattle.ug_desk.proofs.Beginnings.{begun}
+use Rattle.ug_desk.proofs.Begun.{begun}
 use Rattle.ug_desk.proofs.locked.Locked.new.Goals as goal
 
 pub invariant_of-result : goal.invariant_of-result

@@ -1,8 +1,0 @@
-use Rattle.std.proofs.Common.{◌∙◌, ◌++◌, ap}
-use Rattle.ug_blocks.specs.Rests.{from_front}
-use Rattle.ug_blocks.proofs.Whole.{front_is_all}
-use Rattle.ug_blocks.proofs.blocks.Blocks.new.Goals as goal
-
-pub returns : goal.returns
-returns c = ap (λ l. l ++ from_front c.args.image.now) c.in_ok-line.ensures
-    ∙ front_is_all c.args.image.now

@@ -1,3 +1,0 @@
-pub mod Rests
-pub mod Steps
-pub mod Lengths

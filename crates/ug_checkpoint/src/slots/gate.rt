@@ -1,0 +1,54 @@
+ghost use Rattle.std.specs.Prelude.{◌≡◌, ◌≤◌, ◌∷◌, [], IfOk, OnOk, OnErr, MatchBool};
+ghost use Rattle.ug_io.specs.Outside.{Rose};
+ghost use Rattle.ug_disk.specs.Slots.{synced, put_at};
+ghost use Rattle.ug_disk.specs.Crashes.{Leaves, MayLeaveWriting};
+ghost use Rattle.ug_checkpoint.specs.Gates.{IsSynced, IsShut, MayBeShut, MayBeLoose};
+ghost use Rattle.ug_checkpoint.specs.Runs.{Stands, Becomes};
+
+use ug_disk::{Disk, Slot};
+use ug_io::Failed;
+
+/// What is known of the gate of a slot.
+#[derive(Clone, Copy, PartialEq, Eq)]
+pub enum Gate {
+    /// Nothing is pending in the slot, and its gate was not looked at.
+    Unread,
+    /// It is there, on the disk, and not 1.
+    Shut,
+    /// What stands behind it may be looked at, so it may be written.
+    Open,
+    /// To open it failed: nothing is known.
+    Torn,
+}
+
+/// Whether the gate of a slot in which nothing is pending is shut.
+pub fn is_shut<D: Disk>(disk: &mut D, slot: Slot) -> Result<bool, Failed>
+    requires { Stands (D.told disk.old) slot IsSynced }
+    ensures ok { IfOk result (λ shut. Stands (D.told disk.old) slot (λ state.
+        MatchBool shut (IsShut state) (MayBeShut state))) }
+    ensures same { D.told disk.new ≡ D.told disk.old }
+    ensures never_falls { D.faults disk.old ≤ D.faults disk.new }
+    ensures failed { OnErr result (Rose (D.faults disk.old) (D.faults disk.new)) }
+    ensures calm { OnOk result (D.faults disk.new ≡ D.faults disk.old) }
+{
+    let mut first = [1u8; 1];
+    let n = disk.read_at(slot, 0, &mut first)?;
+    Ok(n > 0 && first[0] != 1)
+}
+
+/// Writes the gate, and syncs the slot. Where it fails, nothing was done, or a crash may leave any
+/// byte in its place.
+pub fn write_gate<D: Disk>(disk: &mut D, slot: Slot, byte: u8) -> Result<(), Failed>
+    ensures ok { OnOk result (Becomes (D.told disk.old) (D.told disk.new) slot (λ before after.
+        after ≡ synced (put_at 0 (byte ∷ []) before.bytes))) }
+    ensures err { OnErr result (Becomes (D.told disk.old) (D.told disk.new) slot MayBeLoose) }
+    ensures any_moment { Leaves (MayLeaveWriting (D.told disk.old) slot 0 1)
+        (D.told disk.old) (D.told disk.new) }
+    ensures never_falls { D.faults disk.old ≤ D.faults disk.new }
+    ensures failed { OnErr result (Rose (D.faults disk.old) (D.faults disk.new)) }
+    ensures calm { OnOk result (D.faults disk.new ≡ D.faults disk.old) }
+{
+    disk.write_at(slot, 0, &[byte])?;
+    disk.sync(slot)?;
+    Ok(())
+}

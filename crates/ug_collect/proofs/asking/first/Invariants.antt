@@ -1,6 +1,0 @@
-use Rattle.std.proofs.Common.{take}
-use Rattle.ug_collect.specs.Members.{IsAskedFirstIfAny}
-use Rattle.ug_collect.proofs.asking.first.Given as goal
-
-abbrev pub invariant-loop-member : goal.invariant-loop-member
-invariant-loop-member l = IsAskedFirstIfAny (take l.member-index l.members) l.best

@@ -1,6 +1,0 @@
-mod Moved
-mod Scales
-mod Texts
-mod Tellings
-mod Stored
-mod Accounts

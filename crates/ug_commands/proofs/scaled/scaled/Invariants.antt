@@ -1,6 +1,0 @@
-use Rattle.std.proofs.Common.{◌≡◌}
-use Rattle.ug_commands.specs.Scaled.{scaled_gap}
-use Rattle.ug_commands.proofs.scaled.scaled.Given as goal
-
-abbrev pub invariant-loop : goal.invariant-loop
-invariant-loop l = l.scaled ≡ scaled_gap l.gap l.counter

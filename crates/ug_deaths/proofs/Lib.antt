@@ -1,4 +1,0 @@
-pub mod Loops
-pub mod CallOff
-pub mod Rooms
-pub mod Works

@@ -1,7 +1,0 @@
--- What contracts see of a snapshot.
-use Rattle.ug_desk.specs.declared.snapshot.Snapshot.TheInside.{Inside}
-use Rattle.ug_desk.specs.Snapshots.{SnapshotState}
-
--- what its fields say
-abbrev pub snapshot_of : Inside → SnapshotState
-snapshot_of s = record { opening = s.opening; image = s.image; count = s.count }

@@ -1,7 +1,0 @@
-ghost use Rattle.ug_hands.specs.Hands.{NextIsNextHand, RefusedIsDue};
-
-/// The answers are those that are due, and a hand that is to be taken is one that is kept.
-pub fn hands_are_due()
-    ensures refused { RefusedIsDue }
-    ensures next { NextIsNextHand }
-{}

@@ -1,0 +1,213 @@
+-- How many bytes the fields of an image have.
+use Rattle.std.proofs.Common.{◌≡◌, ℕ, ℤ, ◌+◌, ◌*◌, ◌-◌, ◌^◌, List, [], ◌∷◌, ◌++◌, length, None, Some, refl, sym, ◌∙◌, ap, arith}
+use Rattle.std.specs.Prelude.{min}
+use Rattle.std.specs.List.{flat_map}
+use Rattle.std.proofs.lemmas.List.{length-append}
+use Rattle.ug_problem.specs.declared.column.Column.{Column}
+use Rattle.ug_problem.specs.declared.column.NamedRow.{NamedRow}
+use Rattle.ug_problem.specs.Instances.{Instance}
+use Rattle.ug_nodes.specs.declared.change.Change.{Change}
+use Rattle.ug_records.specs.Spelling.{count_field, bound_field, name_field, side_field, terms_fields, column_fields, row_fields, objective_fields, record_of}
+use Rattle.ug_image.specs.declared.image.Image.{Image}
+use Rattle.ug_image.specs.declared.image.SavedNode.{SavedNode}
+use Rattle.ug_image.specs.Spelling.{long_field, problem_fields, point_fields, best_fields, change_fields, changes_fields, name_fields, node_fields, nodes_fields, deliveries_field, gap_field, spelled}
+use Rattle.ug_image.proofs.Shorts.{count_long, bound_long, number_long, all_terms_long, objective_long}
+use Rattle.ug_image.specs.Lengths.{capped}
+
+abbrev most : ℕ
+most = 2 ^ 64 - 1
+
+pub long_long : (n : ℕ) → length (long_field n) ≡ 8
+unfolding long_field
+long_long n = refl
+
+-- ---- fields
+
+column_long : (c : Column) → length (column_fields c) ≡ length c.name + 9
+column_long c = omega (
+  arith,
+  length-append (name_field c.name ++ bound_field c.low) (bound_field c.high),
+  length-append (name_field c.name) (bound_field c.low),
+  bound_long c.low,
+  bound_long c.high,
+)
+
+row_long : (r : NamedRow) → length (row_fields r) ≡ length r.name + 1
+    + length (side_field r.row.low) + length (side_field r.row.high)
+    + (4 + 20 * length r.row.terms)
+row_long r = omega (
+  arith,
+  length-append (name_field r.name ++ side_field r.row.low ++ side_field r.row.high)
+      (terms_fields r.row.terms),
+  length-append (name_field r.name ++ side_field r.row.low) (side_field r.row.high),
+  length-append (name_field r.name) (side_field r.row.low),
+  all_terms_long r.row.terms,
+)
+
+record_long : (p : Instance) → length (record_of p)
+    ≡ 8 + length (flat_map column_fields p.columns) + length (flat_map row_fields p.rows)
+    + (22 + 20 * length p.objective.terms)
+record_long p = omega (
+  arith,
+  length-append (count_field (length p.columns) ++ flat_map column_fields p.columns
+      ++ count_field (length p.rows) ++ flat_map row_fields p.rows)
+      (objective_fields p.objective),
+  length-append (count_field (length p.columns) ++ flat_map column_fields p.columns
+      ++ count_field (length p.rows)) (flat_map row_fields p.rows),
+  length-append (count_field (length p.columns) ++ flat_map column_fields p.columns)
+      (count_field (length p.rows)),
+  length-append (count_field (length p.columns)) (flat_map column_fields p.columns),
+  count_long (length p.columns),
+  count_long (length p.rows),
+  objective_long p.objective,
+)
+
+values_long : (x : List ℤ) → length (flat_map bound_field x) ≡ 4 * length x
+values_long [] = refl
+values_long (v ∷ x) = omega (
+  arith,
+  length-append (bound_field v) (flat_map bound_field x),
+  bound_long v,
+  values_long x,
+)
+
+point_long : (x : List ℤ) → length (point_fields x) ≡ 4 + 4 * length x
+unfolding point_fields
+point_long x = omega (
+  arith,
+  length-append (count_field (length x)) (flat_map bound_field x),
+  count_long (length x),
+  values_long x,
+)
+
+changes_long : (changes : List Change)
+    → length (flat_map change_fields changes) ≡ 12 * length changes
+changes_long [] = refl
+changes_long (c ∷ changes) = omega (
+  arith,
+  length-append (change_fields c) (flat_map change_fields changes),
+  length-append (count_field c.column ++ bound_field c.low) (bound_field c.high),
+  length-append (count_field c.column) (bound_field c.low),
+  count_long c.column,
+  bound_long c.low,
+  bound_long c.high,
+  changes_long changes,
+)
+
+node_long : (node : SavedNode) → length (node_fields node) ≡ 20 + 12 * length node.changes
+unfolding node_fields changes_fields
+node_long node = omega (
+  arith,
+  length-append (name_fields node.name) (count_field (length node.changes)
+      ++ flat_map change_fields node.changes),
+  length-append (long_field node.name.ticket.number) (long_field node.name.hand),
+  length-append (count_field (length node.changes)) (flat_map change_fields node.changes),
+  long_long node.name.ticket.number,
+  long_long node.name.hand,
+  count_long (length node.changes),
+  changes_long node.changes,
+)
+
+version_3 : (i : Image) → length (deliveries_field 3 i.deliveries) + length (gap_field 3 i.gap)
+    ≡ 24
+unfolding deliveries_field gap_field
+version_3 i = omega (arith, long_long i.deliveries, number_long i.gap)
+
+nodes_3 : (nodes : List SavedNode) → nodes_fields 3 nodes ≡ flat_map node_fields nodes
+unfolding nodes_fields
+nodes_3 nodes = refl
+
+problem_long : (p : Instance) → length (problem_fields p) ≡ 4 + length (record_of p)
+unfolding problem_fields
+problem_long p = omega (
+  arith,
+  length-append (count_field (length (record_of p))) (record_of p),
+  count_long (length (record_of p)),
+)
+
+image_long : (i : Image) → length (spelled i) ≡ 21 + length (record_of i.problem)
+    + length (best_fields i.best) + 32 + length (flat_map node_fields i.nodes)
+image_long i =
+    let v : List ℕ = 3 ∷ [] in
+    let run = long_field i.run in
+    let sequence = long_field i.sequence in
+    let problem = problem_fields i.problem in
+    let best = best_fields i.best in
+    let deliveries = deliveries_field 3 i.deliveries in
+    let gap = gap_field 3 i.gap in
+    let count = long_field (length i.nodes) in
+    omega (
+      arith,
+      length-append (v ++ run ++ sequence ++ problem ++ best ++ deliveries ++ gap ++ count)
+          (nodes_fields 3 i.nodes),
+      length-append (v ++ run ++ sequence ++ problem ++ best ++ deliveries ++ gap) count,
+      length-append (v ++ run ++ sequence ++ problem ++ best ++ deliveries) gap,
+      length-append (v ++ run ++ sequence ++ problem ++ best) deliveries,
+      length-append (v ++ run ++ sequence ++ problem) best,
+      length-append (v ++ run ++ sequence) problem,
+      length-append (v ++ run) sequence,
+      length-append v run,
+      long_long i.run,
+      long_long i.sequence,
+      long_long (length i.nodes),
+      version_3 i,
+      problem_long i.problem,
+      ap length (nodes_3 i.nodes),
+    )
+
+-- ---- sums that stop at the greatest number
+
+pub plus : (a b m : ℕ) → min (min a m + min b m) m ≡ min (a + b) m
+plus a b m = grind arith
+
+pub image_sum : (i : Image) → length (spelled i) ≡ 21 + length (record_of i.problem)
+    + (length (best_fields i.best) + 32) + length (flat_map node_fields i.nodes)
+image_sum i = omega (arith, image_long i)
+
+pub record_sum : (p : Instance) → length (record_of p)
+    ≡ 8 + length (flat_map column_fields p.columns) + length (flat_map row_fields p.rows)
+    + (18 + (4 + 20 * length p.objective.terms))
+record_sum p = omega (arith, record_long p)
+
+pub one_column : (c : Column) → min (length c.name + 9) most ≡ capped (length (column_fields c))
+one_column c = ap capped (sym (column_long c))
+
+pub column_sum : (front : List ℕ) (c : Column)
+    → min (capped (length front) + capped (length (column_fields c))) most
+    ≡ capped (length (front ++ column_fields c))
+column_sum front c =
+    plus (length front) (length (column_fields c)) most
+    ∙ ap capped (sym (length-append front (column_fields c)))
+
+pub row_sum : (front : List ℕ) (r : NamedRow)
+    → min (capped (length front) + capped (length (row_fields r))) most
+    ≡ capped (length (front ++ row_fields r))
+row_sum front r =
+    plus (length front) (length (row_fields r)) most
+    ∙ ap capped (sym (length-append front (row_fields r)))
+
+pub one_node : (n : SavedNode) → min (min (length n.changes * 12) most + 20) most
+    ≡ capped (length (node_fields n))
+one_node n = grind (arith, node_long n)
+
+pub node_sum : (front : List ℕ) (n : SavedNode)
+    → min (capped (length front) + capped (length (node_fields n))) most
+    ≡ capped (length (front ++ node_fields n))
+node_sum front n =
+    plus (length front) (length (node_fields n)) most
+    ∙ ap capped (sym (length-append front (node_fields n)))
+
+pub one_row : (r : NamedRow)
+    → min (min (length r.name + (length (side_field r.row.low) + length (side_field r.row.high) + 1))
+    most + capped (4 + 20 * length r.row.terms)) most ≡ capped (length (row_fields r))
+one_row r = grind (arith, row_long r)
+
+pub no_side : 1 ≡ length (side_field None)
+no_side = refl
+
+pub some_side : (z : ℤ) → 17 ≡ length (side_field (Some z))
+some_side z = omega (arith, number_long z)
+
+pub some_best : (x : List ℤ) → min (min (length x * 4) most + 5) most
+    ≡ capped (length (best_fields (Some x)))
+some_best x = grind (arith, point_long x)

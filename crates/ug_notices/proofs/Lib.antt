@@ -1,4 +1,0 @@
-pub mod Announced
-pub mod Counts
-pub mod Asked
-pub mod Wants

@@ -1,7 +1,0 @@
-use Rattle.std.proofs.Common.{◌≡◌, ◌≤◌, ◌*◌, take}
-use Rattle.ug_notices.proofs.Counts.{places_of}
-use Rattle.ug_notices.proofs.counting.places.Given as goal
-
-abbrev pub invariant-loop-state : goal.invariant-loop-state
-invariant-loop-state l = (l.places ≡ places_of (take l.state-index l.state-items))
-    × (l.places ≤ 2 * l.state-index)

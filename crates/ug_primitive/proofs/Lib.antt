@@ -1,4 +1,0 @@
-pub mod Found
-pub mod Fronts
-pub mod Kept
-pub mod Named

@@ -1,5 +1,0 @@
-use Rattle.ug_primitive.proofs.Fronts.{below_test}
-use Rattle.ug_primitive.proofs.lines.is_below_any.Goals as goal
-
-pub returns : goal.returns
-returns c = below_test _ _ _ c.has_front.ensures

@@ -1,2 +1,0 @@
-pub mod Primitive
-pub mod Steps

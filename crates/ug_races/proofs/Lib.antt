@@ -1,3 +1,0 @@
-pub mod Freed
-pub mod Racers
-pub mod Won

@@ -1,6 +1,0 @@
-use Rattle.ug_rules.specs.Ranks.{is_racing}
-use Rattle.ug_deaths.proofs.Loops.{AreIdled}
-use Rattle.ug_races.proofs.freeing.free_racers.Given as goal
-
-abbrev pub invariant-loop-rank : goal.invariant-loop-rank
-invariant-loop-rank l = AreIdled is_racing l.initial.ranks l.ranks l.rank

@@ -1,2 +1,0 @@
-pub mod Racers
-pub mod Races

@@ -1,6 +1,0 @@
-use Rattle.std.proofs.Common.{take}
-use Rattle.ug_ramp.specs.Racers.{IsLeaderIfAny}
-use Rattle.ug_ramp.proofs.race.first.Given as goal
-
-abbrev pub invariant-loop-racer : goal.invariant-loop-racer
-invariant-loop-racer l = IsLeaderIfAny l.w (take l.racer-index l.racers) l.best

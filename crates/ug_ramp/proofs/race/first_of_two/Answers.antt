@@ -1,5 +1,0 @@
-use Rattle.ug_ramp.proofs.Winners.{winner_changes}
-use Rattle.ug_ramp.proofs.race.first_of_two.Goals as goal
-
-pub returns-then-is_ahead : goal.returns-then-is_ahead
-returns-then-is_ahead c = λ w racers h enough. winner_changes w racers c.args.before c.args.racer h enough c.if-is_ahead.ensures

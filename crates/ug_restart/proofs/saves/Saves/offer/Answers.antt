@@ -1,0 +1,48 @@
+use Rattle.std.proofs.Common.{◌≡◌, Some, IfSome, refl, sym, subst, arith}
+use Rattle.ug_snapshot.specs.Moments.{IsCovered}
+use Rattle.ug_snapshot.specs.Openings.{IsCoveredOpening}
+use Rattle.ug_restart.specs.Saves.{IsOfSnapshot, opening_of}
+use Rattle.ug_restart.proofs.Covering.{nothing_done, saving_more}
+use Rattle.ug_restart.proofs.Going.{goes_nowhere, goes_where, with_calls}
+use Rattle.ug_restart.proofs.Making.{of_some}
+use Rattle.ug_restart.proofs.saves.Saves.offer.Goals as goal
+
+pub returns-then-passes_over-clause-any_moment : goal.returns-then-passes_over-clause-any_moment
+returns-then-passes_over-clause-any_moment g c =
+    nothing_done c.args.self.now.saver _ _ (IsOfSnapshot c.args.snapshot) refl
+
+pub returns-then-passes_over-clause-goes_on : goal.returns-then-passes_over-clause-goes_on
+returns-then-passes_over-clause-goes_on g c =
+    goes_nowhere (IsCoveredOpening (opening_of c.args.self.now)) _
+
+pub returns-then-save-clause-any_moment : goal.returns-then-save-clause-any_moment
+returns-then-save-clause-any_moment g c =
+    saving_more c.args.self.now.saver _ _ (λ made. c.of_snapshot-image.result ≡ Some made)
+    (IsOfSnapshot c.args.snapshot)
+    (λ image is. of_some c.of_snapshot-image.result (IsOfSnapshot c.args.snapshot) image
+    c.of_snapshot-image.ensures.of is) c.save.ensures.any_moment
+
+pub returns-then-save-clause-goes_on : goal.returns-then-save-clause-goes_on
+returns-then-save-clause-goes_on g c =
+    let due = c.if-passes_over.ensures.due in
+    with_calls (IsCoveredOpening (opening_of c.args.self.now)) _ _ c.count-calls.result
+    (omega (arith, c.count-calls.ensures, due.newer))
+    (goes_where (IfSome c.of_snapshot-image.result IsCovered)
+    (IsCoveredOpening (opening_of c.args.self.now)) _ _
+    (λ covered. c.of_snapshot-image.ensures.covered
+    (subst IsCoveredOpening (sym due.same) covered)) c.save.ensures.goes_on)
+
+pub returns-else-save-clause-any_moment : goal.returns-else-save-clause-any_moment
+returns-else-save-clause-any_moment g c =
+    saving_more c.args.self.now.saver _ _ (λ made. c.of_snapshot-image.result ≡ Some made)
+    (IsOfSnapshot c.args.snapshot)
+    (λ image is. of_some c.of_snapshot-image.result (IsOfSnapshot c.args.snapshot) image
+    c.of_snapshot-image.ensures.of is) c.save.ensures.any_moment
+
+pub returns-else-save-clause-goes_on : goal.returns-else-save-clause-goes_on
+returns-else-save-clause-goes_on g c =
+    goes_where (IfSome c.of_snapshot-image.result IsCovered)
+    (IsCoveredOpening (opening_of c.args.self.now)) _ _
+    (λ covered. c.of_snapshot-image.ensures.covered
+    (subst IsCoveredOpening (sym c.if-passes_over.ensures.due.same) covered))
+    c.save.ensures.goes_on

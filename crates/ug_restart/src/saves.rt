@@ -1,0 +1,165 @@
+ghost use Rattle.std.specs.Prelude.{◌≡◌, ◌↔◌, ◌≤◌, ◌<◌, ◌-◌, ◌^◌, Some, IfSome, IsTrue, MatchBool};
+ghost use Rattle.ug_disk.specs.Crashes.{Leaves};
+ghost use Rattle.ug_rules.specs.Books.{IsSoundBook};
+ghost use Rattle.ug_checkpoint.specs.Savers.{IsKept};
+ghost use Rattle.ug_snapshot.specs.Moments.{IsCovered};
+ghost use Rattle.ug_snapshot.specs.Openings.{IsCoveredOpening};
+ghost use Rattle.ug_restart.specs.Saves.{IsDue, IsNext, IsOfBook, IsOfSnapshot, IsPassedOver, NoneIsCounted, begun, calls_of, missed_of, one_more, opening_of, saver_of, unsaved_of};
+ghost use Rattle.ug_restart.specs.Moments.{FindsOne, IsSafeSave};
+ghost use Rattle.ug_restart.specs.Going.{GoesOn, IsUntouched, time};
+
+use crate::next::{is_short, of_book, of_snapshot};
+use std::alloc::Global;
+use ug_book::Book;
+use ug_checkpoint::{SaveError, Saver};
+use ug_disk::Disk;
+use ug_image::Image;
+use ug_snapshot::{Opening, Snapshot};
+
+/// What a run saves after its first image.
+#[derive(Drop)]
+pub struct Saves {
+    saver: Saver,
+    opening: Opening,
+    // How many calls the history of the last snapshot had that was saved.
+    calls: u64,
+    missed: u64,
+    unsaved: u64,
+}
+
+impl Saves {
+    /// Saves of the run that began with the opening, whose first image the saver has saved.
+    pub fn new(saver: Saver, opening: Opening) -> Saves
+        ensures { result ≡ begun saver opening }
+    {
+        Saves {
+            saver,
+            opening,
+            calls: 0,
+            missed: 0,
+            unsaved: 0,
+        }
+    }
+
+    /// Saves in each of which the disk failed; the count stands still at its end.
+    pub fn missed(&self) -> u64
+        ensures { result ≡ missed_of self.now }
+    {
+        self.missed
+    }
+
+    /// Saves for which memory was wanting; the count stands still at its end.
+    pub fn unsaved(&self) -> u64
+        ensures { result ≡ unsaved_of self.now }
+    {
+        self.unsaved
+    }
+
+    /// Saves the image of a snapshot, unless it is of another opening or no newer than the last one
+    /// that was saved.
+    pub fn offer<D: Disk>(&mut self, alloc: Global, disk: &mut D, snapshot: Snapshot)
+        requires { IsKept (saver_of self.old) (D.told disk.old) }
+        ensures kept { IsKept (saver_of self.new) (D.told disk.new) }
+        ensures passed { IsPassedOver self.old snapshot → IsUntouched
+            (time self.old (D.told disk.old) (D.faults disk.old))
+            (time self.new (D.told disk.new) (D.faults disk.new)) }
+        ensures acknowledged { ¬ IsPassedOver self.old snapshot → NoneIsCounted self.old self.new
+            → FindsOne (IsOfSnapshot snapshot) (D.told disk.new)
+            × (calls_of self.new ≡ snapshot.count) }
+        ensures any_moment { Leaves
+            (IsSafeSave (saver_of self.old) (D.told disk.old) (IsOfSnapshot snapshot))
+            (D.told disk.old) (D.told disk.new) }
+        ensures goes_on { GoesOn (IsCoveredOpening (opening_of self.old))
+            (time self.old (D.told disk.old) (D.faults disk.old))
+            (time self.new (D.told disk.new) (D.faults disk.new)) }
+    {
+        if self.passes_over(&snapshot) {
+            drop(snapshot);
+            return;
+        }
+        let calls = snapshot.count();
+        let image = of_snapshot(&self.saver, snapshot);
+        if self.save(alloc, disk, image) {
+            self.calls = calls;
+        }
+    }
+
+    /// Saves the image of the ending book.
+    pub fn finish<D: Disk>(&mut self, alloc: Global, disk: &mut D, book: &Book)
+        requires { IsKept (saver_of self.old) (D.told disk.old) }
+        ensures kept { IsKept (saver_of self.new) (D.told disk.new) }
+        ensures acknowledged { NoneIsCounted self.old self.new
+            → FindsOne (IsOfBook book.now) (D.told disk.new) }
+        ensures any_moment { Leaves
+            (IsSafeSave (saver_of self.old) (D.told disk.old) (IsOfBook book.now))
+            (D.told disk.old) (D.told disk.new) }
+        ensures goes_on { GoesOn (IsSoundBook book.now)
+            (time self.old (D.told disk.old) (D.faults disk.old))
+            (time self.new (D.told disk.new) (D.faults disk.new)) }
+    {
+        let image = of_book(alloc, &self.saver, book);
+        self.save(alloc, disk, image);
+    }
+
+    // Whether a snapshot is of another opening, or no newer than the last one that was saved.
+    fn passes_over(&self, snapshot: &Snapshot) -> bool
+        ensures over { IsTrue result ↔ IsPassedOver self.now snapshot.now }
+        ensures due { MatchBool result
+            (IsPassedOver self.now snapshot.now)
+            (IsDue self.now snapshot.now) }
+    {
+        snapshot.count() <= self.calls || !snapshot.opening().is(&self.opening)
+    }
+
+    // Saves the image, and counts it where there is none or it is not saved. Whether it was.
+    fn save<D: Disk>(&mut self, alloc: Global, disk: &mut D, image: Option<Image>) -> bool
+        requires kept { IsKept self.old.saver (D.told disk.old) }
+        requires image { IfSome image (IsNext self.old.saver) }
+        ensures kept { IsKept self.new.saver (D.told disk.new) }
+        ensures calls { self.new.calls ≡ self.old.calls }
+        ensures saved { IsTrue result
+            → FindsOne (λ made. image ≡ Some made) (D.told disk.new) }
+        ensures counted { NoneIsCounted self.old self.new → IsTrue result }
+        ensures any_moment { Leaves
+            (IsSafeSave self.old.saver (D.told disk.old) (λ made. image ≡ Some made))
+            (D.told disk.old) (D.told disk.new) }
+        ensures goes_on { GoesOn (IfSome image IsCovered)
+            (time self.old (D.told disk.old) (D.faults disk.old))
+            (time self.new (D.told disk.new) (D.faults disk.new)) }
+    {
+        let Some(image) = image else {
+            self.unsaved = one_more(self.unsaved);
+            return false;
+        };
+        if !is_short(&image) {
+            drop(image);
+            self.unsaved = one_more(self.unsaved);
+            return false;
+        }
+        match self.saver.save(alloc, disk, &image) {
+            Ok(()) => {
+                drop(image);
+                true
+            }
+            Err(SaveError::Memory) => {
+                drop(image);
+                self.unsaved = one_more(self.unsaved);
+                false
+            }
+            Err(SaveError::Fault) => {
+                drop(image);
+                self.missed = one_more(self.missed);
+                false
+            }
+        }
+    }
+}
+
+// One more, up to the end of the count.
+fn one_more(count: u64) -> u64
+    ensures value { result ≡ one_more count }
+    ensures least { count ≤ result }
+    ensures rises { count < 2 ^ 64 - 1 → count < result }
+{
+    count.saturating_add(1)
+}

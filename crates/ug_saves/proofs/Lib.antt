@@ -1,4 +1,0 @@
-pub mod Covering
-pub mod Going
-pub mod Making
-mod Lasts

@@ -1,3 +1,0 @@
-pub mod Saves
-pub mod Moments
-pub mod Going

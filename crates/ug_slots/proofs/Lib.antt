@@ -1,4 +1,0 @@
-pub mod Behind
-pub mod Going
-pub mod Shutting
-pub mod Syncing

@@ -1,0 +1,4 @@
+pub mod Moments
+pub mod Openings
+pub mod SnapshotViews
+pub mod Snapshots

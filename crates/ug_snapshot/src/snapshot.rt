@@ -1,0 +1,64 @@
+ghost use Rattle.std.specs.Prelude.{◌≡◌};
+ghost use Rattle.ug_snapshot.specs.Snapshots.{IsSnapshot};
+
+use crate::opening::Opening;
+use std::marker::Model;
+use ug_image::Image;
+
+/// What was held at a moment, to be saved: where its opening is covered, so is its image.
+#[derive(Drop)]
+pub struct Snapshot {
+    opening: Opening,
+    // Under sequence 1: whoever saves it gives it the one that is next.
+    image: Image,
+    count: u64,
+}
+
+impl Model for Snapshot {
+    ghost use Rattle.ug_snapshot.specs.Snapshots.{IsSnapshot, SnapshotState};
+    ghost use Rattle.ug_snapshot.specs.SnapshotViews.{snapshot_of};
+
+    ghost Value = { SnapshotState };
+
+    ghost view = { snapshot_of };
+
+    ghost invariant = { λ s. IsSnapshot (snapshot_of s) };
+}
+
+impl Snapshot {
+    /// A snapshot of this opening, with this image, after so many calls.
+    pub fn new(opening: Opening, image: Image, count: u64) -> Snapshot
+        requires { IsSnapshot (record { opening = opening; image = image; count = count }) }
+        ensures { result ≡ record { opening = opening; image = image; count = count } }
+    {
+        Snapshot {
+            opening,
+            image,
+            count,
+        }
+    }
+
+    /// What the run began with.
+    pub fn opening(&self) -> &Opening
+        ensures { result.now ≡ self.now.opening }
+    {
+        &self.opening
+    }
+
+    /// How many calls the history had.
+    pub fn count(&self) -> u64
+        ensures { result ≡ self.now.count }
+    {
+        self.count
+    }
+
+    /// The image of then, under sequence 1.
+    pub fn into_image(self) -> Image
+        ensures value { result ≡ self.image }
+        ensures snapshot { IsSnapshot self }
+    {
+        let Snapshot { opening, image, .. } = self;
+        drop(opening);
+        image
+    }
+}

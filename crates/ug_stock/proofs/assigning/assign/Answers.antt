@@ -1,0 +1,37 @@
+use Rattle.std.proofs.Common.{◌∙◌, ap, length, List, arith}
+use Rattle.ug_stock.specs.Queues.{Queued}
+use Rattle.ug_ranks.specs.declared.state.State.{State}
+use Rattle.ug_rules.specs.Deciding.{given_to}
+use Rattle.ug_stock.proofs.Works.{few_work}
+use Rattle.ug_stock.specs.Stocks.{stock_of, with_stock}
+use Rattle.ug_stock.proofs.assigning.assign.Goals as goal
+
+pub returns-clause-ok : goal.returns-clause-ok
+returns-clause-ok c = λ raced.
+    let g = c.give_first.ensures.given raced in
+    let reserved = c.in_ok-reserve.ensures.ok in
+    let spare = ap (λ (q : Queued). q.spare) reserved in
+    record {
+      given_ = record {
+        entry = g.entry;
+        first = g.first;
+        work = g.work;
+        written = g.written;
+        last = g.last;
+        given_ = λ b t. g.given_ b t
+            ∙ ap (λ (q : Queued). given_to c.args.rank g.entry c.give_first.new.pool.entries
+            (with_stock b (stock_of c.args.pool.now c.args.ranks.now raced c.args.last.now q)))
+            reserved;
+      };
+      pool = c.give_first.ensures.pool;
+      working = c.give_first.ensures.ranks;
+      orders = omega (
+        arith,
+        spare,
+        c.give_first.ensures.orders,
+        c.give_first.ensures.ranks,
+        few_work c.args.ranks.now,
+        ap (λ (ss : List State). length ss) c.as_slice.ensures.value,
+        c.as_slice.ensures,
+      );
+    }

@@ -1,0 +1,12 @@
+-- How many ranks are in which state.
+use Rattle.std.specs.Prelude.{◌≡◌, List, length}
+use Rattle.ug_ranks.specs.declared.state.State.{State}
+use Rattle.ug_rules.specs.State.{nodes_of}
+use Rattle.ug_rules.specs.Ranks.{is_absent, is_idle, ranks_that}
+use Rattle.ug_stock.specs.declared.counting.Counts.{Counts}
+
+-- so many ranks are absent, idle, and at work
+pub record AreCounted (states : List State) (counts : Counts) : Type 0 where
+  pub absent : counts.absent ≡ length (ranks_that is_absent states)
+  pub idle : counts.idle ≡ length (ranks_that is_idle states)
+  pub working : counts.working ≡ length (nodes_of states)

@@ -1,0 +1,15 @@
+pub mod Assigning
+pub mod Books
+pub mod Counting
+pub mod Giving
+pub mod Hands
+pub mod Parts
+pub mod Queues
+pub mod Racers
+pub mod Races
+pub mod Racing
+pub mod Steps
+pub mod Stocks
+pub mod Telling
+pub mod Tickets
+pub mod Turns

@@ -1,0 +1,30 @@
+-- What is done where a race begins.
+use Rattle.std.specs.Prelude.{◌≡◌, ℕ, List, All}
+use Rattle.ug_nodes.specs.declared.change.Change.{Change}
+use Rattle.ug_pool.specs.declared.entry.Entry.{Entry}
+use Rattle.ug_rules.specs.State.{BookState}
+use Rattle.ug_rules.specs.Ranks.{is_idle, ranks_that}
+use Rattle.ug_rules.specs.Deciding.{race_begun, raced_by, raced_by_all}
+use Rattle.ug_stock.specs.declared.terms.Terms.{Terms}
+use Rattle.ug_stock.specs.Stocks.{AreTermsOf, Stock, with_stock}
+
+-- each of the boxes is of the entry's node
+abbrev pub AreBoxesOf : Entry → List (List Change) → Type 0
+AreBoxesOf entry boxes = All (λ box. entry.node.changes ≡ box) boxes
+
+-- the rank takes part in a race for a node of these changes
+abbrev pub HasJoinedRace : Terms → ℕ → List Change → Stock → Stock → Type 0
+HasJoinedRace terms r changes old new =
+    (b : BookState) (entry : Entry) → AreTermsOf b terms → entry.node.changes ≡ changes
+    → with_stock b new ≡ raced_by r entry (with_stock b old)
+
+-- each idle rank does, with these boxes
+abbrev pub HaveJoinedRace : Terms → List (List Change) → Stock → Stock → Type 0
+HaveJoinedRace terms boxes old new =
+    (b : BookState) (entry : Entry) → AreTermsOf b terms → AreBoxesOf entry boxes
+    → with_stock b new ≡ raced_by_all (ranks_that is_idle old.ranks) entry (with_stock b old)
+
+-- the race began
+abbrev pub HasBegun : Terms → Stock → Stock → Type 0
+HasBegun terms old new =
+    (b : BookState) → AreTermsOf b terms → with_stock b new ≡ race_begun (with_stock b old)

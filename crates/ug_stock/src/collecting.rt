@@ -1,0 +1,91 @@
+ghost use Rattle.std.specs.Prelude.{◌≡◌, ◌↔◌, ◌<◌, ◌≤◌, ◌+◌, ◌^◌, IsTrue, OnOk, OnErr, length};
+ghost use Rattle.ug_rules.specs.State.{BookState, nodes_of};
+ghost use Rattle.ug_rules.specs.Deciding.{IsCollected, collected};
+ghost use Rattle.ug_stock.specs.Books.{CanBeTold, with_told};
+
+use crate::asking::{ask, ask_no_more};
+use crate::members::members_of;
+use crate::queue::Queue;
+use crate::wanting::wanted;
+use std::alloc::{AllocError, Global};
+use ug_ranks::Ranks;
+use ug_rules::Wanted;
+
+/// Asks one rank that works for open nodes, where the pool has `len` of them and that is fewer than
+/// `low`: as many as bring it to `high`. Where it has `high`, the ranks that are asked are told
+/// that it is enough.
+///
+/// There is then a place for the Stop of each rank that works. After an error nothing has changed.
+pub fn collect(
+    alloc: Global,
+    low: u32,
+    high: u32,
+    len: u64,
+    ranks: &mut Ranks,
+    orders: &mut Queue,
+) -> Result<(), AllocError>
+    requires marks { low ≤ high }
+    requires room { length (nodes_of ranks.old) ≤ orders.old.spare }
+    ensures ok { OnOk result ((b : BookState) → b.settings.low ≡ low → b.settings.high ≡ high
+        → length b.pool ≡ len → IsCollected
+        (with_told b ranks.old orders.old.orders)
+        (with_told b ranks.new orders.new.orders)) }
+    ensures ranks { OnErr result (ranks.new ≡ ranks.old) }
+    ensures orders { OnErr result (orders.new ≡ orders.old) }
+    ensures room { length (nodes_of ranks.new) ≤ orders.new.spare }
+    ensures work { nodes_of ranks.new ≡ nodes_of ranks.old }
+{
+    if is_between(len, low, high) {
+        return Ok(());
+    }
+    let members = members_of(alloc, ranks)?;
+    let demand = wanted(
+        alloc,
+        len,
+        u64::from(low),
+        u64::from(high),
+        members.as_slice(),
+    )?;
+    tell(ranks, orders, demand, members.len())
+}
+
+// Whether so many nodes are no fewer than the low mark and fewer than the high one, so that nothing
+// is wanted.
+fn is_between(len: u64, low: u32, high: u32) -> bool
+    ensures { IsTrue result ↔ ((low ≤ len) × (len < high)) }
+{
+    u64::from(low) <= len && len < u64::from(high)
+}
+
+// What is wanted is told, where so many ranks work.
+fn tell(
+    ranks: &mut Ranks,
+    orders: &mut Queue,
+    demand: Wanted,
+    working: usize,
+) -> Result<(), AllocError>
+    requires few { length ranks.old < 2 ^ 32 }
+    requires told { CanBeTold (length ranks.old) demand }
+    requires working { length (nodes_of ranks.old) ≡ working }
+    requires room { length (nodes_of ranks.old) ≤ orders.old.spare }
+    ensures ok { OnOk result ((b : BookState) → with_told b ranks.new orders.new.orders
+        ≡ collected demand (with_told b ranks.old orders.old.orders)) }
+    ensures ranks { OnErr result (ranks.new ≡ ranks.old) }
+    ensures orders { OnErr result (orders.new ≡ orders.old) }
+    ensures room { length (nodes_of ranks.new) ≤ orders.new.spare }
+    ensures work { nodes_of ranks.new ≡ nodes_of ranks.old }
+{
+    // A place for each that is told, and for the Stop of each rank that works.
+    match demand {
+        Wanted::Nothing => {}
+        Wanted::Ask { rank, count } => {
+            orders.reserve(working + 1)?;
+            ask(ranks, orders, rank, count as u32);
+        }
+        Wanted::Enough(told) => {
+            orders.reserve(working + told.len())?;
+            ask_no_more(ranks, orders, told.as_slice());
+        }
+    }
+    Ok(())
+}

@@ -1,0 +1,78 @@
+ghost use Rattle.std.specs.Prelude.{◌≡◌, ◌<◌, ◌≤◌, ◌+◌, ◌++◌, length};
+ghost use Rattle.ug_pool.specs.Pools.{with_entry, without_below};
+ghost use Rattle.ug_rules.specs.State.{raced_node};
+ghost use Rattle.ug_rules.specs.Deaths.{called_off, stops_below};
+ghost use Rattle.ug_stock.specs.Parts.{HasDied, HasLost, HasRoom, parts_of};
+ghost use Rattle.ug_stock.specs.Queues.{Queued};
+
+use crate::calling::call_off;
+use crate::queue::Queue;
+use crate::racer_left::{has_racer, is_racing};
+use ug_nodes::Node;
+use ug_pool::{Entry, Pool};
+use ug_ranks::Ranks;
+
+/// A rank dies. Where it works, its node takes in what is held below: these nodes are dropped, the
+/// ranks that work on them are idle and told to stop, the lowest first, and its node is back in the
+/// pool. Where it is the last racer, the raced node is back in the pool.
+///
+/// It takes no memory: each node that is out of the pool has a place there, and each rank that
+/// works has one for its Stop, and so it is afterwards.
+pub fn die(
+    ranks: &mut Ranks,
+    pool: &mut Pool,
+    orders: &mut Queue,
+    raced: &mut Option<Entry>,
+    rank: u32,
+)
+    requires there { rank < length ranks.old }
+    requires room { HasRoom (parts_of pool.old ranks.old raced.old orders.old) }
+    ensures died { HasDied rank
+        (parts_of pool.old ranks.old raced.old orders.old)
+        (parts_of pool.new ranks.new raced.new orders.new) }
+    ensures room { HasRoom (parts_of pool.new ranks.new raced.new orders.new) }
+{
+    let races = is_racing(ranks.state(rank));
+    match ranks.kill(rank) {
+        Some((node, floor)) => take_in(ranks, pool, orders, node, floor),
+        None => {
+            if races {
+                lose_race(ranks, pool, raced);
+            }
+        }
+    }
+}
+
+// What is held below the node is dropped, and the node is in the pool.
+fn take_in(ranks: &mut Ranks, pool: &mut Pool, orders: &mut Queue, node: Node, floor: i128)
+    requires pool { 0 < pool.old.spare }
+    requires orders { length (stops_below node.line ranks.old) ≤ orders.old.spare }
+    ensures pool { pool.new.entries ≡ with_entry (record { floor = floor; node = node })
+        (without_below node.line pool.old.entries) }
+    ensures spare { pool.old.spare ≤ pool.new.spare + 1 }
+    ensures ranks { ranks.new ≡ called_off node.line ranks.old }
+    ensures orders { orders.new.orders ≡ orders.old.orders ++ stops_below node.line ranks.old }
+    ensures places { orders.new.spare + length (stops_below node.line ranks.old)
+        ≡ orders.old.spare }
+{
+    pool.drop_below(&node.line);
+    call_off(ranks, orders, &node.line);
+    pool.put(node, floor);
+}
+
+// The raced node is back in the pool, if there is one and no rank races.
+fn lose_race(ranks: &Ranks, pool: &mut Pool, raced: &mut Option<Entry>)
+    requires { length (raced_node raced.old) ≤ pool.old.spare }
+    ensures lost { (orders : Queued) → HasLost
+        (parts_of pool.old ranks.now raced.old orders)
+        (parts_of pool.new ranks.now raced.new orders) }
+    ensures room { pool.new.spare + length (raced_node raced.old)
+        ≡ pool.old.spare + length (raced_node raced.new) }
+{
+    if has_racer(ranks) {
+        return;
+    }
+    if let Some(entry) = raced.take() {
+        pool.put(entry.node, entry.floor);
+    }
+}

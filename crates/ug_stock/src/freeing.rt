@@ -1,0 +1,28 @@
+ghost use Rattle.std.specs.Prelude.{◌≡◌, ◌<◌, length, slice_set, if◌then◌else◌};
+ghost use Rattle.ug_ranks.specs.States.{state_at};
+ghost use Rattle.ug_ranks.specs.declared.state.State.TheVariants.{Idle};
+ghost use Rattle.ug_rules.specs.Ranks.{is_racing, racers_freed};
+
+use crate::racer_left::is_racing;
+use ug_ranks::Ranks;
+
+/// Each racer is idle.
+pub fn free_racers(ranks: &mut Ranks)
+    ensures { ranks.new ≡ racers_freed ranks.old }
+{
+    for rank in 0..ranks.as_slice().len() as u32 {
+        free_one(ranks, rank);
+    }
+}
+
+// A racer is idle.
+#[tactic(auto, using(crate::proofs::Freed::kept_one))]
+fn free_one(ranks: &mut Ranks, rank: u32)
+    requires { rank < length ranks.old }
+    ensures { ranks.new ≡ slice_set ranks.old rank
+        (if is_racing (state_at ranks.old rank) then Idle else state_at ranks.old rank) }
+{
+    if is_racing(ranks.state(rank)) {
+        let _ = ranks.free(rank);
+    }
+}

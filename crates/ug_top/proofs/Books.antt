@@ -1,0 +1,88 @@
+-- What the ending book of a run is, by what the run began with.
+use Rattle.std.proofs.Common.{ℕ, [], ◌∷◌, map, None, ◌∙◌, subst, inl}
+use Rattle.ug_problem.specs.Instances.{Instance, root_of}
+use Rattle.ug_problem.specs.Better.{Covered}
+use Rattle.ug_problem.specs.Right.{Right}
+use Rattle.ug_nodes.specs.Changes.{area_by}
+use Rattle.ug_ledger.specs.Answers.{answer_of}
+use Rattle.ug_rules.specs.declared.settings.Settings.{Settings}
+use Rattle.ug_rules.specs.State.{BookState}
+use Rattle.ug_rules.specs.Books.{IsSoundBook}
+use Rattle.ug_book.specs.Starts.{started}
+use Rattle.ug_book.specs.Views.{IsSameRun}
+use Rattle.ug_book.proofs.Starts.{start_is_sound}
+use Rattle.ug_restart.specs.declared.outcome.End.{End}
+use Rattle.ug_restart.specs.declared.outcome.Outcome.{Outcome}
+use Rattle.ug_restart.specs.declared.outcome.End.TheVariants.{Answered, Limited, Stranded, Memory}
+use Rattle.ug_threads.specs.Ends.{IfAnswered, IfBook, IsReplayOf}
+use Rattle.ug_threads.specs.Outcomes.{HasEnded}
+use Rattle.ug_top.specs.Runs.{IsOf, IsRightFor, IsRun}
+
+-- each point lies in the root
+root_covers : (p : Instance) (settings : Settings)
+    → Covered p settings.gap None (map (area_by (root_of p)) ([] ∷ []))
+root_covers p settings =
+    record { incumbent = tt; points = λ x better. inl better.feasible.inside }
+
+-- a book that begins with the root is sound
+pub root_is_sound : (p : Instance) (run : ℕ) (settings : Settings)
+    → IsSoundBook (started p run None ([] ∷ []) settings)
+root_is_sound p run settings =
+    (start_is_sound p run None ([] ∷ []) settings).1 (root_covers p settings)
+
+same_run : (given b : BookState) → IsReplayOf given b → IsSameRun given b
+same_run given b t =
+    subst (λ (k : BookState). IsSameRun given k) t.is
+    (subst (λ (k : BookState). IsSameRun k t.state.now.book) t.began t.locked.same)
+
+is_of : (given b : BookState) (p : Instance) (settings : Settings) → IsOf p settings given
+    → IsReplayOf given b → IsOf p settings b
+is_of given b p settings of t =
+    let same = same_run given b t in
+    record {
+      its_problem = same.problem ∙ of.its_problem;
+      its_settings = same.settings ∙ of.its_settings;
+    }
+
+pub ends_of : (given : BookState) (end : End) (p : Instance) (settings : Settings)
+    → IsOf p settings given → HasEnded given end → IfBook end (IsOf p settings)
+ends_of given (Answered b) p settings of t = is_of given b p settings of t.replayed
+ends_of given (Limited b) p settings of t = is_of given b p settings of t.replayed
+ends_of given (Stranded b) p settings of t = is_of given b p settings of t.replayed
+ends_of given Memory p settings of t = tt
+
+pub ends_right : (given : BookState) (end : End) (p : Instance) (settings : Settings)
+    → IsOf p settings given → IsSoundBook given → HasEnded given end
+    → IfAnswered end (IsRightFor p settings)
+ends_right given (Answered b) p settings of sound t =
+    let own = is_of given b p settings of t.replayed in
+    subst (λ (q : Instance). Right q settings.gap (answer_of b.best)) own.its_problem
+    (subst (λ (s : Settings). Right b.problem s.gap (answer_of b.best)) own.its_settings
+    (t.right sound))
+ends_right given (Limited b) p settings of sound t = tt
+ends_right given (Stranded b) p settings of sound t = tt
+ends_right given Memory p settings of sound t = tt
+
+-- a run that ended without a book
+pub none_ended : (given : BookState) → HasEnded given Memory
+none_ended given = record {
+  replayed = tt;
+  sound = λ sound. tt;
+  answered = tt;
+  right = λ sound. tt;
+  limited = tt;
+  stranded = λ stranded. stranded;
+}
+
+-- a run from a book of the problem
+pub is_run : (Began : BookState → Type 0) (Trusted : Type 0) (p : Instance) (settings : Settings)
+    (outcome : Outcome) (given : BookState) → Began given → IsOf p settings given
+    → (Trusted → IsSoundBook given) → HasEnded given outcome.end
+    → IsRun Began Trusted p settings outcome
+is_run Began Trusted p settings outcome given began of sound ended = record {
+  given = given;
+  began = began;
+  ended = ended;
+  of = ends_of given outcome.end p settings of ended;
+  right = λ trusted. ends_right given outcome.end p settings of (sound trusted) ended;
+}

@@ -1,0 +1,20 @@
+use Rattle.ug_top.specs.Outside.{outside}
+use Rattle.ug_top.proofs.Accounts.{unread_read, unread_stored}
+use Rattle.ug_top.proofs.Tellings.{restart_lines}
+use Rattle.ug_top.proofs.command.run_restart.Goals as goal
+
+pub returns-in-Err-clause-accounted : goal.returns-in-Err-clause-accounted
+returns-in-Err-clause-accounted g c = record {
+  read = unread_read _ _ c.in-Err.ended _ _ c.in-Err.ensures.unread c.in-Err.ensures.fault
+      c.in-Err.ensures.calm;
+  stored = unread_stored _ _ c.in-Err.ended _ _ c.in-Err.ensures.unread;
+}
+
+pub returns-clause-lines : goal.returns-clause-lines
+returns-clause-lines g c =
+    restart_lines c.args.restart.now.settings
+    (outside (g.S.Source.left c.args.input.now) (g.S.Source.faults c.args.input.now)
+    (g.D.Disk.told c.args.disk.now) (g.D.Disk.faults c.args.disk.now))
+    (outside (g.S.Source.left c.read_problem.new.input) (g.S.Source.faults c.read_problem.new.input)
+    (g.D.Disk.told c.run_on.new.disk) (g.D.Disk.faults c.run_on.new.disk))
+    c.in-Ok.problem c.in-Ok.ensures.states c.run_on.result c.run_on.ensures.run

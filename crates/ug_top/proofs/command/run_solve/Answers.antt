@@ -1,0 +1,20 @@
+use Rattle.ug_top.proofs.Accounts.{unread_read, unread_stored}
+use Rattle.ug_top.proofs.Tellings.{alone_lines, saved_lines}
+use Rattle.ug_top.proofs.command.run_solve.Goals as goal
+
+pub returns-in-Err-clause-accounted : goal.returns-in-Err-clause-accounted
+returns-in-Err-clause-accounted g c = record {
+  read = unread_read _ _ c.in-Err.ended _ _ c.in-Err.ensures.unread c.in-Err.ensures.fault
+      c.in-Err.ensures.calm;
+  stored = unread_stored _ _ c.in-Err.ended _ _ c.in-Err.ensures.unread;
+}
+
+pub returns-in-None-clause-lines : goal.returns-in-None-clause-lines
+returns-in-None-clause-lines g c =
+    alone_lines c.args.solve.now.checkpoint c.args.solve.now.settings _ _ c.in-Ok.problem
+    c.in-None.is c.in-Ok.ensures.states c.run_alone.result c.run_alone.ensures.run
+
+pub returns-in-Some-clause-lines : goal.returns-in-Some-clause-lines
+returns-in-Some-clause-lines g c =
+    saved_lines c.args.solve.now.checkpoint c.in-Some.field-0 c.args.solve.now.settings _ _
+    c.in-Ok.problem c.in-Some.is c.in-Ok.ensures.states c.run_saved.result c.run_saved.ensures.run

@@ -1,0 +1,26 @@
+use Rattle.std.proofs.Common.{length, drop, subst}
+use Rattle.ug_mps.specs.Ending.{IsEndedAt, IsLineAt}
+use Rattle.ug_top.specs.Enough.{StopsBehind}
+use Rattle.ug_top.proofs.Gathered.{enough_last, stops_here, stops_behind, stops_last, on_ok}
+use Rattle.ug_top.proofs.gather.gather.Goals as goal
+
+pub returns-then-n-eq0-clause-enough : goal.returns-then-n-eq0-clause-enough
+returns-then-n-eq0-clause-enough g c =
+    enough_last _ _ _ _ _ _ c.if-n-eq0.true c.in-Ok.ensures.bytes c.loop-cut.invariant.came (c.in-Ok.ensures.end c.if-n-eq0.true)
+
+pub returns-then-n-eq0-clause-stops : goal.returns-then-n-eq0-clause-stops
+returns-then-n-eq0-clause-stops g c =
+    stops_last _ _ _ c.loop-cut.bytes.items _ c.in-Open.begins c.in-Ok.n (subst (λ l. IsLineAt l c.in-Open.begins (length l)) c.deref.ensures.value c.in-Open.ensures.last)
+    c.if-n-eq0.true c.loop-cut.invariant.came c.in-Ok.ensures.taken
+
+pub returns-in-Ended-clause-stops : goal.returns-in-Ended-clause-stops
+returns-in-Ended-clause-stops g c =
+    let i = c.loop-cut.invariant in
+    on_ok _ (StopsBehind (drop c.in-Ended.cut c.loop-cut.bytes.items) (g.S.Source.left c.loop-cut.input) (g.S.Source.left c.ended.new.input)) _
+    (stops_behind _ _ _ c.loop-cut.bytes.items c.loop-cut.line c.loop-cut.from c.in-Ended.cut i.line i.few i.came
+    (subst (λ l. IsEndedAt l c.in-Ended.cut) c.deref.ensures.value c.in-Ended.ensures)) c.ended.ensures.stops
+
+pub returns-in-Passed-clause-stops : goal.returns-in-Passed-clause-stops
+returns-in-Passed-clause-stops g c =
+    let i = c.loop-cut.invariant in
+    stops_here _ _ c.loop-cut.bytes.items c.loop-cut.line c.loop-cut.from i.line i.few i.came

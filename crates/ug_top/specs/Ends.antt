@@ -1,0 +1,261 @@
+-- How each command ends: its status and its lines, by what it read and what the disk had.
+use Rattle.std.specs.Prelude.{◌≡◌, ℕ, ◌<◌, ◌≤◌, List, Option, None, Some}
+use Rattle.ug_io.specs.Outside.{Rose}
+use Rattle.ug_disk.specs.declared.slot.Slot.{Slot}
+use Rattle.ug_disk.specs.Histories.{History}
+use Rattle.ug_problem.specs.Instances.{Instance}
+use Rattle.ug_restart.specs.declared.fault.StartFault.{StartFault}
+use Rattle.ug_restart.specs.declared.fault.StartFault.TheVariants as faults
+use Rattle.ug_restart.specs.declared.outcome.Outcome.{Outcome}
+use Rattle.ug_restart.specs.Starts.{IsNotBegun, IsNotGoneOn}
+use Rattle.ug_restart.specs.Openings.{CoversWhatIsFound}
+use Rattle.ug_restart.specs.Moments.{AllCovered}
+use Rattle.ug_checkpoint.specs.declared.found.Found.{Found}
+use Rattle.ug_checkpoint.specs.Recovery.{HasFound, IsFirstBadSlot, Loaded}
+use Rattle.ug_threads.specs.Outcomes.{IsUntouched}
+use Rattle.ug_top.specs.Runs.{IsKeptOn, IsNewRun, IsRunOn, IsSavedRun}
+use Rattle.ug_print.specs.Lines.{memory_line, read_fault_line}
+use Rattle.ug_print.specs.Faults.{fault_line}
+use Rattle.ug_print.specs.Checkpoints.{AreCheckpointLines}
+use Rattle.ug_gen.specs.Stated.{instance}
+use Rattle.ug_cli.specs.declared.plan.Settings.{Settings as Asked}
+use Rattle.ug_cli.specs.declared.plan.Gen.{Gen}
+use Rattle.ug_cli.specs.declared.plan.Plan.{Plan}
+use Rattle.ug_cli.specs.declared.plan.Plan.TheVariants as plans
+use Rattle.ug_top.specs.Outside.{Outside}
+use Rattle.ug_top.specs.Plans.{IsPlanned, IsPlannedGen, settings_for, settings_made}
+use Rattle.ug_top.specs.Lines.{AreFaultLines, AreRunLines, IsEndLine, IsRefusedLine}
+use Rattle.ug_top.specs.declared.status.Status.{Status}
+use Rattle.ug_top.specs.declared.status.Status.TheVariants as statuses
+use Rattle.ug_top.specs.declared.ended.Ended.{Ended}
+use Rattle.ug_top.specs.declared.ended.Ended.TheVariants.{Lines, ReadFault, Memory}
+
+-- its status and its lines
+abbrev pub status_of : Ended → Status
+status_of (Lines status text) = status
+status_of ReadFault = statuses.ReadFault
+status_of Memory = statuses.Memory
+
+abbrev pub text_of : Ended → List ℕ
+text_of (Lines status text) = text.items
+text_of ReadFault = read_fault_line
+text_of Memory = memory_line
+
+-- ---- a file
+
+-- the lines of each status of a run of the problem that the source states
+abbrev pub AreFileLines : (Instance → Outcome → Type 0) → (Instance → StartFault → Type 0) → Asked
+    → Option (List ℕ) → Status → List ℕ → Type 0
+AreFileLines Ran Not asked left statuses.Answered text =
+    AreRunLines Ran asked.bounds.gap asked.bounds.boxed left statuses.Answered text
+AreFileLines Ran Not asked left statuses.Limited text =
+    AreRunLines Ran asked.bounds.gap asked.bounds.boxed left statuses.Limited text
+AreFileLines Ran Not asked left statuses.Refused text =
+    IsRefusedLine asked.bounds.boxed left text
+AreFileLines Ran Not asked left statuses.ReadFault text = text ≡ read_fault_line
+AreFileLines Ran Not asked left statuses.Memory text = text ≡ memory_line
+AreFileLines Ran Not asked left statuses.DiskFault text =
+    AreFaultLines Not asked.bounds.boxed left statuses.DiskFault text
+AreFileLines Ran Not asked left statuses.NoCheckpoint text =
+    AreFaultLines Not asked.bounds.boxed left statuses.NoCheckpoint text
+AreFileLines Ran Not asked left statuses.OtherProblem text =
+    AreFaultLines Not asked.bounds.boxed left statuses.OtherProblem text
+AreFileLines Ran Not asked left statuses.BadImage text =
+    AreFaultLines Not asked.bounds.boxed left statuses.BadImage text
+AreFileLines Ran Not asked left statuses.Spent text =
+    AreFaultLines Not asked.bounds.boxed left statuses.Spent text
+AreFileLines Ran Not asked left statuses.SmallerGap text =
+    AreFaultLines Not asked.bounds.boxed left statuses.SmallerGap text
+AreFileLines Ran Not asked left statuses.Usage text = ⊥
+AreFileLines Ran Not asked left statuses.WriteFault text = ⊥
+
+-- a new solve without a checkpoint: the disk is left alone, and nothing keeps it from beginning
+pub record HasRunAlone (asked : Asked) (slots after : Option History) (stores risen : ℕ)
+    (p : Instance) (outcome : Outcome) : Type 0 where
+  pub ran : IsNewRun p (settings_for asked p) outcome
+  pub untouched : IsUntouched outcome slots after stores risen
+
+abbrev pub BeginsAlways : Instance → StartFault → Type 0
+BeginsAlways p fault = ⊥
+
+-- a new solve with a checkpoint
+pub record HasRunSaved (asked : Asked) (slots after : Option History) (stores risen : ℕ)
+    (p : Instance) (outcome : Outcome) : Type 0 where
+  pub ran : IsSavedRun p (settings_for asked p) slots outcome
+  pub kept : IsKeptOn outcome after stores risen
+
+abbrev pub HasNotBegun : Option History → Option History → Instance → StartFault → Type 0
+HasNotBegun slots after p fault = IsNotBegun slots after fault
+
+-- a run that goes on from the checkpoint
+pub record HasRunOn (asked : Asked) (slots after : Option History) (stores risen : ℕ)
+    (p : Instance) (outcome : Outcome) : Type 0 where
+  pub ran : IsRunOn p (settings_for asked p) slots outcome
+  pub kept : IsKeptOn outcome after stores risen
+
+abbrev pub HasNotGoneOn : Asked → Option History → Option History → Instance → StartFault → Type 0
+HasNotGoneOn asked slots after p fault = IsNotGoneOn p (settings_for asked p) slots after fault
+
+-- how a solve ends, where a checkpoint is kept and where none is
+abbrev pub AreSolveLines : {A : Type 0} → Option A → Asked → Outside → Outside → Status → List ℕ
+    → Type 0
+AreSolveLines None asked old new status text =
+    AreFileLines (HasRunAlone asked old.slots new.slots old.stores new.stores) BeginsAlways asked
+    old.left status text
+AreSolveLines (Some folder) asked old new status text =
+    AreFileLines (HasRunSaved asked old.slots new.slots old.stores new.stores)
+    (HasNotBegun old.slots new.slots) asked old.left status text
+
+-- how a restart ends
+abbrev pub AreRestartLines : Asked → Outside → Outside → Status → List ℕ → Type 0
+AreRestartLines asked old new status text =
+    AreFileLines (HasRunOn asked old.slots new.slots old.stores new.stores)
+    (HasNotGoneOn asked old.slots new.slots) asked old.left status text
+
+-- ---- a checkpoint
+
+-- what recovery finds is shown, and no call of the disk failed
+pub record IsShown (slots after : Option History) (stores risen : ℕ) (text : List ℕ) : Type 0 where
+  pub found : Found
+  pub has : HasFound slots after (Some found)
+  pub calm : risen ≡ stores
+  pub lines : AreCheckpointLines found.image text
+
+-- the first slot that is open and spells no image is named
+pub record IsBadShown (slots after : Option History) (text : List ℕ) : Type 0 where
+  pub slot : Slot
+  pub at : ℕ
+  pub bad : Loaded (λ zero one. IsFirstBadSlot zero one slot at) slots after
+  pub is : text ≡ fault_line (faults.BadImage slot at)
+
+-- how a show ends
+abbrev pub AreShowLines : Option History → Option History → ℕ → ℕ → Status → List ℕ → Type 0
+AreShowLines slots after stores risen statuses.Answered text = IsShown slots after stores risen text
+AreShowLines slots after stores risen statuses.NoCheckpoint text =
+    HasFound slots after None × (text ≡ fault_line faults.NoCheckpoint)
+AreShowLines slots after stores risen statuses.BadImage text = IsBadShown slots after text
+AreShowLines slots after stores risen statuses.DiskFault text = text ≡ fault_line faults.DiskFault
+AreShowLines slots after stores risen statuses.Memory text = text ≡ memory_line
+AreShowLines slots after stores risen statuses.Usage text = ⊥
+AreShowLines slots after stores risen statuses.Refused text = ⊥
+AreShowLines slots after stores risen statuses.ReadFault text = ⊥
+AreShowLines slots after stores risen statuses.WriteFault text = ⊥
+AreShowLines slots after stores risen statuses.Limited text = ⊥
+AreShowLines slots after stores risen statuses.OtherProblem text = ⊥
+AreShowLines slots after stores risen statuses.Spent text = ⊥
+AreShowLines slots after stores risen statuses.SmallerGap text = ⊥
+
+-- ---- faults
+
+-- the disk was not asked, or none of its calls failed
+abbrev pub IsCalmFor : Status → Type 0
+IsCalmFor statuses.Answered = ⊥
+IsCalmFor statuses.Limited = ⊥
+IsCalmFor statuses.Memory = ⊥
+IsCalmFor statuses.DiskFault = ⊥
+IsCalmFor statuses.Usage = Unit {0}
+IsCalmFor statuses.Refused = Unit {0}
+IsCalmFor statuses.ReadFault = Unit {0}
+IsCalmFor statuses.WriteFault = Unit {0}
+IsCalmFor statuses.NoCheckpoint = Unit {0}
+IsCalmFor statuses.OtherProblem = Unit {0}
+IsCalmFor statuses.BadImage = Unit {0}
+IsCalmFor statuses.Spent = Unit {0}
+IsCalmFor statuses.SmallerGap = Unit {0}
+
+-- the text was not read, so the disk is not asked
+abbrev pub IsUnreadFor : Status → Type 0
+IsUnreadFor statuses.Refused = Unit {0}
+IsUnreadFor statuses.ReadFault = Unit {0}
+IsUnreadFor statuses.Answered = ⊥
+IsUnreadFor statuses.Limited = ⊥
+IsUnreadFor statuses.Memory = ⊥
+IsUnreadFor statuses.DiskFault = ⊥
+IsUnreadFor statuses.Usage = ⊥
+IsUnreadFor statuses.WriteFault = ⊥
+IsUnreadFor statuses.NoCheckpoint = ⊥
+IsUnreadFor statuses.OtherProblem = ⊥
+IsUnreadFor statuses.BadImage = ⊥
+IsUnreadFor statuses.Spent = ⊥
+IsUnreadFor statuses.SmallerGap = ⊥
+
+-- The count of the disk's faults does not fall. A disk fault is told only where it rose, and it did
+-- not where a run was refused for another cause. Where no text was read the slots are as they were.
+-- Where all that recovery could find was Covered, it is so at each moment.
+pub record IsStored (slots after : Option History) (stores risen : ℕ) (status : Status)
+    : Type 0 where
+  pub rises : stores ≤ risen
+  pub fault : status ≡ statuses.DiskFault → Rose stores risen
+  pub calm : IsCalmFor status → risen ≡ stores
+  pub unread : IsUnreadFor status → after ≡ slots
+  pub any_moment : CoversWhatIsFound slots → AllCovered slots after
+
+-- The count of the source's faults does not fall, and a read fault is told exactly where it rose.
+pub record IsReadAs (reads risen : ℕ) (status : Status) : Type 0 where
+  pub rises : reads ≤ risen
+  pub fault : status ≡ statuses.ReadFault → Rose reads risen
+  pub source : reads < risen → status ≡ statuses.ReadFault
+
+pub record IsAccounted (old new : Outside) (status : Status) : Type 0 where
+  pub read : IsReadAs old.reads new.reads status
+  pub stored : IsStored old.slots new.slots old.stores new.stores status
+
+-- ---- a made instance
+
+-- a run of the made instance ended with this outcome, and the first line of its end is printed
+pub record IsMadeRun (gen : Gen) (slots after : Option History) (stores risen : ℕ)
+    (status : Status) (text : List ℕ) : Type 0 where
+  pub outcome : Outcome
+  pub ran : IsNewRun (instance gen.seed gen.size) (settings_made gen.solvers) outcome
+  pub untouched : IsUntouched outcome slots after stores risen
+  pub line : IsEndLine outcome.end status text
+
+-- how a run of a made instance ends
+abbrev pub AreGenLines : Gen → Option History → Option History → ℕ → ℕ → Status → List ℕ → Type 0
+AreGenLines gen slots after stores risen statuses.Answered text =
+    IsMadeRun gen slots after stores risen statuses.Answered text
+AreGenLines gen slots after stores risen statuses.Limited text =
+    IsMadeRun gen slots after stores risen statuses.Limited text
+AreGenLines gen slots after stores risen statuses.Memory text = text ≡ memory_line
+AreGenLines gen slots after stores risen statuses.Usage text = ⊥
+AreGenLines gen slots after stores risen statuses.Refused text = ⊥
+AreGenLines gen slots after stores risen statuses.ReadFault text = ⊥
+AreGenLines gen slots after stores risen statuses.WriteFault text = ⊥
+AreGenLines gen slots after stores risen statuses.DiskFault text = ⊥
+AreGenLines gen slots after stores risen statuses.NoCheckpoint text = ⊥
+AreGenLines gen slots after stores risen statuses.OtherProblem text = ⊥
+AreGenLines gen slots after stores risen statuses.BadImage text = ⊥
+AreGenLines gen slots after stores risen statuses.Spent text = ⊥
+AreGenLines gen slots after stores risen statuses.SmallerGap text = ⊥
+
+-- ---- any plan
+
+-- what each plan asks for
+abbrev pub AreLinesOf : Plan → Outside → Outside → Status → List ℕ → Type 0
+AreLinesOf (plans.Solve solve) old new status text =
+    AreSolveLines solve.checkpoint solve.settings old new status text
+AreLinesOf (plans.Restart restart) old new status text =
+    AreRestartLines restart.settings old new status text
+AreLinesOf (plans.Show show) old new status text =
+    AreShowLines old.slots new.slots old.stores new.stores status text
+AreLinesOf (plans.Gen gen) old new status text =
+    AreGenLines gen old.slots new.slots old.stores new.stores status text
+
+-- it asks for no checkpoint
+abbrev pub IsDiskless : Plan → Type 0
+IsDiskless (plans.Solve solve) = solve.checkpoint ≡ None
+IsDiskless (plans.Restart restart) = ⊥
+IsDiskless (plans.Show show) = ⊥
+IsDiskless (plans.Gen gen) = Unit {0}
+
+-- the disk is as it was, and none of its calls failed
+pub record IsLeftAlone (slots after : Option History) (stores risen : ℕ) : Type 0 where
+  pub same : after ≡ slots
+  pub calm : risen ≡ stores
+
+-- its numbers are within their limits
+abbrev pub IsPlannedOf : Plan → Type 0
+IsPlannedOf (plans.Solve solve) = IsPlanned solve.settings
+IsPlannedOf (plans.Restart restart) = IsPlanned restart.settings
+IsPlannedOf (plans.Show show) = Unit {0}
+IsPlannedOf (plans.Gen gen) = IsPlannedGen gen

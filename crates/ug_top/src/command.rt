@@ -1,0 +1,198 @@
+ghost use Rattle.std.specs.Prelude.{◌≡◌, None};
+ghost use Rattle.ug_top.specs.Outside.{outside};
+ghost use Rattle.ug_top.specs.Plans.{IsPlanned};
+ghost use Rattle.ug_top.specs.Ends.{AreLinesOf, AreRestartLines, AreSolveLines, BeginsAlways, HasNotBegun, HasNotGoneOn, HasRunAlone, HasRunOn, HasRunSaved, IsAccounted, IsDiskless, IsLeftAlone, IsPlannedOf, IsStored, status_of, text_of};
+ghost use Rattle.ug_top.specs.Outcomes.{TellsRun};
+ghost use Rattle.ug_top.specs.Unread.{HasStopped};
+
+use crate::ended::Ended;
+use crate::made::run_made;
+use crate::one_run::{go_on, solve_new, solve_saved};
+use crate::outcome::{tell_fault, tell_outcome};
+use crate::reading::read_problem;
+use crate::settings::settings_for;
+use crate::show::show;
+use std::alloc::Global;
+use std::sync::Wait;
+use std::thread::Threads;
+use ug_cli::{Plan, Restart, Settings as Asked, Solve};
+use ug_disk::Disk;
+use ug_io::Source;
+use ug_problem::Shared;
+use ug_threads::Gate;
+
+/// Does what the plan asks for, up to the lines, which it does not write: it reads the source,
+/// runs, and saves to the disk, each as far as the plan has it.
+#[tactic(auto, using(crate::proofs::Gathered::has_stopped, crate::proofs::Gathered::stops_unread))]
+pub fn run_plan<R: Threads + Wait + Sync, S: Source, D: Disk, G: Gate>(
+    rt: &R,
+    alloc: Global,
+    plan: &Plan<'_>,
+    input: &mut S,
+    disk: &mut D,
+    gate: &G,
+) -> Ended
+    requires { IsPlannedOf plan.now }
+    ensures lines { AreLinesOf plan.now
+        (outside (S.left input.old) (S.faults input.old) (D.told disk.old) (D.faults disk.old))
+        (outside (S.left input.new) (S.faults input.new) (D.told disk.new) (D.faults disk.new))
+        (status_of result) (text_of result) }
+    ensures accounted { IsAccounted
+        (outside (S.left input.old) (S.faults input.old) (D.told disk.old) (D.faults disk.old))
+        (outside (S.left input.new) (S.faults input.new) (D.told disk.new) (D.faults disk.new))
+        (status_of result) }
+    ensures alone { IsDiskless plan.now → IsLeftAlone (D.told disk.old) (D.told disk.new)
+        (D.faults disk.old) (D.faults disk.new) }
+    ensures stopped { HasStopped (S.left input.old) (S.left input.new) result }
+{
+    match plan {
+        Plan::Solve(solve) => run_solve(rt, alloc, solve, input, disk, gate),
+        Plan::Restart(restart) => run_restart(rt, alloc, restart, input, disk, gate),
+        Plan::Show(_) => show(alloc, disk),
+        Plan::Gen(asked) => run_made(rt, alloc, asked, disk, gate),
+    }
+}
+
+// Reads the problem and solves it.
+#[tactic(auto, using(crate::proofs::Gathered::has_stopped, crate::proofs::Gathered::stops_unread))]
+fn run_solve<R: Threads + Wait + Sync, S: Source, D: Disk, G: Gate>(
+    rt: &R,
+    alloc: Global,
+    solve: &Solve<'_>,
+    input: &mut S,
+    disk: &mut D,
+    gate: &G,
+) -> Ended
+    requires { IsPlanned solve.now.settings }
+    ensures lines { AreSolveLines solve.now.checkpoint solve.now.settings
+        (outside (S.left input.old) (S.faults input.old) (D.told disk.old) (D.faults disk.old))
+        (outside (S.left input.new) (S.faults input.new) (D.told disk.new) (D.faults disk.new))
+        (status_of result) (text_of result) }
+    ensures accounted { IsAccounted
+        (outside (S.left input.old) (S.faults input.old) (D.told disk.old) (D.faults disk.old))
+        (outside (S.left input.new) (S.faults input.new) (D.told disk.new) (D.faults disk.new))
+        (status_of result) }
+    ensures alone { solve.now.checkpoint ≡ None → IsLeftAlone (D.told disk.old) (D.told disk.new)
+        (D.faults disk.old) (D.faults disk.new) }
+    ensures stopped { HasStopped (S.left input.old) (S.left input.new) result }
+{
+    let problem = match read_problem(alloc, solve.settings.bounds.boxed, input) {
+        Ok(problem) => problem,
+        Err(ended) => return ended,
+    };
+    match solve.checkpoint {
+        None => run_alone(rt, alloc, &solve.settings, problem, disk, gate),
+        Some(_) => run_saved(rt, alloc, &solve.settings, problem, disk, gate),
+    }
+}
+
+// Reads the problem and goes on with it.
+#[tactic(auto, using(crate::proofs::Gathered::has_stopped, crate::proofs::Gathered::stops_unread))]
+fn run_restart<R: Threads + Wait + Sync, S: Source, D: Disk, G: Gate>(
+    rt: &R,
+    alloc: Global,
+    restart: &Restart<'_>,
+    input: &mut S,
+    disk: &mut D,
+    gate: &G,
+) -> Ended
+    requires { IsPlanned restart.now.settings }
+    ensures lines { AreRestartLines restart.now.settings
+        (outside (S.left input.old) (S.faults input.old) (D.told disk.old) (D.faults disk.old))
+        (outside (S.left input.new) (S.faults input.new) (D.told disk.new) (D.faults disk.new))
+        (status_of result) (text_of result) }
+    ensures accounted { IsAccounted
+        (outside (S.left input.old) (S.faults input.old) (D.told disk.old) (D.faults disk.old))
+        (outside (S.left input.new) (S.faults input.new) (D.told disk.new) (D.faults disk.new))
+        (status_of result) }
+    ensures stopped { HasStopped (S.left input.old) (S.left input.new) result }
+{
+    let problem = match read_problem(alloc, restart.settings.bounds.boxed, input) {
+        Ok(problem) => problem,
+        Err(ended) => return ended,
+    };
+    run_on(rt, alloc, &restart.settings, problem, disk, gate)
+}
+
+// Solves the problem without a checkpoint.
+fn run_alone<R: Threads + Wait + Sync, D: Disk, G: Gate>(
+    rt: &R,
+    alloc: Global,
+    asked: &Asked<'_>,
+    problem: Shared,
+    disk: &mut D,
+    gate: &G,
+) -> Ended
+    requires { IsPlanned asked.now }
+    ensures run { TellsRun
+        (HasRunAlone asked.now (D.told disk.old) (D.told disk.new) (D.faults disk.old)
+        (D.faults disk.new) problem)
+        (BeginsAlways problem) asked.now.bounds.gap result }
+    ensures stored { IsStored (D.told disk.old) (D.told disk.new)
+        (D.faults disk.old) (D.faults disk.new) (status_of result) }
+    ensures alone { IsLeftAlone (D.told disk.old) (D.told disk.new)
+        (D.faults disk.old) (D.faults disk.new) }
+{
+    let settings = settings_for(asked, problem.problem());
+    let outcome = solve_new(rt, alloc, problem, settings, disk, gate);
+    let ended = tell_outcome(alloc, &outcome, asked.bounds.gap);
+    drop(outcome);
+    ended
+}
+
+// Solves the problem and keeps a checkpoint.
+fn run_saved<R: Threads + Wait + Sync, D: Disk, G: Gate>(
+    rt: &R,
+    alloc: Global,
+    asked: &Asked<'_>,
+    problem: Shared,
+    disk: &mut D,
+    gate: &G,
+) -> Ended
+    requires { IsPlanned asked.now }
+    ensures run { TellsRun
+        (HasRunSaved asked.now (D.told disk.old) (D.told disk.new) (D.faults disk.old)
+        (D.faults disk.new) problem)
+        (HasNotBegun (D.told disk.old) (D.told disk.new) problem) asked.now.bounds.gap result }
+    ensures stored { IsStored (D.told disk.old) (D.told disk.new)
+        (D.faults disk.old) (D.faults disk.new) (status_of result) }
+{
+    let settings = settings_for(asked, problem.problem());
+    match solve_saved(rt, alloc, problem, settings, disk, gate) {
+        Ok(outcome) => {
+            let ended = tell_outcome(alloc, &outcome, asked.bounds.gap);
+            drop(outcome);
+            ended
+        }
+        Err(fault) => tell_fault(alloc, &fault),
+    }
+}
+
+// Goes on with the problem from the checkpoint.
+fn run_on<R: Threads + Wait + Sync, D: Disk, G: Gate>(
+    rt: &R,
+    alloc: Global,
+    asked: &Asked<'_>,
+    problem: Shared,
+    disk: &mut D,
+    gate: &G,
+) -> Ended
+    requires { IsPlanned asked.now }
+    ensures run { TellsRun
+        (HasRunOn asked.now (D.told disk.old) (D.told disk.new) (D.faults disk.old)
+        (D.faults disk.new) problem)
+        (HasNotGoneOn asked.now (D.told disk.old) (D.told disk.new) problem)
+        asked.now.bounds.gap result }
+    ensures stored { IsStored (D.told disk.old) (D.told disk.new)
+        (D.faults disk.old) (D.faults disk.new) (status_of result) }
+{
+    let settings = settings_for(asked, problem.problem());
+    match go_on(rt, alloc, problem, settings, disk, gate) {
+        Ok(outcome) => {
+            let ended = tell_outcome(alloc, &outcome, asked.bounds.gap);
+            drop(outcome);
+            ended
+        }
+        Err(fault) => tell_fault(alloc, &fault),
+    }
+}

@@ -1,0 +1,39 @@
+ghost use Rattle.std.specs.Prelude.{◌≡◌};
+ghost use Rattle.ug_top.specs.Ends.{status_of, text_of};
+
+use crate::status::Status;
+
+/// How a command ended, with the lines to write.
+#[derive(Drop)]
+pub enum Ended {
+    /// With lines that were made.
+    Lines { status: Status, text: Vec<u8> },
+    /// The source failed.
+    ReadFault,
+    /// Memory was wanting.
+    Memory,
+}
+
+impl Ended {
+    /// The status.
+    pub fn status(&self) -> Status
+        ensures { result ≡ status_of self.now }
+    {
+        match self {
+            Ended::Lines { status, .. } => *status,
+            Ended::ReadFault => Status::ReadFault,
+            Ended::Memory => Status::Memory,
+        }
+    }
+
+    /// The lines.
+    pub fn text(&self) -> &[u8]
+        ensures { result.now ≡ text_of self.now }
+    {
+        match self {
+            Ended::Lines { text, .. } => text.as_slice(),
+            Ended::ReadFault => ug_print::read_fault(),
+            Ended::Memory => ug_print::memory(),
+        }
+    }
+}

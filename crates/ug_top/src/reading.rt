@@ -1,0 +1,63 @@
+ghost use Rattle.std.specs.Prelude.{◌≡◌, ◌≤◌, ◌<◌, ◌^◌, ◌⊎◌, IfSome, IfOk, IfErr, OnOk};
+ghost use Rattle.ug_io.specs.Outside.{Rose};
+ghost use Rattle.ug_mps.specs.Reads.{Reads};
+ghost use Rattle.ug_top.specs.Enough.{StopsAtEnd};
+ghost use Rattle.ug_top.specs.Lines.{States};
+ghost use Rattle.ug_top.specs.Unread.{HasStopped, IsTextUnread, IsUnread};
+ghost use Rattle.ug_top.specs.declared.ended.Ended.TheVariants.{ReadFault};
+
+use crate::ended::Ended;
+use crate::gather::{GatherError, gather};
+use crate::status::Status;
+use std::alloc::{AllocError, Global};
+use ug_drafts::MpsError;
+use ug_io::Source;
+use ug_mps::read;
+use ug_print::refusal;
+use ug_problem::{Problem, Shared};
+
+/// The problem that the source states under the box; or how the command ends that read no problem.
+#[tactic(auto, using(crate::proofs::Texts::told_problem, crate::proofs::Texts::told_unread, crate::proofs::Gathered::has_stopped))]
+pub fn read_problem<S: Source>(
+    alloc: Global,
+    boxed: Option<u32>,
+    input: &mut S,
+) -> Result<Shared, Ended>
+    requires { IfSome boxed (λ u. u ≤ 10 ^ 9) }
+    ensures states { IfOk result (States (S.left input.old) boxed) }
+    ensures unread { IfErr result (IsUnread boxed (S.left input.old)) }
+    ensures stops { OnOk result (StopsAtEnd (S.left input.old) (S.left input.new)) }
+    ensures stopped { IfErr result (HasStopped (S.left input.old) (S.left input.new)) }
+    ensures fault { IfErr result (λ e. e ≡ ReadFault
+        → Rose (S.faults input.old) (S.faults input.new)) }
+    ensures calm { IfErr result (λ e. (e ≡ ReadFault) ⊎ (S.faults input.new ≡ S.faults input.old)) }
+    ensures well { OnOk result (S.faults input.new ≡ S.faults input.old) }
+{
+    match gather(alloc, input) {
+        Ok(text) => match problem_of(alloc, &text, boxed) {
+            Ok(problem) => Ok(Shared::own(problem)),
+            Err(ended) => Err(ended),
+        },
+        Err(GatherError::Memory) => Err(Ended::Memory),
+        Err(GatherError::Fault) => Err(Ended::ReadFault),
+    }
+}
+
+// The problem that the text states under the box.
+fn problem_of(alloc: Global, text: &[u8], boxed: Option<u32>) -> Result<Problem, Ended>
+    requires { IfSome boxed (λ u. u ≤ 10 ^ 9) }
+    ensures reads { IfOk result (Reads text.now boxed) }
+    ensures unread { IfErr result (IsTextUnread boxed text.now) }
+{
+    match read(alloc, text, boxed) {
+        Ok(problem) => Ok(problem),
+        Err(MpsError::Memory) => Err(Ended::Memory),
+        Err(MpsError::Fault(fault)) => match refusal(alloc, &fault) {
+            Ok(text) => Err(Ended::Lines {
+                status: Status::Refused,
+                text,
+            }),
+            Err(AllocError) => Err(Ended::Memory),
+        },
+    }
+}

@@ -1,0 +1,66 @@
+-- What a schedule that was played leaves.
+use Rattle.std.specs.Prelude.{◌≡◌, ℕ, List, length, take, All, Option, None, Some, Result, Ok, Err}
+use Rattle.std.specs.Prelude.{slice_get}
+use Rattle.ug_disk.specs.Memories.{history_of}
+use Rattle.ug_world.specs.declared.disk_event.DiskEvent.{DiskEvent}
+use Rattle.ug_world.specs.declared.halt.Halted.{Halted}
+use Rattle.ug_world.specs.declared.halt.Halted.TheVariants.{Refused}
+use Rattle.ug_world.specs.declared.disk_schedule.PlayedDisk.{PlayedDisk}
+use Rattle.ug_world.specs.declared.disk_schedule.PlayDiskFault.{PlayDiskFault}
+use Rattle.ug_world.specs.Machines.{DiskWorld, IsDiskCourse, disk_end_of}
+use Rattle.ug_world.specs.DiskHalts.{IsHalted, IsRefused}
+use Rattle.ug_world.specs.Laws.{LosesNothing}
+use Rattle.ug_world.specs.DiskLaws.{CoversAllAlong, IsHonestOnDisk}
+
+-- this is left of what stands
+pub record IsLeftOf (w : DiskWorld) (left : PlayedDisk) : Type 0 where
+  pub book : left.book ≡ w.world.book
+  pub saver : left.saver ≡ w.saver
+  pub disk : history_of left.disk ≡ w.told
+  pub replies : left.replies ≡ w.world.replies
+
+-- so many of the events happened, one after another, and led to what stands
+pub record HasCome (start : DiskWorld) (events : List DiskEvent) (done : ℕ) (w : DiskWorld)
+    : Type 0 where
+  pub course : List DiskWorld
+  pub happened : IsDiskCourse start (take done events) course
+  pub ends : disk_end_of start course ≡ w
+
+-- all of the events happened, and a run goes on
+pub record IsPlayedOnDisk (start : DiskWorld) (events : List DiskEvent) (left : PlayedDisk)
+    : Type 0 where
+  pub w : DiskWorld
+  pub come : HasCome start events (length events) w
+  pub goes_on : w.refused ≡ None
+  pub is_left : IsLeftOf w left
+
+-- what stands where the next event did not happen, or where there is none but the last restart was
+-- refused
+abbrev pub IsHaltedAt : Option DiskEvent → DiskWorld → DiskWorld → Halted → Type 0
+IsHaltedAt None old new why = IsRefused old why × (new ≡ old)
+IsHaltedAt (Some event) old new why = IsHalted old event new why
+
+-- so many of the events happened, and why no more did
+pub record IsStoppedOnDisk (start : DiskWorld) (events : List DiskEvent) (fault : PlayDiskFault)
+    : Type 0 where
+  pub w : DiskWorld
+  pub come : HasCome start events fault.done w
+  pub new : DiskWorld
+  pub halted : IsHaltedAt (slice_get events fault.done) w new fault.why
+  pub is_left : IsLeftOf new fault.left
+
+-- no better point is lost by what is left, if a run went on
+pub record NothingIsLost (w : DiskWorld) (left : PlayedDisk) : Type 0 where
+  pub book : w.refused ≡ None → LosesNothing left.book
+  pub disk : CoversAllAlong (history_of left.disk)
+
+-- so it is, as long as solvers are honest, wherever the schedule stopped
+abbrev pub HonestLeaveOnDisk : DiskWorld → List DiskEvent → Result PlayedDisk PlayDiskFault → Type 0
+HonestLeaveOnDisk start events (Ok left) =
+    (w : DiskWorld) (come : HasCome start events (length events) w)
+    → All IsHonestOnDisk come.course → IsLeftOf w left → NothingIsLost w left
+HonestLeaveOnDisk start events (Err fault) =
+    (w new : DiskWorld) (come : HasCome start events fault.done w)
+    → All IsHonestOnDisk come.course
+    → IsHaltedAt (slice_get events fault.done) w new fault.why
+    → IsLeftOf new fault.left → NothingIsLost w fault.left

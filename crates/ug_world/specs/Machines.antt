@@ -1,0 +1,134 @@
+-- A coordinator and the disk of its images, and what an event does to them.
+use Rattle.std.specs.Prelude.{◌≡◌, ◌⊎◌, List, [], ◌∷◌, length, Option, None, Some, IfSome}
+use Rattle.ug_disk.specs.Histories.{History}
+use Rattle.ug_disk.specs.Crashes.{Leaves, MayLeaveBoth}
+use Rattle.ug_disk.specs.Memories.{begun, history_of}
+use Rattle.ug_rules.specs.declared.settings.Settings.{Settings}
+use Rattle.ug_rules.specs.State.{BookState}
+use Rattle.ug_rules.specs.Books.{IsBook}
+use Rattle.ug_book.specs.Views.{IsSameRun}
+use Rattle.ug_image.specs.declared.image.Image.{Image}
+use Rattle.ug_image.specs.Images.{IsImage}
+use Rattle.ug_checkpoint.specs.declared.saver.Saver.{Saver}
+use Rattle.ug_checkpoint.specs.Savers.{IsKept}
+use Rattle.ug_restart.specs.declared.fault.StartFault.{StartFault}
+use Rattle.ug_snapshot.specs.Moments.{IsImageOf}
+use Rattle.ug_restart.specs.Openings.{IsAcknowledgedStart}
+use Rattle.ug_restart.specs.Starts.{IsGoneOn, IsNotGoneOn, IsSafeStart}
+use Rattle.ug_world.specs.declared.event.Event.{Event}
+use Rattle.ug_world.specs.Events.{IsEvent}
+use Rattle.ug_world.specs.Worlds.{Happens, World, opening}
+use Rattle.ug_world.specs.declared.disk_event.DiskEvent.{DiskEvent}
+use Rattle.ug_world.specs.declared.disk_event.DiskEvent.TheVariants.{World as InWorld, Note, Save}
+use Rattle.ug_world.specs.declared.disk_event.DiskEvent.TheVariants.{Crash, Stop}
+use Rattle.ug_world.specs.declared.machine.Machine.{Machine}
+use Rattle.ug_world.specs.Saves.{IsSaved}
+
+-- The book with what was sent and answered, the saver, the image that is noted to be saved, why the
+-- last restart was refused if it was, and what became of the disk. After a restart that was refused
+-- the book and the saver are those of the run before.
+pub record DiskWorld : Type 0 where
+  pub world : World
+  pub saver : Saver
+  pub noted : Option Image
+  pub refused : Option StartFault
+  pub told : History
+
+-- what the fields of a machine say
+abbrev pub world_of : Machine → DiskWorld
+world_of m = record {
+  world = m.playing;
+  saver = m.saver;
+  noted = m.noted;
+  refused = m.refused;
+  told = history_of m.disk;
+}
+
+-- before the first event
+abbrev pub beginning : BookState → Saver → History → DiskWorld
+beginning b saver told = record {
+  world = opening b [];
+  saver = saver;
+  noted = None;
+  refused = None;
+  told = told;
+}
+
+-- while a run goes on, the saver knows how the slots stand, and what is noted is an image
+abbrev pub IsAble : DiskWorld → Type 0
+IsAble w = w.refused ≡ None → IsKept w.saver (Some w.told) × IfSome w.noted IsImage
+
+-- something happens between the coordinator and its solvers, and the run stays the same
+pub record OfWorld (event : Event) (old new : DiskWorld) : Type 0 where
+  pub goes_on : old.refused ≡ None
+  pub is : IsEvent (length old.world.book.ranks) event
+  pub happens : Happens old.world event new.world
+  pub same : IsSameRun old.world.book new.world.book
+  pub rest : new ≡ record old { world = new.world }
+
+-- the image of this moment is noted; its sequence is given to it when it is saved
+pub record HasNoted (old new : DiskWorld) : Type 0 where
+  pub goes_on : old.refused ≡ None
+  pub image : Image
+  pub moment : IsImageOf old.world.book 1 image
+  pub rest : new ≡ record old { noted = Some image }
+
+-- what is noted, if something is, is saved or an attempt is made
+abbrev pub SavesWhat : Option Image → DiskWorld → DiskWorld → Type 0
+SavesWhat None old new = new ≡ old
+SavesWhat (Some image) old new = (next : Image)
+    × IsSaved old.saver image old.told new.saver next new.told
+    × (new ≡ record old { saver = new.saver; noted = Some next; told = new.told })
+
+pub record IsSavedOrNot (old new : DiskWorld) : Type 0 where
+  pub goes_on : old.refused ≡ None
+  pub saves : SavesWhat old.noted old new
+
+-- a run goes on from an image that recovery finds, once an image of its book is acknowledged
+pub record HasGoneOn (settings : Settings) (old new : DiskWorld) : Type 0 where
+  pub book : IsGoneOn old.world.book.problem settings (Some old.told) new.world.book
+  pub is : IsBook new.world.book
+  pub acknowledged : IsAcknowledgedStart (Some new.told) new.world.book new.saver
+  pub rest : new ≡ record {
+    world = record old.world { book = new.world.book };
+    saver = new.saver;
+    noted = None;
+    refused = None;
+    told = new.told;
+  }
+
+-- the restart is refused, for the first cause that is so or for want of memory
+pub record IsNotRestarted (settings : Settings) (old new : DiskWorld) : Type 0 where
+  pub fault : StartFault
+  pub why : IsNotGoneOn old.world.book.problem settings (Some old.told) (Some new.told) fault
+  pub rest : new ≡ record old { noted = None; refused = Some fault; told = new.told }
+
+-- The coordinator restarts. At each moment of that recovery finds what it could find before, or the
+-- first image of a book that goes on from such an image.
+pub record HasRestarted (settings : Settings) (old new : DiskWorld) : Type 0 where
+  pub leaves : Leaves (IsSafeStart (Some old.told)
+      (IsGoneOn old.world.book.problem settings (Some old.told))) (Some old.told) (Some new.told)
+  pub ends : HasGoneOn settings old new ⊎ IsNotRestarted settings old new
+
+-- what an event does
+abbrev pub HappensOnDisk : DiskWorld → DiskEvent → DiskWorld → Type 0
+HappensOnDisk old (InWorld event) new = OfWorld event old new
+HappensOnDisk old Note new = HasNoted old new
+HappensOnDisk old Save new = IsSavedOrNot old new
+HappensOnDisk old (Crash zero one settings) new =
+    MayLeaveBoth old.told.now zero.items one.items
+    × HasRestarted settings (record old { told = begun zero.items one.items }) new
+HappensOnDisk old (Stop settings) new = HasRestarted settings old new
+
+-- what stands after each of the events, one after another
+abbrev pub IsDiskCourse : DiskWorld → List DiskEvent → List DiskWorld → Type 0
+IsDiskCourse old [] [] = Unit {0}
+IsDiskCourse old (event ∷ events) (new ∷ course) =
+    HappensOnDisk old event new × IsDiskCourse new events course
+IsDiskCourse old [] (new ∷ course) = ⊥
+IsDiskCourse old (event ∷ events) [] = ⊥
+
+-- what stands at the end of a course
+abbrev pub disk_end_of : DiskWorld → List DiskWorld → DiskWorld
+disk_end_of old [] = old
+disk_end_of old (new ∷ course) = disk_end_of new course

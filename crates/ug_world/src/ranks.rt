@@ -1,0 +1,24 @@
+ghost use Rattle.std.specs.Prelude.{◌≡◌, ◌<◌, IfErr, OnOk};
+ghost use Rattle.ug_world.specs.Events.{IsEvent};
+ghost use Rattle.ug_world.specs.DiskEvents.{IsSendable, rank_of};
+ghost use Rattle.ug_world.specs.DiskHalts.{IsPastRanks};
+
+use crate::event::Event;
+use crate::halt::Halted;
+
+/// Whether the rank that an event names, if it names one, is one of so many.
+pub fn check_rank(event: &Event, ranks: u32) -> Result<(), Halted>
+    requires { IsSendable event.now }
+    ensures there { OnOk result (IsEvent ranks event.now) }
+    ensures halted { IfErr result (IsPastRanks ranks event.now) }
+{
+    match event {
+        Event::Hear { rank, .. } | Event::Join { rank } | Event::Gone { rank } => {
+            if *rank >= ranks {
+                return Err(Halted::NoRank { rank: *rank });
+            }
+            Ok(())
+        }
+        Event::Send { .. } | Event::Decide => Ok(()),
+    }
+}
