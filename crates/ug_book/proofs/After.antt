@@ -11,7 +11,8 @@ use Rattle.ug_ranks.specs.States.{state_at}
 use Rattle.ug_rules.specs.declared.heard.Heard.{Heard}
 use Rattle.ug_rules.specs.declared.heard.Heard.TheVariants.{Kept, Stale, Early, Broken, NotBetter, InRace, Again, Gap, Outside, Unbacked, Short, Memory}
 use Rattle.ug_rules.specs.State.{BookState}
-use Rattle.ug_rules.specs.Ranks.{is_racing, ranks_that}
+use Rattle.ug_rules.specs.Ranks.{ranks_that}
+use Rattle.ug_ranks.specs.Looks.{is_racing}
 use Rattle.ug_rules.specs.Deaths.{killed, killed_at, lost_by, with_dead}
 use Rattle.ug_rules.specs.Hearing.{after_hearing, counted, kept, done_at, handed_at}
 use Rattle.ug_book.specs.Heard.{heard_after, killed_under, one_more, taken_up}

@@ -12,7 +12,8 @@ use Rattle.ug_ranks.specs.States.{state_at}
 use Rattle.ug_ranks.specs.Changes.{won}
 use Rattle.ug_rules.specs.declared.told.Told.{Told}
 use Rattle.ug_rules.specs.State.{BookState, cutoff_of_best}
-use Rattle.ug_rules.specs.Ranks.{is_idle, is_racing, of_ranks, racers_freed, rank_if}
+use Rattle.ug_rules.specs.Ranks.{of_ranks, racers_freed, rank_if}
+use Rattle.ug_ranks.specs.Looks.{is_idle, is_racing}
 use Rattle.ug_rules.specs.Books.{IsBook, Keeps}
 use Rattle.ug_rules.proofs.DecidedLemmas.{decided_keeps, stands_keeps}
 use Rattle.ug_book.specs.declared.unfinished.Unfinished.{Unfinished}

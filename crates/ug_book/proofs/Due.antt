@@ -10,7 +10,7 @@ use Rattle.ug_ranks.specs.declared.state.State.TheVariants.{Absent, Idle, Racing
 use Rattle.ug_rules.specs.declared.heard.Heard.{Heard}
 use Rattle.ug_rules.specs.declared.heard.Heard.TheVariants.{Stale, Kept}
 use Rattle.ug_rules.specs.State.{BookState}
-use Rattle.ug_rules.specs.Ranks.{ticket_at}
+use Rattle.ug_ranks.specs.Looks.{ticket_at}
 use Rattle.ug_rules.specs.Hearing.{IsCurrentDue, IsDueUnder, IsSolutionDue}
 
 pub due_now : (b : BookState) (s : State) (ticket : Ticket) (report : Report) (answer : Heard)

@@ -31,7 +31,7 @@ use Rattle.ug_ledger.proofs.StartLemmas.{start_ledger, start_sound}
 use Rattle.ug_rules.specs.declared.settings.Settings.{Settings}
 use Rattle.ug_rules.specs.declared.told.Told.{Told}
 use Rattle.ug_rules.specs.State.{BookState, current_of, held_nodes, ledger_of, nodes_in, nodes_of}
-use Rattle.ug_rules.specs.Ranks.{is_racing}
+use Rattle.ug_ranks.specs.Looks.{is_racing}
 use Rattle.ug_rules.specs.Books.{AreSettings, HasItsFloor, IsBook, IsSoundBook, KeepsItsFloor}
 use Rattle.ug_rules.proofs.PoolLemmas.{entry_kept, entry_new, entry_old, put_in_order}
 use Rattle.ug_rules.proofs.CountLemmas.{of_entry, of_held, times_adds}

@@ -9,10 +9,9 @@ use Rattle.ug_ranks.specs.declared.state.State.{State}
 use Rattle.ug_ranks.specs.declared.state.State.TheVariants.{Absent, Idle, Racing, Active, Dead}
 use Rattle.ug_ranks.specs.States.{state_at}
 use Rattle.ug_rules.specs.State.{BookState, nodes_of}
-use Rattle.ug_rules.specs.Ranks.{is_racing}
+use Rattle.ug_ranks.specs.Looks.{is_racing, is_working}
 use Rattle.ug_rules.specs.Books.{IsBook}
 use Rattle.ug_rules.proofs.RacerLemmas.{are_racing}
-use Rattle.ug_book.specs.Dones.{is_working}
 
 none_by : (ss : List State) → list_any is_working ss ≡ false → nodes_of ss ≡ []
 none_by [] e = refl

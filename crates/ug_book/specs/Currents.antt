@@ -1,12 +1,11 @@
 -- What a rank works on under its ticket.
-use Rattle.std.specs.Prelude.{◌≡◌, ℕ, Bool, true, false, List, [], Option, Some, None}
-use Rattle.ug_rows.specs.declared.area.Interval.{Interval}
+use Rattle.std.specs.Prelude.{◌≡◌, Bool, true, false, Option, Some}
 use Rattle.ug_branch.specs.declared.params.Params.{Params}
 use Rattle.ug_nodes.specs.declared.name.Ticket.{Ticket}
 use Rattle.ug_nodes.specs.declared.node.Node.{Node}
 use Rattle.ug_pool.specs.declared.entry.Entry.{Entry}
 use Rattle.ug_ranks.specs.declared.state.State.{State}
-use Rattle.ug_ranks.specs.declared.state.State.TheVariants.{Absent, Idle, Racing, Active, Dead}
+use Rattle.ug_ranks.specs.declared.state.State.TheVariants.{Racing, Active}
 use Rattle.ug_book.specs.declared.current.CurrentWork.{CurrentWork}
 
 -- it is of this ticket, for this node
@@ -19,27 +18,8 @@ pub record IsWorkOf (ticket : Ticket) (node : Node) (params : Params) (races : B
 
 -- it is that of a rank in this state, where this node is raced, if one is
 abbrev pub IsCurrentAt : State → Option Entry → CurrentWork → Type 0
-IsCurrentAt Absent raced current = ⊥
-IsCurrentAt Idle raced current = ⊥
-IsCurrentAt (Racing racer) None current = ⊥
 IsCurrentAt (Racing racer) (Some entry) current =
     IsWorkOf racer.ticket entry.node racer.params true current
 IsCurrentAt (Active work) raced current =
     IsWorkOf work.ticket work.node work.params false current
-IsCurrentAt Dead raced current = ⊥
-
--- the boxes of the hands that were taken from a rank in this state
-abbrev pub taken_at : State → List (List Interval)
-taken_at Absent = []
-taken_at Idle = []
-taken_at (Racing racer) = []
-taken_at (Active work) = work.taken
-taken_at Dead = []
-
--- how many hands it is still asked for
-abbrev pub asked_at : State → ℕ
-asked_at Absent = 0
-asked_at Idle = 0
-asked_at (Racing racer) = 0
-asked_at (Active work) = work.asked
-asked_at Dead = 0
+IsCurrentAt state raced current = ⊥

@@ -13,11 +13,8 @@ use Rattle.ug_rules.specs.State.{nodes_of, raced_node}
 
 -- the rank works, and the hand is its next, of a box below that of its node
 abbrev pub IsToBeTaken : List Interval → State → ℕ → List Change → Type 0
-IsToBeTaken root Absent number changes = ⊥
-IsToBeTaken root Idle number changes = ⊥
-IsToBeTaken root (Racing racer) number changes = ⊥
 IsToBeTaken root (Active work) number changes = IsNext root work number changes
-IsToBeTaken root Dead number changes = ⊥
+IsToBeTaken root state number changes = ⊥
 
 -- it is not to be taken, and gets this answer
 abbrev pub IsNotTaken : List Interval → State → ℕ → List Change → Heard → Type 0

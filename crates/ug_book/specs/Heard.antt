@@ -36,17 +36,7 @@ with_touched b t = record b {
 -- a report that is kept is taken up, and after any other answer nothing was done yet
 abbrev pub taken_up : Heard → ℕ → Report → BookState → BookState
 taken_up Kept r report b = kept r report b
-taken_up Stale r report b = b
-taken_up Early r report b = b
-taken_up (Broken first) r report b = b
-taken_up (NotBetter was given) r report b = b
-taken_up InRace r report b = b
-taken_up Again r report b = b
-taken_up (Gap want got) r report b = b
-taken_up (Outside column) r report b = b
-taken_up (Unbacked cutoff incumbent) r report b = b
-taken_up (Short said was) r report b = b
-taken_up Memory r report b = b
+taken_up answer r report b = b
 
 -- whether the rank is dead after the answer
 abbrev pub is_deadly : Heard → Bool
@@ -89,17 +79,7 @@ heard_after Memory heard = heard
 -- the incumbent after the answer to a point
 abbrev pub best_under : Heard → List ℤ → Option (List ℤ) → Option (List ℤ)
 best_under Kept x best = Some x
-best_under Stale x best = best
-best_under Early x best = best
-best_under (Broken first) x best = best
-best_under (NotBetter was given) x best = best
-best_under InRace x best = best
-best_under Again x best = best
-best_under (Gap want got) x best = best
-best_under (Outside column) x best = best
-best_under (Unbacked cutoff incumbent) x best = best
-best_under (Short said was) x best = best
-best_under Memory x best = best
+best_under answer x best = best
 
 -- the report got the answer that is due, and was taken up if it was kept
 pub record IsAnswered (b : BookState) (r : ℕ) (report : Report) (answer : Heard)

@@ -1,10 +1,8 @@
 -- What is read of a book.
-use Rattle.std.specs.Prelude.{◌≡◌, Bool, true, false, [], ◌∷◌}
+use Rattle.std.specs.Prelude.{◌≡◌, [], ◌∷◌}
 use Rattle.ug_problem.specs.declared.answer.Answer.{Answer}
 use Rattle.ug_problem.specs.declared.answer.Answer.TheVariants.{Optimal as IsOptimal}
 use Rattle.ug_problem.specs.declared.answer.Answer.TheVariants.{Infeasible as IsInfeasible}
-use Rattle.ug_ranks.specs.declared.state.State.{State}
-use Rattle.ug_ranks.specs.declared.state.State.TheVariants.{Absent, Idle, Racing, Active, Dead}
 use Rattle.ug_ledger.specs.Answers.{answer_of}
 use Rattle.ug_rules.specs.declared.told.Told.{Told}
 use Rattle.ug_rules.specs.State.{BookState, held_nodes}
@@ -20,13 +18,6 @@ answered Infeasible = IsInfeasible
 pub record IsAnswerOf (b : BookState) (a : Answered) : Type 0 where
   pub none : held_nodes b ≡ []
   pub answer : answered a ≡ answer_of b.best
-
-abbrev pub is_alive : State → Bool
-is_alive Absent = true
-is_alive Idle = true
-is_alive (Racing racer) = true
-is_alive (Active work) = true
-is_alive Dead = false
 
 -- the earliest order left, and nothing else changed
 pub record IsOrderTold (old new : BookState) (told : Told) : Type 0 where

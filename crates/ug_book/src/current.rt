@@ -1,7 +1,7 @@
 ghost use Rattle.std.specs.Prelude.{◌≡◌, ◌<◌, None, true, length, IsSome, MatchOption};
 ghost use Rattle.ug_ranks.specs.States.{state_at};
-ghost use Rattle.ug_rules.specs.Ranks.{is_racing, ticket_at};
-ghost use Rattle.ug_book.specs.Currents.{IsCurrentAt, asked_at, taken_at};
+ghost use Rattle.ug_ranks.specs.Looks.{asked_at, is_racing, taken_at, ticket_at};
+ghost use Rattle.ug_book.specs.Currents.{IsCurrentAt};
 
 use crate::book::Book;
 use ug_branch::Params;
@@ -38,7 +38,7 @@ impl Book {
         requires { rank < length self.now.ranks }
         ensures { result.now ≡ taken_at (state_at self.now.ranks rank) }
     {
-        taken_at(self.ranks.state(rank))
+        self.ranks.state(rank).taken()
     }
 
     /// How many hands a rank is still asked for; 0 where it is asked for none.
@@ -46,7 +46,7 @@ impl Book {
         requires { rank < length self.now.ranks }
         ensures { result ≡ asked_at (state_at self.now.ranks rank) }
     {
-        asked_at(self.ranks.state(rank))
+        self.ranks.state(rank).asked()
     }
 }
 
@@ -73,23 +73,5 @@ fn current_at<'a>(state: &'a State, raced: &'a Option<Entry>) -> Option<CurrentW
             is_racing: false,
         }),
         State::Absent | State::Idle | State::Dead => None,
-    }
-}
-
-fn taken_at(state: &State) -> &[IntBox]
-    ensures { result.now ≡ taken_at state.now }
-{
-    match state {
-        State::Active(work) => work.taken.as_slice(),
-        State::Absent | State::Idle | State::Racing(_) | State::Dead => &[],
-    }
-}
-
-fn asked_at(state: &State) -> u32
-    ensures { result ≡ asked_at state.now }
-{
-    match state {
-        State::Active(work) => work.asked,
-        State::Absent | State::Idle | State::Racing(_) | State::Dead => 0,
     }
 }

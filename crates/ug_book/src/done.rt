@@ -7,17 +7,15 @@ ghost use Rattle.ug_ranks.specs.States.{state_at};
 ghost use Rattle.ug_rules.specs.State.{BookState};
 ghost use Rattle.ug_rules.specs.Hearing.{IsDoneDue, IsDueUnder, done_at};
 ghost use Rattle.ug_book.specs.Heard.{taken_up};
-ghost use Rattle.ug_book.specs.Dones.{hands_taken, is_backed};
+ghost use Rattle.ug_book.specs.Dones.{is_backed};
 
 use crate::best::Best;
-use crate::joining::has_ticket;
-use crate::working::is_working;
 use ug_nodes::Ticket;
 use ug_pool::Entry;
 use ug_problem::Problem;
-use ug_ranks::{Ranks, State};
+use ug_ranks::Ranks;
 use ug_rules::Heard;
-use ug_stock::{free_racers, is_racing};
+use ug_stock::free_racers;
 
 // A Done of a rank, under a ticket.
 pub fn hear_done(
@@ -36,10 +34,10 @@ pub fn hear_done(
         ≡ taken_up result rank (Done ticket cutoff count)
         (record b { ranks = ranks.old; raced = raced.old }) }
 {
-    if !has_ticket(ranks.state(rank), ticket) {
+    if !ranks.state(rank).has_ticket(ticket) {
         return Heard::Stale;
     }
-    let taken = hands_taken(ranks.state(rank));
+    let taken = ranks.state(rank).hands_taken();
     let answer = judge_done(incumbent, taken, cutoff, count);
     if answer == Heard::Kept {
         finish(ranks, raced, rank);
@@ -76,16 +74,6 @@ fn is_backed(cutoff: i128, incumbent: Option<i128>) -> bool
     }
 }
 
-// How many hands were taken of a rank in this state.
-fn hands_taken(state: &State) -> u64
-    ensures { result ≡ hands_taken state.now }
-{
-    match state {
-        State::Active(work) => work.taken.len() as u64,
-        State::Absent | State::Idle | State::Racing(_) | State::Dead => 0,
-    }
-}
-
 // The rank's node is worked off; in a race that is the raced node, and the race is over.
 fn finish(ranks: &mut Ranks, raced: &mut Option<Entry>, rank: u32)
     requires { rank < length ranks.old }
@@ -93,10 +81,10 @@ fn finish(ranks: &mut Ranks, raced: &mut Option<Entry>, rank: u32)
         ≡ done_at (state_at ranks.old rank) rank
         (record b { ranks = ranks.old; raced = raced.old }) }
 {
-    if is_racing(ranks.state(rank)) {
+    if ranks.state(rank).is_racing() {
         free_racers(ranks);
         *raced = None;
-    } else if is_working(ranks.state(rank)) {
+    } else if ranks.state(rank).is_working() {
         let _ = ranks.free(rank);
     }
 }

@@ -11,7 +11,6 @@ ghost use Rattle.ug_rules.specs.Hearing.{IsDueUnder, handed_at};
 ghost use Rattle.ug_book.specs.Heard.{taken_up};
 ghost use Rattle.ug_book.specs.Hands.{HasPlaces, IsNotTaken, IsToBeTaken};
 
-use crate::joining::has_ticket;
 use std::alloc::{AllocError, Global};
 use ug_nodes::{Changes, Ticket};
 use ug_pool::{Entry, Pool};
@@ -46,7 +45,7 @@ pub fn hear_hand(
     ensures rising { IsRising changes }
     ensures places { HasPlaces pool.new ranks.new raced.now }
 {
-    if !has_ticket(ranks.state(rank), ticket) {
+    if !ranks.state(rank).has_ticket(ticket) {
         return Heard::Stale;
     }
     if let Some(answer) = judge_hand(problem, ranks.state(rank), number, &changes) {

@@ -2,7 +2,6 @@ ghost use Rattle.std.specs.Prelude.{◌≡◌, ◌<◌, length, IsTrue, ◌↔�
 ghost use Rattle.ug_ranks.specs.States.{state_at};
 ghost use Rattle.ug_frames.specs.declared.report.Report.TheVariants.{Ready};
 ghost use Rattle.ug_rules.specs.State.{BookState};
-ghost use Rattle.ug_rules.specs.Ranks.{ticket_at};
 ghost use Rattle.ug_rules.specs.Hearing.{ended_answer, ready_answer};
 ghost use Rattle.ug_book.specs.Heard.{taken_up};
 
@@ -41,16 +40,5 @@ pub fn hear_ended(state: &State) -> Heard
     match state {
         State::Absent | State::Idle | State::Racing(_) | State::Active(_) => Heard::Early,
         State::Dead => Heard::Stale,
-    }
-}
-
-// Whether a rank in this state has this ticket.
-pub fn has_ticket(state: &State, ticket: Ticket) -> bool
-    ensures { IsTrue result ↔ (ticket_at state.now ≡ Some ticket) }
-{
-    match state {
-        State::Racing(racer) => racer.ticket == ticket,
-        State::Active(work) => work.ticket == ticket,
-        State::Absent | State::Idle | State::Dead => false,
     }
 }

@@ -5,7 +5,6 @@ ghost use Rattle.ug_rules.specs.State.{BookState};
 ghost use Rattle.ug_rules.specs.Hearing.{IsDueUnder};
 ghost use Rattle.ug_book.specs.Heard.{taken_up};
 
-use crate::joining::has_ticket;
 use ug_nodes::Ticket;
 use ug_ranks::Ranks;
 use ug_rules::Heard;
@@ -18,7 +17,7 @@ pub fn hear_state(ranks: &mut Ranks, rank: u32, ticket: Ticket, open: u64, floor
     ensures taken { (b : BookState) → record b { ranks = ranks.new }
         ≡ taken_up result rank (State ticket «open» floor) (record b { ranks = ranks.old }) }
 {
-    if !has_ticket(ranks.state(rank), ticket) {
+    if !ranks.state(rank).has_ticket(ticket) {
         return Heard::Stale;
     }
     ranks.note(rank, open, floor);

@@ -10,7 +10,8 @@ ghost use Rattle.ug_ledger.specs.Ledgers.{boxes_of};
 ghost use Rattle.ug_ranks.specs.States.{state_at};
 ghost use Rattle.ug_rules.specs.State.{held_nodes};
 ghost use Rattle.ug_rules.specs.Books.{IsBook, IsSoundBook};
-ghost use Rattle.ug_book.specs.Reads.{IsAnswerOf, IsOrderTold, answered, is_alive};
+ghost use Rattle.ug_book.specs.Reads.{IsAnswerOf, IsOrderTold, answered};
+ghost use Rattle.ug_ranks.specs.Looks.{is_alive};
 
 use crate::book::Book;
 use crate::held::held_nodes;
@@ -70,7 +71,7 @@ impl Book {
         requires { rank < length self.now.ranks }
         ensures { result ≡ is_alive (state_at self.now.ranks rank) }
     {
-        is_alive(self.ranks.state(rank))
+        self.ranks.state(rank).is_alive()
     }
 
     /// The earliest order that waits, which leaves.
@@ -128,10 +129,4 @@ impl Book {
     {
         self.pool.len() == 0 && self.raced.is_none() && !is_any_working(self.ranks.as_slice())
     }
-}
-
-fn is_alive(state: &State) -> bool
-    ensures { result ≡ is_alive state.now }
-{
-    !matches!(state, State::Dead)
 }

@@ -6,7 +6,6 @@ ghost use Rattle.ug_rules.specs.Hearing.{IsDueUnder, IsSolutionDue};
 ghost use Rattle.ug_book.specs.Heard.{best_under};
 
 use crate::best::Best;
-use crate::joining::has_ticket;
 use ug_nodes::Ticket;
 use ug_problem::{Offered, Problem};
 use ug_ranks::State;
@@ -26,7 +25,7 @@ pub fn hear_solution(
         → IsDueUnder b state.now ticket (Solution ticket point) result }
     ensures best { best.new ≡ best_under result point best.old }
 {
-    if !has_ticket(state, ticket) {
+    if !state.has_ticket(ticket) {
         return Heard::Stale;
     }
     offer(problem, best, point)

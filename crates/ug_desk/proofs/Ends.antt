@@ -17,11 +17,10 @@ use Rattle.ug_ledger.specs.Ledgers.{Current}
 use Rattle.ug_rules.specs.declared.heard.Heard.{Heard}
 use Rattle.ug_rules.specs.declared.heard.Heard.TheVariants.{Kept, Stale, Early, Broken, NotBetter, InRace, Again, Gap, Outside, Unbacked, Short, Memory}
 use Rattle.ug_rules.specs.State.{BookState, current_of}
-use Rattle.ug_rules.specs.Ranks.{ticket_at}
+use Rattle.ug_ranks.specs.Looks.{taken_at, ticket_at}
 use Rattle.ug_rules.specs.Hearing.{IsCurrentDue, IsDoneDue, IsDue, after_hearing}
 use Rattle.ug_rules.specs.HearingLaws.{IsTrueReport}
 use Rattle.ug_rules.proofs.HeldLemmas.{current_is}
-use Rattle.ug_book.specs.Currents.{taken_at}
 use Rattle.ug_base.specs.Tasks.{TaskState}
 use Rattle.ug_desk.specs.Answers.{IsTold, told_on}
 use Rattle.ug_desk.specs.Dones.{AreFound, HasDone, IsOfTicket}

@@ -10,7 +10,8 @@ use Rattle.ug_ranks.specs.declared.state.State.TheVariants.{Absent, Idle, Racing
 use Rattle.ug_ranks.specs.States.{state_at}
 use Rattle.ug_ranks.specs.Changes.{asked_for, joined, won}
 use Rattle.ug_rules.specs.State.{BookState, cutoff_of_best}
-use Rattle.ug_rules.specs.Ranks.{is_joined, is_racing, racers_freed, ranks_that, is_idle}
+use Rattle.ug_rules.specs.Ranks.{racers_freed, ranks_that}
+use Rattle.ug_ranks.specs.Looks.{is_idle, is_joined, is_racing}
 use Rattle.ug_rules.specs.Deciding.{IsDecided, IsRaceEnded, announced, announced_as, announcements, assigned, assigned_by, assigned_times, collected, dropped, given, is_race_due, race_begun, race_begun_with, raced_by, raced_by_all, ranks_won, same_cutoff, stopped_collecting}
 use Rattle.ug_desk.specs.Decided.{HasDecided}
 use Rattle.ug_desk.specs.Takes.{with_joined}

@@ -11,12 +11,12 @@ use Rattle.ug_ranks.specs.declared.state.State.TheVariants.{Absent, Idle, Racing
 use Rattle.ug_ranks.specs.States.{state_at}
 use Rattle.ug_ledger.specs.Ledgers.{Current, IsCurrent}
 use Rattle.ug_rules.specs.State.{BookState, current_of, ledger_of}
-use Rattle.ug_rules.specs.Ranks.{ticket_at}
+use Rattle.ug_ranks.specs.Looks.{taken_at, ticket_at}
 use Rattle.ug_rules.specs.Books.{HasItsFloor, IsBook, KeepsItsFloor}
 use Rattle.ug_rules.proofs.BookLemmas.{floor_at}
 use Rattle.ug_rules.proofs.HeldLemmas.{current_is, is_current}
 use Rattle.ug_book.specs.declared.current.CurrentWork.{CurrentWork}
-use Rattle.ug_book.specs.Currents.{IsCurrentAt, taken_at}
+use Rattle.ug_book.specs.Currents.{IsCurrentAt}
 use Rattle.ug_base.specs.Tasks.{TaskState}
 use Rattle.ug_desk.specs.Takes.{IsAtWork, IsUnderWay, params_at, task_of}
 use Rattle.ug_desk.specs.Dones.{IsOfTicket, IsTaskOf}

@@ -4,7 +4,7 @@ use Rattle.ug_ranks.specs.States.{state_at}
 use Rattle.ug_rules.specs.declared.heard.Heard.{Heard}
 use Rattle.ug_rules.specs.declared.heard.Heard.TheVariants.{Stale}
 use Rattle.ug_rules.specs.Books.{IsSoundBook}
-use Rattle.ug_book.specs.Reads.{is_alive}
+use Rattle.ug_ranks.specs.Looks.{is_alive}
 use Rattle.ug_book.specs.Views.{IsSameRun}
 use Rattle.ug_base.specs.Tasks.{TaskState}
 use Rattle.ug_snapshot.specs.Moments.{IsImageOf}

@@ -11,9 +11,8 @@ use Rattle.ug_ranks.specs.States.{state_at}
 use Rattle.ug_rules.specs.declared.heard.Heard.{Heard}
 use Rattle.ug_rules.specs.declared.heard.Heard.TheVariants.{Memory}
 use Rattle.ug_rules.specs.State.{BookState, cutoff_of_best}
-use Rattle.ug_rules.specs.Ranks.{is_racing, ticket_at}
+use Rattle.ug_ranks.specs.Looks.{asked_at, is_racing, ticket_at}
 use Rattle.ug_rules.specs.Hearing.{IsDue, after_hearing}
-use Rattle.ug_book.specs.Currents.{asked_at}
 use Rattle.ug_worker.specs.declared.reply.Reply.{Reply}
 use Rattle.ug_desk.specs.Decided.{HasDecided, HasStood}
 

@@ -9,7 +9,7 @@ use Rattle.ug_nodes.specs.declared.name.Ticket.{Ticket}
 use Rattle.ug_nodes.specs.Nodes.{box_of}
 use Rattle.ug_frames.specs.declared.report.Report.TheVariants.{Ready}
 use Rattle.ug_ranks.specs.declared.state.State.{State}
-use Rattle.ug_ranks.specs.declared.state.State.TheVariants.{Absent, Idle, Racing, Active, Dead}
+use Rattle.ug_ranks.specs.declared.state.State.TheVariants.{Idle, Racing, Active}
 use Rattle.ug_ranks.specs.States.{state_at}
 use Rattle.ug_ledger.specs.Ledgers.{Current, IsCurrent}
 use Rattle.ug_rules.specs.State.{BookState, cutoff_of_best, held_nodes, ledger_of}
@@ -37,11 +37,9 @@ pub record IsUnderWay (b : BookState) : Type 0 where
 
 -- how the boxes of a rank in this state are halved
 abbrev pub params_at : State → Option Params
-params_at Absent = None
-params_at Idle = None
 params_at (Racing racer) = Some racer.params
 params_at (Active work) = Some work.params
-params_at Dead = None
+params_at state = None
 
 -- the task of a node that is given under a ticket: its whole box is left
 abbrev pub task_of : BookState → Ticket → Params → Node → TaskState

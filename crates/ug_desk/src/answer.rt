@@ -1,6 +1,6 @@
 ghost use Rattle.std.specs.Prelude.{◌≡◌, ◌<◌, ◌≤◌, true, length, IfOk, MatchBool};
 ghost use Rattle.ug_ranks.specs.States.{state_at};
-ghost use Rattle.ug_rules.specs.Ranks.{is_joined};
+ghost use Rattle.ug_ranks.specs.Looks.{is_joined};
 ghost use Rattle.ug_desk.specs.Takes.{IsAnswer, IsOver, IsUnderWay};
 
 use crate::task::make_task;

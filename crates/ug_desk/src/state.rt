@@ -1,7 +1,7 @@
 ghost use Rattle.std.specs.Prelude.{◌≡◌, ◌↔◌, ◌<◌, length, IfErr, IfOk, IsTrue, MatchBool, OnOk, Some};
 ghost use Rattle.ug_ranks.specs.States.{state_at};
 ghost use Rattle.ug_rules.specs.Books.{IsSoundBook};
-ghost use Rattle.ug_rules.specs.Ranks.{is_racing, ticket_at};
+ghost use Rattle.ug_ranks.specs.Looks.{is_racing, ticket_at};
 ghost use Rattle.ug_book.specs.Views.{IsSameRun};
 ghost use Rattle.ug_desk.specs.Reports.{HasHalted, HasMovedOn, HasNotStated, HasNoted, HasStated, IsGoingOn, IsReply, IsStop};
 

@@ -9,14 +9,12 @@ use Rattle.ug_frames.specs.Ranges.{IsGiven, IsValue, HasRoom, AreChanges}
 
 -- the ticket of the assignment that the order speaks of
 abbrev pub ticket_of : Order → Option Ticket
-ticket_of (Setup gap bytes) = None
 ticket_of (Work ticket params race cutoff changes) = Some ticket
-ticket_of (Incumbent cutoff) = None
 ticket_of (CollectIn ticket count) = Some ticket
 ticket_of (CollectOut ticket) = Some ticket
 ticket_of (Winner ticket) = Some ticket
 ticket_of (Stop ticket) = Some ticket
-ticket_of End = None
+ticket_of order = None
 
 -- the order's fields but its ticket are within their ranges
 abbrev pub AreOrderFields : Order → Type 0

@@ -8,12 +8,11 @@ use Rattle.ug_frames.specs.Ranges.{IsGiven, IsValue, IsPoint, AreChanges}
 
 -- the ticket of the assignment that the report speaks of
 abbrev pub ticket_of : Report → Option Ticket
-ticket_of Ready = None
 ticket_of (Solution ticket point) = Some ticket
 ticket_of (Hand ticket number changes) = Some ticket
 ticket_of (State ticket nodes floor) = Some ticket
 ticket_of (Done ticket cutoff count) = Some ticket
-ticket_of Ended = None
+ticket_of report = None
 
 -- the report's fields but its ticket are within their ranges
 abbrev pub AreReportFields : Report → Type 0

@@ -29,43 +29,30 @@ racer_of ticket params = record { ticket = ticket; params = params; «open» = 0
 -- the state of a rank that joined: idle, where it was absent or dead
 abbrev pub joined : State → State
 joined Absent = Idle
-joined Idle = Idle
-joined (Racing racer) = Racing racer
-joined (Active work) = Active work
 joined Dead = Idle
+joined state = state
 
 -- the state with the node the rank's own, where it took part in a race
 abbrev pub won : Node → ℤ → State → State
-won node floor Absent = Absent
-won node floor Idle = Idle
 won node floor (Racing racer) = Active (record (work_of racer.ticket node floor racer.params) {
   «open» = racer.«open»;
   reported = racer.floor;
 })
-won node floor (Active work) = Active work
-won node floor Dead = Dead
+won node floor state = state
 
 -- the state with this for the last report, where the rank works or races
 abbrev pub noted : ℕ → ℤ → State → State
-noted count floor Absent = Absent
-noted count floor Idle = Idle
 noted count floor (Racing racer) = Racing (record racer { «open» = count; floor = floor })
 noted count floor (Active work) = Active (record work { «open» = count; reported = floor })
-noted count floor Dead = Dead
+noted count floor state = state
 
 -- the state with so many hands asked, where the rank works
 abbrev pub asked_for : ℕ → State → State
-asked_for count Absent = Absent
-asked_for count Idle = Idle
-asked_for count (Racing racer) = Racing racer
 asked_for count (Active work) = Active (record work { asked = count })
-asked_for count Dead = Dead
+asked_for count state = state
 
 -- the state with a box more taken and a hand fewer asked, if any was, where the rank works
 abbrev pub grown : List Interval → State → State
-grown area Absent = Absent
-grown area Idle = Idle
-grown area (Racing racer) = Racing racer
 grown area (Active work) =
     Active (record work { taken = work.taken ++ area ∷ []; asked = work.asked - 1 })
-grown area Dead = Dead
+grown area state = state

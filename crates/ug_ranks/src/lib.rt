@@ -5,6 +5,7 @@
 //! may; no other call does.
 #![tactic(auto)]
 
+mod looks;
 mod ranks;
 mod state;
 

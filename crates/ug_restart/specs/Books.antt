@@ -10,8 +10,8 @@ use Rattle.ug_checkpoint.specs.Recovery.{HasFound}
 use Rattle.ug_checkpoint.specs.Savers.{IsKept, last_slot, sequence_of}
 use Rattle.ug_restart.specs.Starts.{IsFirstDifference, IsSpent}
 use Rattle.ug_restart.specs.declared.fault.StartFault.{StartFault}
-use Rattle.ug_restart.specs.declared.fault.StartFault.TheVariants.{Memory, DiskFault, BadImage}
-use Rattle.ug_restart.specs.declared.fault.StartFault.TheVariants.{NoCheckpoint, OtherProblem}
+use Rattle.ug_restart.specs.declared.fault.StartFault.TheVariants.{Memory}
+use Rattle.ug_restart.specs.declared.fault.StartFault.TheVariants.{OtherProblem}
 use Rattle.ug_restart.specs.declared.fault.StartFault.TheVariants.{SmallerGap, Spent}
 
 -- a saver of a disk on which this was found: it keeps what was found until an image is acknowledged
@@ -23,12 +23,8 @@ pub record IsSaverOf (found : Option Found) (saver : Saver) : Type 0 where
 -- why no new book is made
 abbrev pub HasNoFirst : Option Found → StartFault → Type 0
 HasNoFirst found Memory = Unit {0}
-HasNoFirst found DiskFault = ⊥
-HasNoFirst found (BadImage slot at) = ⊥
-HasNoFirst found NoCheckpoint = ⊥
-HasNoFirst found (OtherProblem at kept read) = ⊥
-HasNoFirst found (SmallerGap kept asked) = ⊥
 HasNoFirst found Spent = IsSpent found
+HasNoFirst found fault = ⊥
 
 -- a run of the problem, under these settings, may go on from what was found
 pub record MayGoOn (p : Instance) (settings : Settings) (found : Found) : Type 0 where
@@ -39,9 +35,6 @@ pub record MayGoOn (p : Instance) (settings : Settings) (found : Found) : Type 0
 -- why no book goes on from what was found: the first of these that is so
 abbrev pub HasNoNext : Instance → Settings → Found → StartFault → Type 0
 HasNoNext p settings found Memory = Unit {0}
-HasNoNext p settings found DiskFault = ⊥
-HasNoNext p settings found (BadImage slot at) = ⊥
-HasNoNext p settings found NoCheckpoint = ⊥
 HasNoNext p settings found (OtherProblem at kept read) =
     IsFirstDifference (record_of found.image.problem) (record_of p) at kept read
 HasNoNext p settings found (SmallerGap kept asked) =
@@ -49,3 +42,4 @@ HasNoNext p settings found (SmallerGap kept asked) =
     × (asked <ℤ kept)
 HasNoNext p settings found Spent =
     (found.image.problem ≡ p) × (found.image.gap ≤ℤ settings.gap) × IsSpent (Some found)
+HasNoNext p settings found fault = ⊥

@@ -5,9 +5,8 @@ use Rattle.ug_records.specs.Spelling.{record_of}
 use Rattle.ug_restart.specs.Starts.{IsFirstDifference}
 use Rattle.ug_restart.specs.declared.compare.Difference.{Difference}
 use Rattle.ug_restart.specs.declared.fault.StartFault.{StartFault}
-use Rattle.ug_restart.specs.declared.fault.StartFault.TheVariants.{Memory, DiskFault, BadImage}
-use Rattle.ug_restart.specs.declared.fault.StartFault.TheVariants.{NoCheckpoint, OtherProblem}
-use Rattle.ug_restart.specs.declared.fault.StartFault.TheVariants.{SmallerGap, Spent}
+use Rattle.ug_restart.specs.declared.fault.StartFault.TheVariants.{Memory}
+use Rattle.ug_restart.specs.declared.fault.StartFault.TheVariants.{OtherProblem}
 
 -- where they differ
 abbrev pub IsDifference : List ℕ → List ℕ → Difference → Type 0
@@ -16,10 +15,6 @@ IsDifference a b d = IsFirstDifference a b d.at d.kept d.read
 -- the records differ there, if it is not for memory
 abbrev pub IsOther : Instance → Instance → StartFault → Type 0
 IsOther kept read Memory = Unit {0}
-IsOther kept read DiskFault = ⊥
-IsOther kept read (BadImage slot at) = ⊥
-IsOther kept read NoCheckpoint = ⊥
 IsOther kept read (OtherProblem at a b) =
     IsFirstDifference (record_of kept) (record_of read) at a b
-IsOther kept read (SmallerGap a b) = ⊥
-IsOther kept read Spent = ⊥
+IsOther kept read fault = ⊥

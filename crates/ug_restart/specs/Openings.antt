@@ -10,9 +10,7 @@ use Rattle.ug_checkpoint.specs.Runs.{CouldLeave}
 use Rattle.ug_snapshot.specs.Moments.{IsCovered, IsImageOf}
 use Rattle.ug_restart.specs.Starts.{IsFirstImage}
 use Rattle.ug_restart.specs.declared.fault.StartFault.{StartFault}
-use Rattle.ug_restart.specs.declared.fault.StartFault.TheVariants.{Memory, DiskFault, BadImage}
-use Rattle.ug_restart.specs.declared.fault.StartFault.TheVariants.{NoCheckpoint, OtherProblem}
-use Rattle.ug_restart.specs.declared.fault.StartFault.TheVariants.{SmallerGap, Spent}
+use Rattle.ug_restart.specs.declared.fault.StartFault.TheVariants.{Memory, DiskFault}
 
 -- Whatever a crash leaves, recovery finds an image of this book, and the saver knows its sequence
 -- and its slot.
@@ -40,8 +38,4 @@ IsSafeFirst saver told book zero one = CouldLeave told zero one
 abbrev pub IsNotSaved : StartFault → Type 0
 IsNotSaved Memory = Unit {0}
 IsNotSaved DiskFault = Unit {0}
-IsNotSaved (BadImage slot at) = ⊥
-IsNotSaved NoCheckpoint = ⊥
-IsNotSaved (OtherProblem at kept read) = ⊥
-IsNotSaved (SmallerGap kept asked) = ⊥
-IsNotSaved Spent = ⊥
+IsNotSaved fault = ⊥

@@ -62,10 +62,8 @@ IsNotBegun old new Memory = Unit {0}
 IsNotBegun old new DiskFault = Unit {0}
 IsNotBegun old new (BadImage slot at) =
     Loaded (λ zero one. IsFirstBadSlot zero one slot at) old new
-IsNotBegun old new NoCheckpoint = ⊥
-IsNotBegun old new (OtherProblem at kept read) = ⊥
-IsNotBegun old new (SmallerGap kept asked) = ⊥
 IsNotBegun old new Spent = (found : Option Found) × HasFound old new found × IsSpent found
+IsNotBegun old new fault = ⊥
 
 -- recovery finds a checkpoint, which has P
 pub record HasCheckpoint (old new : Option History) (P : Image → Type 0) : Type 0 where

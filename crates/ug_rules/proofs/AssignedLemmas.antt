@@ -9,7 +9,8 @@ use Rattle.ug_ranks.specs.declared.state.State.TheVariants.{Idle, Active}
 use Rattle.ug_ranks.specs.States.{state_at}
 use Rattle.ug_ranks.specs.Changes.{work_of}
 use Rattle.ug_rules.specs.State.{BookState, ticket_with}
-use Rattle.ug_rules.specs.Ranks.{is_idle, of_ranks, rank_if, ranks_that}
+use Rattle.ug_rules.specs.Ranks.{of_ranks, rank_if, ranks_that}
+use Rattle.ug_ranks.specs.Looks.{is_idle}
 use Rattle.ug_rules.specs.Books.{Keeps}
 use Rattle.ug_rules.specs.Deciding.{assigned, assigned_by, assigned_times, assignments, given_to, params_with}
 use Rattle.ug_rules.proofs.FirstLemmas.{first_idle}

@@ -14,7 +14,8 @@ use Rattle.ug_ledger.specs.Ledgers.{Current, IsCurrent}
 use Rattle.ug_ledger.specs.Moves.{HasEnded}
 use Rattle.ug_ledger.proofs.LessLemmas.{alone_keeps_work, ended_ledger, ended_sound}
 use Rattle.ug_rules.specs.State.{BookState, held_nodes, ledger_of, nodes_in, nodes_of, raced_node}
-use Rattle.ug_rules.specs.Ranks.{is_absent, is_idle, is_racing, ranks_that}
+use Rattle.ug_rules.specs.Ranks.{ranks_that}
+use Rattle.ug_ranks.specs.Looks.{is_absent, is_idle, is_racing}
 use Rattle.ug_rules.specs.Books.{HasItsFloor, IsBook, IsSoundBook, Keeps}
 use Rattle.ug_rules.specs.Deciding.{is_race_due, is_race_set, race_begun, race_begun_with, raced_by_all}
 use Rattle.ug_rules.proofs.WorkLemmas.{works_at}

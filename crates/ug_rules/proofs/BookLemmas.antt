@@ -19,7 +19,8 @@ use Rattle.ug_ledger.specs.Ledgers.{Current, Ledger}
 use Rattle.ug_ledger.specs.Sound.{IsLedger, Sound}
 use Rattle.ug_rules.specs.declared.told.Told.{Told}
 use Rattle.ug_rules.specs.State.{BookState, current_of, ledger_of, node_at, nodes_in, nodes_of, raced_node, ticket_with}
-use Rattle.ug_rules.specs.Ranks.{is_racing, ranks_that}
+use Rattle.ug_rules.specs.Ranks.{ranks_that}
+use Rattle.ug_ranks.specs.Looks.{is_racing}
 use Rattle.ug_rules.specs.Books.{IsBook, IsRaceAlone, IsSoundBook, KeepFloors, KeepsItsFloor}
 use Rattle.ug_rules.proofs.WorkLemmas.{idled, same_nodes, works_at}
 use Rattle.ug_rules.proofs.TicketLemmas.{same_tickets}

@@ -16,7 +16,7 @@ use Rattle.ug_ledger.specs.Moves.{HasDone, HasEnded, HasHanded, HasTakenIn}
 use Rattle.ug_ledger.specs.Dones.{IsSearched}
 use Rattle.ug_ledger.proofs.EndLemmas.{improved_sound}
 use Rattle.ug_rules.specs.State.{BookState, current_for, current_of, ledger_of}
-use Rattle.ug_rules.specs.Ranks.{ticket_at}
+use Rattle.ug_ranks.specs.Looks.{ticket_at}
 use Rattle.ug_rules.specs.Deaths.{killed_at}
 use Rattle.ug_rules.specs.Hearing.{counted, done_at, handed_at}
 use Rattle.ug_rules.specs.Books.{IsBook, IsSoundBook, Keeps}

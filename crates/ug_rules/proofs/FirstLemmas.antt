@@ -6,7 +6,8 @@ use Rattle.std.proofs.lemmas.List.Elements.{Contains-append_cases}
 use Rattle.ug_ranks.specs.declared.state.State.{State}
 use Rattle.ug_ranks.specs.declared.state.State.TheVariants.{Absent, Idle, Racing, Active, Dead}
 use Rattle.ug_ranks.specs.States.{state_at}
-use Rattle.ug_rules.specs.Ranks.{is_idle, of_ranks, rank_if, ranks_that}
+use Rattle.ug_rules.specs.Ranks.{of_ranks, rank_if, ranks_that}
+use Rattle.ug_ranks.specs.Looks.{is_idle}
 
 -- rank r is number q of the states, counted from k, and passes
 record IsPicked (test : State → Bool) (k : ℕ) (ss : List State) (r : ℕ) : Type 0 where

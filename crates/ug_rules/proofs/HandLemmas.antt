@@ -22,7 +22,7 @@ use Rattle.ug_ledger.specs.Moves.{HasHanded, handed_node}
 use Rattle.ug_ledger.proofs.HandedWork.{handed_ledger, handed_sound}
 use Rattle.ug_rules.specs.State.{BookState, current_for, current_of, held_nodes, ledger_of, node_at, nodes_of}
 use Rattle.ug_rules.specs.Hearing.{IsNextHand, handed_at}
-use Rattle.ug_rules.specs.Ranks.{is_racing}
+use Rattle.ug_ranks.specs.Looks.{is_racing}
 use Rattle.ug_rules.specs.Books.{HasItsFloor, IsBook, IsSoundBook, KeepsItsFloor}
 use Rattle.ug_rules.proofs.WorkLemmas.{same_nodes}
 use Rattle.ug_rules.proofs.HeldLemmas.{held_cases, in_pool, in_race, in_work}

@@ -19,7 +19,7 @@ use Rattle.ug_ledger.specs.Dones.{IsSearched}
 use Rattle.ug_ledger.proofs.DoneLemmas.{done_searched}
 use Rattle.ug_rules.specs.declared.heard.Heard.TheVariants.{Kept, Stale, InRace}
 use Rattle.ug_rules.specs.State.{BookState, current_for, current_of, ledger_of}
-use Rattle.ug_rules.specs.Ranks.{ticket_at}
+use Rattle.ug_ranks.specs.Looks.{ticket_at}
 use Rattle.ug_rules.specs.Hearing.{IsComplete, IsCurrentDue, IsDue, IsDueUnder, IsNextHand, handed_at, kept}
 use Rattle.ug_rules.specs.Books.{IsBook, IsSoundBook}
 use Rattle.ug_rules.specs.HearingLaws.{HasRisingChanges, HearingKeepsBook, HearingKeepsSound, IsTrueReport}

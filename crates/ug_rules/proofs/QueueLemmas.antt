@@ -12,7 +12,8 @@ use Rattle.ug_ranks.specs.declared.state.State.TheVariants.{Absent, Idle, Racing
 use Rattle.ug_ranks.specs.States.{state_at}
 use Rattle.ug_rules.specs.declared.told.Told.{Told}
 use Rattle.ug_rules.specs.State.{BookState, node_at, nodes_of}
-use Rattle.ug_rules.specs.Ranks.{is_racing, of_ranks, ranks_that}
+use Rattle.ug_rules.specs.Ranks.{of_ranks, ranks_that}
+use Rattle.ug_ranks.specs.Looks.{is_racing}
 use Rattle.ug_rules.specs.Deaths.{called_off, killed, killed_at, lost_by, stop_at, stops_below, with_dead}
 use Rattle.ug_rules.specs.Room.{DeathLeavesPlaces, HearingTakesNoPlace, StopsAreOfCalledOff, places_due}
 use Rattle.ug_rules.proofs.RoomLemmas.{free_counts, kept_takes_none}

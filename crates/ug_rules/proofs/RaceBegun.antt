@@ -20,7 +20,8 @@ use Rattle.ug_ledger.specs.Sound.{IsLedger}
 use Rattle.ug_ledger.specs.Moves.{HasGiven}
 use Rattle.ug_ledger.proofs.GivenLemmas.{given_ledger, given_sound}
 use Rattle.ug_rules.specs.State.{BookState, current_of, held_nodes, ledger_of, node_at, nodes_in, nodes_of, raced_node, ticket_with}
-use Rattle.ug_rules.specs.Ranks.{is_idle, is_racing, of_ranks, rank_if, ranks_that}
+use Rattle.ug_rules.specs.Ranks.{of_ranks, rank_if, ranks_that}
+use Rattle.ug_ranks.specs.Looks.{is_idle, is_racing}
 use Rattle.ug_rules.specs.Books.{AreSettings, HasItsFloor, IsBook, IsSoundBook, KeepsItsFloor}
 use Rattle.ug_rules.specs.Deciding.{params_with, raced_by, raced_by_all}
 use Rattle.ug_rules.proofs.WorkLemmas.{same_nodes, state_here, state_there}

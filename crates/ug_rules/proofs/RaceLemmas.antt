@@ -21,7 +21,8 @@ use Rattle.ug_ledger.specs.Dones.{IsSearched}
 use Rattle.ug_ledger.proofs.LessLemmas.{alone_keeps_work, ended_ledger, ended_sound}
 use Rattle.ug_ledger.proofs.DoneLemmas.{done_ledger, done_sound}
 use Rattle.ug_rules.specs.State.{BookState, current_of, held_nodes, ledger_of, node_at, nodes_in, nodes_of, raced_node}
-use Rattle.ug_rules.specs.Ranks.{is_racing, ranks_that}
+use Rattle.ug_rules.specs.Ranks.{ranks_that}
+use Rattle.ug_ranks.specs.Looks.{is_racing}
 use Rattle.ug_rules.specs.Deaths.{killed_at, lost_by, put_back, with_dead}
 use Rattle.ug_rules.specs.Hearing.{done_at}
 use Rattle.ug_rules.specs.Books.{HasItsFloor, IsBook, IsRaceAlone, IsSoundBook, KeepsItsFloor}

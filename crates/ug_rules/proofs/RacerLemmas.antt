@@ -5,7 +5,8 @@ use Rattle.std.proofs.lemmas.Bool.{cases_eq, cases_Bool, false≢true}
 use Rattle.ug_ranks.specs.declared.state.State.{State}
 use Rattle.ug_ranks.specs.declared.state.State.TheVariants.{Absent, Idle, Racing, Active, Dead}
 use Rattle.ug_ranks.specs.States.{state_at}
-use Rattle.ug_rules.specs.Ranks.{is_racing, of_ranks, rank_if, ranks_that}
+use Rattle.ug_rules.specs.Ranks.{of_ranks, rank_if, ranks_that}
+use Rattle.ug_ranks.specs.Looks.{is_racing}
 use Rattle.ug_rules.proofs.WorkLemmas.{idled, state_failed, state_here, state_passed, state_there}
 
 -- some rank races

@@ -16,7 +16,8 @@ use Rattle.ug_ranks.specs.declared.state.State.TheVariants.{Absent, Idle, Racing
 use Rattle.ug_ranks.specs.States.{state_at}
 use Rattle.ug_ranks.specs.Changes.{grown, joined, noted}
 use Rattle.ug_rules.specs.State.{BookState, node_at, nodes_in, nodes_of, raced_node}
-use Rattle.ug_rules.specs.Ranks.{is_racing, ranks_that}
+use Rattle.ug_rules.specs.Ranks.{ranks_that}
+use Rattle.ug_ranks.specs.Looks.{is_racing}
 use Rattle.ug_rules.specs.Deaths.{killed_at, lost_by, with_dead, works_below}
 use Rattle.ug_rules.specs.Hearing.{done_at, handed_at, kept}
 use Rattle.ug_rules.specs.Room.{CallingOffTakesNone, DeathMakesRoom, DeathTakesNone, DoneMakesRoom, FreeingTakesNone, HandLeavesAsMany, HearingTakesNone, HeldAreInOrOut, LostRaceMakesRoom, WritingCounts, nodes_out}

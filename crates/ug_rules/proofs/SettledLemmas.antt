@@ -16,7 +16,8 @@ use Rattle.ug_ranks.specs.States.{state_at}
 use Rattle.ug_ranks.specs.Changes.{asked_for, work_of}
 use Rattle.ug_rules.specs.declared.told.Told.{Told}
 use Rattle.ug_rules.specs.State.{BookState, cutoff_of_best, held_nodes, nodes_in, raced_node, ticket_with}
-use Rattle.ug_rules.specs.Ranks.{is_absent, is_idle, of_ranks, rank_if, ranks_that}
+use Rattle.ug_rules.specs.Ranks.{of_ranks, rank_if, ranks_that}
+use Rattle.ug_ranks.specs.Looks.{is_absent, is_idle}
 use Rattle.ug_rules.specs.Deciding.{IsDecided, IsRaceEnded, IsReadied, announced, announced_as, assigned, assigned_by, assigned_times, assignments, below_cutoff, collect_in, collect_out, collected, dropped, given, given_to, handouts, is_race_awaited, is_race_due, params_with, race_begun, race_begun_with, raced_by_all, same_cutoff, stopped_collecting}
 use Rattle.ug_rules.specs.DecidingLaws.{IsBelowCutoff, IsBusy, IsCutOff, IsSettled}
 use Rattle.ug_rules.proofs.PoolLemmas.{picked_old}

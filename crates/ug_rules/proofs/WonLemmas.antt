@@ -20,7 +20,8 @@ use Rattle.ug_ledger.specs.Ledgers.{Current, IsCurrent}
 use Rattle.ug_ledger.specs.Moves.{HasEnded}
 use Rattle.ug_ledger.proofs.LessLemmas.{alone_keeps_work, ended_ledger, ended_sound}
 use Rattle.ug_rules.specs.State.{BookState, current_of, held_nodes, ledger_of, node_at, nodes_in, nodes_of, raced_node}
-use Rattle.ug_rules.specs.Ranks.{is_racing, of_ranks, racer_at}
+use Rattle.ug_rules.specs.Ranks.{of_ranks, racer_at}
+use Rattle.ug_ranks.specs.Looks.{is_racing}
 use Rattle.ug_rules.specs.Books.{HasItsFloor, IsBook, Keeps, KeepsItsFloor}
 use Rattle.ug_rules.specs.Deciding.{IsRaceWon, race_won, ranks_won}
 use Rattle.ug_rules.proofs.WorkLemmas.{WorksOn, idled, idled_old, state_here, state_there, state_passed, works_at, works_from, works_to}

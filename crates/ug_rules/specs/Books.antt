@@ -14,7 +14,8 @@ use Rattle.ug_ranks.specs.declared.state.State.TheVariants.{Absent, Idle, Racing
 use Rattle.ug_ledger.specs.Sound.{IsLedger, Sound}
 use Rattle.ug_rules.specs.declared.settings.Settings.{Settings}
 use Rattle.ug_rules.specs.State.{BookState, ledger_of, nodes_of}
-use Rattle.ug_rules.specs.Ranks.{is_racing, ranks_that}
+use Rattle.ug_rules.specs.Ranks.{ranks_that}
+use Rattle.ug_ranks.specs.Looks.{is_racing}
 
 -- there are 1 to 2^32 - 1 ranks, the low mark is at most the high one, and the gap is one
 pub record AreSettings (settings : Settings) : Type 0 where

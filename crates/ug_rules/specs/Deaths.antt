@@ -12,15 +12,13 @@ use Rattle.ug_ranks.specs.declared.state.State.TheVariants.{Absent, Idle, Racing
 use Rattle.ug_ranks.specs.States.{state_at}
 use Rattle.ug_rules.specs.declared.told.Told.{Told}
 use Rattle.ug_rules.specs.State.{BookState}
-use Rattle.ug_rules.specs.Ranks.{is_racing, of_ranks, ranks_that}
+use Rattle.ug_rules.specs.Ranks.{of_ranks, ranks_that}
+use Rattle.ug_ranks.specs.Looks.{is_racing}
 
 -- whether the rank works on a node below that of the line
 abbrev pub works_below : List Name → State → Bool
-works_below line Absent = false
-works_below line Idle = false
-works_below line (Racing racer) = false
 works_below line (Active work) = is_ancestor line work.node.line
-works_below line Dead = false
+works_below line state = false
 
 -- the ranks that work below the line's node are idle
 abbrev pub called_off : List Name → List State → List State
@@ -29,14 +27,11 @@ called_off line states = map
 
 -- the Stop of a rank that works below the line's node
 abbrev pub stop_at : List Name → ℕ → State → List Told
-stop_at line r Absent = []
-stop_at line r Idle = []
-stop_at line r (Racing racer) = []
 stop_at line r (Active work) =
     (if is_ancestor line work.node.line
     then record { rank = r; order = Stop work.ticket } ∷ []
     else [])
-stop_at line r Dead = []
+stop_at line r state = []
 
 -- the Stops of the ranks that work below the line's node, the lowest rank first
 abbrev pub stops_below : List Name → List State → List Told

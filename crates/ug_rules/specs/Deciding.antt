@@ -17,12 +17,13 @@ use Rattle.ug_rules.specs.Wants.{IsWanted}
 use Rattle.ug_frames.specs.declared.order.Order.TheVariants.{Work as WorkOrder, Incumbent}
 use Rattle.ug_frames.specs.declared.order.Order.TheVariants.{CollectIn, CollectOut, Winner, Stop}
 use Rattle.ug_ranks.specs.declared.state.State.{State}
-use Rattle.ug_ranks.specs.declared.state.State.TheVariants.{Absent, Idle, Racing, Active, Dead}
+use Rattle.ug_ranks.specs.declared.state.State.TheVariants.{Racing, Active}
 use Rattle.ug_ranks.specs.States.{state_at}
 use Rattle.ug_ranks.specs.Changes.{asked_for, racer_of, won, work_of}
 use Rattle.ug_rules.specs.declared.told.Told.{Told}
 use Rattle.ug_rules.specs.State.{BookState, cutoff_of_best, held_nodes, ticket_with}
-use Rattle.ug_rules.specs.Ranks.{is_absent, is_idle, is_joined, members_in, of_ranks, racers_freed}
+use Rattle.ug_rules.specs.Ranks.{members_in, of_ranks, racers_freed}
+use Rattle.ug_ranks.specs.Looks.{is_absent, is_idle, is_joined}
 use Rattle.ug_rules.specs.Ranks.{racers_in, ranks_that}
 
 -- 1: the nodes of the pool whose floor is at least the cutoff are dropped
@@ -69,23 +70,17 @@ pub record IsRaceWon (b : BookState) (rank : ℕ) : Type 0 where
 
 -- the Stop of each racer but the winner, and what its ticket was
 abbrev pub loser_stop : ℕ → ℕ → State → List Told
-loser_stop winner r Absent = []
-loser_stop winner r Idle = []
 loser_stop winner r (Racing racer) =
     (if r == winner then [] else record { rank = r; order = Stop racer.ticket } ∷ [])
-loser_stop winner r (Active work) = []
-loser_stop winner r Dead = []
+loser_stop winner r state = []
 
 abbrev pub loser_stops : ℕ → List State → List Told
 loser_stops winner states = of_ranks (loser_stop winner) 0 states
 
 -- the Winner order of a racer
 abbrev pub winner_order : ℕ → State → List Told
-winner_order r Absent = []
-winner_order r Idle = []
 winner_order r (Racing racer) = record { rank = r; order = Winner racer.ticket } ∷ []
-winner_order r (Active work) = []
-winner_order r Dead = []
+winner_order r state = []
 
 -- the losers are idle, and the raced node is the winner's
 abbrev pub ranks_won : ℕ → Option Entry → List State → List State
@@ -204,18 +199,12 @@ given (suc n) b = (if is_race_due b then race_begun b else assigned_times (suc n
 
 -- 5: what is wanted of the ranks that work is told
 abbrev pub collect_in : ℕ → ℕ → State → List Told
-collect_in r count Absent = []
-collect_in r count Idle = []
-collect_in r count (Racing racer) = []
 collect_in r count (Active work) = record { rank = r; order = CollectIn work.ticket count } ∷ []
-collect_in r count Dead = []
+collect_in r count state = []
 
 abbrev pub collect_out : ℕ → State → List Told
-collect_out r Absent = []
-collect_out r Idle = []
-collect_out r (Racing racer) = []
 collect_out r (Active work) = record { rank = r; order = CollectOut work.ticket } ∷ []
-collect_out r Dead = []
+collect_out r state = []
 
 abbrev pub stopped_collecting : List ℕ → BookState → BookState
 stopped_collecting [] b = b

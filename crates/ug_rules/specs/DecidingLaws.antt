@@ -4,7 +4,8 @@ use Rattle.ug_problem.specs.Right.{Right}
 use Rattle.ug_pool.specs.declared.entry.Entry.{Entry}
 use Rattle.ug_ledger.specs.Answers.{answer_of}
 use Rattle.ug_rules.specs.State.{BookState, cutoff_of_best, held_nodes}
-use Rattle.ug_rules.specs.Ranks.{is_idle, ranks_that}
+use Rattle.ug_rules.specs.Ranks.{ranks_that}
+use Rattle.ug_ranks.specs.Looks.{is_idle}
 use Rattle.ug_rules.specs.Books.{IsBook, IsSoundBook, Keeps}
 use Rattle.ug_rules.specs.Deciding.{IsCollected, IsDecided, IsRaceEnded, Stands, announced, dropped}
 use Rattle.ug_rules.specs.Deciding.{given, handouts, is_race_awaited}

@@ -24,7 +24,8 @@ use Rattle.ug_rules.specs.declared.heard.Heard.TheVariants.{Kept, Stale, Early, 
 use Rattle.ug_rules.specs.declared.heard.Heard.TheVariants.{InRace, Again, Gap, Outside, Unbacked}
 use Rattle.ug_rules.specs.declared.heard.Heard.TheVariants.{Short, Memory}
 use Rattle.ug_rules.specs.State.{BookState, current_for, cutoff_of_best}
-use Rattle.ug_rules.specs.Ranks.{racers_freed, ticket_at}
+use Rattle.ug_rules.specs.Ranks.{racers_freed}
+use Rattle.ug_ranks.specs.Looks.{ticket_at}
 use Rattle.ug_rules.specs.Deaths.{killed}
 
 -- one delivery more, up to the end of its count
@@ -36,15 +37,7 @@ abbrev pub IsSolutionDue : BookState → List ℤ → Heard → Type 0
 IsSolutionDue b x Kept = IsBetter b.problem b.best x
 IsSolutionDue b x (Broken first) = IsBroken b.problem x first
 IsSolutionDue b x (NotBetter kept given) = IsNotBetter b.problem b.best x kept given
-IsSolutionDue b x Stale = ⊥
-IsSolutionDue b x Early = ⊥
-IsSolutionDue b x InRace = ⊥
-IsSolutionDue b x Again = ⊥
-IsSolutionDue b x (Gap want got) = ⊥
-IsSolutionDue b x (Outside column) = ⊥
-IsSolutionDue b x (Unbacked cutoff incumbent) = ⊥
-IsSolutionDue b x (Short told taken) = ⊥
-IsSolutionDue b x Memory = ⊥
+IsSolutionDue b x answer = ⊥
 
 -- the hand is the next, and spells a box below that of the ticket's node
 pub record IsNextHand (b : BookState) (work : Work) (number : ℕ)
@@ -72,13 +65,7 @@ IsHandDue b work number changes Again = number < length work.taken
 IsHandDue b work number changes (Gap want got) = IsTooFar work number want got
 IsHandDue b work number changes (Outside column) = IsHandOutside b work number changes column
 IsHandDue b work number changes Memory = IsNextHand b work number changes
-IsHandDue b work number changes Stale = ⊥
-IsHandDue b work number changes Early = ⊥
-IsHandDue b work number changes (Broken first) = ⊥
-IsHandDue b work number changes (NotBetter kept given) = ⊥
-IsHandDue b work number changes InRace = ⊥
-IsHandDue b work number changes (Unbacked cutoff incumbent) = ⊥
-IsHandDue b work number changes (Short told taken) = ⊥
+IsHandDue b work number changes answer = ⊥
 
 -- the cutoff of a Done is not backed by the incumbent, whose cutoff is named
 pub record IsUnbacked (b : BookState) (told : Option ℤ) (cutoff : ℤ)
@@ -104,42 +91,30 @@ abbrev pub IsDoneDue : BookState → ℕ → Option ℤ → ℕ → Heard → Ty
 IsDoneDue b taken told count Kept = IsComplete b told count taken
 IsDoneDue b taken told count (Unbacked cutoff incumbent) = IsUnbacked b told cutoff incumbent
 IsDoneDue b taken told count (Short said kept) = IsShort b told count taken said kept
-IsDoneDue b taken told count Stale = ⊥
-IsDoneDue b taken told count Early = ⊥
-IsDoneDue b taken told count (Broken first) = ⊥
-IsDoneDue b taken told count (NotBetter kept given) = ⊥
-IsDoneDue b taken told count InRace = ⊥
-IsDoneDue b taken told count Again = ⊥
-IsDoneDue b taken told count (Gap want got) = ⊥
-IsDoneDue b taken told count (Outside column) = ⊥
-IsDoneDue b taken told count Memory = ⊥
+IsDoneDue b taken told count answer = ⊥
 
 -- which answer a report gets under the rank's current ticket, where it races
 abbrev pub IsRacerDue : BookState → Report → Heard → Type 0
-IsRacerDue b Ready answer = ⊥
 IsRacerDue b (Solution ticket x) answer = IsSolutionDue b x answer
 IsRacerDue b (Hand ticket number changes) answer = answer ≡ InRace
 IsRacerDue b (Reported ticket count floor) answer = answer ≡ Kept
 IsRacerDue b (Done ticket told count) answer = IsDoneDue b 0 told count answer
-IsRacerDue b Ended answer = ⊥
+IsRacerDue b report answer = ⊥
 
 -- and where it works
 abbrev pub IsWorkerDue : BookState → Work → Report → Heard → Type 0
-IsWorkerDue b work Ready answer = ⊥
 IsWorkerDue b work (Solution ticket x) answer = IsSolutionDue b x answer
 IsWorkerDue b work (Hand ticket number changes) answer = IsHandDue b work number changes answer
 IsWorkerDue b work (Reported ticket count floor) answer = answer ≡ Kept
 IsWorkerDue b work (Done ticket told count) answer = IsDoneDue b
     (length work.taken) told count answer
-IsWorkerDue b work Ended answer = ⊥
+IsWorkerDue b work report answer = ⊥
 
 -- which answer a report gets under the current ticket of a rank in this state
 abbrev pub IsCurrentDue : BookState → State → Report → Heard → Type 0
-IsCurrentDue b Absent report answer = ⊥
-IsCurrentDue b Idle report answer = ⊥
 IsCurrentDue b (Racing racer) report answer = IsRacerDue b report answer
 IsCurrentDue b (Active work) report answer = IsWorkerDue b work report answer
-IsCurrentDue b Dead report answer = ⊥
+IsCurrentDue b state report answer = ⊥
 
 -- a report under a ticket: where that is the rank's current one it is judged, and else it is stale
 pub record IsDueUnder (b : BookState) (state : State) (ticket : Ticket) (report : Report)
@@ -188,20 +163,15 @@ handed_by work r changes b = record b {
 
 -- a hand of a rank in this state is kept
 abbrev pub handed_at : State → ℕ → List Change → BookState → BookState
-handed_at Absent r changes b = b
-handed_at Idle r changes b = b
-handed_at (Racing racer) r changes b = b
 handed_at (Active work) r changes b = handed_by work r changes b
-handed_at Dead r changes b = b
+handed_at state r changes b = b
 
 -- a Done of a rank in this state is kept: its node is gone, and in a race the root, which ends
 -- the race
 abbrev pub done_at : State → ℕ → BookState → BookState
-done_at Absent r b = b
-done_at Idle r b = b
 done_at (Racing racer) r b = record b { ranks = racers_freed b.ranks; raced = None }
 done_at (Active work) r b = record b { ranks = slice_set b.ranks r Idle }
-done_at Dead r b = b
+done_at state r b = b
 
 -- the report of a rank is kept
 abbrev pub kept : ℕ → Report → BookState → BookState

@@ -18,7 +18,7 @@ use Rattle.ug_ledger.specs.Moves.{HasDone, HasEnded, HasHanded, HasImproved, Has
 use Rattle.ug_ledger.specs.Dones.{IsSearched, IsTrueDone}
 use Rattle.ug_rules.specs.declared.heard.Heard.{Heard}
 use Rattle.ug_rules.specs.State.{BookState, current_for, ledger_of}
-use Rattle.ug_rules.specs.Ranks.{ticket_at}
+use Rattle.ug_ranks.specs.Looks.{ticket_at}
 use Rattle.ug_rules.specs.Deaths.{killed}
 use Rattle.ug_rules.specs.Hearing.{IsDue, IsNextHand, after_hearing, counted, kept}
 use Rattle.ug_rules.specs.Books.{IsBook, IsSoundBook, Keeps}

@@ -15,7 +15,8 @@ use Rattle.ug_ranks.specs.declared.state.State.TheVariants.{Racing, Active, Dead
 use Rattle.ug_ranks.specs.States.{state_at}
 use Rattle.ug_rules.specs.declared.heard.Heard.{Heard}
 use Rattle.ug_rules.specs.State.{BookState, held_nodes, node_at, nodes_of, raced_node}
-use Rattle.ug_rules.specs.Ranks.{is_racing, racers_freed, ranks_that}
+use Rattle.ug_rules.specs.Ranks.{racers_freed, ranks_that}
+use Rattle.ug_ranks.specs.Looks.{is_racing}
 use Rattle.ug_rules.specs.Deaths.{called_off, killed, stops_below}
 use Rattle.ug_rules.specs.Hearing.{after_hearing, kept}
 

@@ -9,7 +9,7 @@ use Rattle.ug_pool.specs.declared.entry.Entry.{Entry}
 use Rattle.ug_ranks.specs.declared.state.Racer.{Racer}
 use Rattle.ug_ranks.specs.declared.state.Work.{Work}
 use Rattle.ug_ranks.specs.declared.state.State.{State}
-use Rattle.ug_ranks.specs.declared.state.State.TheVariants.{Absent, Idle, Racing, Active, Dead}
+use Rattle.ug_ranks.specs.declared.state.State.TheVariants.{Racing, Active}
 use Rattle.ug_ledger.specs.Ledgers.{Current, Ledger}
 use Rattle.ug_rules.specs.declared.settings.Settings.{Settings}
 use Rattle.ug_rules.specs.declared.told.Told.{Told}
@@ -42,11 +42,8 @@ ticket_with b number = record { run = b.run; number = number }
 
 -- the node that a rank works on
 abbrev pub node_at : State → List Node
-node_at Absent = []
-node_at Idle = []
-node_at (Racing racer) = []
 node_at (Active work) = work.node ∷ []
-node_at Dead = []
+node_at state = []
 
 -- the nodes of entries
 abbrev pub nodes_in : List Entry → List Node
@@ -75,11 +72,9 @@ raced_for racer raced = option_map
 
 -- what the ticket of a rank is current for, if it has one
 abbrev pub current_of : Option Entry → State → Option Current
-current_of raced Absent = None
-current_of raced Idle = None
 current_of raced (Racing racer) = raced_for racer raced
 current_of raced (Active work) = Some (current_for work)
-current_of raced Dead = None
+current_of raced state = None
 
 -- the ledger that a book tells
 abbrev pub ledger_of : BookState → Ledger

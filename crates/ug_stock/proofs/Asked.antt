@@ -13,7 +13,7 @@ use Rattle.ug_rules.specs.State.{BookState, nodes_of}
 use Rattle.ug_rules.specs.Deciding.{collect_in, collect_out, stopped_collecting}
 use Rattle.ug_rules.proofs.BookLemmas.{asked_alike}
 use Rattle.ug_rules.proofs.WorkLemmas.{same_nodes}
-use Rattle.ug_stock.specs.Tickets.{work_ticket}
+use Rattle.ug_ranks.specs.Looks.{work_ticket}
 
 pub not_told_in : (r count : ℕ) (s : State) → work_ticket s ≡ None → collect_in r count s ≡ []
 not_told_in r count (Active work) e = absurd (none-some work.ticket (sym e))

@@ -10,7 +10,7 @@ use Rattle.ug_ranks.specs.declared.state.State.TheVariants.{Absent, Idle, Racing
 use Rattle.ug_ranks.specs.States.{state_at}
 use Rattle.ug_rules.specs.declared.told.Told.{Told}
 use Rattle.ug_rules.specs.Deaths.{stop_at, works_below}
-use Rattle.ug_stock.specs.Steps.{ticket_below}
+use Rattle.ug_ranks.specs.Looks.{ticket_below}
 
 abbrev stops_if : Bool → Ticket → ℕ → List Told
 stops_if below ticket r = (if below then record { rank = r; order = Stop ticket } ∷ [] else [])

@@ -5,7 +5,8 @@ use Rattle.std.proofs.lemmas.List.{length-append, take_all}
 use Rattle.ug_ranks.specs.declared.state.State.{State}
 use Rattle.ug_ranks.specs.States.{state_at}
 use Rattle.ug_rules.specs.State.{node_at, nodes_of}
-use Rattle.ug_rules.specs.Ranks.{is_absent, is_idle, rank_if, ranks_that}
+use Rattle.ug_rules.specs.Ranks.{rank_if, ranks_that}
+use Rattle.ug_ranks.specs.Looks.{is_absent, is_idle}
 use Rattle.ug_stock.proofs.Loops.{more_told}
 use Rattle.ug_stock.proofs.Works.{at_most_one_node}
 use Rattle.ug_stock.specs.declared.counting.Counts.{Counts}

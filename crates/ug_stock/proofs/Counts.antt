@@ -10,7 +10,8 @@ use Rattle.ug_ranks.specs.declared.state.State.TheVariants.{Absent, Idle, Racing
 use Rattle.ug_ranks.specs.States.{state_at}
 use Rattle.ug_rules.specs.declared.told.Told.{Told}
 use Rattle.ug_rules.specs.State.{node_at, nodes_of}
-use Rattle.ug_rules.specs.Ranks.{is_joined, member_at, members_in, of_ranks, rank_if, ranks_that}
+use Rattle.ug_rules.specs.Ranks.{member_at, members_in, of_ranks, rank_if, ranks_that}
+use Rattle.ug_ranks.specs.Looks.{is_joined}
 use Rattle.ug_rules.specs.Deciding.{announcement, announcements}
 use Rattle.ug_stock.proofs.Loops.{more_told}
 

@@ -4,7 +4,7 @@ use Rattle.std.proofs.lemmas.List.{set-get_or}
 use Rattle.ug_ranks.specs.declared.state.State.{State}
 use Rattle.ug_ranks.specs.declared.state.State.TheVariants.{Idle, Dead}
 use Rattle.ug_ranks.specs.States.{state_at}
-use Rattle.ug_rules.specs.Ranks.{is_racing}
+use Rattle.ug_ranks.specs.Looks.{is_racing}
 
 pub kept_one : (ss : List State) (r : ℕ) → is_racing (state_at ss r) ≡ false
     → ss ≡ set ss r (if is_racing (state_at ss r) then Idle else state_at ss r)

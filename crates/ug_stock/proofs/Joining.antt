@@ -12,7 +12,8 @@ use Rattle.ug_ranks.specs.declared.state.State.{State}
 use Rattle.ug_ranks.specs.declared.state.State.TheVariants.{Idle, Racing, Dead}
 use Rattle.ug_ranks.specs.States.{state_at}
 use Rattle.ug_rules.specs.State.{BookState, nodes_of}
-use Rattle.ug_rules.specs.Ranks.{is_idle, of_ranks, rank_if, ranks_that}
+use Rattle.ug_rules.specs.Ranks.{of_ranks, rank_if, ranks_that}
+use Rattle.ug_ranks.specs.Looks.{is_idle}
 use Rattle.ug_rules.specs.Deciding.{raced_by_all}
 use Rattle.ug_rules.proofs.WorkLemmas.{state_there}
 use Rattle.ug_stock.specs.declared.terms.Terms.{Terms}

@@ -6,7 +6,8 @@ use Rattle.std.proofs.lemmas.List.{ext_get_or, get_or_past, length-append, lengt
 use Rattle.ug_ranks.specs.declared.state.State.{State}
 use Rattle.ug_ranks.specs.declared.state.State.TheVariants.{Idle, Dead}
 use Rattle.ug_ranks.specs.States.{state_at}
-use Rattle.ug_rules.specs.Ranks.{is_racing, of_ranks, ranks_that}
+use Rattle.ug_rules.specs.Ranks.{of_ranks, ranks_that}
+use Rattle.ug_ranks.specs.Looks.{is_racing}
 use Rattle.ug_rules.proofs.RacerLemmas.{SomeRaces, are_racing, some_races}
 use Rattle.ug_rules.proofs.RankLists.{of_ranks_more}
 use Rattle.ug_rules.proofs.WorkLemmas.{idled, state_here, state_idled, state_there}

@@ -7,7 +7,8 @@ use Rattle.ug_ranks.specs.declared.state.State.{State}
 use Rattle.ug_ranks.specs.declared.state.State.TheVariants.{Idle, Active}
 use Rattle.ug_ranks.specs.States.{state_at}
 use Rattle.ug_rules.specs.State.{BookState}
-use Rattle.ug_rules.specs.Ranks.{is_idle, of_ranks, rank_if, ranks_that}
+use Rattle.ug_rules.specs.Ranks.{of_ranks, rank_if, ranks_that}
+use Rattle.ug_ranks.specs.Looks.{is_idle}
 use Rattle.ug_rules.specs.Deciding.{assigned, assigned_by, assigned_times}
 use Rattle.ug_rules.proofs.WorkLemmas.{state_here, state_there}
 use Rattle.ug_rules.proofs.FirstLemmas.{idle_is}

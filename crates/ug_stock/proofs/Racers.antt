@@ -11,10 +11,11 @@ use Rattle.ug_ranks.specs.declared.state.State.{State}
 use Rattle.ug_ranks.specs.declared.state.State.TheVariants.{Absent, Idle, Racing, Active, Dead}
 use Rattle.ug_ranks.specs.States.{state_at}
 use Rattle.ug_ranks.specs.Changes.{won}
-use Rattle.ug_rules.specs.Ranks.{is_racing, racers_freed}
+use Rattle.ug_rules.specs.Ranks.{racers_freed}
+use Rattle.ug_ranks.specs.Looks.{is_racing, racer_ticket}
 use Rattle.ug_rules.specs.Deciding.{loser_stop, ranks_won, winner_order}
 use Rattle.ug_rules.proofs.WorkLemmas.{state_here, state_idled, state_there}
-use Rattle.ug_stock.specs.Racers.{loser_freed, racer_ticket}
+use Rattle.ug_stock.specs.Racers.{loser_freed}
 
 pub no_winner : (r : ℕ) (s : State) → racer_ticket s ≡ None → winner_order r s ≡ []
 no_winner r Absent e = refl

@@ -14,7 +14,7 @@ use Rattle.ug_ranks.specs.declared.state.State.{State}
 use Rattle.ug_ranks.specs.declared.state.State.TheVariants.{Absent, Idle, Racing, Active, Dead}
 use Rattle.ug_ranks.specs.States.{held_by, state_at}
 use Rattle.ug_rules.specs.State.{BookState, node_at, nodes_of}
-use Rattle.ug_rules.specs.Ranks.{is_racing}
+use Rattle.ug_ranks.specs.Looks.{is_racing}
 use Rattle.ug_rules.specs.Deaths.{killed_at, race_lost, with_dead}
 use Rattle.ug_rules.proofs.CountLemmas.{of_set}
 

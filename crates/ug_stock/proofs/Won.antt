@@ -16,7 +16,8 @@ use Rattle.ug_ranks.specs.States.{IsRacing, state_at}
 use Rattle.ug_rules.specs.declared.told.Told.{Told}
 use Rattle.ug_ranks.specs.Changes.{won}
 use Rattle.ug_rules.specs.State.{BookState, node_at, nodes_of, raced_node}
-use Rattle.ug_rules.specs.Ranks.{is_racing, of_ranks, racer_at, racers_freed, racers_in, ranks_that}
+use Rattle.ug_rules.specs.Ranks.{of_ranks, racer_at, racers_freed, racers_in, ranks_that}
+use Rattle.ug_ranks.specs.Looks.{is_racing}
 use Rattle.ug_rules.specs.Deciding.{IsRaceEnded, IsRaceWon, loser_stop, loser_stops, ranks_won, winner_order}
 use Rattle.ug_rules.proofs.RacerLemmas.{are_racing}
 use Rattle.ug_rules.proofs.RoomLemmas.{freeing_takes_none, writing_counts}

@@ -2,7 +2,8 @@
 use Rattle.std.specs.Prelude.{◌≡◌, List, length}
 use Rattle.ug_ranks.specs.declared.state.State.{State}
 use Rattle.ug_rules.specs.State.{nodes_of}
-use Rattle.ug_rules.specs.Ranks.{is_absent, is_idle, ranks_that}
+use Rattle.ug_rules.specs.Ranks.{ranks_that}
+use Rattle.ug_ranks.specs.Looks.{is_absent, is_idle}
 use Rattle.ug_stock.specs.declared.counting.Counts.{Counts}
 
 -- so many ranks are absent, idle, and at work

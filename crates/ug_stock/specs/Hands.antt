@@ -11,14 +11,12 @@ use Rattle.ug_nodes.specs.Outside.{IsFirstOutside, SpellBelow}
 use Rattle.ug_pool.specs.Pools.{IsPut, Pooled}
 use Rattle.ug_ranks.specs.declared.state.Work.{Work}
 use Rattle.ug_ranks.specs.declared.state.State.{State}
-use Rattle.ug_ranks.specs.declared.state.State.TheVariants.{Absent, Idle, Racing, Active, Dead}
+use Rattle.ug_ranks.specs.declared.state.State.TheVariants.{Active}
 use Rattle.ug_ranks.specs.States.{state_at}
 use Rattle.ug_ranks.specs.Changes.{grown}
 use Rattle.ug_ledger.specs.Moves.{handed_node, next_hand}
 use Rattle.ug_rules.specs.declared.heard.Heard.{Heard}
-use Rattle.ug_rules.specs.declared.heard.Heard.TheVariants.{Kept, Stale, Early, Broken, NotBetter}
-use Rattle.ug_rules.specs.declared.heard.Heard.TheVariants.{InRace, Again, Gap, Outside, Unbacked}
-use Rattle.ug_rules.specs.declared.heard.Heard.TheVariants.{Short, Memory}
+use Rattle.ug_rules.specs.declared.heard.Heard.TheVariants.{Again, Gap, Outside}
 use Rattle.ug_rules.specs.State.{BookState, current_for}
 use Rattle.ug_rules.specs.Hearing.{IsHandDue, IsNextHand, IsTooFar}
 
@@ -39,15 +37,7 @@ abbrev pub IsRefused : List Interval → Work → ℕ → List Change → Heard 
 IsRefused root work number changes Again = number < length work.taken
 IsRefused root work number changes (Gap want got) = IsTooFar work number want got
 IsRefused root work number changes (Outside column) = IsOutside root work number changes column
-IsRefused root work number changes Kept = ⊥
-IsRefused root work number changes Stale = ⊥
-IsRefused root work number changes Early = ⊥
-IsRefused root work number changes (Broken first) = ⊥
-IsRefused root work number changes (NotBetter kept given) = ⊥
-IsRefused root work number changes InRace = ⊥
-IsRefused root work number changes (Unbacked cutoff incumbent) = ⊥
-IsRefused root work number changes (Short told taken) = ⊥
-IsRefused root work number changes Memory = ⊥
+IsRefused root work number changes answer = ⊥
 
 -- so it is by the rules, in a book of a problem with this root
 abbrev pub RefusedIsDue : Type 0
@@ -63,20 +53,14 @@ NextIsNextHand =
 
 -- the rank works on a node of its own
 abbrev pub IsWorking : State → Type 0
-IsWorking Absent = ⊥
-IsWorking Idle = ⊥
-IsWorking (Racing racer) = ⊥
 IsWorking (Active work) = Unit {0}
-IsWorking Dead = ⊥
+IsWorking state = ⊥
 
 -- the line of the next hand of a rank that works
 abbrev pub IsLineOfNext : State → List Name → Type 0
-IsLineOfNext Absent line = ⊥
-IsLineOfNext Idle line = ⊥
-IsLineOfNext (Racing racer) line = ⊥
 IsLineOfNext (Active work) line =
     line ≡ work.node.line ++ next_hand (current_for work) ∷ []
-IsLineOfNext Dead line = ⊥
+IsLineOfNext state line = ⊥
 
 -- the hand was taken: its node was put into the pool, and its box is noted
 pub record IsHandTaken (objective : Objective) (root : List Interval) (rank : ℕ)

@@ -8,8 +8,6 @@ pub mod Queues
 pub mod Racers
 pub mod Races
 pub mod Racing
-pub mod Steps
 pub mod Stocks
 pub mod Telling
-pub mod Tickets
 pub mod Turns

@@ -6,7 +6,8 @@ use Rattle.ug_rules.specs.Winning.{IsWinner}
 use Rattle.ug_ranks.specs.declared.state.State.{State}
 use Rattle.ug_rules.specs.declared.told.Told.{Told}
 use Rattle.ug_rules.specs.State.{BookState, nodes_of}
-use Rattle.ug_rules.specs.Ranks.{is_racing, ranks_that}
+use Rattle.ug_rules.specs.Ranks.{ranks_that}
+use Rattle.ug_ranks.specs.Looks.{is_racing}
 use Rattle.ug_rules.specs.Deciding.{HasReported}
 
 -- each of the racers has reported, and this rank wins

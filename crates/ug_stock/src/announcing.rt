@@ -4,7 +4,7 @@ ghost use Rattle.ug_rules.specs.State.{BookState, nodes_of};
 ghost use Rattle.ug_rules.specs.Deciding.{announced_as, announcement, announcements, same_cutoff};
 ghost use Rattle.ug_stock.specs.Books.{with_announced};
 
-use crate::notice_places::{is_joined, places};
+use crate::notice_places::places;
 use crate::queue::Queue;
 use std::alloc::AllocError;
 use ug_frames::Order;
@@ -69,7 +69,7 @@ fn tell_one(ranks: &Ranks, orders: &mut Queue, cutoff: i128, rank: u32)
     ensures spare { orders.new.spare + length (announcement cutoff rank (state_at ranks.now rank))
         ≡ orders.old.spare }
 {
-    if is_joined(ranks.state(rank)) {
+    if ranks.state(rank).is_joined() {
         orders.push(Told {
             rank,
             order: Order::Incumbent { cutoff },

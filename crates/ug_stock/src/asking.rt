@@ -4,12 +4,10 @@ ghost use Rattle.ug_ranks.specs.Changes.{asked_for};
 ghost use Rattle.ug_rules.specs.State.{BookState, nodes_of};
 ghost use Rattle.ug_rules.specs.Deciding.{collect_in, collect_out, stopped_collecting};
 ghost use Rattle.ug_stock.specs.Books.{with_told};
-ghost use Rattle.ug_stock.specs.Tickets.{work_ticket};
 
 use crate::queue::Queue;
 use ug_frames::Order;
-use ug_nodes::Ticket;
-use ug_ranks::{Ranks, State};
+use ug_ranks::Ranks;
 use ug_rules::Told;
 
 /// A rank that works is asked for so many nodes, and told so.
@@ -23,7 +21,7 @@ pub fn ask(ranks: &mut Ranks, orders: &mut Queue, rank: u32, count: u32)
         ≡ orders.old.orders ++ collect_in rank count (state_at ranks.old rank) }
     ensures spare { orders.old.spare ≤ orders.new.spare + 1 }
 {
-    if let Some(ticket) = work_ticket(ranks.state(rank)) {
+    if let Some(ticket) = ranks.state(rank).work_ticket() {
         ranks.ask(rank, count);
         orders.push(Told {
             rank,
@@ -56,21 +54,11 @@ fn ask_none(ranks: &mut Ranks, orders: &mut Queue, rank: u32)
         ≡ orders.old.orders ++ collect_out rank (state_at ranks.old rank) }
     ensures spare { orders.old.spare ≤ orders.new.spare + 1 }
 {
-    if let Some(ticket) = work_ticket(ranks.state(rank)) {
+    if let Some(ticket) = ranks.state(rank).work_ticket() {
         ranks.ask(rank, 0);
         orders.push(Told {
             rank,
             order: Order::CollectOut { ticket },
         });
-    }
-}
-
-// The ticket of a rank that works.
-fn work_ticket(state: &State) -> Option<Ticket>
-    ensures { result ≡ work_ticket state.now }
-{
-    match state {
-        State::Active(work) => Some(work.ticket),
-        State::Absent | State::Idle | State::Racing(_) | State::Dead => None,
     }
 }

@@ -7,7 +7,6 @@ ghost use Rattle.ug_rules.specs.State.{nodes_of};
 ghost use Rattle.ug_stock.specs.Stocks.{stock_of};
 ghost use Rattle.ug_stock.specs.Assigning.{CanBeAssigned, HasAssignedAll, HasAssignedPart, IsAssigned, IsGivenFirst, KeepsPlaces};
 
-use crate::counting::is_idle;
 use crate::firsts::{first_changes, take_first};
 use crate::queue::Queue;
 use crate::telling::{params_with, work_order};
@@ -86,7 +85,7 @@ fn can_be_assigned(ranks: &Ranks, pool: &Pool, last: u64, rank: u32) -> bool
     requires { rank < length ranks.now }
     ensures { IsTrue result ↔ CanBeAssigned rank ranks.now pool.now.entries last }
 {
-    is_idle(ranks.state(rank)) && pool.len() > 0 && last < u64::MAX
+    ranks.state(rank).is_idle() && pool.len() > 0 && last < u64::MAX
 }
 
 /// Gives the least node of the pool to the lowest idle rank, while there are a rank, a node and a

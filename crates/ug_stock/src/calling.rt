@@ -2,30 +2,12 @@ ghost use Rattle.std.specs.Prelude.{◌≡◌, ◌≤◌, ◌<◌, ◌+◌, ◌+
 ghost use Rattle.ug_ranks.specs.States.{state_at};
 ghost use Rattle.ug_ranks.specs.declared.state.State.TheVariants.{Idle};
 ghost use Rattle.ug_rules.specs.Deaths.{called_off, stop_at, stops_below, works_below};
-ghost use Rattle.ug_stock.specs.Steps.{ticket_below};
 
 use crate::queue::Queue;
 use ug_frames::Order;
-use ug_nodes::{Line, Ticket, is_ancestor};
-use ug_ranks::{Ranks, State};
+use ug_nodes::Line;
+use ug_ranks::Ranks;
 use ug_rules::Told;
-
-// The ticket of a rank that works below the line's node.
-fn ticket_below(ranks: &Ranks, rank: u32, line: &Line) -> Option<Ticket>
-    requires { rank < length ranks.now }
-    ensures { result ≡ ticket_below line.now (state_at ranks.now rank) }
-{
-    match ranks.state(rank) {
-        State::Active(work) => {
-            if is_ancestor(line, &work.node.line) {
-                Some(work.ticket)
-            } else {
-                None
-            }
-        }
-        State::Absent | State::Idle | State::Racing(_) | State::Dead => None,
-    }
-}
 
 // A rank that works below the line's node is idle, and told to stop.
 #[tactic(auto, using(crate::proofs::CallOff::none_below, crate::proofs::CallOff::some_below))]
@@ -39,7 +21,7 @@ fn call_off_one(ranks: &mut Ranks, orders: &mut Queue, rank: u32, line: &Line)
     ensures spare { orders.new.spare + length (stop_at line.now rank (state_at ranks.old rank))
         ≡ orders.old.spare }
 {
-    if let Some(ticket) = ticket_below(ranks, rank, line) {
+    if let Some(ticket) = ranks.state(rank).ticket_below(line) {
         let _ = ranks.free(rank);
         orders.push(Told {
             rank,

@@ -1,16 +1,10 @@
 ghost use Rattle.std.specs.Prelude.{◌≡◌, ◌<◌, ◌+◌, ◌^◌, length};
 ghost use Rattle.ug_rules.specs.State.{node_at};
-ghost use Rattle.ug_rules.specs.Ranks.{is_absent, is_idle, rank_if};
+ghost use Rattle.ug_rules.specs.Ranks.{rank_if};
+ghost use Rattle.ug_ranks.specs.Looks.{is_absent, is_idle};
 ghost use Rattle.ug_stock.specs.Counting.{AreCounted};
 
 use ug_ranks::{Ranks, State};
-
-/// Whether a rank in this state is idle.
-pub fn is_idle(state: &State) -> bool
-    ensures { result ≡ is_idle state.now }
-{
-    matches!(state, State::Idle)
-}
 
 /// How many ranks are absent, idle, and at work.
 #[derive(Clone, Copy)]

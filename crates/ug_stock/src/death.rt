@@ -7,7 +7,7 @@ ghost use Rattle.ug_stock.specs.Queues.{Queued};
 
 use crate::calling::call_off;
 use crate::queue::Queue;
-use crate::racer_left::{has_racer, is_racing};
+use crate::racer_left::has_racer;
 use ug_nodes::Node;
 use ug_pool::{Entry, Pool};
 use ug_ranks::Ranks;
@@ -32,7 +32,7 @@ pub fn die(
         (parts_of pool.new ranks.new raced.new orders.new) }
     ensures room { HasRoom (parts_of pool.new ranks.new raced.new orders.new) }
 {
-    let races = is_racing(ranks.state(rank));
+    let races = ranks.state(rank).is_racing();
     match ranks.kill(rank) {
         Some((node, floor)) => take_in(ranks, pool, orders, node, floor),
         None => {

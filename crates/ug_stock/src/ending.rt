@@ -1,12 +1,12 @@
 ghost use Rattle.std.specs.Prelude.{◌≡◌, ◌<◌, ◌≤◌, ◌+◌, ◌++◌, Some, length, slice_set};
 ghost use Rattle.ug_ranks.specs.States.{IsRacing, state_at};
 ghost use Rattle.ug_rules.specs.Deciding.{loser_stop, loser_stops, ranks_won, winner_order};
-ghost use Rattle.ug_stock.specs.Racers.{loser_freed, racer_ticket};
+ghost use Rattle.ug_stock.specs.Racers.{loser_freed};
 
 use crate::queue::Queue;
 use ug_frames::Order;
-use ug_nodes::{Node, Ticket};
-use ug_ranks::{Ranks, State};
+use ug_nodes::Node;
+use ug_ranks::Ranks;
 use ug_rules::Told;
 
 /// The rank wins the race for the node, which has this floor: it is told so, the other racers are
@@ -40,7 +40,7 @@ fn tell_winner(ranks: &Ranks, orders: &mut Queue, rank: u32)
     ensures spare { orders.new.spare + length (winner_order rank (state_at ranks.now rank))
         ≡ orders.old.spare }
 {
-    if let Some(ticket) = racer_ticket(ranks.state(rank)) {
+    if let Some(ticket) = ranks.state(rank).racer_ticket() {
         orders.push(Told {
             rank,
             order: Order::Winner { ticket },
@@ -63,21 +63,11 @@ fn stop_loser(ranks: &mut Ranks, orders: &mut Queue, winner: u32, rank: u32)
     if rank == winner {
         return;
     }
-    if let Some(ticket) = racer_ticket(ranks.state(rank)) {
+    if let Some(ticket) = ranks.state(rank).racer_ticket() {
         orders.push(Told {
             rank,
             order: Order::Stop { ticket },
         });
         let _ = ranks.free(rank);
-    }
-}
-
-// The ticket of a racer.
-fn racer_ticket(state: &State) -> Option<Ticket>
-    ensures { result ≡ racer_ticket state.now }
-{
-    match state {
-        State::Racing(racer) => Some(racer.ticket),
-        State::Absent | State::Idle | State::Active(_) | State::Dead => None,
     }
 }

@@ -1,9 +1,9 @@
 ghost use Rattle.std.specs.Prelude.{◌≡◌, ◌<◌, length, slice_set, if◌then◌else◌};
 ghost use Rattle.ug_ranks.specs.States.{state_at};
 ghost use Rattle.ug_ranks.specs.declared.state.State.TheVariants.{Idle};
-ghost use Rattle.ug_rules.specs.Ranks.{is_racing, racers_freed};
+ghost use Rattle.ug_rules.specs.Ranks.{racers_freed};
+ghost use Rattle.ug_ranks.specs.Looks.{is_racing};
 
-use crate::racer_left::is_racing;
 use ug_ranks::Ranks;
 
 /// Each racer is idle.
@@ -22,7 +22,7 @@ fn free_one(ranks: &mut Ranks, rank: u32)
     ensures { ranks.new ≡ slice_set ranks.old rank
         (if is_racing (state_at ranks.old rank) then Idle else state_at ranks.old rank) }
 {
-    if is_racing(ranks.state(rank)) {
+    if ranks.state(rank).is_racing() {
         let _ = ranks.free(rank);
     }
 }

@@ -41,7 +41,6 @@ pub use giving::give_out;
 pub use judging::judge;
 pub use laws::hands_are_due;
 pub use queue::Queue;
-pub use racer_left::is_racing;
 pub use taking::take;
 pub use terms::{Stopped, Terms};
 pub use wanting::wanted;

@@ -1,15 +1,9 @@
 ghost use Rattle.std.specs.Prelude.{◌≡◌, ◌≤◌, ◌+◌, ℕ, length};
 ghost use Rattle.ug_rules.specs.State.{node_at, nodes_of};
-ghost use Rattle.ug_rules.specs.Ranks.{is_joined, rank_if, ranks_that};
+ghost use Rattle.ug_rules.specs.Ranks.{rank_if, ranks_that};
+ghost use Rattle.ug_ranks.specs.Looks.{is_joined};
 
 use ug_ranks::{Ranks, State};
-
-/// Whether a rank in this state has joined and is not dead.
-pub fn is_joined(state: &State) -> bool
-    ensures { result ≡ is_joined state.now }
-{
-    matches!(state, State::Idle | State::Racing(_) | State::Active(_))
-}
 
 /// How many places are wanted to tell each rank that has joined, and to keep one for the Stop of
 /// each that works.

@@ -6,14 +6,15 @@ ghost use Rattle.ug_ranks.specs.declared.state.State.TheVariants.{Idle, Racing};
 ghost use Rattle.ug_ranks.specs.Changes.{racer_of};
 ghost use Rattle.ug_rules.specs.Deciding.{params_with};
 ghost use Rattle.ug_rules.specs.State.{nodes_of};
-ghost use Rattle.ug_rules.specs.Ranks.{is_idle, ranks_that};
+ghost use Rattle.ug_rules.specs.Ranks.{ranks_that};
+ghost use Rattle.ug_ranks.specs.Looks.{is_idle};
 ghost use Rattle.ug_stock.specs.Parts.{HasRoom, parts_of};
 ghost use Rattle.ug_stock.specs.Counting.{AreCounted};
 ghost use Rattle.ug_stock.specs.Stocks.{stock_of};
 ghost use Rattle.ug_stock.specs.Telling.{ticket_under};
 ghost use Rattle.ug_stock.specs.Racing.{HasBegun, HasJoinedRace, HaveJoinedRace};
 
-use crate::counting::{Counts, is_idle};
+use crate::counting::Counts;
 use crate::firsts::{copies, take_first};
 use crate::queue::Queue;
 use crate::telling::{params_with, work_order};
@@ -73,7 +74,7 @@ fn race_all(
 {
     let mut boxes = boxes;
     for rank in 0..ranks.as_slice().len() as u32 {
-        if !is_idle(ranks.state(rank)) {
+        if !ranks.state(rank).is_idle() {
             continue;
         }
         let Some(changes) = boxes.pop() else {

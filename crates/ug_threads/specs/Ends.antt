@@ -45,10 +45,8 @@ IfLimited (Stranded b) P = Unit {0}
 IfLimited Memory P = Unit {0}
 
 abbrev pub IsStranded : End → Type 0
-IsStranded (Answered b) = ⊥
-IsStranded (Limited b) = ⊥
 IsStranded (Stranded b) = Unit {0}
-IsStranded Memory = ⊥
+IsStranded end = ⊥
 
 -- its answer is right: the incumbent is optimal within the gap, or there is none, and no point is
 -- feasible

@@ -12,7 +12,8 @@ use Rattle.ug_ranks.specs.Changes.{asked_for, won}
 use Rattle.ug_ledger.specs.Ledgers.{Current}
 use Rattle.ug_rules.specs.declared.told.Told.{Told}
 use Rattle.ug_rules.specs.State.{BookState, current_of, cutoff_of_best}
-use Rattle.ug_rules.specs.Ranks.{is_racing, racers_freed}
+use Rattle.ug_rules.specs.Ranks.{racers_freed}
+use Rattle.ug_ranks.specs.Looks.{is_racing}
 use Rattle.ug_rules.specs.Books.{IsBook}
 use Rattle.ug_rules.specs.Deciding.{IsDecided, IsRaceEnded, announced, announced_as, announcements, collect_in, collect_out, collected, dropped, given, handouts, loser_stops, race_won, ranks_won, same_cutoff, stopped_collecting, winner_order}
 use Rattle.ug_rules.proofs.BookLemmas.{asked_alike}

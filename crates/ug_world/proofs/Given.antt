@@ -14,7 +14,8 @@ use Rattle.ug_ranks.specs.Changes.{racer_of, work_of}
 use Rattle.ug_ledger.specs.Ledgers.{Current}
 use Rattle.ug_ledger.proofs.FactLemmas.{none_current}
 use Rattle.ug_rules.specs.State.{BookState, current_for, current_of, ledger_of, ticket_with}
-use Rattle.ug_rules.specs.Ranks.{is_idle, is_racing, ranks_that}
+use Rattle.ug_rules.specs.Ranks.{ranks_that}
+use Rattle.ug_ranks.specs.Looks.{is_idle, is_racing}
 use Rattle.ug_rules.specs.Books.{IsBook}
 use Rattle.ug_rules.specs.Deciding.{assigned, assigned_by, assigned_times, given, given_to, is_race_due, params_with, race_begun_with, raced_by, raced_by_all, work_order}
 use Rattle.ug_rules.proofs.BegunLemmas.{begin_is}

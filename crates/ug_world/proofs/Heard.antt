@@ -24,7 +24,8 @@ use Rattle.ug_ledger.specs.Ledgers.{Current}
 use Rattle.ug_rules.specs.declared.heard.Heard.{Heard}
 use Rattle.ug_rules.specs.declared.heard.Heard.TheVariants.{Kept, Stale}
 use Rattle.ug_rules.specs.State.{BookState, current_for, current_of}
-use Rattle.ug_rules.specs.Ranks.{is_racing, ranks_that, ticket_at}
+use Rattle.ug_rules.specs.Ranks.{ranks_that}
+use Rattle.ug_ranks.specs.Looks.{is_racing, ticket_at}
 use Rattle.ug_rules.specs.Books.{IsBook}
 use Rattle.ug_rules.specs.Deaths.{killed, killed_at, lost_by, stops_below, with_dead}
 use Rattle.ug_rules.specs.Hearing.{IsDue, IsDueUnder, IsNextHand, after_hearing, done_at, handed_at, handed_by, kept}

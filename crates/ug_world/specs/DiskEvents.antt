@@ -10,11 +10,10 @@ use Rattle.ug_world.specs.declared.disk_event.DiskEvent.TheVariants.{Crash, Stop
 
 -- the rank that an event names, if it names one
 abbrev pub rank_of : Event → Option ℕ
-rank_of (Send report) = None
 rank_of (Hear place rank) = Some rank
 rank_of (Join rank) = Some rank
 rank_of (Gone rank) = Some rank
-rank_of Decide = None
+rank_of event = None
 
 -- a State that is sent tells of an open node
 abbrev pub IsSendable : Event → Type 0

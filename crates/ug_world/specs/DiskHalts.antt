@@ -47,17 +47,13 @@ abbrev pub IsNotLeft : List ℕ → List ℕ → DiskWorld → DiskWorld → Hal
 IsNotLeft zero one old new (NotAllowed slot) =
     IsFirstForbidden old.told.now zero one slot × (new ≡ old)
 IsNotLeft zero one old new Memory = new ≡ old
-IsNotLeft zero one old new (NoSuch place) = ⊥
-IsNotLeft zero one old new (NoRank rank) = ⊥
-IsNotLeft zero one old new (Refused fault) = ⊥
+IsNotLeft zero one old new halted = ⊥
 
 -- why nothing is noted or saved
 abbrev pub IsStill : DiskWorld → DiskWorld → Halted → Type 0
 IsStill old new (Refused fault) = (old.refused ≡ Some fault) × (new ≡ old)
 IsStill old new Memory = new ≡ old
-IsStill old new (NotAllowed slot) = ⊥
-IsStill old new (NoSuch place) = ⊥
-IsStill old new (NoRank rank) = ⊥
+IsStill old new halted = ⊥
 
 -- why nothing happens between the coordinator and its solvers; where memory ended a decision some
 -- steps of it stand

@@ -18,10 +18,7 @@ IsEvent ranks Decide = Unit {0}
 -- what an event sends
 abbrev pub report_of : Event → List Report
 report_of (Send report) = report ∷ []
-report_of (Hear place rank) = []
-report_of (Join rank) = []
-report_of (Gone rank) = []
-report_of Decide = []
+report_of event = []
 
 -- the reports that events send, the earliest first
 abbrev pub sent_by : List Event → List Report

@@ -2,7 +2,7 @@ use Rattle.std.proofs.Common.{◌∙◌, sym, ap, length, List, arith}
 use Rattle.ug_ranks.specs.declared.state.State.{State}
 use Rattle.ug_ranks.specs.States.{state_at}
 use Rattle.ug_rules.specs.State.{nodes_of}
-use Rattle.ug_rules.specs.Ranks.{is_racing}
+use Rattle.ug_ranks.specs.Looks.{is_racing}
 use Rattle.ug_rules.specs.Deaths.{race_lost}
 use Rattle.ug_rules.proofs.QueueLemmas.{stops_are_of_called_off}
 use Rattle.ug_stock.specs.Parts.{Parts, with_parts}

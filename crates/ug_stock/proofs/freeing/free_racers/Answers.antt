@@ -1,6 +1,6 @@
 use Rattle.std.proofs.Common.{refl, ap, length, List, arith}
 use Rattle.ug_ranks.specs.declared.state.State.{State}
-use Rattle.ug_rules.specs.Ranks.{is_racing}
+use Rattle.ug_ranks.specs.Looks.{is_racing}
 use Rattle.ug_stock.proofs.Loops.{all_idled}
 use Rattle.ug_stock.proofs.freeing.free_racers.Goals as goal
 

@@ -1,4 +1,4 @@
-use Rattle.ug_rules.specs.Ranks.{is_racing}
+use Rattle.ug_ranks.specs.Looks.{is_racing}
 use Rattle.ug_stock.proofs.Loops.{AreIdled}
 use Rattle.ug_stock.proofs.freeing.free_racers.Given as goal
 

@@ -4,7 +4,8 @@ use Rattle.ug_ranks.specs.declared.state.State.{State}
 use Rattle.ug_ranks.specs.declared.state.State.TheVariants.{Dead}
 use Rattle.ug_ranks.specs.States.{state_at}
 use Rattle.ug_rules.specs.State.{node_at}
-use Rattle.ug_rules.specs.Ranks.{is_joined, rank_if}
+use Rattle.ug_rules.specs.Ranks.{rank_if}
+use Rattle.ug_ranks.specs.Looks.{is_joined}
 use Rattle.ug_stock.proofs.Counts.{places_more}
 use Rattle.ug_stock.proofs.notice_places.places.Goals as goal
 

@@ -4,7 +4,8 @@ use Rattle.std.proofs.lemmas.List.{get_or_default}
 use Rattle.ug_ranks.specs.declared.state.State.{State}
 use Rattle.ug_ranks.specs.declared.state.State.TheVariants.{Dead}
 use Rattle.ug_ranks.specs.States.{state_at}
-use Rattle.ug_rules.specs.Ranks.{is_racing, ranks_that}
+use Rattle.ug_rules.specs.Ranks.{ranks_that}
+use Rattle.ug_ranks.specs.Looks.{is_racing}
 use Rattle.ug_stock.proofs.Loops.{none_is, some_is}
 use Rattle.ug_stock.proofs.racer_left.has_racer.Goals as goal
 

@@ -4,7 +4,8 @@ use Rattle.std.proofs.lemmas.List.Elements.{All-replicate}
 use Rattle.ug_nodes.specs.declared.change.Change.{Change}
 use Rattle.ug_stock.specs.Queues.{Queued}
 use Rattle.ug_pool.specs.declared.entry.Entry.{Entry}
-use Rattle.ug_rules.specs.Ranks.{is_idle, ranks_that}
+use Rattle.ug_rules.specs.Ranks.{ranks_that}
+use Rattle.ug_ranks.specs.Looks.{is_idle}
 use Rattle.ug_rules.specs.Deciding.{race_begun_with, raced_by_all}
 use Rattle.ug_stock.specs.Stocks.{stock_of, with_stock}
 use Rattle.ug_stock.proofs.FirstOfPool.{same_first}

@@ -3,7 +3,7 @@ use Rattle.std.specs.Prelude.{None}
 use Rattle.ug_ranks.specs.declared.state.State.{State}
 use Rattle.ug_ranks.specs.Changes.{racer_of}
 use Rattle.ug_ranks.specs.States.{state_at}
-use Rattle.ug_rules.specs.Ranks.{is_idle}
+use Rattle.ug_ranks.specs.Looks.{is_idle}
 use Rattle.ug_rules.specs.Deciding.{params_with}
 use Rattle.ug_rules.proofs.FirstLemmas.{idle_is}
 use Rattle.ug_stock.specs.Stocks.{stock_of}
