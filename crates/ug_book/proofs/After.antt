@@ -29,7 +29,7 @@ killed_counts Idle r b = refl
 killed_counts (Racing racer) r b =
     let d = with_dead r b in lost_counts (ranks_that is_racing d.ranks) d.raced d
 killed_counts (Active work) r b = refl
-killed_counts Dead r b = refl
+killed_counts (Dead how) r b = refl
 
 -- a death counts no report
 dead_counts : (r : ℕ) (b : BookState)
@@ -42,7 +42,7 @@ done_counts Absent r b = refl
 done_counts Idle r b = refl
 done_counts (Racing racer) r b = refl
 done_counts (Active work) r b = refl
-done_counts Dead r b = refl
+done_counts (Dead how) r b = refl
 
 handed_counts : (s : State) (r : ℕ) (changes : List Change) (b : BookState)
     → (handed_at s r changes b).heard ≡ b.heard
@@ -50,7 +50,7 @@ handed_counts Absent r changes b = refl
 handed_counts Idle r changes b = refl
 handed_counts (Racing racer) r changes b = refl
 handed_counts (Active work) r changes b = refl
-handed_counts Dead r changes b = refl
+handed_counts (Dead how) r changes b = refl
 
 -- what is kept counts none either
 kept_counts : (r : ℕ) (report : Report) (b : BookState) → (kept r report b).heard ≡ b.heard
@@ -58,7 +58,7 @@ kept_counts r Ready b = refl
 kept_counts r (Solution ticket x) b = refl
 kept_counts r (Hand ticket number changes) b = handed_counts (state_at b.ranks r) r changes b
 kept_counts r (Reported ticket count floor) b = refl
-kept_counts r (Done ticket told count) b = done_counts (state_at b.ranks r) r b
+kept_counts r (Done ticket told count ending) b = done_counts (state_at b.ranks r) r b
 kept_counts r Ended b = refl
 
 pub heard_is : (b : BookState) (answer : Heard) (r : ℕ) (report : Report)

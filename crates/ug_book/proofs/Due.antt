@@ -32,7 +32,7 @@ solution_now b (Racing racer) ticket x answer e due = due
 solution_now b (Active work) ticket x answer e due = due
 solution_now b Absent ticket x answer e due = absurd (none-some ticket e)
 solution_now b Idle ticket x answer e due = absurd (none-some ticket e)
-solution_now b Dead ticket x answer e due = absurd (none-some ticket e)
+solution_now b (Dead how) ticket x answer e due = absurd (none-some ticket e)
 
 -- and so is what is told of open nodes
 pub reported_now : (b : BookState) (s : State) (ticket : Ticket) (count : ℕ) (floor : ℤ)
@@ -41,4 +41,4 @@ reported_now b (Racing racer) ticket count floor e = refl
 reported_now b (Active work) ticket count floor e = refl
 reported_now b Absent ticket count floor e = absurd (none-some ticket e)
 reported_now b Idle ticket count floor e = absurd (none-some ticket e)
-reported_now b Dead ticket count floor e = absurd (none-some ticket e)
+reported_now b (Dead how) ticket count floor e = absurd (none-some ticket e)

@@ -37,7 +37,7 @@ same_work ss r area there =
     one Idle = refl
     one (Racing racer) = refl
     one (Active work) = refl
-    one Dead = refl
+    one (Dead how) = refl
 
 -- with a place more than nodes are out, each still has one after a hand
 pub places_kept : {A E : Type 0} (result : Result A E) (objective : Objective)
@@ -61,7 +61,7 @@ places_kept (Ok value) objective root rank changes old new old_pool new_pool rac
     by Absent is w = absurd w
     by Idle is w = absurd w
     by (Racing racer) is w = absurd w
-    by Dead is w = absurd w
+    by (Dead how) is w = absurd w
 places_kept (Err error) objective root rank changes old new old_pool new_pool raced there works room
     ok err =
     let same = ap (λ (ss : List State). length (nodes_of ss)) err.ranks in

@@ -20,6 +20,7 @@ use Rattle.ug_nodes.specs.Names.{own_name}
 use Rattle.ug_nodes.specs.Lines.{is_same_name}
 use Rattle.ug_pool.specs.declared.entry.Entry.{Entry}
 use Rattle.ug_pool.specs.Pools.{IsInOrder, IsPut, Pooled, with_entry}
+use Rattle.ug_ranks.specs.declared.state.Off.TheVariants.{Died}
 use Rattle.ug_ranks.specs.declared.state.State.{State}
 use Rattle.ug_ranks.specs.declared.state.State.TheVariants.{Absent, Dead}
 use Rattle.ug_ranks.specs.States.{state_at}
@@ -192,7 +193,7 @@ at_most_one p run hand (c ∷ boxes) name =
 
 -- ranks that have not joined
 absent_at : (n r : ℕ) → (state_at (replicate n Absent) r ≡ Absent)
-    ⊎ (state_at (replicate n Absent) r ≡ Dead)
+    ⊎ (state_at (replicate n Absent) r ≡ Dead Died)
 absent_at zero r = inr refl
 absent_at (suc n) zero = inl refl
 absent_at (suc n) (suc r) = absent_at n r

@@ -55,7 +55,7 @@ done_wide Idle r b = refl
 done_wide (Racing racer) r b =
     length-map b.ranks (λ (state : State). if is_racing state then Idle else state)
 done_wide (Active work) r b = length-set b.ranks r Idle
-done_wide Dead r b = refl
+done_wide (Dead how) r b = refl
 
 handed_wide : (s : State) (r : ℕ) (changes : List Change) (b : BookState)
     → length (handed_at s r changes b).ranks ≡ length b.ranks
@@ -64,7 +64,7 @@ handed_wide Idle r changes b = refl
 handed_wide (Racing racer) r changes b = refl
 handed_wide (Active work) r changes b = length-set b.ranks r
     (grown (area_by (root_of b.problem) changes) (state_at b.ranks r))
-handed_wide Dead r changes b = refl
+handed_wide (Dead how) r changes b = refl
 
 kept_wide : (r : ℕ) (report : Report) (b : BookState)
     → length (kept r report b).ranks ≡ length b.ranks
@@ -73,7 +73,7 @@ kept_wide r (Solution ticket x) b = refl
 kept_wide r (Hand ticket number changes) b = handed_wide (state_at b.ranks r) r changes b
 kept_wide r (Reported ticket count floor) b =
     length-set b.ranks r (noted count floor (state_at b.ranks r))
-kept_wide r (Done ticket told count) b = done_wide (state_at b.ranks r) r b
+kept_wide r (Done ticket told count ending) b = done_wide (state_at b.ranks r) r b
 kept_wide r Ended b = refl
 
 -- and there are as many ranks

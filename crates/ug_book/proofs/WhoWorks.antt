@@ -19,7 +19,7 @@ none_by (Absent ∷ ss) e = none_by ss e
 none_by (Idle ∷ ss) e = none_by ss e
 none_by (Racing racer ∷ ss) e = none_by ss e
 none_by (Active work ∷ ss) e = absurd (true≢false e)
-none_by (Dead ∷ ss) e = none_by ss e
+none_by (Dead how ∷ ss) e = none_by ss e
 
 -- where none does there is no such node
 pub none_work : (ss : List State) → All (λ s. is_working s ≡ false) ss → nodes_of ss ≡ []
@@ -32,7 +32,7 @@ some_by (Idle ∷ ss) e = some_by ss e
 some_by (Racing racer ∷ ss) e = some_by ss e
 some_by (Active work ∷ ss) e =
     λ none. absurd (omega (arith, ap (λ (ns : List Node). length ns) none))
-some_by (Dead ∷ ss) e = some_by ss e
+some_by (Dead how ∷ ss) e = some_by ss e
 
 -- and where some does there is one
 pub some_work : (ss : List State) → Any (λ s. IsTrue (is_working s)) ss → nodes_of ss ≢ []

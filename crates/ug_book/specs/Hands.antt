@@ -22,7 +22,7 @@ IsNotTaken root Absent number changes answer = answer ≡ InRace
 IsNotTaken root Idle number changes answer = answer ≡ InRace
 IsNotTaken root (Racing racer) number changes answer = answer ≡ InRace
 IsNotTaken root (Active work) number changes answer = IsRefused root work number changes answer
-IsNotTaken root Dead number changes answer = answer ≡ InRace
+IsNotTaken root (Dead how) number changes answer = answer ≡ InRace
 
 -- each node that is out of the pool has a spare place there
 abbrev pub HasPlaces : Pooled → List State → Option Entry → Type 0

@@ -72,6 +72,6 @@ fn current_at<'a>(state: &'a State, raced: &'a Option<Entry>) -> Option<CurrentW
             params: work.params,
             is_racing: false,
         }),
-        State::Absent | State::Idle | State::Dead => None,
+        State::Absent | State::Idle | State::Dead(_) => None,
     }
 }

@@ -2,6 +2,7 @@ ghost use Rattle.std.specs.Prelude.{◌≡◌, ◌≤◌, ◌<◌, ◌+◌, ◌+
 ghost use Rattle.ug_problem.specs.Feasible.{Feasible};
 ghost use Rattle.ug_problem.specs.Better.{IsGap, best_cutoff};
 ghost use Rattle.ug_ledger.specs.Dones.{IsBackedBy};
+ghost use Rattle.ug_frames.specs.declared.report.Ending.{Ending};
 ghost use Rattle.ug_frames.specs.declared.report.Report.TheVariants.{Done};
 ghost use Rattle.ug_ranks.specs.States.{state_at};
 ghost use Rattle.ug_rules.specs.State.{BookState};
@@ -17,7 +18,7 @@ use ug_ranks::Ranks;
 use ug_rules::Heard;
 use ug_stock::free_racers;
 
-// A Done of a rank, under a ticket.
+// A Done of a rank, under a ticket; however it ended, the same is asked of it.
 pub fn hear_done(
     incumbent: Option<i128>,
     ranks: &mut Ranks,
@@ -28,10 +29,12 @@ pub fn hear_done(
     count: u64,
 ) -> Heard
     requires { rank < length ranks.old }
-    ensures due { (b : BookState) → best_cutoff b.problem b.settings.gap b.best ≡ incumbent
-        → IsDueUnder b (state_at ranks.old rank) ticket (Done ticket cutoff count) result }
-    ensures taken { (b : BookState) → record b { ranks = ranks.new; raced = raced.new }
-        ≡ taken_up result rank (Done ticket cutoff count)
+    ensures due { (b : BookState) (ending : Ending)
+        → best_cutoff b.problem b.settings.gap b.best ≡ incumbent
+        → IsDueUnder b (state_at ranks.old rank) ticket (Done ticket cutoff count ending) result }
+    ensures taken { (b : BookState) (ending : Ending)
+        → record b { ranks = ranks.new; raced = raced.new }
+        ≡ taken_up result rank (Done ticket cutoff count ending)
         (record b { ranks = ranks.old; raced = raced.old }) }
 {
     if !ranks.state(rank).has_ticket(ticket) {

@@ -67,7 +67,7 @@ fn judge_hand(problem: &Problem, state: &State, number: u64, changes: &Changes) 
 {
     match state {
         State::Active(work) => judge(problem.root(), work, number, changes),
-        State::Absent | State::Idle | State::Racing(_) | State::Dead => Some(Heard::InRace),
+        State::Absent | State::Idle | State::Racing(_) | State::Dead(_) => Some(Heard::InRace),
     }
 }
 

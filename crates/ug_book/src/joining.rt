@@ -29,7 +29,7 @@ fn ready_answer(state: &State) -> Heard
     match state {
         State::Absent => Heard::Kept,
         State::Idle | State::Racing(_) | State::Active(_) => Heard::Early,
-        State::Dead => Heard::Stale,
+        State::Dead(_) => Heard::Stale,
     }
 }
 
@@ -39,6 +39,6 @@ pub fn hear_ended(state: &State) -> Heard
 {
     match state {
         State::Absent | State::Idle | State::Racing(_) | State::Active(_) => Heard::Early,
-        State::Dead => Heard::Stale,
+        State::Dead(_) => Heard::Stale,
     }
 }

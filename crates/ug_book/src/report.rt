@@ -72,6 +72,7 @@ pub fn take_report(
             ticket,
             cutoff,
             count,
+            end: _end,
         } => {
             let incumbent = best.cutoff(problem, settings.gap);
             hear_done(incumbent, ranks, raced, rank, ticket, cutoff, count)

@@ -31,7 +31,7 @@ fn letter(state: &State) -> u8 {
         State::Idle => b'i',
         State::Racing(_) => b'r',
         State::Active(_) => b'w',
-        State::Dead => b'd',
+        State::Dead(_) => b'd',
     }
 }
 

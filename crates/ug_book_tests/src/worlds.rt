@@ -10,7 +10,7 @@ use crate::problems::{cube, square};
 use crate::schedules::SCHEDULES;
 use std::alloc::{AllocError, Global};
 use ug_book::{Book, Boxes};
-use ug_frames::Report;
+use ug_frames::{Ending, Report};
 use ug_nodes::{Change, Changes, Ticket};
 use ug_problem::{Problem, Shared};
 use ug_rows::Point;
@@ -147,6 +147,7 @@ fn report_of(alloc: Global, kind: &str, numbers: &[i128]) -> Option<Report>
             ticket,
             cutoff: numbers.get(3).copied(),
             count: count(numbers, 2),
+            end: Ending::Plain,
         }),
     }
 }

@@ -9,7 +9,7 @@ use std::alloc::Global;
 use ug_book::{Answered, Book};
 use ug_checkpoint::Saver;
 use ug_disk::{MemoryDisk, Slot};
-use ug_frames::Report;
+use ug_frames::{Ending, Report};
 use ug_nodes::Ticket;
 use ug_problem::Shared;
 use ug_restart::{StartFault, begin};
@@ -53,6 +53,7 @@ fn report(alloc: Global, run: u64, is_done: bool) -> DiskEvent
             ticket,
             cutoff: Some(0),
             count: 0,
+            end: Ending::Plain,
         }
     } else {
         Report::Solution {

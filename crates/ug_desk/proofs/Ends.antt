@@ -9,6 +9,7 @@ use Rattle.ug_problem.specs.Better.{AreAllHanded}
 use Rattle.ug_nodes.specs.declared.name.Ticket.{Ticket}
 use Rattle.ug_nodes.specs.Nodes.{box_of}
 use Rattle.ug_pool.specs.declared.entry.Entry.{Entry}
+use Rattle.ug_frames.specs.declared.report.Ending.TheVariants.{Plain}
 use Rattle.ug_frames.specs.declared.report.Report.TheVariants.{Done}
 use Rattle.ug_ranks.specs.declared.state.State.{State}
 use Rattle.ug_ranks.specs.declared.state.State.TheVariants.{Absent, Idle, Racing, Active, Dead}
@@ -87,8 +88,8 @@ module _ (handed taken : List (List Interval)) (found count : ℕ)
 
 -- what is done under it is the same
 after_on : (b : BookState) (r : ℕ) (ticket : Ticket) (told : Option ℤ) (count handed found : ℕ)
-    (heard : Heard) → after_hearing heard r (Done ticket told count) b
-    ≡ after_hearing (told_on handed found heard) r (Done ticket told handed) b
+    (heard : Heard) → after_hearing heard r (Done ticket told count Plain) b
+    ≡ after_hearing (told_on handed found heard) r (Done ticket told handed Plain) b
 after_on b r ticket told count handed found Kept = refl
 after_on b r ticket told count handed found Stale = refl
 after_on b r ticket told count handed found Early = refl
@@ -111,7 +112,7 @@ taken_told raced Idle c e = absurd (none-some c e)
 taken_told None (Racing racer) c e = absurd (none-some c e)
 taken_told (Some entry) (Racing racer) c e = ap (λ (k : Current). k.taken) (same_Some _ c e)
 taken_told raced (Active work) c e = ap (λ (k : Current). k.taken) (same_Some _ c e)
-taken_told raced Dead c e = absurd (none-some c e)
+taken_told raced (Dead how) c e = absurd (none-some c e)
 
 ticket_told : (raced : Option Entry) (s : State) (c : Current) → current_of raced s ≡ Some c
     → ticket_at s ≡ Some c.ticket
@@ -121,11 +122,11 @@ ticket_told None (Racing racer) c e = absurd (none-some c e)
 ticket_told (Some entry) (Racing racer) c e =
     ap (λ (k : Current). Some k.ticket) (same_Some _ c e)
 ticket_told raced (Active work) c e = ap (λ (k : Current). Some k.ticket) (same_Some _ c e)
-ticket_told raced Dead c e = absurd (none-some c e)
+ticket_told raced (Dead how) c e = absurd (none-some c e)
 
 current_due : (b : BookState) (raced : Option Entry) (s : State) (c : Current) (ticket : Ticket)
     (told : Option ℤ) (count : ℕ) (heard : Heard) → current_of raced s ≡ Some c
-    → IsCurrentDue b s (Done ticket told count) heard
+    → IsCurrentDue b s (Done ticket told count Plain) heard
     → IsDoneDue b (length c.taken) told count heard
 current_due b raced Absent c ticket told count heard e due = absurd due
 current_due b raced Idle c ticket told count heard e due = absurd due
@@ -134,7 +135,7 @@ current_due b (Some entry) (Racing racer) c ticket told count heard e due =
     subst (λ (k : Current). IsDoneDue b (length k.taken) told count heard) (same_Some _ c e) due
 current_due b raced (Active work) c ticket told count heard e due =
     subst (λ (k : Current). IsDoneDue b (length k.taken) told count heard) (same_Some _ c e) due
-current_due b raced Dead c ticket told count heard e due = absurd due
+current_due b raced (Dead how) c ticket told count heard e due = absurd due
 
 -- ---- the Done of a task
 
@@ -152,8 +153,8 @@ module _ (b : BookState) (r : ℕ) (task : TaskState) (of : IsOfTicket b r task)
     -- it is judged by the hands that were found
     pub done_so : (new : BookState) (ticket : Ticket) (cutoff : Option ℤ) (heard answer : Heard)
         → ticket ≡ task.ticket → cutoff ≡ task.cutoff
-        → IsDue b r (Done ticket cutoff count) heard
-        → new ≡ after_hearing heard r (Done ticket cutoff count) b
+        → IsDue b r (Done ticket cutoff count Plain) heard
+        → new ≡ after_hearing heard r (Done ticket cutoff count Plain) b
         → answer ≡ told_on (length handed) found heard → HasDone r task answer b new
     done_so new ticket cutoff heard answer is_ticket is_cutoff due done told =
         let at = ticket_told b.raced (state_at b.ranks r) of.work current
@@ -176,17 +177,17 @@ module _ (b : BookState) (r : ℕ) (task : TaskState) (of : IsOfTicket b r task)
               (told_on (length handed) found heard)) is_cutoff answered);
           done = done ∙ after
               ∙ ap (λ (bs : List (List Interval)). after_hearing
-              (told_on (length handed) found heard) r (Done ticket cutoff (length bs)) b) own
+              (told_on (length handed) found heard) r (Done ticket cutoff (length bs) Plain) b) own
               ∙ ap (λ k. after_hearing (told_on (length handed) found heard) r
-              (Done k cutoff (length task.handed)) b) is_ticket
+              (Done k cutoff (length task.handed) Plain) b) is_ticket
               ∙ ap (λ c. after_hearing (told_on (length handed) found heard) r
-              (Done task.ticket c (length task.handed)) b) is_cutoff;
+              (Done task.ticket c (length task.handed) Plain) b) is_cutoff;
         })
 
     -- where it is kept it is true: the boxes that the task handed are those that were taken
     pub true_so : (ticket : Ticket) (cutoff : Option ℤ) → cutoff ≡ task.cutoff
         → AreAllHanded task.problem task.cutoff task.whole task.handed
-        → IsTrueReport b r (Done ticket cutoff count)
+        → IsTrueReport b r (Done ticket cutoff count Plain)
     true_so ticket cutoff is_cutoff all c currently its_ticket counts =
         let work : of.work ≡ c =
         same_Some of.work c (sym current ∙ current_is b r c currently) in

@@ -41,7 +41,7 @@ freed_one Absent is = is
 freed_one Idle is = is
 freed_one (Racing racer) is = refl
 freed_one (Active work) is = is
-freed_one Dead is = is
+freed_one (Dead how) is = is
 
 freed_joined : (ss : List State) (r : ℕ) → Joined r ss → Joined r (racers_freed ss)
 freed_joined [] r is = is
@@ -54,14 +54,14 @@ won_one node floor Absent is = is
 won_one node floor Idle is = is
 won_one node floor (Racing racer) is = refl
 won_one node floor (Active work) is = is
-won_one node floor Dead is = is
+won_one node floor (Dead how) is = is
 
 asked_one : (count : ℕ) (s : State) → is_joined s ≡ true → is_joined (asked_for count s) ≡ true
 asked_one count Absent is = is
 asked_one count Idle is = is
 asked_one count (Racing racer) is = is
 asked_one count (Active work) is = is
-asked_one count Dead is = is
+asked_one count (Dead how) is = is
 
 -- ---- part by part
 
@@ -157,7 +157,7 @@ joins Absent = refl
 joins Idle = refl
 joins (Racing racer) = refl
 joins (Active work) = refl
-joins Dead = refl
+joins (Dead how) = refl
 
 set_at : (ss : List State) (r : ℕ) (s : State) → r < length ss → is_joined s ≡ true
     → Joined r (slice_set ss r s)

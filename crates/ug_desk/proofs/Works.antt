@@ -34,7 +34,7 @@ told_at (Some e) (Racing racer) w t =
     let ticket = t.its_ticket in let node = t.its_node in cc
 told_at raced (Active work) w t =
     let ticket = t.its_ticket in let node = t.its_node in cc
-told_at raced Dead w t = absurd t
+told_at raced (Dead how) w t = absurd t
 
 -- it is what the rank's ticket is current for
 pub current_told : (b : BookState) (r : ℕ) (w : CurrentWork)
@@ -58,7 +58,7 @@ params_told raced Idle w t = absurd t
 params_told None (Racing racer) w t = absurd t
 params_told (Some e) (Racing racer) w t = let same = t.its_params in cc
 params_told raced (Active work) w t = let same = t.its_params in cc
-params_told raced Dead w t = absurd t
+params_told raced (Dead how) w t = absurd t
 
 -- a task that is made of it is a new one of the rank's ticket
 pub at_work : (b : BookState) (r : ℕ) (w : CurrentWork) (task : TaskState) → IsUnderWay b
@@ -86,7 +86,7 @@ changes_at p (Some e) (Racing racer) w h k t =
     subst (λ (n : Node). AreChangesOf (root_of p) n.changes) (sym t.its_node) k.changes
 changes_at p raced (Active work) w h k t =
     subst (λ (n : Node). AreChangesOf (root_of p) n.changes) (sym t.its_node) h.changes
-changes_at p raced Dead w h k t = absurd t
+changes_at p raced (Dead how) w h k t = absurd t
 
 -- its node has a box
 pub current_changes : (b : BookState) (r : ℕ) (w : CurrentWork) → IsBook b → r < length b.ranks
@@ -119,7 +119,7 @@ none_at raced Absent c none is = none-some c is
 none_at raced Idle c none is = none-some c is
 none_at raced (Racing racer) c none is = none-some racer.ticket (sym none)
 none_at raced (Active work) c none is = none-some work.ticket (sym none)
-none_at raced Dead c none is = none-some c is
+none_at raced (Dead how) c none is = none-some c is
 
 -- without a ticket none is
 pub of_none : (b : BookState) (r : ℕ) (task : TaskState) → ticket_at (state_at b.ranks r) ≡ None

@@ -6,6 +6,7 @@ use Rattle.ug_problem.specs.Instances.{Instance, root_of}
 use Rattle.ug_nodes.specs.declared.name.Ticket.{Ticket}
 use Rattle.ug_nodes.specs.declared.node.Node.{Node}
 use Rattle.ug_nodes.specs.Nodes.{box_of}
+use Rattle.ug_frames.specs.declared.report.Ending.TheVariants.{Plain}
 use Rattle.ug_frames.specs.declared.report.Report.TheVariants.{Done}
 use Rattle.ug_ledger.specs.Ledgers.{Current, IsCurrent}
 use Rattle.ug_rules.specs.declared.heard.Heard.{Heard}
@@ -45,4 +46,4 @@ pub record HasDone (r : ℕ) (task : TaskState) (answer : Heard) (old new : Book
   pub found : ℕ
   pub hands : AreFound task.handed of_ticket.work.taken found
   pub due : IsDoneDue old found task.cutoff (length task.handed) answer
-  pub done : new ≡ after_hearing answer r (Done task.ticket task.cutoff (length task.handed)) old
+  pub done : new ≡ after_hearing answer r (Done task.ticket task.cutoff (length task.handed) Plain) old

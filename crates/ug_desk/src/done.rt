@@ -7,7 +7,7 @@ ghost use Rattle.ug_desk.specs.Dones.{HasDone, IsOfTicket};
 use crate::agree::found;
 use ug_base::Task;
 use ug_book::Book;
-use ug_frames::Report;
+use ug_frames::{Ending, Report};
 use ug_rules::Heard;
 
 /// The end of a task of the rank's ticket, of which no box is left. It takes no memory.
@@ -31,6 +31,7 @@ pub fn done(book: &mut Book, rank: u32, task: &Task) -> Heard
             ticket: task.ticket(),
             cutoff: task.cutoff(),
             count,
+            end: Ending::Plain,
         },
     );
     told_on(heard, handed.len() as u64, found)

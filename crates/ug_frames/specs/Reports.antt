@@ -11,7 +11,7 @@ abbrev pub ticket_of : Report → Option Ticket
 ticket_of (Solution ticket point) = Some ticket
 ticket_of (Hand ticket number changes) = Some ticket
 ticket_of (State ticket nodes floor) = Some ticket
-ticket_of (Done ticket cutoff count) = Some ticket
+ticket_of (Done ticket cutoff count ending) = Some ticket
 ticket_of report = None
 
 -- the report's fields but its ticket are within their ranges
@@ -20,7 +20,7 @@ AreReportFields Ready = Unit {0}
 AreReportFields (Solution ticket point) = IsPoint point
 AreReportFields (Hand ticket number changes) = AreChanges changes
 AreReportFields (State ticket nodes floor) = (1 ≤ nodes) × IsValue floor
-AreReportFields (Done ticket cutoff count) = IfSome cutoff IsValue
+AreReportFields (Done ticket cutoff count ending) = IfSome cutoff IsValue
 AreReportFields Ended = Unit {0}
 
 -- a frame can carry the report: its ticket, if any, was given, and its fields are in their ranges

@@ -9,4 +9,4 @@ mod order;
 mod report;
 
 pub use order::Order;
-pub use report::Report;
+pub use report::{Ending, Report};

@@ -2,6 +2,13 @@ use std::alloc::AllocError;
 use ug_nodes::{Changes, Ticket};
 use ug_rows::Point;
 
+/// How a task ended.
+#[derive(Clone, Copy)]
+pub enum Ending {
+    /// It was worked off, and nothing is told of how.
+    Plain,
+}
+
 /// What a solver tells the coordinator. Values and cutoffs are of the minimised, scaled objective.
 #[derive(Drop)]
 pub enum Report {
@@ -30,6 +37,7 @@ pub enum Report {
         ticket: Ticket,
         cutoff: Option<i128>,
         count: u64,
+        end: Ending,
     },
     /// Nothing comes after.
     Ended,
@@ -84,10 +92,12 @@ impl Report {
                 ticket,
                 cutoff,
                 count,
+                end,
             } => Report::Done {
                 ticket: *ticket,
                 cutoff: *cutoff,
                 count: *count,
+                end: *end,
             },
             Report::Ended => Report::Ended,
         })

@@ -8,7 +8,7 @@ use crate::start::{RANKS, begin, problem};
 use std::alloc::{AllocError, Global};
 use std::mem;
 use ug_book::Book;
-use ug_frames::Report;
+use ug_frames::{Ending, Report};
 use ug_nodes::Ticket;
 use ug_problem::Shared;
 use ug_rows::Point;
@@ -188,6 +188,7 @@ fn message(alloc: Global, solver: &mut Solver, dice: u32) -> Result<Report, Allo
             ticket,
             cutoff: None,
             count: solver.hands,
+            end: Ending::Plain,
         });
     }
     Ok(Report::State {

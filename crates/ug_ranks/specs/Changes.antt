@@ -29,7 +29,7 @@ racer_of ticket params = record { ticket = ticket; params = params; «open» = 0
 -- the state of a rank that joined: idle, where it was absent or dead
 abbrev pub joined : State → State
 joined Absent = Idle
-joined Dead = Idle
+joined (Dead how) = Idle
 joined state = state
 
 -- the state with the node the rank's own, where it took part in a race

@@ -31,14 +31,14 @@ is_joined Absent = false
 is_joined Idle = true
 is_joined (Racing racer) = true
 is_joined (Active work) = true
-is_joined Dead = false
+is_joined (Dead how) = false
 
 abbrev pub is_alive : State → Bool
 is_alive Absent = true
 is_alive Idle = true
 is_alive (Racing racer) = true
 is_alive (Active work) = true
-is_alive Dead = false
+is_alive (Dead how) = false
 
 -- the ticket of a rank, if it has one
 abbrev pub ticket_at : State → Option Ticket

@@ -36,7 +36,7 @@ impl State {
     pub fn is_alive(&self) -> bool
         ensures { result ≡ is_alive self.now }
     {
-        !matches!(self, State::Dead)
+        !matches!(self, State::Dead(_))
     }
 
     /// Whether the rank's ticket is this one.
@@ -46,7 +46,7 @@ impl State {
         match self {
             State::Racing(racer) => racer.ticket == ticket,
             State::Active(work) => work.ticket == ticket,
-            State::Absent | State::Idle | State::Dead => false,
+            State::Absent | State::Idle | State::Dead(_) => false,
         }
     }
 
@@ -56,7 +56,7 @@ impl State {
     {
         match self {
             State::Racing(racer) => Some(racer.ticket),
-            State::Absent | State::Idle | State::Active(_) | State::Dead => None,
+            State::Absent | State::Idle | State::Active(_) | State::Dead(_) => None,
         }
     }
 
@@ -66,7 +66,7 @@ impl State {
     {
         match self {
             State::Active(work) => Some(work.ticket),
-            State::Absent | State::Idle | State::Racing(_) | State::Dead => None,
+            State::Absent | State::Idle | State::Racing(_) | State::Dead(_) => None,
         }
     }
 
@@ -82,7 +82,7 @@ impl State {
                     None
                 }
             }
-            State::Absent | State::Idle | State::Racing(_) | State::Dead => None,
+            State::Absent | State::Idle | State::Racing(_) | State::Dead(_) => None,
         }
     }
 
@@ -92,7 +92,7 @@ impl State {
     {
         match self {
             State::Active(work) => work.taken.as_slice(),
-            State::Absent | State::Idle | State::Racing(_) | State::Dead => &[],
+            State::Absent | State::Idle | State::Racing(_) | State::Dead(_) => &[],
         }
     }
 
@@ -102,7 +102,7 @@ impl State {
     {
         match self {
             State::Active(work) => work.taken.len() as u64,
-            State::Absent | State::Idle | State::Racing(_) | State::Dead => 0,
+            State::Absent | State::Idle | State::Racing(_) | State::Dead(_) => 0,
         }
     }
 
@@ -112,7 +112,7 @@ impl State {
     {
         match self {
             State::Active(work) => work.asked,
-            State::Absent | State::Idle | State::Racing(_) | State::Dead => 0,
+            State::Absent | State::Idle | State::Racing(_) | State::Dead(_) => 0,
         }
     }
 }

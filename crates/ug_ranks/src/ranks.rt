@@ -1,9 +1,10 @@
 ghost use Rattle.std.specs.Prelude.{◌≡◌, ◌<◌, ◌^◌, [], length, replicate, slice_set, IfOk, OnOk, OnErr};
+ghost use Rattle.ug_ranks.specs.declared.state.Off.TheVariants.{Died};
 ghost use Rattle.ug_ranks.specs.declared.state.State.TheVariants.{Absent, Active, Dead, Idle, Racing};
 ghost use Rattle.ug_ranks.specs.States.{IsRacing, held_by, state_at};
 ghost use Rattle.ug_ranks.specs.Changes.{asked_for, grown, joined, noted, racer_of, won, work_of};
 
-use crate::state::{Boxes, Racer, State, Work};
+use crate::state::{Boxes, Off, Racer, State, Work};
 use std::alloc::{AllocError, Global};
 use std::marker::Model;
 use std::mem;
@@ -118,10 +119,10 @@ impl Ranks {
     /// The rank is dead; the node that it worked on with its floor, if it did.
     pub fn kill(&mut self, rank: u32) -> Option<(Node, i128)>
         requires { rank < length self.old }
-        ensures states { self.new ≡ slice_set self.old rank Dead }
+        ensures states { self.new ≡ slice_set self.old rank (Dead Died) }
         ensures node { result ≡ held_by (state_at self.old rank) }
     {
-        node_in(mem::replace(&mut self.states[rank as usize], State::Dead))
+        node_in(mem::replace(&mut self.states[rank as usize], State::Dead(Off::Died)))
     }
 
     /// A rank that works or races reported so many open nodes, and their least floor. At any other
@@ -170,7 +171,7 @@ fn absent(alloc: Global, n: u32) -> Result<Vec<State>, AllocError>
 fn join(state: &mut State)
     ensures { state.new ≡ joined state.old }
 {
-    if matches!(state, State::Absent | State::Dead) {
+    if matches!(state, State::Absent | State::Dead(_)) {
         *state = State::Idle;
     }
 }
@@ -201,7 +202,7 @@ fn node_in(state: State) -> Option<(Node, i128)>
 {
     match state {
         State::Active(work) => Some((work.node, work.floor)),
-        State::Absent | State::Idle | State::Racing(_) | State::Dead => None,
+        State::Absent | State::Idle | State::Racing(_) | State::Dead(_) => None,
     }
 }
 
@@ -217,7 +218,7 @@ fn note_report(state: &mut State, open: u64, floor: i128)
             racer.open = open;
             racer.floor = floor;
         }
-        State::Absent | State::Idle | State::Dead => {}
+        State::Absent | State::Idle | State::Dead(_) => {}
     }
 }
 

@@ -35,6 +35,12 @@ pub struct Work {
     pub asked: u32,
 }
 
+/// How a rank came to be off.
+#[derive(Clone, Copy)]
+pub enum Off {
+    Died,
+}
+
 /// The state of a rank.
 #[derive(Drop)]
 pub enum State {
@@ -45,5 +51,5 @@ pub enum State {
     Racing(Racer),
     /// It works on a node of its own.
     Active(Work),
-    Dead,
+    Dead(Off),
 }

@@ -11,6 +11,7 @@ use Rattle.ug_nodes.specs.declared.node.Node.{Node}
 use Rattle.ug_pool.specs.declared.entry.Entry.{Entry}
 use Rattle.ug_pool.specs.Pools.{IsInOrder}
 use Rattle.ug_ranks.specs.declared.state.Work.{Work}
+use Rattle.ug_ranks.specs.declared.state.Off.TheVariants.{Died}
 use Rattle.ug_ranks.specs.declared.state.State.{State}
 use Rattle.ug_ranks.specs.declared.state.State.TheVariants.{Absent, Idle, Racing, Active, Dead}
 use Rattle.ug_ranks.specs.States.{state_at}
@@ -66,10 +67,10 @@ alike_itself s =
     record { nodes = refl; current = λ raced. refl; racing = refl; floor = λ p h. h }
 
 -- a rank that was absent or idle is dead alike: it has no ticket either way
-pub absent_or_idle : (s : State) → (s ≡ Absent) ⊎ (s ≡ Idle) → IsAlike s Dead
-absent_or_idle s (inl e) = subst (λ t. IsAlike t Dead) (sym e)
+pub absent_or_idle : (s : State) → (s ≡ Absent) ⊎ (s ≡ Idle) → IsAlike s (Dead Died)
+absent_or_idle s (inl e) = subst (λ t. IsAlike t (Dead Died)) (sym e)
     (record { nodes = refl; current = λ raced. refl; racing = refl; floor = λ p h. h })
-absent_or_idle s (inr e) = subst (λ t. IsAlike t Dead) (sym e)
+absent_or_idle s (inr e) = subst (λ t. IsAlike t (Dead Died)) (sym e)
     (record { nodes = refl; current = λ raced. refl; racing = refl; floor = λ p h. h })
 
 pub joined_alike : (s : State) → IsAlike s (joined s)
@@ -78,7 +79,7 @@ joined_alike Absent =
 joined_alike Idle = alike_itself Idle
 joined_alike (Racing racer) = alike_itself (Racing racer)
 joined_alike (Active work) = alike_itself (Active work)
-joined_alike Dead =
+joined_alike (Dead how) =
     record { nodes = refl; current = λ raced. refl; racing = refl; floor = λ p h. h }
 
 pub noted_alike : (count : ℕ) (floor : ℤ) (s : State) → IsAlike s (noted count floor s)
@@ -93,7 +94,7 @@ noted_alike count floor (Racing racer) =
     raced_alike (Some entry) = refl
 noted_alike count floor (Active work) =
     record { nodes = refl; current = λ raced. refl; racing = refl; floor = λ p h. h }
-noted_alike count floor Dead = alike_itself Dead
+noted_alike count floor (Dead how) = alike_itself (Dead how)
 
 pub asked_alike : (count : ℕ) (s : State) → IsAlike s (asked_for count s)
 asked_alike count Absent = alike_itself Absent
@@ -101,7 +102,7 @@ asked_alike count Idle = alike_itself Idle
 asked_alike count (Racing racer) = alike_itself (Racing racer)
 asked_alike count (Active work) =
     record { nodes = refl; current = λ raced. refl; racing = refl; floor = λ p h. h }
-asked_alike count Dead = alike_itself Dead
+asked_alike count (Dead how) = alike_itself (Dead how)
 
 -- so the ledger is the same
 pub same_ledger : (b : BookState) (r : ℕ) (s : State) → IsAlike (state_at b.ranks r) s
@@ -163,7 +164,7 @@ nothing_raced b r work alone is = none_raced b.raced
 -- the floor at a rank
 pub floor_at : (b : BookState) (r : ℕ) → r < length b.ranks → KeepFloors b
     → KeepsItsFloor b.problem (state_at b.ranks r)
-floor_at b r l h = All-get_or (KeepsItsFloor b.problem) b.ranks r Dead l h.ranks
+floor_at b r l h = All-get_or (KeepsItsFloor b.problem) b.ranks r (Dead Died) l h.ranks
 
 -- and those of all ranks where some became idle
 pub floors_idled : (p : Instance) (test : State → Bool) (ss : List State) → All (KeepsItsFloor p) ss

@@ -13,6 +13,7 @@ use Rattle.ug_nodes.proofs.LineLemmas.{ancestor_from_test, ancestor_not_itself, 
 use Rattle.ug_pool.specs.declared.entry.Entry.{Entry}
 use Rattle.ug_pool.specs.Pools.{without_below}
 use Rattle.ug_ranks.specs.declared.state.Work.{Work}
+use Rattle.ug_ranks.specs.declared.state.Off.TheVariants.{Died}
 use Rattle.ug_ranks.specs.declared.state.State.{State}
 use Rattle.ug_ranks.specs.declared.state.State.TheVariants.{Absent, Idle, Racing, Active, Dead}
 use Rattle.ug_ranks.specs.States.{state_at}
@@ -45,7 +46,7 @@ module _ (b : BookState) (r : ℕ) (work : Work) (there : r < length b.ranks)
   line = work.node.line
 
   abbrev dead : List State
-  dead = slice_set b.ranks r Dead
+  dead = slice_set b.ranks r (Dead Died)
 
   abbrev new : BookState
   new = killed_at (Active work) r b
@@ -59,7 +60,7 @@ module _ (b : BookState) (r : ℕ) (work : Work) (there : r < length b.ranks)
 
   worked_before : (n : Node) → Contains (nodes_of new.ranks) n → Contains (nodes_of b.ranks) n
   worked_before n h =
-      let o = free_old b.ranks r Dead n there dead_is_free (not_below n h).0 in
+      let o = free_old b.ranks r (Dead Died) n there dead_is_free (not_below n h).0 in
       works_to b.ranks n o.0
 
   held_before : (raced : b.raced ≡ None) (n : Node) → Contains (held_nodes new) n
@@ -82,7 +83,7 @@ module _ (b : BookState) (r : ℕ) (work : Work) (there : r < length b.ranks)
       let fewer : f (nodes_in (without_below line b.pool)) ≤ f (nodes_in b.pool) =
       of_failed f adds (λ (e : Entry). is_ancestor line e.node.line) b.pool in
       let off = of_idled f adds (works_below line) dead in
-      let set_to = of_set f adds b.ranks r Dead there in
+      let set_to = of_set f adds b.ranks r (Dead Died) there in
       let had : f (node_at (state_at b.ranks r)) ≡ f (work.node ∷ []) =
       ap (λ (s : State). f (node_at s)) is in
       omega (arith, now, before, put, fewer, off, set_to, had, of_none f adds)
@@ -90,7 +91,7 @@ module _ (b : BookState) (r : ℕ) (work : Work) (there : r < length b.ranks)
   -- a ticket that is current still is that of another rank, and was current
   ticket_before : (q : ℕ) (d : Current) → IsCurrent (ledger_of new) q d
       → (q ≢ r) × (current_of b.raced (state_at b.ranks q) ≡ Some d)
-  ticket_before q d h = free_current b.raced b.ranks r Dead q d there refl
+  ticket_before q d h = free_current b.raced b.ranks r (Dead Died) q d there refl
       (idled_current (works_below line) refl b.raced dead q d (current_is new q d h))
 
   gone : (raced : b.raced ≡ None) (n : Node) → Contains (held_nodes new) n
@@ -118,7 +119,7 @@ module _ (b : BookState) (r : ℕ) (work : Work) (there : r < length b.ranks)
             (subst (λ m. Contains (nodes_in new.pool) m) (own_node b r work there is n t e)
             (entry_new (entry_of work) (without_below line b.pool))))
         | inr ne ↦
-            let k = others_kept b.ranks r Dead n t ne in
+            let k = others_kept b.ranks r (Dead Died) n t ne in
             elim (cases_Bool (is_ancestor line n.line)) [
               | inl up ↦ inl (ancestor_from_test line n.line up)
               | inr apart ↦
@@ -136,10 +137,10 @@ module _ (b : BookState) (r : ℕ) (work : Work) (there : r < length b.ranks)
       let o = ticket_before q d h in
       elim (current_cases b.raced (state_at b.ranks q) d o.1) [
         | inl t ↦
-            let at = state_there b.ranks r Dead q o.0 ∙ t.state in
+            let at = state_there b.ranks r (Dead Died) q o.0 ∙ t.state in
             let node = ap (λ (c : Current). c.node) t.told ∙ e in
-            own_gone b r work there is Dead refl named
-            (in_work (written r Dead b) work.node
+            own_gone b r work there is (Dead Died) refl named
+            (in_work (written r (Dead Died) b) work.node
             (subst (λ m. Contains (nodes_of dead) m) node (works_at dead q t.work at)))
         | inr t ↦ none-some t.entry (sym raced ∙ t.is_raced)
       ]
@@ -151,7 +152,7 @@ module _ (b : BookState) (r : ℕ) (work : Work) (there : r < length b.ranks)
         let at = subst (λ k. IsCurrent (ledger_of b) k d) e h in
         inl (sym (ap (λ (c : Current). c.node) (own_ticket b r work there is d at)))
     | inr ne ↦
-        let was = others_current b.raced b.ranks r Dead q d ne (current_is b q d h) in
+        let was = others_current b.raced b.ranks r (Dead Died) q d ne (current_is b q d h) in
         elim (cases_Bool (works_below line (state_at dead q))) [
           | inl off ↦ inr (inl (below_line (state_at dead q) d was off))
           | inr on ↦ inr (inr (is_current new q d
@@ -167,7 +168,7 @@ module _ (b : BookState) (r : ℕ) (work : Work) (there : r < length b.ranks)
       below_line Absent c told off = absurd (false≢true off)
       below_line Idle c told off = absurd (false≢true off)
       below_line (Racing racer) c told off = absurd (false≢true off)
-      below_line Dead c told off = absurd (false≢true off)
+      below_line (Dead how) c told off = absurd (false≢true off)
 
   -- the ledger's move
   pub death_takes_in : b.raced ≡ None → AreNamed (held_nodes b)
@@ -195,7 +196,7 @@ module _ (b : BookState) (r : ℕ) (work : Work) (there : r < length b.ranks)
       let p = b.problem in
       book_changed b new.pool new.ranks b.raced new.orders h
       (length-map dead (λ (s : State). if works_below line s then Idle else s)
-      ∙ length-set b.ranks r Dead)
+      ∙ length-set b.ranks r (Dead Died))
       (put_in_order (entry_of work) (without_below line b.pool)
       (above_in_order line b.pool h.order))
       (record {
@@ -204,13 +205,13 @@ module _ (b : BookState) (r : ℕ) (work : Work) (there : r < length b.ranks)
             (All-filter (λ e. not (is_ancestor line e.node.line)) (HasItsFloor p) b.pool
             h.floors.pool);
         ranks = floors_idled p (works_below line) dead
-            (All-set (KeepsItsFloor p) b.ranks r Dead tt h.floors.ranks);
+            (All-set (KeepsItsFloor p) b.ranks r (Dead Died) tt h.floors.ranks);
         raced = h.floors.raced;
       })
       (taken_in_ledger (root_of p) r (current_for work) (ledger_of b) (ledger_of new) moved
       h.ledger)
       (no_race new
-      (λ t. none_races b r work h.race is (set_fewer_races b.ranks r Dead there refl
+      (λ t. none_races b r work h.race is (set_fewer_races b.ranks r (Dead Died) there refl
       (idled_fewer_races (works_below line) refl dead t).0))
       raced)
 

@@ -7,6 +7,7 @@ use Rattle.std.proofs.lemmas.Option.{none-some, same_Some}
 use Rattle.ug_rows.specs.Rows.{value_of}
 use Rattle.ug_problem.specs.Instances.{Instance, root_of}
 use Rattle.ug_pool.specs.declared.entry.Entry.{Entry}
+use Rattle.ug_ranks.specs.declared.state.Off.TheVariants.{Died}
 use Rattle.ug_ranks.specs.declared.state.State.{State}
 use Rattle.ug_ranks.specs.declared.state.State.TheVariants.{Absent, Idle, Racing, Active, Dead}
 use Rattle.ug_ranks.specs.States.{state_at}
@@ -91,9 +92,9 @@ solution_keeps b r ticket x better = record {
 death_by : (b : BookState) (r : ℕ) → r < length b.ranks → (s : State) → state_at b.ranks r ≡ s
     → Keeps b (killed_at s r b)
 death_by b r l Absent e =
-    alike_keeps b r Dead l (absent_or_idle (state_at b.ranks r) (inl e))
+    alike_keeps b r (Dead Died) l (absent_or_idle (state_at b.ranks r) (inl e))
 death_by b r l Idle e =
-    alike_keeps b r Dead l (absent_or_idle (state_at b.ranks r) (inr e))
+    alike_keeps b r (Dead Died) l (absent_or_idle (state_at b.ranks r) (inr e))
 death_by b r l (Racing racer) e = record {
   book = λ h. death_in_race_keeps b r racer l e h.race h;
   sound = λ h s. death_in_race_sound b r racer l e h.race s;
@@ -102,7 +103,7 @@ death_by b r l (Active work) e = record {
   book = death_at_work_keeps b r work l e;
   sound = death_at_work_sound b r work l e;
 }
-death_by b r l Dead e = record { book = λ h. h; sound = λ h s. s }
+death_by b r l (Dead how) e = record { book = λ h. h; sound = λ h s. s }
 
 pub death_keeps : DeathKeeps
 death_keeps b r l = death_by b r l (state_at b.ranks r) refl
@@ -110,12 +111,12 @@ death_keeps b r l = death_by b r l (state_at b.ranks r) refl
 idle_death_by : (b : BookState) (r : ℕ) (s : State) → state_at b.ranks r ≡ s → ticket_at s ≡ None
     → KeepsLedger b (killed_at s r b)
 idle_death_by b r Absent e none =
-    same_ledger b r Dead (absent_or_idle (state_at b.ranks r) (inl e))
+    same_ledger b r (Dead Died) (absent_or_idle (state_at b.ranks r) (inl e))
 idle_death_by b r Idle e none =
-    same_ledger b r Dead (absent_or_idle (state_at b.ranks r) (inr e))
+    same_ledger b r (Dead Died) (absent_or_idle (state_at b.ranks r) (inr e))
 idle_death_by b r (Racing racer) e none = absurd (none-some racer.ticket (sym none))
 idle_death_by b r (Active work) e none = absurd (none-some work.ticket (sym none))
-idle_death_by b r Dead e none = refl
+idle_death_by b r (Dead how) e none = refl
 
 pub idle_death_none : IdleDeathIsNone
 idle_death_none b r none = idle_death_by b r (state_at b.ranks r) refl none
@@ -152,10 +153,10 @@ done_book_by b r l Absent e h = h
 done_book_by b r l Idle e h = h
 done_book_by b r l (Racing racer) e h = done_in_race_keeps b r racer l e h.race h
 done_book_by b r l (Active work) e h = done_at_work_keeps b r work l e h
-done_book_by b r l Dead e h = h
+done_book_by b r l (Dead how) e h = h
 
 pub done_keeps_book : DoneKeepsBook
-done_keeps_book b r ticket told count l h = done_book_by b r l (state_at b.ranks r) refl h
+done_keeps_book b r ticket told count ending l h = done_book_by b r l (state_at b.ranks r) refl h
 
 done_sound_by : (b : BookState) (r : ℕ) → r < length b.ranks → (s : State) → state_at b.ranks r ≡ s
     → ((c : Current) → IsCurrent (ledger_of b) r c → IsSearched b.problem b.settings.gap b.best c)
@@ -168,10 +169,10 @@ done_sound_by b r l (Racing racer) e searched h s =
     done_in_race_sound b r racer l e h.race t.0 t.1 (searched _ move.current) s
 done_sound_by b r l (Active work) e searched h s =
     done_at_work_sound b r work l e h (searched (current_for work) (own_current b r work l e)) s
-done_sound_by b r l Dead e searched h s = s
+done_sound_by b r l (Dead how) e searched h s = s
 
 pub done_keeps_sound : DoneKeepsSound
-done_keeps_sound b r ticket told count l searched h s =
+done_keeps_sound b r ticket told count ending l searched h s =
     done_sound_by b r l (state_at b.ranks r) refl searched h s
 
 done_move_by : (b : BookState) (r : ℕ) → r < length b.ranks → (s : State) → state_at b.ranks r ≡ s
@@ -189,8 +190,8 @@ done_move_by b r l (Active work) e c told h =
     subst (λ d. HasDone (ledger_of b) (ledger_of (done_at (Active work) r b)) r d)
     (same_Some (current_for work) c told)
     (done_works_off b r work l e h.ledger.ticketed.named)
-done_move_by b r l Dead e c told h = absurd (none-some c told)
+done_move_by b r l (Dead how) e c told h = absurd (none-some c told)
 
 pub done_has_done : DoneHasDone
-done_has_done b r ticket told count c l h k =
+done_has_done b r ticket told count ending c l h k =
     done_move_by b r l (state_at b.ranks r) refl c (current_is b r c h) k

@@ -65,7 +65,7 @@ idle_is Idle h = refl
 idle_is Absent h = absurd (false≢true h)
 idle_is (Racing racer) h = absurd (false≢true h)
 idle_is (Active work) h = absurd (false≢true h)
-idle_is Dead h = absurd (false≢true h)
+idle_is (Dead how) h = absurd (false≢true h)
 
 -- where it is listed first, it is there and idle
 pub first_idle : (ss : List State) (r : ℕ) (rs : List ℕ) → ranks_that is_idle ss ≡ r ∷ rs

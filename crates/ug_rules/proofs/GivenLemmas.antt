@@ -82,7 +82,7 @@ module _ (b : BookState) (r : ℕ) (entry : Entry) (rest : List Entry)
       node_in Idle = entry.node
       node_in (Racing racer) = entry.node
       node_in (Active work) = work.node
-      node_in Dead = entry.node
+      node_in (Dead how) = entry.node
 
   given_old : (n : Node) → Contains (held_nodes after) n → Contains (held_nodes b) n
   given_old n h = held_cases after (Contains (held_nodes b) n) n

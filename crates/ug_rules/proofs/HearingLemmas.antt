@@ -7,6 +7,7 @@ use Rattle.ug_nodes.specs.declared.change.Change.{Change}
 use Rattle.ug_nodes.specs.Names.{IsTicketBefore}
 use Rattle.ug_nodes.proofs.Orders.{ticket_either, ticket_not_itself}
 use Rattle.ug_pool.specs.declared.entry.Entry.{Entry}
+use Rattle.ug_frames.specs.declared.report.Ending.{Ending}
 use Rattle.ug_frames.specs.declared.report.Report.{Report}
 use Rattle.ug_frames.specs.declared.report.Report.TheVariants.{Ready, Solution, Hand, State as Reported, Done, Ended}
 use Rattle.ug_problem.specs.Offers.{IsBetter}
@@ -62,7 +63,7 @@ solution_due b Absent ticket x due = absurd due
 solution_due b Idle ticket x due = absurd due
 solution_due b (Racing racer) ticket x due = due
 solution_due b (Active work) ticket x due = due
-solution_due b Dead ticket x due = absurd due
+solution_due b (Dead how) ticket x due = absurd due
 
 -- a hand that is kept is the next of a rank that works
 pub record IsHandOf (b : BookState) (s : State) (number : ℕ) (changes : List Change) : Type 0 where
@@ -77,36 +78,37 @@ hand_due b Idle ticket number changes due = absurd due
 hand_due b (Racing racer) ticket number changes due = absurd (kept_not_in_race due)
 hand_due b (Active work) ticket number changes due =
     record { work = work; state = refl; next = due }
-hand_due b Dead ticket number changes due = absurd due
+hand_due b (Dead how) ticket number changes due = absurd due
 
 -- a Done that is kept is complete
 done_due : (b : BookState) (raced : Option Entry) (s : State) (ticket : Ticket) (told : Option ℤ)
-    (count : ℕ) (c : Current) → current_of raced s ≡ Some c → ticket_at s ≡ Some ticket
-    → IsCurrentDue b s (Done ticket told count) Kept
+    (count : ℕ) (ending : Ending) (c : Current) → current_of raced s ≡ Some c
+    → ticket_at s ≡ Some ticket → IsCurrentDue b s (Done ticket told count ending) Kept
     → (c.ticket ≡ ticket) × IsComplete b told count (length c.taken)
-done_due b raced Absent ticket told count c e at due = absurd due
-done_due b raced Idle ticket told count c e at due = absurd due
-done_due b None (Racing racer) ticket told count c e at due = absurd (none-some c e)
-done_due b (Some entry) (Racing racer) ticket told count c e at due =
+done_due b raced Absent ticket told count ending c e at due = absurd due
+done_due b raced Idle ticket told count ending c e at due = absurd due
+done_due b None (Racing racer) ticket told count ending c e at due = absurd (none-some c e)
+done_due b (Some entry) (Racing racer) ticket told count ending c e at due =
     let same = same_Some _ c e in (
       sym (ap (λ (k : Current). k.ticket) same) ∙ same_Some racer.ticket ticket at,
       subst (λ (k : Current). IsComplete b told count (length k.taken)) same due,
     )
-done_due b raced (Active work) ticket told count c e at due =
+done_due b raced (Active work) ticket told count ending c e at due =
     let same = same_Some (current_for work) c e in (
       sym (ap (λ (k : Current). k.ticket) same) ∙ same_Some work.ticket ticket at,
       subst (λ (k : Current). IsComplete b told count (length k.taken)) same due,
     )
-done_due b raced Dead ticket told count c e at due = absurd due
+done_due b raced (Dead how) ticket told count ending c e at due = absurd due
 
 -- and its box was searched, where it is true
 searched_by : (b : BookState) (r : ℕ) (ticket : Ticket) (told : Option ℤ) (count : ℕ)
-    → IsDue b r (Done ticket told count) Kept → IsTrueReport b r (Done ticket told count)
+    (ending : Ending) → IsDue b r (Done ticket told count ending) Kept
+    → IsTrueReport b r (Done ticket told count ending)
     → (c : Current) → IsCurrent (ledger_of b) r c → IsSearched b.problem b.settings.gap b.best c
-searched_by b r ticket told count due is_true c h =
+searched_by b r ticket told count ending due is_true c h =
     let s = state_at b.ranks r in
-    let k = kept_due b s ticket (Done ticket told count) due in
-    let d = done_due b b.raced s ticket told count c (current_is b r c h) k.0 k.1 in
+    let k = kept_due b s ticket (Done ticket told count ending) due in
+    let d = done_due b b.raced s ticket told count ending c (current_is b r c h) k.0 k.1 in
     done_searched b.problem b.settings.gap b.best told c d.1.backed (is_true c h d.0 d.1.all)
 
 -- what a report that is kept does
@@ -124,7 +126,8 @@ kept_book b r (Hand ticket number changes) l due rising h =
     (hand_keeps_all b r t.work ticket number changes l t.state t.next rising).book h
 kept_book b r (Reported ticket count floor) l due rising h =
     (reported_keeps b r ticket count floor l).book h
-kept_book b r (Done ticket told count) l due rising h = done_keeps_book b r ticket told count l h
+kept_book b r (Done ticket told count ending) l due rising h =
+    done_keeps_book b r ticket told count ending l h
 kept_book b r Ended l due rising h = h
 
 kept_sound : (b : BookState) (r : ℕ) (report : Report) → r < length b.ranks
@@ -143,8 +146,9 @@ kept_sound b r (Hand ticket number changes) l due is_true h s =
     (hand_sound b r t.work l t.state number changes t.next s)
 kept_sound b r (Reported ticket count floor) l due is_true h s =
     (reported_keeps b r ticket count floor l).sound h s
-kept_sound b r (Done ticket told count) l due is_true h s =
-    done_keeps_sound b r ticket told count l (searched_by b r ticket told count due is_true) h s
+kept_sound b r (Done ticket told count ending) l due is_true h s =
+    done_keeps_sound b r ticket told count ending l
+    (searched_by b r ticket told count ending due is_true) h s
 kept_sound b r Ended l due is_true h s = s
 
 pub hearing_keeps_book : HearingKeepsBook

@@ -83,7 +83,7 @@ current_cases (Some entry) (Racing k) d e = inr (record {
 current_cases None (Racing k) d e = absurd (none-some d e)
 current_cases raced Absent d e = absurd (none-some d e)
 current_cases raced Idle d e = absurd (none-some d e)
-current_cases raced Dead d e = absurd (none-some d e)
+current_cases raced (Dead how) d e = absurd (none-some d e)
 
 -- the node that is raced
 pub raced_there : (raced : Option Entry) (entry : Entry) → raced ≡ Some entry

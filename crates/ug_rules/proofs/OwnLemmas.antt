@@ -27,7 +27,7 @@ same_work v w e = ap work_in e
     work_in Absent = v
     work_in Idle = v
     work_in (Racing racer) = v
-    work_in Dead = v
+    work_in (Dead how) = v
 
 module _ (b : BookState) (r : ℕ) (work : Work) (there : r < length b.ranks)
     (is : state_at b.ranks r ≡ Active work) where

@@ -7,6 +7,7 @@ use Rattle.ug_nodes.specs.Lines.{is_ancestor}
 use Rattle.ug_pool.specs.declared.entry.Entry.{Entry}
 use Rattle.ug_frames.specs.declared.order.Order.TheVariants.{Stop}
 use Rattle.ug_ranks.specs.declared.state.Work.{Work}
+use Rattle.ug_ranks.specs.declared.state.Off.TheVariants.{Died}
 use Rattle.ug_ranks.specs.declared.state.State.{State}
 use Rattle.ug_ranks.specs.declared.state.State.TheVariants.{Absent, Idle, Racing, Active, Dead}
 use Rattle.ug_ranks.specs.States.{state_at}
@@ -27,7 +28,7 @@ stops_from line k [] = omega arith
 stops_from line k (Absent ∷ ss) = stops_from line (k + 1) ss
 stops_from line k (Idle ∷ ss) = stops_from line (k + 1) ss
 stops_from line k (Racing racer ∷ ss) = stops_from line (k + 1) ss
-stops_from line k (Dead ∷ ss) = stops_from line (k + 1) ss
+stops_from line k (Dead how ∷ ss) = stops_from line (k + 1) ss
 stops_from line k (Active work ∷ ss) =
     by (is_ancestor line work.node.line) (of_ranks (stop_at line) (k + 1) ss)
     (nodes_of (called_off line ss)) (stops_from line (k + 1) ss)
@@ -48,12 +49,12 @@ stops_are_of_called_off line ss = stops_from line 0 ss
 death_at_work : (b : BookState) (r : ℕ) (work : Work) → r < length b.ranks
     → state_at b.ranks r ≡ Active work → places_due (killed_at (Active work) r b) + 1 ≡ places_due b
 death_at_work b r work l is =
-    let dead = slice_set b.ranks r Dead in
+    let dead = slice_set b.ranks r (Dead Died) in
     let stops = stops_are_of_called_off work.node.line dead in
     let queued = length-append b.orders (stops_below work.node.line dead) in
     let own : length (node_at (state_at b.ranks r)) ≡ 1 =
     ap (λ (s : State). length (node_at s)) is in
-    omega (arith, stops, queued, free_counts b r Dead l refl, own)
+    omega (arith, stops, queued, free_counts b r (Dead Died) l refl, own)
 
 pub death_leaves_places : DeathLeavesPlaces
 death_leaves_places b r work l is =
@@ -62,18 +63,18 @@ death_leaves_places b r work l is =
 
 lost_places : (b : BookState) (r : ℕ) → r < length b.ranks → (rs : List ℕ) (raced : Option Entry)
     → places_due (lost_by rs raced (with_dead r b)) ≤ places_due b
-lost_places b r l (q ∷ rs) raced = omega (arith, free_counts b r Dead l refl)
-lost_places b r l [] None = omega (arith, free_counts b r Dead l refl)
-lost_places b r l [] (Some entry) = omega (arith, free_counts b r Dead l refl)
+lost_places b r l (q ∷ rs) raced = omega (arith, free_counts b r (Dead Died) l refl)
+lost_places b r l [] None = omega (arith, free_counts b r (Dead Died) l refl)
+lost_places b r l [] (Some entry) = omega (arith, free_counts b r (Dead Died) l refl)
 
 death_by : (b : BookState) (r : ℕ) → r < length b.ranks → (s : State) → state_at b.ranks r ≡ s
     → places_due (killed_at s r b) ≤ places_due b
-death_by b r l Absent e = omega (arith, free_counts b r Dead l refl)
-death_by b r l Idle e = omega (arith, free_counts b r Dead l refl)
+death_by b r l Absent e = omega (arith, free_counts b r (Dead Died) l refl)
+death_by b r l Idle e = omega (arith, free_counts b r (Dead Died) l refl)
 death_by b r l (Racing racer) e =
-    lost_places b r l (ranks_that is_racing (slice_set b.ranks r Dead)) b.raced
+    lost_places b r l (ranks_that is_racing (slice_set b.ranks r (Dead Died))) b.raced
 death_by b r l (Active work) e = omega (arith, death_at_work b r work l e)
-death_by b r l Dead e = omega arith
+death_by b r l (Dead how) e = omega arith
 
 death_places : (b : BookState) (r : ℕ) → r < length b.ranks → places_due (killed r b) ≤ places_due b
 death_places b r l = death_by b r l (state_at b.ranks r) refl

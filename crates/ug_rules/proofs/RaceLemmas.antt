@@ -11,6 +11,7 @@ use Rattle.ug_nodes.specs.declared.node.Node.{Node}
 use Rattle.ug_pool.specs.declared.entry.Entry.{Entry}
 use Rattle.ug_pool.specs.Pools.{with_entry}
 use Rattle.ug_ranks.specs.declared.state.Racer.{Racer}
+use Rattle.ug_ranks.specs.declared.state.Off.TheVariants.{Died}
 use Rattle.ug_ranks.specs.declared.state.State.{State}
 use Rattle.ug_ranks.specs.declared.state.State.TheVariants.{Idle, Racing, Dead}
 use Rattle.ug_ranks.specs.States.{state_at}
@@ -101,22 +102,22 @@ module _ (b : BookState) (r : ℕ) (racer : Racer) (there : r < length b.ranks)
   fewer = with_dead r b
 
   dead_nodes : nodes_of fewer.ranks ≡ nodes_of b.ranks
-  dead_nodes = same_nodes b.ranks r Dead (sym (ap node_at is))
+  dead_nodes = same_nodes b.ranks r (Dead Died) (sym (ap node_at is))
 
   fewer_ended : HasEnded (ledger_of b) (ledger_of fewer)
   fewer_ended = ended_alone b fewer racing_entry.0.node
       (ap (λ (ns : List Node). nodes_in b.pool ++ ns ++ raced_node b.raced) dead_nodes)
       (only_one racing_entry.0 racing_entry.1)
       (λ q d h. is_current b q d
-      (free_current b.raced b.ranks r Dead q d there refl (current_is fewer q d h)).1)
+      (free_current b.raced b.ranks r (Dead Died) q d there refl (current_is fewer q d h)).1)
       refl
 
   fewer_keeps : ranks_that is_racing fewer.ranks ≢ [] → IsBook b → IsBook fewer
   fewer_keeps some h =
-      book_changed b b.pool fewer.ranks b.raced b.orders h (length-set b.ranks r Dead) h.order
+      book_changed b b.pool fewer.ranks b.raced b.orders h (length-set b.ranks r (Dead Died)) h.order
       (record {
         pool = h.floors.pool;
-        ranks = All-set (KeepsItsFloor b.problem) b.ranks r Dead tt h.floors.ranks;
+        ranks = All-set (KeepsItsFloor b.problem) b.ranks r (Dead Died) tt h.floors.ranks;
         raced = h.floors.raced;
       })
       (ended_ledger (root_of b.problem) (ledger_of b) (ledger_of fewer) fewer_ended h.ledger)
@@ -148,7 +149,7 @@ module _ (b : BookState) (r : ℕ) (racer : Racer) (there : r < length b.ranks)
 
     lost_ended : HasEnded (ledger_of b) (ledger_of lost)
     lost_ended = ended_alone b lost entry.node lost_held (only_one entry raced)
-        (λ q d h. is_current b q d (free_current b.raced b.ranks r Dead q d there refl
+        (λ q d h. is_current b q d (free_current b.raced b.ranks r (Dead Died) q d there refl
         (without_race b.raced (state_at fewer.ranks q) d (current_is lost q d h))).1)
         refl
 
@@ -159,11 +160,11 @@ module _ (b : BookState) (r : ℕ) (racer : Racer) (there : r < length b.ranks)
         subst (λ (o : Option Entry). IfSome o (HasItsFloor p)) raced h.floors.raced in
         let one : All (HasItsFloor p) (with_entry entry []) =
         All-cons (HasItsFloor p) entry [] own (All-nil (HasItsFloor p)) in
-        book_changed b lost.pool fewer.ranks None b.orders h (length-set b.ranks r Dead)
+        book_changed b lost.pool fewer.ranks None b.orders h (length-set b.ranks r (Dead Died))
         (put_in_order entry b.pool h.order)
         (record {
           pool = subst (λ es. All (HasItsFloor p) (with_entry entry es)) (sym racing_pool) one;
-          ranks = All-set (KeepsItsFloor p) b.ranks r Dead tt h.floors.ranks;
+          ranks = All-set (KeepsItsFloor p) b.ranks r (Dead Died) tt h.floors.ranks;
           raced = tt;
         })
         (ended_ledger (root_of p) (ledger_of b) (ledger_of lost) lost_ended h.ledger)

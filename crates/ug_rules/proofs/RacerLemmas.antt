@@ -2,6 +2,7 @@
 use Rattle.std.proofs.Common.{◌≡◌, ◌≢◌, inl, inr, ℕ, zero, suc, ◌+◌, ◌<◌, true, false, List, [], ◌∷◌, length, set, refl, ap, sym, ◌∙◌, subst}
 use Rattle.std.specs.Prelude.{Bool}
 use Rattle.std.proofs.lemmas.Bool.{cases_eq, cases_Bool, false≢true}
+use Rattle.ug_ranks.specs.declared.state.Off.TheVariants.{Died}
 use Rattle.ug_ranks.specs.declared.state.State.{State}
 use Rattle.ug_ranks.specs.declared.state.State.TheVariants.{Absent, Idle, Racing, Active, Dead}
 use Rattle.ug_ranks.specs.States.{state_at}
@@ -22,7 +23,7 @@ races_from k (Racing racer ∷ ss) h = (0, refl)
 races_from k (Absent ∷ ss) h = later Absent ss (races_from (k + 1) ss h)
 races_from k (Idle ∷ ss) h = later Idle ss (races_from (k + 1) ss h)
 races_from k (Active work ∷ ss) h = later (Active work) ss (races_from (k + 1) ss h)
-races_from k (Dead ∷ ss) h = later Dead ss (races_from (k + 1) ss h)
+races_from k (Dead how ∷ ss) h = later (Dead how) ss (races_from (k + 1) ss h)
 
 races_to : (k : ℕ) (ss : List State) → SomeRaces ss → of_ranks (rank_if is_racing) k ss ≢ []
 races_to k [] (q, e) = absurd (false≢true e)
@@ -33,8 +34,8 @@ races_to k (Idle ∷ ss) (zero, e) = absurd (false≢true e)
 races_to k (Idle ∷ ss) (suc q, e) = races_to (k + 1) ss (q, e)
 races_to k (Active work ∷ ss) (zero, e) = absurd (false≢true e)
 races_to k (Active work ∷ ss) (suc q, e) = races_to (k + 1) ss (q, e)
-races_to k (Dead ∷ ss) (zero, e) = absurd (false≢true e)
-races_to k (Dead ∷ ss) (suc q, e) = races_to (k + 1) ss (q, e)
+races_to k (Dead how ∷ ss) (zero, e) = absurd (false≢true e)
+races_to k (Dead how ∷ ss) (suc q, e) = races_to (k + 1) ss (q, e)
 
 pub some_races : (ss : List State) → ranks_that is_racing ss ≢ [] → SomeRaces ss
 some_races ss h = races_from 0 ss h
@@ -73,7 +74,7 @@ set_fewer_races ss r s l none (q, e) = elim (cases_eq q r) [
 ]
 
 -- so did one that races after some ranks became idle, and it is none of them
-pub idled_fewer_races : (test : State → Bool) → test Dead ≡ false → (ss : List State)
+pub idled_fewer_races : (test : State → Bool) → test (Dead Died) ≡ false → (ss : List State)
     → SomeRaces (idled test ss) → (t : SomeRaces ss) × (test (state_at ss t.0) ≡ false)
 idled_fewer_races test h ss (q, e) = elim (cases_Bool (test (state_at ss q))) [
   | inl is ↦ absurd (false≢true (ap is_racing (sym (state_passed test h ss q is)) ∙ e))

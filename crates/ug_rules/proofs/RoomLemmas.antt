@@ -11,6 +11,7 @@ use Rattle.ug_pool.specs.declared.entry.Entry.{Entry}
 use Rattle.ug_frames.specs.declared.report.Report.{Report}
 use Rattle.ug_frames.specs.declared.report.Report.TheVariants.{Ready, Solution, Hand, State as Reported, Done, Ended}
 use Rattle.ug_ranks.specs.declared.state.Work.{Work}
+use Rattle.ug_ranks.specs.declared.state.Off.TheVariants.{Died}
 use Rattle.ug_ranks.specs.declared.state.State.{State}
 use Rattle.ug_ranks.specs.declared.state.State.TheVariants.{Absent, Idle, Racing, Active, Dead}
 use Rattle.ug_ranks.specs.States.{state_at}
@@ -54,10 +55,10 @@ free_counts b r s l free =
 death_at_work : (b : BookState) (r : ℕ) (work : Work) → r < length b.ranks
     → state_at b.ranks r ≡ Active work → nodes_out (killed_at (Active work) r b) + 1 ≤ nodes_out b
 death_at_work b r work l is =
-    let off = calling_off_takes_none work.node.line (slice_set b.ranks r Dead) in
+    let off = calling_off_takes_none work.node.line (slice_set b.ranks r (Dead Died)) in
     let own : length (node_at (state_at b.ranks r)) ≡ 1 =
     ap (λ (s : State). length (node_at s)) is in
-    omega (arith, off, free_counts b r Dead l refl, own)
+    omega (arith, off, free_counts b r (Dead Died) l refl, own)
 
 pub death_makes_room : DeathMakesRoom
 death_makes_room b r work l is =
@@ -70,7 +71,7 @@ lost_out : (b : BookState) (r : ℕ) → r < length b.ranks → (entry : Entry) 
 lost_out b r l entry e =
     let one : length (raced_node b.raced) ≡ 1 =
     ap (λ (o : Option Entry). length (raced_node o)) e in
-    omega (arith, writing_counts b.ranks r Dead l, one)
+    omega (arith, writing_counts b.ranks r (Dead Died) l, one)
 
 pub lost_race_makes_room : LostRaceMakesRoom
 lost_race_makes_room b r racer entry l is e none =
@@ -83,25 +84,25 @@ lost_race_makes_room b r racer entry l is e none =
 lost_takes_none : (b : BookState) (r : ℕ) → r < length b.ranks → (rs : List ℕ)
     (raced : Option Entry) → b.raced ≡ raced
     → nodes_out (lost_by rs raced (with_dead r b)) ≤ nodes_out b
-lost_takes_none b r l (q ∷ rs) raced e = omega (arith, free_counts b r Dead l refl)
-lost_takes_none b r l [] None e = omega (arith, free_counts b r Dead l refl)
+lost_takes_none b r l (q ∷ rs) raced e = omega (arith, free_counts b r (Dead Died) l refl)
+lost_takes_none b r l [] None e = omega (arith, free_counts b r (Dead Died) l refl)
 lost_takes_none b r l [] (Some entry) e = omega (arith, lost_out b r l entry e)
 
 death_by : (b : BookState) (r : ℕ) → r < length b.ranks → (s : State) → state_at b.ranks r ≡ s
     → nodes_out (killed_at s r b) ≤ nodes_out b
-death_by b r l Absent e = omega (arith, free_counts b r Dead l refl)
-death_by b r l Idle e = omega (arith, free_counts b r Dead l refl)
+death_by b r l Absent e = omega (arith, free_counts b r (Dead Died) l refl)
+death_by b r l Idle e = omega (arith, free_counts b r (Dead Died) l refl)
 death_by b r l (Racing racer) e =
-    lost_takes_none b r l (ranks_that is_racing (slice_set b.ranks r Dead)) b.raced refl
+    lost_takes_none b r l (ranks_that is_racing (slice_set b.ranks r (Dead Died))) b.raced refl
 death_by b r l (Active work) e = omega (arith, death_at_work b r work l e)
-death_by b r l Dead e = omega arith
+death_by b r l (Dead how) e = omega arith
 
 pub death_takes_none : DeathTakesNone
 death_takes_none b r l = death_by b r l (state_at b.ranks r) refl
 
 -- a Done
 pub done_makes_room : DoneMakesRoom
-done_makes_room b r work ticket told count l is =
+done_makes_room b r work ticket told count ending l is =
     let own : length (node_at (state_at b.ranks r)) ≡ 1 =
     ap (λ (s : State). length (node_at s)) is in
     subst (λ s. nodes_out (done_at s r b) + 1 ≡ nodes_out b) (sym is)
@@ -138,7 +139,7 @@ done_by b r l (Active work) = record {
   raced = omega arith;
   orders = omega arith;
 }
-done_by b r l Dead = same_takes_none b
+done_by b r l (Dead how) = same_takes_none b
 
 -- a hand
 grown_nodes : (area : List Interval) (s : State) → node_at (grown area s) ≡ node_at s
@@ -146,7 +147,7 @@ grown_nodes area Absent = refl
 grown_nodes area Idle = refl
 grown_nodes area (Racing racer) = refl
 grown_nodes area (Active work) = refl
-grown_nodes area Dead = refl
+grown_nodes area (Dead how) = refl
 
 hand_nodes : (b : BookState) (r : ℕ) (changes : List Change)
     → nodes_of (slice_set b.ranks r
@@ -164,7 +165,7 @@ hand_out b r changes Idle = refl
 hand_out b r changes (Racing racer) = refl
 hand_out b r changes (Active work) =
     ap (λ (ns : List Node). length ns + length (raced_node b.raced)) (hand_nodes b r changes)
-hand_out b r changes Dead = refl
+hand_out b r changes (Dead how) = refl
 
 pub hand_leaves_as_many : HandLeavesAsMany
 hand_leaves_as_many b r ticket number changes = hand_out b r changes (state_at b.ranks r)
@@ -177,7 +178,7 @@ hand_by b r changes (Racing racer) = same_takes_none b
 hand_by b r changes (Active work) =
     let same = ap length (hand_nodes b r changes) in
     record { work = omega (arith, same); raced = omega arith; orders = omega arith }
-hand_by b r changes Dead = same_takes_none b
+hand_by b r changes (Dead how) = same_takes_none b
 
 -- what is kept
 pub kept_takes_none : (b : BookState) (r : ℕ) (report : Report) → r < length b.ranks
@@ -190,7 +191,7 @@ kept_takes_none b r (Hand ticket number changes) l = hand_by b r changes (state_
 kept_takes_none b r (Reported ticket count floor) l =
     let s = state_at b.ranks r in
     alike_takes_none b r (noted count floor s) (noted_alike count floor s).nodes
-kept_takes_none b r (Done ticket told count) l = done_by b r l (state_at b.ranks r)
+kept_takes_none b r (Done ticket told count ending) l = done_by b r l (state_at b.ranks r)
 kept_takes_none b r Ended l = same_takes_none b
 
 -- whatever is heard

@@ -209,14 +209,14 @@ idle_alike count Absent = refl
 idle_alike count Idle = refl
 idle_alike count (Racing racer) = refl
 idle_alike count (Active work) = refl
-idle_alike count Dead = refl
+idle_alike count (Dead how) = refl
 
 absent_alike : (count : ℕ) (s : State) → is_absent (asked_for count s) ≡ is_absent s
 absent_alike count Absent = refl
 absent_alike count Idle = refl
 absent_alike count (Racing racer) = refl
 absent_alike count (Active work) = refl
-absent_alike count Dead = refl
+absent_alike count (Dead how) = refl
 
 -- a race is awaited by what is held, and who is absent
 awaited_of : BookState → List Node → List ℕ → Bool

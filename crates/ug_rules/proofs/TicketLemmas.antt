@@ -5,6 +5,7 @@ use Rattle.std.specs.Prelude.{Option, Some, None}
 use Rattle.std.proofs.lemmas.Bool.{cases_eq, cases_Bool}
 use Rattle.std.proofs.lemmas.Option.{none-some}
 use Rattle.ug_pool.specs.declared.entry.Entry.{Entry}
+use Rattle.ug_ranks.specs.declared.state.Off.TheVariants.{Died}
 use Rattle.ug_ranks.specs.declared.state.State.{State}
 use Rattle.ug_ranks.specs.declared.state.State.TheVariants.{Absent, Idle, Racing, Active, Dead}
 use Rattle.ug_ranks.specs.States.{state_at}
@@ -32,7 +33,7 @@ pub others_current : (raced : Option Entry) (ss : List State) (r : ℕ) (s : Sta
 others_current raced ss r s q d ne h = ap (current_of raced) (state_there ss r s q ne) ∙ h
 
 -- a ticket that is current after some ranks became idle was so before
-pub idled_current : (test : State → Bool) → test Dead ≡ false → (raced : Option Entry)
+pub idled_current : (test : State → Bool) → test (Dead Died) ≡ false → (raced : Option Entry)
     (ss : List State) (q : ℕ) (d : Current) → current_of raced (state_at (idled test ss) q) ≡ Some d
     → current_of raced (state_at ss q) ≡ Some d
 idled_current test e raced ss q d h = elim (cases_Bool (test (state_at ss q))) [
@@ -48,7 +49,7 @@ without_race raced (Active w) d e = e
 without_race raced (Racing k) d e = absurd (none-some d e)
 without_race raced Absent d e = absurd (none-some d e)
 without_race raced Idle d e = absurd (none-some d e)
-without_race raced Dead d e = absurd (none-some d e)
+without_race raced (Dead how) d e = absurd (none-some d e)
 
 -- where the new state is current for the same, the tickets are the same
 pub same_tickets : (raced : Option Entry) (ss : List State) (r : ℕ) (s : State)

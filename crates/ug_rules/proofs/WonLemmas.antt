@@ -68,7 +68,7 @@ racer_from k (s ∷ ss) racer h =
     here Absent at = absurd (omega (arith, at.1))
     here Idle at = absurd (omega (arith, at.1))
     here (Active work) at = absurd (omega (arith, at.1))
-    here Dead at = absurd (omega (arith, at.1))
+    here (Dead how) at = absurd (omega (arith, at.1))
 
 -- a rank races for the node of this entry, and has won
 pub record HasWon (b : BookState) (rank : ℕ) (its : Racer) (entry : Entry) : Type 0 where
@@ -137,7 +137,7 @@ module _ (b : BookState) (rank : ℕ) (its : Racer) (entry : Entry)
   node_or n Idle = n
   node_or n (Racing racer) = n
   node_or n (Active work) = work.node
-  node_or n Dead = n
+  node_or n (Dead how) = n
 
   -- the one node that is held then
   only : (n : Node) → Contains (held_nodes after) n → n ≡ entry.node

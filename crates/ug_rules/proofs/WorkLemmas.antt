@@ -6,6 +6,7 @@ use Rattle.std.proofs.lemmas.List.{get_or-set_same, get_or-set_other}
 use Rattle.std.proofs.lemmas.List.Elements.{Contains-append_left, Contains-append_right, Contains-append_cases}
 use Rattle.ug_nodes.specs.declared.node.Node.{Node}
 use Rattle.ug_ranks.specs.declared.state.Work.{Work}
+use Rattle.ug_ranks.specs.declared.state.Off.TheVariants.{Died}
 use Rattle.ug_ranks.specs.declared.state.State.{State}
 use Rattle.ug_ranks.specs.declared.state.State.TheVariants.{Absent, Idle, Racing, Active, Dead}
 use Rattle.ug_ranks.specs.States.{state_at}
@@ -22,7 +23,7 @@ pub record WorksOn (states : List State) (n : Node) : Type 0 where
 abbrev pub IsFree : State → Type 0
 IsFree s = (w : Work) → s ≢ Active w
 
-pub dead_is_free : IsFree Dead
+pub dead_is_free : IsFree (Dead Died)
 dead_is_free w e = cc
 
 pub idle_is_free : IsFree Idle
@@ -36,7 +37,7 @@ node_there (Active w) n (suc k, l, e) = absurd (omega (arith, l))
 node_there Absent n h = absurd (omega (arith, h.1))
 node_there Idle n h = absurd (omega (arith, h.1))
 node_there (Racing k) n h = absurd (omega (arith, h.1))
-node_there Dead n h = absurd (omega (arith, h.1))
+node_there (Dead how) n h = absurd (omega (arith, h.1))
 
 pub works_from : (ss : List State) (n : Node) → Contains (nodes_of ss) n → WorksOn ss n
 works_from [] n h = absurd (omega (arith, h.1))
@@ -62,11 +63,11 @@ works_to ss n t = subst (λ m. Contains (nodes_of ss) m) t.node (works_at ss t.r
 
 -- the state of a rank after one was written
 pub state_here : (ss : List State) (r : ℕ) (s : State) → r < length ss → state_at (set ss r s) r ≡ s
-state_here ss r s l = get_or-set_same ss r s Dead l
+state_here ss r s l = get_or-set_same ss r s (Dead Died) l
 
 pub state_there : (ss : List State) (r : ℕ) (s : State) (q : ℕ) → q ≢ r
     → state_at (set ss r s) q ≡ state_at ss q
-state_there ss r s q ne = get_or-set_other ss r q s Dead ne
+state_there ss r s q ne = get_or-set_other ss r q s (Dead Died) ne
 
 -- a node worked on after the state of a free rank was written is that of another rank
 pub free_old : (ss : List State) (r : ℕ) (s : State) (n : Node) → r < length ss → IsFree s
@@ -100,25 +101,25 @@ others_kept ss r s n t ne = record {
 abbrev pub idled : (State → Bool) → List State → List State
 idled test ss = map (λ (state : State). if test state then Idle else state) ss
 
-pub state_idled : (test : State → Bool) → test Dead ≡ false → (ss : List State) (q : ℕ)
+pub state_idled : (test : State → Bool) → test (Dead Died) ≡ false → (ss : List State) (q : ℕ)
     → state_at (idled test ss) q ≡ (if test (state_at ss q) then Idle else state_at ss q)
 state_idled test e [] q = rw e refl
 state_idled test e (s ∷ ss) zero = refl
 state_idled test e (s ∷ ss) (suc q) = state_idled test e ss q
 
 -- of a rank that passes, and of one that does not
-pub state_passed : (test : State → Bool) → test Dead ≡ false → (ss : List State) (q : ℕ)
+pub state_passed : (test : State → Bool) → test (Dead Died) ≡ false → (ss : List State) (q : ℕ)
     → test (state_at ss q) ≡ true → state_at (idled test ss) q ≡ Idle
 state_passed test e ss q h =
     state_idled test e ss q ∙ ap (λ (b : Bool). if b then Idle else state_at ss q) h
 
-pub state_failed : (test : State → Bool) → test Dead ≡ false → (ss : List State) (q : ℕ)
+pub state_failed : (test : State → Bool) → test (Dead Died) ≡ false → (ss : List State) (q : ℕ)
     → test (state_at ss q) ≡ false → state_at (idled test ss) q ≡ state_at ss q
 state_failed test e ss q h =
     state_idled test e ss q ∙ ap (λ (b : Bool). if b then Idle else state_at ss q) h
 
 -- a node worked on after it is that of a rank that does not pass
-pub idled_old : (test : State → Bool) → test Dead ≡ false → (ss : List State) (n : Node)
+pub idled_old : (test : State → Bool) → test (Dead Died) ≡ false → (ss : List State) (n : Node)
     → WorksOn (idled test ss) n → (t : WorksOn ss n) × (test (Active t.work) ≡ false)
 idled_old test e ss n t = elim (cases_Bool (test (state_at ss t.rank))) [
   | inl passed ↦
@@ -130,7 +131,7 @@ idled_old test e ss n t = elim (cases_Bool (test (state_at ss t.rank))) [
       )
 ]
 
-pub idled_kept : (test : State → Bool) → test Dead ≡ false → (ss : List State) (n : Node)
+pub idled_kept : (test : State → Bool) → test (Dead Died) ≡ false → (ss : List State) (n : Node)
     (t : WorksOn ss n) → test (Active t.work) ≡ false → WorksOn (idled test ss) n
 idled_kept test e ss n t h =
     let failed = subst (λ s. test s ≡ false) (sym t.state) h in

@@ -36,7 +36,7 @@ KeepsItsFloor p Absent = Unit {0}
 KeepsItsFloor p Idle = Unit {0}
 KeepsItsFloor p (Racing racer) = Unit {0}
 KeepsItsFloor p (Active work) = HasItsFloor p (record { floor = work.floor; node = work.node })
-KeepsItsFloor p Dead = Unit {0}
+KeepsItsFloor p (Dead how) = Unit {0}
 
 -- the floors beside all nodes held
 pub record KeepFloors (b : BookState) : Type 0 where

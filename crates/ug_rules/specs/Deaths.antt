@@ -7,6 +7,7 @@ use Rattle.ug_pool.specs.declared.entry.Entry.{Entry}
 use Rattle.ug_pool.specs.Pools.{with_entry, without_below}
 use Rattle.ug_frames.specs.declared.order.Order.TheVariants.{Stop}
 use Rattle.ug_ranks.specs.declared.state.Work.{Work}
+use Rattle.ug_ranks.specs.declared.state.Off.TheVariants.{Died}
 use Rattle.ug_ranks.specs.declared.state.State.{State}
 use Rattle.ug_ranks.specs.declared.state.State.TheVariants.{Absent, Idle, Racing, Active, Dead}
 use Rattle.ug_ranks.specs.States.{state_at}
@@ -47,7 +48,7 @@ taken_in line b = record b {
 
 -- the rank is dead
 abbrev pub with_dead : ℕ → BookState → BookState
-with_dead r b = record b { ranks = slice_set b.ranks r Dead }
+with_dead r b = record b { ranks = slice_set b.ranks r (Dead Died) }
 
 -- the entry of a node that a rank works on
 abbrev pub entry_of : Work → Entry
@@ -73,7 +74,7 @@ killed_at Absent r b = with_dead r b
 killed_at Idle r b = with_dead r b
 killed_at (Racing racer) r b = race_lost (with_dead r b)
 killed_at (Active work) r b = put_back (entry_of work) (taken_in work.node.line (with_dead r b))
-killed_at Dead r b = b
+killed_at (Dead how) r b = b
 
 -- the rank died
 abbrev pub killed : ℕ → BookState → BookState

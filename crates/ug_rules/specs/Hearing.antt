@@ -98,7 +98,7 @@ abbrev pub IsRacerDue : BookState → Report → Heard → Type 0
 IsRacerDue b (Solution ticket x) answer = IsSolutionDue b x answer
 IsRacerDue b (Hand ticket number changes) answer = answer ≡ InRace
 IsRacerDue b (Reported ticket count floor) answer = answer ≡ Kept
-IsRacerDue b (Done ticket told count) answer = IsDoneDue b 0 told count answer
+IsRacerDue b (Done ticket told count ending) answer = IsDoneDue b 0 told count answer
 IsRacerDue b report answer = ⊥
 
 -- and where it works
@@ -106,7 +106,7 @@ abbrev pub IsWorkerDue : BookState → Work → Report → Heard → Type 0
 IsWorkerDue b work (Solution ticket x) answer = IsSolutionDue b x answer
 IsWorkerDue b work (Hand ticket number changes) answer = IsHandDue b work number changes answer
 IsWorkerDue b work (Reported ticket count floor) answer = answer ≡ Kept
-IsWorkerDue b work (Done ticket told count) answer = IsDoneDue b
+IsWorkerDue b work (Done ticket told count ending) answer = IsDoneDue b
     (length work.taken) told count answer
 IsWorkerDue b work report answer = ⊥
 
@@ -128,7 +128,7 @@ ready_answer Absent = Kept
 ready_answer Idle = Early
 ready_answer (Racing racer) = Early
 ready_answer (Active work) = Early
-ready_answer Dead = Stale
+ready_answer (Dead how) = Stale
 
 -- what Ended is answered in this state
 abbrev pub ended_answer : State → Heard
@@ -136,7 +136,7 @@ ended_answer Absent = Early
 ended_answer Idle = Early
 ended_answer (Racing racer) = Early
 ended_answer (Active work) = Early
-ended_answer Dead = Stale
+ended_answer (Dead how) = Stale
 
 -- which answer a report gets from a rank
 abbrev pub IsDue : BookState → ℕ → Report → Heard → Type 0
@@ -147,8 +147,8 @@ IsDue b r (Hand ticket number changes) answer =
     IsDueUnder b (state_at b.ranks r) ticket (Hand ticket number changes) answer
 IsDue b r (Reported ticket count floor) answer =
     IsDueUnder b (state_at b.ranks r) ticket (Reported ticket count floor) answer
-IsDue b r (Done ticket told count) answer = IsDueUnder b (state_at b.ranks r) ticket
-    (Done ticket told count) answer
+IsDue b r (Done ticket told count ending) answer = IsDueUnder b (state_at b.ranks r) ticket
+    (Done ticket told count ending) answer
 IsDue b r Ended answer = answer ≡ ended_answer (state_at b.ranks r)
 
 -- the next hand of a rank that works is in the pool, with its floor, and its box is taken
@@ -180,7 +180,7 @@ kept r (Solution ticket x) b = record b { best = Some x }
 kept r (Hand ticket number changes) b = handed_at (state_at b.ranks r) r changes b
 kept r (Reported ticket count floor) b =
     record b { ranks = slice_set b.ranks r (noted count floor (state_at b.ranks r)) }
-kept r (Done ticket told count) b = done_at (state_at b.ranks r) r b
+kept r (Done ticket told count ending) b = done_at (state_at b.ranks r) r b
 kept r Ended b = b
 
 -- what was done under the answer
@@ -204,5 +204,5 @@ IsHearable Ready = Unit {0}
 IsHearable (Solution ticket x) = Unit {0}
 IsHearable (Hand ticket number changes) = Unit {0}
 IsHearable (Reported ticket count floor) = 0 < count
-IsHearable (Done ticket told count) = Unit {0}
+IsHearable (Done ticket told count ending) = Unit {0}
 IsHearable Ended = Unit {0}

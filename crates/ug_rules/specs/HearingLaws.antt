@@ -5,6 +5,7 @@ use Rattle.ug_problem.specs.Instances.{root_of}
 use Rattle.ug_nodes.specs.declared.name.Ticket.{Ticket}
 use Rattle.ug_nodes.specs.declared.change.Change.{Change}
 use Rattle.ug_nodes.specs.Changes.{IsRising}
+use Rattle.ug_frames.specs.declared.report.Ending.{Ending}
 use Rattle.ug_frames.specs.declared.report.Report.{Report}
 use Rattle.ug_frames.specs.declared.report.Report.TheVariants.{Ready, Solution, Hand}
 use Rattle.ug_frames.specs.declared.report.Report.TheVariants.{State as Reported, Done, Ended}
@@ -29,7 +30,7 @@ HasRisingChanges Ready = Unit {0}
 HasRisingChanges (Solution ticket x) = Unit {0}
 HasRisingChanges (Hand ticket number changes) = IsRising changes
 HasRisingChanges (Reported ticket count floor) = Unit {0}
-HasRisingChanges (Done ticket told count) = Unit {0}
+HasRisingChanges (Done ticket told count ending) = Unit {0}
 HasRisingChanges Ended = Unit {0}
 
 -- a Done under the rank's ticket, whose count is that of the hands taken, is true: each good
@@ -40,7 +41,7 @@ IsTrueReport b r Ready = Unit {0}
 IsTrueReport b r (Solution ticket x) = Unit {0}
 IsTrueReport b r (Hand ticket number changes) = Unit {0}
 IsTrueReport b r (Reported ticket count floor) = Unit {0}
-IsTrueReport b r (Done ticket told count) =
+IsTrueReport b r (Done ticket told count ending) =
     (c : Current) → IsCurrent (ledger_of b) r c → c.ticket ≡ ticket → count ≡ length c.taken
     → IsTrueDone b.problem told c
 IsTrueReport b r Ended = Unit {0}
@@ -78,14 +79,15 @@ HandKeeps =
 -- a Done, and where its ticket's box was searched
 abbrev pub DoneKeepsBook : Type 0
 DoneKeepsBook =
-    (b : BookState) (r : ℕ) (ticket : Ticket) (told : Option ℤ) (count : ℕ) → r < length b.ranks
-    → IsBook b → IsBook (kept r (Done ticket told count) b)
+    (b : BookState) (r : ℕ) (ticket : Ticket) (told : Option ℤ) (count : ℕ) (ending : Ending)
+    → r < length b.ranks → IsBook b → IsBook (kept r (Done ticket told count ending) b)
 
 abbrev pub DoneKeepsSound : Type 0
 DoneKeepsSound =
-    (b : BookState) (r : ℕ) (ticket : Ticket) (told : Option ℤ) (count : ℕ) → r < length b.ranks
+    (b : BookState) (r : ℕ) (ticket : Ticket) (told : Option ℤ) (count : ℕ) (ending : Ending)
+    → r < length b.ranks
     → ((c : Current) → IsCurrent (ledger_of b) r c → IsSearched b.problem b.settings.gap b.best c)
-    → IsBook b → IsSoundBook b → IsSoundBook (kept r (Done ticket told count) b)
+    → IsBook b → IsSoundBook b → IsSoundBook (kept r (Done ticket told count ending) b)
 
 -- what the events are to the ledger: it is the same
 abbrev pub KeepsLedger : BookState → BookState → Type 0
@@ -131,9 +133,10 @@ HandHasHanded =
 
 abbrev pub DoneHasDone : Type 0
 DoneHasDone =
-    (b : BookState) (r : ℕ) (ticket : Ticket) (told : Option ℤ) (count : ℕ) (c : Current)
+    (b : BookState) (r : ℕ) (ticket : Ticket) (told : Option ℤ) (count : ℕ) (ending : Ending)
+    (c : Current)
     → r < length b.ranks → IsCurrent (ledger_of b) r c → IsBook b
-    → HasDone (ledger_of b) (ledger_of (kept r (Done ticket told count) b)) r c
+    → HasDone (ledger_of b) (ledger_of (kept r (Done ticket told count ending) b)) r c
 
 -- the whole: whatever is heard, under the answer that is due
 abbrev pub HearingKeepsBook : Type 0

@@ -6,10 +6,12 @@ use Rattle.ug_nodes.specs.declared.name.Ticket.{Ticket}
 use Rattle.ug_nodes.specs.declared.name.Name.{Name}
 use Rattle.ug_nodes.specs.declared.change.Change.{Change}
 use Rattle.ug_pool.specs.declared.entry.Entry.{Entry}
+use Rattle.ug_frames.specs.declared.report.Ending.{Ending}
 use Rattle.ug_frames.specs.declared.report.Report.{Report}
 use Rattle.ug_frames.specs.declared.report.Report.TheVariants.{Hand, Done}
 use Rattle.ug_ranks.specs.declared.state.Racer.{Racer}
 use Rattle.ug_ranks.specs.declared.state.Work.{Work}
+use Rattle.ug_ranks.specs.declared.state.Off.TheVariants.{Died}
 use Rattle.ug_ranks.specs.declared.state.State.{State}
 use Rattle.ug_ranks.specs.declared.state.State.TheVariants.{Racing, Active, Dead}
 use Rattle.ug_ranks.specs.States.{state_at}
@@ -56,15 +58,15 @@ abbrev pub LostRaceMakesRoom : Type 0
 LostRaceMakesRoom =
     (b : BookState) (r : ℕ) (racer : Racer) (entry : Entry) → r < length b.ranks
     → state_at b.ranks r ≡ Racing racer → b.raced ≡ Some entry
-    → ranks_that is_racing (slice_set b.ranks r Dead) ≡ []
+    → ranks_that is_racing (slice_set b.ranks r (Dead Died)) ≡ []
     → nodes_out (killed r b) + 1 ≤ nodes_out b
 
 -- a Done of a rank that works takes its node
 abbrev pub DoneMakesRoom : Type 0
 DoneMakesRoom =
     (b : BookState) (r : ℕ) (work : Work) (ticket : Ticket) (told : Option ℤ) (count : ℕ)
-    → r < length b.ranks → state_at b.ranks r ≡ Active work
-    → nodes_out (kept r (Done ticket told count) b) + 1 ≡ nodes_out b
+    (ending : Ending) → r < length b.ranks → state_at b.ranks r ≡ Active work
+    → nodes_out (kept r (Done ticket told count ending) b) + 1 ≡ nodes_out b
 
 -- a hand leaves as many out: its own node goes to the pool
 abbrev pub HandLeavesAsMany : Type 0

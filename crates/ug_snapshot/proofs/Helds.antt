@@ -49,7 +49,7 @@ in_state p (Racing racer) n keeps c = absurd (none_in n c)
 in_state p (Active work) n keeps (zero, l, same) =
     subst (HasChanges p) same (keeps.rising, keeps.changes)
 in_state p (Active work) n keeps (suc k, l, same) = absurd (omega (arith, l))
-in_state p Dead n keeps c = absurd (none_in n c)
+in_state p (Dead how) n keeps c = absurd (none_in n c)
 
 in_states : (p : Instance) (ss : List State) (n : Node) → All (KeepsItsFloor p) ss
     → Contains (nodes_of ss) n → HasChanges p n

@@ -5,6 +5,7 @@ use Rattle.std.proofs.lemmas.Option.{none-some, same_Some}
 use Rattle.std.proofs.lemmas.List.{set-get_or}
 use Rattle.ug_frames.specs.declared.order.Order.TheVariants.{CollectIn, CollectOut}
 use Rattle.ug_nodes.specs.declared.name.Ticket.{Ticket}
+use Rattle.ug_ranks.specs.declared.state.Off.TheVariants.{Died}
 use Rattle.ug_ranks.specs.declared.state.State.{State}
 use Rattle.ug_ranks.specs.declared.state.State.TheVariants.{Absent, Idle, Racing, Active, Dead}
 use Rattle.ug_ranks.specs.States.{state_at}
@@ -20,7 +21,7 @@ not_told_in r count (Active work) e = absurd (none-some work.ticket (sym e))
 not_told_in r count Absent e = refl
 not_told_in r count Idle e = refl
 not_told_in r count (Racing racer) e = refl
-not_told_in r count Dead e = refl
+not_told_in r count (Dead how) e = refl
 
 pub told_in : (r count : ℕ) (s : State) (ticket : Ticket) → work_ticket s ≡ Some ticket
     → collect_in r count s ≡ record { rank = r; order = CollectIn ticket count } ∷ []
@@ -30,14 +31,14 @@ told_in r count (Active work) ticket e =
 told_in r count Absent ticket e = absurd (none-some ticket e)
 told_in r count Idle ticket e = absurd (none-some ticket e)
 told_in r count (Racing racer) ticket e = absurd (none-some ticket e)
-told_in r count Dead ticket e = absurd (none-some ticket e)
+told_in r count (Dead how) ticket e = absurd (none-some ticket e)
 
 pub not_told_out : (r : ℕ) (s : State) → work_ticket s ≡ None → collect_out r s ≡ []
 not_told_out r (Active work) e = absurd (none-some work.ticket (sym e))
 not_told_out r Absent e = refl
 not_told_out r Idle e = refl
 not_told_out r (Racing racer) e = refl
-not_told_out r Dead e = refl
+not_told_out r (Dead how) e = refl
 
 pub told_out : (r : ℕ) (s : State) (ticket : Ticket) → work_ticket s ≡ Some ticket
     → collect_out r s ≡ record { rank = r; order = CollectOut ticket } ∷ []
@@ -47,20 +48,20 @@ told_out r (Active work) ticket e =
 told_out r Absent ticket e = absurd (none-some ticket e)
 told_out r Idle ticket e = absurd (none-some ticket e)
 told_out r (Racing racer) ticket e = absurd (none-some ticket e)
-told_out r Dead ticket e = absurd (none-some ticket e)
+told_out r (Dead how) ticket e = absurd (none-some ticket e)
 
 -- a rank that does not work stays as it is
 pub kept_asked : (ss : List State) (r count : ℕ) → work_ticket (state_at ss r) ≡ None
     → ss ≡ set ss r (asked_for count (state_at ss r))
 kept_asked ss r count e =
-    sym (ap (λ (s : State). set ss r s) (same (state_at ss r) e) ∙ set-get_or ss r Dead)
+    sym (ap (λ (s : State). set ss r s) (same (state_at ss r) e) ∙ set-get_or ss r (Dead Died))
   where
     same : (s : State) → work_ticket s ≡ None → asked_for count s ≡ s
     same (Active work) e = absurd (none-some work.ticket (sym e))
     same Absent e = refl
     same Idle e = refl
     same (Racing racer) e = refl
-    same Dead e = refl
+    same (Dead how) e = refl
 
 -- what is asked changes no node that is worked on
 pub asked_works : (ss : List State) (r count : ℕ)

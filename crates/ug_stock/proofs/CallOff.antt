@@ -5,6 +5,7 @@ use Rattle.ug_nodes.specs.declared.name.Ticket.{Ticket}
 use Rattle.ug_nodes.specs.declared.name.Name.{Name}
 use Rattle.ug_nodes.specs.Lines.{is_ancestor}
 use Rattle.ug_frames.specs.declared.order.Order.TheVariants.{Stop}
+use Rattle.ug_ranks.specs.declared.state.Off.TheVariants.{Died}
 use Rattle.ug_ranks.specs.declared.state.State.{State}
 use Rattle.ug_ranks.specs.declared.state.State.TheVariants.{Absent, Idle, Racing, Active, Dead}
 use Rattle.ug_ranks.specs.States.{state_at}
@@ -27,7 +28,7 @@ none_below line r Absent e = (refl, refl)
 none_below line r Idle e = (refl, refl)
 none_below line r (Racing racer) e = (refl, refl)
 none_below line r (Active work) e = none_by (is_ancestor line work.node.line) work.ticket r e
-none_below line r Dead e = (refl, refl)
+none_below line r (Dead how) e = (refl, refl)
 
 some_by : (below : Bool) (own ticket : Ticket) (r : ℕ) → (if below then Some own else None)
     ≡ Some ticket
@@ -46,7 +47,7 @@ some_below line r Idle ticket e = absurd (cc)
 some_below line r (Racing racer) ticket e = absurd (cc)
 some_below line r (Active work) ticket e = some_by
     (is_ancestor line work.node.line) work.ticket ticket r e
-some_below line r Dead ticket e = absurd (cc)
+some_below line r (Dead how) ticket e = absurd (cc)
 
 -- a choice that is the state itself writes nothing
 pub kept_state : (line : List Name) (states : List State) (r : ℕ) → r < length states
@@ -57,4 +58,4 @@ kept_state line states r there e =
     let same : (if works_below line (state_at states r) then Idle else state_at states r)
     ≡ state_at states r =
     ap (λ (b : Bool). if b then Idle else state_at states r) e in
-    sym (ap (λ (state : State). set states r state) same ∙ set-get_or states r Dead)
+    sym (ap (λ (state : State). set states r state) same ∙ set-get_or states r (Dead Died))

@@ -5,6 +5,7 @@ use Rattle.std.proofs.lemmas.List.{append-nil, length-append, take_more}
 use Rattle.std.proofs.lemmas.Grind.{flat_map-append}
 use Rattle.ug_frames.specs.declared.order.Order.TheVariants.{Incumbent}
 use Rattle.ug_nodes.specs.declared.node.Node.{Node}
+use Rattle.ug_ranks.specs.declared.state.Off.TheVariants.{Died}
 use Rattle.ug_ranks.specs.declared.state.State.{State}
 use Rattle.ug_ranks.specs.declared.state.State.TheVariants.{Absent, Idle, Racing, Active, Dead}
 use Rattle.ug_ranks.specs.States.{state_at}
@@ -53,7 +54,7 @@ members_from k (s ∷ ss) = omega (
     one_member Idle = refl
     one_member (Racing racer) = refl
     one_member (Active work) = refl
-    one_member Dead = refl
+    one_member (Dead how) = refl
 
 pub members_work : (ss : List State) → length (members_in ss) ≡ length (nodes_of ss)
 members_work ss = members_from 0 ss
@@ -63,7 +64,7 @@ nodes_more : (ss : List State) (k : ℕ) → k < length ss
     → length (nodes_of (take (k + 1) ss))
     ≡ length (nodes_of (take k ss)) + length (node_at (state_at ss k))
 nodes_more ss k there =
-    ap (λ (xs : List State). length (nodes_of xs)) (take_more ss k Dead there)
+    ap (λ (xs : List State). length (nodes_of xs)) (take_more ss k (Dead Died) there)
     ∙ (ap (λ (ns : List Node). length ns) (flat_map-append node_at (take k ss)
     (state_at ss k ∷ []))
     ∙ (length-append (nodes_of (take k ss)) (node_at (state_at ss k) ++ [])

@@ -8,6 +8,7 @@ use Rattle.ug_nodes.specs.declared.change.Change.{Change}
 use Rattle.ug_pool.specs.declared.entry.Entry.{Entry}
 use Rattle.ug_pool.specs.Pools.{Pooled}
 use Rattle.ug_ranks.specs.declared.state.Racer.{Racer}
+use Rattle.ug_ranks.specs.declared.state.Off.TheVariants.{Died}
 use Rattle.ug_ranks.specs.declared.state.State.{State}
 use Rattle.ug_ranks.specs.declared.state.State.TheVariants.{Idle, Racing, Dead}
 use Rattle.ug_ranks.specs.States.{state_at}
@@ -29,13 +30,13 @@ idle_from r ss = of_ranks (rank_if is_idle) r (drop r ss)
 idle_next : (ss : List State) (r : ℕ) → r < length ss → state_at ss r ≡ Idle
     → idle_from r ss ≡ r ∷ idle_from (r + 1) ss
 idle_next ss r there idle =
-    ap (λ (xs : List State). of_ranks (rank_if is_idle) r xs) (drop_more ss r Dead there)
+    ap (λ (xs : List State). of_ranks (rank_if is_idle) r xs) (drop_more ss r (Dead Died) there)
     ∙ ap (λ (s : State). rank_if is_idle r s ++ idle_from (r + 1) ss) idle
 
 idle_later : (ss : List State) (r : ℕ) → r < length ss → is_idle (state_at ss r) ≡ false
     → idle_from r ss ≡ idle_from (r + 1) ss
 idle_later ss r there other =
-    ap (λ (xs : List State). of_ranks (rank_if is_idle) r xs) (drop_more ss r Dead there)
+    ap (λ (xs : List State). of_ranks (rank_if is_idle) r xs) (drop_more ss r (Dead Died) there)
     ∙ ap (λ (b : Bool). (if b then r ∷ [] else []) ++ idle_from (r + 1) ss) other
 
 idle_none : (ss : List State) (r : ℕ) → length ss ≤ r → idle_from r ss ≡ []

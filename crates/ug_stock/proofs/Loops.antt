@@ -3,6 +3,7 @@ use Rattle.std.proofs.Common.{◌≡◌, ◌≢◌, inl, inr, ℕ, zero, suc, �
 use Rattle.std.specs.Prelude.{◌↔◌, IsTrue}
 use Rattle.std.proofs.lemmas.Bool.{cases_eq, cases_lt, false≢true}
 use Rattle.std.proofs.lemmas.List.{ext_get_or, get_or_past, length-append, length-map, length-set}
+use Rattle.ug_ranks.specs.declared.state.Off.TheVariants.{Died}
 use Rattle.ug_ranks.specs.declared.state.State.{State}
 use Rattle.ug_ranks.specs.declared.state.State.TheVariants.{Idle, Dead}
 use Rattle.ug_ranks.specs.States.{state_at}
@@ -80,9 +81,9 @@ one_idled test old now k there t = record {
     less : (j : ℕ) → j < k + 1 → j ≢ k → j < k
     less j lt ne = elim (cases_lt j k) [ inl l ↦ l | inr ge ↦ absurd (ne (omega (arith, lt, ge))) ]
 
-pub all_idled : (test : State → Bool) → test Dead ≡ false → (old now : List State) (k : ℕ)
+pub all_idled : (test : State → Bool) → test (Dead Died) ≡ false → (old now : List State) (k : ℕ)
     → length old ≤ k → AreIdled test old now k → now ≡ idled test old
-all_idled test dead old now k end t = ext_get_or Dead now (idled test old)
+all_idled test dead old now k end t = ext_get_or (Dead Died) now (idled test old)
     (t.wide ∙ sym (length-map old (λ (state : State). if test state then Idle else state)))
     (λ j lt. t.done j (omega (arith, lt, t.wide, end)) ∙ sym (state_idled test dead old j))
 
@@ -100,5 +101,5 @@ none_is ss k end none = (λ t. absurd (false≢true t), λ h. absurd (by (some_r
     by (q, is) = elim (cases_lt q k) [
       | inl l ↦ false≢true (sym (none q l) ∙ is)
       | inr past ↦ false≢true
-          (ap is_racing (sym (get_or_past ss q Dead (omega (arith, end, past)))) ∙ is)
+          (ap is_racing (sym (get_or_past ss q (Dead Died) (omega (arith, end, past)))) ∙ is)
     ]

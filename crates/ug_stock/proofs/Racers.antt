@@ -7,6 +7,7 @@ use Rattle.std.proofs.lemmas.List.{ext_get_or, length-map, length-set, set-get_o
 use Rattle.ug_nodes.specs.declared.name.Ticket.{Ticket}
 use Rattle.ug_pool.specs.declared.entry.Entry.{Entry}
 use Rattle.ug_frames.specs.declared.order.Order.TheVariants.{Stop, Winner}
+use Rattle.ug_ranks.specs.declared.state.Off.TheVariants.{Died}
 use Rattle.ug_ranks.specs.declared.state.State.{State}
 use Rattle.ug_ranks.specs.declared.state.State.TheVariants.{Absent, Idle, Racing, Active, Dead}
 use Rattle.ug_ranks.specs.States.{state_at}
@@ -22,7 +23,7 @@ no_winner r Absent e = refl
 no_winner r Idle e = refl
 no_winner r (Racing racer) e = absurd (none-some racer.ticket (sym e))
 no_winner r (Active work) e = refl
-no_winner r Dead e = refl
+no_winner r (Dead how) e = refl
 
 pub told_winner : (r : ℕ) (s : State) (ticket : Ticket) → racer_ticket s ≡ Some ticket
     → winner_order r s ≡ record { rank = r; order = Winner ticket } ∷ []
@@ -32,7 +33,7 @@ told_winner r (Racing racer) ticket e =
 told_winner r Absent ticket e = absurd (none-some ticket e)
 told_winner r Idle ticket e = absurd (none-some ticket e)
 told_winner r (Active work) ticket e = absurd (none-some ticket e)
-told_winner r Dead ticket e = absurd (none-some ticket e)
+told_winner r (Dead how) ticket e = absurd (none-some ticket e)
 
 is_same : (w r : ℕ) → r ≡ w → (r == w) ≡ true
 is_same w r e = eq-eqb r w e
@@ -52,7 +53,7 @@ untold_winner w r (Racing racer) e = rw (is_same w r e) refl
 untold_winner w r Absent e = refl
 untold_winner w r Idle e = refl
 untold_winner w r (Active work) e = refl
-untold_winner w r Dead e = refl
+untold_winner w r (Dead how) e = refl
 
 -- nor is one that does not race
 pub kept_other : (w r : ℕ) (s : State) → racer_ticket s ≡ None → loser_freed w r s ≡ s
@@ -66,14 +67,14 @@ kept_other w r s e = elim (cases_Bool (r == w)) [
     by Absent e = refl
     by Idle e = refl
     by (Active work) e = refl
-    by Dead e = refl
+    by (Dead how) e = refl
 
 pub untold_other : (w r : ℕ) (s : State) → racer_ticket s ≡ None → loser_stop w r s ≡ []
 untold_other w r (Racing racer) e = absurd (none-some racer.ticket (sym e))
 untold_other w r Absent e = refl
 untold_other w r Idle e = refl
 untold_other w r (Active work) e = refl
-untold_other w r Dead e = refl
+untold_other w r (Dead how) e = refl
 
 -- the other racers are
 pub freed_loser : (w r : ℕ) (s : State) (ticket : Ticket) → r ≢ w → racer_ticket s ≡ Some ticket
@@ -82,7 +83,7 @@ freed_loser w r (Racing racer) ticket ne e = rw (is_other w r ne) refl
 freed_loser w r Absent ticket ne e = absurd (none-some ticket e)
 freed_loser w r Idle ticket ne e = absurd (none-some ticket e)
 freed_loser w r (Active work) ticket ne e = absurd (none-some ticket e)
-freed_loser w r Dead ticket ne e = absurd (none-some ticket e)
+freed_loser w r (Dead how) ticket ne e = absurd (none-some ticket e)
 
 pub told_loser : (w r : ℕ) (s : State) (ticket : Ticket) → r ≢ w → racer_ticket s ≡ Some ticket
     → loser_stop w r s ≡ record { rank = r; order = Stop ticket } ∷ []
@@ -92,11 +93,11 @@ told_loser w r (Racing racer) ticket ne e = rw (is_other w r ne)
 told_loser w r Absent ticket ne e = absurd (none-some ticket e)
 told_loser w r Idle ticket ne e = absurd (none-some ticket e)
 told_loser w r (Active work) ticket ne e = absurd (none-some ticket e)
-told_loser w r Dead ticket ne e = absurd (none-some ticket e)
+told_loser w r (Dead how) ticket ne e = absurd (none-some ticket e)
 
 -- a state that is written as it was is nothing written
 pub nothing_written : (ss : List State) (r : ℕ) (s : State) → s ≡ state_at ss r → ss ≡ set ss r s
-nothing_written ss r s e = sym (ap (λ (t : State). set ss r t) e ∙ set-get_or ss r Dead)
+nothing_written ss r s e = sym (ap (λ (t : State). set ss r t) e ∙ set-get_or ss r (Dead Died))
 
 -- the losers before k are free, and the others as they were
 pub record AreLosersFreed (w : ℕ) (old now : List State) (k : ℕ) : Type 0 where
@@ -127,7 +128,7 @@ one_freed w old now k there t = record {
 pub all_won : (w : ℕ) (entry : Entry) (old now : List State) (k : ℕ) → w < length old
     → length old ≤ k → AreLosersFreed w old now k
     → set now w (won entry.node entry.floor (state_at now w)) ≡ ranks_won w (Some entry) old
-all_won w entry old now k there end t = ext_get_or Dead _ _
+all_won w entry old now k there end t = ext_get_or (Dead Died) _ _
     (length-set now w _ ∙ (t.wide ∙ (sym wide ∙ sym (length-set (racers_freed old) w new))))
     (λ j lt. by j lt)
   where

@@ -32,7 +32,7 @@ members_within n k (s ∷ ss) le = All-append (IsBelow n) (member_at k s)
     own (Racing racer) = All-nil (IsBelow n)
     own (Active work) = All-cons (IsBelow n) _ [] (omega (arith, le))
         (All-nil (IsBelow n))
-    own Dead = All-nil (IsBelow n)
+    own (Dead how) = All-nil (IsBelow n)
 
 ranks_within : (ss : List State) → All (IsBelow (length ss)) (members_in ss)
 ranks_within ss = members_within (length ss) 0 ss (omega arith)

@@ -54,7 +54,7 @@ racing_some ss rank h = are_racing ss (rank, by (state_at ss rank) h)
     by Absent h = absurd h
     by Idle h = absurd h
     by (Active work) h = absurd h
-    by Dead h = absurd h
+    by (Dead how) h = absurd h
 
 -- then some rank races, and none works
 pub none_works : (enough : ℕ) (ss : List State) (raced : Option Entry) (rank : ℕ)
@@ -73,7 +73,7 @@ one_stop w k (Racing racer) = by (k == w) (record { rank = k; order = Stop racer
     by true told = omega arith
     by false told = omega arith
 one_stop w k (Active work) = omega arith
-one_stop w k Dead = omega arith
+one_stop w k (Dead how) = omega arith
 
 stops_within : (w k : ℕ) (ss : List State)
     → length (of_ranks (loser_stop w) k ss) ≤ length (of_ranks racer_at k ss)
@@ -93,7 +93,7 @@ no_stop w k (Racing racer) e h = rw (eq-eqb k w e) (omega arith)
 no_stop w k Absent e h = absurd h
 no_stop w k Idle e h = absurd h
 no_stop w k (Active work) e h = absurd h
-no_stop w k Dead e h = absurd h
+no_stop w k (Dead how) e h = absurd h
 
 stops_fewer : (w k j : ℕ) (ss : List State) → k + j ≡ w → IsRacing (state_at ss j)
     → length (of_ranks (loser_stop w) k ss) + 1 ≤ length (of_ranks racer_at k ss)
@@ -125,7 +125,7 @@ one_each w ss h =
     told_once r Idle = omega arith
     told_once r (Racing racer) = omega arith
     told_once r (Active work) = omega arith
-    told_once r Dead = omega arith
+    told_once r (Dead how) = omega arith
 
 -- a node that is raced is one
 pub one_raced : (raced : Option Entry) → is_some raced ≡ true → length (raced_node raced) ≡ 1
@@ -179,4 +179,4 @@ work_won ss rank entry there =
     one_node Idle = omega arith
     one_node (Racing racer) = omega arith
     one_node (Active work) = omega arith
-    one_node Dead = omega arith
+    one_node (Dead how) = omega arith

@@ -10,7 +10,7 @@ at_most_one_node Absent = omega arith
 at_most_one_node Idle = omega arith
 at_most_one_node (Racing racer) = omega arith
 at_most_one_node (Active work) = omega arith
-at_most_one_node Dead = omega arith
+at_most_one_node (Dead how) = omega arith
 
 -- no more than there are ranks
 pub few_work : (ss : List State) → length (nodes_of ss) ≤ length ss

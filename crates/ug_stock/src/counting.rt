@@ -45,7 +45,7 @@ fn with_one(counts: Counts, state: &State) -> Counts
         State::Absent => counts.absent += 1,
         State::Idle => counts.idle += 1,
         State::Active(_) => counts.working += 1,
-        State::Racing(_) | State::Dead => {}
+        State::Racing(_) | State::Dead(_) => {}
     }
     counts
 }

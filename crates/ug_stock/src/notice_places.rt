@@ -25,6 +25,6 @@ fn places_for(state: &State) -> usize
     match state {
         State::Active(_) => 2,
         State::Idle | State::Racing(_) => 1,
-        State::Absent | State::Dead => 0,
+        State::Absent | State::Dead(_) => 0,
     }
 }

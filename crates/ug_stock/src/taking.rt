@@ -58,6 +58,6 @@ fn child_line(alloc: Global, ranks: &Ranks, rank: u32) -> Result<Line, AllocErro
             let ticket = work.ticket;
             work.node.line.child(alloc, Name { ticket, hand })
         }
-        State::Absent | State::Idle | State::Racing(_) | State::Dead => Err(AllocError),
+        State::Absent | State::Idle | State::Racing(_) | State::Dead(_) => Err(AllocError),
     }
 }

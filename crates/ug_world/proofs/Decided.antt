@@ -42,7 +42,7 @@ won_current entry Absent c h = h
 won_current entry Idle c h = h
 won_current entry (Racing racer) c h = h
 won_current entry (Active work) c h = h
-won_current entry Dead c h = h
+won_current entry (Dead how) c h = h
 
 won_fewer : (rank : ℕ) (raced : Option Entry) (ss : List State) (q : ℕ) (c : Current)
     → current_of None (state_at (ranks_won rank raced ss) q) ≡ Some c

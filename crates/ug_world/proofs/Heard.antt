@@ -61,7 +61,7 @@ dead_stays (Active work) r b = record {
   settings = refl;
   orders = among_more b.orders (stops_below work.node.line (with_dead r b).ranks);
 }
-dead_stays Dead r b = record { problem = refl; settings = refl; orders = λ t h. h }
+dead_stays (Dead how) r b = record { problem = refl; settings = refl; orders = λ t h. h }
 
 dead_fewer : (b : BookState) (r : ℕ) → r < length b.ranks → IsBook b → (s : State)
     → state_at b.ranks r ≡ s → AreFewer b (killed r b)
@@ -73,7 +73,7 @@ dead_fewer b r l book (Racing racer) e =
     less_is_fewer b (killed r b) (racer_death_has_ended b r racer l e book).less
 dead_fewer b r l book (Active work) e =
     less_is_fewer b (killed r b) (death_has_taken_in b r work l e book).less
-dead_fewer b r l book Dead e =
+dead_fewer b r l book (Dead how) e =
     same_is_fewer b (killed r b) (idle_death_none b r (ap ticket_at e))
 
 pub killed_carries : (sent : List Report) (b : BookState) (r : ℕ) → r < length b.ranks → IsBook b
@@ -98,7 +98,7 @@ done_carries sent b r l book (Active work) e =
     let new = done_at (Active work) r b in
     fewer_carried sent b new refl refl (λ t h. h)
     (less_is_fewer b new (done_works_off b r work l e book.ledger.ticketed.named).less)
-done_carries sent b r l book Dead e = carries_itself sent b
+done_carries sent b r l book (Dead how) e = carries_itself sent b
 
 -- ---- a hand
 
@@ -198,7 +198,7 @@ handed_carries sent b r ticket number changes among (Active work) e due =
       settings = refl;
       known = handed_known sent b r work number changes (due.current (ap Some same)) its_own e;
     }
-handed_carries sent b r ticket number changes among Dead e due = carries_itself sent b
+handed_carries sent b r ticket number changes among (Dead how) e due = carries_itself sent b
 
 -- ---- the whole
 
@@ -219,7 +219,7 @@ kept_carries sent b r (Reported ticket count floor) l book among due =
     let new = kept r (Reported ticket count floor) b in
     fewer_carried sent b new refl refl (λ t h. h)
     (same_is_fewer b new (reported_none b r ticket count floor))
-kept_carries sent b r (Done ticket told count) l book among due =
+kept_carries sent b r (Done ticket told count ending) l book among due =
     done_carries sent b r l book (state_at b.ranks r) refl
 kept_carries sent b r Ended l book among due = carries_itself sent b
 

@@ -6,6 +6,7 @@ use Rattle.ug_rows.specs.Boxes.{IsInOne, IsInside, box_at}
 use Rattle.ug_problem.specs.Instances.{root_of}
 use Rattle.ug_nodes.specs.declared.name.Ticket.{Ticket}
 use Rattle.ug_nodes.specs.Nodes.{box_of}
+use Rattle.ug_frames.specs.declared.report.Ending.{Ending}
 use Rattle.ug_frames.specs.declared.report.Report.{Report}
 use Rattle.ug_frames.specs.declared.report.Report.TheVariants.{Ready, Solution, Hand, State as Reported, Done, Ended}
 use Rattle.ug_ledger.specs.Ledgers.{Current}
@@ -27,10 +28,10 @@ in_one (area ∷ boxes) (suc i) x l inside = inr (in_one boxes i x (omega (arith
 
 -- a Done under a current ticket, whose count is that of the hands taken
 done_true : (b : BookState) (sent : List Report) (c : Current) (told : Option ℤ) (count : ℕ)
-    → AreHonest b.problem (IsGivenWith b) sent → IsKnown (root_of b.problem) sent b.orders c
-    → Contains sent (Done c.ticket told count) → count ≡ length c.taken
+    (ending : Ending) → AreHonest b.problem (IsGivenWith b) sent → IsKnown (root_of b.problem) sent b.orders c
+    → Contains sent (Done c.ticket told count ending) → count ≡ length c.taken
     → IsTrueDone b.problem told c
-done_true b sent c told count honest known among all x inside good =
+done_true b sent c told count ending honest known among all x inside good =
     let area = box_of (root_of b.problem) c.node in
     let given : IsGivenWith b c.ticket area = record {
       rank = known.told.rank;
@@ -41,7 +42,7 @@ done_true b sent c told count honest known among all x inside good =
       queued = known.told.queued;
       box = refl;
     } in
-    let t = honest.dones c.ticket told count among area given x inside good in
+    let t = honest.dones c.ticket told count ending among area given x inside good in
     let short : t.hand < length c.taken = omega (arith, t.before, all) in
     let same = honest.hands c.ticket t.hand t.area (box_at c.taken t.hand) t.its
     (known.taken t.hand short) in
@@ -57,9 +58,9 @@ honest_true b sent honest known r Ready among = tt
 honest_true b sent honest known r (Solution ticket x) among = tt
 honest_true b sent honest known r (Hand ticket number changes) among = tt
 honest_true b sent honest known r (Reported ticket count floor) among = tt
-honest_true b sent honest known r (Done ticket told count) among = λ c h same all.
-    done_true b sent c told count honest (known.each r c (current_is b r c h))
-    (subst (λ (t : Ticket). Contains sent (Done t told count)) (sym same) among) all
+honest_true b sent honest known r (Done ticket told count ending) among = λ c h same all.
+    done_true b sent c told count ending honest (known.each r c (current_is b r c h))
+    (subst (λ (t : Ticket). Contains sent (Done t told count ending)) (sym same) among) all
 honest_true b sent honest known r Ended among = tt
 
 -- while no ticket was given there is nothing to be true of
@@ -68,6 +69,6 @@ unused_true b sent book unused r Ready among = tt
 unused_true b sent book unused r (Solution ticket x) among = tt
 unused_true b sent book unused r (Hand ticket number changes) among = tt
 unused_true b sent book unused r (Reported ticket count floor) among = tt
-unused_true b sent book unused r (Done ticket told count) among = λ c h same all.
+unused_true b sent book unused r (Done ticket told count ending) among = λ c h same all.
     absurd (none_current (root_of b.problem) (ledger_of b) book.ledger unused r c h)
 unused_true b sent book unused r Ended among = tt

@@ -9,6 +9,7 @@ use Rattle.ug_nodes.specs.declared.name.Ticket.{Ticket}
 use Rattle.ug_nodes.specs.declared.change.Change.{Change}
 use Rattle.ug_nodes.specs.Changes.{AreChangesOf, area_by}
 use Rattle.ug_frames.specs.declared.order.Order.TheVariants.{Work as WorkOrder}
+use Rattle.ug_frames.specs.declared.report.Ending.{Ending}
 use Rattle.ug_frames.specs.declared.report.Report.{Report}
 use Rattle.ug_frames.specs.declared.report.Report.TheVariants.{Hand, Done}
 use Rattle.ug_rules.specs.State.{BookState}
@@ -51,8 +52,8 @@ pub record AreHonest (p : Instance) (Given : Ticket → List Interval → Type 0
   pub hands : (ticket : Ticket) (hand : ℕ) (a b : List Interval)
       → IsBoxOfHand (root_of p) sent ticket hand a → IsBoxOfHand (root_of p) sent ticket hand b
       → a ≡ b
-  pub dones : (ticket : Ticket) (cutoff : Option ℤ) (count : ℕ)
-      → Contains sent (Done ticket cutoff count)
+  pub dones : (ticket : Ticket) (cutoff : Option ℤ) (count : ℕ) (ending : Ending)
+      → Contains sent (Done ticket cutoff count ending)
       → (area : List Interval) → Given ticket area
       → (x : List ℤ) → IsInside area x → IsGood p cutoff x
       → IsInHands (root_of p) sent ticket count x

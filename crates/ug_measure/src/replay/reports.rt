@@ -3,7 +3,7 @@ ghost use Rattle.ug_rules.specs.Hearing.{IsHearable};
 
 use crate::replay::words::{bound, count, small, value, word};
 use std::alloc::Global;
-use ug_frames::Report;
+use ug_frames::{Ending, Report};
 use ug_nodes::{Change, Changes, Ticket};
 use ug_rows::Point;
 
@@ -105,6 +105,7 @@ fn done(words: &[&str]) -> Option<Report>
         ticket,
         cutoff,
         count,
+        end: Ending::Plain,
     })
 }
 

@@ -22,5 +22,5 @@ returns-in-Done-clause-places c = λ b.
     places_taken (record b { ranks = c.args.ranks.now; raced = c.args.raced.now })
     (record b { ranks = c.hear_done.new.ranks; raced = c.hear_done.new.raced }) c.args.pool.now
     c.hear_done.result c.args.rank
-    (Done c.in-Done.ticket c.in-Done.cutoff c.in-Done.count) c.requires.there
-    (c.hear_done.ensures.taken b) c.requires.places
+    (Done c.in-Done.ticket c.in-Done.cutoff c.in-Done.count c.in-Done._end) c.requires.there
+    (c.hear_done.ensures.taken b c.in-Done._end) c.requires.places

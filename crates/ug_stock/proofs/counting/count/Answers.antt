@@ -1,5 +1,6 @@
 use Rattle.std.proofs.Common.{ap, subst, ◌∙◌, List, length, arith}
 use Rattle.std.proofs.lemmas.List.{get_or_default}
+use Rattle.ug_ranks.specs.declared.state.Off.TheVariants.{Died}
 use Rattle.ug_ranks.specs.declared.state.State.{State}
 use Rattle.ug_ranks.specs.declared.state.State.TheVariants.{Dead}
 use Rattle.ug_stock.specs.Counting.{AreCounted}
@@ -12,7 +13,7 @@ loop-state-preserved c =
     let k = c.loop-state.state-index in
     one_counted ss k c.state-item.result c.loop-state.counts c.with_one-counts.result
     c.loop-state-test.true
-    (c.state-item.is ∙ get_or_default ss k c.state-item.result Dead c.loop-state-test.true)
+    (c.state-item.is ∙ get_or_default ss k c.state-item.result (Dead Died) c.loop-state-test.true)
     c.with_one-counts.ensures.absent c.with_one-counts.ensures.idle
     c.with_one-counts.ensures.working c.loop-state.invariant
 

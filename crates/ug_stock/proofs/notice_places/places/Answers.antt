@@ -1,5 +1,6 @@
 use Rattle.std.proofs.Common.{◌≡◌, ◌+◌, ◌∙◌, length, subst, arith}
 use Rattle.std.proofs.lemmas.List.{get_or_default}
+use Rattle.ug_ranks.specs.declared.state.Off.TheVariants.{Died}
 use Rattle.ug_ranks.specs.declared.state.State.{State}
 use Rattle.ug_ranks.specs.declared.state.State.TheVariants.{Dead}
 use Rattle.ug_ranks.specs.States.{state_at}
@@ -14,7 +15,7 @@ loop-state-preserved c =
     let ss = c.as_slice-state-items.result.now in
     let k = c.loop-state.state-index in
     let at : c.state-item.result ≡ state_at ss k =
-    c.state-item.is ∙ get_or_default ss k c.state-item.result Dead c.loop-state-test.true in
+    c.state-item.is ∙ get_or_default ss k c.state-item.result (Dead Died) c.loop-state-test.true in
     let own = subst
     (λ (s : State). c.places_for-places.result
     ≡ length (rank_if is_joined k s) + length (node_at s)) at (c.places_for-places.ensures.value k) in
