@@ -197,9 +197,11 @@ module _ (b : BookState) (r : ℕ) (task : TaskState) (of : IsOfTicket b r task)
         (counts ∙ ap (λ (bs : List (List Interval)). length bs) (sym same)) ∙ same) in
         let whole : task.whole ≡ box_of (root_of b.problem) c.node =
         of.its.whole ∙ ap (λ (k : Current). box_of (root_of b.problem) k.node) work in
+        let searched : AreAllHanded b.problem cutoff (box_of (root_of b.problem) c.node) c.taken =
         subst (λ k. AreAllHanded b.problem k (box_of (root_of b.problem) c.node) c.taken)
         (sym is_cutoff)
         (subst (λ p. AreAllHanded p task.cutoff (box_of (root_of b.problem) c.node) c.taken)
         of.its.problem
         (subst (λ area. AreAllHanded task.problem task.cutoff area c.taken) whole
-        (subst (λ bs. AreAllHanded task.problem task.cutoff task.whole bs) hands all)))
+        (subst (λ bs. AreAllHanded task.problem task.cutoff task.whole bs) hands all))) in
+        λ x better good inside. searched x inside good

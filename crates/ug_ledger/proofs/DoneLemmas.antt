@@ -110,7 +110,7 @@ backed_below (Some c) (Some least) v h k = omega (arith, ints, h, k)
 pub done_searched : DoneIsSearched
 done_searched p gap best cutoff c backed is_true x b inside =
     let good = better_is_good p gap best x b in
-    is_true x inside (record {
+    is_true x b (record {
       feasible = good.feasible;
       less = backed_below cutoff (best_cutoff p gap best) (value_of p.objective x) backed good.less;
-    })
+    }) inside

@@ -2,13 +2,16 @@
 use Rattle.std.specs.Prelude.{ℤ, ◌≤ℤ◌, List, Option, IfSome, IsSomeAnd}
 use Rattle.ug_rows.specs.Boxes.{IsInOne, IsInside}
 use Rattle.ug_problem.specs.Instances.{Instance, root_of}
-use Rattle.ug_problem.specs.Better.{AreAllHanded, Better, best_cutoff}
+use Rattle.ug_problem.specs.Better.{Better, IsGood, best_cutoff}
 use Rattle.ug_nodes.specs.Nodes.{box_of}
 use Rattle.ug_ledger.specs.Ledgers.{Current}
 
--- a Done with this cutoff is true: each good point of the ticket's box is in a box taken
-abbrev pub IsTrueDone : Instance → Option ℤ → Current → Type 0
-IsTrueDone p cutoff c = AreAllHanded p cutoff (box_of (root_of p) c.node) c.taken
+-- a Done with this cutoff is true: each better point of the ticket's box with a value below the
+-- cutoff, if there is one, is in a box taken
+abbrev pub IsTrueDone : Instance → ℤ → Option (List ℤ) → Option ℤ → Current → Type 0
+IsTrueDone p gap best cutoff c =
+    (x : List ℤ) → Better p gap best x → IsGood p cutoff x
+    → IsInside (box_of (root_of p) c.node) x → IsInOne c.taken x
 
 -- the cutoff, if there is one, is at least the incumbent's, which is there
 abbrev pub IsBackedBy : Instance → ℤ → Option (List ℤ) → Option ℤ → Type 0

@@ -31,7 +31,7 @@ DoneIsSound =
 abbrev pub DoneIsSearched : Type 0
 DoneIsSearched =
     (p : Instance) (gap : ℤ) (best : Option (List ℤ)) (cutoff : Option ℤ) (c : Current)
-    → IsBackedBy p gap best cutoff → IsTrueDone p cutoff c → IsSearched p gap best c
+    → IsBackedBy p gap best cutoff → IsTrueDone p gap best cutoff c → IsSearched p gap best c
 
 abbrev pub TakenInIsSound : Type 0
 TakenInIsSound =

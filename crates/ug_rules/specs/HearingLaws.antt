@@ -33,9 +33,8 @@ HasRisingChanges (Reported ticket count floor) = Unit {0}
 HasRisingChanges (Done ticket told count ending) = Unit {0}
 HasRisingChanges Ended = Unit {0}
 
--- a Done under the rank's ticket, whose count is that of the hands taken, is true: each good
--- point of
--- the ticket's box is in a box taken; of other reports nothing is asked
+-- a Done under the rank's ticket, whose count is that of the hands taken, is true: each better
+-- point of the ticket's box below its cutoff is in a box taken; of other reports nothing is asked
 abbrev pub IsTrueReport : BookState → ℕ → Report → Type 0
 IsTrueReport b r Ready = Unit {0}
 IsTrueReport b r (Solution ticket x) = Unit {0}
@@ -43,7 +42,7 @@ IsTrueReport b r (Hand ticket number changes) = Unit {0}
 IsTrueReport b r (Reported ticket count floor) = Unit {0}
 IsTrueReport b r (Done ticket told count ending) =
     (c : Current) → IsCurrent (ledger_of b) r c → c.ticket ≡ ticket → count ≡ length c.taken
-    → IsTrueDone b.problem told c
+    → IsTrueDone b.problem b.settings.gap b.best told c
 IsTrueReport b r Ended = Unit {0}
 
 -- event by event: a delivery counted

@@ -30,8 +30,8 @@ in_one (area ∷ boxes) (suc i) x l inside = inr (in_one boxes i x (omega (arith
 done_true : (b : BookState) (sent : List Report) (c : Current) (told : Option ℤ) (count : ℕ)
     (ending : Ending) → AreHonest b.problem (IsGivenWith b) sent → IsKnown (root_of b.problem) sent b.orders c
     → Contains sent (Done c.ticket told count ending) → count ≡ length c.taken
-    → IsTrueDone b.problem told c
-done_true b sent c told count ending honest known among all x inside good =
+    → IsTrueDone b.problem b.settings.gap b.best told c
+done_true b sent c told count ending honest known among all x better good inside =
     let area = box_of (root_of b.problem) c.node in
     let given : IsGivenWith b c.ticket area = record {
       rank = known.told.rank;
