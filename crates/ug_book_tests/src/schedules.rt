@@ -1,11 +1,15 @@
 /// Schedules with what they leave: two columns or three, the ranks, whether they race, the low and
 /// the high mark, the open nodes of a winner and the gap; then the events, and after `=` the
-/// replies, how many nodes are held in the end, and the incumbent. The first three were worked by
-/// hand; the others, made at random, have the replies of a model that was written apart from this
-/// code.
+/// replies, how many nodes are held in the end, and the incumbent. The first four were worked by
+/// hand, and the second is the first with orders told; the others, made at random, have the replies
+/// of a model that was written apart from this code.
 pub const SCHEDULES: &str = r"
 2 1 0 1 2 20 0; join 0; decide; Solution 1 1 0 5; Done 1 1 0 5; hear 1 0; hear 1 0; hear 0 0;
 join 0; decide; hear 1 0
+= Unbacked { cutoff: 5, incumbent: None }; Stale; Stale; Stale; held 1; best none
+
+2 1 0 1 2 20 0; tell; join 0; decide; tell; Solution 1 1 0 5; Done 1 1 0 5; hear 1 0; tell; hear 1 0;
+tell; hear 0 0; join 0; decide; hear 1 0; tell; tell
 = Unbacked { cutoff: 5, incumbent: None }; Stale; Stale; Stale; held 1; best none
 
 2 1 0 1 2 20 0; join 0; Ready; hear 0 0; Ended; hear 9 0; hear 1 0

@@ -185,6 +185,7 @@ fn event_of(alloc: Global, kind: &str, numbers: &[i128], ranks: u32) -> Option<E
 {
     match kind {
         "decide" => Some(Event::Decide),
+        "tell" => Some(Event::Tell),
         "join" | "gone" | "hear" => event_at(kind, numbers, ranks),
         _ => Some(Event::Send {
             report: report(alloc, kind, numbers)?,
@@ -374,6 +375,6 @@ fn schedules_leave_what_a_model_says(rt: HostRuntime) {
     let mut others = Vec::new(rt.alloc());
     let all = put_others(rt.alloc(), &mut others);
     same(&rt, &others.as_slice(), &[].as_slice());
-    same(&rt, &all.ok(), &Some(53));
+    same(&rt, &all.ok(), &Some(54));
     drop(others);
 }

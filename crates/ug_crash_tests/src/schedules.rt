@@ -90,6 +90,7 @@ fn event_of(alloc: Global, letter: u8, run: u64) -> Option<DiskEvent>
         b'j' => DiskEvent::World(Event::Join { rank: 0 }),
         b'J' => DiskEvent::World(Event::Join { rank: 5 }),
         b'd' => DiskEvent::World(Event::Decide),
+        b't' => DiskEvent::World(Event::Tell),
         b'n' => DiskEvent::Note,
         b's' => DiskEvent::Save,
         b'f' => report(alloc, run, false),
@@ -181,6 +182,7 @@ const NO_GREATER_GAP: Halted = Halted::Refused(StartFault::SmallerGap { kept: 3,
 
 const SCHEDULES: &[(&str, u8, Answer)] = &[
     ("jdnsfe0x1rjdfe23nsx", 0, Ok((3, 4))),
+    ("tjdtnstfe0tx1rtjdtfe2t3nsxt", 0, Ok((3, 4))),
     ("jd0", 0, Err((Halted::NoSuch { place: 0 }, 2))),
     ("J", 0, Err((Halted::NoRank { rank: 5 }, 0))),
     ("c", 0, Ok((2, 0))),

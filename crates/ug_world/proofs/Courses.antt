@@ -1,5 +1,5 @@
 -- Along a course no better point is lost.
-use Rattle.std.proofs.Common.{◌≡◌, ℕ, ◌<◌, List, [], ◌∷◌, length, refl, ap, sym, ◌∙◌, subst, arith}
+use Rattle.std.proofs.Common.{◌≡◌, ℕ, ◌<◌, inl, inr, List, [], ◌∷◌, ◌++◌, append_assoc, length, refl, ap, sym, ◌∙◌, subst, arith}
 use Rattle.std.specs.Prelude.{All, Contains, Option, Some, None, slice_get, take}
 use Rattle.std.proofs.lemmas.List.Elements.{All-cons, All-head, All-nil, All-tail, All-take, All-weaker}
 use Rattle.std.proofs.lemmas.Option.{get_or_from_slice_get, slice_get_within}
@@ -9,6 +9,7 @@ use Rattle.ug_ledger.proofs.PrimitiveLemmas.{primitive_covered}
 use Rattle.ug_frames.specs.declared.report.Report.{Report}
 use Rattle.ug_frames.specs.declared.report.Report.TheVariants.{Ready}
 use Rattle.ug_rules.specs.declared.settings.Settings.{Settings}
+use Rattle.ug_rules.specs.declared.told.Told.{Told}
 use Rattle.ug_rules.specs.State.{BookState, ledger_of}
 use Rattle.ug_rules.specs.Books.{IsBook, IsSoundBook}
 use Rattle.ug_rules.specs.Deaths.{killed}
@@ -18,38 +19,38 @@ use Rattle.ug_rules.proofs.EventLemmas.{death_keeps, ready_keeps}
 use Rattle.ug_rules.proofs.HearingLemmas.{hearing_keeps_book, hearing_keeps_sound}
 use Rattle.ug_rules.proofs.HeldLemmas.{is_current}
 use Rattle.ug_world.specs.declared.event.Event.{Event}
-use Rattle.ug_world.specs.declared.event.Event.TheVariants.{Send, Hear, Join, Gone, Decide}
+use Rattle.ug_world.specs.declared.event.Event.TheVariants.{Send, Hear, Join, Gone, Decide, Tell}
 use Rattle.ug_world.specs.Events.{IsEvent}
-use Rattle.ug_world.specs.Worlds.{Happens, IsCourse, IsHeard, World, end_of, opening}
+use Rattle.ug_world.specs.Worlds.{Happens, IsCourse, IsHeard, World, end_of, opening, told_first}
 use Rattle.ug_world.specs.Honest.{IsHonest}
 use Rattle.ug_world.specs.Laws.{HonestLoseNothing, LosesNothing}
 use Rattle.ug_world.specs.Plays.{HonestLeave, IsLeftBy}
-use Rattle.ug_world.proofs.Known.{AreKnown, Carries, known_sent}
+use Rattle.ug_world.proofs.Known.{AreKnown, Carries, IsKnown, known_sent}
 use Rattle.ug_world.proofs.Heard.{heard_carries, joined_carries, killed_carries}
-use Rattle.ug_world.proofs.Decided.{decided_carries}
+use Rattle.ug_world.proofs.Decided.{decided_carries, stood_carries}
 use Rattle.ug_world.proofs.Trusted.{AreTrue, honest_true, unused_true}
 
 -- what is so of each world of a course, but that what was sent is true
 pub record Holds (n : ℕ) (w : World) : Type 0 where
   pub book : IsBook w.book
   pub sound : IsSoundBook w.book
-  pub known : AreKnown w.book w.sent
+  pub known : AreKnown w.told w.book w.sent
   pub wide : length w.book.ranks ≡ n
 
 -- a book with as many ranks
-as_wide : (sent : List Report) (old new : BookState) → IsBook old → IsBook new
-    → Carries sent old new → length new.ranks ≡ length old.ranks
-as_wide sent old new was is t =
+as_wide : (past : List Told) (sent : List Report) (old new : BookState) → IsBook old → IsBook new
+    → Carries past sent old new → length new.ranks ≡ length old.ranks
+as_wide past sent old new was is t =
     is.ranks ∙ (ap (λ (s : Settings). s.solvers) t.settings ∙ sym was.ranks)
 
 -- after a change of the book alone
 moved : (n : ℕ) (old : World) (new : BookState) → Holds n old → IsBook new → IsSoundBook new
-    → Carries old.sent old.book new → Holds n (record old { book = new })
+    → Carries old.told old.sent old.book new → Holds n (record old { book = new })
 moved n old new h book sound t = record {
   book = book;
   sound = sound;
   known = record { each = (t.known h.known).each };
-  wide = as_wide old.sent old.book new h.book book t ∙ h.wide;
+  wide = as_wide old.told old.sent old.book new h.book book t ∙ h.wide;
 }
 
 within : (n : ℕ) (rank : ℕ) (w : World) → Holds n w → rank < n → rank < length w.book.ranks
@@ -68,7 +69,7 @@ heard_holds n old new place rank l t true_ h =
     t.rising h.book in
     let sound = hearing_keeps_sound old.book rank t.report t.answer there t.due
     (true_ rank t.report among) h.book h.sound in
-    let carries = heard_carries old.sent old.book rank t.report t.answer there h.book among t.due in
+    let carries = heard_carries old.told old.sent old.book rank t.report t.answer there h.book among t.due in
     let m = moved n old (after_hearing t.answer rank t.report old.book) h book sound carries in
     subst (λ w. Holds n w) (sym t.done) (record {
       book = m.book;
@@ -77,13 +78,51 @@ heard_holds n old new place rank l t true_ h =
       wide = m.wide;
     })
 
+-- the orders that wait are no part of what every book is
+orders_keep : (b : BookState) (rest : List Told) → IsBook b → IsBook (record b { orders = rest })
+orders_keep b rest h = record {
+  problem = h.problem;
+  run = h.run;
+  settings = h.settings;
+  incumbent = h.incumbent;
+  ranks = h.ranks;
+  order = h.order;
+  floors = record { pool = h.floors.pool; ranks = h.floors.ranks; raced = h.floors.raced };
+  ledger = h.ledger;
+  race = record {
+    raced = h.race.raced;
+    racing = h.race.racing;
+    pool = h.race.pool;
+    ranks = h.race.ranks;
+  };
+  number = h.number;
+}
+
+-- an order that is told was among those that wait
+told_holds : (n : ℕ) (old : World) (orders : List Told) → old.book.orders ≡ orders → Holds n old
+    → Holds n (told_first orders old)
+told_holds n old [] e h = h
+told_holds n old (first ∷ rest) e h =
+    let b = record old.book { orders = rest } in
+    let all : old.told ++ old.book.orders ≡ (old.told ++ first ∷ []) ++ rest =
+    ap (λ (os : List Told). old.told ++ os) e ∙ sym (append_assoc old.told (first ∷ []) rest) in
+    record {
+      book = orders_keep old.book rest h.book;
+      sound = h.sound;
+      known = record {
+        each = λ q c i. subst (λ (os : List Told). IsKnown (root_of old.book.problem) old.sent os c)
+            all (h.known.each q c i);
+      };
+      wide = h.wide;
+    }
+
 pub event_holds : (n : ℕ) (old new : World) (event : Event) → IsEvent n event
     → Happens old event new → AreTrue old.book old.sent → Holds n old → Holds n new
 event_holds n old new (Send report) is e true_ h =
     subst (λ w. Holds n w) (sym e) (record {
       book = h.book;
       sound = h.sound;
-      known = record { each = (known_sent old.book old.sent (report ∷ []) h.known).each };
+      known = record { each = (known_sent old.told old.book old.sent (report ∷ []) h.known).each };
       wide = h.wide;
     })
 event_holds n old new (Hear place rank) is t true_ h =
@@ -93,31 +132,45 @@ event_holds n old new (Join rank) is e true_ h =
     let keeps = ready_keeps old.book rank there in
     subst (λ w. Holds n w) (sym e)
     (moved n old (kept rank Ready old.book) h (keeps.book h.book) (keeps.sound h.book h.sound)
-    (joined_carries old.sent old.book rank))
+    (joined_carries old.told old.sent old.book rank))
 event_holds n old new (Gone rank) is e true_ h =
     let there = within n rank old h is in
     let keeps = death_keeps old.book rank there in
     subst (λ w. Holds n w) (sym e)
     (moved n old (killed rank old.book) h (keeps.book h.book) (keeps.sound h.book h.sound)
-    (killed_carries old.sent old.book rank there h.book))
-event_holds n old new Decide is t true_ h =
-    let keeps = decided_keeps old.book new.book h.book t.decided in
-    subst (λ w. Holds n w) (sym t.rest)
-    (moved n old new.book h (keeps.book h.book) (keeps.sound h.book h.sound)
-    (decided_carries old.sent old.book new.book h.book t.decided))
+    (killed_carries old.told old.sent old.book rank there h.book))
+event_holds n old new Decide is t true_ h = elim t.decided [
+  | inl whole ↦
+      let keeps = decided_keeps old.book new.book h.book whole in
+      subst (λ w. Holds n w) (sym t.rest)
+      (moved n old new.book h (keeps.book h.book) (keeps.sound h.book h.sound)
+      (decided_carries old.told old.sent old.book new.book h.book whole))
+  | inr cut ↦
+      let keeps = stands_keeps cut.steps old.book new.book h.book cut.stands in
+      subst (λ w. Holds n w) (sym t.rest)
+      (moved n old new.book h (keeps.book h.book) (keeps.sound h.book h.sound)
+      (stood_carries old.told old.sent cut.steps old.book new.book h.book cut.stands))
+]
+event_holds n old new Tell is e true_ h =
+    subst (λ w. Holds n w) (sym e) (told_holds n old old.book.orders refl h)
 
--- the world before the first event, where no ticket was given
-pub opening_holds : (b : BookState) (earlier : List Report) → IsBook b → IsSoundBook b → b.last ≡ 0
-    → Holds (length b.ranks) (opening b earlier)
-opening_holds b earlier book sound unused = record {
+-- a world whose run has given no ticket yet
+pub unused_holds : (w : World) → IsBook w.book → IsSoundBook w.book → w.book.last ≡ 0
+    → Holds (length w.book.ranks) w
+unused_holds w book sound unused = record {
   book = book;
   sound = sound;
   known = record {
-    each = λ q c h. absurd (none_current (root_of b.problem) (ledger_of b) book.ledger unused q c
-        (is_current b q c h));
+    each = λ q c h. absurd (none_current (root_of w.book.problem) (ledger_of w.book) book.ledger
+        unused q c (is_current w.book q c h));
   };
   wide = refl;
 }
+
+-- the world before the first event
+opening_holds : (b : BookState) (earlier : List Report) → IsBook b → IsSoundBook b → b.last ≡ 0
+    → Holds (length b.ranks) (opening b earlier)
+opening_holds b earlier book sound unused = unused_holds (opening b earlier) book sound unused
 
 course_holds : (n : ℕ) (old : World) (events : List Event) (course : List World)
     → All (IsEvent n) events → IsCourse old events course
@@ -126,7 +179,7 @@ course_holds n old [] [] are t honest true_ h = All-nil (Holds n)
 course_holds n old (event ∷ events) (new ∷ course) are t honest true_ h =
     let first = event_holds n old new event (All-head (IsEvent n) event events are)
     t.0 true_ h in
-    let next = honest_true new.book new.sent (All-head IsHonest new course honest) first.known in
+    let next = honest_true new.told new.book new.sent (All-head IsHonest new course honest) first.known in
     All-cons (Holds n) new course first
     (course_holds n new events course (All-tail (IsEvent n) event events are) t.1 (All-tail IsHonest new course honest) next first)
 course_holds n old [] (new ∷ course) are t honest true_ h = absurd t
@@ -163,8 +216,8 @@ left_sound (Some (Send report)) old new book sound e = subst IsSoundBook (sym e)
 left_sound (Some (Hear place rank)) old new book sound e = subst IsSoundBook (sym e) sound
 left_sound (Some (Join rank)) old new book sound e = absurd e
 left_sound (Some (Gone rank)) old new book sound e = absurd e
-left_sound (Some Decide) old new book sound (steps, t) =
-    (stands_keeps steps old new book t).sound book sound
+left_sound (Some Decide) old new book sound e = absurd e
+left_sound (Some Tell) old new book sound e = subst IsSoundBook (sym e) sound
 
 -- wherever a play stopped
 pub honest_leave : (b left : BookState) (events : List Event) → IsBook b → IsSoundBook b

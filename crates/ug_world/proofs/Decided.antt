@@ -1,5 +1,5 @@
 -- A decision keeps what is known of the tickets.
-use Rattle.std.proofs.Common.{◌≡◌, inl, inr, ℕ, ℤ, Bool, true, false, List, [], ◌∷◌, ◌++◌, refl, sym, ◌∙◌, subst}
+use Rattle.std.proofs.Common.{◌≡◌, zero, suc, inl, inr, ℕ, ℤ, Bool, true, false, List, [], ◌∷◌, ◌++◌, refl, sym, ◌∙◌, subst}
 use Rattle.std.specs.Prelude.{Option, Some, None, slice_set, if◌then◌else◌}
 use Rattle.ug_pool.specs.declared.entry.Entry.{Entry}
 use Rattle.ug_rules.specs.declared.demand.Wanted.{Wanted}
@@ -15,7 +15,7 @@ use Rattle.ug_rules.specs.State.{BookState, current_of, cutoff_of_best}
 use Rattle.ug_rules.specs.Ranks.{racers_freed}
 use Rattle.ug_ranks.specs.Looks.{is_racing}
 use Rattle.ug_rules.specs.Books.{IsBook}
-use Rattle.ug_rules.specs.Deciding.{IsDecided, IsRaceEnded, announced, announced_as, announcements, collect_in, collect_out, collected, dropped, given, handouts, loser_stops, race_won, ranks_won, same_cutoff, stopped_collecting, winner_order}
+use Rattle.ug_rules.specs.Deciding.{IsDecided, IsRaceEnded, IsReadied, Stands, announced, announced_as, announcements, collect_in, collect_out, collected, dropped, given, handouts, loser_stops, race_won, ranks_won, same_cutoff, stopped_collecting, winner_order}
 use Rattle.ug_rules.proofs.BookLemmas.{asked_alike}
 use Rattle.ug_rules.proofs.DecidedLemmas.{readied_keeps}
 use Rattle.ug_rules.proofs.TicketLemmas.{idled_current, without_race}
@@ -23,16 +23,16 @@ use Rattle.ug_world.proofs.Known.{Carries, among_more, carries_both, carries_its
 use Rattle.ug_world.proofs.Given.{handed_out_carries}
 
 -- what is announced
-announced_carries : (sent : List Report) (cutoff : Option ℤ) (b : BookState)
-    → Carries sent b (announced_as cutoff b)
-announced_carries sent None b = carries_itself sent b
-announced_carries sent (Some cutoff) b = by (same_cutoff b.announced cutoff)
+announced_carries : (past : List Told) (sent : List Report) (cutoff : Option ℤ) (b : BookState)
+    → Carries past sent b (announced_as cutoff b)
+announced_carries past sent None b = carries_itself past sent b
+announced_carries past sent (Some cutoff) b = by (same_cutoff b.announced cutoff)
   where
-    by : (same : Bool) → Carries sent b (if same
+    by : (same : Bool) → Carries past sent b (if same
         then b
         else record b { orders = b.orders ++ announcements cutoff b.ranks; announced = Some cutoff })
-    by true = carries_itself sent b
-    by false = fewer_carried sent b _ refl refl
+    by true = carries_itself past sent b
+    by false = fewer_carried past sent b _ refl refl
         (among_more b.orders (announcements cutoff b.ranks)) (λ q c h. h)
 
 -- the winner's ticket is current for what it was
@@ -59,28 +59,28 @@ won_fewer rank (Some entry) ss q c h =
           (idled_current is_racing refl None ss q c there)
     ]
 
-won_carries : (sent : List Report) (rank : ℕ) (b : BookState) → Carries sent b (race_won rank b)
-won_carries sent rank b = fewer_carried sent b (race_won rank b) refl refl
+won_carries : (past : List Told) (sent : List Report) (rank : ℕ) (b : BookState) → Carries past sent b (race_won rank b)
+won_carries past sent rank b = fewer_carried past sent b (race_won rank b) refl refl
     (λ t h. among_more (b.orders ++ winner_order rank (state_at b.ranks rank))
     (loser_stops rank b.ranks) t
     (among_more b.orders (winner_order rank (state_at b.ranks rank)) t h))
     (won_fewer rank b.raced b.ranks)
 
-ended_carries : (sent : List Report) (old new : BookState) → IsRaceEnded old new
-    → Carries sent old new
-ended_carries sent old new (inl (rank, t)) =
-    subst (λ b. Carries sent old b) (sym t.done) (won_carries sent rank old)
-ended_carries sent old new (inr t) =
-    subst (λ b. Carries sent old b) (sym t.same) (carries_itself sent old)
+ended_carries : (past : List Told) (sent : List Report) (old new : BookState) → IsRaceEnded old new
+    → Carries past sent old new
+ended_carries past sent old new (inl (rank, t)) =
+    subst (λ b. Carries past sent old b) (sym t.done) (won_carries past sent rank old)
+ended_carries past sent old new (inr t) =
+    subst (λ b. Carries past sent old b) (sym t.same) (carries_itself past sent old)
 
 -- what is asked for
-asked_carries : (sent : List Report) (b : BookState) (r count : ℕ) (more : List Told)
-    → Carries sent b (record b {
+asked_carries : (past : List Told) (sent : List Report) (b : BookState) (r count : ℕ) (more : List Told)
+    → Carries past sent b (record b {
       ranks = slice_set b.ranks r (asked_for count (state_at b.ranks r));
       orders = b.orders ++ more;
     })
-asked_carries sent b r count more =
-    fewer_carried sent b _ refl refl (among_more b.orders more) fewer
+asked_carries past sent b r count more =
+    fewer_carried past sent b _ refl refl (among_more b.orders more) fewer
   where
     fewer : (q : ℕ) (c : Current)
         → current_of b.raced (state_at (slice_set b.ranks r (asked_for count (state_at b.ranks r))) q)
@@ -94,32 +94,59 @@ asked_carries sent b r count more =
           | inr there ↦ there
         ]
 
-stopped_carries : (sent : List Report) (rs : List ℕ) (b : BookState)
-    → Carries sent b (stopped_collecting rs b)
-stopped_carries sent [] b = carries_itself sent b
-stopped_carries sent (r ∷ rs) b =
-    carries_both sent b _ _ (asked_carries sent b r 0 (collect_out r (state_at b.ranks r)))
-    (stopped_carries sent rs _)
+stopped_carries : (past : List Told) (sent : List Report) (rs : List ℕ) (b : BookState)
+    → Carries past sent b (stopped_collecting rs b)
+stopped_carries past sent [] b = carries_itself past sent b
+stopped_carries past sent (r ∷ rs) b =
+    carries_both past sent b _ _ (asked_carries past sent b r 0 (collect_out r (state_at b.ranks r)))
+    (stopped_carries past sent rs _)
 
-collected_carries : (sent : List Report) (demand : Wanted) (b : BookState)
-    → Carries sent b (collected demand b)
-collected_carries sent (Ask r count) b =
-    asked_carries sent b r count (collect_in r count (state_at b.ranks r))
-collected_carries sent (Enough ranks) b = stopped_carries sent ranks b
-collected_carries sent Nothing b = carries_itself sent b
+collected_carries : (past : List Told) (sent : List Report) (demand : Wanted) (b : BookState)
+    → Carries past sent b (collected demand b)
+collected_carries past sent (Ask r count) b =
+    asked_carries past sent b r count (collect_in r count (state_at b.ranks r))
+collected_carries past sent (Enough ranks) b = stopped_carries past sent ranks b
+collected_carries past sent Nothing b = carries_itself past sent b
 
-pub decided_carries : (sent : List Report) (old new : BookState) → IsBook old → IsDecided old new
-    → Carries sent old new
-decided_carries sent old new book t =
-    let first = fewer_carried sent old (dropped old) refl refl (λ u h. h) (λ q c h. h) in
-    let second = announced_carries sent (cutoff_of_best (dropped old)) (dropped old) in
-    let third = ended_carries sent (announced (dropped old)) t.ready t.readied in
-    let readied = carries_both sent old (announced (dropped old)) t.ready
-    (carries_both sent old (dropped old) (announced (dropped old)) first second) third in
-    let ready_book = (readied_keeps old t.ready book t.readied).book book in
+-- the first three parts
+readied_carries : (past : List Told) (sent : List Report) (old ready : BookState)
+    → IsReadied old ready → Carries past sent old ready
+readied_carries past sent old ready t =
+    let first = fewer_carried past sent old (dropped old) refl refl (λ u h. h) (λ q c h. h) in
+    let second = announced_carries past sent (cutoff_of_best (dropped old)) (dropped old) in
+    let third = ended_carries past sent (announced (dropped old)) ready t in
+    carries_both past sent old (announced (dropped old)) ready
+    (carries_both past sent old (dropped old) (announced (dropped old)) first second) third
+
+-- and so many steps of the fourth
+given_out_carries : (past : List Told) (sent : List Report) (steps : ℕ) (old ready : BookState)
+    → IsBook old → IsReadied old ready → Carries past sent old (given steps ready)
+given_out_carries past sent steps old ready book t =
+    carries_both past sent old ready (given steps ready) (readied_carries past sent old ready t)
+    (handed_out_carries past sent steps ready ((readied_keeps old ready book t).book book))
+
+pub decided_carries : (past : List Told) (sent : List Report) (old new : BookState) → IsBook old
+    → IsDecided old new → Carries past sent old new
+decided_carries past sent old new book t =
     let out = given (handouts t.ready) t.ready in
-    carries_both sent old out new
-    (carries_both sent old t.ready out readied
-    (handed_out_carries sent (handouts t.ready) t.ready ready_book))
-    (subst (λ b. Carries sent out b) (sym t.collected_.done)
-    (collected_carries sent t.collected_.demand out))
+    carries_both past sent old out new
+    (given_out_carries past sent (handouts t.ready) old t.ready book t.readied)
+    (subst (λ b. Carries past sent out b) (sym t.collected_.done)
+    (collected_carries past sent t.collected_.demand out))
+
+-- what stands of a decision that memory ended does too
+pub stood_carries : (past : List Told) (sent : List Report) (steps : ℕ) (old new : BookState)
+    → IsBook old → Stands steps old new → Carries past sent old new
+stood_carries past sent zero old new book t =
+    subst (λ b. Carries past sent old b) (sym t) (carries_itself past sent old)
+stood_carries past sent (suc zero) old new book t =
+    subst (λ b. Carries past sent old b) (sym t)
+    (fewer_carried past sent old (dropped old) refl refl (λ u h. h) (λ q c h. h))
+stood_carries past sent (suc (suc zero)) old new book t =
+    subst (λ b. Carries past sent old b) (sym t)
+    (carries_both past sent old (dropped old) (announced (dropped old))
+    (fewer_carried past sent old (dropped old) refl refl (λ u h. h) (λ q c h. h))
+    (announced_carries past sent (cutoff_of_best (dropped old)) (dropped old)))
+stood_carries past sent (suc (suc (suc steps))) old new book t =
+    subst (λ b. Carries past sent old b) (sym t.given_)
+    (given_out_carries past sent steps old t.ready book t.readied)

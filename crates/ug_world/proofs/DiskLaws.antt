@@ -20,8 +20,8 @@ use Rattle.ug_restart.specs.Starts.{IsGoneOn, boxes_saved, next_run}
 use Rattle.ug_restart.proofs.Goings.{covered_on}
 use Rattle.ug_snapshot.proofs.Helds.{covered_image}
 use Rattle.ug_world.specs.declared.event.Event.{Event}
-use Rattle.ug_world.specs.Worlds.{World, opening}
-use Rattle.ug_world.proofs.Courses.{Holds as WorldHolds, event_holds, loses_nothing, opening_holds}
+use Rattle.ug_world.specs.Worlds.{World}
+use Rattle.ug_world.proofs.Courses.{Holds as WorldHolds, event_holds, loses_nothing, unused_holds}
 use Rattle.ug_world.proofs.Trusted.{AreTrue, honest_true, unused_true}
 use Rattle.ug_world.specs.declared.disk_event.DiskEvent.{DiskEvent}
 use Rattle.ug_world.specs.declared.disk_event.DiskEvent.TheVariants.{World as InWorld, Note, Save, Crash, Stop}
@@ -102,7 +102,7 @@ world_holds event old new t honest h =
     record {
       runs = λ e. record {
         holds = subst (λ m. WorldHolds m new.world) (sym first.wide) first;
-        true_ = honest_true new.world.book new.world.sent (honest goes_on) first.known;
+        true_ = honest_true new.world.told new.world.book new.world.sent (honest goes_on) first.known;
       };
       all = all_of_world IsCovered old new h.all t.rest;
       covers = subst CoversAllAlong (sym (ap (λ (w : DiskWorld). w.told) t.rest)) h.covers;
@@ -159,18 +159,10 @@ module _ (settings : Settings) (old new : DiskWorld) (all : CouldAll IsCovered o
   unused : new.world.book.last ≡ 0
   unused = ap (λ (b : BookState). b.last) t.book.is
 
-  opened : WorldHolds (length new.world.book.ranks) (opening new.world.book new.world.sent)
-  opened = opening_holds new.world.book new.world.sent t.is sound unused
-
   gone_on_holds : CoversAllAlong new.told → Holds new
   gone_on_holds covers = record {
     runs = λ e. record {
-      holds = record {
-        book = opened.book;
-        sound = opened.sound;
-        known = record { each = opened.known.each };
-        wide = refl;
-      };
+      holds = unused_holds new.world t.is sound unused;
       true_ = unused_true new.world.book new.world.sent t.is unused;
     };
     all = all_gone_on IsCovered settings old new (covered_of_book new.world.book sound) t;
@@ -222,21 +214,14 @@ course_holds old [] (new ∷ course) t honest h = absurd t
 course_holds old (event ∷ events) [] t honest h = absurd t
 
 pub begun_holds : (w : DiskWorld) → HasBegun w → Holds w
-begun_holds w b =
-    let first = opening_holds w.world.book w.world.sent b.book b.sound b.unused in
-    record {
-      runs = λ e. record {
-        holds = record {
-          book = first.book;
-          sound = first.sound;
-          known = record { each = first.known.each };
-          wide = refl;
-        };
-        true_ = unused_true w.world.book w.world.sent b.book b.unused;
-      };
-      all = all_begun IsCovered w (covered_of_book w.world.book b.sound) b.acknowledged b.noted;
-      covers = b.covers;
-    }
+begun_holds w b = record {
+  runs = λ e. record {
+    holds = unused_holds w.world b.book b.sound b.unused;
+    true_ = unused_true w.world.book w.world.sent b.book b.unused;
+  };
+  all = all_begun IsCovered w (covered_of_book w.world.book b.sound) b.acknowledged b.noted;
+  covers = b.covers;
+}
 
 loses : (w : DiskWorld) → Holds w → LosesNothingOnDisk w
 loses w h = record {

@@ -23,6 +23,7 @@ use Rattle.ug_ranks.specs.Changes.{grown}
 use Rattle.ug_ledger.specs.Ledgers.{Current}
 use Rattle.ug_rules.specs.declared.heard.Heard.{Heard}
 use Rattle.ug_rules.specs.declared.heard.Heard.TheVariants.{Kept, Stale}
+use Rattle.ug_rules.specs.declared.told.Told.{Told}
 use Rattle.ug_rules.specs.State.{BookState, current_for, current_of}
 use Rattle.ug_rules.specs.Ranks.{ranks_that}
 use Rattle.ug_ranks.specs.Looks.{is_racing, ticket_at}
@@ -76,29 +77,29 @@ dead_fewer b r l book (Active work) e =
 dead_fewer b r l book (Dead how) e =
     same_is_fewer b (killed r b) (idle_death_none b r (ap ticket_at e))
 
-pub killed_carries : (sent : List Report) (b : BookState) (r : ℕ) → r < length b.ranks → IsBook b
-    → Carries sent b (killed r b)
-killed_carries sent b r l book =
+pub killed_carries : (past : List Told) (sent : List Report) (b : BookState) (r : ℕ) → r < length b.ranks → IsBook b
+    → Carries past sent b (killed r b)
+killed_carries past sent b r l book =
     let t = dead_stays (state_at b.ranks r) r b in
-    fewer_carried sent b (killed r b) t.problem t.settings t.orders
+    fewer_carried past sent b (killed r b) t.problem t.settings t.orders
     (dead_fewer b r l book (state_at b.ranks r) refl)
 
 -- ---- a Done
 
-done_carries : (sent : List Report) (b : BookState) (r : ℕ) → r < length b.ranks → IsBook b
-    → (s : State) → state_at b.ranks r ≡ s → Carries sent b (done_at s r b)
-done_carries sent b r l book Absent e = carries_itself sent b
-done_carries sent b r l book Idle e = carries_itself sent b
-done_carries sent b r l book (Racing racer) e =
+done_carries : (past : List Told) (sent : List Report) (b : BookState) (r : ℕ) → r < length b.ranks → IsBook b
+    → (s : State) → state_at b.ranks r ≡ s → Carries past sent b (done_at s r b)
+done_carries past sent b r l book Absent e = carries_itself past sent b
+done_carries past sent b r l book Idle e = carries_itself past sent b
+done_carries past sent b r l book (Racing racer) e =
     let t = racing_entry b r racer l e book.race in
     let new = done_at (Racing racer) r b in
-    fewer_carried sent b new refl refl (λ t h. h)
+    fewer_carried past sent b new refl refl (λ t h. h)
     (less_is_fewer b new (done_ends_race b r racer l e book.race t.0 t.1).less)
-done_carries sent b r l book (Active work) e =
+done_carries past sent b r l book (Active work) e =
     let new = done_at (Active work) r b in
-    fewer_carried sent b new refl refl (λ t h. h)
+    fewer_carried past sent b new refl refl (λ t h. h)
     (less_is_fewer b new (done_works_off b r work l e book.ledger.ticketed.named).less)
-done_carries sent b r l book (Dead how) e = carries_itself sent b
+done_carries past sent b r l book (Dead how) e = carries_itself past sent b
 
 -- ---- a hand
 
@@ -119,7 +120,7 @@ its_ticket b work ticket report due = elim (ticket_either work.ticket ticket) [
 ]
 
 -- the box taken is that of the hand
-module _ (sent : List Report) (b : BookState) (r : ℕ) (work : Work) (number : ℕ)
+module _ (past : List Told) (sent : List Report) (b : BookState) (r : ℕ) (work : Work) (number : ℕ)
     (changes : List Change) (next : IsNextHand b work number changes)
     (among : Contains sent (Hand work.ticket number changes)) where
   abbrev area : List Interval
@@ -152,8 +153,8 @@ module _ (sent : List Report) (b : BookState) (r : ℕ) (work : Work) (number : 
     box = get_or_push work.taken area [] i (sym e);
   }
 
-  its_known : IsKnown (root_of b.problem) sent b.orders (current_for work)
-      → IsKnown (root_of b.problem) sent b.orders its
+  its_known : IsKnown (root_of b.problem) sent (past ++ b.orders) (current_for work)
+      → IsKnown (root_of b.problem) sent (past ++ b.orders) its
   its_known k = record {
     told = record {
       rank = k.told.rank;
@@ -170,68 +171,68 @@ module _ (sent : List Report) (b : BookState) (r : ℕ) (work : Work) (number : 
     ];
   }
 
-  handed_known : state_at b.ranks r ≡ Active work → AreKnown b sent
-      → AreKnown (handed_by work r changes b) sent
+  handed_known : state_at b.ranks r ≡ Active work → AreKnown past b sent
+      → AreKnown past (handed_by work r changes b) sent
   handed_known is k = record {
     each = λ q c h. elim (written_current b.raced b.ranks r (grown area (state_at b.ranks r)) q c h) [
       | inl new ↦
           let same = same_Some its c
           (sym (ap (λ s. current_of b.raced (grown area s)) is) ∙ new.1) in
-          subst (λ d. IsKnown (root_of b.problem) sent b.orders d) same
+          subst (λ d. IsKnown (root_of b.problem) sent (past ++ b.orders) d) same
           (its_known (k.each r (current_for work) (ap (current_of b.raced) is)))
       | inr old ↦ k.each q c old
     ];
   }
 
-handed_carries : (sent : List Report) (b : BookState) (r : ℕ) (ticket : Ticket) (number : ℕ)
+handed_carries : (past : List Told) (sent : List Report) (b : BookState) (r : ℕ) (ticket : Ticket) (number : ℕ)
     (changes : List Change) → Contains sent (Hand ticket number changes) → (s : State)
     → state_at b.ranks r ≡ s → IsDueUnder b s ticket (Hand ticket number changes) Kept
-    → Carries sent b (handed_at s r changes b)
-handed_carries sent b r ticket number changes among Absent e due = carries_itself sent b
-handed_carries sent b r ticket number changes among Idle e due = carries_itself sent b
-handed_carries sent b r ticket number changes among (Racing racer) e due = carries_itself sent b
-handed_carries sent b r ticket number changes among (Active work) e due =
+    → Carries past sent b (handed_at s r changes b)
+handed_carries past sent b r ticket number changes among Absent e due = carries_itself past sent b
+handed_carries past sent b r ticket number changes among Idle e due = carries_itself past sent b
+handed_carries past sent b r ticket number changes among (Racing racer) e due = carries_itself past sent b
+handed_carries past sent b r ticket number changes among (Active work) e due =
     let same = its_ticket b work ticket (Hand ticket number changes) due in
     let its_own = subst (λ t. Contains sent (Hand t number changes)) (sym same) among in
     record {
       problem = refl;
       settings = refl;
-      known = handed_known sent b r work number changes (due.current (ap Some same)) its_own e;
+      known = handed_known past sent b r work number changes (due.current (ap Some same)) its_own e;
     }
-handed_carries sent b r ticket number changes among (Dead how) e due = carries_itself sent b
+handed_carries past sent b r ticket number changes among (Dead how) e due = carries_itself past sent b
 
 -- ---- the whole
 
-pub joined_carries : (sent : List Report) (b : BookState) (r : ℕ) → Carries sent b (kept r Ready b)
-joined_carries sent b r =
-    fewer_carried sent b (kept r Ready b) refl refl (λ t h. h)
+pub joined_carries : (past : List Told) (sent : List Report) (b : BookState) (r : ℕ) → Carries past sent b (kept r Ready b)
+joined_carries past sent b r =
+    fewer_carried past sent b (kept r Ready b) refl refl (λ t h. h)
     (same_is_fewer b (kept r Ready b) (ready_none b r))
 
-kept_carries : (sent : List Report) (b : BookState) (r : ℕ) (report : Report)
+kept_carries : (past : List Told) (sent : List Report) (b : BookState) (r : ℕ) (report : Report)
     → r < length b.ranks → IsBook b → Contains sent report → IsDue b r report Kept
-    → Carries sent b (kept r report b)
-kept_carries sent b r Ready l book among due = joined_carries sent b r
-kept_carries sent b r (Solution ticket x) l book among due =
-    fewer_carried sent b (kept r (Solution ticket x) b) refl refl (λ t h. h) (λ q c h. h)
-kept_carries sent b r (Hand ticket number changes) l book among due =
-    handed_carries sent b r ticket number changes among (state_at b.ranks r) refl due
-kept_carries sent b r (Reported ticket count floor) l book among due =
+    → Carries past sent b (kept r report b)
+kept_carries past sent b r Ready l book among due = joined_carries past sent b r
+kept_carries past sent b r (Solution ticket x) l book among due =
+    fewer_carried past sent b (kept r (Solution ticket x) b) refl refl (λ t h. h) (λ q c h. h)
+kept_carries past sent b r (Hand ticket number changes) l book among due =
+    handed_carries past sent b r ticket number changes among (state_at b.ranks r) refl due
+kept_carries past sent b r (Reported ticket count floor) l book among due =
     let new = kept r (Reported ticket count floor) b in
-    fewer_carried sent b new refl refl (λ t h. h)
+    fewer_carried past sent b new refl refl (λ t h. h)
     (same_is_fewer b new (reported_none b r ticket count floor))
-kept_carries sent b r (Done ticket told count ending) l book among due =
-    done_carries sent b r l book (state_at b.ranks r) refl
-kept_carries sent b r Ended l book among due = carries_itself sent b
+kept_carries past sent b r (Done ticket told count ending) l book among due =
+    done_carries past sent b r l book (state_at b.ranks r) refl
+kept_carries past sent b r Ended l book among due = carries_itself past sent b
 
-pub heard_carries : (sent : List Report) (b : BookState) (r : ℕ) (report : Report) (answer : Heard)
+pub heard_carries : (past : List Told) (sent : List Report) (b : BookState) (r : ℕ) (report : Report) (answer : Heard)
     → r < length b.ranks → IsBook b → Contains sent report → IsDue b r report answer
-    → Carries sent b (after_hearing answer r report b)
-heard_carries sent b r report answer l book among due =
-    under_answer (λ k. Carries sent b k)
+    → Carries past sent b (after_hearing answer r report b)
+heard_carries past sent b r report answer l book among due =
+    under_answer (λ k. Carries past sent b k)
     (λ k t. record {
       problem = t.problem;
       settings = t.settings;
       known = λ old. record { each = (t.known old).each };
     })
-    b r report (carries_itself sent b) (killed_carries sent b r l book) answer
-    (λ e. kept_carries sent b r report l book among (subst (IsDue b r report) e due))
+    b r report (carries_itself past sent b) (killed_carries past sent b r l book) answer
+    (λ e. kept_carries past sent b r report l book among (subst (IsDue b r report) e due))

@@ -4,7 +4,7 @@ use Rattle.std.proofs.Common.{◌≡◌, ◌⊎◌, inl, inr, ℕ, ◌<◌, Bool
 use Rattle.std.specs.Prelude.{ℤ, Contains, Option, Some}
 use Rattle.std.proofs.lemmas.Bool.{cases_eq, cases_lt}
 use Rattle.std.proofs.lemmas.List.{set_past}
-use Rattle.std.proofs.lemmas.List.Elements.{Contains-append_left}
+use Rattle.std.proofs.lemmas.List.Elements.{Contains-append_cases, Contains-append_left, Contains-append_right}
 use Rattle.ug_rows.specs.declared.area.Interval.{Interval}
 use Rattle.ug_rows.specs.Boxes.{box_at}
 use Rattle.ug_branch.specs.declared.params.Params.{Params}
@@ -22,7 +22,7 @@ use Rattle.ug_rules.proofs.HeldLemmas.{current_is, is_current}
 use Rattle.ug_rules.proofs.WorkLemmas.{state_here, state_there}
 use Rattle.ug_world.specs.Honest.{IsBoxOfHand}
 
--- an order to work on the ticket's node was queued
+-- an order to work on the ticket's node is among these
 pub record IsTold (orders : List Told) (c : Current) : Type 0 where
   pub rank : ℕ
   pub params : Params
@@ -39,10 +39,10 @@ pub record IsKnown (root : List Interval) (sent : List Report) (orders : List To
   pub told : IsTold orders c
   pub taken : (i : ℕ) → i < length c.taken → IsBoxOfHand root sent c.ticket i (box_at c.taken i)
 
--- of each current ticket
-pub record AreKnown (b : BookState) (sent : List Report) : Type 0 where
+-- of each current ticket, by the orders that were told and those that wait
+pub record AreKnown (past : List Told) (b : BookState) (sent : List Report) : Type 0 where
   pub each : (q : ℕ) (c : Current) → current_of b.raced (state_at b.ranks q) ≡ Some c
-      → IsKnown (root_of b.problem) sent b.orders c
+      → IsKnown (root_of b.problem) sent (past ++ b.orders) c
 
 -- each order of the first list is one of the second
 abbrev pub AreAmong : List Told → List Told → Type 0
@@ -50,6 +50,14 @@ AreAmong old new = (t : Told) → Contains old t → Contains new t
 
 pub among_more : (orders more : List Told) → AreAmong orders (orders ++ more)
 among_more orders more t h = Contains-append_left orders more t h
+
+-- and those that were told stay so
+pub among_behind : (past old new : List Told) → AreAmong old new
+    → AreAmong (past ++ old) (past ++ new)
+among_behind past old new among t h = elim (Contains-append_cases past old t h) [
+  | inl there ↦ Contains-append_left past new t there
+  | inr there ↦ Contains-append_right past new t (among t there)
+]
 
 pub known_later : (root : List Interval) (sent : List Report) (old new : List Told) (c : Current)
     → AreAmong old new → IsKnown root sent old c → IsKnown root sent new c
@@ -75,9 +83,9 @@ box_sent root sent more c i t = record {
   box = t.box;
 }
 
-pub known_sent : (b : BookState) (sent more : List Report) → AreKnown b sent
-    → AreKnown b (sent ++ more)
-known_sent b sent more k = record {
+pub known_sent : (past : List Told) (b : BookState) (sent more : List Report)
+    → AreKnown past b sent → AreKnown past b (sent ++ more)
+known_sent past b sent more k = record {
   each = λ q c h.
       let t = k.each q c h in
       record {
@@ -87,21 +95,21 @@ known_sent b sent more k = record {
 }
 
 -- an event keeps the problem and the settings, and what is known
-pub record Carries (sent : List Report) (old new : BookState) : Type 0 where
+pub record Carries (past : List Told) (sent : List Report) (old new : BookState) : Type 0 where
   pub problem : new.problem ≡ old.problem
   pub settings : new.settings ≡ old.settings
-  pub known : AreKnown old sent → AreKnown new sent
+  pub known : AreKnown past old sent → AreKnown past new sent
 
-pub carries_both : (sent : List Report) (a b c : BookState) → Carries sent a b → Carries sent b c
-    → Carries sent a c
-carries_both sent a b c f g = record {
+pub carries_both : (past : List Told) (sent : List Report) (a b c : BookState) → Carries past sent a b → Carries past sent b c
+    → Carries past sent a c
+carries_both past sent a b c f g = record {
   problem = g.problem ∙ f.problem;
   settings = g.settings ∙ f.settings;
   known = λ k. g.known (f.known k);
 }
 
-pub carries_itself : (sent : List Report) (b : BookState) → Carries sent b b
-carries_itself sent b = record { problem = refl; settings = refl; known = λ k. k }
+pub carries_itself : (past : List Told) (sent : List Report) (b : BookState) → Carries past sent b b
+carries_itself past sent b = record { problem = refl; settings = refl; known = λ k. k }
 
 -- what is current was so before
 abbrev pub AreFewer : BookState → BookState → Type 0
@@ -109,15 +117,16 @@ AreFewer old new =
     (q : ℕ) (c : Current) → current_of new.raced (state_at new.ranks q) ≡ Some c
     → current_of old.raced (state_at old.ranks q) ≡ Some c
 
-pub fewer_carried : (sent : List Report) (old new : BookState) → new.problem ≡ old.problem
+pub fewer_carried : (past : List Told) (sent : List Report) (old new : BookState) → new.problem ≡ old.problem
     → new.settings ≡ old.settings → AreAmong old.orders new.orders → AreFewer old new
-    → Carries sent old new
-fewer_carried sent old new problem settings among fewer = record {
+    → Carries past sent old new
+fewer_carried past sent old new problem settings among fewer = record {
   problem = problem;
   settings = settings;
   known = λ k. record {
-    each = λ q c h. subst (λ (p : Instance). IsKnown (root_of p) sent new.orders c) (sym problem)
-        (known_later (root_of old.problem) sent old.orders new.orders c among
+    each = λ q c h. subst (λ (p : Instance). IsKnown (root_of p) sent (past ++ new.orders) c) (sym problem)
+        (known_later (root_of old.problem) sent (past ++ old.orders) (past ++ new.orders) c
+        (among_behind past old.orders new.orders among)
         (k.each q c (fewer q c h)));
   };
 }

@@ -1,21 +1,21 @@
 -- A schedule that is played is a course of the rules.
-use Rattle.std.proofs.Common.{◌≡◌, ◌≢◌, ℕ, zero, suc, ◌+◌, ◌<◌, ◌≤◌, List, [], ◌∷◌, ◌++◌, length, take, refl, ap, sym, ◌∙◌, subst, arith}
+use Rattle.std.proofs.Common.{◌≡◌, ℕ, zero, suc, ◌+◌, ◌<◌, ◌≤◌, List, [], ◌∷◌, ◌++◌, length, take, refl, ap, sym, ◌∙◌, subst, arith}
 use Rattle.std.specs.Prelude.{Some, slice_get}
 use Rattle.std.proofs.lemmas.List.{append-nil, append_assoc, length-append}
 use Rattle.std.proofs.lemmas.Option.{none-some, same_Some, slice_get_past, slice_get_within}
 use Rattle.ug_frames.specs.declared.report.Report.{Report}
 use Rattle.ug_rules.specs.State.{BookState}
 use Rattle.ug_rules.specs.declared.heard.Heard.{Heard}
-use Rattle.ug_rules.specs.declared.heard.Heard.TheVariants.{Memory as NoMemory}
+use Rattle.ug_rules.specs.declared.told.Told.{Told}
 use Rattle.ug_rules.specs.Hearing.{IsDue, after_hearing}
 use Rattle.ug_rules.specs.HearingLaws.{HasRisingChanges}
 use Rattle.ug_world.specs.declared.event.Event.{Event}
-use Rattle.ug_world.specs.declared.event.Event.TheVariants.{Send, Hear, Join, Gone, Decide}
+use Rattle.ug_world.specs.declared.event.Event.TheVariants.{Send, Hear, Join, Gone, Decide, Tell}
 use Rattle.ug_world.specs.declared.playing.Halt.{Halt}
 use Rattle.ug_world.specs.declared.playing.Halt.TheVariants.{NoSuch, Memory}
 use Rattle.ug_world.specs.declared.schedule.Played.{Played}
 use Rattle.ug_world.specs.Events.{IsMissing, report_of, sent_by}
-use Rattle.ug_world.specs.Worlds.{Happens, IsCourse, IsHeard, World, end_of, opening}
+use Rattle.ug_world.specs.Worlds.{Happens, IsCourse, IsHeard, World, end_of, opening, told_first}
 use Rattle.ug_world.specs.Plays.{AreAllThere, IsAfter, IsLeftBy, IsPlayed, IsStopped}
 use Rattle.ug_world.specs.Halts.{IsHalted, fault_of}
 
@@ -54,6 +54,11 @@ under_way_more b old new events event t h wide = record {
 
 -- ---- what was sent
 
+told_sends : (orders : List Told) (old : World)
+    → (told_first orders old).sent ≡ old.sent ++ []
+told_sends [] old = sym (append-nil old.sent)
+told_sends (first ∷ rest) old = sym (append-nil old.sent)
+
 sends : (old new : World) (event : Event) → Happens old event new
     → new.sent ≡ old.sent ++ report_of event
 sends old new (Send report) e = ap (λ (w : World). w.sent) e
@@ -62,6 +67,7 @@ sends old new (Hear place rank) t =
 sends old new (Join rank) e = ap (λ (w : World). w.sent) e ∙ sym (append-nil old.sent)
 sends old new (Gone rank) e = ap (λ (w : World). w.sent) e ∙ sym (append-nil old.sent)
 sends old new Decide t = ap (λ (w : World). w.sent) t.rest ∙ sym (append-nil old.sent)
+sends old new Tell e = ap (λ (w : World). w.sent) e ∙ told_sends old.book.orders old
 
 pub sent_so : (old : World) (events : List Event) (course : List World)
     → IsCourse old events course → (end_of old course).sent ≡ old.sent ++ sent_by events
@@ -177,16 +183,15 @@ module _ (b : BookState) (events : List Event) (done : ℕ) (world : World)
 pub heard_so : (old : World) (place rank : ℕ) (report : Report) (answer : Heard)
     (book : BookState) (replies : List Heard)
     → slice_get old.sent place ≡ Some report → HasRisingChanges report
-    → IsDue old.book rank report answer → answer ≢ NoMemory
+    → IsDue old.book rank report answer
     → book ≡ after_hearing answer rank report old.book → replies ≡ old.replies ++ answer ∷ []
     → IsHeard old place rank (record old { book = book; replies = replies })
-heard_so old place rank report answer book replies there rising due enough is are = record {
+heard_so old place rank report answer book replies there rising due is are = record {
   report = report;
   answer = answer;
   there = there;
   rising = rising;
   due = due;
-  enough = enough;
   done = ap (λ (b : BookState). record old { book = b; replies = replies }) is
       ∙ ap (λ (all : List Heard). record old {
         book = after_hearing answer rank report old.book;

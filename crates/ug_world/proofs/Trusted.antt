@@ -1,5 +1,5 @@
 -- What honest solvers tell of a Done is true.
-use Rattle.std.proofs.Common.{◌≡◌, inl, inr, ℕ, ℤ, zero, suc, ◌<◌, List, [], ◌∷◌, length, refl, sym, subst, arith}
+use Rattle.std.proofs.Common.{◌≡◌, inl, inr, ℕ, ℤ, zero, suc, ◌<◌, List, [], ◌∷◌, ◌++◌, length, refl, sym, subst, arith}
 use Rattle.std.specs.Prelude.{Contains, Option}
 use Rattle.ug_rows.specs.declared.area.Interval.{Interval}
 use Rattle.ug_rows.specs.Boxes.{IsInOne, IsInside, box_at}
@@ -12,6 +12,7 @@ use Rattle.ug_frames.specs.declared.report.Report.TheVariants.{Ready, Solution, 
 use Rattle.ug_ledger.specs.Ledgers.{Current}
 use Rattle.ug_ledger.specs.Dones.{IsTrueDone}
 use Rattle.ug_ledger.proofs.FactLemmas.{none_current}
+use Rattle.ug_rules.specs.declared.told.Told.{Told}
 use Rattle.ug_rules.specs.State.{BookState, ledger_of}
 use Rattle.ug_rules.specs.Books.{IsBook}
 use Rattle.ug_rules.specs.HearingLaws.{IsTrueReport}
@@ -27,19 +28,21 @@ in_one (area ∷ boxes) zero x l inside = inl inside
 in_one (area ∷ boxes) (suc i) x l inside = inr (in_one boxes i x (omega (arith, l)) inside)
 
 -- a Done under a current ticket, whose count is that of the hands taken
-done_true : (b : BookState) (sent : List Report) (c : Current) (told : Option ℤ) (count : ℕ)
-    (ending : Ending) → AreHonest b.problem (IsGivenWith b) sent → IsKnown (root_of b.problem) sent b.orders c
+done_true : (past : List Told) (b : BookState) (sent : List Report) (c : Current)
+    (told : Option ℤ) (count : ℕ) (ending : Ending)
+    → AreHonest b.problem (IsGivenWith b.problem (past ++ b.orders)) sent
+    → IsKnown (root_of b.problem) sent (past ++ b.orders) c
     → Contains sent (Done c.ticket told count ending) → count ≡ length c.taken
     → IsTrueDone b.problem b.settings.gap b.best told c
-done_true b sent c told count ending honest known among all x better good inside =
+done_true past b sent c told count ending honest known among all x better good inside =
     let area = box_of (root_of b.problem) c.node in
-    let given : IsGivenWith b c.ticket area = record {
+    let given : IsGivenWith b.problem (past ++ b.orders) c.ticket area = record {
       rank = known.told.rank;
       params = known.told.params;
       race = known.told.race;
       cutoff = known.told.cutoff;
       changes = c.node.changes;
-      queued = known.told.queued;
+      among = known.told.queued;
       box = refl;
     } in
     let t = honest.dones c.ticket told count ending among area given x inside good in
@@ -52,16 +55,17 @@ done_true b sent c told count ending honest known among all x better good inside
 abbrev pub AreTrue : BookState → List Report → Type 0
 AreTrue b sent = (r : ℕ) (report : Report) → Contains sent report → IsTrueReport b r report
 
-pub honest_true : (b : BookState) (sent : List Report) → AreHonest b.problem (IsGivenWith b) sent
-    → AreKnown b sent → AreTrue b sent
-honest_true b sent honest known r Ready among = tt
-honest_true b sent honest known r (Solution ticket x) among = tt
-honest_true b sent honest known r (Hand ticket number changes) among = tt
-honest_true b sent honest known r (Reported ticket count floor) among = tt
-honest_true b sent honest known r (Done ticket told count ending) among = λ c h same all.
-    done_true b sent c told count ending honest (known.each r c (current_is b r c h))
+pub honest_true : (past : List Told) (b : BookState) (sent : List Report)
+    → AreHonest b.problem (IsGivenWith b.problem (past ++ b.orders)) sent
+    → AreKnown past b sent → AreTrue b sent
+honest_true past b sent honest known r Ready among = tt
+honest_true past b sent honest known r (Solution ticket x) among = tt
+honest_true past b sent honest known r (Hand ticket number changes) among = tt
+honest_true past b sent honest known r (Reported ticket count floor) among = tt
+honest_true past b sent honest known r (Done ticket told count ending) among = λ c h same all.
+    done_true past b sent c told count ending honest (known.each r c (current_is b r c h))
     (subst (λ (t : Ticket). Contains sent (Done t told count ending)) (sym same) among) all
-honest_true b sent honest known r Ended among = tt
+honest_true past b sent honest known r Ended among = tt
 
 -- while no ticket was given there is nothing to be true of
 pub unused_true : (b : BookState) (sent : List Report) → IsBook b → b.last ≡ 0 → AreTrue b sent

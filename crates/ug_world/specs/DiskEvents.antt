@@ -3,7 +3,7 @@ use Rattle.std.specs.Prelude.{ℕ, Option, None, Some}
 use Rattle.ug_rules.specs.Books.{AreSettings}
 use Rattle.ug_rules.specs.Hearing.{IsHearable}
 use Rattle.ug_world.specs.declared.event.Event.{Event}
-use Rattle.ug_world.specs.declared.event.Event.TheVariants.{Send, Hear, Join, Gone, Decide}
+use Rattle.ug_world.specs.declared.event.Event.TheVariants.{Send, Hear, Join, Gone, Decide, Tell}
 use Rattle.ug_world.specs.declared.disk_event.DiskEvent.{DiskEvent}
 use Rattle.ug_world.specs.declared.disk_event.DiskEvent.TheVariants.{World as InWorld, Note, Save}
 use Rattle.ug_world.specs.declared.disk_event.DiskEvent.TheVariants.{Crash, Stop}
@@ -22,6 +22,7 @@ IsSendable (Hear place rank) = Unit {0}
 IsSendable (Join rank) = Unit {0}
 IsSendable (Gone rank) = Unit {0}
 IsSendable Decide = Unit {0}
+IsSendable Tell = Unit {0}
 
 -- what is sent may be heard, and the settings of a restart are such
 abbrev pub IsDiskEvent : DiskEvent → Type 0

@@ -55,8 +55,7 @@ IsStill old new (Refused fault) = (old.refused ≡ Some fault) × (new ≡ old)
 IsStill old new Memory = new ≡ old
 IsStill old new halted = ⊥
 
--- why nothing happens between the coordinator and its solvers; where memory ended a decision some
--- steps of it stand
+-- why nothing happens between the coordinator and its solvers
 abbrev pub IsOutOfWorld : Event → DiskWorld → DiskWorld → Halted → Type 0
 IsOutOfWorld event old new (NoSuch place) = IsPast old.world event place × (new ≡ old)
 IsOutOfWorld event old new (NoRank rank) =

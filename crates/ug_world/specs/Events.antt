@@ -4,7 +4,7 @@ use Rattle.std.specs.Prelude.{slice_get}
 use Rattle.ug_frames.specs.declared.report.Report.{Report}
 use Rattle.ug_rules.specs.Hearing.{IsHearable}
 use Rattle.ug_world.specs.declared.event.Event.{Event}
-use Rattle.ug_world.specs.declared.event.Event.TheVariants.{Send, Hear, Join, Gone, Decide}
+use Rattle.ug_world.specs.declared.event.Event.TheVariants.{Send, Hear, Join, Gone, Decide, Tell}
 
 -- an event of a world with so many ranks: its rank is there, and a State that is sent tells of an
 -- open node
@@ -14,6 +14,7 @@ IsEvent ranks (Hear place rank) = rank < ranks
 IsEvent ranks (Join rank) = rank < ranks
 IsEvent ranks (Gone rank) = rank < ranks
 IsEvent ranks Decide = Unit {0}
+IsEvent ranks Tell = Unit {0}
 
 -- what an event sends
 abbrev pub report_of : Event → List Report

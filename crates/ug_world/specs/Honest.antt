@@ -1,5 +1,5 @@
 -- When solvers are honest: what they may be trusted with, and nothing more.
-use Rattle.std.specs.Prelude.{◌≡◌, ℕ, ℤ, ◌<◌, Bool, List, Contains, Option}
+use Rattle.std.specs.Prelude.{◌≡◌, ℕ, ℤ, ◌<◌, Bool, List, ◌++◌, Contains, Option}
 use Rattle.ug_rows.specs.declared.area.Interval.{Interval}
 use Rattle.ug_rows.specs.Boxes.{IsInside}
 use Rattle.ug_branch.specs.declared.params.Params.{Params}
@@ -12,19 +12,20 @@ use Rattle.ug_frames.specs.declared.order.Order.TheVariants.{Work as WorkOrder}
 use Rattle.ug_frames.specs.declared.report.Ending.{Ending}
 use Rattle.ug_frames.specs.declared.report.Report.{Report}
 use Rattle.ug_frames.specs.declared.report.Report.TheVariants.{Hand, Done}
-use Rattle.ug_rules.specs.State.{BookState}
+use Rattle.ug_rules.specs.declared.told.Told.{Told}
 use Rattle.ug_world.specs.Worlds.{World}
 
--- the ticket was given with this box: that of an order to work on it, which was queued
-pub record IsGivenWith (b : BookState) (ticket : Ticket) (area : List Interval) : Type 0 where
+-- the ticket was given with this box: that of an order to work on it, which is among these
+pub record IsGivenWith (p : Instance) (orders : List Told) (ticket : Ticket)
+    (area : List Interval) : Type 0 where
   pub rank : ℕ
   pub params : Params
   pub race : Bool
   pub cutoff : Option ℤ
   pub changes : List Change
-  pub queued : Contains b.orders
+  pub among : Contains orders
       (record { rank = rank; order = WorkOrder ticket params race cutoff changes })
-  pub box : area ≡ area_by (root_of b.problem) changes
+  pub box : area ≡ area_by (root_of p) changes
 
 -- a hand with this number, under the ticket, was sent and spells this box; one whose changes are
 -- none of a box below the root has no box
@@ -58,6 +59,6 @@ pub record AreHonest (p : Instance) (Given : Ticket → List Interval → Type 0
       → (x : List ℤ) → IsInside area x → IsGood p cutoff x
       → IsInHands (root_of p) sent ticket count x
 
--- so far all that solvers sent is honest
+-- so far all that solvers sent is honest, of the tickets in orders that were told or wait
 abbrev pub IsHonest : World → Type 0
-IsHonest w = AreHonest w.book.problem (IsGivenWith w.book) w.sent
+IsHonest w = AreHonest w.book.problem (IsGivenWith w.book.problem (w.told ++ w.book.orders)) w.sent

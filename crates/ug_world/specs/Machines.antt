@@ -84,13 +84,14 @@ pub record IsSavedOrNot (old new : DiskWorld) : Type 0 where
   pub goes_on : old.refused ≡ None
   pub saves : SavesWhat old.noted old new
 
--- a run goes on from an image that recovery finds, once an image of its book is acknowledged
+-- a run goes on from an image that recovery finds, once an image of its book is acknowledged; no
+-- order of it was told yet
 pub record HasGoneOn (settings : Settings) (old new : DiskWorld) : Type 0 where
   pub book : IsGoneOn old.world.book.problem settings (Some old.told) new.world.book
   pub is : IsBook new.world.book
   pub acknowledged : IsAcknowledgedStart (Some new.told) new.world.book new.saver
   pub rest : new ≡ record {
-    world = record old.world { book = new.world.book };
+    world = record old.world { book = new.world.book; told = [] };
     saver = new.saver;
     noted = None;
     refused = None;

@@ -2,9 +2,8 @@
 use Rattle.std.specs.Prelude.{◌≡◌, ℕ, ◌<◌, List, [], length, take, All, Option, Some, None, Result}
 use Rattle.std.specs.Prelude.{Ok, Err, slice_get}
 use Rattle.ug_rules.specs.State.{BookState}
-use Rattle.ug_rules.specs.Deciding.{Stands}
 use Rattle.ug_world.specs.declared.event.Event.{Event}
-use Rattle.ug_world.specs.declared.event.Event.TheVariants.{Send, Hear, Join, Gone, Decide}
+use Rattle.ug_world.specs.declared.event.Event.TheVariants.{Send, Hear, Join, Gone, Decide, Tell}
 use Rattle.ug_world.specs.declared.schedule.Played.{Played}
 use Rattle.ug_world.specs.declared.schedule.PlayFault.{PlayFault}
 use Rattle.ug_world.specs.declared.schedule.PlayFault.TheVariants.{NoSuch, Memory}
@@ -13,15 +12,17 @@ use Rattle.ug_world.specs.Worlds.{IsCourse, World, end_of, opening}
 use Rattle.ug_world.specs.Honest.{IsHonest}
 use Rattle.ug_world.specs.Laws.{LosesNothing}
 
--- what stands of the next event, where there is one: so many steps of a decision that memory ended,
--- and nothing where a report is not sent or not heard; no rank fails to join or to die
+-- what stands of the next event, where there is one: nothing where a report is not sent or not
+-- heard, or an order not told; no rank fails to join or to die, and no decision fails to be made, as
+-- far as memory goes
 abbrev pub IsLeftBy : Option Event → BookState → BookState → Type 0
 IsLeftBy None old new = new ≡ old
 IsLeftBy (Some (Send report)) old new = new ≡ old
 IsLeftBy (Some (Hear place rank)) old new = new ≡ old
 IsLeftBy (Some (Join rank)) old new = ⊥
 IsLeftBy (Some (Gone rank)) old new = ⊥
-IsLeftBy (Some Decide) old new = (steps : ℕ) × Stands steps old new
+IsLeftBy (Some Decide) old new = ⊥
+IsLeftBy (Some Tell) old new = new ≡ old
 
 -- so many of the events happened to the book, with nothing sent earlier, and this is what stands
 pub record IsAfter (b : BookState) (events : List Event) (done : ℕ) (course : List World)

@@ -1,47 +1,59 @@
 -- What is so between two events, and what an event does: the rules of the coordinator, and the list
 -- of what was sent.
-use Rattle.std.specs.Prelude.{◌≡◌, ◌≢◌, ℕ, List, [], ◌∷◌, ◌++◌, Some, slice_get}
+use Rattle.std.specs.Prelude.{◌≡◌, ◌⊎◌, ℕ, List, [], ◌∷◌, ◌++◌, Some, slice_get}
 use Rattle.ug_frames.specs.declared.report.Report.{Report}
 use Rattle.ug_frames.specs.declared.report.Report.TheVariants.{Ready}
 use Rattle.ug_rules.specs.declared.heard.Heard.{Heard}
-use Rattle.ug_rules.specs.declared.heard.Heard.TheVariants.{Memory}
+use Rattle.ug_rules.specs.declared.told.Told.{Told}
 use Rattle.ug_rules.specs.State.{BookState}
 use Rattle.ug_rules.specs.Deaths.{killed}
-use Rattle.ug_rules.specs.Deciding.{IsDecided}
+use Rattle.ug_rules.specs.Deciding.{IsDecided, Stands}
 use Rattle.ug_rules.specs.Hearing.{IsDue, after_hearing, kept}
 use Rattle.ug_rules.specs.HearingLaws.{HasRisingChanges}
 use Rattle.ug_world.specs.declared.event.Event.{Event}
-use Rattle.ug_world.specs.declared.event.Event.TheVariants.{Send, Hear, Join, Gone, Decide}
+use Rattle.ug_world.specs.declared.event.Event.TheVariants.{Send, Hear, Join, Gone, Decide, Tell}
 
--- the book, the reports that were sent, and what those that were heard were answered, each with the
--- earliest first
+-- the book, the orders of its run that were told, the reports that were sent, and what those that
+-- were heard were answered, each with the earliest first
 pub record World : Type 0 where
   pub book : BookState
+  pub told : List Told
   pub sent : List Report
   pub replies : List Heard
 
 -- before the first event: these reports were sent earlier, as those of earlier runs
 abbrev pub opening : BookState → List Report → World
-opening b earlier = record { book = b; sent = earlier; replies = [] }
+opening b earlier = record { book = b; told = []; sent = earlier; replies = [] }
 
 -- the report at this place, whose changes rise as their type has it, is heard from a rank and gets
--- the answer that is due, which is not that memory ran out; it stays among those that were sent
+-- the answer that is due, which may be that memory ran out for a hand; it stays among those that
+-- were sent
 pub record IsHeard (old : World) (place rank : ℕ) (new : World) : Type 0 where
   pub report : Report
   pub answer : Heard
   pub there : slice_get old.sent place ≡ Some report
   pub rising : HasRisingChanges report
   pub due : IsDue old.book rank report answer
-  pub enough : answer ≢ Memory
   pub done : new ≡ record old {
     book = after_hearing answer rank report old.book;
     replies = old.replies ++ answer ∷ [];
   }
 
--- the coordinator decides
+-- memory ended a decision, and so many steps of it stand
+pub record IsCutShort (old new : BookState) : Type 0 where
+  pub steps : ℕ
+  pub stands : Stands steps old new
+
+-- the coordinator decides, or some steps of that stand
 pub record HasDecided (old new : World) : Type 0 where
-  pub decided : IsDecided old.book new.book
+  pub decided : IsDecided old.book new.book ⊎ IsCutShort old.book new.book
   pub rest : new ≡ record old { book = new.book }
+
+-- the earliest of the orders that wait, if one does, is told: it leaves the queue
+abbrev pub told_first : List Told → World → World
+told_first [] w = w
+told_first (first ∷ rest) w =
+    record w { book = record w.book { orders = rest }; told = w.told ++ first ∷ [] }
 
 -- what an event does. A rank that joins does what one does whose Ready is kept
 abbrev pub Happens : World → Event → World → Type 0
@@ -50,6 +62,7 @@ Happens old (Hear place rank) new = IsHeard old place rank new
 Happens old (Join rank) new = new ≡ record old { book = kept rank Ready old.book }
 Happens old (Gone rank) new = new ≡ record old { book = killed rank old.book }
 Happens old Decide new = HasDecided old new
+Happens old Tell new = new ≡ told_first old.book.orders old
 
 -- the worlds after each of the events, one after another
 abbrev pub IsCourse : World → List Event → List World → Type 0

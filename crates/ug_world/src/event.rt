@@ -12,6 +12,8 @@ pub enum Event {
     Join { rank: u32 },
     /// A rank is taken for dead, rightly or not.
     Gone { rank: u32 },
-    /// The coordinator decides.
+    /// The coordinator decides, as far as memory goes.
     Decide,
+    /// The earliest order that waits is told, and leaves the queue. Where none waits nothing happens.
+    Tell,
 }

@@ -75,8 +75,7 @@ impl Machine {
         (book, saver, disk, replies)
     }
 
-    /// An event happens. After an error nothing has changed but that some steps of a decision may
-    /// stand.
+    /// An event happens. After an error nothing has changed.
     pub fn happen(&mut self, event: &DiskEvent) -> Result<(), Halted>
         requires event { IsDiskEvent event.now }
         requires able { IsAble (world_of self.old) }

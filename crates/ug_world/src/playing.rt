@@ -16,7 +16,7 @@ use std::marker::Model;
 use std::mem;
 use ug_book::Book;
 use ug_frames::Report;
-use ug_rules::Heard;
+use ug_rules::{Heard, Told};
 
 /// Why an event did not happen.
 #[derive(Clone, Copy)]
@@ -42,10 +42,12 @@ impl<T: Drop> From<AllocFailed<T>> for Halt {
     }
 }
 
-/// A schedule that is played: the book, what was sent, and what those heard were answered.
+/// A schedule that is played: the book, which of its orders were told, what was sent, and what those
+/// heard were answered.
 #[derive(Drop)]
 pub struct Playing {
     book: Book,
+    told: Vec<Told>,
     sent: Vec<Report>,
     replies: Vec<Heard>,
 }
@@ -59,6 +61,7 @@ impl Model for Playing {
 
     ghost view = { λ playing. record {
       book = playing.book;
+      told = playing.told.items;
       sent = playing.sent.items;
       replies = playing.replies.items;
     } };
@@ -76,6 +79,7 @@ impl Playing {
         let _problem = book.problem();
         Playing {
             book,
+            told: Vec::new(alloc),
             sent: Vec::new(alloc),
             replies: Vec::new(alloc),
         }
@@ -88,14 +92,16 @@ impl Playing {
         &self.book
     }
 
-    /// Another book takes the place of this one, as after a restart. What was sent stays sent.
+    /// Another book takes the place of this one, as after a restart. What was sent stays sent; no
+    /// order of the other was told.
     pub fn replace(&mut self, book: Book)
-        ensures value { self.new ≡ record self.old { book = book } }
+        ensures value { self.new ≡ record self.old { book = book; told = [] } }
         ensures book { IsBook book }
     {
         // The problem tells that the book is one.
         let _lent = book.problem();
         drop(mem::replace(&mut self.book, book));
+        self.told.clear();
     }
 
     /// The book and the replies.
@@ -105,15 +111,16 @@ impl Playing {
     {
         let Playing {
             book,
+            told,
             sent,
             replies,
         } = self;
+        drop(told);
         drop(sent);
         (book, replies)
     }
 
-    /// An event happens. After an error nothing has changed but that some steps of a decision may
-    /// stand.
+    /// An event happens. After an error nothing has changed.
     pub fn happen(&mut self, event: &Event) -> Result<(), Halt>
         requires { IsEvent (length self.old.book.ranks) event.now }
         ensures happened { OnOk result (Happens self.old event.now self.new) }
@@ -132,7 +139,11 @@ impl Playing {
                 self.book.gone(*rank);
                 Ok(())
             }
-            Event::Decide => self.decide(),
+            Event::Decide => {
+                self.decide();
+                Ok(())
+            }
+            Event::Tell => self.tell(),
         }
     }
 
@@ -160,22 +171,29 @@ impl Playing {
         self.replies.reserve(1)?;
         let report = copy_of(&self.sent, place)?;
         let answer = self.book.hear(rank, report);
-        if answer == Heard::Memory {
-            return Err(Halt::Memory);
-        }
         self.replies.push(answer)?;
         Ok(())
     }
 
-    // The coordinator decides.
-    fn decide(&mut self) -> Result<(), Halt>
-        ensures decided { OnOk result (HasDecided self.old self.new) }
-        ensures halted { IfErr result (IsHalted self.old Event.Decide self.new) }
+    // The coordinator decides, as far as memory goes.
+    fn decide(&mut self)
+        ensures decided { HasDecided self.old self.new }
         ensures wide { length self.new.book.ranks ≡ length self.old.book.ranks }
         ensures same { IsSameRun self.old.book self.new.book }
     {
-        if let Err(_unfinished) = self.book.decide() {
-            return Err(Halt::Memory);
+        let _ = self.book.decide();
+    }
+
+    // The earliest order that waits is told.
+    fn tell(&mut self) -> Result<(), Halt>
+        ensures told { OnOk result (Happens self.old Event.Tell self.new) }
+        ensures err { IfErr result (λ halt. (halt ≡ Memory) × (self.new ≡ self.old)) }
+        ensures wide { length self.new.book.ranks ≡ length self.old.book.ranks }
+        ensures same { IsSameRun self.old.book self.new.book }
+    {
+        self.told.reserve(1)?;
+        if let Some(told) = self.book.next_order() {
+            self.told.push(told)?;
         }
         Ok(())
     }

@@ -19,6 +19,6 @@ pub fn check_rank(event: &Event, ranks: u32) -> Result<(), Halted>
             }
             Ok(())
         }
-        Event::Send { .. } | Event::Decide => Ok(()),
+        Event::Send { .. } | Event::Decide | Event::Tell => Ok(()),
     }
 }
