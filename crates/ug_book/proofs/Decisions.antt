@@ -27,13 +27,6 @@ fewer_below value es = omega (
       (λ (entry : Entry). not (int_lt entry.floor value)) (λ entry. refl) es,
 )
 
--- a step that changed nothing
-pub same_desk : (b : BookState) (ranks other : List State) (raced lost : Option Entry)
-    (orders queue : List Told) → other ≡ ranks → lost ≡ raced → queue ≡ orders
-    → record b { ranks = other; raced = lost; orders = queue }
-    ≡ record b { ranks = ranks; raced = raced; orders = orders }
-same_desk b ranks other raced lost orders queue e f g = cc
-
 -- some of the ranks are no more than all
 few_that : (test : State → Bool) (r : ℕ) (ss : List State)
     → length (of_ranks (rank_if test) r ss) ≤ length ss

@@ -4,7 +4,7 @@ use Rattle.ug_rows.specs.Sums.{box_floor}
 use Rattle.ug_problem.specs.Instances.{root_of}
 use Rattle.ug_rules.specs.State.{BookState}
 use Rattle.ug_rules.specs.Books.{IsBook}
-use Rattle.ug_stock.specs.Parts.{HasRoom, parts_of}
+use Rattle.ug_stock.specs.Stocks.{HasRoom}
 use Rattle.ug_book.specs.declared.book.Book.TheInside.{Inside}
 
 -- what the fields of a book say
@@ -14,13 +14,13 @@ state_of b = record {
   run = b.run;
   settings = b.settings;
   best = b.best;
-  pool = b.pool.entries;
-  ranks = b.ranks;
-  raced = b.raced;
-  last = b.last;
-  orders = b.orders.orders;
+  pool = b.stock.pool.entries;
+  ranks = b.stock.ranks;
+  raced = b.stock.raced;
+  last = b.stock.last;
+  orders = b.stock.orders.orders;
   heard = b.heard;
-  announced = b.announced;
+  announced = b.stock.announced;
 }
 
 -- the fields are those of a book, and there is room for each node that may go back to the pool, and
@@ -28,7 +28,7 @@ state_of b = record {
 pub record IsRoomy (b : Inside) : Type 0 where
   pub book : IsBook (state_of b)
   pub floor : b.floor ≡ box_floor b.problem.objective (root_of b.problem)
-  pub room : HasRoom (parts_of b.pool b.ranks b.raced b.orders)
+  pub room : HasRoom b.stock
 
 -- what no call changes: the problem, the run, the settings, and how many ranks there are
 pub record IsSameRun (old new : BookState) : Type 0 where

@@ -1,11 +1,9 @@
 use crate::best::Best;
 use std::alloc::Global;
 use std::marker::Model;
-use ug_pool::{Entry, Pool};
 use ug_problem::Shared;
-use ug_ranks::Ranks;
 use ug_rules::Settings;
-use ug_stock::Queue;
+use ug_stock::Stock;
 
 /// What a coordinator holds and knows.
 #[derive(Drop)]
@@ -17,13 +15,8 @@ pub struct Book {
     pub(crate) run: u64,
     pub(crate) settings: Settings,
     pub(crate) best: Best,
-    pub(crate) pool: Pool,
-    pub(crate) ranks: Ranks,
-    pub(crate) raced: Option<Entry>,
-    pub(crate) last: u64,
-    pub(crate) orders: Queue,
+    pub(crate) stock: Stock,
     pub(crate) heard: u64,
-    pub(crate) announced: Option<i128>,
 }
 
 impl Model for Book {

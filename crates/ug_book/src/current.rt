@@ -29,7 +29,7 @@ impl Book {
             (ticket_at (state_at self.now.ranks rank) ≡ None)
             (IsCurrentAt (state_at self.now.ranks rank) self.now.raced) }
     {
-        current_at(self.ranks.state(rank), &self.raced)
+        current_at(self.stock.ranks.state(rank), &self.stock.raced)
     }
 
     /// The boxes of the hands that were taken under the ticket of a rank, in order; none where it
@@ -38,7 +38,7 @@ impl Book {
         requires { rank < length self.now.ranks }
         ensures { result.now ≡ taken_at (state_at self.now.ranks rank) }
     {
-        self.ranks.state(rank).taken()
+        self.stock.ranks.state(rank).taken()
     }
 
     /// How many hands a rank is still asked for; 0 where it is asked for none.
@@ -46,7 +46,7 @@ impl Book {
         requires { rank < length self.now.ranks }
         ensures { result ≡ asked_at (state_at self.now.ranks rank) }
     {
-        self.ranks.state(rank).asked()
+        self.stock.ranks.state(rank).asked()
     }
 }
 

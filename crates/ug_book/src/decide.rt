@@ -35,12 +35,7 @@ impl Book {
             self.run,
             &self.settings,
             cutoff,
-            &mut self.pool,
-            &mut self.ranks,
-            &mut self.raced,
-            &mut self.last,
-            &mut self.orders,
-            &mut self.announced,
+            &mut self.stock,
         )
     }
 }

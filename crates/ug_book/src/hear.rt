@@ -6,17 +6,15 @@ ghost use Rattle.ug_rules.specs.Deaths.{killed};
 ghost use Rattle.ug_rules.specs.Hearing.{IsDue, IsHearable, after_hearing};
 ghost use Rattle.ug_rules.specs.HearingLaws.{IsTrueReport};
 ghost use Rattle.ug_rules.specs.State.{BookState};
-ghost use Rattle.ug_stock.specs.Parts.{HasRoom, parts_of, with_parts};
+ghost use Rattle.ug_stock.specs.Stocks.{HasRoom, with_stock};
 ghost use Rattle.ug_book.specs.Views.{IsSameRun};
 ghost use Rattle.ug_book.specs.Heard.{heard_after, is_deadly, killed_under};
 
 use crate::book::Book;
 use crate::report::take_report;
 use ug_frames::Report;
-use ug_pool::{Entry, Pool};
-use ug_ranks::Ranks;
 use ug_rules::Heard;
-use ug_stock::{Queue, die};
+use ug_stock::Stock;
 
 impl Book {
     /// Hears a report of a rank, and answers what is due. After an answer that is a death the rank
@@ -38,20 +36,13 @@ impl Book {
             self.floor,
             &self.settings,
             &mut self.best,
-            &mut self.pool,
-            &mut self.ranks,
-            &mut self.raced,
+            &mut self.stock.pool,
+            &mut self.stock.ranks,
+            &mut self.stock.raced,
             rank,
             report,
         );
-        end_by(
-            answer,
-            &mut self.ranks,
-            &mut self.pool,
-            &mut self.orders,
-            &mut self.raced,
-            rank,
-        );
+        end_by(answer, &mut self.stock, rank);
         self.heard = heard_after(answer, self.heard);
         answer
     }
@@ -65,7 +56,7 @@ impl Book {
         ensures same { IsSameRun self.old self.new }
         ensures sound { IsSoundBook self.old → IsSoundBook self.new }
     {
-        self.ranks.idle(rank);
+        self.stock.ranks.idle(rank);
     }
 
     /// The rank died, or is taken for dead. It takes no memory.
@@ -75,35 +66,20 @@ impl Book {
         ensures same { IsSameRun self.old self.new }
         ensures sound { IsSoundBook self.old → IsSoundBook self.new }
     {
-        die(
-            &mut self.ranks,
-            &mut self.pool,
-            &mut self.orders,
-            &mut self.raced,
-            rank,
-        );
+        self.stock.die(rank);
     }
 }
 
 // Carries out the death of the rank, if the answer is one.
-fn end_by(
-    answer: Heard,
-    ranks: &mut Ranks,
-    pool: &mut Pool,
-    orders: &mut Queue,
-    raced: &mut Option<Entry>,
-    rank: u32,
-)
-    requires there { rank < length ranks.old }
-    requires room { HasRoom (parts_of pool.old ranks.old raced.old orders.old) }
-    ensures ended { (b : BookState)
-        → with_parts b (parts_of pool.new ranks.new raced.new orders.new)
-        ≡ killed_under answer rank
-        (with_parts b (parts_of pool.old ranks.old raced.old orders.old)) }
-    ensures room { HasRoom (parts_of pool.new ranks.new raced.new orders.new) }
+fn end_by(answer: Heard, stock: &mut Stock, rank: u32)
+    requires there { rank < length stock.old.ranks }
+    requires room { HasRoom stock.old }
+    ensures ended { (b : BookState) → with_stock b stock.new
+        ≡ killed_under answer rank (with_stock b stock.old) }
+    ensures room { HasRoom stock.new }
 {
     if is_deadly(answer) {
-        die(ranks, pool, orders, raced, rank);
+        stock.die(rank);
     }
 }
 

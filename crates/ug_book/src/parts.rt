@@ -1,15 +1,14 @@
 ghost use Rattle.std.specs.Prelude.{◌≡◌, ◌<◌, ◌≤◌, ◌+◌, ◌^◌, length, IfErr, OnOk};
-ghost use Rattle.ug_stock.specs.Parts.{HasRoom, parts_of};
+ghost use Rattle.ug_stock.specs.Stocks.{HasRoom};
 ghost use Rattle.ug_stock.specs.Races.{StandsAlone};
 ghost use Rattle.ug_rules.specs.Deciding.{below_cutoff};
-ghost use Rattle.ug_book.specs.Decisions.{HasDecided, HasStood, desk_of};
+ghost use Rattle.ug_book.specs.Decisions.{HasDecided, HasStood};
 
 use crate::unfinished::Unfinished;
 use std::alloc::Global;
-use ug_pool::{Entry, Pool};
-use ug_ranks::Ranks;
+use ug_pool::Pool;
 use ug_rules::Settings;
-use ug_stock::{Queue, Terms, announce, collect, end_race, give_out};
+use ug_stock::{Stock, Terms};
 
 // Makes the five parts of a decision, in order.
 pub fn make_parts(
@@ -17,31 +16,23 @@ pub fn make_parts(
     run: u64,
     settings: &Settings,
     cutoff: Option<i128>,
-    pool: &mut Pool,
-    ranks: &mut Ranks,
-    raced: &mut Option<Entry>,
-    last: &mut u64,
-    orders: &mut Queue,
-    announced: &mut Option<i128>,
+    stock: &mut Stock,
 ) -> Result<(), Unfinished>
     requires marks { settings.now.low ≤ settings.now.high }
-    requires few { length ranks.old < 2 ^ 32 }
-    requires alone { StandsAlone ranks.old raced.old }
-    requires room { HasRoom (parts_of pool.old ranks.old raced.old orders.old) }
-    ensures decided { OnOk result (HasDecided run settings.now cutoff
-        (desk_of pool.old ranks.old raced.old last.old orders.old announced.old)
-        (desk_of pool.new ranks.new raced.new last.new orders.new announced.new)) }
-    ensures stands { IfErr result (λ e. HasStood run settings.now cutoff
-        (desk_of pool.old ranks.old raced.old last.old orders.old announced.old)
-        (desk_of pool.new ranks.new raced.new last.new orders.new announced.new) e.stood) }
+    requires few { length stock.old.ranks < 2 ^ 32 }
+    requires alone { StandsAlone stock.old.ranks stock.old.raced }
+    requires room { HasRoom stock.old }
+    ensures decided { OnOk result (HasDecided run settings.now cutoff stock.old stock.new) }
+    ensures stands { IfErr result (λ e.
+        HasStood run settings.now cutoff stock.old stock.new e.stood) }
     ensures some { IfErr result (λ e. 0 < e.stood) }
-    ensures room { HasRoom (parts_of pool.new ranks.new raced.new orders.new) }
+    ensures room { HasRoom stock.new }
 {
-    drop_hopeless(pool, cutoff);
-    let Ok(()) = announce(ranks, orders, announced, cutoff) else {
+    drop_hopeless(&mut stock.pool, cutoff);
+    let Ok(()) = stock.announce(cutoff) else {
         return Err(Unfinished { stood: 1 });
     };
-    let Ok(()) = end_race(alloc, settings.winner, ranks, orders, raced) else {
+    let Ok(()) = stock.end_race(alloc, settings.winner) else {
         return Err(Unfinished { stood: 2 });
     };
     let terms = Terms {
@@ -49,10 +40,9 @@ pub fn make_parts(
         racing: settings.racing,
         cutoff,
     };
-    match give_out(alloc, terms, last, ranks, pool, raced, orders) {
+    match stock.give_out(alloc, terms) {
         Ok(given) => {
-            let len = pool.len() as u64;
-            let Ok(()) = collect(alloc, settings.low, settings.high, len, ranks, orders) else {
+            let Ok(()) = stock.collect(alloc, settings.low, settings.high) else {
                 return Err(Unfinished {
                     stood: standing(given),
                 });

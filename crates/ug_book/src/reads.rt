@@ -71,7 +71,7 @@ impl Book {
         requires { rank < length self.now.ranks }
         ensures { result ≡ is_alive (state_at self.now.ranks rank) }
     {
-        self.ranks.state(rank).is_alive()
+        self.stock.ranks.state(rank).is_alive()
     }
 
     /// The earliest order that waits, which leaves.
@@ -81,7 +81,7 @@ impl Book {
             (IsOrderTold self.old self.new) }
         ensures sound { IsSoundBook self.old → IsSoundBook self.new }
     {
-        self.orders.next()
+        self.stock.orders.next()
     }
 
     /// The nodes held, lent: the pool in its order, then those of the ranks, rising, then the one
@@ -89,7 +89,12 @@ impl Book {
     pub fn held(&self) -> Result<Vec<&Node>, AllocError>
         ensures { IfOk result (λ nodes. lent nodes.items ≡ held_nodes self.now) }
     {
-        held_nodes(self.alloc, &self.pool, &self.ranks, &self.raced)
+        held_nodes(
+            self.alloc,
+            &self.stock.pool,
+            &self.stock.ranks,
+            &self.stock.raced,
+        )
     }
 
     /// The nodes held none of whose ancestors is held, lent, in order of name. They have each
@@ -127,6 +132,8 @@ impl Book {
     fn is_empty(&self) -> bool
         ensures { IsTrue result ↔ (held_nodes self.now ≡ []) }
     {
-        self.pool.len() == 0 && self.raced.is_none() && !is_any_working(self.ranks.as_slice())
+        self.stock.pool.len() == 0
+            && self.stock.raced.is_none()
+            && !is_any_working(self.stock.ranks.as_slice())
     }
 }

@@ -18,7 +18,7 @@ use ug_problem::{Problem, Shared};
 use ug_ranks::Ranks;
 use ug_rows::Point;
 use ug_rules::Settings;
-use ug_stock::Queue;
+use ug_stock::{Queue, Stock};
 
 /// Boxes, each as its changes against the root's.
 pub type Boxes = Items<Changes>;
@@ -70,13 +70,15 @@ impl Book {
                 run,
                 settings,
                 best,
-                pool,
-                ranks,
-                raced: None,
-                last: 0,
-                orders: Queue::new(alloc),
+                stock: Stock {
+                    pool,
+                    ranks,
+                    raced: None,
+                    last: 0,
+                    orders: Queue::new(alloc),
+                    announced,
+                },
                 heard: 0,
-                announced,
             }),
             Err(error) => {
                 drop(problem);

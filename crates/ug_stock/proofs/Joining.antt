@@ -6,7 +6,6 @@ use Rattle.std.proofs.lemmas.List.{drop_more, length-append, length-set}
 use Rattle.std.proofs.lemmas.List.Elements.{All-pop}
 use Rattle.ug_nodes.specs.declared.change.Change.{Change}
 use Rattle.ug_pool.specs.declared.entry.Entry.{Entry}
-use Rattle.ug_pool.specs.Pools.{Pooled}
 use Rattle.ug_ranks.specs.declared.state.Racer.{Racer}
 use Rattle.ug_ranks.specs.declared.state.Off.TheVariants.{Died}
 use Rattle.ug_ranks.specs.declared.state.State.{State}
@@ -18,8 +17,9 @@ use Rattle.ug_ranks.specs.Looks.{is_idle}
 use Rattle.ug_rules.specs.Deciding.{raced_by_all}
 use Rattle.ug_rules.proofs.WorkLemmas.{state_there}
 use Rattle.ug_stock.specs.declared.terms.Terms.{Terms}
-use Rattle.ug_stock.specs.Stocks.{AreTermsOf, Stock, with_stock}
-use Rattle.ug_stock.specs.Racing.{HasJoinedRace, HaveJoinedRace}
+use Rattle.ug_stock.specs.declared.stock.Stock.{Stock}
+use Rattle.ug_stock.specs.Stocks.{AreTermsOf, with_stock}
+use Rattle.ug_stock.specs.Racing.{HasJoinedRace, HaveJoinedRace, KeepsPoolAndRace}
 use Rattle.ug_stock.proofs.Places.{none_works}
 
 -- the idle ranks from r on
@@ -64,6 +64,7 @@ pub record Joining (terms : Terms) (first boxes : List (List Change)) (old now :
   pub spare : now.orders.spare + length (ranks_that is_idle old.ranks)
       ≡ old.orders.spare + length (idle_from r old.ranks)
   pub nodes : length (nodes_of now.ranks) ≡ length (nodes_of old.ranks)
+  pub kept : KeepsPoolAndRace old now
 
 pub none_joined : (terms : Terms) (boxes : List (List Change)) (old : Stock)
     → length boxes ≡ length (ranks_that is_idle old.ranks) → old.last ≡ 0
@@ -77,6 +78,7 @@ none_joined terms boxes old as_many start = record {
   last = omega (arith, start);
   spare = refl;
   nodes = refl;
+  kept = record { pool = refl; raced = refl };
 }
 
 -- a rank that is not idle is passed
@@ -94,6 +96,7 @@ other_passed terms first boxes old now r there other p = record {
   last = omega (arith, p.last);
   spare = p.spare ∙ ap (λ (rs : List ℕ). old.orders.spare + length rs) later;
   nodes = p.nodes;
+  kept = p.kept;
 }
   where
     later : idle_from r old.ranks ≡ idle_from (r + 1) old.ranks
@@ -121,10 +124,11 @@ pub one_joins : (terms : Terms) (first boxes less : List (List Change)) (box : L
     (old now new : Stock) (racer : Racer) (r : ℕ) → r < length old.ranks
     → state_at now.ranks r ≡ Idle → boxes ≡ less ++ option_to_list (Some box)
     → new.ranks ≡ slice_set now.ranks r (Racing racer) → new.last ≡ now.last + 1
-    → new.orders.spare + 1 ≡ now.orders.spare → HasJoinedRace terms r box now new
+    → new.orders.spare + 1 ≡ now.orders.spare → KeepsPoolAndRace now new
+    → HasJoinedRace terms r box now new
     → Joining terms first boxes old now r → Joining terms first less old new (r + 1)
 one_joins terms first boxes less box old now new racer r there idle popped written counted pushed
-    made p = record {
+    stays made p = record {
       alike = λ entry same. (halves entry same).0;
       joined = λ b entry is same. ap
           (λ (c : BookState). raced_by_all (idle_from (r + 1) old.ranks) entry c)
@@ -147,6 +151,7 @@ one_joins terms first boxes less box old now new racer r there idle popped writt
       spare = omega (arith, p.spare, pushed, ap (λ (rs : List ℕ). length rs) more);
       nodes = ap (λ (ss : List State). length (nodes_of ss)) written
           ∙ (none_works now.ranks r racer (omega (arith, there, p.wide)) idle ∙ p.nodes);
+      kept = record { pool = stays.pool ∙ p.kept.pool; raced = stays.raced ∙ p.kept.raced };
     }
   where
     more : idle_from r old.ranks ≡ r ∷ idle_from (r + 1) old.ranks
@@ -175,7 +180,3 @@ as_many_spare terms first boxes old now r end p = omega (
   p.spare,
   ap (λ (rs : List ℕ). length rs) (idle_none old.ranks r end),
 )
-
--- a pool that stands for any
-abbrev pub no_pool : Pooled
-no_pool = record { entries = []; spare = 0 }

@@ -14,7 +14,8 @@ use Rattle.ug_rules.proofs.WorkLemmas.{state_here, state_there}
 use Rattle.ug_rules.proofs.FirstLemmas.{idle_is}
 use Rattle.ug_rules.proofs.AssignedLemmas.{fewer_from}
 use Rattle.ug_stock.specs.declared.terms.Terms.{Terms}
-use Rattle.ug_stock.specs.Stocks.{AreTermsOf, Stock, with_stock}
+use Rattle.ug_stock.specs.declared.stock.Stock.{Stock}
+use Rattle.ug_stock.specs.Stocks.{AreTermsOf, with_stock}
 use Rattle.ug_stock.specs.Assigning.{CanBeAssigned, HasAssignedAll, HasAssignedPart, IsAssigned, KeepsPlaces}
 
 -- none before r is idle
@@ -74,7 +75,7 @@ no_progress terms old = record {
   passed = λ some number j lt. absurd (omega (arith, lt));
   wide = refl;
   few = omega arith;
-  places = record { pool = omega arith; orders = λ h. h };
+  places = record { raced = refl; pool = omega arith; orders = λ h. h };
 }
   where
     none : (m : ℕ) → 0 + m ≡ m
@@ -126,6 +127,7 @@ one_given terms old now new steps r there can t p = record {
       ∙ (length-set now.ranks r (Active t.given_.work) ∙ p.wide);
   few = omega (arith, p.few);
   places = record {
+    raced = t.given_.raced ∙ p.places.raced;
     pool = omega (arith, p.places.pool, t.pool, t.working);
     orders = λ h. t.orders;
   };
@@ -211,4 +213,4 @@ none_assigned terms old empty = λ b is. record {
 }
 
 pub nothing_moved : (old : Stock) → KeepsPlaces old old
-nothing_moved old = record { pool = omega arith; orders = λ h. h }
+nothing_moved old = record { raced = refl; pool = omega arith; orders = λ h. h }

@@ -1,11 +1,12 @@
 -- What was given out at each turn.
-use Rattle.std.proofs.Common.{◌≡◌, ℕ, zero, suc, true, false, refl, ap, sym, ◌∙◌, arith}
-use Rattle.ug_rules.specs.State.{BookState}
+use Rattle.std.proofs.Common.{◌≡◌, ℕ, zero, suc, true, false, Option, length, refl, ap, sym, ◌∙◌, arith}
+use Rattle.ug_pool.specs.declared.entry.Entry.{Entry}
+use Rattle.ug_rules.specs.State.{BookState, raced_node}
 use Rattle.ug_rules.specs.Deciding.{assigned_times, assignments, given, handouts, is_race_awaited, is_race_due, race_begun}
-use Rattle.ug_stock.specs.Parts.{HasRoom, parts_of}
 use Rattle.ug_stock.specs.declared.terms.Terms.{Terms}
 use Rattle.ug_stock.specs.declared.turns.Turn.TheVariants.{Race, Wait, Nodes}
-use Rattle.ug_stock.specs.Stocks.{Stock, with_stock}
+use Rattle.ug_stock.specs.declared.stock.Stock.{Stock}
+use Rattle.ug_stock.specs.Stocks.{HasRoom, with_stock}
 use Rattle.ug_stock.specs.Giving.{HasGivenAll, HasGivenPart}
 use Rattle.ug_stock.specs.Assigning.{HasAssignedAll, HasAssignedPart, KeepsPlaces}
 use Rattle.ug_stock.specs.Racing.{HasBegun}
@@ -74,9 +75,8 @@ nodes_part_given terms old new steps turn part = λ b is.
 
 -- and there is as much room as before
 pub room_kept : (old new : Stock) → KeepsPlaces old new
-    → HasRoom (parts_of old.pool old.ranks old.raced old.orders)
-    → HasRoom (parts_of new.pool new.ranks old.raced new.orders)
+    → HasRoom old → HasRoom new
 room_kept old new t room = record {
-  pool = omega (arith, room.pool, t.pool);
+  pool = omega (arith, room.pool, t.pool, ap (λ (e : Option Entry). length (raced_node e)) t.raced);
   orders = t.orders room.orders;
 }

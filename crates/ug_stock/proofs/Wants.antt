@@ -1,5 +1,5 @@
 -- What is wanted of the ranks that work can be told.
-use Rattle.std.proofs.Common.{ℕ, ◌+◌, ◌<◌, ◌≤◌, ◌^◌, List, [], ◌∷◌, length, filter, refl, sym, subst, ap, arith}
+use Rattle.std.proofs.Common.{◌≡◌, ℕ, ◌+◌, ◌<◌, ◌≤◌, ◌^◌, List, [], ◌∷◌, length, filter, refl, sym, subst, ap, arith}
 use Rattle.std.specs.Prelude.{All, not}
 use Rattle.std.proofs.lemmas.List.{length-map}
 use Rattle.std.proofs.lemmas.List.Elements.{All-append, All-cons, All-contains, All-filter, All-map, All-nil}
@@ -67,3 +67,10 @@ can_be_told len low high ss (Enough ranks) fits w = (
   ),
 )
 can_be_told len low high ss Nothing fits w = tt
+
+-- so it is by other words for the numbers
+pub wanted_so : (len low high len2 low2 high2 : ℕ) (ms : List Member) (d : Wanted) → len ≡ len2
+    → low ≡ low2 → high ≡ high2 → IsWanted len low high ms d → IsWanted len2 low2 high2 ms d
+wanted_so len low high len2 low2 high2 ms d e f g w =
+    subst (λ n. IsWanted n low2 high2 ms d) e
+    (subst (λ n. IsWanted len n high2 ms d) f (subst (λ n. IsWanted len low n ms d) g w))

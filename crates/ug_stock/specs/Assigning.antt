@@ -9,7 +9,8 @@ use Rattle.ug_ranks.specs.States.{state_at}
 use Rattle.ug_rules.specs.State.{BookState, nodes_of}
 use Rattle.ug_rules.specs.Deciding.{assigned_times, assignments, given_to}
 use Rattle.ug_stock.specs.declared.terms.Terms.{Terms}
-use Rattle.ug_stock.specs.Stocks.{AreTermsOf, Stock, with_stock}
+use Rattle.ug_stock.specs.declared.stock.Stock.{Stock}
+use Rattle.ug_stock.specs.Stocks.{AreTermsOf, with_stock}
 
 -- the first entry left the pool, and its place is spare
 pub record IsTakenOut (old new : Pooled) (entry : Entry) : Type 0 where
@@ -23,6 +24,7 @@ pub record IsGivenFirst (terms : Terms) (r : ℕ) (old new : Stock) : Type 0 whe
   pub work : Work
   pub written : new.ranks ≡ slice_set old.ranks r (Active work)
   pub last : new.last ≡ old.last + 1
+  pub raced : new.raced ≡ old.raced
   pub given_ : (b : BookState) → AreTermsOf b terms
       → with_stock b new ≡ given_to r entry new.pool.entries (with_stock b old)
 
@@ -62,8 +64,10 @@ HasAssignedPart terms old new steps =
     (b : BookState) → AreTermsOf b terms
     → IsPartAssigned steps (with_stock b old) (with_stock b new)
 
--- as many places of the pool are spare beyond the nodes that ranks work on
+-- as many places of the pool are spare beyond the nodes that ranks work on, and the node that is
+-- raced stays
 pub record KeepsPlaces (old new : Stock) : Type 0 where
+  pub raced : new.raced ≡ old.raced
   pub pool : new.pool.spare + length (nodes_of old.ranks)
       ≡ old.pool.spare + length (nodes_of new.ranks)
   pub orders : length (nodes_of old.ranks) ≤ old.orders.spare

@@ -10,11 +10,6 @@ use Rattle.ug_rules.specs.State.{BookState}
 abbrev pub with_told : BookState → List State → List Told → BookState
 with_told b ranks orders = record b { ranks = ranks; orders = orders }
 
--- and with this cutoff announced last
-abbrev pub with_announced : BookState → List State → List Told → Option ℤ → BookState
-with_announced b ranks orders announced =
-    record b { ranks = ranks; orders = orders; announced = announced }
-
 -- of n ranks, those named are some, and a number of nodes fits an order
 abbrev pub CanBeTold : ℕ → Wanted → Type 0
 CanBeTold n (Ask rank count) = (rank < n) × (count < 2 ^ 32)

@@ -3,7 +3,8 @@ use Rattle.std.specs.Prelude.{◌≡◌, ℕ, ◌<◌}
 use Rattle.ug_rules.specs.State.{BookState}
 use Rattle.ug_rules.specs.Deciding.{given, handouts}
 use Rattle.ug_stock.specs.declared.terms.Terms.{Terms}
-use Rattle.ug_stock.specs.Stocks.{AreTermsOf, Stock, with_stock}
+use Rattle.ug_stock.specs.declared.stock.Stock.{Stock}
+use Rattle.ug_stock.specs.Stocks.{AreTermsOf, with_stock}
 
 -- of a book's steps all were made, and so many they are
 pub record IsAllGiven (steps : ℕ) (old new : BookState) : Type 0 where

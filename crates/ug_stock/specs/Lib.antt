@@ -3,7 +3,6 @@ pub mod Books
 pub mod Counting
 pub mod Giving
 pub mod Hands
-pub mod Parts
 pub mod Queues
 pub mod Racers
 pub mod Races

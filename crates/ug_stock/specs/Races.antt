@@ -4,8 +4,7 @@ use Rattle.ug_pool.specs.declared.entry.Entry.{Entry}
 use Rattle.ug_rules.specs.declared.racer.Racer.{Racer}
 use Rattle.ug_rules.specs.Winning.{IsWinner}
 use Rattle.ug_ranks.specs.declared.state.State.{State}
-use Rattle.ug_rules.specs.declared.told.Told.{Told}
-use Rattle.ug_rules.specs.State.{BookState, nodes_of}
+use Rattle.ug_rules.specs.State.{nodes_of}
 use Rattle.ug_rules.specs.Ranks.{ranks_that}
 use Rattle.ug_ranks.specs.Looks.{is_racing}
 use Rattle.ug_rules.specs.Deciding.{HasReported}
@@ -19,7 +18,3 @@ pub record IsWonAmong (enough : ℕ) (racers : List Racer) (rank : ℕ) : Type 0
 pub record StandsAlone (states : List State) (entry : Option Entry) : Type 0 where
   pub raced : ranks_that is_racing states ≢ [] → IsSome entry
   pub none_works : ranks_that is_racing states ≢ [] → nodes_of states ≡ []
-
--- the book with these ranks, this node raced and these orders
-abbrev pub with_race : BookState → List State → Option Entry → List Told → BookState
-with_race b ranks raced orders = record b { ranks = ranks; raced = raced; orders = orders }

@@ -7,7 +7,8 @@ use Rattle.ug_rules.specs.Ranks.{ranks_that}
 use Rattle.ug_ranks.specs.Looks.{is_idle}
 use Rattle.ug_rules.specs.Deciding.{race_begun, raced_by, raced_by_all}
 use Rattle.ug_stock.specs.declared.terms.Terms.{Terms}
-use Rattle.ug_stock.specs.Stocks.{AreTermsOf, Stock, with_stock}
+use Rattle.ug_stock.specs.declared.stock.Stock.{Stock}
+use Rattle.ug_stock.specs.Stocks.{AreTermsOf, with_stock}
 
 -- each of the boxes is of the entry's node
 abbrev pub AreBoxesOf : Entry → List (List Change) → Type 0
@@ -24,6 +25,11 @@ abbrev pub HaveJoinedRace : Terms → List (List Change) → Stock → Stock →
 HaveJoinedRace terms boxes old new =
     (b : BookState) (entry : Entry) → AreTermsOf b terms → AreBoxesOf entry boxes
     → with_stock b new ≡ raced_by_all (ranks_that is_idle old.ranks) entry (with_stock b old)
+
+-- the pool and the node that is raced stay
+pub record KeepsPoolAndRace (old new : Stock) : Type 0 where
+  pub pool : new.pool ≡ old.pool
+  pub raced : new.raced ≡ old.raced
 
 -- the race began
 abbrev pub HasBegun : Terms → Stock → Stock → Type 0

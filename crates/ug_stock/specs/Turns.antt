@@ -5,7 +5,8 @@ use Rattle.ug_rules.specs.Deciding.{is_race_awaited, is_race_due}
 use Rattle.ug_stock.specs.declared.terms.Terms.{Terms}
 use Rattle.ug_stock.specs.declared.turns.Turn.{Turn}
 use Rattle.ug_stock.specs.declared.turns.Turn.TheVariants.{Race, Wait, Nodes}
-use Rattle.ug_stock.specs.Stocks.{AreTermsOf, Stock, with_stock}
+use Rattle.ug_stock.specs.declared.stock.Stock.{Stock}
+use Rattle.ug_stock.specs.Stocks.{AreTermsOf, with_stock}
 
 -- it is what the book's race is at
 abbrev pub IsTurnOf : BookState → Turn → Type 0

@@ -1,44 +1,39 @@
 ghost use Rattle.std.specs.Prelude.{◌≡◌, ◌<◌, ◌≤◌, ◌+◌, ◌++◌, OnOk, OnErr, length};
 ghost use Rattle.ug_ranks.specs.States.{state_at};
-ghost use Rattle.ug_rules.specs.State.{BookState, nodes_of};
+ghost use Rattle.ug_rules.specs.State.{BookState};
 ghost use Rattle.ug_rules.specs.Deciding.{announced_as, announcement, announcements, same_cutoff};
-ghost use Rattle.ug_stock.specs.Books.{with_announced};
+ghost use Rattle.ug_stock.specs.Stocks.{HasRoom, OnlyTells, with_stock};
 
 use crate::notice_places::places;
 use crate::queue::Queue;
+use crate::stock::Stock;
 use std::alloc::AllocError;
 use ug_frames::Order;
 use ug_ranks::Ranks;
 use ug_rules::Told;
 
-/// Tells each rank that has joined the cutoff, the lowest first, where it is another than the one
-/// announced last; then it is the one announced last.
-///
-/// There is then a place for the Stop of each rank that works. After an error nothing has changed.
-pub fn announce(
-    ranks: &Ranks,
-    orders: &mut Queue,
-    announced: &mut Option<i128>,
-    cutoff: Option<i128>,
-) -> Result<(), AllocError>
-    requires { length (nodes_of ranks.now) ≤ orders.old.spare }
-    ensures ok { OnOk result ((b : BookState) →
-        with_announced b ranks.now orders.new.orders announced.new
-        ≡ announced_as cutoff (with_announced b ranks.now orders.old.orders announced.old)) }
-    ensures orders { OnErr result (orders.new ≡ orders.old) }
-    ensures announced { OnErr result (announced.new ≡ announced.old) }
-    ensures room { length (nodes_of ranks.now) ≤ orders.new.spare }
-{
-    let Some(cutoff) = cutoff else {
-        return Ok(());
-    };
-    if is_same(*announced, cutoff) {
-        return Ok(());
+impl Stock {
+    /// Tells each rank that has joined the cutoff, the lowest first, where it is another than the
+    /// one announced last; then it is the one announced last. After an error nothing has changed.
+    pub fn announce(&mut self, cutoff: Option<i128>) -> Result<(), AllocError>
+        requires { HasRoom self.old }
+        ensures ok { OnOk result ((b : BookState) → with_stock b self.new
+            ≡ announced_as cutoff (with_stock b self.old)) }
+        ensures err { OnErr result (self.new ≡ self.old) }
+        ensures only { OnlyTells self.old self.new }
+        ensures room { HasRoom self.new }
+    {
+        let Some(cutoff) = cutoff else {
+            return Ok(());
+        };
+        if is_same(self.announced, cutoff) {
+            return Ok(());
+        }
+        self.orders.reserve(places(&self.ranks))?;
+        tell_joined(&self.ranks, &mut self.orders, cutoff);
+        self.announced = Some(cutoff);
+        Ok(())
     }
-    orders.reserve(places(ranks))?;
-    tell_joined(ranks, orders, cutoff);
-    *announced = Some(cutoff);
-    Ok(())
 }
 
 // Whether this cutoff is the one announced last.

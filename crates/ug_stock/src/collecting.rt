@@ -2,51 +2,43 @@ ghost use Rattle.std.specs.Prelude.{◌≡◌, ◌↔◌, ◌<◌, ◌≤◌, �
 ghost use Rattle.ug_rules.specs.State.{BookState, nodes_of};
 ghost use Rattle.ug_rules.specs.Deciding.{IsCollected, collected};
 ghost use Rattle.ug_stock.specs.Books.{CanBeTold, with_told};
+ghost use Rattle.ug_stock.specs.Stocks.{HasRoom, with_stock};
 
 use crate::asking::{ask, ask_no_more};
 use crate::members::members_of;
 use crate::queue::Queue;
+use crate::stock::Stock;
 use crate::wanting::wanted;
 use std::alloc::{AllocError, Global};
 use ug_ranks::Ranks;
 use ug_rules::Wanted;
 
-/// Asks one rank that works for open nodes, where the pool has `len` of them and that is fewer than
-/// `low`: as many as bring it to `high`. Where it has `high`, the ranks that are asked are told
-/// that it is enough.
-///
-/// There is then a place for the Stop of each rank that works. After an error nothing has changed.
-pub fn collect(
-    alloc: Global,
-    low: u32,
-    high: u32,
-    len: u64,
-    ranks: &mut Ranks,
-    orders: &mut Queue,
-) -> Result<(), AllocError>
-    requires marks { low ≤ high }
-    requires room { length (nodes_of ranks.old) ≤ orders.old.spare }
-    ensures ok { OnOk result ((b : BookState) → b.settings.low ≡ low → b.settings.high ≡ high
-        → length b.pool ≡ len → IsCollected
-        (with_told b ranks.old orders.old.orders)
-        (with_told b ranks.new orders.new.orders)) }
-    ensures ranks { OnErr result (ranks.new ≡ ranks.old) }
-    ensures orders { OnErr result (orders.new ≡ orders.old) }
-    ensures room { length (nodes_of ranks.new) ≤ orders.new.spare }
-    ensures work { nodes_of ranks.new ≡ nodes_of ranks.old }
-{
-    if is_between(len, low, high) {
-        return Ok(());
+impl Stock {
+    /// Asks one rank that works for open nodes, where the pool has fewer than `low`: as many as
+    /// bring it to `high`. Where it has `high`, the ranks that are asked are told that it is
+    /// enough. After an error nothing has changed.
+    pub fn collect(&mut self, alloc: Global, low: u32, high: u32) -> Result<(), AllocError>
+        requires marks { low ≤ high }
+        requires room { HasRoom self.old }
+        ensures ok { OnOk result ((b : BookState) → b.settings.low ≡ low → b.settings.high ≡ high
+            → IsCollected (with_stock b self.old) (with_stock b self.new)) }
+        ensures err { OnErr result (self.new ≡ self.old) }
+        ensures room { HasRoom self.new }
+    {
+        let len = self.pool.len() as u64;
+        if is_between(len, low, high) {
+            return Ok(());
+        }
+        let members = members_of(alloc, &self.ranks)?;
+        let demand = wanted(
+            alloc,
+            len,
+            u64::from(low),
+            u64::from(high),
+            members.as_slice(),
+        )?;
+        tell(&mut self.ranks, &mut self.orders, demand, members.len())
     }
-    let members = members_of(alloc, ranks)?;
-    let demand = wanted(
-        alloc,
-        len,
-        u64::from(low),
-        u64::from(high),
-        members.as_slice(),
-    )?;
-    tell(ranks, orders, demand, members.len())
 }
 
 // Whether so many nodes are no fewer than the low mark and fewer than the high one, so that nothing

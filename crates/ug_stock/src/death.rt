@@ -2,42 +2,43 @@ ghost use Rattle.std.specs.Prelude.{◌≡◌, ◌<◌, ◌≤◌, ◌+◌, ◌+
 ghost use Rattle.ug_pool.specs.Pools.{with_entry, without_below};
 ghost use Rattle.ug_rules.specs.State.{raced_node};
 ghost use Rattle.ug_rules.specs.Deaths.{called_off, stops_below};
-ghost use Rattle.ug_stock.specs.Parts.{HasDied, HasLost, HasRoom, parts_of};
-ghost use Rattle.ug_stock.specs.Queues.{Queued};
+ghost use Rattle.ug_stock.specs.Stocks.{HasDied, HasLost, HasRoom};
+ghost use Rattle.ug_stock.specs.declared.stock.Stock.{Stock};
 
 use crate::calling::call_off;
 use crate::queue::Queue;
 use crate::racer_left::has_racer;
+use crate::stock::Stock;
 use ug_nodes::Node;
 use ug_pool::{Entry, Pool};
 use ug_ranks::Ranks;
 
-/// A rank dies. Where it works, its node takes in what is held below: these nodes are dropped, the
-/// ranks that work on them are idle and told to stop, the lowest first, and its node is back in the
-/// pool. Where it is the last racer, the raced node is back in the pool.
-///
-/// It takes no memory: each node that is out of the pool has a place there, and each rank that
-/// works has one for its Stop, and so it is afterwards.
-pub fn die(
-    ranks: &mut Ranks,
-    pool: &mut Pool,
-    orders: &mut Queue,
-    raced: &mut Option<Entry>,
-    rank: u32,
-)
-    requires there { rank < length ranks.old }
-    requires room { HasRoom (parts_of pool.old ranks.old raced.old orders.old) }
-    ensures died { HasDied rank
-        (parts_of pool.old ranks.old raced.old orders.old)
-        (parts_of pool.new ranks.new raced.new orders.new) }
-    ensures room { HasRoom (parts_of pool.new ranks.new raced.new orders.new) }
-{
-    let races = ranks.state(rank).is_racing();
-    match ranks.kill(rank) {
-        Some((node, floor)) => take_in(ranks, pool, orders, node, floor),
-        None => {
-            if races {
-                lose_race(ranks, pool, raced);
+impl Stock {
+    /// A rank dies. Where it works, its node takes in what is held below: these nodes are dropped,
+    /// the ranks that work on them are idle and told to stop, the lowest first, and its node is
+    /// back in the pool. Where it is the last racer, the raced node is back in the pool.
+    ///
+    /// It takes no memory: each node that is out of the pool has a place there, and each rank that
+    /// works has one for its Stop, and so it is afterwards.
+    pub fn die(&mut self, rank: u32)
+        requires there { rank < length self.old.ranks }
+        requires room { HasRoom self.old }
+        ensures died { HasDied rank self.old self.new }
+        ensures room { HasRoom self.new }
+    {
+        let races = self.ranks.state(rank).is_racing();
+        match self.ranks.kill(rank) {
+            Some((node, floor)) => take_in(
+                &mut self.ranks,
+                &mut self.pool,
+                &mut self.orders,
+                node,
+                floor,
+            ),
+            None => {
+                if races {
+                    lose_race(&self.ranks, &mut self.pool, &mut self.raced);
+                }
             }
         }
     }
@@ -63,9 +64,9 @@ fn take_in(ranks: &mut Ranks, pool: &mut Pool, orders: &mut Queue, node: Node, f
 // The raced node is back in the pool, if there is one and no rank races.
 fn lose_race(ranks: &Ranks, pool: &mut Pool, raced: &mut Option<Entry>)
     requires { length (raced_node raced.old) ≤ pool.old.spare }
-    ensures lost { (orders : Queued) → HasLost
-        (parts_of pool.old ranks.now raced.old orders)
-        (parts_of pool.new ranks.now raced.new orders) }
+    ensures lost { (stock : Stock) → HasLost
+        (record stock { pool = pool.old; ranks = ranks.now; raced = raced.old })
+        (record stock { pool = pool.new; ranks = ranks.now; raced = raced.new }) }
     ensures room { pool.new.spare + length (raced_node raced.old)
         ≡ pool.old.spare + length (raced_node raced.new) }
 {

@@ -9,16 +9,15 @@ use Rattle.ug_rules.specs.Deciding.{IsDecided, Stands}
 use Rattle.ug_rules.proofs.SettledLemmas.{decided_settled}
 use Rattle.ug_book.specs.Views.{IsSameRun, state_of}
 use Rattle.ug_book.proofs.Runs.{same_run}
-use Rattle.ug_book.specs.Decisions.{IsUnder, desk_of, with_desk}
+use Rattle.ug_book.specs.Decisions.{IsUnder}
+use Rattle.ug_stock.specs.Stocks.{with_stock}
 use Rattle.ug_book.proofs.Decisions.{decision_keeps}
 use Rattle.ug_book.proofs.book.Book.decide.Goals as goal
 
 pub invariant_of-self : goal.invariant_of-self
 invariant_of-self c =
     let b : BookState = state_of c.self.inside in
-    let new : BookState = with_desk b (desk_of c.make_parts.new.pool c.make_parts.new.ranks
-    c.make_parts.new.raced c.make_parts.new.last c.make_parts.new.orders
-    c.make_parts.new.announced) in
+    let new : BookState = with_stock b c.make_parts.new.stock in
     let same = c.problem.ensures.value in
     let cutoff = sym (c.current_cutoff-cutoff.ensures
     ∙ ap (λ (p : Instance). best_cutoff p c.self.inside.settings.gap c.self.inside.best) same) in
@@ -38,9 +37,7 @@ invariant_of-self c =
 pub returns-clause-decided : goal.returns-clause-decided
 returns-clause-decided c =
     let b : BookState = state_of c.self.inside in
-    let new : BookState = with_desk b (desk_of c.make_parts.new.pool c.make_parts.new.ranks
-    c.make_parts.new.raced c.make_parts.new.last c.make_parts.new.orders
-    c.make_parts.new.announced) in
+    let new : BookState = with_stock b c.make_parts.new.stock in
     let same = c.problem.ensures.value in
     let cutoff = sym (c.current_cutoff-cutoff.ensures
     ∙ ap (λ (p : Instance). best_cutoff p c.self.inside.settings.gap c.self.inside.best) same) in
@@ -53,9 +50,7 @@ returns-clause-decided c =
 pub returns-clause-settled : goal.returns-clause-settled
 returns-clause-settled c =
     let b : BookState = state_of c.self.inside in
-    let new : BookState = with_desk b (desk_of c.make_parts.new.pool c.make_parts.new.ranks
-    c.make_parts.new.raced c.make_parts.new.last c.make_parts.new.orders
-    c.make_parts.new.announced) in
+    let new : BookState = with_stock b c.make_parts.new.stock in
     let same = c.problem.ensures.value in
     let cutoff = sym (c.current_cutoff-cutoff.ensures
     ∙ ap (λ (p : Instance). best_cutoff p c.self.inside.settings.gap c.self.inside.best) same) in
@@ -68,9 +63,7 @@ returns-clause-settled c =
 pub returns-clause-stands : goal.returns-clause-stands
 returns-clause-stands c =
     let b : BookState = state_of c.self.inside in
-    let new : BookState = with_desk b (desk_of c.make_parts.new.pool c.make_parts.new.ranks
-    c.make_parts.new.raced c.make_parts.new.last c.make_parts.new.orders
-    c.make_parts.new.announced) in
+    let new : BookState = with_stock b c.make_parts.new.stock in
     let same = c.problem.ensures.value in
     let cutoff = sym (c.current_cutoff-cutoff.ensures
     ∙ ap (λ (p : Instance). best_cutoff p c.self.inside.settings.gap c.self.inside.best) same) in
@@ -84,9 +77,7 @@ returns-clause-stands c =
 pub returns-clause-sound : goal.returns-clause-sound
 returns-clause-sound c = λ s.
     let b : BookState = state_of c.self.inside in
-    let new : BookState = with_desk b (desk_of c.make_parts.new.pool c.make_parts.new.ranks
-    c.make_parts.new.raced c.make_parts.new.last c.make_parts.new.orders
-    c.make_parts.new.announced) in
+    let new : BookState = with_stock b c.make_parts.new.stock in
     let same = c.problem.ensures.value in
     let cutoff = sym (c.current_cutoff-cutoff.ensures
     ∙ ap (λ (p : Instance). best_cutoff p c.self.inside.settings.gap c.self.inside.best) same) in
@@ -102,9 +93,7 @@ returns-clause-sound c = λ s.
 pub returns-clause-same : goal.returns-clause-same
 returns-clause-same c =
     let b : BookState = state_of c.self.inside in
-    let new : BookState = with_desk b (desk_of c.make_parts.new.pool c.make_parts.new.ranks
-    c.make_parts.new.raced c.make_parts.new.last c.make_parts.new.orders
-    c.make_parts.new.announced) in
+    let new : BookState = with_stock b c.make_parts.new.stock in
     let same = c.problem.ensures.value in
     let cutoff = sym (c.current_cutoff-cutoff.ensures
     ∙ ap (λ (p : Instance). best_cutoff p c.self.inside.settings.gap c.self.inside.best) same) in

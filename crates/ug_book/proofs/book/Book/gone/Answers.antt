@@ -33,10 +33,12 @@ returns-clause-same c =
     let there = subst (λ (k : BookState). c.args.rank < length k.ranks) (sym c.self.view_is)
     c.requires in
     let new : BookState = record b {
-      pool = c.die.new.pool.entries;
-      ranks = c.die.new.ranks;
-      raced = c.die.new.raced;
-      orders = c.die.new.orders.orders;
+      pool = c.die.new.self.pool.entries;
+      ranks = c.die.new.self.ranks;
+      raced = c.die.new.self.raced;
+      last = c.die.new.self.last;
+      orders = c.die.new.self.orders.orders;
+      announced = c.die.new.self.announced;
     } in
     subst (λ (k : BookState). IsSameRun k new) c.self.view_is
     (same_run b new c.self.invariant.book (subst IsBook (sym (c.die.ensures.died b))

@@ -28,7 +28,7 @@ end_by-requires-clause-room c =
     record {
       pool = c.take_report-answer.ensures.places b;
       orders = stops_taken b _ c.take_report-answer.result c.args.rank c.args.report
-          c.self.inside.orders.spare there told.taken c.self.invariant.room.orders;
+          c.self.inside.stock.orders.spare there told.taken c.self.invariant.room.orders;
     }
 
 pub invariant_of-self : goal.invariant_of-self
@@ -102,10 +102,12 @@ returns-clause-same c =
     c.heard_after-self-inside.result told.taken (c.end_by.ensures.ended taken)
     c.heard_after-self-inside.ensures in
     let new : BookState = record taken {
-      pool = c.end_by.new.pool.entries;
-      ranks = c.end_by.new.ranks;
-      raced = c.end_by.new.raced;
-      orders = c.end_by.new.orders.orders;
+      pool = c.end_by.new.stock.pool.entries;
+      ranks = c.end_by.new.stock.ranks;
+      raced = c.end_by.new.stock.raced;
+      last = c.end_by.new.stock.last;
+      orders = c.end_by.new.stock.orders.orders;
+      announced = c.end_by.new.stock.announced;
       heard = c.heard_after-self-inside.result;
     } in
     subst (λ (k : BookState). IsSameRun k new) c.self.view_is

@@ -3,12 +3,12 @@ use Rattle.ug_stock.specs.Queues.{Queued}
 use Rattle.ug_ranks.specs.declared.state.State.{State}
 use Rattle.ug_rules.specs.Deciding.{given_to}
 use Rattle.ug_stock.proofs.Works.{few_work}
-use Rattle.ug_stock.specs.Stocks.{stock_of, with_stock}
-use Rattle.ug_stock.proofs.assigning.assign.Goals as goal
+use Rattle.ug_stock.specs.Stocks.{with_stock}
+use Rattle.ug_stock.proofs.stock.Stock.assign.Goals as goal
 
 pub returns-clause-ok : goal.returns-clause-ok
-returns-clause-ok c = λ raced.
-    let g = c.give_first.ensures.given raced in
+returns-clause-ok c =
+    let g = c.give_first.ensures.given in
     let reserved = c.in_ok-reserve.ensures.ok in
     let spare = ap (λ (q : Queued). q.spare) reserved in
     record {
@@ -18,10 +18,10 @@ returns-clause-ok c = λ raced.
         work = g.work;
         written = g.written;
         last = g.last;
+        raced = g.raced;
         given_ = λ b t. g.given_ b t
-            ∙ ap (λ (q : Queued). given_to c.args.rank g.entry c.give_first.new.pool.entries
-            (with_stock b (stock_of c.args.pool.now c.args.ranks.now raced c.args.last.now q)))
-            reserved;
+            ∙ ap (λ (q : Queued). given_to c.args.rank g.entry c.give_first.new.self.pool.entries
+            (with_stock b (record c.args.self.now { orders = q }))) reserved;
       };
       pool = c.give_first.ensures.pool;
       working = c.give_first.ensures.ranks;
@@ -30,7 +30,7 @@ returns-clause-ok c = λ raced.
         spare,
         c.give_first.ensures.orders,
         c.give_first.ensures.ranks,
-        few_work c.args.ranks.now,
+        few_work c.args.self.now.ranks,
         ap (λ (ss : List State). length ss) c.as_slice.ensures.value,
         c.as_slice.ensures,
       );

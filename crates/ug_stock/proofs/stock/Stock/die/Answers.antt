@@ -5,15 +5,15 @@ use Rattle.ug_rules.specs.State.{nodes_of}
 use Rattle.ug_ranks.specs.Looks.{is_racing}
 use Rattle.ug_rules.specs.Deaths.{race_lost}
 use Rattle.ug_rules.proofs.QueueLemmas.{stops_are_of_called_off}
-use Rattle.ug_stock.specs.Parts.{Parts, with_parts}
+use Rattle.ug_stock.specs.Stocks.{with_stock}
 use Rattle.ug_stock.proofs.Rooms.{none_less, one_less, racer_dies}
-use Rattle.ug_stock.proofs.death.die.Goals as goal
+use Rattle.ug_stock.proofs.stock.Stock.die.Goals as goal
 
 pub take_in-requires-clause-pool : goal.take_in-requires-clause-pool
 take_in-requires-clause-pool c = omega (
   arith,
   c.requires.room.pool,
-  one_less c.args.ranks.now c.args.rank (c.in-Some.node, c.in-Some.floor) c.requires.there
+  one_less c.args.self.now.ranks c.args.rank (c.in-Some.node, c.in-Some.floor) c.requires.there
       (sym c.kill.ensures.node ∙ c.in-Some.is),
 )
 
@@ -21,7 +21,7 @@ pub take_in-requires-clause-orders : goal.take_in-requires-clause-orders
 take_in-requires-clause-orders c = omega (
   arith,
   c.requires.room.orders,
-  one_less c.args.ranks.now c.args.rank (c.in-Some.node, c.in-Some.floor) c.requires.there
+  one_less c.args.self.now.ranks c.args.rank (c.in-Some.node, c.in-Some.floor) c.requires.there
       (sym c.kill.ensures.node ∙ c.in-Some.is),
   ap (λ (ss : List State). length (nodes_of ss)) c.kill.ensures.states,
   stops_are_of_called_off c.in-Some.node.line c.kill.new.self,
@@ -29,7 +29,7 @@ take_in-requires-clause-orders c = omega (
 
 pub returns-in-Some-clause-room : goal.returns-in-Some-clause-room
 returns-in-Some-clause-room c =
-    let less = one_less c.args.ranks.now c.args.rank
+    let less = one_less c.args.self.now.ranks c.args.rank
     (c.in-Some.node, c.in-Some.floor) c.requires.there
     (sym c.kill.ensures.node ∙ c.in-Some.is) in
     let killed_ = ap (λ (ss : List State). length (nodes_of ss)) c.kill.ensures.states in
@@ -58,22 +58,17 @@ returns-in-Some-clause-room c =
 
 pub returns-then-races-clause-died : goal.returns-then-races-clause-died
 returns-then-races-clause-died c = λ b.
-    let old : Parts = record {
-      pool = c.args.pool.now;
-      ranks = c.args.ranks.now;
-      raced = c.args.raced.now;
-      orders = c.args.orders.now;
-    } in
+    let old = c.args.self.now in
     let races = sym c.is_racing-races.ensures ∙ c.if-races.true in
-    c.lose_race.ensures.lost c.args.orders.now b
+    c.lose_race.ensures.lost old b
     ∙ (ap (λ (ss : List State). race_lost
-    (record (with_parts b old) { ranks = ss })) c.kill.ensures.states
-    ∙ sym (racer_dies (state_at c.args.ranks.now c.args.rank) c.args.rank (with_parts b old)
+    (record (with_stock b old) { ranks = ss })) c.kill.ensures.states
+    ∙ sym (racer_dies (state_at c.args.self.now.ranks c.args.rank) c.args.rank (with_stock b old)
     (ap is_racing (sym c.state.ensures) ∙ races)))
 
 pub returns-then-races-clause-room : goal.returns-then-races-clause-room
 returns-then-races-clause-room c =
-    let same = none_less c.args.ranks.now c.args.rank c.requires.there
+    let same = none_less c.args.self.now.ranks c.args.rank c.requires.there
     (sym c.kill.ensures.node ∙ c.in-None.is) in
     let killed_ = ap (λ (ss : List State). length (nodes_of ss)) c.kill.ensures.states in
     record {
@@ -83,7 +78,7 @@ returns-then-races-clause-room c =
 
 pub returns-else-races-clause-room : goal.returns-else-races-clause-room
 returns-else-races-clause-room c =
-    let same = none_less c.args.ranks.now c.args.rank c.requires.there
+    let same = none_less c.args.self.now.ranks c.args.rank c.requires.there
     (sym c.kill.ensures.node ∙ c.in-None.is) in
     let killed_ = ap (λ (ss : List State). length (nodes_of ss)) c.kill.ensures.states in
     record {

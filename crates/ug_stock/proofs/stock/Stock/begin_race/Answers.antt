@@ -7,24 +7,23 @@ use Rattle.ug_pool.specs.declared.entry.Entry.{Entry}
 use Rattle.ug_rules.specs.Ranks.{ranks_that}
 use Rattle.ug_ranks.specs.Looks.{is_idle}
 use Rattle.ug_rules.specs.Deciding.{race_begun_with, raced_by_all}
-use Rattle.ug_stock.specs.Stocks.{stock_of, with_stock}
+use Rattle.ug_stock.specs.Stocks.{with_stock}
 use Rattle.ug_stock.proofs.FirstOfPool.{same_first}
-use Rattle.ug_stock.proofs.racing.begin_race.Goals as goal
+use Rattle.ug_stock.proofs.stock.Stock.begin_race.Goals as goal
 
 pub returns-in-Some-take_first-clause-ok : goal.returns-in-Some-take_first-clause-ok
 returns-in-Some-take_first-clause-ok c = λ b is.
     let entry = c.in-Some-take_first.entry in
     let first = c.in-Some-take_first.ensures.first in
-    let same = same_first c.args.pool.now.entries c.take_first.new.pool.entries
+    let s = c.args.self.now in
+    let same = same_first s.pool.entries c.take_first.new.pool.entries
     c.in-Some.first.now entry c.in-Some.ensures first in
-    let old = with_stock b (stock_of c.args.pool.now c.args.ranks.now c.args.raced.now
-    c.args.last.now c.args.orders.now) in
-    c.race_all.ensures.joined c.take_first.new.pool (Some entry) b entry is
+    c.race_all.ensures.joined b entry is
     (subst (λ (boxes : List (List Change)). All (λ box. entry.node.changes ≡ box) boxes)
     (sym c.in_ok-boxes.ensures)
     (All-replicate (λ (box : List Change). entry.node.changes ≡ box) c.args.counts.idle
     c.in-Some.first.now.node.changes same))
-    ∙ (ap (λ (queue : Queued). raced_by_all (ranks_that is_idle c.args.ranks.now) entry
-    (with_stock b (stock_of c.take_first.new.pool c.args.ranks.now (Some entry)
-    c.args.last.now queue))) c.in_ok-reserve.ensures.ok
-    ∙ ap (λ (es : List Entry). race_begun_with es old) (sym first))
+    ∙ (ap (λ (queue : Queued). raced_by_all (ranks_that is_idle s.ranks) entry
+    (with_stock b (record s { pool = c.take_first.new.pool; raced = Some entry; orders = queue })))
+    c.in_ok-reserve.ensures.ok
+    ∙ ap (λ (es : List Entry). race_begun_with es (with_stock b s)) (sym first))
