@@ -1,8 +1,9 @@
 //! The program `ug`: solves bounded integer programs of MPS files, and goes on from checkpoints. It
-//! stands on ug_top, on ug_cli for the words, and on ug_real. `main` makes the real objects, a
-//! reader of the file, a writer to standard output and the checkpoint's folder; `carry_out` runs
-//! with them, under the contract of `run`, which says what was printed. Standard error gets the
-//! usage line, why a run failed, and, on a terminal or with `UG_PROGRESS` set, how it gets on.
+//! stands on ug_top, on ug_cli for the words, on ug_print for why a text is refused, and on ug_real.
+//! `main` makes the real objects, a reader of the file, a writer to standard output and the
+//! checkpoint's folder; `carry_out` runs with them, under the contract of `run`, which says what was
+//! printed. Standard error gets the usage line, why a run failed, and, on a terminal or with
+//! `UG_PROGRESS` set, how it gets on.
 #![tactic(auto)]
 
 ghost use Rattle.std.specs.Prelude.{◌≡◌, ◌⊎◌};
@@ -12,19 +13,15 @@ ghost use Rattle.ug_main.specs.Files.{HasRunOnFiles, IsUnbegun};
 ghost use Rattle.ug_top.specs.Ran.{HasRun};
 
 mod descriptors;
-mod front;
 mod paths;
 mod progress;
 mod reasons;
-mod refusals;
 mod words;
 
 use crate::descriptors::take_standard;
-use crate::front::Front;
 use crate::paths::{Paths, paths_of};
 use crate::progress::Progress;
 use crate::reasons::Reasons;
-use crate::refusals::explain_refusal;
 use crate::words::Behind;
 use std::fs::File;
 use std::io::{Eprint, IsTerminal, Print};
@@ -36,8 +33,9 @@ use std::{env, io};
 use ug_cli::{Usage, read_words};
 use ug_disk::Disk;
 use ug_io::{Sink, Source};
+use ug_print::reason;
 use ug_real::{FileDisk, Reader, Writer};
-use ug_top::{Status, run};
+use ug_top::{Refusal, Status, run};
 
 // The words behind the program's own name. A word that is not UTF-8 is no command.
 fn words_of<R: Env + AllocGlobal>(rt: &R) -> Result<Vec<String>, Status> {
@@ -87,7 +85,7 @@ where
     ensures { HasRunOnFiles (texts words.now) result }
 {
     let mut input = Reader::new(rt, paths.file);
-    let mut out = Front::new(Writer::new(io::writer(rt)));
+    let mut out = Writer::new(io::writer(rt));
     let mut disk = if paths.is_shown {
         FileDisk::reading(rt, rt.alloc(), paths.folder)
     } else {
@@ -107,31 +105,38 @@ fn carry_out<R, S, K, D>(
     words: &[String],
     paths: Paths<'_>,
     input: &mut S,
-    out: &mut Front<K>,
+    out: &mut K,
     disk: &mut D,
     is_told: bool,
 ) -> Status
 where
     R: Eprint + AllocGlobal + Threads + Wait + Sync,
     S: Source + Reasons,
-    K: Sink + Reasons + Drop,
+    K: Sink + Reasons,
     D: Disk + Reasons,
     ensures { HasRun (texts words.now)
         (outside (S.left input.old) (S.faults input.old) (D.told disk.old) (D.faults disk.old))
         (outside (S.left input.new) (S.faults input.new) (D.told disk.new) (D.faults disk.new))
-        (K.written out.old.sink) (K.written out.new.sink)
-        (K.faults out.old.sink) (K.faults out.new.sink) result }
+        (K.written out.old) (K.written out.new) (K.faults out.old) (K.faults out.new) result }
 {
     let gate = Progress::new(rt, is_told);
-    let status = run(rt, rt.alloc(), words, input, out, disk, &gate);
-    match status {
+    let ran = run(rt, rt.alloc(), words, input, out, disk, &gate);
+    match ran.status {
         Status::ReadFault => explain(rt, paths.file, input.reason()),
-        Status::WriteFault => explain(rt, "standard output", out.sink.reason()),
-        Status::Refused => explain_refusal(rt, paths.file, out.kept()),
+        Status::WriteFault => explain(rt, "standard output", out.reason()),
+        Status::Refused => explain_refusal(rt, paths.file, ran.refusal),
         Status::DiskFault => explain(rt, paths.folder, disk.reason()),
-        _ => advise(rt, paths.folder, status),
+        status => advise(rt, paths.folder, status),
     }
-    status
+    ran.status
+}
+
+// Says what is the matter with the text of this file, which was refused, and what helps.
+fn explain_refusal<R: Eprint>(rt: &R, file: &str, refusal: Option<Refusal>) {
+    if let Some(Refusal { line, kind }) = refusal {
+        let reason = reason(kind);
+        let _ = eprintln!(rt; "ug: {file}: line {line}: {reason}");
+    }
 }
 
 // Says what is the matter with the checkpoint in this folder.

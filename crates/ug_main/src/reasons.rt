@@ -1,9 +1,7 @@
-use crate::front::Front;
 use std::fs::File;
 use std::io;
 use std::io::Write;
 use std::rt::Files;
-use ug_io::Sink;
 use ug_real::{FileDisk, Reader, Writer};
 
 /// What keeps why a call on it failed.
@@ -27,11 +25,5 @@ impl<W: Write + Drop> Reasons for Writer<W> {
 impl<R: Files<File = File>> Reasons for FileDisk<'_, R> {
     fn reason(&self) -> Option<&io::Error> {
         self.error()
-    }
-}
-
-impl<S: Sink + Reasons + Drop> Reasons for Front<S> {
-    fn reason(&self) -> Option<&io::Error> {
-        self.sink.reason()
     }
 }

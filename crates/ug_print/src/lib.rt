@@ -1,6 +1,7 @@
-//! The lines that the program prints, each of which a definition in specs/ pins.
+//! The lines that the program prints, each of which a definition in specs/ pins, and what standard
+//! error says of a text that is refused, which none does.
 //! It stands on ug_book for what a run answers, on ug_restart for why none begins, on ug_image for
-//! what a checkpoint has, and on ug_mps for why a text is refused.
+//! what a checkpoint has, and on ug_drafts for why a text is refused.
 //! Each function makes or adds whole lines and takes memory for nothing but them and their numbers;
 //! what is written where memory is wanting takes none.
 #![tactic(auto)]
@@ -13,6 +14,7 @@ mod faults;
 mod fixed;
 mod limited;
 mod nodes;
+mod reasons;
 mod refusals;
 mod words;
 
@@ -22,4 +24,5 @@ pub use counts::push_counts;
 pub use faults::fault_line;
 pub use fixed::{memory, read_fault};
 pub use limited::open_line;
+pub use reasons::reason;
 pub use refusals::refusal;

@@ -6,7 +6,7 @@ use Rattle.ug_restart.specs.declared.fault.StartFault.{StartFault}
 use Rattle.ug_restart.specs.declared.fault.StartFault.TheVariants as faults
 use Rattle.ug_restart.specs.declared.outcome.Outcome.{Outcome}
 use Rattle.ug_top.specs.declared.ended.Ended.{Ended}
-use Rattle.ug_top.specs.declared.ended.Ended.TheVariants.{Lines, ReadFault, Memory}
+use Rattle.ug_top.specs.declared.ended.Ended.TheVariants.{Lines, Refused, ReadFault, Memory}
 use Rattle.ug_top.specs.declared.status.Status.{Status}
 use Rattle.ug_top.specs.declared.status.Status.TheVariants as statuses
 use Rattle.ug_top.specs.Ends.{IsReadAs, IsStored, status_of}
@@ -24,13 +24,15 @@ rose_rises old new (inr h) = omega (arith, h.1)
 
 is_read_fault : (boxed : Option ℕ) (left : Option (List ℕ)) (e : Ended) → IsUnread boxed left e
     → status_of e ≡ statuses.ReadFault → e ≡ ReadFault
-is_read_fault boxed left (Lines status text) t is = absurd (cc (sym t.0 ∙ is))
+is_read_fault boxed left (Lines status text) t is = absurd t
+is_read_fault boxed left (Refused refusal text) t is = absurd (cc is)
 is_read_fault boxed left ReadFault t is = refl
 is_read_fault boxed left Memory t is = absurd (cc is)
 
 no_disk_fault : (boxed : Option ℕ) (left : Option (List ℕ)) (e : Ended) → IsUnread boxed left e
     → status_of e ≡ statuses.DiskFault → ⊥
-no_disk_fault boxed left (Lines status text) t is = absurd (cc (sym t.0 ∙ is))
+no_disk_fault boxed left (Lines status text) t is = absurd t
+no_disk_fault boxed left (Refused refusal text) t is = absurd (cc is)
 no_disk_fault boxed left ReadFault t is = absurd (cc is)
 no_disk_fault boxed left Memory t is = absurd (cc is)
 
@@ -88,6 +90,7 @@ run_not_read Ran Not gap (Lines status text) (inl (outcome, ran, lines)) is =
     over_not_read status (outcome_is_over gap outcome status text.items lines) is
 run_not_read Ran Not gap (Lines status text) (inr (fault, not, tells)) is =
     fault_not_read fault (sym tells.0 ∙ is)
+run_not_read Ran Not gap (Refused refusal text) t is = absurd t
 run_not_read Ran Not gap ReadFault t is = absurd t
 run_not_read Ran Not gap Memory t is = absurd (cc is)
 

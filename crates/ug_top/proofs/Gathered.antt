@@ -10,7 +10,7 @@ use Rattle.ug_mps.specs.Laws.{StatesSame}
 use Rattle.ug_mps.proofs.EndingLemmas.{no_end_of, no_end_behind, no_end_yet}
 use Rattle.ug_mps.proofs.LineTails.{no_feed_both}
 use Rattle.ug_top.specs.declared.ended.Ended.{Ended}
-use Rattle.ug_top.specs.declared.ended.Ended.TheVariants.{Lines, ReadFault, Memory}
+use Rattle.ug_top.specs.declared.ended.Ended.TheVariants.{Lines, Refused, ReadFault, Memory}
 use Rattle.ug_top.specs.Unread.{HasStopped}
 use Rattle.ug_top.specs.Enough.{IsEnough, PieceCame, StopsAtEnd, StopsAtFeed, StopsBehind}
 
@@ -183,6 +183,7 @@ enough_last a b xs ys zs n z e g at =
 -- so it did for each way in which the text is not read
 pub has_stopped : (a b : Option (List ℕ)) (e : Ended) → StopsAtEnd a b → HasStopped a b e
 has_stopped a b (Lines status told) h = h
+has_stopped a b (Refused refusal told) h = h
 has_stopped a b ReadFault h = tt
 has_stopped a b Memory h = tt
 

@@ -12,7 +12,7 @@ use Rattle.ug_restart.specs.Openings.{CoversWhatIsFound}
 use Rattle.ug_restart.specs.Moments.{AllCovered, IsCoveredFind}
 use Rattle.ug_threads.specs.Outcomes.{IsUntouched}
 use Rattle.ug_top.specs.declared.ended.Ended.{Ended}
-use Rattle.ug_top.specs.declared.ended.Ended.TheVariants.{Lines, ReadFault, Memory}
+use Rattle.ug_top.specs.declared.ended.Ended.TheVariants.{Lines, Refused, ReadFault, Memory}
 use Rattle.ug_top.specs.declared.status.Status.{Status}
 use Rattle.ug_top.specs.declared.status.Status.TheVariants as statuses
 use Rattle.ug_top.specs.Ends.{IsCalmFor, IsStored, IsUnreadFor, status_of}
@@ -80,6 +80,7 @@ pub outcome_stored : (gap : ℕ) (outcome : Outcome) (e : Ended) (slots after : 
 outcome_stored gap outcome (Lines status text) slots after stores risen t rises moment =
     over slots after stores risen status (outcome_is_over gap outcome status text.items t) rises
     moment
+outcome_stored gap outcome (Refused refusal text) slots after stores risen t rises moment = absurd t
 outcome_stored gap outcome ReadFault slots after stores risen t rises moment = absurd t
 outcome_stored gap outcome Memory slots after stores risen t rises moment =
     memory slots after stores risen rises moment
@@ -99,6 +100,7 @@ end_stored outcome (Lines status text) slots after stores risen t same calm =
     let un = untouched slots after stores risen statuses.Memory (λ e. absurd (cc e)) same calm in
     over slots after stores risen status (line_is_over outcome.end status text.items t) un.rises
     un.any_moment
+end_stored outcome (Refused refusal text) slots after stores risen t same calm = absurd t
 end_stored outcome ReadFault slots after stores risen t same calm = absurd t
 end_stored outcome Memory slots after stores risen t same calm =
     untouched slots after stores risen statuses.Memory (λ e. absurd (cc e)) same calm
@@ -164,6 +166,7 @@ pub fault_stored : (fault : StartFault) (e : Ended) (slots after : Option Histor
 fault_stored fault (Lines status text) slots after stores risen t rises rose calm moment =
     subst (IsStored slots after stores risen) (sym t.0)
     (faulty fault slots after stores risen rises rose calm moment)
+fault_stored fault (Refused refusal text) slots after stores risen t rises rose calm moment = absurd t
 fault_stored fault ReadFault slots after stores risen t rises rose calm moment = absurd t
 fault_stored fault Memory slots after stores risen t rises rose calm moment =
     memory slots after stores risen rises moment
@@ -186,6 +189,7 @@ pub image_stored : (image : Image) (e : Ended) (slots after : Option History) (s
 image_stored image (Lines status text) slots after stores risen t calm leaves =
     over slots after stores risen status (inl t.0) (omega (arith, calm))
     (load_covered slots after leaves)
+image_stored image (Refused refusal text) slots after stores risen t calm leaves = absurd t
 image_stored image ReadFault slots after stores risen t calm leaves = absurd t
 image_stored image Memory slots after stores risen t calm leaves =
     memory slots after stores risen (omega (arith, calm)) (load_covered slots after leaves)

@@ -9,7 +9,7 @@ use Rattle.ug_restart.specs.declared.outcome.Outcome.{Outcome}
 use Rattle.ug_print.specs.Faults.{fault_line}
 use Rattle.ug_cli.specs.declared.plan.Settings.{Settings as Asked}
 use Rattle.ug_top.specs.declared.ended.Ended.{Ended}
-use Rattle.ug_top.specs.declared.ended.Ended.TheVariants.{Lines, ReadFault, Memory}
+use Rattle.ug_top.specs.declared.ended.Ended.TheVariants.{Lines, Refused, ReadFault, Memory}
 use Rattle.ug_top.specs.declared.status.Status.{Status}
 use Rattle.ug_top.specs.declared.status.Status.TheVariants as statuses
 use Rattle.ug_top.specs.Ends.{AreFileLines, AreGenLines, AreRestartLines, AreSolveLines, BeginsAlways, HasNotBegun, HasNotGoneOn, HasRunAlone, HasRunOn, HasRunSaved, status_of, text_of}
@@ -131,6 +131,7 @@ module _ (Ran : Instance → Outcome → Type 0) (Not : Instance → StartFault 
   run_lines (Lines status text) (inr (fault, not, tells)) =
       subst (λ s. AreFileLines Ran Not asked left s text.items) (sym tells.0)
       (fault_lines fault text.items not tells.1)
+  run_lines (Refused refusal text) t = absurd t
   run_lines ReadFault t = absurd t
   run_lines Memory t = refl
 
@@ -169,8 +170,8 @@ restart_lines asked old new p states e t =
 pub unread_lines : (Ran : Instance → Outcome → Type 0) (Not : Instance → StartFault → Type 0)
     (asked : Asked) (left : Option (List ℕ)) (e : Ended) → IsUnread asked.bounds.boxed left e
     → AreFileLines Ran Not asked left (status_of e) (text_of e)
-unread_lines Ran Not asked left (Lines status text) t =
-    subst (λ s. AreFileLines Ran Not asked left s text.items) (sym t.0) t.1
+unread_lines Ran Not asked left (Lines status text) t = absurd t
+unread_lines Ran Not asked left (Refused refusal text) t = t
 unread_lines Ran Not asked left ReadFault t = refl
 unread_lines Ran Not asked left Memory t = refl
 
@@ -180,12 +181,14 @@ pub tells_outcome : (Ran : Outcome → Type 0) (Not : StartFault → Type 0) (ga
     (outcome : Outcome) (e : Ended) → Ran outcome → TellsOutcome gap outcome e
     → TellsRun Ran Not gap e
 tells_outcome Ran Not gap outcome (Lines status text) ran t = inl (outcome, ran, t)
+tells_outcome Ran Not gap outcome (Refused refusal text) ran t = absurd t
 tells_outcome Ran Not gap outcome ReadFault ran t = absurd t
 tells_outcome Ran Not gap outcome Memory ran t = tt
 
 pub tells_fault : (Ran : Outcome → Type 0) (Not : StartFault → Type 0) (gap : ℕ)
     (fault : StartFault) (e : Ended) → Not fault → TellsFault fault e → TellsRun Ran Not gap e
 tells_fault Ran Not gap fault (Lines status text) not t = inr (fault, not, t)
+tells_fault Ran Not gap fault (Refused refusal text) not t = absurd t
 tells_fault Ran Not gap fault ReadFault not t = absurd t
 tells_fault Ran Not gap fault Memory not t = tt
 
@@ -215,5 +218,6 @@ module _ (gen : Gen) (slots after : Option History) (stores risen : ℕ) (outcom
       → AreGenLines gen slots after stores risen (status_of e) (text_of e)
   made_lines (Lines status text) t =
       made_over status text.items t (line_is_over outcome.end status text.items t)
+  made_lines (Refused refusal text) t = absurd t
   made_lines ReadFault t = absurd t
   made_lines Memory t = refl

@@ -6,7 +6,7 @@ use Rattle.ug_top.specs.Enough.{IsEnough}
 use Rattle.ug_top.specs.Lines.{States}
 use Rattle.ug_top.specs.Unread.{IsTextUnread, IsUnread}
 use Rattle.ug_top.specs.declared.ended.Ended.{Ended}
-use Rattle.ug_top.specs.declared.ended.Ended.TheVariants.{Lines, ReadFault, Memory}
+use Rattle.ug_top.specs.declared.ended.Ended.TheVariants.{Lines, Refused, ReadFault, Memory}
 
 pub told_problem : (left : Option (List ℕ)) (text : List ℕ) (boxed : Option ℕ) (p : Instance)
     → IfSome left (λ bytes. IsEnough bytes text) → Reads text boxed p → States left boxed p
@@ -16,9 +16,10 @@ told_problem (Some bytes) text boxed p enough reads = enough.problem boxed p rea
 pub told_unread : (left : Option (List ℕ)) (text : List ℕ) (boxed : Option ℕ) (e : Ended)
     → IfSome left (λ bytes. IsEnough bytes text) → IsTextUnread boxed text e
     → IsUnread boxed left e
-told_unread None text boxed (Lines status told) enough (is, (f, first, same)) =
-    (is, record { fault = f; first = tt; is = same })
-told_unread (Some bytes) text boxed (Lines status told) enough (is, (f, first, same)) =
-    (is, record { fault = f; first = enough.fault boxed f first; is = same })
-told_unread left text boxed ReadFault enough unread = tt
+told_unread left text boxed (Lines status told) enough unread = absurd unread
+told_unread None text boxed (Refused refusal told) enough (f, first, same) =
+    record { fault = f; first = tt; is = same }
+told_unread (Some bytes) text boxed (Refused refusal told) enough (f, first, same) =
+    record { fault = f; first = enough.fault boxed f first; is = same }
+told_unread left text boxed ReadFault enough unread = absurd unread
 told_unread left text boxed Memory enough unread = tt

@@ -28,16 +28,18 @@ use Rattle.ug_top.specs.Lines.{AreFaultLines, AreRunLines, IsEndLine, IsRefusedL
 use Rattle.ug_top.specs.declared.status.Status.{Status}
 use Rattle.ug_top.specs.declared.status.Status.TheVariants as statuses
 use Rattle.ug_top.specs.declared.ended.Ended.{Ended}
-use Rattle.ug_top.specs.declared.ended.Ended.TheVariants.{Lines, ReadFault, Memory}
+use Rattle.ug_top.specs.declared.ended.Ended.TheVariants.{Lines, Refused, ReadFault, Memory}
 
 -- its status and its lines
 abbrev pub status_of : Ended → Status
 status_of (Lines status text) = status
+status_of (Refused refusal text) = statuses.Refused
 status_of ReadFault = statuses.ReadFault
 status_of Memory = statuses.Memory
 
 abbrev pub text_of : Ended → List ℕ
 text_of (Lines status text) = text.items
+text_of (Refused refusal text) = text.items
 text_of ReadFault = read_fault_line
 text_of Memory = memory_line
 

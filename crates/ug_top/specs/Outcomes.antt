@@ -7,39 +7,39 @@ use Rattle.ug_print.specs.Faults.{fault_line}
 use Rattle.ug_print.specs.Checkpoints.{AreCheckpointLines}
 use Rattle.ug_top.specs.declared.status.Status.TheVariants as statuses
 use Rattle.ug_top.specs.declared.ended.Ended.{Ended}
-use Rattle.ug_top.specs.declared.ended.Ended.TheVariants.{Lines, ReadFault, Memory}
+use Rattle.ug_top.specs.declared.ended.Ended.TheVariants.{Lines, Memory}
 use Rattle.ug_top.specs.Lines.{AreOutcomeLines, IsEndLine, status_of_fault}
 
 -- the lines of the outcome are told, or memory was wanting
 abbrev pub TellsOutcome : ℕ → Outcome → Ended → Type 0
 TellsOutcome gap outcome (Lines status text) = AreOutcomeLines gap outcome status text.items
-TellsOutcome gap outcome ReadFault = ⊥
 TellsOutcome gap outcome Memory = Unit {0}
+TellsOutcome gap outcome ended = ⊥
 
 -- the first line of the outcome's end is told, or memory was wanting
 abbrev pub TellsEnd : Outcome → Ended → Type 0
 TellsEnd outcome (Lines status text) = IsEndLine outcome.end status text.items
-TellsEnd outcome ReadFault = ⊥
 TellsEnd outcome Memory = Unit {0}
+TellsEnd outcome ended = ⊥
 
 -- the fault is told, or memory was wanting
 abbrev pub TellsFault : StartFault → Ended → Type 0
 TellsFault fault (Lines status text) =
     (status ≡ status_of_fault fault) × (text.items ≡ fault_line fault)
-TellsFault fault ReadFault = ⊥
 TellsFault fault Memory = Unit {0}
+TellsFault fault ended = ⊥
 
 -- an outcome that Ran holds of is told, or a fault that Not holds of, or memory was wanting
 abbrev pub TellsRun : (Outcome → Type 0) → (StartFault → Type 0) → ℕ → Ended → Type 0
 TellsRun Ran Not gap (Lines status text) =
     ((outcome : Outcome) × Ran outcome × AreOutcomeLines gap outcome status text.items)
     ⊎ ((fault : StartFault) × Not fault × TellsFault fault (Lines status text))
-TellsRun Ran Not gap ReadFault = ⊥
 TellsRun Ran Not gap Memory = Unit {0}
+TellsRun Ran Not gap ended = ⊥
 
 -- the checkpoint is told, or memory was wanting
 abbrev pub TellsImage : Image → Ended → Type 0
 TellsImage image (Lines status text) =
     (status ≡ statuses.Answered) × AreCheckpointLines image text.items
-TellsImage image ReadFault = ⊥
 TellsImage image Memory = Unit {0}
+TellsImage image ended = ⊥

@@ -4,27 +4,27 @@ use Rattle.ug_drafts.specs.declared.fault.MpsFault.{MpsFault}
 use Rattle.ug_mps.specs.Reads.{FirstFault}
 use Rattle.ug_print.specs.Refusals.{refused_line}
 use Rattle.ug_top.specs.declared.ended.Ended.{Ended}
-use Rattle.ug_top.specs.declared.ended.Ended.TheVariants.{Lines, ReadFault, Memory}
-use Rattle.ug_top.specs.declared.status.Status.TheVariants as statuses
+use Rattle.ug_top.specs.declared.ended.Ended.TheVariants.{Lines, Refused, ReadFault, Memory}
 use Rattle.ug_top.specs.Enough.{StopsAtEnd}
 use Rattle.ug_top.specs.Lines.{IsRefusedLine}
 
 -- the text has a first fault, which is told; or memory was wanting
 abbrev pub IsTextUnread : Option ℕ → List ℕ → Ended → Type 0
-IsTextUnread boxed text (Lines status told) = (status ≡ statuses.Refused)
-    × ((f : MpsFault) × FirstFault text boxed f × (told.items ≡ refused_line f))
-IsTextUnread boxed text ReadFault = ⊥
+IsTextUnread boxed text (Refused refusal told) =
+    (f : MpsFault) × FirstFault text boxed f × (told.items ≡ refused_line f)
 IsTextUnread boxed text Memory = Unit {0}
+IsTextUnread boxed text ended = ⊥
 
 -- the first fault of the source's bytes is told; or the source failed; or memory was wanting
 abbrev pub IsUnread : Option ℕ → Option (List ℕ) → Ended → Type 0
-IsUnread boxed left (Lines status told) =
-    (status ≡ statuses.Refused) × IsRefusedLine boxed left told.items
+IsUnread boxed left (Lines status told) = ⊥
+IsUnread boxed left (Refused refusal told) = IsRefusedLine boxed left told.items
 IsUnread boxed left ReadFault = Unit {0}
 IsUnread boxed left Memory = Unit {0}
 
 -- where lines are told, reading stopped with the line ENDATA
 abbrev pub HasStopped : Option (List ℕ) → Option (List ℕ) → Ended → Type 0
 HasStopped old new (Lines status told) = StopsAtEnd old new
+HasStopped old new (Refused refusal told) = StopsAtEnd old new
 HasStopped old new ReadFault = Unit {0}
 HasStopped old new Memory = Unit {0}

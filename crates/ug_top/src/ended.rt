@@ -1,6 +1,7 @@
 ghost use Rattle.std.specs.Prelude.{◌≡◌};
 ghost use Rattle.ug_top.specs.Ends.{status_of, text_of};
 
+use crate::ran::Refusal;
 use crate::status::Status;
 
 /// How a command ended, with the lines to write.
@@ -8,6 +9,8 @@ use crate::status::Status;
 pub enum Ended {
     /// With lines that were made.
     Lines { status: Status, text: Vec<u8> },
+    /// The text states no problem.
+    Refused { refusal: Refusal, text: Vec<u8> },
     /// The source failed.
     ReadFault,
     /// Memory was wanting.
@@ -21,6 +24,7 @@ impl Ended {
     {
         match self {
             Ended::Lines { status, .. } => *status,
+            Ended::Refused { .. } => Status::Refused,
             Ended::ReadFault => Status::ReadFault,
             Ended::Memory => Status::Memory,
         }
@@ -32,8 +36,17 @@ impl Ended {
     {
         match self {
             Ended::Lines { text, .. } => text.as_slice(),
+            Ended::Refused { text, .. } => text.as_slice(),
             Ended::ReadFault => ug_print::read_fault(),
             Ended::Memory => ug_print::memory(),
+        }
+    }
+
+    /// Why the text was refused, where it was.
+    pub fn refusal(&self) -> Option<Refusal> {
+        match self {
+            Ended::Refused { refusal, .. } => Some(*refusal),
+            Ended::Lines { .. } | Ended::ReadFault | Ended::Memory => None,
         }
     }
 }

@@ -11,6 +11,7 @@ mod gather;
 mod made;
 mod one_run;
 mod outcome;
+mod ran;
 mod reading;
 mod running;
 mod scaled;
@@ -19,5 +20,6 @@ mod show;
 mod status;
 mod write;
 
+pub use ran::{Ran, Refusal};
 pub use running::run;
 pub use status::Status;

@@ -8,7 +8,7 @@ ghost use Rattle.ug_top.specs.declared.ended.Ended.TheVariants.{ReadFault};
 
 use crate::ended::Ended;
 use crate::gather::{GatherError, gather};
-use crate::status::Status;
+use crate::ran::Refusal;
 use std::alloc::{AllocError, Global};
 use ug_drafts::MpsError;
 use ug_io::Source;
@@ -53,8 +53,11 @@ fn problem_of(alloc: Global, text: &[u8], boxed: Option<u32>) -> Result<Problem,
         Ok(problem) => Ok(problem),
         Err(MpsError::Memory) => Err(Ended::Memory),
         Err(MpsError::Fault(fault)) => match refusal(alloc, &fault) {
-            Ok(text) => Err(Ended::Lines {
-                status: Status::Refused,
+            Ok(text) => Err(Ended::Refused {
+                refusal: Refusal {
+                    line: fault.line,
+                    kind: fault.kind,
+                },
                 text,
             }),
             Err(AllocError) => Err(Ended::Memory),

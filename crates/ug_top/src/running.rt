@@ -5,6 +5,7 @@ ghost use Rattle.ug_top.specs.Ran.{HasRun, HasTold, IsDue, due_status, due_text}
 
 use crate::command::run_plan;
 use crate::ended::Ended;
+use crate::ran::Ran;
 use crate::status::Status;
 use crate::write::write_all;
 use std::alloc::Global;
@@ -18,7 +19,8 @@ use ug_threads::Gate;
 
 /// Does all that the program does: reads the words, which are those behind the program's name, does
 /// what they ask for, and writes the lines of it. `Memory` alone has no cause: it may come in place
-/// of any status but `Usage`, or before the outside fails.
+/// of any status but `Usage`, or before the outside fails. Of a text that was refused it answers why,
+/// whatever became of its line.
 pub fn run<R: Threads + Wait + Sync, S: Source, K: Sink, D: Disk, G: Gate>(
     rt: &R,
     alloc: Global,
@@ -27,16 +29,23 @@ pub fn run<R: Threads + Wait + Sync, S: Source, K: Sink, D: Disk, G: Gate>(
     out: &mut K,
     disk: &mut D,
     gate: &G,
-) -> Status
+) -> Ran
     ensures { HasRun (texts words.now)
         (outside (S.left input.old) (S.faults input.old) (D.told disk.old) (D.faults disk.old))
         (outside (S.left input.new) (S.faults input.new) (D.told disk.new) (D.faults disk.new))
-        (K.written out.old) (K.written out.new) (K.faults out.old) (K.faults out.new) result }
+        (K.written out.old) (K.written out.new) (K.faults out.old) (K.faults out.new)
+        result.status }
 {
     let Some(ended) = carry_out(rt, alloc, words, input, disk, gate) else {
-        return Status::Usage;
+        return Ran {
+            status: Status::Usage,
+            refusal: None,
+        };
     };
-    tell(out, &ended)
+    let status = tell(out, &ended);
+    let refusal = ended.refusal();
+    drop(ended);
+    Ran { status, refusal }
 }
 
 // Writes the lines with which it ended. The status is then the one due, unless the sink failed.

@@ -13,6 +13,8 @@ mod fault_texts;
 #[cfg(test)]
 mod long_texts;
 #[cfg(test)]
+mod refusals;
+#[cfg(test)]
 mod running;
 #[cfg(test)]
 mod runs;

@@ -6,7 +6,7 @@ use std::thread::Threads;
 use ug_disk::{Disk, MemoryDisk};
 use ug_io::{MemorySink, MemorySource, Script, Source};
 use ug_threads::OpenGate;
-use ug_top::run;
+use ug_top::{Ran, run};
 
 /// The words of a line, which blanks part; `''` is an empty word.
 pub fn words_of(alloc: Global, line: &str) -> Result<Vec<String>, AllocError> {
@@ -51,9 +51,9 @@ pub fn told_of<R: Threads + Wait + Sync, S: Source, D: Disk>(
 ) -> Result<Vec<u8>, AllocError> {
     let words = words_of(alloc, line)?;
     let mut out = MemorySink::new(alloc, Script::new(Vec::new(alloc), 64));
-    let status = run(rt, alloc, &words, input, &mut out, disk, &OpenGate);
+    let ran = run(rt, alloc, &words, input, &mut out, disk, &OpenGate);
     drop(words);
-    let told = behind(alloc, status.code(), out.bytes());
+    let told = behind(alloc, ran.status.code(), out.bytes());
     drop(out);
     told
 }
@@ -75,4 +75,20 @@ pub fn told<R: Threads + Wait + Sync, D: Disk>(
     disk: &mut D,
 ) -> Result<Vec<u8>, AllocError> {
     told_of(rt, alloc, line, &mut MemorySource { rest: text }, disk)
+}
+
+/// What a solve of a text answers that writes to this sink.
+pub fn ran_over<R: Threads + Wait + Sync>(
+    rt: &R,
+    alloc: Global,
+    text: &[u8],
+    out: &mut MemorySink,
+) -> Result<Ran, AllocError> {
+    let words = words_of(alloc, "solve f")?;
+    let mut input = MemorySource { rest: text };
+    let mut disk = sound_disk(alloc);
+    let ran = run(rt, alloc, &words, &mut input, out, &mut disk, &OpenGate);
+    drop(words);
+    drop(disk);
+    Ok(ran)
 }

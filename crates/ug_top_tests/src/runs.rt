@@ -1,14 +1,12 @@
 //! Sources and sinks that fail, and words that are no command.
 
 use crate::expect::{same, same_at};
-use crate::running::{sound_disk, told, told_of, words_of};
+use crate::running::{ran_over, sound_disk, told, told_of};
 use std::alloc::{AllocError, Global};
 use std::process::Abort;
 use std::sync::Wait;
 use std::thread::Threads;
 use ug_io::{MemorySink, MemorySource, Script, ScriptedSource};
-use ug_threads::OpenGate;
-use ug_top::run;
 
 const EMPTY: &str = "ROWS\n N Z\nENDATA\n";
 
@@ -59,15 +57,8 @@ fn status_over<R: Threads + Wait + Sync + Abort>(
     alloc: Global,
     out: &mut MemorySink,
 ) -> u8 {
-    let mut input = MemorySource {
-        rest: EMPTY.as_bytes(),
-    };
-    let words = words_of(alloc, "solve f").expect(rt, "memory");
-    let mut disk = sound_disk(alloc);
-    let status = run(rt, alloc, &words, &mut input, out, &mut disk, &OpenGate);
-    drop(words);
-    drop(disk);
-    status.code()
+    let ran = ran_over(rt, alloc, EMPTY.as_bytes(), out).expect(rt, "memory");
+    ran.status.code()
 }
 
 // Expects this to be written where this write fails, each of which takes up to six bytes.

@@ -6,5 +6,5 @@ returns g c = record {
   due_status = status_of c.in-Some.ended;
   text = text_of c.in-Some.ended;
   due = c.in-Some.ensures;
-  told = c.tell.ensures;
+  told = c.tell-status.ensures;
 }
