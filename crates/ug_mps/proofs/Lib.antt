@@ -27,3 +27,4 @@ pub mod EndLines
 pub mod LineHeads
 pub mod LineTails
 pub mod EndingLemmas
+pub mod Gathered

@@ -18,3 +18,4 @@ pub mod Taking
 pub mod Reading
 pub mod Finish
 pub mod Ending
+pub mod Enough

@@ -2,7 +2,7 @@
 use Rattle.std.proofs.Common.{ℕ, List, Option, Some, None, IfSome}
 use Rattle.ug_problem.specs.Instances.{Instance}
 use Rattle.ug_mps.specs.Reads.{Reads}
-use Rattle.ug_top.specs.Enough.{IsEnough}
+use Rattle.ug_mps.specs.Enough.{IsEnough}
 use Rattle.ug_top.specs.Lines.{States}
 use Rattle.ug_top.specs.Unread.{IsTextUnread, IsUnread}
 use Rattle.ug_top.specs.declared.ended.Ended.{Ended}

@@ -1,6 +1,5 @@
 pub mod Ran
 pub mod Ends
-pub mod Enough
 pub mod Lines
 pub mod Outcomes
 pub mod Outside

@@ -10,7 +10,7 @@ use Rattle.ug_cli.specs.Taken.{TakenWords}
 use Rattle.ug_cli.specs.declared.plan.Plan.{Plan}
 use Rattle.ug_cli.specs.declared.plan.Plan.TheVariants as plans
 use Rattle.ug_top.specs.Outside.{Outside}
-use Rattle.ug_top.specs.Enough.{StopsAtEnd}
+use Rattle.ug_mps.specs.Enough.{StopsAtEnd}
 use Rattle.ug_top.specs.Ends.{AreLinesOf, IsAccounted, IsDiskless, IsLeftAlone, status_of}
 use Rattle.ug_top.specs.Ends.{text_of}
 use Rattle.ug_top.specs.declared.ended.Ended.{Ended}

@@ -5,7 +5,7 @@ use Rattle.ug_mps.specs.Reads.{FirstFault}
 use Rattle.ug_print.specs.Refusals.{refused_line}
 use Rattle.ug_top.specs.declared.ended.Ended.{Ended}
 use Rattle.ug_top.specs.declared.ended.Ended.TheVariants.{Lines, Refused, ReadFault, Memory}
-use Rattle.ug_top.specs.Enough.{StopsAtEnd}
+use Rattle.ug_mps.specs.Enough.{StopsAtEnd}
 use Rattle.ug_top.specs.Lines.{IsRefusedLine}
 
 -- the text has a first fault, which is told; or memory was wanting

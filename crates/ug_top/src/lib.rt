@@ -7,7 +7,6 @@
 
 mod command;
 mod ended;
-mod gather;
 mod made;
 mod one_run;
 mod outcome;

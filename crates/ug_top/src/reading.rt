@@ -1,18 +1,17 @@
 ghost use Rattle.std.specs.Prelude.{◌≡◌, ◌≤◌, ◌<◌, ◌^◌, ◌⊎◌, IfSome, IfOk, IfErr, OnOk};
 ghost use Rattle.ug_io.specs.Outside.{Rose};
 ghost use Rattle.ug_mps.specs.Reads.{Reads};
-ghost use Rattle.ug_top.specs.Enough.{StopsAtEnd};
+ghost use Rattle.ug_mps.specs.Enough.{StopsAtEnd};
 ghost use Rattle.ug_top.specs.Lines.{States};
 ghost use Rattle.ug_top.specs.Unread.{HasStopped, IsTextUnread, IsUnread};
 ghost use Rattle.ug_top.specs.declared.ended.Ended.TheVariants.{ReadFault};
 
 use crate::ended::Ended;
-use crate::gather::{GatherError, gather};
 use crate::ran::Refusal;
 use std::alloc::{AllocError, Global};
 use ug_drafts::MpsError;
 use ug_io::Source;
-use ug_mps::read;
+use ug_mps::{GatherError, gather, read};
 use ug_print::refusal;
 use ug_problem::{Problem, Shared};
 

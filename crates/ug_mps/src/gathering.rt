@@ -1,13 +1,13 @@
 ghost use Rattle.std.specs.Prelude.{◌≡◌, ◌<◌, ◌≤◌, ◌^◌, ◌++◌, length, take, drop, IfOk, IfErr, OnOk, OnErr, IfSome, IsErrOf};
 ghost use Rattle.ug_io.specs.Outside.{Rose, Gives, IsAtEnd};
 ghost use Rattle.ug_mps.specs.Ending.{HasNoEnd, begins_legibly, legible_by, mark};
-ghost use Rattle.ug_mps.specs.declared.ending.Tail.TheVariants as Tail;
-ghost use Rattle.ug_top.specs.Enough.{IsEnough, PieceCame, StopsAtEnd, StopsAtFeed, StopsBehind, legible_left};
-ghost use Rattle.ug_top.specs.declared.gather.GatherError.TheVariants.{Memory, Fault};
+ghost use Rattle.ug_mps.specs.Enough.{HasCome, IsEnough, IsRead, PieceCame, StopsAtEnd, StopsAtFeed, StopsBehind};
+ghost use Rattle.ug_mps.specs.declared.gathering.GatherError.TheVariants.{Memory, Fault};
 
+use crate::ending::{Seen, Tail, see, tail_of};
+use crate::line::LIMIT;
 use std::alloc::{AllocError, Global};
 use ug_io::{Failed, Source};
-use ug_mps::{LIMIT, Seen, Tail, see, tail_of};
 
 /// How many bytes show that a text is too long: one more than it may have before its ENDATA line.
 const MOST: usize = LIMIT + 1;
@@ -97,16 +97,9 @@ fn read_on<S: Source>(
     requires open_ { HasNoEnd bytes.old.items }
     requires room { 0 < length buffer.old }
     ensures room { length buffer.new ≡ length buffer.old }
-    ensures came { IfOk result (λ n. n ≤ length buffer.new) }
-    ensures bytes { IfOk result (λ n. bytes.new.items ≡ bytes.old.items ++ take n buffer.new) }
-    ensures taken { IfOk result
-        (λ n. Gives (S.left input.old) (S.left input.new) (take n buffer.new)) }
-    ensures end { IfOk result (λ n. n ≡ 0 → IsAtEnd (S.left input.old)) }
-    ensures fault { IsErrOf result GatherError.Fault
-        → Rose (S.faults input.old) (S.faults input.new) }
-    ensures calm { OnOk result (S.faults input.new ≡ S.faults input.old) }
-    ensures memory { IsErrOf result GatherError.Memory
-        → S.faults input.new ≡ S.faults input.old }
+    ensures came { IfOk result (HasCome buffer.new bytes.old.items bytes.new.items
+        (S.left input.old) (S.left input.new)) }
+    ensures read { IsRead result (S.faults input.old) (S.faults input.new) }
 {
     let n = input.read(buffer)?;
     bytes.extend_from_slice(&buffer[..n])?;
@@ -127,11 +120,7 @@ fn ended<S: Source>(
         ≡ take cut bytes.items ++ mark (begins_legibly (drop cut bytes.items ++ more)))) }
     ensures stops { OnOk result
         (StopsBehind (drop cut bytes.items) (S.left input.old) (S.left input.new)) }
-    ensures fault { IsErrOf result GatherError.Fault
-        → Rose (S.faults input.old) (S.faults input.new) }
-    ensures calm { OnOk result (S.faults input.new ≡ S.faults input.old) }
-    ensures memory { IsErrOf result GatherError.Memory
-        → S.faults input.new ≡ S.faults input.old }
+    ensures read { IsRead result (S.faults input.old) (S.faults input.new) }
 {
     let tail = tail_of(false, bytes.split_at(cut).1);
     match passed(alloc, input, tail) {
@@ -163,11 +152,7 @@ fn passed<S: Source>(alloc: Global, input: &mut S, tail: Tail) -> Result<bool, G
     ensures legible { IfOk result (λ legible. IfSome (S.left input.old)
         (λ more. legible ≡ legible_by tail more)) }
     ensures stops { OnOk result (StopsAtFeed tail (S.left input.old) (S.left input.new)) }
-    ensures fault { IsErrOf result GatherError.Fault
-        → Rose (S.faults input.old) (S.faults input.new) }
-    ensures calm { OnOk result (S.faults input.new ≡ S.faults input.old) }
-    ensures memory { IsErrOf result GatherError.Memory
-        → S.faults input.new ≡ S.faults input.old }
+    ensures read { IsRead result (S.faults input.old) (S.faults input.new) }
 {
     let mut buffer = zeros(alloc, PIECE)?;
     let passed = pass(input, &mut buffer, tail);
@@ -184,11 +169,7 @@ fn pass<S: Source>(input: &mut S, buffer: &mut [u8], tail: Tail) -> Result<bool,
     ensures legible { IfOk result (λ legible. IfSome (S.left input.old)
         (λ more. legible ≡ legible_by tail more)) }
     ensures stops { OnOk result (StopsAtFeed tail (S.left input.old) (S.left input.new)) }
-    ensures fault { IsErrOf result GatherError.Fault
-        → Rose (S.faults input.old) (S.faults input.new) }
-    ensures calm { OnOk result (S.faults input.new ≡ S.faults input.old) }
-    ensures memory { IsErrOf result GatherError.Memory
-        → S.faults input.new ≡ S.faults input.old }
+    ensures read { IsRead result (S.faults input.old) (S.faults input.new) }
     ensures endless { IsErrOf result GatherError.Memory
         → IfSome (S.left input.old) (λ more. 2 ^ 63 ≤ length more) }
 {
@@ -207,9 +188,8 @@ fn pass<S: Source>(input: &mut S, buffer: &mut [u8], tail: Tail) -> Result<bool,
 fn pass_piece<S: Source>(input: &mut S, buffer: &mut [u8], after: bool) -> Result<Tail, Failed>
     requires some { 0 < length buffer.old }
     requires few { length buffer.old ≤ 65536 }
-    ensures tail { IfOk result (λ tail. legible_left (S.left input.old) (Tail.Open after)
-        ≡ legible_left (S.left input.new) tail) }
-    ensures came { IfOk result (λ tail. PieceCame tail (S.left input.old) (S.left input.new)) }
+    ensures came { IfOk result
+        (λ tail. PieceCame after tail (S.left input.old) (S.left input.new)) }
     ensures failed { OnErr result (Rose (S.faults input.old) (S.faults input.new)) }
     ensures calm { OnOk result (S.faults input.new ≡ S.faults input.old) }
     ensures room { length buffer.new ≡ length buffer.old }

@@ -1,7 +1,7 @@
 use Rattle.std.proofs.Common.{◌≡◌, length}
-use Rattle.ug_top.specs.Enough.{legible_left}
-use Rattle.ug_top.proofs.Gathered.{Passed}
-use Rattle.ug_top.proofs.gather.pass.Given as goal
+use Rattle.ug_mps.specs.Enough.{legible_left}
+use Rattle.ug_mps.proofs.Gathered.{Passed}
+use Rattle.ug_mps.proofs.gathering.pass.Given as goal
 
 abbrev pub invariant-loop : goal.invariant-loop
 invariant-loop g l = record {

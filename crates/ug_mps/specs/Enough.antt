@@ -1,11 +1,27 @@
 -- How much of the bytes is enough to see what they state, and how far they are read.
-use Rattle.std.specs.Prelude.{◌≡◌, ℕ, ◌<◌, ◌≤◌, Bool, List, ◌++◌, length, Option}
+use Rattle.std.specs.Prelude.{◌≡◌, ℕ, ◌<◌, ◌≤◌, Bool, List, ◌++◌, length, take, Option, Result, OnOk, IsErrOf}
 use Rattle.std.specs.Option.{option_map}
-use Rattle.ug_io.specs.Outside.{Gives}
+use Rattle.ug_io.specs.Outside.{Gives, IsAtEnd, Rose}
 use Rattle.ug_mps.specs.declared.ending.Tail.{Tail}
 use Rattle.ug_mps.specs.declared.ending.Tail.TheVariants as tails
 use Rattle.ug_mps.specs.Ending.{HasNoEnd, HasNoFeed, IsUnended, legible_by}
 use Rattle.ug_mps.specs.Laws.{StatesSame}
+use Rattle.ug_mps.specs.declared.gathering.GatherError.{GatherError}
+use Rattle.ug_mps.specs.declared.gathering.GatherError.TheVariants.{Memory, Fault}
+
+-- a fault is told only where the source's count of faults rose, and else the count stayed
+pub record IsRead {A : Type 0} (result : Result A GatherError) (faults risen : ℕ) : Type 0 where
+  pub fault : IsErrOf result Fault → Rose faults risen
+  pub calm : OnOk result (risen ≡ faults)
+  pub memory : IsErrOf result Memory → risen ≡ faults
+
+-- so many bytes came to the front of the buffer and went behind the bytes, and with none the source
+-- is at its end
+pub record HasCome (buffer bytes more : List ℕ) (old new : Option (List ℕ)) (n : ℕ) : Type 0 where
+  pub within : n ≤ length buffer
+  pub put : more ≡ bytes ++ take n buffer
+  pub taken : Gives old new (take n buffer)
+  pub end : n ≡ 0 → IsAtEnd old
 
 -- what the text states, all the bytes state
 abbrev pub IsEnough : List ℕ → List ℕ → Type 0
@@ -43,10 +59,12 @@ pub record StopsBehind (bytes : List ℕ) (old new : Option (List ℕ)) : Type 0
   pub unended : IsUnended tail bytes
   pub stops : StopsAtFeed tail old new
 
--- one piece of the line came: where more are wanted it has a byte, and no end of the line
-pub record PieceCame (tail : Tail) (old new : Option (List ℕ)) : Type 0 where
+-- one piece of the line came, behind a carriage return or not, and what is then seen of the line is
+-- the same; where more are wanted the piece has a byte, and no end of the line
+pub record PieceCame (after : Bool) (tail : Tail) (old new : Option (List ℕ)) : Type 0 where
   pub piece : List ℕ
   pub taken : Gives old new piece
+  pub legible : legible_left old (tails.Open after) ≡ legible_left new tail
   pub unended : IsUnended tail piece
-  pub some : (after : Bool) → tail ≡ tails.Open after → 0 < length piece
+  pub some : (later : Bool) → tail ≡ tails.Open later → 0 < length piece
   pub few : length piece ≤ 65536

@@ -1,7 +1,7 @@
 use Rattle.std.proofs.Common.{◌≡◌, ◌+◌, ◌-◌, ◌<◌, ◌≤◌, length, vec_len}
 use Rattle.ug_io.specs.Outside.{Gives}
 use Rattle.ug_mps.specs.Ending.{IsLineAt}
-use Rattle.ug_top.proofs.gather.gather.Given as goal
+use Rattle.ug_mps.proofs.gathering.gather.Given as goal
 
 abbrev pub invariant-loop-cut : goal.invariant-loop-cut
 invariant-loop-cut g l = record {

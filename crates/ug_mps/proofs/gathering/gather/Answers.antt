@@ -1,17 +1,18 @@
 use Rattle.std.proofs.Common.{length, drop, subst}
+use Rattle.ug_io.specs.Outside.{Rose}
 use Rattle.ug_mps.specs.Ending.{IsEndedAt, IsLineAt}
-use Rattle.ug_top.specs.Enough.{StopsBehind}
-use Rattle.ug_top.proofs.Gathered.{enough_last, stops_here, stops_behind, stops_last, on_ok}
-use Rattle.ug_top.proofs.gather.gather.Goals as goal
+use Rattle.ug_mps.specs.Enough.{StopsBehind}
+use Rattle.ug_mps.proofs.Gathered.{enough_last, fault_told, stops_here, stops_behind, stops_last, on_ok}
+use Rattle.ug_mps.proofs.gathering.gather.Goals as goal
 
 pub returns-then-n-eq0-clause-enough : goal.returns-then-n-eq0-clause-enough
 returns-then-n-eq0-clause-enough g c =
-    enough_last _ _ _ _ _ _ c.if-n-eq0.true c.in-Ok.ensures.bytes c.loop-cut.invariant.came (c.in-Ok.ensures.end c.if-n-eq0.true)
+    enough_last _ _ _ _ _ _ c.if-n-eq0.true c.in-Ok.ensures.came.put c.loop-cut.invariant.came (c.in-Ok.ensures.came.end c.if-n-eq0.true)
 
 pub returns-then-n-eq0-clause-stops : goal.returns-then-n-eq0-clause-stops
 returns-then-n-eq0-clause-stops g c =
     stops_last _ _ _ c.loop-cut.bytes.items _ c.in-Open.begins c.in-Ok.n (subst (λ l. IsLineAt l c.in-Open.begins (length l)) c.deref.ensures.value c.in-Open.ensures.last)
-    c.if-n-eq0.true c.loop-cut.invariant.came c.in-Ok.ensures.taken
+    c.if-n-eq0.true c.loop-cut.invariant.came c.in-Ok.ensures.came.taken
 
 pub returns-in-Ended-clause-stops : goal.returns-in-Ended-clause-stops
 returns-in-Ended-clause-stops g c =
@@ -24,3 +25,8 @@ pub returns-in-Passed-clause-stops : goal.returns-in-Passed-clause-stops
 returns-in-Passed-clause-stops g c =
     let i = c.loop-cut.invariant in
     stops_here _ _ c.loop-cut.bytes.items c.loop-cut.line c.loop-cut.from i.line i.few i.came
+
+pub returns-in-Err-clause-fault : goal.returns-in-Err-clause-fault
+returns-in-Err-clause-fault g c = λ is.
+    subst (λ n. Rose n (g.S.Source.faults c.read_on.new.input)) c.loop-cut.invariant.calm
+    (fault_told c.in-Err.error _ _ c.in-Err.ensures.read is)
