@@ -1,9 +1,10 @@
 //! Commands, one after another over one disk, and what each of them tells. The notation of texts
-//! and lines is that of texts.rt.
+//! and lines is that of notation.rt.
 
 use crate::expect::{holds, holds_at, same, same_at};
+use crate::notation::written;
 use crate::running::{disk_with, sound_disk, told};
-use crate::texts::{due, written};
+use crate::texts::due;
 use std::alloc::{AllocError, Global};
 use std::process::Abort;
 use std::sync::Wait;

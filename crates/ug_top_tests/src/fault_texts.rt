@@ -1,11 +1,13 @@
 //! Texts that are refused, as edits of a knapsack, and the fault that `run` tells: at least one for
-//! each kind, and one for each two kinds whose order is settled. The notation is that of texts.rt.
+//! each kind, and one for each two kinds whose order is settled. The notation is that of
+//! notation.rt.
 //!
 //! That a text of more than 268,435,456 bytes is refused as `TooLong` is proved and not tried here,
 //! for its size; that there are too many rows or columns is tried in long_texts.rt.
 
 use crate::expect::holds;
-use crate::texts::{edited, status_of, tells};
+use crate::notation::edited;
+use crate::texts::{status_of, tells};
 use std::alloc::{AllocError, Global};
 use std::process::Abort;
 use std::sync::Wait;

@@ -5,6 +5,10 @@
 #![tactic(auto)]
 
 #[cfg(test)]
+mod column_bounds;
+#[cfg(test)]
+mod column_sections;
+#[cfg(test)]
 mod commands;
 #[cfg(test)]
 mod expect;
@@ -12,6 +16,10 @@ mod expect;
 mod fault_texts;
 #[cfg(test)]
 mod long_texts;
+#[cfg(test)]
+mod notation;
+#[cfg(test)]
+mod one_column;
 #[cfg(test)]
 mod refusals;
 #[cfg(test)]
