@@ -1,4 +1,4 @@
-ghost use Rattle.std.specs.Prelude.{◌≡◌, ◌≤◌, ◌<◌, ◌^◌, Option, None, Some, MatchOption, length, IfOk, OnOk, OnErr, IsErrOf};
+ghost use Rattle.std.specs.Prelude.{◌≡◌, ◌≤◌, ◌<◌, ◌^◌, Option, None, Some, MatchOption, length, OnOk, OnErr, IsErrOf};
 ghost use Rattle.std.specs.Option.{option_copied};
 ghost use Rattle.ug_io.specs.Outside.{Rose};
 ghost use Rattle.ug_disk.specs.Histories.{History};
@@ -14,6 +14,7 @@ use crate::slots::keeper::Keeper;
 use std::alloc::{AllocError, Global};
 use ug_disk::Disk;
 use ug_image::Image;
+use ug_io::zeros;
 
 /// How many bytes are written at once.
 const BLOCK: usize = 65_536;
@@ -109,12 +110,4 @@ impl Saver {
         self.sequence = image.sequence;
         Ok(())
     }
-}
-
-// This many zeros, more than none.
-fn zeros(alloc: Global, n: usize) -> Result<Vec<u8>, AllocError>
-    requires { 0 < n }
-    ensures { IfOk result (λ v. 0 < length v.items) }
-{
-    vec![in alloc; 0u8; n]
 }

@@ -6,7 +6,7 @@ ghost use Rattle.ug_disk.specs.declared.reading.ReadError.TheVariants.{Memory, F
 use crate::disk::Disk;
 use crate::slot::Slot;
 use std::alloc::{AllocError, Global};
-use ug_io::Failed;
+use ug_io::{Failed, zeros};
 
 /// How many bytes are asked for at once.
 const PIECE: usize = 65_536;
@@ -82,12 +82,4 @@ fn read_by<D: Disk>(
             return Err(ReadError::from(error));
         }
     }
-}
-
-// This many zeros, more than none.
-fn zeros(alloc: Global, n: usize) -> Result<Vec<u8>, AllocError>
-    requires { 0 < n }
-    ensures { IfOk result (λ v. 0 < length v.items) }
-{
-    vec![in alloc; 0u8; n]
 }

@@ -7,7 +7,7 @@ ghost use Rattle.ug_mps.specs.declared.gathering.GatherError.TheVariants.{Memory
 use crate::ending::{Seen, Tail, see, tail_of};
 use crate::line::LIMIT;
 use std::alloc::{AllocError, Global};
-use ug_io::{Failed, Source};
+use ug_io::{Failed, Source, zeros};
 
 /// How many bytes show that a text is too long: one more than it may have before its ENDATA line.
 const MOST: usize = LIMIT + 1;
@@ -207,11 +207,4 @@ fn room(count: usize) -> usize
     ensures { 0 < result }
 {
     if count < MOST { MOST - count } else { 1 }
-}
-
-// This many zeros.
-fn zeros(alloc: Global, n: usize) -> Result<Vec<u8>, AllocError>
-    ensures { IfOk result (λ v. length v.items ≡ n) }
-{
-    vec![in alloc; 0u8; n]
 }
