@@ -125,34 +125,6 @@ fn part_with(
     part_of(work.trail_len(), column, side, floor, rest)
 }
 
-// Puts two halves of the working box in the last part's place.
-fn split(
-    work: &Working,
-    problem: &Problem,
-    whole: &IntBox,
-    params: Params,
-    cutoff: Option<i128>,
-    branch: Branch,
-    parts: &mut Vec<Part>,
-) -> Result<(), AllocError>
-    requires some { 0 < length parts.old.items }
-    requires chain { IsChain problem.now whole.now work.now parts.old.items }
-    requires below { IsBelow work.now.sums.area whole.now }
-    requires working { IsWorking problem.now cutoff work.now }
-    requires branched { IsBranched params work.now.sums.area branch }
-    ensures ok { OnOk result
-        (HasSplit problem.now whole.now work.now params.half branch parts.old.items
-        parts.new.items) }
-    ensures err { OnErr result (parts.new.items ≡ parts.old.items) }
-{
-    let rest = rest_after(work, problem, cutoff);
-    let sides = sides_at(work, params, branch);
-    let first = part_with(work, problem, whole, branch.column, sides.first, rest);
-    let second = part_with(work, problem, whole, branch.column, sides.second, rest);
-    replace_last(parts, first, second)?;
-    Ok(())
-}
-
 /// Puts two halves of the working box in the last part's place, the one that is looked at first the
 /// last. After an error the parts are as they were.
 pub fn split_last(
@@ -174,14 +146,11 @@ pub fn split_last(
         parts.new.items) }
     ensures err { OnErr result (parts.new.items ≡ parts.old.items) }
 {
-    split(
-        work,
-        problem.problem(),
-        whole,
-        params,
-        cutoff,
-        branch,
-        parts,
-    )?;
+    let problem = problem.problem();
+    let rest = rest_after(work, problem, cutoff);
+    let sides = sides_at(work, params, branch);
+    let first = part_with(work, problem, whole, branch.column, sides.first, rest);
+    let second = part_with(work, problem, whole, branch.column, sides.second, rest);
+    replace_last(parts, first, second)?;
     Ok(())
 }

@@ -1,11 +1,12 @@
 use Rattle.std.proofs.Common.{◌∙◌, ap, sym, subst, set, List}
 use Rattle.ug_rows.specs.declared.area.Interval.{Interval}
+use Rattle.ug_problem.specs.Instances.{Instance}
 use Rattle.ug_base.specs.declared.part.Part.{Part}
-use Rattle.ug_base.specs.Chains.{IsChain}
+use Rattle.ug_base.specs.Chains.{IsChain, IsPart}
 use Rattle.ug_base.proofs.Chains.{chain_split}
 use Rattle.ug_rows.specs.Boxes.{IsClosedWithin, interval_at}
 use Rattle.ug_base.proofs.Splits.{first_half_is, first_inner, other_half_is, second_inner}
-use Rattle.ug_base.proofs.split.split.Goals as goal
+use Rattle.ug_base.proofs.split.split_last.Goals as goal
 
 pub part_with-first-requires-clause-inner : goal.part_with-first-requires-clause-inner
 part_with-first-requires-clause-inner c =
@@ -28,6 +29,7 @@ returns-clause-ok c =
     let first = c.part_with-first.result in
     let second = c.part_with-second.result in
     let put = c.in_ok-replace_last.ensures.ok in
+    let same = c.problem-problem.ensures.value in
     record {
       first = first;
       second = second;
@@ -38,6 +40,8 @@ returns-clause-ok c =
           ∙ other_half_is c.args.params.half area branch;
       chain = subst (λ (ps : List Part). IsChain p c.args.whole.now work ps) (sym put)
           (chain_split p c.args.whole.now work c.args.parts.now.items first second c.requires.chain
-          c.part_with-first.ensures.part c.part_with-second.ensures.part c.part_with-first.ensures.depth
+          (subst (λ (q : Instance). IsPart q c.args.whole.now work first) same c.part_with-first.ensures.part)
+          (subst (λ (q : Instance). IsPart q c.args.whole.now work second) same c.part_with-second.ensures.part)
+          c.part_with-first.ensures.depth
           c.part_with-second.ensures.depth);
     }
