@@ -4,14 +4,15 @@ use Rattle.std.specs.Int.{w64, from_be_bytes}
 use Rattle.std.proofs.lemmas.List.{take_at, drop_at, take-take, drop-take, drop-drop, length-take, length-drop}
 use Rattle.std.proofs.lemmas.Nat.{from_be_bytes-to_be_bytes_8}
 use Rattle.std.proofs.lemmas.Bool.{cases_lt, cases_eq, cases_cond, cond-true, cond-false, le-ltb, lt-ltb}
-use Rattle.ug_records.proofs.Numbers.{length-bytes}
+use Rattle.ug_fields.proofs.Bytes.{length-bytes}
 use Rattle.ug_disk.specs.declared.slot.Slot.{Slot}
 use Rattle.ug_disk.specs.declared.slot.Slot.TheVariants.{Zero, One}
 use Rattle.ug_checkpoint.specs.Gates.{IsOpen, HasBody}
 use Rattle.ug_checkpoint.specs.Runs.{image_of, other}
 use Rattle.ug_image.specs.declared.image.Image.{Image}
 use Rattle.ug_image.specs.Images.{IsImage}
-use Rattle.ug_image.specs.Spelling.{IsOfVersion, long_field, spelled}
+use Rattle.ug_fields.specs.Spelling.{long_field}
+use Rattle.ug_image.specs.Spelling.{IsOfVersion, spelled}
 use Rattle.ug_image.proofs.Verdicts.{image_is_told}
 use Rattle.ug_checkpoint.specs.declared.found.Found.{Found}
 use Rattle.ug_checkpoint.specs.Bodies.{body_of, counted, stored, Has, Stores, IsBad}

@@ -4,9 +4,10 @@ use Rattle.std.specs.Int.{w64, to_be_bytes}
 use Rattle.std.proofs.lemmas.List.{append-nil, take_all, drop_all, take-append-le, drop-append-le, drop-drop, length-drop, length-take-le}
 use Rattle.std.proofs.lemmas.Bool.{cases_lt}
 use Rattle.std.proofs.Math.Seq.{take-append-add, drop-append-add}
-use Rattle.ug_records.proofs.Numbers.{length-bytes}
+use Rattle.ug_fields.proofs.Bytes.{length-bytes}
 use Rattle.ug_image.specs.declared.image.Image.{Image}
-use Rattle.ug_image.specs.Spelling.{long_field, spelled}
+use Rattle.ug_fields.specs.Spelling.{long_field}
+use Rattle.ug_image.specs.Spelling.{spelled}
 use Rattle.ug_checkpoint.specs.Bodies.{body_of}
 
 -- all of the first, or none of the second

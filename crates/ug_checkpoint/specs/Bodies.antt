@@ -5,7 +5,8 @@ use Rattle.std.specs.Int.{w64, from_be_bytes}
 use Rattle.ug_checkpoint.specs.Gates.{IsOpen}
 use Rattle.ug_image.specs.declared.image.Image.{Image}
 use Rattle.ug_image.specs.Answers.{IsFirstBad}
-use Rattle.ug_image.specs.Spelling.{Spell, long_field, spelled}
+use Rattle.ug_fields.specs.Spelling.{long_field}
+use Rattle.ug_image.specs.Spelling.{Spell, spelled}
 
 -- the body of a checkpoint: how many bytes the image has, and these
 abbrev pub body_of : Image → List ℕ

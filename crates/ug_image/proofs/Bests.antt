@@ -1,23 +1,28 @@
 -- The best point and the problem, read as they are spelled.
-use Rattle.std.proofs.Common.{◌≡◌, ℕ, ℤ, zero, suc, ◌+◌, ◌^◌, ◌<◌, ◌≤◌, Bool, true, false, cond, ltb, List, [], ◌∷◌, ◌++◌, length, take, drop, Option, None, Some, IfSome, Result, Ok, Err, append_assoc, refl, sym, ◌∙◌, ap, subst, arith, unsigned_abs}
+use Rattle.std.proofs.Common.{◌≡◌, ℕ, ℤ, ◌+◌, ◌^◌, ◌<◌, ◌≤◌, Bool, true, false, cond, ltb, List, ◌++◌, length, take, drop, Option, IfSome, Result, Ok, Err, append_assoc, refl, sym, ◌∙◌, ap, subst, arith, unsigned_abs}
 use Rattle.std.specs.List.{flat_map}
 use Rattle.std.proofs.lemmas.Bool.{ltb-false, le-ltb}
-use Rattle.std.proofs.lemmas.List.{append-nil, take_at, drop_at, take-append-drop, length-append, length-take, length-drop}
+use Rattle.std.proofs.lemmas.List.{take_at, drop_at, take-append-drop, length-append, length-take, length-drop}
 use Rattle.ug_problem.specs.Instances.{Instance}
 use Rattle.ug_problem.specs.Limits.{IsProblem}
 use Rattle.ug_problem.specs.Feasible.{Feasible}
-use Rattle.ug_records.specs.Reading.{Reading, ◌>>=◌, count_at, small_at, bound_at, record_at}
-use Rattle.ug_records.specs.Spelling.{count_field, bound_field, record_of}
-use Rattle.ug_records.proofs.Bytes.{IsBytes, IsBytes-take, IsBytes-drop}
-use Rattle.ug_records.proofs.Takes.{IsReader, Takes, first, then_, bind_ok, bind_err, ok_is, made, reworded, joined}
-use Rattle.ug_records.proofs.Simple.{bound_reader, count_reader, small_reader}
-use Rattle.ug_records.proofs.Runs.{Chain}
+use Rattle.ug_fields.specs.Reading.{Reading, ◌>>=◌, count_at, bound_at}
+use Rattle.ug_fields.specs.Readers.{IsBytes, IsReader, Takes}
+use Rattle.ug_fields.specs.Spelling.{count_field, bound_field}
+use Rattle.ug_fields.proofs.Bytes.{IsBytes-take, IsBytes-drop}
+use Rattle.ug_fields.proofs.Takes.{first, then_, bind_ok, bind_err, ok_is, reworded}
+use Rattle.ug_fields.proofs.Tested.{tested}
+use Rattle.ug_fields.proofs.Simple.{bound_reader, count_reader}
+use Rattle.ug_fields.proofs.Flagged.{flagged_reader}
+use Rattle.ug_fields.proofs.Counted.{counted}
+use Rattle.ug_fields.proofs.Runs.{Chain}
+use Rattle.ug_records.specs.Reading.{record_at}
+use Rattle.ug_records.specs.Spelling.{record_of}
 use Rattle.ug_records.proofs.Entire.{record_within}
 use Rattle.ug_records.proofs.Verdicts.{what_is_read, record_is_read}
 use Rattle.ug_image.specs.Spelling.{problem_fields, point_fields, best_fields}
-use Rattle.ug_image.specs.Reading.{within_record, record_in, problem_at, point_at, is_feasible, feasible_at, best_if, best_at}
+use Rattle.ug_image.specs.Reading.{within_record, record_in, problem_at, point_at, is_feasible, feasible_at, best_at}
 use Rattle.ug_image.proofs.Feasibles.{feasible_tells, feasible_told}
-use Rattle.ug_image.proofs.Tested.{tested, counted}
 
 abbrev pub same : Unit {0} → ℤ → Unit {0}
 same state value = state
@@ -58,98 +63,8 @@ feasible_reader p =
 abbrev pub IsGoodBest : Instance → Option (List ℤ) → Type 0
 IsGoodBest p best = IfSome best (IsGoodPoint p)
 
-flag_of : Option (List ℤ) → ℕ
-flag_of None = 0
-flag_of (Some x) = 1
-
-point_in : Option (List ℤ) → List ℤ
-point_in None = []
-point_in (Some x) = x
-
-behind_flag : Option (List ℤ) → List ℕ
-behind_flag None = []
-behind_flag (Some x) = point_fields x
-
-module _ (p : Instance) where
-  no_bytes : (b : Option (List ℤ)) → (Unit {0} × (flag_of b ≡ 0)) × IsGoodBest p b
-      → ◌≡◌ {A = List ℕ} [] (behind_flag b)
-  unfolding flag_of behind_flag
-  no_bytes None good = refl
-  no_bytes (Some x) good = absurd (omega (arith, good.0.1))
-
-  is_none : (b : Option (List ℤ)) → (Unit {0} × (flag_of b ≡ 0)) × IsGoodBest p b → b ≡ None
-  unfolding flag_of
-  is_none None good = refl
-  is_none (Some x) good = absurd (omega (arith, good.0.1))
-
-  its_bytes : (n : ℕ) (b : Option (List ℤ))
-      → (flag_of b ≡ suc n) × (IsGoodPoint p (point_in b) × Unit {0})
-      → point_fields (point_in b) ++ [] ≡ behind_flag b
-  unfolding flag_of point_in behind_flag
-  its_bytes n None good = absurd (omega (arith, good.0))
-  its_bytes n (Some x) good = append-nil (point_fields x)
-
-  to_best : (n : ℕ) (b : Option (List ℤ))
-      → (flag_of b ≡ suc n) × (IsGoodPoint p (point_in b) × Unit {0})
-      → (Unit {0} × (flag_of b ≡ suc n)) × IsGoodBest p b
-  unfolding flag_of point_in
-  to_best n None good = absurd (omega (arith, good.0))
-  to_best n (Some x) good = ((tt, good.0), good.1.0)
-
-  from_best : (n : ℕ) (b : Option (List ℤ)) → (Unit {0} × (flag_of b ≡ suc n)) × IsGoodBest p b
-      → (flag_of b ≡ suc n) × (IsGoodPoint p (point_in b) × Unit {0})
-  unfolding flag_of point_in
-  from_best n None good = absurd (omega (arith, good.0.1))
-  from_best n (Some x) good = (good.0.1, (good.1, tt))
-
-  is_some : (n : ℕ) (x : List ℤ) (b : Option (List ℤ))
-      → ((flag_of b ≡ suc n) × (point_in b ≡ x)) × Unit {0} → b ≡ Some x
-  unfolding flag_of point_in
-  is_some n x None good = absurd (omega (arith, good.0.0))
-  is_some n x (Some y) good = ap Some good.0.1
-
-  flag_small : (b : Option (List ℤ)) → (0 ≤ flag_of b) × (flag_of b ≤ 1)
-  unfolding flag_of
-  flag_small None = (omega arith, omega arith)
-  flag_small (Some x) = (omega arith, omega arith)
-
-  spelled : (b : Option (List ℤ))
-      → Unit {0} × (((0 ≤ flag_of b) × (flag_of b ≤ 1)) × IsGoodBest p b)
-      → (flag_of b ∷ []) ++ behind_flag b ≡ best_fields b
-  unfolding flag_of behind_flag
-  spelled None good = refl
-  spelled (Some x) good = refl
-
-  if_reader : (flag : ℕ) → (0 ≤ flag) × (flag ≤ 1)
-      → IsReader (λ b. (Unit {0} × (flag_of b ≡ flag)) × IsGoodBest p b) behind_flag
-      (best_if p flag)
-  unfolding best_if flag_of point_in behind_flag
-  if_reader zero few =
-      reworded (λ b. (Unit {0} × (flag_of b ≡ 0)) × IsGoodBest p b) (λ b. [])
-      (λ b. (Unit {0} × (flag_of b ≡ 0)) × IsGoodBest p b) behind_flag _
-      no_bytes (λ b good. good) (λ b good. good)
-      (made (λ b. (Unit {0} × (flag_of b ≡ 0)) × IsGoodBest p b) None ((tt, refl), tt) is_none)
-  if_reader (suc n) few =
-      reworded (λ b. (flag_of b ≡ suc n) × (IsGoodPoint p (point_in b) × Unit {0}))
-      (λ b. point_fields (point_in b) ++ [])
-      (λ b. (Unit {0} × (flag_of b ≡ suc n)) × IsGoodBest p b)
-      behind_flag _
-      (its_bytes n) (to_best n) (from_best n)
-      (joined point_in (IsGoodPoint p) point_fields (feasible_at p)
-      (λ b. flag_of b ≡ suc n) (λ b. Unit {0}) (λ b. []) (λ point. Ok (Some point.0, point.1))
-      (feasible_reader p)
-      (λ x good. made (λ b. ((flag_of b ≡ suc n) × (point_in b ≡ x)) × Unit {0}) (Some x)
-      ((omega (arith, few), refl), tt) (is_some n x)))
-
-  pub best_reader : IsReader (IsGoodBest p) best_fields (best_at p)
-  unfolding best_at flag_of behind_flag
-  best_reader =
-      reworded (λ b. Unit {0} × (((0 ≤ flag_of b) × (flag_of b ≤ 1)) × IsGoodBest p b))
-      (λ b. (flag_of b ∷ []) ++ behind_flag b) (IsGoodBest p) best_fields _
-      spelled (λ b good. good.1.1) (λ b good. (tt, (flag_small b, good)))
-      (joined flag_of (λ f. (0 ≤ f) × (f ≤ 1)) (λ f. f ∷ []) (small_at 0 1) (λ b. Unit {0})
-      (IsGoodBest p) behind_flag (λ flag. best_if p flag.0 flag.1)
-      (small_reader 0 1) if_reader)
+pub best_reader : (p : Instance) → IsReader (IsGoodBest p) best_fields (best_at p)
+best_reader p = flagged_reader (IsGoodPoint p) point_fields (feasible_at p) (feasible_reader p)
 
 -- a problem whose record is no longer than its count can say
 pub record IsReadProblem (p : Instance) : Type 0 where

@@ -11,16 +11,18 @@ use Rattle.ug_rows.specs.Boxes.{interval_at}
 use Rattle.ug_rows.proofs.Orders.{at_most_itself}
 use Rattle.ug_nodes.specs.declared.change.Change.{Change}
 use Rattle.ug_nodes.specs.Changes.{IsChangeOf, change_bounds}
-use Rattle.ug_records.specs.Spelling.{count_field, bound_field}
-use Rattle.ug_records.proofs.Takes.{IsReader, made, reworded, joined}
-use Rattle.ug_records.proofs.Simple.{both_true, and_true}
-use Rattle.ug_records.proofs.Runs.{Chain}
+use Rattle.ug_fields.specs.Reading.{unsigned_at, signed_at}
+use Rattle.ug_fields.specs.Readers.{IsReader}
+use Rattle.ug_fields.specs.Spelling.{count_field, bound_field}
+use Rattle.ug_fields.proofs.Takes.{made, reworded, joined}
+use Rattle.ug_fields.proofs.Tests.{both_true, and_true, le_tells, le_told}
+use Rattle.ug_fields.proofs.Tested.{tested}
+use Rattle.ug_fields.proofs.Simple.{unsigned_reader, signed_reader}
+use Rattle.ug_fields.proofs.Counted.{counted}
+use Rattle.ug_fields.proofs.Runs.{Chain}
 use Rattle.ug_image.specs.Spelling.{change_fields, changes_fields}
 use Rattle.ug_image.specs.Reading as read
 use Rattle.ug_image.specs.Reading.{is_closed_within, is_whole, is_change, any_change_at, changes_at}
-use Rattle.ug_image.proofs.Feasibles.{le_tells, le_told}
-use Rattle.ug_image.proofs.Plain.{word_reader, signed_reader}
-use Rattle.ug_image.proofs.Tested.{tested, counted}
 
 -- a change is made of numbers of four bytes
 pub record FitsFields (c : Change) : Type 0 where
@@ -40,13 +42,13 @@ any_reader =
     ∙ sym (append_assoc (count_field c.column) (bound_field c.low) (bound_field c.high)))
     (λ c good. record { column = good.1.0; low = good.1.1.0; high = good.1.1.1.0 })
     (λ c is. (tt, (is.column, (is.low, (is.high, tt)))))
-    (joined (λ (c : Change). c.column) (λ n. n < 2 ^ 32) count_field read.word_at
+    (joined (λ (c : Change). c.column) (λ n. n < 2 ^ 32) count_field unsigned_at
     (λ c. Unit {0}) (λ c. FitsSigned w32 c.low × (FitsSigned w32 c.high × Unit {0}))
-    (λ c. bound_field c.low ++ (bound_field c.high ++ [])) _ word_reader
-    (λ column small. joined (λ (c : Change). c.low) (FitsSigned w32) bound_field read.signed_at
+    (λ c. bound_field c.low ++ (bound_field c.high ++ [])) _ unsigned_reader
+    (λ column small. joined (λ (c : Change). c.low) (FitsSigned w32) bound_field signed_at
     (λ c. Unit {0} × (c.column ≡ column)) (λ c. FitsSigned w32 c.high × Unit {0})
     (λ c. bound_field c.high ++ []) _ signed_reader
-    (λ low fits. joined (λ (c : Change). c.high) (FitsSigned w32) bound_field read.signed_at
+    (λ low fits. joined (λ (c : Change). c.high) (FitsSigned w32) bound_field signed_at
     (λ c. (Unit {0} × (c.column ≡ column)) × (c.low ≡ low)) (λ c. Unit {0}) (λ c. []) _
     signed_reader
     (λ high fit. made

@@ -1,17 +1,21 @@
 -- A whole image, read as it is spelled.
-use Rattle.std.proofs.Common.{◌≡◌, ℕ, ℤ, ◌^◌, ◌<◌, ◌≤◌, Bool, true, false, cond, eqb, List, [], ◌∷◌, ◌++◌, length, Option, Result, Ok, Err, append_assoc, refl, sym, ◌∙◌, ap, subst, arith}
+use Rattle.std.proofs.Common.{◌≡◌, ℕ, ℤ, ◌^◌, ◌<◌, ◌≤◌, cond, eqb, List, [], ◌∷◌, ◌++◌, length, Option, Result, Ok, Err, append_assoc, refl, sym, ◌∙◌, ap, subst, arith}
 use Rattle.std.proofs.lemmas.Bool.{eqb-true}
 use Rattle.std.proofs.lemmas.List.{append-nil, length-append}
 use Rattle.ug_problem.specs.Instances.{Instance, root_of}
-use Rattle.ug_records.specs.Reading.{Reading, ◌>>=◌, small_at}
-use Rattle.ug_records.proofs.Bytes.{IsBytes}
-use Rattle.ug_records.proofs.Takes.{IsReader, Takes, Takes-then, first, then_, ok_is, bind_ok, bind_err}
-use Rattle.ug_records.proofs.Simple.{small_reader}
+use Rattle.ug_fields.specs.Reading.{Reading, ◌>>=◌, small_at, long_at}
+use Rattle.ug_fields.specs.Readers.{IsBytes, IsReader, Takes}
+use Rattle.ug_fields.specs.Spelling.{long_field}
+use Rattle.ug_fields.proofs.Takes.{Takes-then, first, then_, ok_is, bind_ok, bind_err, bind_again, bind_same}
+use Rattle.ug_fields.proofs.Parts.{nothing}
+use Rattle.ug_fields.proofs.Tests.{single, single_stops}
+use Rattle.ug_fields.proofs.Simple.{small_reader, long_reader}
+use Rattle.ug_image.specs.declared.counts.Counts.{Counts}
 use Rattle.ug_image.specs.declared.image.Image.{Image}
 use Rattle.ug_image.specs.declared.image.SavedNode.{SavedNode}
-use Rattle.ug_image.specs.Spelling.{long_field, problem_fields, best_fields, deliveries_field, gap_field, nodes_fields, spelled_in}
-use Rattle.ug_image.specs.Reading.{long_at, problem_at, best_at, deliveries_at, gap_at, nodes_at, behind_problem, fields_at, image_at}
-use Rattle.ug_image.proofs.Plain.{IsNone, IsGapOf, long_reader, deliveries_reader, gap_reader}
+use Rattle.ug_image.specs.Spelling.{problem_fields, best_fields, deliveries_field, gap_field, nodes_fields, spelled_in}
+use Rattle.ug_image.specs.Reading.{problem_at, best_at, deliveries_at, gap_at, counts_at, nodes_at, behind_problem, fields_at, image_at}
+use Rattle.ug_image.proofs.Plain.{IsNone, IsGapOf, deliveries_reader, gap_reader}
 use Rattle.ug_image.proofs.Named.{AreReadNodes, nodes_reader, size_of}
 use Rattle.ug_image.proofs.Bests.{IsGoodBest, IsReadProblem, best_reader, problem_reader}
 
@@ -95,11 +99,34 @@ module _ (v run sequence : ℕ) where
   abbrev after_deliveries : Instance → Option (List ℤ) → ℕ × List ℕ → Reading Image
   after_deliveries p best deliveries = gap_at v deliveries.1 >>= after_gap p best deliveries.0
 
+  abbrev after_counts : Instance → Option (List ℤ) → Counts × List ℕ → Reading Image
+  after_counts p best counts = nodes_at v run (root_of p) counts.0.nodes counts.1
+      >>= after_nodes p best counts.0.deliveries counts.0.gap
+
   abbrev after_best : Instance → Option (List ℤ) × List ℕ → Reading Image
-  after_best p best = deliveries_at v best.1 >>= after_deliveries p best.0
+  after_best p best = counts_at v best.1 >>= after_counts p best.0
 
   abbrev after_problem : Instance × List ℕ → Reading Image
   after_problem p = best_at p.0 p.1 >>= after_best p.0
+
+  -- what is read of the counts is read of each
+  counts_apart : (p : Instance) (best : Option (List ℤ)) (bytes : List ℕ)
+      → (counts_at v bytes >>= after_counts p best)
+      ≡ (deliveries_at v bytes >>= after_deliveries p best)
+  unfolding counts_at
+  counts_apart p best bytes =
+      bind_again (deliveries_at v bytes) (λ deliveries. gap_at v deliveries.1 >>= λ gap.
+      long_at 0 gap.1 >>= λ nodes.
+      Ok (record { deliveries = deliveries.0; gap = gap.0; nodes = nodes.0 }, nodes.1))
+      (after_counts p best)
+      ∙ bind_same (deliveries_at v bytes) _ _ (λ deliveries.
+      bind_again (gap_at v deliveries.1) (λ gap. long_at 0 gap.1 >>= λ nodes.
+      Ok (record { deliveries = deliveries.0; gap = gap.0; nodes = nodes.0 }, nodes.1))
+      (after_counts p best)
+      ∙ bind_same (gap_at v deliveries.1) _ _ (λ gap.
+      bind_again (long_at 0 gap.1) (λ nodes.
+      Ok (record { deliveries = deliveries.0; gap = gap.0; nodes = nodes.0 }, nodes.1))
+      (after_counts p best)))
 
 abbrev after_sequence : ℕ → ℕ → ℕ × List ℕ → Reading Image
 after_sequence v run sequence = problem_at sequence.1 >>= after_problem v run sequence.0
@@ -199,7 +226,8 @@ middle_taken v run sequence bytes image rest h e =
     let b5 = bind_ok (best_at b4.0.0 b4.0.1) (after_best v run sequence b4.0.0) (image, rest)
     b4.2 in
     let t5 = (best_reader b4.0.0).taken b4.0.1 b5.0.0 b5.0.1 t4.0.rest_fits b5.1 in
-    let tail = tail_taken v run sequence b4.0.0 b5.0.0 b5.0.1 image rest t5.0.rest_fits b5.2 in
+    let apart = sym (counts_apart v run sequence b4.0.0 b5.0.0 b5.0.1) ∙ b5.2 in
+    let tail = tail_taken v run sequence b4.0.0 b5.0.0 b5.0.1 image rest t5.0.rest_fits apart in
     let all = Takes-then bytes (problem_fields b4.0.0) b4.0.1
     (best_fields b5.0.0 ++ from_deliveries v image) rest t4.0
     (Takes-then b4.0.1 (best_fields b5.0.0) b5.0.1 (from_deliveries v image) rest t5.0 tail.0) in
@@ -284,6 +312,7 @@ fields_again v i rest is =
     (append_assoc (best_fields i.best) (from_deliveries v i) rest)
     ∙ ap (λ r. r >>= after_best v i.run i.sequence i.problem)
     ((best_reader i.problem).again i.best (from_deliveries v i ++ rest) is.best)
+    ∙ counts_apart v i.run i.sequence i.problem i.best (from_deliveries v i ++ rest)
     ∙ ap (λ t. deliveries_at v t >>= after_deliveries v i.run i.sequence i.problem i.best)
     (append_assoc (deliveries_field v i.deliveries) (from_gap v i) rest)
     ∙ ap (λ r. r >>= after_deliveries v i.run i.sequence i.problem i.best)
@@ -336,22 +365,9 @@ fields_within bytes left h e =
     (after_nodes v run sequence p best deliveries gap)
     (nodes_reader v run (root_of p) count)
     (λ nodes rest9 left9 g9 h9 e9. absurd (cc e9)) rest8 left8 h8 e8)
-    rest7 left7 h7 e7) rest6 left6 h6 e6) rest5 left5 h5 e5) rest4 left4 h4 e4)
+    rest7 left7 h7 e7) rest6 left6 h6 e6) rest5 left5 h5
+    (sym (counts_apart v run sequence p best rest5) ∙ e5)) rest4 left4 h4 e4)
     rest3 left3 h3 e3) rest2 left2 h2 e2) rest1 left1 h1 e1) bytes left h e
-
-nothing : (bytes : List ℕ) → length bytes ≡ 0 → bytes ≡ []
-nothing [] size = refl
-nothing (b ∷ bytes) size = absurd (omega (arith, size))
-
-at_end : {A : Type 0} → (b : Bool) (d : ℕ) (x y : A) → cond b (Ok x) (Err d) ≡ Ok y
-    → (b ≡ true) × (x ≡ y)
-at_end true d x y e = (refl, ok_is x y e)
-at_end false d x y e = absurd cc
-
-not_at_end : {A : Type 0} → (b : Bool) (d left : ℕ) (x : A) → cond b (Ok x) (Err d) ≡ Err left
-    → d ≡ left
-not_at_end true d left x e = absurd cc
-not_at_end false d left x e = cc
 
 abbrev ends : Image × List ℕ → Result Image ℕ
 ends image = cond (eqb (length image.1) 0) (Ok image.0) (Err (length image.1))
@@ -362,7 +378,7 @@ unfolding image_at
 image_taken bytes image h e =
     let b = bind_ok (fields_at bytes) ends image e in
     let t = fields_taken bytes b.0.0 b.0.1 h b.1 in
-    let g = at_end (eqb (length b.0.1) 0) (length b.0.1) b.0.0 image b.2 in
+    let g = single (eqb (length b.0.1) 0) (length b.0.1) b.0.0 image b.2 in
     let none : b.0.1 ≡ [] = nothing b.0.1 (eqb-true _ _ g.0) in (
       t.version,
       t.takes.parts ∙ ap (λ r. spelled_in t.version b.0.0 ++ r) none
@@ -385,7 +401,7 @@ image_within bytes left h e =
       | first f ↦ fields_within bytes left h f
       | then_ x r f ↦
           let t = fields_taken bytes x.0 x.1 h r in
-          let same = not_at_end (eqb (length x.1) 0) (length x.1) left x.0 f in
+          let same = single_stops (eqb (length x.1) 0) (length x.1) left x.0 f in
           omega (
             arith,
             same,

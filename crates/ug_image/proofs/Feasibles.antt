@@ -1,8 +1,7 @@
 -- The test of a point says whether it is feasible.
-use Rattle.std.proofs.Common.{◌≡◌, ℕ, ℤ, zero, suc, ◌<◌, Bool, true, false, T, List, [], ◌∷◌, length, map, Option, None, Some, IfSome, refl, sym, ap, subst, arith}
+use Rattle.std.proofs.Common.{◌≡◌, ℕ, ℤ, zero, suc, ◌<◌, Bool, true, false, List, [], ◌∷◌, length, map, Option, None, Some, IfSome, refl, sym, ap, subst, arith}
 use Rattle.std.specs.Prelude.{◌&&◌, ◌↔◌, ◌≤ℤ◌, not, int_le, slice_index_or, is_some, IsNone}
 use Rattle.std.specs.List.{list_all}
-use Rattle.std.proofs.lemmas.Float.{T_from_true}
 use Rattle.std.proofs.lemmas.List.{get_or_default}
 use Rattle.std.proofs.lemmas.List.Sums.{AllPass-from_list_all, list_all-from_AllPass}
 use Rattle.ug_rows.specs.Boxes.{IsInside, IsWithin, interval_at, value_at}
@@ -11,18 +10,8 @@ use Rattle.ug_problem.specs.declared.column.Column.{Column}
 use Rattle.ug_problem.specs.declared.column.NamedRow.{NamedRow}
 use Rattle.ug_problem.specs.Instances.{Instance, bounds_of, no_row}
 use Rattle.ug_problem.specs.Feasible.{Feasible}
-use Rattle.ug_records.proofs.Simple.{both_true, and_true}
+use Rattle.ug_fields.proofs.Tests.{both_true, and_true, le_tells, le_told}
 use Rattle.ug_image.specs.Reading.{is_inside, is_at_least, is_at_most, keeps, is_feasible}
-
-true_from_T : (b : Bool) → T b → b ≡ true
-true_from_T true t = refl
-true_from_T false t = absurd t
-
-pub le_tells : (a b : ℤ) → int_le a b ≡ true → a ≤ℤ b
-le_tells a b e = record { le = T_from_true (int_le a b) e }
-
-pub le_told : (a b : ℤ) → a ≤ℤ b → int_le a b ≡ true
-le_told a b h = true_from_T (int_le a b) h.le
 
 -- the first column, or one of those behind it
 each_inside : (column : Column) (columns : List Column) (value : ℤ) (values : List ℤ)

@@ -1,17 +1,12 @@
 pub mod Feasibles
-pub mod Values
 pub mod Plain
-pub mod Tested
 pub mod Changed
 pub mod Named
 pub mod Bests
 pub mod Entire
-pub mod Shorts
 pub mod Wholes
 pub mod Verdicts
 pub mod Fills
-pub mod Lent
-pub mod Lists
 pub mod Narrow
 pub mod Nexts
 pub mod Sizes

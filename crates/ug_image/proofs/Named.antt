@@ -6,16 +6,18 @@ use Rattle.std.proofs.lemmas.Bool.{ltb-true, ltb-false, lt-ltb, eqb-true, eq-eqb
 use Rattle.std.proofs.lemmas.List.{append-nil}
 use Rattle.ug_rows.specs.declared.area.Interval.{Interval}
 use Rattle.ug_nodes.specs.declared.name.Name.{Name}
-use Rattle.ug_records.specs.Reading.{Reading, ◌>>=◌}
-use Rattle.ug_records.proofs.Takes.{IsReader, made, reworded, joined}
-use Rattle.ug_records.proofs.Simple.{both_true, and_true}
-use Rattle.ug_records.proofs.Runs.{Chain, after_all, many_reader}
+use Rattle.ug_fields.specs.Reading.{Reading, ◌>>=◌, long_at}
+use Rattle.ug_fields.specs.Readers.{IsReader}
+use Rattle.ug_fields.specs.Spelling.{long_field}
+use Rattle.ug_fields.proofs.Takes.{made, reworded, joined}
+use Rattle.ug_fields.proofs.Tests.{both_true, and_true}
+use Rattle.ug_fields.proofs.Tested.{tested}
+use Rattle.ug_fields.proofs.Simple.{long_reader}
+use Rattle.ug_fields.proofs.Runs.{Chain, after_all, many_reader}
 use Rattle.ug_image.specs.declared.image.SavedNode.{SavedNode}
-use Rattle.ug_image.specs.Spelling.{long_field, name_fields, changes_fields, node_fields, bare_node_fields, nodes_fields}
+use Rattle.ug_image.specs.Spelling.{name_fields, changes_fields, node_fields, bare_node_fields, nodes_fields}
 use Rattle.ug_image.specs.Reading as read
 use Rattle.ug_image.specs.Reading.{is_behind, any_name_at, name_at, changes_at, starting_at, named_at, bare_at, nodes_at}
-use Rattle.ug_image.proofs.Plain.{long_reader}
-use Rattle.ug_image.proofs.Tested.{tested}
 use Rattle.ug_image.proofs.Changed.{AreReadChanges, changes_reader}
 
 -- a name of the run
@@ -35,11 +37,11 @@ any_reader run =
     (λ n good. record { of_run = good.0; number = good.1.0.1; hand = good.1.1.0.1 })
     (λ n is. (is.of_run, ((omega arith, is.number), ((omega arith, is.hand), tt))))
     (joined (λ (n : Name). n.ticket.number) (λ k. (0 ≤ k) × (k < 2 ^ 64)) long_field
-    (read.long_at 0) (λ n. n.ticket.run ≡ run)
+    (long_at 0) (λ n. n.ticket.run ≡ run)
     (λ n. ((0 ≤ n.hand) × (n.hand < 2 ^ 64)) × Unit {0}) (λ n. long_field n.hand ++ []) _
     (long_reader 0)
     (λ number small. joined (λ (n : Name). n.hand) (λ k. (0 ≤ k) × (k < 2 ^ 64)) long_field
-    (read.long_at 0) (λ n. (n.ticket.run ≡ run) × (n.ticket.number ≡ number)) (λ n. Unit {0})
+    (long_at 0) (λ n. (n.ticket.run ≡ run) × (n.ticket.number ≡ number)) (λ n. Unit {0})
     (λ n. []) _ (long_reader 0)
     (λ hand few. made
     (λ (n : Name). (((n.ticket.run ≡ run) × (n.ticket.number ≡ number)) × (n.hand ≡ hand))

@@ -1,36 +1,18 @@
--- The fields of an image that no other field goes before, each read as it is spelled.
-use Rattle.std.proofs.Common.{◌≡◌, ℕ, ℤ, pos, negsuc, ◌*◌, ◌^◌, ◌<◌, ◌≤◌, Bool, true, false, ltb, leb, List, [], ◌++◌, length, Ok, refl, sym, ◌∙◌, ap, arith, unsigned_abs}
-use Rattle.std.specs.Prelude.{◌&&◌, FitsSigned, int_le, if◌then◌else◌}
-use Rattle.std.specs.Int.{from_be_bytes, to_be_bytes, cast_signed, cast_unsigned, w32, w64, w128}
-use Rattle.std.proofs.lemmas.Bool.{ltb-false, ltb-true, leb-true, le-leb}
-use Rattle.std.proofs.lemmas.Int.{ints, fits_signed_from_abs, to_z-of_z, of_z-to_z}
-use Rattle.std.proofs.lemmas.Nat.{be_bytes_4, be_bytes_8, from_be_bytes-to_be_bytes_4, from_be_bytes-to_be_bytes_8}
-use Rattle.std.proofs.lemmas.List.{append-nil}
-use Rattle.std.proofs.Math.Facts.{Fits-of_z, sfits_to_z}
+-- The fields of an image that not every version has, each read as it is spelled.
+use Rattle.std.proofs.Common.{◌≡◌, ℕ, ℤ, pos, negsuc, ◌*◌, ◌^◌, ◌<◌, ◌≤◌, Bool, true, false, ltb, [], Ok, refl, arith, unsigned_abs}
+use Rattle.std.specs.Prelude.{◌≤ℤ◌, FitsSigned, if◌then◌else◌}
+use Rattle.std.specs.Int.{w128}
+use Rattle.std.proofs.lemmas.Bool.{ltb-false, ltb-true}
+use Rattle.std.proofs.lemmas.Int.{ints, fits_signed_from_abs}
 use Rattle.ug_problem.specs.Better.{IsGap}
-use Rattle.ug_records.specs.Reading.{number_of}
-use Rattle.ug_records.specs.Spelling.{count_field, bound_field, number_field}
-use Rattle.ug_records.proofs.Bytes.{IsBytes, from_be_bytes_16}
-use Rattle.ug_records.proofs.Takes.{IsReader, made, reworded, joined}
-use Rattle.ug_records.proofs.Simple.{both_true, and_true, fixed, number_back, number_long, small_4}
-use Rattle.ug_image.specs.Spelling.{long_field, deliveries_field, gap_field}
-use Rattle.ug_image.specs.Reading.{long_at, deliveries_at, gap_here, gap_at, word_at, signed_at}
-use Rattle.ug_image.proofs.Feasibles.{le_tells, le_told}
-
-small_8 : (bytes : List ℕ) → length bytes ≡ 8 → IsBytes bytes → from_be_bytes w64 bytes < 2 ^ 64
-small_8 bytes size h = omega (arith, h 0, h 1, h 2, h 3, h 4, h 5, h 6, h 7)
-
-pub long_reader : (least : ℕ) → IsReader (λ n. (least ≤ n) × (n < 2 ^ 64)) long_field
-    (long_at least)
-unfolding long_at long_field
-long_reader least = fixed 8 long_field (from_be_bytes w64) (λ n. (least ≤ n) × (n < 2 ^ 64))
-    (λ n. leb least n) (record {
-      long = λ n good. refl;
-      back = λ bytes size h. be_bytes_8 bytes _ size h refl;
-      again = λ n good. from_be_bytes-to_be_bytes_8 n good.1;
-      passes = λ n good. le-leb _ _ good.0;
-      good = λ bytes size h e. (leb-true _ _ e, small_8 bytes size h);
-    })
+use Rattle.ug_fields.specs.Reading.{long_at, amount_at}
+use Rattle.ug_fields.specs.Readers.{IsReader}
+use Rattle.ug_fields.specs.Spelling.{long_field, number_field}
+use Rattle.ug_fields.proofs.Takes.{made, reworded}
+use Rattle.ug_fields.proofs.Tests.{le_tells}
+use Rattle.ug_fields.proofs.Simple.{long_reader, amount_reader}
+use Rattle.ug_image.specs.Spelling.{deliveries_field, gap_field}
+use Rattle.ug_image.specs.Reading.{deliveries_at, gap_at}
 
 abbrev pub IsNone : ℕ → ℕ → Type 0
 IsNone version n = (n < 2 ^ 64) × (version ≤ 1 → n ≡ 0)
@@ -59,26 +41,15 @@ gap_small (negsuc n) is = absurd (grind (arith, ints, is.low))
 pub gap_fits : (z : ℤ) → IsGap z → FitsSigned w128 z
 gap_fits z is = fits_signed_from_abs w128 z (omega (arith, gap_small z is))
 
-gap_again : (z : ℤ) → IsGap z → number_of (number_field z) ≡ z
-unfolding number_field number_of
-gap_again z is =
-    let fits = gap_fits z is in
-    ap (cast_signed w128) (from_be_bytes_16 (cast_unsigned w128 z) (omega (arith, Fits-of_z fits)))
-    ∙ to_z-of_z w128 z fits
+is_gap : (z : ℤ) → unsigned_abs z ≤ 4 * 10 ^ 37 → pos 0 ≤ℤ z → IsGap z
+is_gap (pos n) small low = record { low = low; high = grind (arith, ints, small) }
+is_gap (negsuc n) small low = absurd (grind (arith, ints, low))
 
-gap_here_reader : IsReader IsGap number_field gap_here
-unfolding gap_here
-gap_here_reader = fixed 16 number_field number_of IsGap
-    (λ z. int_le (pos 0) z && int_le z (pos (4 * 10 ^ 37))) (record {
-      long = λ z good. number_long z;
-      back = number_back;
-      again = gap_again;
-      passes = λ z good. and_true _ _ (le_told _ _ good.low) (le_told _ _ good.high);
-      good = λ bytes size h e.
-          let b = both_true (int_le (pos 0) (number_of bytes))
-          (int_le (number_of bytes) (pos (4 * 10 ^ 37))) e in
-          record { low = le_tells _ _ b.0; high = le_tells _ _ b.1 };
-    })
+amount_is_gap : IsReader IsGap number_field (amount_at (4 * 10 ^ 37))
+amount_is_gap =
+    reworded (λ z. (unsigned_abs z ≤ 4 * 10 ^ 37) × (pos 0 ≤ℤ z)) number_field IsGap number_field _
+    (λ z good. refl) (λ z good. is_gap z good.0 good.1) (λ z is. (gap_small z is, is.low))
+    (amount_reader (4 * 10 ^ 37) (omega arith))
 
 abbrev pub IsGapOf : ℕ → ℤ → Type 0
 IsGapOf version z = IsGap z × (version ≤ 2 → z ≡ pos 0)
@@ -88,12 +59,12 @@ no_gap = record { low = le_tells _ _ refl; high = le_tells _ _ refl }
 
 gap_by : (version : ℕ) (there : Bool) → ltb 2 version ≡ there
     → IsReader (IsGapOf version) (λ z. if there then number_field z else [])
-    (λ bytes. if there then gap_here bytes else Ok (pos 0, bytes))
+    (λ bytes. if there then amount_at (4 * 10 ^ 37) bytes else Ok (pos 0, bytes))
 gap_by version true e =
     let above = ltb-true _ _ e in
-    reworded IsGap number_field (IsGapOf version) number_field gap_here
+    reworded IsGap number_field (IsGapOf version) number_field (amount_at (4 * 10 ^ 37))
     (λ z good. refl) (λ z good. (good, λ low. absurd (omega (arith, above, low))))
-    (λ z is. is.0) gap_here_reader
+    (λ z is. is.0) amount_is_gap
 gap_by version false e =
     let low = ltb-false _ _ e in
     made (IsGapOf version) (pos 0) (no_gap, λ l. refl) (λ z is. is.1 (omega (arith, low)))
@@ -101,30 +72,3 @@ gap_by version false e =
 pub gap_reader : (version : ℕ) → IsReader (IsGapOf version) (gap_field version) (gap_at version)
 unfolding gap_at gap_field
 gap_reader version = gap_by version (ltb 2 version) refl
-
-pub word_reader : IsReader (λ n. n < 2 ^ 32) count_field word_at
-unfolding word_at count_field
-word_reader = fixed 4 count_field (from_be_bytes w32) (λ n. n < 2 ^ 32) (λ n. true) (record {
-  long = λ n good. refl;
-  back = λ bytes size h. be_bytes_4 bytes _ size h refl;
-  again = λ n good. from_be_bytes-to_be_bytes_4 n good;
-  passes = λ n good. refl;
-  good = λ bytes size h e. small_4 bytes size h;
-})
-
-as_word : (z : ℤ) → count_field (cast_unsigned w32 z) ≡ to_be_bytes w32 (cast_unsigned w32 z)
-unfolding count_field
-as_word z = refl
-
-pub signed_reader : IsReader (FitsSigned w32) bound_field signed_at
-unfolding signed_at bound_field
-signed_reader =
-    reworded (λ z. FitsSigned w32 z × ((cast_unsigned w32 z < 2 ^ 32) × Unit {0}))
-    (λ z. count_field (cast_unsigned w32 z) ++ []) (FitsSigned w32) bound_field _
-    (λ z good. append-nil (count_field (cast_unsigned w32 z)) ∙ as_word z)
-    (λ z good. good.0) (λ z fits. (fits, (omega (arith, Fits-of_z fits), tt)))
-    (joined (cast_unsigned w32) (λ n. n < 2 ^ 32) count_field word_at (FitsSigned w32) (λ z. Unit {0})
-    (λ z. []) (λ word. Ok (cast_signed w32 word.0, word.1)) word_reader
-    (λ n small. made (λ z. (FitsSigned w32 z × (cast_unsigned w32 z ≡ n)) × Unit {0}) (cast_signed w32 n)
-    ((sfits_to_z {w = w32} {n = n} (record { fits = small }), of_z-to_z w32 n small), tt)
-    (λ z is. sym (to_z-of_z w32 z is.0.0) ∙ ap (cast_signed w32) is.0.1)))

@@ -1,66 +1,23 @@
 -- How many bytes the fields of an image have.
-use Rattle.std.proofs.Common.{◌≡◌, ℕ, ℤ, ◌+◌, ◌*◌, ◌-◌, ◌^◌, List, [], ◌∷◌, ◌++◌, length, None, Some, refl, sym, ◌∙◌, ap, arith}
+use Rattle.std.proofs.Common.{◌≡◌, ℕ, ℤ, ◌+◌, ◌*◌, ◌-◌, ◌^◌, List, [], ◌∷◌, ◌++◌, length, Some, refl, sym, ◌∙◌, ap, arith}
 use Rattle.std.specs.Prelude.{min}
 use Rattle.std.specs.List.{flat_map}
 use Rattle.std.proofs.lemmas.List.{length-append}
-use Rattle.ug_problem.specs.declared.column.Column.{Column}
-use Rattle.ug_problem.specs.declared.column.NamedRow.{NamedRow}
 use Rattle.ug_problem.specs.Instances.{Instance}
 use Rattle.ug_nodes.specs.declared.change.Change.{Change}
-use Rattle.ug_records.specs.Spelling.{count_field, bound_field, name_field, side_field, terms_fields, column_fields, row_fields, objective_fields, record_of}
+use Rattle.ug_fields.specs.Spelling.{count_field, bound_field, long_field}
+use Rattle.ug_fields.proofs.Simple.{count_long, bound_long, long_long, number_long}
+use Rattle.ug_records.specs.Lengths.{capped}
+use Rattle.ug_records.specs.Spelling.{record_of}
+use Rattle.ug_records.proofs.Sizes.{plus}
 use Rattle.ug_image.specs.declared.image.Image.{Image}
 use Rattle.ug_image.specs.declared.image.SavedNode.{SavedNode}
-use Rattle.ug_image.specs.Spelling.{long_field, problem_fields, point_fields, best_fields, change_fields, changes_fields, name_fields, node_fields, nodes_fields, deliveries_field, gap_field, spelled}
-use Rattle.ug_image.proofs.Shorts.{count_long, bound_long, number_long, all_terms_long, objective_long}
-use Rattle.ug_image.specs.Lengths.{capped}
+use Rattle.ug_image.specs.Spelling.{problem_fields, point_fields, best_fields, change_fields, changes_fields, name_fields, node_fields, nodes_fields, deliveries_field, gap_field, spelled}
 
 abbrev most : ℕ
 most = 2 ^ 64 - 1
 
-pub long_long : (n : ℕ) → length (long_field n) ≡ 8
-unfolding long_field
-long_long n = refl
-
 -- ---- fields
-
-column_long : (c : Column) → length (column_fields c) ≡ length c.name + 9
-column_long c = omega (
-  arith,
-  length-append (name_field c.name ++ bound_field c.low) (bound_field c.high),
-  length-append (name_field c.name) (bound_field c.low),
-  bound_long c.low,
-  bound_long c.high,
-)
-
-row_long : (r : NamedRow) → length (row_fields r) ≡ length r.name + 1
-    + length (side_field r.row.low) + length (side_field r.row.high)
-    + (4 + 20 * length r.row.terms)
-row_long r = omega (
-  arith,
-  length-append (name_field r.name ++ side_field r.row.low ++ side_field r.row.high)
-      (terms_fields r.row.terms),
-  length-append (name_field r.name ++ side_field r.row.low) (side_field r.row.high),
-  length-append (name_field r.name) (side_field r.row.low),
-  all_terms_long r.row.terms,
-)
-
-record_long : (p : Instance) → length (record_of p)
-    ≡ 8 + length (flat_map column_fields p.columns) + length (flat_map row_fields p.rows)
-    + (22 + 20 * length p.objective.terms)
-record_long p = omega (
-  arith,
-  length-append (count_field (length p.columns) ++ flat_map column_fields p.columns
-      ++ count_field (length p.rows) ++ flat_map row_fields p.rows)
-      (objective_fields p.objective),
-  length-append (count_field (length p.columns) ++ flat_map column_fields p.columns
-      ++ count_field (length p.rows)) (flat_map row_fields p.rows),
-  length-append (count_field (length p.columns) ++ flat_map column_fields p.columns)
-      (count_field (length p.rows)),
-  length-append (count_field (length p.columns)) (flat_map column_fields p.columns),
-  count_long (length p.columns),
-  count_long (length p.rows),
-  objective_long p.objective,
-)
 
 values_long : (x : List ℤ) → length (flat_map bound_field x) ≡ 4 * length x
 values_long [] = refl
@@ -157,34 +114,9 @@ image_long i =
 
 -- ---- sums that stop at the greatest number
 
-pub plus : (a b m : ℕ) → min (min a m + min b m) m ≡ min (a + b) m
-plus a b m = grind arith
-
 pub image_sum : (i : Image) → length (spelled i) ≡ 21 + length (record_of i.problem)
     + (length (best_fields i.best) + 32) + length (flat_map node_fields i.nodes)
 image_sum i = omega (arith, image_long i)
-
-pub record_sum : (p : Instance) → length (record_of p)
-    ≡ 8 + length (flat_map column_fields p.columns) + length (flat_map row_fields p.rows)
-    + (18 + (4 + 20 * length p.objective.terms))
-record_sum p = omega (arith, record_long p)
-
-pub one_column : (c : Column) → min (length c.name + 9) most ≡ capped (length (column_fields c))
-one_column c = ap capped (sym (column_long c))
-
-pub column_sum : (front : List ℕ) (c : Column)
-    → min (capped (length front) + capped (length (column_fields c))) most
-    ≡ capped (length (front ++ column_fields c))
-column_sum front c =
-    plus (length front) (length (column_fields c)) most
-    ∙ ap capped (sym (length-append front (column_fields c)))
-
-pub row_sum : (front : List ℕ) (r : NamedRow)
-    → min (capped (length front) + capped (length (row_fields r))) most
-    ≡ capped (length (front ++ row_fields r))
-row_sum front r =
-    plus (length front) (length (row_fields r)) most
-    ∙ ap capped (sym (length-append front (row_fields r)))
 
 pub one_node : (n : SavedNode) → min (min (length n.changes * 12) most + 20) most
     ≡ capped (length (node_fields n))
@@ -196,17 +128,6 @@ pub node_sum : (front : List ℕ) (n : SavedNode)
 node_sum front n =
     plus (length front) (length (node_fields n)) most
     ∙ ap capped (sym (length-append front (node_fields n)))
-
-pub one_row : (r : NamedRow)
-    → min (min (length r.name + (length (side_field r.row.low) + length (side_field r.row.high) + 1))
-    most + capped (4 + 20 * length r.row.terms)) most ≡ capped (length (row_fields r))
-one_row r = grind (arith, row_long r)
-
-pub no_side : 1 ≡ length (side_field None)
-no_side = refl
-
-pub some_side : (z : ℤ) → 17 ≡ length (side_field (Some z))
-some_side z = omega (arith, number_long z)
 
 pub some_best : (x : List ℤ) → min (min (length x * 4) most + 5) most
     ≡ capped (length (best_fields (Some x)))

@@ -3,8 +3,8 @@ use Rattle.std.proofs.Common.{◌≡◌, ℕ, ◌-◌, List, length, Ok, Err, �
 use Rattle.ug_rows.specs.declared.area.Interval.{Interval}
 use Rattle.ug_nodes.specs.declared.change.Change.{Change}
 use Rattle.ug_nodes.specs.Changes.{IsRising}
-use Rattle.ug_records.proofs.Bytes.{IsBytes}
-use Rattle.ug_records.proofs.Runs.{many_reader}
+use Rattle.ug_fields.specs.Readers.{IsBytes}
+use Rattle.ug_fields.proofs.Runs.{many_reader}
 use Rattle.ug_image.specs.declared.image.Image.{Image}
 use Rattle.ug_image.specs.Answers.{IsFirstBad}
 use Rattle.ug_image.specs.Laws.{SpellingsAreUnique}

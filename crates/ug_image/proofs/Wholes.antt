@@ -17,8 +17,8 @@ use Rattle.ug_nodes.specs.declared.name.Name.{Name}
 use Rattle.ug_nodes.specs.declared.change.Change.{Change}
 use Rattle.ug_nodes.specs.Names.{IsNameBefore}
 use Rattle.ug_nodes.specs.Changes.{AreChangesOf, IsChangeOf, IsRising, change_at}
-use Rattle.ug_records.proofs.Parts.{head_of, tail_of}
-use Rattle.ug_records.proofs.Runs.{Chain}
+use Rattle.ug_fields.proofs.Parts.{head_of, tail_of}
+use Rattle.ug_fields.proofs.Runs.{Chain}
 use Rattle.ug_image.specs.declared.image.Image.{Image}
 use Rattle.ug_image.specs.declared.image.SavedNode.{SavedNode}
 use Rattle.ug_image.specs.Images.{IsImage, IsSavedNode, AreSavedNodes, DoNamesRise, node_at}
@@ -27,7 +27,7 @@ use Rattle.ug_image.proofs.Changed.{AreReadChanges, IsNextChange, past}
 use Rattle.ug_image.proofs.Named.{AreReadNodes, with_names, without, IsBehind, IsNameOf, IsNextNode, IsStartingNode, next_name, next_place}
 use Rattle.ug_image.proofs.Bests.{IsGoodBest, IsGoodPoint, IsSmall, same}
 use Rattle.ug_image.proofs.Entire.{IsRead}
-use Rattle.ug_image.proofs.Shorts.{record_short}
+use Rattle.ug_records.proofs.Shorts.{record_short}
 
 -- ---- changes
 

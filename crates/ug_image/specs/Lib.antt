@@ -3,6 +3,4 @@ pub mod Spelling
 pub mod Reading
 pub mod Answers
 pub mod Laws
-pub mod Lengths
 pub mod Rests
-pub mod Steps

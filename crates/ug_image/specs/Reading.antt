@@ -1,10 +1,9 @@
 -- An image read from left to right, up to the first field that is cut short or breaks a rule. A
 -- reading that fails says how many bytes are left from that field on.
-use Rattle.std.specs.Prelude.{ℕ, ℤ, pos, zero, suc, ◌+◌, ◌*◌, ◌^◌, Bool, true, false, ◌&&◌, ◌||◌}
+use Rattle.std.specs.Prelude.{ℕ, ℤ, pos, ◌+◌, ◌*◌, ◌^◌, Bool, true, false, ◌&&◌, ◌||◌}
 use Rattle.std.specs.Prelude.{not, List, [], ◌∷◌, length, take, drop, Option, Some, None, Result}
 use Rattle.std.specs.Prelude.{Ok, Err, nat_lt, nat_le, int_le, ◌==◌, if◌then◌else◌}
 use Rattle.std.specs.List.{list_all}
-use Rattle.std.specs.Int.{w32, w64, from_be_bytes, cast_signed}
 use Rattle.ug_rows.specs.declared.area.Interval.{Interval}
 use Rattle.ug_rows.specs.Boxes.{interval_at}
 use Rattle.ug_rows.specs.Rows.{sum_at}
@@ -13,20 +12,12 @@ use Rattle.ug_problem.specs.declared.column.NamedRow.{NamedRow}
 use Rattle.ug_problem.specs.Instances.{Instance, root_of}
 use Rattle.ug_nodes.specs.declared.name.Name.{Name}
 use Rattle.ug_nodes.specs.declared.change.Change.{Change}
-use Rattle.ug_records.specs.Reading.{Reading, ◌>>=◌, count_at, bound_at, small_at, number_of}
-use Rattle.ug_records.specs.Reading.{many_at, record_at}
+use Rattle.ug_fields.specs.Reading.{Reading, ◌>>=◌, small_at, count_at, unsigned_at, signed_at}
+use Rattle.ug_fields.specs.Reading.{bound_at, long_at, amount_at, flagged_at, many_at}
+use Rattle.ug_records.specs.Reading.{record_at}
+use Rattle.ug_image.specs.declared.counts.Counts.{Counts}
 use Rattle.ug_image.specs.declared.image.SavedNode.{SavedNode}
 use Rattle.ug_image.specs.declared.image.Image.{Image}
-
--- a number of at least this, in eight bytes
-unfoldable pub long_at : ℕ → List ℕ → Reading ℕ
-long_at least bytes =
-    if nat_lt (length bytes) 8 then Err (length bytes)
-    else (
-    if nat_le least (from_be_bytes w64 (take 8 bytes))
-    then Ok (from_be_bytes w64 (take 8 bytes), drop 8 bytes)
-    else Err (length bytes)
-    )
 
 -- the record of a problem, before the bytes behind it
 unfoldable pub within_record : Result Instance ℕ → List ℕ → Reading Instance
@@ -91,49 +82,25 @@ feasible_at p bytes = do
   point ← point_at bytes
   if is_feasible p point.0 then Ok point else Err (length bytes)
 
--- the best point, where the flag says that there is one
-unfoldable pub best_if : Instance → ℕ → List ℕ → Reading (Option (List ℤ))
-best_if p zero bytes = Ok (None, bytes)
-best_if p (suc n) bytes = do
-  point ← feasible_at p bytes
-  Ok (Some point.0, point.1)
-
--- the best point: a flag, and the point where there is one
-unfoldable pub best_at : Instance → List ℕ → Reading (Option (List ℤ))
-best_at p bytes = do
-  flag ← small_at 0 1 bytes
-  best_if p flag.0 flag.1
+-- the best point, where there is one
+abbrev pub best_at : Instance → List ℕ → Reading (Option (List ℤ))
+best_at p bytes = flagged_at (feasible_at p) bytes
 
 -- the deliveries: none before version 2
 unfoldable pub deliveries_at : ℕ → List ℕ → Reading ℕ
 deliveries_at version bytes = if nat_lt 1 version then long_at 0 bytes else Ok (0, bytes)
 
--- a gap that is there
-unfoldable pub gap_here : List ℕ → Reading ℤ
-gap_here bytes =
-    if nat_lt (length bytes) 16 then Err (length bytes)
-    else (
-    if int_le (pos 0) (number_of (take 16 bytes))
-    && int_le (number_of (take 16 bytes)) (pos (4 * 10 ^ 37))
-    then Ok (number_of (take 16 bytes), drop 16 bytes)
-    else Err (length bytes)
-    )
-
 -- the gap: 0 before version 3
 unfoldable pub gap_at : ℕ → List ℕ → Reading ℤ
-gap_at version bytes = if nat_lt 2 version then gap_here bytes else Ok (pos 0, bytes)
+gap_at version bytes = if nat_lt 2 version then amount_at (4 * 10 ^ 37) bytes else Ok (pos 0, bytes)
 
--- four bytes
-unfoldable pub word_at : List ℕ → Reading ℕ
-word_at bytes =
-    if nat_lt (length bytes) 4 then Err (length bytes)
-    else Ok (from_be_bytes w32 (take 4 bytes), drop 4 bytes)
-
--- four bytes, in two's complement
-unfoldable pub signed_at : List ℕ → Reading ℤ
-signed_at bytes = do
-  word ← word_at bytes
-  Ok (cast_signed w32 word.0, word.1)
+-- the deliveries, the gap, and how many nodes there are
+unfoldable pub counts_at : ℕ → List ℕ → Reading Counts
+counts_at version bytes = do
+  deliveries ← deliveries_at version bytes
+  gap ← gap_at version deliveries.1
+  nodes ← long_at 0 gap.1
+  Ok (record { deliveries = deliveries.0; gap = gap.0; nodes = nodes.0 }, nodes.1)
 
 -- whether the bounds are closed and within the side
 abbrev pub is_closed_within : Interval → ℤ → ℤ → Bool
@@ -156,7 +123,7 @@ is_change root least c = (nat_le least c.column && nat_lt c.column (length root)
 -- a change, whatever it says
 unfoldable pub any_change_at : List ℕ → Reading Change
 any_change_at bytes = do
-  column ← word_at bytes
+  column ← unsigned_at bytes
   low ← signed_at column.1
   high ← signed_at low.1
   Ok (record { column = column.0; low = low.0; high = high.0 }, high.1)
@@ -238,18 +205,16 @@ nodes_at version run root n bytes =
 unfoldable pub behind_problem : ℕ → ℕ → ℕ → Instance → List ℕ → Reading Image
 behind_problem version run sequence problem bytes = do
   best ← best_at problem bytes
-  deliveries ← deliveries_at version best.1
-  gap ← gap_at version deliveries.1
-  count ← long_at 0 gap.1
-  nodes ← nodes_at version run (root_of problem) count.0 count.1
+  counts ← counts_at version best.1
+  nodes ← nodes_at version run (root_of problem) counts.0.nodes counts.1
   Ok (
     record {
       run = run;
       sequence = sequence;
       problem = problem;
       best = best.0;
-      deliveries = deliveries.0;
-      gap = gap.0;
+      deliveries = counts.0.deliveries;
+      gap = counts.0.gap;
       nodes = nodes.0;
     },
     nodes.1,

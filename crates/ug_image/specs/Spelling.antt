@@ -1,20 +1,16 @@
--- The bytes of an image, field by field, in each version. All numbers stand with their high byte
--- first, signed ones in two's complement.
+-- The bytes of an image, field by field, in each version.
 use Rattle.std.specs.Prelude.{◌≡◌, ℕ, ℤ, pos, ◌≤◌, ◌<◌, List, [], ◌∷◌, ◌++◌, length, nat_lt, Option}
-use Rattle.std.specs.Prelude.{None, Some, if◌then◌else◌}
+use Rattle.std.specs.Prelude.{if◌then◌else◌}
 use Rattle.std.specs.List.{flat_map}
-use Rattle.std.specs.Int.{w64, to_be_bytes}
 use Rattle.ug_problem.specs.Instances.{Instance}
 use Rattle.ug_nodes.specs.declared.name.Name.{Name}
 use Rattle.ug_nodes.specs.declared.change.Change.{Change}
-use Rattle.ug_records.specs.Spelling.{count_field, bound_field, number_field, record_of}
+use Rattle.ug_fields.specs.Spelling.{count_field, bound_field, long_field, number_field}
+use Rattle.ug_fields.specs.Spelling.{flagged_field}
+use Rattle.ug_records.specs.Spelling.{record_of}
 use Rattle.ug_image.specs.declared.image.SavedNode.{SavedNode}
 use Rattle.ug_image.specs.declared.image.Image.{Image}
 use Rattle.ug_image.specs.Images.{IsImage, node_at}
-
--- a number in eight bytes
-unfoldable pub long_field : ℕ → List ℕ
-long_field n = to_be_bytes w64 n
 
 -- a problem: how long its record is, and the record
 unfoldable pub problem_fields : Instance → List ℕ
@@ -24,10 +20,9 @@ problem_fields p = count_field (length (record_of p)) ++ record_of p
 unfoldable pub point_fields : List ℤ → List ℕ
 point_fields x = count_field (length x) ++ flat_map bound_field x
 
--- the best point: 0 where there is none, or 1 and the point
+-- the best point, where there is one
 abbrev pub best_fields : Option (List ℤ) → List ℕ
-best_fields None = 0 ∷ []
-best_fields (Some x) = 1 ∷ point_fields x
+best_fields best = flagged_field point_fields best
 
 -- a change: its column and its bounds
 abbrev pub change_fields : Change → List ℕ

@@ -1,11 +1,11 @@
 ghost use Rattle.std.specs.Prelude.{◌≡◌, [], ◌∷◌, ◌++◌, OnOk};
-ghost use Rattle.ug_records.specs.Reading.{Gives};
-ghost use Rattle.ug_image.specs.Reading.{values_at, point_at, is_feasible, feasible_at, best_if, best_at};
+ghost use Rattle.ug_fields.specs.Reading.{Gives};
+ghost use Rattle.ug_image.specs.Reading.{values_at, point_at, is_feasible, feasible_at, best_at};
 
 use std::alloc::{AllocError, Global};
+use ug_fields::{Fault, bound_at, count_at, small_at};
 use ug_lists::Items;
 use ug_problem::Problem;
-use ug_records::{Fault, bound_at, count_at, small_at};
 use ug_rows::Point;
 
 // Adds a value at the end.
@@ -64,7 +64,7 @@ fn feasible_at<'a>(
 }
 
 /// The best point: a flag, and the point where there is one.
-#[tactic(auto, unfolding(crate::specs::Reading::best_at, crate::specs::Reading::best_if))]
+#[tactic(auto, unfolding(ug_fields::specs::Reading::flagged_at, ug_fields::specs::Reading::flagged_if))]
 pub fn best_at<'a>(
     alloc: Global,
     bytes: &'a [u8],

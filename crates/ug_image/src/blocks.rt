@@ -2,12 +2,12 @@ ghost use Rattle.std.specs.Prelude.{◌≡◌, ◌≤◌, ◌<◌, ◌+◌, ◌-
 ghost use Rattle.ug_image.specs.Images.{IsImage};
 ghost use Rattle.ug_image.specs.Spelling.{spelled};
 
-use crate::advance::advance;
+use crate::advancing::advance;
 use crate::image::Image;
-use crate::line::Line;
 use crate::stage::Stage;
 use std::alloc::{AllocError, Global};
 use std::marker::Model;
+use ug_fields::Line;
 
 /// The bytes of an image that are still to come. Contracts see them as a list.
 #[derive(Drop)]

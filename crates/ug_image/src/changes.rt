@@ -1,14 +1,13 @@
 ghost use Rattle.std.specs.Prelude.{◌≡◌, ◌+◌};
 ghost use Rattle.ug_rows.specs.Boxes.{interval_at};
 ghost use Rattle.ug_nodes.specs.Changes.{IsRising};
-ghost use Rattle.ug_records.specs.Reading.{Gives};
+ghost use Rattle.ug_fields.specs.Reading.{Gives};
 ghost use Rattle.ug_image.specs.Reading.{is_closed_within, is_whole, narrows, is_change, any_change_at, change_at, changes_from, changes_at};
 
-use crate::leaves::{signed_at, word_at};
 use std::alloc::Global;
+use ug_fields::{Fault, count_at, signed_at, unsigned_at};
 use ug_lists::Items;
 use ug_nodes::{Change, Changes};
-use ug_records::{Fault, count_at};
 use ug_rows::{IntBox, Interval};
 
 // Whether the bounds are closed and within the side.
@@ -45,24 +44,20 @@ fn is_change(root: &IntBox, least: u64, change: Change) -> bool
     }
 }
 
-/// A change, whatever it says.
+// A change, whatever it says.
 #[tactic(auto, unfolding(crate::specs::Reading::any_change_at))]
-pub fn any_change_at(bytes: &[u8]) -> Result<(Change, &[u8]), Fault>
+fn any_change_at(bytes: &[u8]) -> Result<(Change, &[u8]), Fault>
     ensures { Gives (λ x. (x.0, x.1.now)) result (any_change_at bytes.now) }
 {
-    let (column, rest) = word_at(bytes)?;
+    let (column, rest) = unsigned_at(bytes)?;
     let (low, rest) = signed_at(rest)?;
     let (high, rest) = signed_at(rest)?;
     Ok((Change { column, low, high }, rest))
 }
 
-/// A change of a box below the root, of a column from this one on.
+// A change of a box below the root, of a column from this one on.
 #[tactic(auto, unfolding(crate::specs::Reading::change_at))]
-pub fn change_at<'a>(
-    bytes: &'a [u8],
-    root: &IntBox,
-    least: u64,
-) -> Result<(Change, &'a [u8]), Fault>
+fn change_at<'a>(bytes: &'a [u8], root: &IntBox, least: u64) -> Result<(Change, &'a [u8]), Fault>
     ensures { Gives (λ x. (x.0, x.1.now)) result (change_at root.now least bytes.now) }
 {
     let (change, rest) = any_change_at(bytes)?;
@@ -73,8 +68,8 @@ pub fn change_at<'a>(
     }
 }
 
-/// So many changes, and the least column of another.
-pub fn changes_from<'a>(
+// So many changes, and the least column of another.
+fn changes_from<'a>(
     alloc: Global,
     bytes: &'a [u8],
     root: &IntBox,

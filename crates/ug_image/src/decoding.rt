@@ -9,7 +9,7 @@ use crate::error::ImageError;
 use crate::fields::image_of;
 use crate::image::Image;
 use std::alloc::Global;
-use ug_records::Fault;
+use ug_fields::Fault;
 
 /// The image that the bytes spell, in version 1, 2 or 3. Bytes that spell none are refused with the
 /// place of the first field that is cut short or breaks a rule.

@@ -1,23 +1,16 @@
 ghost use Rattle.std.specs.Prelude.{◌≡◌};
-ghost use Rattle.ug_records.specs.Reading.{Gives};
+ghost use Rattle.ug_fields.specs.Reading.{Gives};
 ghost use Rattle.ug_image.specs.Reading.{behind_problem, fields_at, image_at};
 
 use crate::best::best_at;
+use crate::counts::counts_at;
+use crate::head::Head;
 use crate::image::Image;
-use crate::leaves::{deliveries_at, gap_at, long_at};
 use crate::nodes::nodes_at;
 use crate::record::problem_at;
 use std::alloc::Global;
+use ug_fields::{Fault, long_at, small_at};
 use ug_problem::Shared;
-use ug_records::{Fault, small_at};
-
-// What stands ahead of the problem.
-#[derive(Clone, Copy)]
-struct Head {
-    version: u8,
-    run: u64,
-    sequence: u64,
-}
 
 // The fields of an image, and what stands behind them.
 #[tactic(auto, unfolding(crate::specs::Reading::fields_at))]
@@ -54,23 +47,7 @@ fn behind_problem(
             return Err(fault);
         }
     };
-    let (deliveries, rest) = match deliveries_at(rest, head.version) {
-        Ok(found) => found,
-        Err(fault) => {
-            drop(best);
-            drop(problem);
-            return Err(fault);
-        }
-    };
-    let (gap, rest) = match gap_at(rest, head.version) {
-        Ok(found) => found,
-        Err(fault) => {
-            drop(best);
-            drop(problem);
-            return Err(fault);
-        }
-    };
-    let (count, rest) = match long_at(rest, 0) {
+    let (counts, rest) = match counts_at(rest, head.version) {
         Ok(found) => found,
         Err(fault) => {
             drop(best);
@@ -79,19 +56,19 @@ fn behind_problem(
         }
     };
     let root = problem.problem().root();
-    match nodes_at(alloc, rest, head.version, head.run, root, count) {
-        Ok((nodes, rest)) => Ok((
-            Image {
+    match nodes_at(alloc, rest, head, root, counts.nodes) {
+        Ok((nodes, rest)) => {
+            let image = Image {
                 run: head.run,
                 sequence: head.sequence,
                 problem,
                 best,
-                deliveries,
-                gap,
+                deliveries: counts.deliveries,
+                gap: counts.gap,
                 nodes,
-            },
-            rest,
-        )),
+            };
+            Ok((image, rest))
+        }
         Err(fault) => {
             drop(best);
             drop(problem);

@@ -1,15 +1,15 @@
 ghost use Rattle.std.specs.Prelude.{◌≡◌};
 ghost use Rattle.ug_nodes.specs.declared.name.Name.{Name};
-ghost use Rattle.ug_records.specs.Reading.{Gives};
+ghost use Rattle.ug_fields.specs.Reading.{Gives};
 ghost use Rattle.ug_image.specs.Reading.{is_behind, any_name_at, name_at, node_at, named_at, starting_at, bare_at, nodes_at};
 
 use crate::changes::changes_at;
+use crate::head::Head;
 use crate::image::{Saved, SavedNode};
-use crate::leaves::long_at;
 use std::alloc::Global;
+use ug_fields::{Fault, long_at};
 use ug_lists::Items;
 use ug_nodes::{Name, Ticket};
-use ug_records::Fault;
 use ug_rows::IntBox;
 
 // Whether the name stands behind the one before it, where there is one.
@@ -65,8 +65,8 @@ fn node_at<'a>(
     Ok((SavedNode { name, changes }, rest))
 }
 
-/// So many nodes, each behind the one before it, and the name of the last.
-pub fn named_at<'a>(
+// So many nodes, each behind the one before it, and the name of the last.
+fn named_at<'a>(
     alloc: Global,
     bytes: &'a [u8],
     run: u64,
@@ -105,8 +105,8 @@ fn starting_at<'a>(
     Ok((SavedNode { name, changes }, rest))
 }
 
-/// So many nodes without names.
-pub fn bare_at<'a>(
+// So many nodes without names.
+fn bare_at<'a>(
     alloc: Global,
     bytes: &'a [u8],
     run: u64,
@@ -130,18 +130,18 @@ pub fn bare_at<'a>(
 pub fn nodes_at<'a>(
     alloc: Global,
     bytes: &'a [u8],
-    version: u8,
-    run: u64,
+    head: Head,
     root: &IntBox,
     count: u64,
 ) -> Result<(Saved, &'a [u8]), Fault>
-    ensures { Gives (λ x. (x.0, x.1.now)) result (nodes_at version run root.now count bytes.now) }
+    ensures { Gives (λ x. (x.0, x.1.now)) result
+        (nodes_at head.version head.run root.now count bytes.now) }
 {
-    if version > 1 {
-        let ((nodes, _), rest) = named_at(alloc, bytes, run, root, count)?;
+    if head.version > 1 {
+        let ((nodes, _), rest) = named_at(alloc, bytes, head.run, root, count)?;
         Ok((nodes, rest))
     } else {
-        let ((nodes, _), rest) = bare_at(alloc, bytes, run, root, count)?;
+        let ((nodes, _), rest) = bare_at(alloc, bytes, head.run, root, count)?;
         Ok((nodes, rest))
     }
 }

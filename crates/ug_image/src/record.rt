@@ -1,10 +1,11 @@
 ghost use Rattle.std.specs.Prelude.{◌≡◌};
-ghost use Rattle.ug_records.specs.Reading.{Gives};
+ghost use Rattle.ug_fields.specs.Reading.{Gives};
 ghost use Rattle.ug_image.specs.Reading.{record_in, problem_at};
 
 use std::alloc::Global;
+use ug_fields::{Fault, count_at};
 use ug_problem::Shared;
-use ug_records::{Fault, RecordError, count_at, from_record};
+use ug_records::{RecordError, from_record};
 
 // The problem whose record the next bytes are, so many; where they are not there, so many bytes are
 // left from the bad field on.

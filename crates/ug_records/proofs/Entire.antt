@@ -1,19 +1,22 @@
 -- A whole record, read as it is spelled.
-use Rattle.std.proofs.Common.{◌≡◌, ℕ, ◌-◌, ◌^◌, ◌<◌, ◌≤◌, Bool, true, false, cond, eqb, List, [], ◌∷◌, ◌++◌, length, Result, Ok, Err, refl, sym, ◌∙◌, ap, subst, arith}
+use Rattle.std.proofs.Common.{◌≡◌, ℕ, ◌-◌, ◌^◌, ◌<◌, ◌≤◌, cond, eqb, List, [], ◌++◌, length, Result, Ok, Err, refl, sym, ◌∙◌, ap, subst, arith}
 use Rattle.std.specs.List.{flat_map}
 use Rattle.std.proofs.lemmas.List.{append-nil, length-append}
 use Rattle.std.proofs.lemmas.Bool.{eqb-true}
 use Rattle.ug_problem.specs.declared.column.Column.{Column}
 use Rattle.ug_problem.specs.declared.column.NamedRow.{NamedRow}
 use Rattle.ug_problem.specs.Instances.{Instance, IsColumn}
-use Rattle.ug_records.specs.Reading.{Reading, ◌>>=◌, count_at, column_at, columns_at, row_at, rows_at, objective_at, parts_at, record_at}
-use Rattle.ug_records.specs.Spelling.{count_field, column_fields, row_fields, objective_fields, record_of}
-use Rattle.ug_records.proofs.Bytes.{IsBytes}
-use Rattle.ug_records.proofs.Fields.{five}
-use Rattle.ug_records.proofs.Takes.{IsReader, first, then_, ok_is, bind_ok, bind_err, reworded, made, joined}
-use Rattle.ug_records.proofs.Simple.{count_reader}
+use Rattle.ug_fields.specs.Reading.{Reading, ◌>>=◌, count_at}
+use Rattle.ug_fields.specs.Readers.{IsBytes, IsReader}
+use Rattle.ug_fields.specs.Spelling.{count_field}
+use Rattle.ug_fields.proofs.Parts.{nothing, five}
+use Rattle.ug_fields.proofs.Tests.{single, single_stops}
+use Rattle.ug_fields.proofs.Takes.{first, then_, bind_ok, bind_err, reworded, made, joined}
+use Rattle.ug_fields.proofs.Simple.{count_reader}
+use Rattle.ug_fields.proofs.Runs.{Chain, after_all, many_reader}
+use Rattle.ug_records.specs.Reading.{column_at, columns_at, row_at, rows_at, objective_at, parts_at, record_at}
+use Rattle.ug_records.specs.Spelling.{column_fields, row_fields, objective_fields, record_of}
 use Rattle.ug_records.proofs.Composed.{column_reader}
-use Rattle.ug_records.proofs.Runs.{Chain, after_all, many_reader}
 use Rattle.ug_records.proofs.Larger.{IsReadRow, IsReadObjective, row_reader, objective_reader}
 
 abbrev pub same : Unit {0} → Column → Unit {0}
@@ -79,7 +82,7 @@ from_height p = count_field (length p.rows) ++ from_rows p
 abbrev from_columns : Instance → List ℕ
 from_columns p = flat_map column_fields p.columns ++ from_height p
 
-parts_reader : IsReader Whole record_of parts_at
+pub parts_reader : IsReader Whole record_of parts_at
 unfolding parts_at
 parts_reader =
     reworded Whole
@@ -136,20 +139,6 @@ parts_reader =
           all.0.1 i;
     }))))))))))
 
-nothing : (bytes : List ℕ) → length bytes ≡ 0 → bytes ≡ []
-nothing [] size = refl
-nothing (b ∷ bytes) size = absurd (omega (arith, size))
-
-at_end : {A : Type 0} → (b : Bool) (d : ℕ) (x y : A) → cond b (Ok x) (Err d) ≡ Ok y
-    → (b ≡ true) × (x ≡ y)
-at_end true d x y e = (refl, ok_is x y e)
-at_end false d x y e = absurd cc
-
-not_at_end : {A : Type 0} → (b : Bool) (d left : ℕ) (x : A) → cond b (Ok x) (Err d) ≡ Err left
-    → d ≡ left
-not_at_end true d left x e = absurd cc
-not_at_end false d left x e = cc
-
 abbrev ends : Instance × List ℕ → Result Instance ℕ
 ends parts = cond (eqb (length parts.1) 0) (Ok parts.0) (Err (length parts.1))
 
@@ -159,7 +148,7 @@ unfolding record_at
 record_taken bytes p h e =
     let b = bind_ok (parts_at bytes) ends p e in
     let t = parts_reader.taken bytes b.0.0 b.0.1 h b.1 in
-    let g = at_end (eqb (length b.0.1) 0) (length b.0.1) b.0.0 p b.2 in
+    let g = single (eqb (length b.0.1) 0) (length b.0.1) b.0.0 p b.2 in
     let none : b.0.1 ≡ [] = nothing b.0.1 (eqb-true _ _ g.0) in (
       t.0.parts ∙ ap (λ r. record_of b.0.0 ++ r) none ∙ append-nil (record_of b.0.0)
           ∙ ap record_of g.1,
@@ -180,6 +169,6 @@ record_within bytes left h e =
       | first f ↦ parts_reader.within bytes left h f
       | then_ x r f ↦
           let t = parts_reader.taken bytes x.0 x.1 h r in
-          let same = not_at_end (eqb (length x.1) 0) (length x.1) left x.0 f in
+          let same = single_stops (eqb (length x.1) 0) (length x.1) left x.0 f in
           omega (arith, same, ap length t.0.parts, length-append (record_of x.0) x.1)
     ]

@@ -1,5 +1,5 @@
 -- Terms, rows, the objective and the whole record, each read as it is spelled.
-use Rattle.std.proofs.Common.{◌≡◌, ℕ, zero, suc, ◌+◌, ◌^◌, ◌<◌, ◌≤◌, Bool, true, false, List, [], ◌∷◌, ◌++◌, length, refl, sym, ◌∙◌, ap, arith, unsigned_abs}
+use Rattle.std.proofs.Common.{◌≡◌, ℕ, ℤ, zero, suc, ◌+◌, ◌^◌, ◌<◌, ◌≤◌, Bool, true, false, List, [], ◌∷◌, ◌++◌, length, Option, IfSome, refl, sym, ◌∙◌, ap, arith, unsigned_abs}
 use Rattle.std.specs.Prelude.{◌==◌}
 use Rattle.std.specs.List.{flat_map}
 use Rattle.std.proofs.lemmas.List.{append-nil}
@@ -7,13 +7,17 @@ use Rattle.ug_rows.specs.declared.row.Term.{Term}
 use Rattle.ug_rows.specs.declared.row.Objective.{Objective}
 use Rattle.ug_problem.specs.declared.column.NamedRow.{NamedRow}
 use Rattle.ug_problem.specs.Instances.{IsName}
-use Rattle.ug_records.specs.Reading.{count_at, number_at, small_at, name_at, side_at, term_at, terms_from, terms_at, row_at, objective_at}
-use Rattle.ug_records.specs.Spelling.{count_field, number_field, name_field, side_field, sense_field, term_fields, terms_fields, row_fields, objective_fields}
-use Rattle.ug_records.proofs.Fields.{four}
-use Rattle.ug_records.proofs.Takes.{IsReader, reworded, made, joined}
-use Rattle.ug_records.proofs.Simple.{IsGoodSide, count_reader, number_reader, small_reader, name_reader, side_reader}
-use Rattle.ug_records.proofs.Composed.{IsNext, term_reader}
-use Rattle.ug_records.proofs.Runs.{Chain, after_all, many_reader}
+use Rattle.ug_fields.specs.Reading.{count_at, number_at, small_at, name_at, optional_at}
+use Rattle.ug_fields.specs.Readers.{IsReader}
+use Rattle.ug_fields.specs.Spelling.{count_field, number_field, name_field, optional_field}
+use Rattle.ug_fields.proofs.Parts.{four}
+use Rattle.ug_fields.proofs.Takes.{reworded, made, joined}
+use Rattle.ug_fields.proofs.Simple.{count_reader, number_reader, small_reader}
+use Rattle.ug_fields.proofs.Flagged.{optional_reader}
+use Rattle.ug_fields.proofs.Runs.{Chain, after_all, many_reader}
+use Rattle.ug_records.specs.Reading.{term_at, terms_from, terms_at, row_at, objective_at}
+use Rattle.ug_records.specs.Spelling.{sense_field, term_fields, terms_fields, row_fields, objective_fields}
+use Rattle.ug_records.proofs.Composed.{IsNext, name_reader, term_reader}
 
 abbrev pub past : ℕ → Term → ℕ
 past least t = t.column + 1
@@ -57,6 +61,15 @@ terms_reader width room =
     ((Unit {0} × (length terms ≡ n)) × ((terms, after_all past 0 terms) ≡ x)) × Unit {0})
     x.0 (((tt, run.0), λ i. (x.0, sym run.2 i)), tt) (λ terms is. λ i. (is.0.1 i).0)))))
 
+abbrev pub IsGoodSide : Option ℤ → Type 0
+IsGoodSide side = IfSome side (λ z. unsigned_abs z ≤ 10 ^ 37)
+
+side_reader : IsReader IsGoodSide optional_field (optional_at (10 ^ 37))
+side_reader = optional_reader (10 ^ 37) (omega arith)
+
+constant_reader : IsReader (λ z. unsigned_abs z ≤ 10 ^ 37) number_field (number_at (10 ^ 37))
+constant_reader = number_reader (10 ^ 37) (omega arith)
+
 -- a row that is read where there is room for so many terms
 pub record IsReadRow (width room : ℕ) (named : NamedRow) : Type 0 where
   pub name : IsName named.name
@@ -71,9 +84,9 @@ row_reader width room =
     × (IsName r.name × (IsGoodSide r.row.low
     × (IsGoodSide r.row.high × (AreRead width room r.row.terms × Unit {0})))))
     (λ r. name_field r.name
-    ++ (side_field r.row.low ++ (side_field r.row.high ++ (terms_fields r.row.terms ++ []))))
+    ++ (optional_field r.row.low ++ (optional_field r.row.high ++ (terms_fields r.row.terms ++ []))))
     (IsReadRow width room) row_fields _
-    (λ r good. sym (four (name_field r.name) (side_field r.row.low) (side_field r.row.high)
+    (λ r good. sym (four (name_field r.name) (optional_field r.row.low) (optional_field r.row.high)
     (terms_fields r.row.terms) []) ∙ append-nil (row_fields r))
     (λ r good. record {
       name = good.1.0;
@@ -86,13 +99,13 @@ row_reader width room =
     (joined (λ (r : NamedRow). r.name) IsName name_field name_at (λ r. Unit {0})
     (λ r. IsGoodSide r.row.low
     × (IsGoodSide r.row.high × (AreRead width room r.row.terms × Unit {0})))
-    (λ r. side_field r.row.low ++ (side_field r.row.high ++ (terms_fields r.row.terms ++ []))) _
+    (λ r. optional_field r.row.low ++ (optional_field r.row.high ++ (terms_fields r.row.terms ++ []))) _
     name_reader
-    (λ name is. joined (λ (r : NamedRow). r.row.low) IsGoodSide side_field side_at
+    (λ name is. joined (λ (r : NamedRow). r.row.low) IsGoodSide optional_field (optional_at (10 ^ 37))
     (λ r. Unit {0} × (r.name ≡ name))
     (λ r. IsGoodSide r.row.high × (AreRead width room r.row.terms × Unit {0}))
-    (λ r. side_field r.row.high ++ (terms_fields r.row.terms ++ [])) _ side_reader
-    (λ low lows. joined (λ (r : NamedRow). r.row.high) IsGoodSide side_field side_at
+    (λ r. optional_field r.row.high ++ (terms_fields r.row.terms ++ [])) _ side_reader
+    (λ low lows. joined (λ (r : NamedRow). r.row.high) IsGoodSide optional_field (optional_at (10 ^ 37))
     (λ r. (Unit {0} × (r.name ≡ name)) × (r.row.low ≡ low))
     (λ r. AreRead width room r.row.terms × Unit {0})
     (λ r. terms_fields r.row.terms ++ []) _ side_reader
@@ -182,7 +195,7 @@ objective_reader width room =
     number_field (number_at (10 ^ 37)) (λ o. (Unit {0} × (number_of_sense o.maximise ≡ sense))
     × (o.scale ≡ scale))
     (λ o. AreRead width room o.terms × Unit {0})
-    (λ o. terms_fields o.terms ++ []) _ number_reader
+    (λ o. terms_fields o.terms ++ []) _ constant_reader
     (λ constant small. joined (λ (o : Objective). o.terms) (AreRead width room) terms_fields
     (terms_at width room)
     (λ o. ((Unit {0} × (number_of_sense o.maximise ≡ sense)) × (o.scale ≡ scale))

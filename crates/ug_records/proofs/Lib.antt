@@ -1,13 +1,9 @@
-pub mod Bytes
-pub mod Fields
-pub mod Loops
-pub mod Numbers
-pub mod Parts
-pub mod Takes
-pub mod Simple
 pub mod Composed
-pub mod Runs
 pub mod Larger
 pub mod Entire
 pub mod Problems
 pub mod Verdicts
+pub mod Nexts
+pub mod Fronts
+pub mod Shorts
+pub mod Sizes

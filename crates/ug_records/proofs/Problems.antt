@@ -8,9 +8,9 @@ use Rattle.ug_rows.specs.Rows.{no_term, term_at}
 use Rattle.ug_problem.specs.declared.column.NamedRow.{NamedRow}
 use Rattle.ug_problem.specs.Instances.{Instance, AreTerms, IsColumn, IsRow, no_row}
 use Rattle.ug_problem.specs.Limits.{IsProblem, AreSmall, IsNarrow}
-use Rattle.ug_records.proofs.Parts.{head_of, tail_of}
+use Rattle.ug_fields.proofs.Parts.{head_of, tail_of}
+use Rattle.ug_fields.proofs.Runs.{Chain, after_all}
 use Rattle.ug_records.proofs.Composed.{IsNext}
-use Rattle.ug_records.proofs.Runs.{Chain, after_all}
 use Rattle.ug_records.proofs.Larger.{past, AreRead, IsReadRow}
 use Rattle.ug_records.proofs.Entire.{same, less, left_by, Whole}
 

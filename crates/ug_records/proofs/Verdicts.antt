@@ -1,12 +1,14 @@
 -- What reading a record tells about the bytes.
 use Rattle.std.proofs.Common.{◌≡◌, ℕ, ◌-◌, List, length, Result, Ok, Err, IfOk, MatchResult, sym, ◌∙◌, ap, subst, arith}
 use Rattle.ug_problem.specs.Instances.{Instance}
+use Rattle.ug_fields.specs.Readers.{IsBytes}
+use Rattle.ug_fields.proofs.Takes.{ok_is}
 use Rattle.ug_records.specs.Answers.{IsFirstBad, IsRecordOf}
-use Rattle.ug_records.specs.Reading.{record_at}
+use Rattle.ug_records.specs.Laws.{RecordsAreUnique}
+use Rattle.ug_records.specs.Reading.{parts_at, record_at}
 use Rattle.ug_records.specs.declared.error.RecordError.{RecordError}
 use Rattle.ug_records.specs.declared.error.RecordError.TheVariants.{Memory}
-use Rattle.ug_records.proofs.Bytes.{IsBytes}
-use Rattle.ug_records.proofs.Entire.{record_taken, record_again, record_within}
+use Rattle.ug_records.proofs.Entire.{parts_reader, record_taken, record_again, record_within}
 use Rattle.ug_records.proofs.Problems.{whole_is_problem, problem_is_whole}
 
 pub what_is_read : (bytes : List ℕ) (p : Instance) → IsBytes bytes → record_at bytes ≡ Ok p
@@ -43,3 +45,11 @@ made_is_it (Ok q) bytes p same e other is =
     let one : p ≡ other = let o = record_is_read bytes other is in cc (e, o) in
     same ∙ one
 made_is_it (Err e) bytes p same read other is = same
+
+-- what is read of both is the same
+pub records_are_unique : RecordsAreUnique
+records_are_unique p q r s is other same =
+    let one = parts_reader.again p r (problem_is_whole p is) in
+    let another = parts_reader.again q s (problem_is_whole q other) in
+    let both : (p, r) ≡ (q, s) = ok_is (p, r) (q, s) (sym one ∙ ap parts_at same ∙ another) in
+    (λ i. (both i).0, λ i. (both i).1)

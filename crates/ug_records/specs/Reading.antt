@@ -1,103 +1,13 @@
 -- A record read from left to right, up to the first field that is cut short or breaks a rule.
-use Rattle.std.specs.Prelude.{ℕ, ℤ, zero, suc, ◌+◌, ◌-◌, ◌^◌, Bool, ◌&&◌, List, [], ◌∷◌}
-use Rattle.std.specs.Prelude.{length, take, drop, Option, Some, None, Result, Ok, Err, nat_lt}
-use Rattle.std.specs.Prelude.{nat_le, ◌==◌, if◌then◌else◌, unsigned_abs, ◌≡◌}
-use Rattle.std.specs.List.{list_all}
-use Rattle.std.specs.Int.{w32, w128, from_be_bytes, cast_signed}
-use Rattle.ug_lines.specs.Words.{is_word_byte}
+use Rattle.std.specs.Prelude.{ℕ, ℤ, ◌+◌, ◌-◌, ◌^◌, ◌&&◌, List, length, Result, Ok, Err, nat_lt}
+use Rattle.std.specs.Prelude.{nat_le, ◌==◌, if◌then◌else◌, unsigned_abs}
 use Rattle.ug_rows.specs.declared.row.Term.{Term}
 use Rattle.ug_rows.specs.declared.row.Objective.{Objective}
 use Rattle.ug_problem.specs.declared.column.Column.{Column}
 use Rattle.ug_problem.specs.declared.column.NamedRow.{NamedRow}
 use Rattle.ug_problem.specs.Instances.{Instance}
-use Rattle.ug_records.specs.declared.fault.Fault.{Fault}
-use Rattle.ug_records.specs.declared.fault.Fault.TheVariants as fault
-
--- a reading: a value and the bytes behind it, or how many bytes are left from the bad field on
-abbrev pub Reading : Type 0 → Type 0
-Reading A = Result (A × List ℕ) ℕ
-
-infixl 10 ◌>>=◌
-abbrev pub ◌>>=◌ : {A B : Type 0} → Result A ℕ → (A → Result B ℕ) → Result B ℕ
-(Ok x) >>= f = f x
-(Err left) >>= f = Err left
-
--- what a function returned, seen by view, is what reading gives, unless memory ran out
-abbrev pub Fails : {Y : Type 0} → Fault → Result Y ℕ → Type 0
-Fails fault.Memory read = Unit {0}
-Fails (fault.Bad left) read = read ≡ Err left
-
-abbrev pub Gives : {X Y : Type 0} → (X → Y) → Result X Fault → Result Y ℕ → Type 0
-Gives view (Ok x) read = read ≡ Ok (view x)
-Gives view (Err e) read = Fails e read
-
--- a count of at most so many
-unfoldable pub count_at : ℕ → List ℕ → Reading ℕ
-count_at most bytes =
-    if nat_lt (length bytes) 4 then Err (length bytes)
-    else (
-    if nat_le (from_be_bytes w32 (take 4 bytes)) most
-    then Ok (from_be_bytes w32 (take 4 bytes), drop 4 bytes)
-    else Err (length bytes)
-    )
-
--- a bound of at most 10^9
-unfoldable pub bound_at : List ℕ → Reading ℤ
-bound_at bytes =
-    if nat_lt (length bytes) 4 then Err (length bytes)
-    else (
-    if nat_le (unsigned_abs (cast_signed w32 (from_be_bytes w32 (take 4 bytes)))) (10 ^ 9)
-    then Ok (cast_signed w32 (from_be_bytes w32 (take 4 bytes)), drop 4 bytes)
-    else Err (length bytes)
-    )
-
--- the number of sixteen bytes
-unfoldable pub number_of : List ℕ → ℤ
-number_of bytes = cast_signed w128 (from_be_bytes w128 bytes)
-
--- a number of at most so much
-unfoldable pub number_at : ℕ → List ℕ → Reading ℤ
-number_at most bytes =
-    if nat_lt (length bytes) 16 then Err (length bytes)
-    else (
-    if nat_le (unsigned_abs (number_of (take 16 bytes))) most
-    then Ok (number_of (take 16 bytes), drop 16 bytes)
-    else Err (length bytes)
-    )
-
--- a byte from one value to another
-unfoldable pub small_at : ℕ → ℕ → List ℕ → Reading ℕ
-small_at least most [] = Err 0
-small_at least most (b ∷ rest) =
-    if nat_le least b && nat_le b most then Ok (b, rest) else Err (length (b ∷ rest))
-
--- so many bytes of words
-unfoldable pub word_at : ℕ → List ℕ → Reading (List ℕ)
-word_at n bytes =
-    if nat_lt (length bytes) n then Err (length bytes)
-    else (
-    if list_all is_word_byte (take n bytes) then Ok (take n bytes, drop n bytes)
-    else Err (length bytes)
-    )
-
--- a name: its length, and so many bytes of words
-unfoldable pub name_at : List ℕ → Reading (List ℕ)
-name_at bytes = do
-  n ← small_at 1 255 bytes
-  word_at n.0 n.1
-
--- the number of a side, where its flag says that there is one
-unfoldable pub side_if : ℕ → List ℕ → Reading (Option ℤ)
-side_if zero bytes = Ok (None, bytes)
-side_if (suc n) bytes = do
-  number ← number_at (10 ^ 37) bytes
-  Ok (Some number.0, number.1)
-
--- a side: a flag, and the number where there is one
-unfoldable pub side_at : List ℕ → Reading (Option ℤ)
-side_at bytes = do
-  flag ← small_at 0 1 bytes
-  side_if flag.0 flag.1
+use Rattle.ug_fields.specs.Reading.{Reading, ◌>>=◌, small_at, count_at, unsigned_at, bound_at}
+use Rattle.ug_fields.specs.Reading.{number_at, name_at, optional_at, many_at}
 
 -- a column: its name and its bounds
 unfoldable pub column_at : List ℕ → Reading Column
@@ -107,37 +17,17 @@ column_at bytes = do
   high ← bound_at low.1
   Ok (record { name = name.0; low = low.0; high = high.0 }, high.1)
 
--- so many values, one after the other, each read by what stands after the one before it, and what
--- stands then
-unfoldable pub many_at : {S X : Type 0} → (S → List ℕ → Reading X) → (S → X → S) → ℕ → S → List ℕ
-    → Reading (List X × S)
-many_at next after zero state bytes = Ok (([], state), bytes)
-many_at next after (suc n) state bytes = do
-  first ← next state bytes
-  others ← many_at next after n (after state first.0) first.1
-  Ok ((first.0 ∷ others.0.0, others.0.1), others.1)
-
 -- the column of a term: at least this and below the width
 unfoldable pub place_at : ℕ → ℕ → List ℕ → Reading ℕ
-place_at width least bytes =
-    if nat_lt (length bytes) 4 then Err (length bytes)
-    else (
-    if nat_le least (from_be_bytes w32 (take 4 bytes))
-    && nat_lt (from_be_bytes w32 (take 4 bytes)) width
-    then Ok (from_be_bytes w32 (take 4 bytes), drop 4 bytes)
-    else Err (length bytes)
-    )
+place_at width least bytes = do
+  column ← unsigned_at bytes
+  if nat_le least column.0 && nat_lt column.0 width then Ok column else Err (length bytes)
 
 -- a factor: a number of at most 10^24, and not 0
 unfoldable pub factor_at : List ℕ → Reading ℤ
-factor_at bytes =
-    if nat_lt (length bytes) 16 then Err (length bytes)
-    else (
-    if nat_le 1 (unsigned_abs (number_of (take 16 bytes)))
-    && nat_le (unsigned_abs (number_of (take 16 bytes))) (10 ^ 24)
-    then Ok (number_of (take 16 bytes), drop 16 bytes)
-    else Err (length bytes)
-    )
+factor_at bytes = do
+  factor ← number_at (10 ^ 24) bytes
+  if nat_le 1 (unsigned_abs factor.0) then Ok factor else Err (length bytes)
 
 -- a term: its column, behind that of the term before it, and its factor
 unfoldable pub term_at : ℕ → ℕ → List ℕ → Reading Term
@@ -167,8 +57,8 @@ terms_at width room bytes = do
 unfoldable pub row_at : ℕ → ℕ → List ℕ → Reading NamedRow
 row_at width room bytes = do
   name ← name_at bytes
-  low ← side_at name.1
-  high ← side_at low.1
+  low ← optional_at (10 ^ 37) name.1
+  high ← optional_at (10 ^ 37) low.1
   terms ← terms_at width room high.1
   Ok (
     record { name = name.0; row = record { terms = terms.0; low = low.0; high = high.0 } },

@@ -1,35 +1,13 @@
--- The record of a problem: its bytes, field by field. All numbers stand with their high byte first,
--- signed ones in two's complement.
-use Rattle.std.specs.Prelude.{ℕ, ℤ, Bool, true, false, List, [], ◌∷◌, ◌++◌, length, Option, None}
-use Rattle.std.specs.Prelude.{Some}
+-- The record of a problem: its bytes, field by field.
+use Rattle.std.specs.Prelude.{ℕ, Bool, true, false, List, [], ◌∷◌, ◌++◌, length}
 use Rattle.std.specs.List.{flat_map}
-use Rattle.std.specs.Int.{w32, w128, to_be_bytes, cast_unsigned}
 use Rattle.ug_rows.specs.declared.row.Term.{Term}
 use Rattle.ug_rows.specs.declared.row.Objective.{Objective}
 use Rattle.ug_problem.specs.declared.column.Column.{Column}
 use Rattle.ug_problem.specs.declared.column.NamedRow.{NamedRow}
 use Rattle.ug_problem.specs.Instances.{Instance}
-
--- a count or a column, in four bytes
-unfoldable pub count_field : ℕ → List ℕ
-count_field n = to_be_bytes w32 n
-
--- a bound, in four bytes
-unfoldable pub bound_field : ℤ → List ℕ
-bound_field z = to_be_bytes w32 (cast_unsigned w32 z)
-
--- a factor, a side or a constant, in sixteen bytes
-unfoldable pub number_field : ℤ → List ℕ
-number_field z = to_be_bytes w128 (cast_unsigned w128 z)
-
--- a name's length in one byte, and the name
-abbrev pub name_field : List ℕ → List ℕ
-name_field name = length name ∷ name
-
--- a side: 0 where there is none, or 1 and the number
-abbrev pub side_field : Option ℤ → List ℕ
-side_field None = 0 ∷ []
-side_field (Some side) = 1 ∷ number_field side
+use Rattle.ug_fields.specs.Spelling.{count_field, bound_field, number_field, name_field}
+use Rattle.ug_fields.specs.Spelling.{optional_field}
 
 -- the sense: 0 where the user minimises, 1 where he maximises
 abbrev pub sense_field : Bool → List ℕ
@@ -50,7 +28,7 @@ column_fields c = name_field c.name ++ bound_field c.low ++ bound_field c.high
 
 -- a row: its name, its sides and its terms
 abbrev pub row_fields : NamedRow → List ℕ
-row_fields r = name_field r.name ++ side_field r.row.low ++ side_field r.row.high
+row_fields r = name_field r.name ++ optional_field r.row.low ++ optional_field r.row.high
     ++ terms_fields r.row.terms
 
 -- the objective: sense, scale, constant and terms

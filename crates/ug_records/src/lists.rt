@@ -1,16 +1,16 @@
 ghost use Rattle.std.specs.Prelude.{◌≡◌, ◌+◌, ◌≤◌, ◌^◌, length};
-ghost use Rattle.ug_records.specs.Reading.{Gives, column_at, place_at, factor_at, term_at, terms_at, terms_from, columns_at, row_at};
+ghost use Rattle.ug_fields.specs.Reading.{Gives};
+ghost use Rattle.ug_records.specs.Reading.{column_at, place_at, factor_at, term_at, terms_at, terms_from, columns_at, row_at};
 
-use crate::fault::Fault;
-use crate::leaves::{bound_at, count_at, name_at, number_of, side_at};
 use std::alloc::Global;
+use ug_fields::{Fault, bound_at, count_at, name_at, number_at, optional_at, unsigned_at};
 use ug_lists::Items;
 use ug_problem::{Column, Columns, NamedRow};
 use ug_rows::{Row, Term, Terms};
 
-/// A column: its name and its bounds.
+// A column: its name and its bounds.
 #[tactic(auto, unfolding(crate::specs::Reading::column_at))]
-pub fn column_at(alloc: Global, bytes: &[u8]) -> Result<(Column, &[u8]), Fault>
+fn column_at(alloc: Global, bytes: &[u8]) -> Result<(Column, &[u8]), Fault>
     ensures { Gives (λ x. (x.0, x.1.now)) result (column_at bytes.now) }
 {
     let (name, rest) = name_at(alloc, bytes)?;
@@ -34,35 +34,27 @@ pub fn columns_at(alloc: Global, bytes: &[u8], count: u32) -> Result<(Columns, &
     Ok((columns, rest))
 }
 
-/// The column of a term.
+// The column of a term.
 #[tactic(auto, unfolding(crate::specs::Reading::place_at))]
-pub fn place_at(bytes: &[u8], width: u32, least: u64) -> Result<(u32, &[u8]), Fault>
+fn place_at(bytes: &[u8], width: u32, least: u64) -> Result<(u32, &[u8]), Fault>
     ensures { Gives (λ x. (x.0, x.1.now)) result (place_at width least bytes.now) }
 {
-    if bytes.len() < 4 {
-        return Err(Fault::Bad(bytes.len()));
-    }
-    let (front, rest) = bytes.split_at(4);
-    let n = u32::from_be_bytes([front[0], front[1], front[2], front[3]]);
-    if least <= u64::from(n) && n < width {
-        Ok((n, rest))
+    let (column, rest) = unsigned_at(bytes)?;
+    if least <= u64::from(column) && column < width {
+        Ok((column, rest))
     } else {
         Err(Fault::Bad(bytes.len()))
     }
 }
 
-/// A factor: a number that is not 0, of at most 10^24.
+// A factor: a number that is not 0, of at most 10^24.
 #[tactic(auto, unfolding(crate::specs::Reading::factor_at))]
-pub fn factor_at(bytes: &[u8]) -> Result<(i128, &[u8]), Fault>
+fn factor_at(bytes: &[u8]) -> Result<(i128, &[u8]), Fault>
     ensures { Gives (λ x. (x.0, x.1.now)) result (factor_at bytes.now) }
 {
-    if bytes.len() < 16 {
-        return Err(Fault::Bad(bytes.len()));
-    }
-    let (front, rest) = bytes.split_at(16);
-    let n = number_of(front);
-    if 1 <= n.unsigned_abs() && n.unsigned_abs() <= MOST_FACTOR {
-        Ok((n, rest))
+    let (factor, rest) = number_at(bytes, MOST_FACTOR)?;
+    if 1 <= factor.unsigned_abs() {
+        Ok((factor, rest))
     } else {
         Err(Fault::Bad(bytes.len()))
     }
@@ -70,9 +62,9 @@ pub fn factor_at(bytes: &[u8]) -> Result<(i128, &[u8]), Fault>
 
 const MOST_FACTOR: u128 = 1_000_000_000_000_000_000_000_000;
 
-/// A term: its column, behind that of the term before it, and its factor.
+// A term: its column, behind that of the term before it, and its factor.
 #[tactic(auto, unfolding(crate::specs::Reading::term_at))]
-pub fn term_at(bytes: &[u8], width: u32, least: u64) -> Result<(Term, &[u8]), Fault>
+fn term_at(bytes: &[u8], width: u32, least: u64) -> Result<(Term, &[u8]), Fault>
     ensures { Gives (λ x. (x.0, x.1.now)) result (term_at width least bytes.now) }
 {
     let (column, rest) = place_at(bytes, width, least)?;
@@ -80,8 +72,8 @@ pub fn term_at(bytes: &[u8], width: u32, least: u64) -> Result<(Term, &[u8]), Fa
     Ok((Term { column, factor }, rest))
 }
 
-/// So many terms.
-pub fn terms_from(
+// So many terms.
+fn terms_from(
     alloc: Global,
     bytes: &[u8],
     width: u32,
@@ -111,6 +103,9 @@ pub fn terms_at(alloc: Global, bytes: &[u8], width: u32, room: u64) -> Result<(T
     Ok((terms, rest))
 }
 
+/// The greatest side, and the greatest constant.
+pub const MOST_SIDE: u128 = 10_000_000_000_000_000_000_000_000_000_000_000_000;
+
 /// A row: its name, its sides and its terms.
 #[tactic(auto, unfolding(crate::specs::Reading::row_at))]
 pub fn row_at(
@@ -122,8 +117,8 @@ pub fn row_at(
     ensures { Gives (λ x. (x.0, x.1.now)) result (row_at width room bytes.now) }
 {
     let (name, rest) = name_at(alloc, bytes)?;
-    let (low, rest) = side_at(rest)?;
-    let (high, rest) = side_at(rest)?;
+    let (low, rest) = optional_at(rest, MOST_SIDE)?;
+    let (high, rest) = optional_at(rest, MOST_SIDE)?;
     let (terms, rest) = terms_at(alloc, rest, width, room)?;
     Ok((
         NamedRow {

@@ -6,9 +6,9 @@ ghost use Rattle.ug_records.specs.Reading.{record_at};
 ghost use Rattle.ug_records.specs.declared.error.RecordError.TheVariants.{Memory};
 
 use crate::error::RecordError;
-use crate::fault::Fault;
 use crate::whole::parts_of;
 use std::alloc::Global;
+use ug_fields::Fault;
 use ug_problem::{Columns, NamedRows, Problem, ProblemError};
 use ug_rows::Objective;
 

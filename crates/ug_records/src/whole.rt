@@ -1,17 +1,17 @@
 ghost use Rattle.std.specs.Prelude.{◌≡◌, ◌≤◌, ◌^◌, length};
-ghost use Rattle.ug_records.specs.Reading.{Gives, rows_at, objective_at, parts_at, record_at};
 ghost use Rattle.ug_problem.specs.Instances.{instance_of};
+ghost use Rattle.ug_fields.specs.Reading.{Gives};
+ghost use Rattle.ug_records.specs.Reading.{rows_at, objective_at, parts_at, record_at};
 
-use crate::fault::Fault;
-use crate::leaves::{MOST_SIDE, count_at, number_at, small_at};
-use crate::lists::{columns_at, row_at, terms_at};
+use crate::lists::{MOST_SIDE, columns_at, row_at, terms_at};
 use std::alloc::Global;
+use ug_fields::{Fault, count_at, number_at, small_at};
 use ug_lists::Items;
 use ug_problem::{Columns, NamedRows};
 use ug_rows::Objective;
 
-/// So many rows, and how many terms may still be.
-pub fn rows_at(
+// So many rows, and how many terms may still be.
+fn rows_at(
     alloc: Global,
     bytes: &[u8],
     width: u32,
@@ -32,9 +32,9 @@ pub fn rows_at(
     Ok(((rows, left), rest))
 }
 
-/// The objective: its sense, its scale, its constant and its terms.
+// The objective: its sense, its scale, its constant and its terms.
 #[tactic(auto, unfolding(crate::specs::Reading::objective_at))]
-pub fn objective_at(
+fn objective_at(
     alloc: Global,
     bytes: &[u8],
     width: u32,

@@ -2,10 +2,10 @@ use Rattle.std.proofs.Common.{ℤ}
 use Rattle.std.specs.Int.{w32}
 use Rattle.std.proofs.lemmas.Int.{to_z-of_z}
 use Rattle.std.proofs.lemmas.Result.{err_from_is_err_and}
-use Rattle.ug_records.specs.Reading.{bound_at}
-use Rattle.ug_records.proofs.Loops.{goes_on, ends, is_done}
+use Rattle.ug_fields.specs.Reading.{bound_at}
+use Rattle.ug_fields.proofs.Loops.{goes_on, ends, is_done}
 use Rattle.ug_image.specs.Reading.{values_at}
-use Rattle.ug_image.proofs.Values.{bound_fits}
+use Rattle.ug_fields.proofs.Values.{bound_fits}
 use Rattle.ug_image.proofs.best.values_at.Goals as goal
 
 pub returns-in_err-value : goal.returns-in_err-value

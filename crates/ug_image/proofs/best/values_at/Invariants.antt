@@ -1,6 +1,6 @@
 use Rattle.std.proofs.Common.{◌≡◌, ℤ, ◌-◌}
-use Rattle.ug_records.specs.Reading.{bound_at, many_at}
-use Rattle.ug_records.proofs.Loops.{with_front}
+use Rattle.ug_fields.specs.Reading.{bound_at, many_at}
+use Rattle.ug_fields.proofs.Loops.{with_front}
 use Rattle.ug_image.specs.Reading.{values_at}
 use Rattle.ug_image.proofs.best.values_at.Given as goal
 

@@ -1,6 +1,6 @@
 use Rattle.std.proofs.Common.{◌^◌, arith, subst, sym}
 use Rattle.ug_nodes.specs.Changes.{IsRising}
-use Rattle.ug_records.proofs.Simple.{count_reader}
+use Rattle.ug_fields.proofs.Simple.{count_reader}
 use Rattle.ug_image.proofs.Verdicts.{changes_rise}
 use Rattle.ug_image.proofs.changes.changes_at.Goals as goal
 

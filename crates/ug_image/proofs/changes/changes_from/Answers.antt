@@ -1,7 +1,7 @@
 use Rattle.std.proofs.Common.{◌+◌}
 use Rattle.std.proofs.lemmas.Result.{err_from_is_err_and}
 use Rattle.ug_nodes.specs.declared.change.Change.{Change}
-use Rattle.ug_records.proofs.Loops.{goes_on, ends, is_done}
+use Rattle.ug_fields.proofs.Loops.{goes_on, ends, is_done}
 use Rattle.ug_image.specs.Reading.{change_at, changes_from}
 use Rattle.ug_image.proofs.changes.changes_from.Goals as goal
 

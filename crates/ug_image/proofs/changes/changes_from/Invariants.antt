@@ -1,7 +1,7 @@
 use Rattle.std.proofs.Common.{◌≡◌, ◌-◌, ◌+◌}
 use Rattle.ug_nodes.specs.declared.change.Change.{Change}
-use Rattle.ug_records.specs.Reading.{many_at}
-use Rattle.ug_records.proofs.Loops.{with_front}
+use Rattle.ug_fields.specs.Reading.{many_at}
+use Rattle.ug_fields.proofs.Loops.{with_front}
 use Rattle.ug_image.specs.Reading.{change_at, changes_from}
 use Rattle.ug_image.proofs.changes.changes_from.Given as goal
 

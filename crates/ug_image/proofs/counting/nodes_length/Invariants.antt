@@ -1,7 +1,7 @@
 use Rattle.std.proofs.Common.{◌≡◌, length, take}
 use Rattle.std.specs.List.{flat_map}
 use Rattle.ug_image.specs.Spelling.{node_fields}
-use Rattle.ug_image.specs.Lengths.{capped}
+use Rattle.ug_records.specs.Lengths.{capped}
 use Rattle.ug_image.proofs.counting.nodes_length.Given as goal
 
 abbrev pub invariant-loop-node : goal.invariant-loop-node

@@ -1,6 +1,6 @@
 use Rattle.std.proofs.Common.{◌≡◌, ◌-◌, ◌+◌}
-use Rattle.ug_records.specs.Reading.{many_at}
-use Rattle.ug_records.proofs.Loops.{with_front}
+use Rattle.ug_fields.specs.Reading.{many_at}
+use Rattle.ug_fields.proofs.Loops.{with_front}
 use Rattle.ug_image.specs.declared.image.SavedNode.{SavedNode}
 use Rattle.ug_image.specs.Reading.{starting_at, bare_at}
 use Rattle.ug_image.proofs.nodes.bare_at.Given as goal

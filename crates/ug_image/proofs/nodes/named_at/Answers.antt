@@ -1,7 +1,7 @@
 use Rattle.std.proofs.Common.{Some}
 use Rattle.std.proofs.lemmas.Result.{err_from_is_err_and}
 use Rattle.ug_image.specs.declared.image.SavedNode.{SavedNode}
-use Rattle.ug_records.proofs.Loops.{goes_on, ends, is_done}
+use Rattle.ug_fields.proofs.Loops.{goes_on, ends, is_done}
 use Rattle.ug_image.specs.Reading.{node_at, named_at}
 use Rattle.ug_image.proofs.nodes.named_at.Goals as goal
 

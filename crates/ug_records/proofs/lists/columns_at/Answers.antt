@@ -1,7 +1,8 @@
 use Rattle.std.proofs.lemmas.Result.{err_from_is_err_and}
 use Rattle.ug_problem.specs.declared.column.Column.{Column}
-use Rattle.ug_records.specs.Reading.{column_at, many_at}
-use Rattle.ug_records.proofs.Loops.{goes_on, ends, is_done}
+use Rattle.ug_fields.specs.Reading.{many_at}
+use Rattle.ug_records.specs.Reading.{column_at}
+use Rattle.ug_fields.proofs.Loops.{goes_on, ends, is_done}
 use Rattle.ug_records.proofs.lists.columns_at.Goals as goal
 
 pub returns-in_err-column : goal.returns-in_err-column

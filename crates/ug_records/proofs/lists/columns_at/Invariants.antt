@@ -1,7 +1,8 @@
 use Rattle.std.proofs.Common.{◌≡◌, ◌-◌}
 use Rattle.ug_problem.specs.declared.column.Column.{Column}
-use Rattle.ug_records.specs.Reading.{column_at, many_at}
-use Rattle.ug_records.proofs.Loops.{with_front}
+use Rattle.ug_fields.specs.Reading.{many_at}
+use Rattle.ug_records.specs.Reading.{column_at}
+use Rattle.ug_fields.proofs.Loops.{with_front}
 use Rattle.ug_records.proofs.lists.columns_at.Given as goal
 
 abbrev pub invariant-loop : goal.invariant-loop

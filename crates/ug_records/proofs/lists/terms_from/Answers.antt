@@ -2,7 +2,7 @@ use Rattle.std.proofs.Common.{◌+◌}
 use Rattle.std.proofs.lemmas.Result.{err_from_is_err_and}
 use Rattle.ug_rows.specs.declared.row.Term.{Term}
 use Rattle.ug_records.specs.Reading.{term_at, terms_from}
-use Rattle.ug_records.proofs.Loops.{goes_on, ends, is_done}
+use Rattle.ug_fields.proofs.Loops.{goes_on, ends, is_done}
 use Rattle.ug_records.proofs.lists.terms_from.Goals as goal
 
 pub returns-in_err-term : goal.returns-in_err-term

@@ -1,7 +1,8 @@
 use Rattle.std.proofs.Common.{◌≡◌, ◌+◌, ◌-◌}
 use Rattle.ug_rows.specs.declared.row.Term.{Term}
-use Rattle.ug_records.specs.Reading.{term_at, many_at, terms_from}
-use Rattle.ug_records.proofs.Loops.{with_front}
+use Rattle.ug_fields.specs.Reading.{many_at}
+use Rattle.ug_records.specs.Reading.{term_at, terms_from}
+use Rattle.ug_fields.proofs.Loops.{with_front}
 use Rattle.ug_records.proofs.lists.terms_from.Given as goal
 
 abbrev pub invariant-loop : goal.invariant-loop

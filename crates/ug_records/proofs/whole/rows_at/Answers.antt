@@ -2,7 +2,7 @@ use Rattle.std.proofs.Common.{◌-◌, length}
 use Rattle.std.proofs.lemmas.Result.{err_from_is_err_and}
 use Rattle.ug_problem.specs.declared.column.NamedRow.{NamedRow}
 use Rattle.ug_records.specs.Reading.{row_at, rows_at}
-use Rattle.ug_records.proofs.Loops.{goes_on, ends, is_done}
+use Rattle.ug_fields.proofs.Loops.{goes_on, ends, is_done}
 use Rattle.ug_records.proofs.whole.rows_at.Goals as goal
 
 pub returns-in_err-row : goal.returns-in_err-row

@@ -1,7 +1,8 @@
 use Rattle.std.proofs.Common.{◌≡◌, ◌-◌, length}
 use Rattle.ug_problem.specs.declared.column.NamedRow.{NamedRow}
-use Rattle.ug_records.specs.Reading.{row_at, many_at, rows_at}
-use Rattle.ug_records.proofs.Loops.{with_front}
+use Rattle.ug_fields.specs.Reading.{many_at}
+use Rattle.ug_records.specs.Reading.{row_at, rows_at}
+use Rattle.ug_fields.proofs.Loops.{with_front}
 use Rattle.ug_records.proofs.whole.rows_at.Given as goal
 
 abbrev pub invariant-loop : goal.invariant-loop

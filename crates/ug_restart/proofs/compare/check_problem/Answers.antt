@@ -1,6 +1,6 @@
 use Rattle.std.proofs.Common.{◌++◌, [], sym, ◌∙◌, ap}
 use Rattle.std.proofs.lemmas.Bool.{false≢true}
-use Rattle.ug_records.proofs.Fields.{records_are_unique}
+use Rattle.ug_records.proofs.Verdicts.{records_are_unique}
 use Rattle.ug_restart.proofs.compare.check_problem.Goals as goal
 
 pub unreachable-requires : goal.unreachable-requires

@@ -1,0 +1,13 @@
+pub mod Bytes
+pub mod Parts
+pub mod Takes
+pub mod Tests
+pub mod Tested
+pub mod Simple
+pub mod Values
+pub mod Named
+pub mod Flagged
+pub mod Runs
+pub mod Loops
+pub mod Counted
+pub mod Nexts

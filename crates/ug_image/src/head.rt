@@ -1,0 +1,7 @@
+/// What stands ahead of the problem.
+#[derive(Clone, Copy)]
+pub struct Head {
+    pub version: u8,
+    pub run: u64,
+    pub sequence: u64,
+}
