@@ -14,8 +14,8 @@ use Rattle.ug_rules.specs.State.{BookState}
 use Rattle.ug_rules.specs.Ranks.{ranks_that}
 use Rattle.ug_ranks.specs.Looks.{is_racing}
 use Rattle.ug_rules.specs.Deaths.{killed, killed_at, lost_by, with_dead}
-use Rattle.ug_rules.specs.Hearing.{after_hearing, counted, kept, done_at, handed_at}
-use Rattle.ug_book.specs.Heard.{heard_after, killed_under, one_more, taken_up}
+use Rattle.ug_rules.specs.Hearing.{after_hearing, counted, done_at, handed_at, kept, killed_under, taken_up}
+use Rattle.ug_book.specs.Heard.{heard_after, one_more}
 
 lost_counts : (rs : List ℕ) (raced : Option Entry) (b : BookState)
     → (lost_by rs raced b).heard ≡ b.heard

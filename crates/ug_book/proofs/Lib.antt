@@ -1,9 +1,9 @@
 pub mod Due
-pub mod Rooms
 pub mod WhoWorks
 pub mod Taken
 pub mod After
+pub mod Openings
 pub mod Starts
 pub mod Nodes
-pub mod Decisions
 pub mod Runs
+pub mod Told

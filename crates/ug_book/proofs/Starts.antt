@@ -25,6 +25,7 @@ use Rattle.ug_ranks.specs.declared.state.State.{State}
 use Rattle.ug_ranks.specs.declared.state.State.TheVariants.{Absent, Dead}
 use Rattle.ug_ranks.specs.States.{state_at}
 use Rattle.ug_nodes.specs.Primitive.{times}
+use Rattle.ug_frames.specs.Orders.{IsOrder}
 use Rattle.ug_ledger.specs.Ledgers.{Current, boxes_of, hand_name}
 use Rattle.ug_ledger.specs.Starts.{IsStart}
 use Rattle.ug_ledger.proofs.BoxLemmas.{covered_by}
@@ -219,26 +220,29 @@ none_race n (q, is) = elim (absent_at n q) [
   | inr e ↦ false≢true (sym (ap is_racing e) ∙ is)
 ]
 
-pub started_is : (p q : Instance) (run : ℕ) (best own : Option (List ℤ))
-    (boxes : List (List Change)) (settings : Settings) (pool : List Entry) (ranks : List State)
-    (orders : List Told) (known : Option ℤ) → q ≡ p → own ≡ best
-    → pool ≡ with_entries (start_entries q run 0 boxes) []
-    → ranks ≡ replicate settings.solvers Absent → orders ≡ []
-    → known ≡ best_cutoff q settings.gap own
+pub started_is : (p q : Instance) (number own_number : ℕ) (best own : Option (List ℤ))
+    (boxes : List (List Change)) (settings own_settings : Settings) (pool : List Entry)
+    (ranks : List State) (raced : Option Entry) (last : ℕ) (orders : List Told) (known : Option ℤ)
+    → q ≡ p → own_number ≡ number → own_settings ≡ settings → own ≡ best
+    → pool ≡ with_entries (start_entries q own_number 0 boxes) []
+    → ranks ≡ replicate own_settings.solvers Absent → raced ≡ None → last ≡ 0 → orders ≡ []
+    → known ≡ best_cutoff q own_settings.gap own
     → record {
       problem = q;
-      run = run;
-      settings = settings;
+      run = own_number;
+      settings = own_settings;
       best = own;
       pool = pool;
       ranks = ranks;
-      raced = None;
-      last = 0;
+      raced = raced;
+      last = last;
       orders = orders;
       heard = 0;
       announced = known;
-    } ≡ started p run best boxes settings
-started_is p q run best own boxes settings pool ranks orders known e f g h i j = cc
+    } ≡ started p number best boxes settings
+started_is p q number own_number best own boxes settings own_settings pool ranks raced last orders
+    known e f g h i j k l m n =
+    cc
 
 module _ (p : Instance) (run : ℕ) (best : Option (List ℤ)) (boxes : List (List Change))
     (settings : Settings) where
@@ -293,6 +297,7 @@ module _ (p : Instance) (run : ℕ) (best : Option (List ℤ)) (boxes : List (Li
     ledger = start_ledger (root_of p) (ledger_of start) is_start;
     race = no_race start (none_race settings.solvers) refl;
     number = omega arith;
+    orders = All-nil (λ (told : Told). IsOrder told.order);
   }
 
   boxes_told : (hand : ℕ) (bs : List (List Change))

@@ -1,11 +1,10 @@
--- What is taken up takes no place in the pool that was kept for a node that is out.
+-- What is taken up takes no place that was kept for a node that is out, or for a Stop.
 use Rattle.std.proofs.Common.{◌≡◌, ℕ, ◌<◌, ◌≤◌, length, refl, ap, arith, if◌then◌else◌}
 use Rattle.std.specs.Prelude.{List}
 use Rattle.std.proofs.lemmas.List.{length-map, length-set}
 use Rattle.ug_problem.specs.Instances.{root_of}
 use Rattle.ug_nodes.specs.declared.change.Change.{Change}
 use Rattle.ug_nodes.specs.Changes.{area_by}
-use Rattle.ug_pool.specs.Pools.{Pooled}
 use Rattle.ug_frames.specs.declared.report.Report.{Report}
 use Rattle.ug_frames.specs.declared.report.Report.TheVariants.{Ready, Solution, Hand, State as Reported, Done, Ended}
 use Rattle.ug_ranks.specs.declared.state.State.{State}
@@ -13,13 +12,13 @@ use Rattle.ug_ranks.specs.declared.state.State.TheVariants.{Absent, Idle, Racing
 use Rattle.ug_ranks.specs.States.{state_at}
 use Rattle.ug_ranks.specs.Changes.{grown, joined, noted}
 use Rattle.ug_ranks.specs.Looks.{is_racing}
-use Rattle.ug_rules.specs.Hearing.{done_at, handed_at, kept}
+use Rattle.ug_rules.specs.Hearing.{done_at, handed_at, kept, taken_up}
 use Rattle.ug_rules.specs.declared.heard.Heard.{Heard}
 use Rattle.ug_rules.specs.declared.heard.Heard.TheVariants.{Kept, Stale, Early, Broken, NotBetter, InRace, Again, Gap, Outside, Unbacked, Short, Memory}
 use Rattle.ug_rules.specs.State.{BookState, nodes_of, raced_node}
 use Rattle.ug_rules.proofs.RoomLemmas.{TakesNone, kept_takes_none}
-use Rattle.ug_book.specs.Heard.{taken_up}
-use Rattle.ug_book.specs.Hands.{HasPlaces}
+use Rattle.ug_stock.specs.declared.stock.Stock.{Stock}
+use Rattle.ug_stock.specs.Stocks.{HasRoom, with_stock}
 
 nothing : (b : BookState) → TakesNone b b
 nothing b = record { work = omega arith; raced = omega arith; orders = omega arith }
@@ -39,14 +38,20 @@ taken_takes_none b (Unbacked cutoff incumbent) r report l = nothing b
 taken_takes_none b (Short said was) r report l = nothing b
 taken_takes_none b Memory r report l = nothing b
 
-pub places_taken : (b new : BookState) (pool : Pooled) (answer : Heard) (r : ℕ) (report : Report)
-    → r < length b.ranks → new ≡ taken_up answer r report b
-    → HasPlaces pool b.ranks b.raced → HasPlaces pool new.ranks new.raced
-places_taken b new pool answer r report l e places =
-    let none = taken_takes_none b answer r report l in
+-- so there is room still
+pub room_taken : (b : BookState) (old new : Stock) (answer : Heard) (r : ℕ) (report : Report)
+    → r < length old.ranks
+    → with_stock b new ≡ taken_up answer r report (with_stock b old)
+    → new.pool.spare ≡ old.pool.spare → new.orders.spare ≡ old.orders.spare → HasRoom old
+    → HasRoom new
+room_taken b old new answer r report l e pool orders room =
+    let none = taken_takes_none (with_stock b old) answer r report l in
     let work = ap (λ (k : BookState). length (nodes_of k.ranks)) e in
     let raced = ap (λ (k : BookState). length (raced_node k.raced)) e in
-    omega (arith, none.work, none.raced, work, raced, places)
+    record {
+      pool = omega (arith, none.work, none.raced, work, raced, pool, room.pool);
+      orders = omega (arith, none.work, work, orders, room.orders);
+    }
 
 done_wide : (s : State) (r : ℕ) (b : BookState)
     → length (done_at s r b).ranks ≡ length b.ranks
@@ -92,16 +97,9 @@ taken_wide b (Unbacked cutoff incumbent) r report = refl
 taken_wide b (Short said was) r report = refl
 taken_wide b Memory r report = refl
 
--- so a death that follows has its rank and its room
+-- so a death that follows has its rank
 pub rank_taken : (b new : BookState) (answer : Heard) (r : ℕ) (report : Report)
     → r < length b.ranks → new ≡ taken_up answer r report b → r < length new.ranks
 rank_taken b new answer r report l e =
     let wide = ap (λ (k : BookState). length k.ranks) e in
     omega (arith, l, wide, taken_wide b answer r report)
-
-pub stops_taken : (b new : BookState) (answer : Heard) (r : ℕ) (report : Report) (spare : ℕ)
-    → r < length b.ranks → new ≡ taken_up answer r report b → length (nodes_of b.ranks) ≤ spare
-    → length (nodes_of new.ranks) ≤ spare
-stops_taken b new answer r report spare l e room =
-    let none = taken_takes_none b answer r report l in
-    let work = ap (λ (k : BookState). length (nodes_of k.ranks)) e in omega (arith, none.work, work, room)

@@ -1,15 +1,12 @@
 -- When a hand of a rank is taken.
-use Rattle.std.specs.Prelude.{◌≡◌, ◌+◌, ℕ, ◌≤◌, List, Option, length}
+use Rattle.std.specs.Prelude.{◌≡◌, ℕ, List}
 use Rattle.ug_rows.specs.declared.area.Interval.{Interval}
 use Rattle.ug_nodes.specs.declared.change.Change.{Change}
-use Rattle.ug_pool.specs.declared.entry.Entry.{Entry}
-use Rattle.ug_pool.specs.Pools.{Pooled}
 use Rattle.ug_ranks.specs.declared.state.State.{State}
 use Rattle.ug_ranks.specs.declared.state.State.TheVariants.{Absent, Idle, Racing, Active, Dead}
 use Rattle.ug_stock.specs.Hands.{IsNext, IsRefused}
 use Rattle.ug_rules.specs.declared.heard.Heard.{Heard}
 use Rattle.ug_rules.specs.declared.heard.Heard.TheVariants.{InRace}
-use Rattle.ug_rules.specs.State.{nodes_of, raced_node}
 
 -- the rank works, and the hand is its next, of a box below that of its node
 abbrev pub IsToBeTaken : List Interval → State → ℕ → List Change → Type 0
@@ -23,7 +20,3 @@ IsNotTaken root Idle number changes answer = answer ≡ InRace
 IsNotTaken root (Racing racer) number changes answer = answer ≡ InRace
 IsNotTaken root (Active work) number changes answer = IsRefused root work number changes answer
 IsNotTaken root (Dead how) number changes answer = answer ≡ InRace
-
--- each node that is out of the pool has a spare place there
-abbrev pub HasPlaces : Pooled → List State → Option Entry → Type 0
-HasPlaces pool ranks raced = length (nodes_of ranks) + length (raced_node raced) ≤ pool.spare

@@ -1,8 +1,9 @@
 -- The book with which a run starts.
-use Rattle.std.specs.Prelude.{◌≡◌, ℕ, ℤ, ◌+◌, List, [], ◌∷◌, Option, None, replicate}
+use Rattle.std.specs.Prelude.{◌≡◌, ℕ, ℤ, ◌+◌, List, [], ◌∷◌, Option, None, All, replicate}
 use Rattle.ug_rows.specs.Sums.{box_floor}
 use Rattle.ug_problem.specs.Instances.{Instance, root_of}
 use Rattle.ug_problem.specs.Better.{best_cutoff}
+use Rattle.ug_problem.specs.Limits.{IsProblem}
 use Rattle.ug_nodes.specs.declared.name.Ticket.{Ticket}
 use Rattle.ug_nodes.specs.declared.change.Change.{Change}
 use Rattle.ug_nodes.specs.Changes.{area_by}
@@ -13,6 +14,10 @@ use Rattle.ug_ledger.specs.Ledgers.{hand_name}
 use Rattle.ug_rules.specs.declared.settings.Settings.{Settings}
 use Rattle.ug_rules.specs.State.{BookState}
 use Rattle.ug_rules.specs.Books.{HasItsFloor}
+use Rattle.ug_stock.specs.declared.run.Run.{Run}
+use Rattle.ug_stock.specs.declared.stock.Stock.{Stock}
+use Rattle.ug_stock.specs.Runs.{KnowsFloor}
+use Rattle.ug_book.specs.declared.opening.Opening.{Opening}
 
 -- the ticket that names the nodes with which a run starts; it is given to no rank
 abbrev pub first_ticket : ℕ → Ticket
@@ -42,6 +47,26 @@ pub record IsStartPut (p : Instance) (run hand : ℕ) (changes : List Change) (o
   pub entries : new.entries ≡ with_entry (start_entry p run hand changes) old.entries
   pub spare : new.spare + 1 ≡ old.spare
   pub floor : HasItsFloor p (start_entry p run hand changes)
+
+-- the run is the opening's: its problem is one, and its floor is known
+pub record IsRunOf (o : Opening) (run : Run) : Type 0 where
+  pub problem : run.problem ≡ o.problem
+  pub number : run.number ≡ o.run
+  pub settings : run.settings ≡ o.settings
+  pub floor : KnowsFloor run
+  pub sound : IsProblem run.problem
+
+-- the starting nodes with these boxes are in the pool, each with its floor, all ranks are absent, no
+-- ticket was given, nothing is told, and this cutoff counts as announced
+pub record IsFirstStock (run : Run) (cutoff : Option ℤ) (boxes : List (List Change)) (stock : Stock)
+    : Type 0 where
+  pub pool : stock.pool.entries ≡ with_entries (start_entries run.problem run.number 0 boxes) []
+  pub floors : All (HasItsFloor run.problem) stock.pool.entries
+  pub ranks : stock.ranks ≡ replicate run.settings.solvers Absent
+  pub raced : stock.raced ≡ None
+  pub last : stock.last ≡ 0
+  pub orders : stock.orders.orders ≡ []
+  pub announced : stock.announced ≡ cutoff
 
 -- the starting nodes are in the pool, all ranks are absent, and no ticket was given
 abbrev pub started : Instance → ℕ → Option (List ℤ) → List (List Change) → Settings → BookState

@@ -1,18 +1,17 @@
 -- What contracts see of a book, and the room that it keeps.
 use Rattle.std.specs.Prelude.{◌≡◌, length}
-use Rattle.ug_rows.specs.Sums.{box_floor}
-use Rattle.ug_problem.specs.Instances.{root_of}
 use Rattle.ug_rules.specs.State.{BookState}
 use Rattle.ug_rules.specs.Books.{IsBook}
+use Rattle.ug_stock.specs.Runs.{KnowsFloor}
 use Rattle.ug_stock.specs.Stocks.{HasRoom}
 use Rattle.ug_book.specs.declared.book.Book.TheInside.{Inside}
 
 -- what the fields of a book say
 abbrev pub state_of : Inside → BookState
 state_of b = record {
-  problem = b.problem;
-  run = b.run;
-  settings = b.settings;
+  problem = b.run.problem;
+  run = b.run.number;
+  settings = b.run.settings;
   best = b.best;
   pool = b.stock.pool.entries;
   ranks = b.stock.ranks;
@@ -27,7 +26,7 @@ state_of b = record {
 -- for the Stop of each rank that works
 pub record IsRoomy (b : Inside) : Type 0 where
   pub book : IsBook (state_of b)
-  pub floor : b.floor ≡ box_floor b.problem.objective (root_of b.problem)
+  pub floor : KnowsFloor b.run
   pub room : HasRoom b.stock
 
 -- what no call changes: the problem, the run, the settings, and how many ranks there are

@@ -1,19 +1,11 @@
 use crate::best::Best;
-use std::alloc::Global;
 use std::marker::Model;
-use ug_problem::Shared;
-use ug_rules::Settings;
-use ug_stock::Stock;
+use ug_stock::{Run, Stock};
 
 /// What a coordinator holds and knows.
 #[derive(Drop)]
 pub struct Book {
-    pub(crate) alloc: Global,
-    pub(crate) problem: Shared,
-    // The floor of the root box.
-    pub(crate) floor: i128,
-    pub(crate) run: u64,
-    pub(crate) settings: Settings,
+    pub(crate) run: Run,
     pub(crate) best: Best,
     pub(crate) stock: Stock,
     pub(crate) heard: u64,

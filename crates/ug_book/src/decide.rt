@@ -8,10 +8,7 @@ ghost use Rattle.ug_book.specs.Views.{IsSameRun};
 
 use crate::best::Best;
 use crate::book::Book;
-use crate::parts::make_parts;
-use crate::unfinished::Unfinished;
-use ug_problem::Problem;
-use ug_rules::Settings;
+use ug_stock::{Run, Unfinished};
 
 impl Book {
     /// Decides: drops the nodes without a better point, announces a cutoff that is new, ends a race
@@ -29,22 +26,16 @@ impl Book {
         ensures some { IfErr result (λ e. 0 < e.stood) }
         ensures sound { IsSoundBook self.old → IsSoundBook self.new }
     {
-        let cutoff = current_cutoff(self.problem.problem(), &self.best, &self.settings);
-        make_parts(
-            self.alloc,
-            self.run,
-            &self.settings,
-            cutoff,
-            &mut self.stock,
-        )
+        let cutoff = current_cutoff(&self.run, &self.best);
+        self.stock.decide(&self.run, cutoff)
     }
 }
 
 // The incumbent's cutoff, if there is an incumbent.
-pub fn current_cutoff(problem: &Problem, best: &Best, settings: &Settings) -> Option<i128>
-    requires incumbent { IfSome best.now (Feasible problem.now) }
-    requires gap { IsGap settings.now.gap }
-    ensures { result ≡ best_cutoff problem.now settings.now.gap best.now }
+pub fn current_cutoff(run: &Run, best: &Best) -> Option<i128>
+    requires incumbent { IfSome best.now (Feasible run.now.problem) }
+    requires gap { IsGap run.now.settings.gap }
+    ensures { result ≡ best_cutoff run.now.problem run.now.settings.gap best.now }
 {
-    best.cutoff(problem, settings.gap)
+    best.cutoff(run.problem.problem(), run.settings.gap)
 }

@@ -1,49 +1,45 @@
-ghost use Rattle.std.specs.Prelude.{◌≡◌, ◌≤◌, ◌<◌, ◌+◌, ◌+ℤ◌, ℕ, length, IfSome, slice_set, MatchOption, MatchBool};
-ghost use Rattle.ug_problem.specs.Feasible.{Feasible};
-ghost use Rattle.ug_problem.specs.Better.{IsGap, best_cutoff};
-ghost use Rattle.ug_ledger.specs.Dones.{IsBackedBy};
+ghost use Rattle.std.specs.Prelude.{◌≡◌, ◌<◌, length};
+ghost use Rattle.ug_problem.specs.Better.{best_cutoff};
 ghost use Rattle.ug_frames.specs.declared.report.Ending.{Ending};
 ghost use Rattle.ug_frames.specs.declared.report.Report.TheVariants.{Done};
 ghost use Rattle.ug_ranks.specs.States.{state_at};
 ghost use Rattle.ug_rules.specs.State.{BookState};
-ghost use Rattle.ug_rules.specs.Hearing.{IsDoneDue, IsDueUnder, done_at};
-ghost use Rattle.ug_book.specs.Heard.{taken_up};
+ghost use Rattle.ug_rules.specs.Hearing.{IsDoneDue, IsDueUnder, done_at, taken_up};
+ghost use Rattle.ug_stock.specs.Stocks.{with_stock};
 ghost use Rattle.ug_book.specs.Dones.{is_backed};
 
-use crate::best::Best;
-use ug_nodes::Ticket;
+use crate::origin::Origin;
 use ug_pool::Entry;
-use ug_problem::Problem;
 use ug_ranks::Ranks;
 use ug_rules::Heard;
-use ug_stock::free_racers;
+use ug_stock::{Stock, free_racers};
 
 // A Done of a rank, under a ticket; however it ended, the same is asked of it.
 pub fn hear_done(
+    stock: &mut Stock,
+    from: Origin,
     incumbent: Option<i128>,
-    ranks: &mut Ranks,
-    raced: &mut Option<Entry>,
-    rank: u32,
-    ticket: Ticket,
     cutoff: Option<i128>,
     count: u64,
 ) -> Heard
-    requires { rank < length ranks.old }
+    requires { from.rank < length stock.old.ranks }
     ensures due { (b : BookState) (ending : Ending)
         → best_cutoff b.problem b.settings.gap b.best ≡ incumbent
-        → IsDueUnder b (state_at ranks.old rank) ticket (Done ticket cutoff count ending) result }
-    ensures taken { (b : BookState) (ending : Ending)
-        → record b { ranks = ranks.new; raced = raced.new }
-        ≡ taken_up result rank (Done ticket cutoff count ending)
-        (record b { ranks = ranks.old; raced = raced.old }) }
+        → IsDueUnder b (state_at stock.old.ranks from.rank) from.ticket
+        (Done from.ticket cutoff count ending) result }
+    ensures taken { (b : BookState) (ending : Ending) → with_stock b stock.new
+        ≡ taken_up result from.rank (Done from.ticket cutoff count ending)
+        (with_stock b stock.old) }
+    ensures pool { stock.new.pool ≡ stock.old.pool }
+    ensures orders { stock.new.orders ≡ stock.old.orders }
 {
-    if !ranks.state(rank).has_ticket(ticket) {
+    let state = stock.ranks.state(from.rank);
+    if !state.has_ticket(from.ticket) {
         return Heard::Stale;
     }
-    let taken = ranks.state(rank).hands_taken();
-    let answer = judge_done(incumbent, taken, cutoff, count);
+    let answer = judge_done(incumbent, state.hands_taken(), cutoff, count);
     if answer == Heard::Kept {
-        finish(ranks, raced, rank);
+        finish(&mut stock.ranks, &mut stock.raced, from.rank);
     }
     answer
 }

@@ -3,12 +3,12 @@ ghost use Rattle.ug_ranks.specs.States.{state_at};
 ghost use Rattle.ug_ranks.specs.Changes.{joined};
 ghost use Rattle.ug_rules.specs.Books.{IsSoundBook};
 ghost use Rattle.ug_rules.specs.Deaths.{killed};
-ghost use Rattle.ug_rules.specs.Hearing.{IsDue, IsHearable, after_hearing};
+ghost use Rattle.ug_rules.specs.Hearing.{IsDue, IsHearable, after_hearing, is_deadly, killed_under};
 ghost use Rattle.ug_rules.specs.HearingLaws.{IsTrueReport};
 ghost use Rattle.ug_rules.specs.State.{BookState};
 ghost use Rattle.ug_stock.specs.Stocks.{HasRoom, with_stock};
 ghost use Rattle.ug_book.specs.Views.{IsSameRun};
-ghost use Rattle.ug_book.specs.Heard.{heard_after, is_deadly, killed_under};
+ghost use Rattle.ug_book.specs.Heard.{heard_after};
 
 use crate::book::Book;
 use crate::report::take_report;
@@ -30,18 +30,7 @@ impl Book {
         ensures sound { IsTrueReport self.old rank report → IsSoundBook self.old
             → IsSoundBook self.new }
     {
-        let answer = take_report(
-            self.alloc,
-            self.problem.problem(),
-            self.floor,
-            &self.settings,
-            &mut self.best,
-            &mut self.stock.pool,
-            &mut self.stock.ranks,
-            &mut self.stock.raced,
-            rank,
-            report,
-        );
+        let answer = take_report(&self.run, &mut self.best, &mut self.stock, rank, report);
         end_by(answer, &mut self.stock, rank);
         self.heard = heard_after(answer, self.heard);
         answer

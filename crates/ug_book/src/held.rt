@@ -7,21 +7,17 @@ use std::alloc::{AllocError, Global};
 use ug_nodes::Node;
 use ug_pool::{Entry, Pool};
 use ug_ranks::{Ranks, State};
+use ug_stock::Stock;
 
 // The nodes of the pool, of the ranks, and the one that is raced.
-pub fn held_nodes<'a>(
-    alloc: Global,
-    pool: &'a Pool,
-    ranks: &'a Ranks,
-    raced: &'a Option<Entry>,
-) -> Result<Vec<&'a Node>, AllocError>
-    ensures { IfOk result (λ nodes. lent nodes.items
-        ≡ nodes_in pool.now.entries ++ nodes_of ranks.now ++ raced_node raced.now) }
+pub fn held_nodes<'a>(alloc: Global, stock: &'a Stock) -> Result<Vec<&'a Node>, AllocError>
+    ensures { IfOk result (λ nodes. lent nodes.items ≡ nodes_in stock.now.pool.entries
+        ++ nodes_of stock.now.ranks ++ raced_node stock.now.raced) }
 {
     let mut nodes = Vec::new(alloc);
-    push_pool(&mut nodes, pool)?;
-    push_ranks(&mut nodes, ranks)?;
-    push_entry(&mut nodes, raced.as_ref())?;
+    push_pool(&mut nodes, &stock.pool)?;
+    push_ranks(&mut nodes, &stock.ranks)?;
+    push_entry(&mut nodes, stock.raced.as_ref())?;
     Ok(nodes)
 }
 

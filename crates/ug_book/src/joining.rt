@@ -2,8 +2,7 @@ ghost use Rattle.std.specs.Prelude.{◌≡◌, ◌<◌, length, IsTrue, ◌↔�
 ghost use Rattle.ug_ranks.specs.States.{state_at};
 ghost use Rattle.ug_frames.specs.declared.report.Report.TheVariants.{Ready};
 ghost use Rattle.ug_rules.specs.State.{BookState};
-ghost use Rattle.ug_rules.specs.Hearing.{ended_answer, ready_answer};
-ghost use Rattle.ug_book.specs.Heard.{taken_up};
+ghost use Rattle.ug_rules.specs.Hearing.{ended_answer, ready_answer, taken_up};
 
 use ug_nodes::Ticket;
 use ug_ranks::{Ranks, State};

@@ -2,8 +2,7 @@ ghost use Rattle.std.specs.Prelude.{◌≡◌, ◌<◌, length};
 ghost use Rattle.ug_ranks.specs.States.{state_at};
 ghost use Rattle.ug_frames.specs.declared.report.Report.TheVariants.{State};
 ghost use Rattle.ug_rules.specs.State.{BookState};
-ghost use Rattle.ug_rules.specs.Hearing.{IsDueUnder};
-ghost use Rattle.ug_book.specs.Heard.{taken_up};
+ghost use Rattle.ug_rules.specs.Hearing.{IsDueUnder, taken_up};
 
 use ug_nodes::Ticket;
 use ug_ranks::Ranks;

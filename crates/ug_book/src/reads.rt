@@ -37,20 +37,20 @@ impl Book {
         ensures value { result.now ≡ self.now.problem }
         ensures book { IsBook self.now }
     {
-        &self.problem
+        &self.run.problem
     }
 
     pub fn run(&self) -> u64
         ensures { result ≡ self.now.run }
     {
-        self.run
+        self.run.number
     }
 
     pub fn settings(&self) -> &Settings
         ensures value { result.now ≡ self.now.settings }
         ensures ranks { length self.now.ranks ≡ self.now.settings.solvers }
     {
-        &self.settings
+        &self.run.settings
     }
 
     /// The incumbent, if there is one.
@@ -89,12 +89,7 @@ impl Book {
     pub fn held(&self) -> Result<Vec<&Node>, AllocError>
         ensures { IfOk result (λ nodes. lent nodes.items ≡ held_nodes self.now) }
     {
-        held_nodes(
-            self.alloc,
-            &self.stock.pool,
-            &self.stock.ranks,
-            &self.stock.raced,
-        )
+        held_nodes(self.run.alloc, &self.stock)
     }
 
     /// The nodes held none of whose ancestors is held, lent, in order of name. They have each
@@ -108,7 +103,7 @@ impl Book {
             (boxes_of (root_of self.now.problem) (lent nodes.items))) }
     {
         let nodes = self.held()?;
-        primitive(self.alloc, nodes.as_slice())
+        primitive(self.run.alloc, nodes.as_slice())
     }
 
     /// The answer, where no node is held. That of a sound book is right.

@@ -1,16 +1,14 @@
-ghost use Rattle.std.specs.Prelude.{◌≡◌, [], ◌∷◌, IfOk, OnOk};
 ghost use Rattle.ug_rules.specs.Books.{AreSettings};
-ghost use Rattle.ug_snapshot.specs.Openings.{IsMade};
 
 use crate::expect::holds;
 use crate::problems::square;
-use std::alloc::{AllocError, Global};
+use std::alloc::Global;
 use std::sync::Wait;
 use std::thread::{Threads, join};
 use ug_base::{Step, Task};
-use ug_book::{Answered, Book, Boxes};
+use ug_book::{Answered, Opening};
 use ug_desk::{Desk, Pass};
-use ug_nodes::{Changes, Ticket};
+use ug_nodes::Ticket;
 use ug_problem::Shared;
 use ug_rows::{Interval, Point};
 use ug_rules::{Heard, Settings};
@@ -32,30 +30,13 @@ fn settings() -> Settings
     }
 }
 
-// The root alone, which has no change.
-fn root(alloc: Global) -> Result<Boxes, AllocError>
-    ensures { IfOk result (λ boxes. boxes ≡ [] ∷ []) }
-{
-    let mut boxes = Boxes::new(alloc);
-    boxes.push(Changes::new(Vec::new(alloc)))?;
-    Ok(boxes)
-}
-
-#[tactic(auto, using(ug_snapshot::proofs::Beginnings::made_so))]
-fn book(alloc: Global, problem: Shared) -> Result<Book, AllocError>
-    ensures { IfOk result IsMade }
-{
-    let boxes = root(alloc)?;
-    Book::new(alloc, problem, 1, None, boxes, settings())
-}
-
 // A desk over the square, and its two passes.
 fn open(alloc: Global) -> Option<(Desk, Vec<Pass>)> {
     let problem = Shared::own(square(alloc).ok()?);
-    let Ok(book) = book(alloc, problem) else {
+    let Ok(opening) = Opening::new(alloc, problem, 1, settings()) else {
         return None;
     };
-    Desk::new(alloc, book).ok()
+    Desk::new(alloc, opening).ok()
 }
 
 // The work that a pass takes.

@@ -6,9 +6,9 @@ use std::alloc::{AllocError, Global};
 use std::process::Abort;
 use ug_frames::Order;
 use ug_nodes::{Changes, Line, Name, Node, Ticket};
-use ug_pool::{Entry, Pool};
+use ug_pool::Pool;
 use ug_ranks::Ranks;
-use ug_stock::{Queue, Terms, give_out};
+use ug_stock::{Queue, Stock, Terms};
 
 fn put(alloc: Global, pool: &mut Pool, hand: u64, floor: i128) -> Result<(), AllocError> {
     let ticket = Ticket { run: 1, number: 0 };
@@ -71,37 +71,24 @@ fn two_idle(alloc: Global) -> Result<Ranks, AllocError>
 #[derive(Drop)]
 struct Given {
     steps: Option<u64>,
-    last: u64,
-    pool: Pool,
-    raced: Option<Entry>,
-    orders: Queue,
+    stock: Stock,
 }
 
 // Gives out nodes with these floors after the last ticket number.
 fn give_each(rt: &impl Abort, alloc: Global, terms: Terms, floors: &[i128], last: u64) -> Given {
-    let mut ranks = two_idle(alloc).expect(rt, "memory");
+    let ranks = two_idle(alloc).expect(rt, "memory");
     let mut pool = Pool::new(alloc);
     holds(rt, put_each(alloc, &mut pool, floors).is_ok());
-    let mut orders = Queue::new(alloc);
-    let mut raced = None;
-    let mut last = last;
-    let steps = give_out(
-        alloc,
-        terms,
-        &mut last,
-        &mut ranks,
-        &mut pool,
-        &mut raced,
-        &mut orders,
-    );
-    drop(ranks);
-    Given {
-        steps: steps.ok(),
-        last,
+    let mut stock = Stock {
         pool,
-        raced,
-        orders,
-    }
+        ranks,
+        raced: None,
+        last,
+        orders: Queue::new(alloc),
+        announced: None,
+    };
+    let steps = stock.give_out(alloc, terms).ok();
+    Given { steps, stock }
 }
 
 fn terms(racing: bool, cutoff: Option<i128>) -> Terms {
@@ -116,9 +103,9 @@ fn terms(racing: bool, cutoff: Option<i128>) -> Terms {
 fn gives_the_least_nodes_to_the_lowest_ranks(rt: HostRuntime) {
     let mut given = give_each(&rt, rt.alloc(), terms(false, Some(9)), &[5, 3, 4], 6);
     same(&rt, &given.steps, &Some(2));
-    holds(&rt, given.last == 8 && given.pool.len() == 1);
+    holds(&rt, given.stock.last == 8 && given.stock.pool.len() == 1);
     let wanted = [Some((0, 7, 0, false)), Some((1, 8, 0, false)), None];
-    same(&rt, &told_first(&mut given.orders), &wanted);
+    same(&rt, &told_first(&mut given.stock.orders), &wanted);
     drop(given);
 }
 
@@ -126,8 +113,11 @@ fn gives_the_least_nodes_to_the_lowest_ranks(rt: HostRuntime) {
 fn gives_nothing_where_ticket_numbers_are_spent(rt: HostRuntime) {
     let mut given = give_each(&rt, rt.alloc(), terms(false, None), &[5], u64::MAX);
     same(&rt, &given.steps, &Some(0));
-    holds(&rt, given.last == u64::MAX && given.pool.len() == 1);
-    same(&rt, &next(&mut given.orders), &None);
+    holds(
+        &rt,
+        given.stock.last == u64::MAX && given.stock.pool.len() == 1,
+    );
+    same(&rt, &next(&mut given.stock.orders), &None);
     drop(given);
 }
 
@@ -135,11 +125,12 @@ fn gives_nothing_where_ticket_numbers_are_spent(rt: HostRuntime) {
 fn begins_a_race(rt: HostRuntime) {
     let mut given = give_each(&rt, rt.alloc(), terms(true, None), &[5], 0);
     same(&rt, &given.steps, &Some(1));
+    let stock = &given.stock;
     holds(
         &rt,
-        given.last == 2 && given.pool.len() == 0 && given.raced.is_some(),
+        stock.last == 2 && stock.pool.len() == 0 && stock.raced.is_some(),
     );
     let wanted = [Some((0, 1, 0, true)), Some((1, 2, 1, true)), None];
-    same(&rt, &told_first(&mut given.orders), &wanted);
+    same(&rt, &told_first(&mut given.stock.orders), &wanted);
     drop(given);
 }

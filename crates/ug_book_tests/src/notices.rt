@@ -1,12 +1,14 @@
-ghost use Rattle.std.specs.Prelude.{◌≤◌};
+ghost use Rattle.std.specs.Prelude.{◌≤◌, IfOk};
+ghost use Rattle.ug_stock.specs.Stocks.{HasRoom};
 
 use crate::expect::{holds, same};
 use std::alloc::{AllocError, Global};
 use ug_branch::Params;
 use ug_frames::Order;
 use ug_nodes::{Changes, Line, Name, Node, Ticket};
+use ug_pool::Pool;
 use ug_ranks::Ranks;
-use ug_stock::{Queue, announce, collect};
+use ug_stock::{Queue, Stock};
 
 fn node(alloc: Global) -> Result<Node, AllocError> {
     let ticket = Ticket { run: 1, number: 0 };
@@ -34,37 +36,74 @@ fn next(orders: &mut Queue) -> Option<(u32, u8, i128)>
 fn tells_those_that_have_joined_a_new_cutoff(rt: HostRuntime) {
     let alloc = rt.alloc();
     let mut ranks = Ranks::new(alloc, 3).expect(&rt, "memory");
-    let mut orders = Queue::new(alloc);
-    let mut announced = Some(9);
     ranks.idle(2);
-    let told = announce(&ranks, &mut orders, &mut announced, Some(-7));
-    holds(&rt, told.is_ok());
-    same(&rt, &next(&mut orders), &Some((2, b'c', -7)));
-    same(&rt, &announced, &Some(-7));
-    let told = announce(&ranks, &mut orders, &mut announced, Some(-7));
-    holds(&rt, told.is_ok());
-    same(&rt, &next(&mut orders), &None);
-    drop(ranks);
-    drop(orders);
+    let mut stock = Stock {
+        pool: Pool::new(alloc),
+        ranks,
+        raced: None,
+        last: 0,
+        orders: Queue::new(alloc),
+        announced: Some(9),
+    };
+    holds(&rt, stock.announce(Some(-7)).is_ok());
+    same(&rt, &next(&mut stock.orders), &Some((2, b'c', -7)));
+    same(&rt, &stock.announced, &Some(-7));
+    holds(&rt, stock.announce(Some(-7)).is_ok());
+    same(&rt, &next(&mut stock.orders), &None);
+    drop(stock);
+}
+
+// A pool of so many nodes, with a place for one more.
+fn pool(alloc: Global, nodes: u32) -> Result<Pool, AllocError>
+    ensures { IfOk result (λ pool. 1 ≤ pool.spare) }
+{
+    let mut pool = Pool::new(alloc);
+    for _ in 0..nodes {
+        let node = node(alloc)?;
+        pool.reserve(1)?;
+        pool.put(node, 0);
+    }
+    pool.reserve(1)?;
+    Ok(pool)
+}
+
+// Rank 1 of two works, and is asked for so many hands; the pool has so many nodes.
+fn at_work(alloc: Global, asked: u32, nodes: u32) -> Result<Stock, AllocError>
+    ensures { IfOk result HasRoom }
+{
+    let pool = pool(alloc, nodes)?;
+    let mut orders = Queue::new(alloc);
+    orders.reserve(1)?;
+    let mut ranks = Ranks::new(alloc, 2)?;
+    ranks.idle(1);
+    let ticket = Ticket { run: 1, number: 5 };
+    ranks.give(1, ticket, node(alloc)?, -3, Params::new(0));
+    ranks.note(1, 4, -2);
+    ranks.ask(1, asked);
+    Ok(Stock {
+        pool,
+        ranks,
+        raced: None,
+        last: 5,
+        orders,
+        announced: None,
+    })
 }
 
 #[test]
-fn asks_a_rank_that_works_until_it_is_enough(rt: HostRuntime) {
+fn asks_a_rank_that_works_for_more(rt: HostRuntime) {
     let alloc = rt.alloc();
-    let ticket = Ticket { run: 1, number: 5 };
-    let mut ranks = Ranks::new(alloc, 2).expect(&rt, "memory");
-    let mut orders = Queue::new(alloc);
-    holds(&rt, orders.reserve(1).is_ok());
-    ranks.idle(1);
-    let node = node(alloc).expect(&rt, "memory");
-    ranks.give(1, ticket, node, -3, Params::new(0));
-    ranks.note(1, 4, -2);
-    let asked = collect(alloc, 2, 3, 1, &mut ranks, &mut orders);
-    holds(&rt, asked.is_ok());
-    same(&rt, &next(&mut orders), &Some((1, b'i', 2)));
-    let asked = collect(alloc, 2, 3, 3, &mut ranks, &mut orders);
-    holds(&rt, asked.is_ok());
-    same(&rt, &next(&mut orders), &Some((1, b'o', 0)));
-    drop(ranks);
-    drop(orders);
+    let mut stock = at_work(alloc, 0, 1).expect(&rt, "memory");
+    holds(&rt, stock.collect(alloc, 2, 3).is_ok());
+    same(&rt, &next(&mut stock.orders), &Some((1, b'i', 2)));
+    drop(stock);
+}
+
+#[test]
+fn asks_it_no_more_where_there_are_enough(rt: HostRuntime) {
+    let alloc = rt.alloc();
+    let mut stock = at_work(alloc, 2, 3).expect(&rt, "memory");
+    holds(&rt, stock.collect(alloc, 2, 3).is_ok());
+    same(&rt, &next(&mut stock.orders), &Some((1, b'o', 0)));
+    drop(stock);
 }

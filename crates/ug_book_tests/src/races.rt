@@ -3,9 +3,9 @@ use std::alloc::{AllocError, Global};
 use ug_branch::Params;
 use ug_frames::Order;
 use ug_nodes::{Changes, Line, Name, Node, Ticket};
-use ug_pool::Entry;
+use ug_pool::{Entry, Pool};
 use ug_ranks::{Ranks, State};
-use ug_stock::{Queue, end_race};
+use ug_stock::{Queue, Stock};
 
 fn ticket(number: u64) -> Ticket {
     Ticket { run: 1, number }
@@ -41,15 +41,19 @@ fn gives_the_root_to_the_racer_that_is_ahead(rt: HostRuntime) {
     ranks.race(1, ticket(2), Params::new(1));
     ranks.note(0, 3, -5);
     ranks.note(1, 3, -4);
-    let mut orders = Queue::new(alloc);
-    let mut raced = Some(root(alloc).expect(&rt, "memory"));
-    let ended = end_race(alloc, 3, &mut ranks, &mut orders, &mut raced);
-    holds(&rt, ended.is_ok());
-    holds(&rt, raced.is_none());
-    holds(&rt, is_won_by_the_second(&ranks));
-    let told = [next(&mut orders), next(&mut orders), next(&mut orders)];
+    let mut stock = Stock {
+        pool: Pool::new(alloc),
+        ranks,
+        raced: Some(root(alloc).expect(&rt, "memory")),
+        last: 2,
+        orders: Queue::new(alloc),
+        announced: None,
+    };
+    holds(&rt, stock.end_race(alloc, 3).is_ok());
+    holds(&rt, stock.raced.is_none());
+    holds(&rt, is_won_by_the_second(&stock.ranks));
+    let orders = &mut stock.orders;
+    let told = [next(orders), next(orders), next(orders)];
     same(&rt, &told, &[Some((1, true)), Some((0, false)), None]);
-    drop(ranks);
-    drop(orders);
-    drop(raced);
+    drop(stock);
 }

@@ -1,6 +1,6 @@
 //! Schedules that are played against the replies of a model.
 
-ghost use Rattle.std.specs.Prelude.{◌≡◌, [], ◌∷◌, length, All, IfOk, IfSome};
+ghost use Rattle.std.specs.Prelude.{length, All, IfSome};
 ghost use Rattle.ug_rules.specs.Books.{AreSettings};
 ghost use Rattle.ug_rules.specs.Hearing.{IsHearable};
 ghost use Rattle.ug_world.specs.Events.{IsEvent};
@@ -9,7 +9,7 @@ use crate::expect::same;
 use crate::problems::{cube, square};
 use crate::schedules::SCHEDULES;
 use std::alloc::{AllocError, Global};
-use ug_book::{Book, Boxes};
+use ug_book::{Book, Opening};
 use ug_frames::{Ending, Report};
 use ug_nodes::{Change, Changes, Ticket};
 use ug_problem::{Problem, Shared};
@@ -69,20 +69,13 @@ fn settings(numbers: &[i128]) -> Option<Settings>
     })
 }
 
-// The root alone, which has no change.
-fn root(alloc: Global) -> Result<Boxes, AllocError>
-    ensures { IfOk result (λ boxes. boxes ≡ [] ∷ []) }
-{
-    let mut boxes = Boxes::new(alloc);
-    boxes.push(Changes::new(Vec::new(alloc)))?;
-    Ok(boxes)
-}
-
 fn book(alloc: Global, problem: Problem, settings: Settings) -> Result<Book, AllocError>
     requires { AreSettings settings }
 {
-    let boxes = root(alloc)?;
-    Book::new(alloc, Shared::own(problem), 1, None, boxes, settings)
+    let opening = Opening::new(alloc, Shared::own(problem), 1, settings)?;
+    let book = Book::new(alloc, &opening);
+    drop(opening);
+    book
 }
 
 // The book with these settings and this problem.

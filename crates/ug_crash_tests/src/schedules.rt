@@ -12,7 +12,7 @@ use ug_disk::{MemoryDisk, Slot};
 use ug_frames::{Ending, Report};
 use ug_nodes::Ticket;
 use ug_problem::Shared;
-use ug_restart::{StartFault, begin};
+use ug_restart::{Start, StartFault, begin};
 use ug_rows::Point;
 use ug_rules::Heard;
 use ug_world::{DiskEvent, Event, Halted, PlayDiskFault, PlayedDisk, play_disk};
@@ -33,8 +33,15 @@ fn run_on_a_disk(alloc: Global, gap: u8, stop: u64) -> Option<Begun>
         drop(problem);
         return None;
     };
-    match begin(alloc, &mut disk, problem, settings(gap)) {
-        Ok((book, saver)) => Some(Begun { book, saver, disk }),
+    let Ok(start) = begin(alloc, &mut disk, problem, settings(gap)) else {
+        drop(disk);
+        return None;
+    };
+    let Start { opening, saver } = start;
+    let book = Book::new(alloc, &opening);
+    drop(opening);
+    match book {
+        Ok(book) => Some(Begun { book, saver, disk }),
         Err(_) => {
             drop(disk);
             None

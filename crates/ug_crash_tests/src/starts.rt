@@ -10,7 +10,7 @@ use ug_book::Book;
 use ug_checkpoint::{SaveError, Saver};
 use ug_disk::{MemoryDisk, Slot};
 use ug_problem::{Problem, ProblemError, Shared};
-use ug_restart::{StartFault, begin, restart};
+use ug_restart::{Start, StartFault, begin, restart};
 use ug_snapshot::image_of;
 
 // Saves the next image of the book, if its sequence is above the last one.
@@ -33,7 +33,10 @@ fn begun(alloc: Global, disk: &mut MemoryDisk, gap: u8) -> Option<(Book, Saver)>
     ensures { IfSome result (λ x. IsKept x.1 (Some (history_of disk.new))) }
 {
     let problem = Shared::own(nothing(alloc, false).ok()?);
-    begin(alloc, disk, problem, settings(gap)).ok()
+    let Start { opening, saver } = begin(alloc, disk, problem, settings(gap)).ok()?;
+    let book = Book::new(alloc, &opening);
+    drop(opening);
+    Some((book.ok()?, saver))
 }
 
 // Whether one begins.
@@ -171,9 +174,9 @@ const CASES: &[Case] = &[
 
 // The answer of a restart.
 fn restarted(alloc: Global, disk: &mut MemoryDisk, problem: Problem, gap: u8) -> Answer {
-    let (book, saver) = restart(alloc, disk, Shared::own(problem), settings(gap))?;
-    let answer = (book.run(), saver.sequence());
-    drop(book);
+    let start = restart(alloc, disk, Shared::own(problem), settings(gap))?;
+    let answer = (start.opening.run, start.saver.sequence());
+    drop(start);
     Ok(answer)
 }
 

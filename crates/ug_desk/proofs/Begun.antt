@@ -9,8 +9,8 @@ use Rattle.ug_rules.specs.State.{BookState}
 use Rattle.ug_book.specs.Starts.{first_ticket}
 use Rattle.ug_book.specs.Views.{IsSameRun}
 use Rattle.ug_book.proofs.Starts.{start_is_sound}
-use Rattle.ug_snapshot.specs.declared.opening.Opening.{Opening}
-use Rattle.ug_snapshot.specs.Openings.{opening_book}
+use Rattle.ug_book.specs.declared.opening.Opening.{Opening}
+use Rattle.ug_book.specs.Openings.{opening_book}
 use Rattle.ug_desk.specs.Standings.{Standing}
 use Rattle.ug_desk.specs.Entries.{IsLocked}
 

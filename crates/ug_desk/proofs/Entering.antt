@@ -6,7 +6,7 @@ use Rattle.ug_nodes.specs.declared.name.Ticket.{Ticket}
 use Rattle.ug_rules.specs.State.{BookState}
 use Rattle.ug_rules.specs.Books.{IsSoundBook}
 use Rattle.ug_book.specs.Views.{IsSameRun}
-use Rattle.ug_book.specs.declared.unfinished.Unfinished.{Unfinished}
+use Rattle.ug_stock.specs.declared.unfinished.Unfinished.{Unfinished}
 use Rattle.ug_worker.specs.declared.took.Took.{Took}
 use Rattle.ug_worker.specs.declared.took.Took.TheVariants.{Work, Wait, Over}
 use Rattle.ug_worker.specs.declared.took.Untaken.{Untaken}

@@ -5,8 +5,8 @@ use Rattle.ug_rules.specs.Books.{IsSoundBook}
 use Rattle.ug_image.specs.declared.image.Image.{Image}
 use Rattle.ug_image.specs.Images.{IsImage}
 use Rattle.ug_snapshot.specs.Moments.{IsCovered, IsImageOf}
-use Rattle.ug_snapshot.specs.declared.opening.Opening.{Opening}
-use Rattle.ug_snapshot.specs.Openings.{IsCoveredOpening}
+use Rattle.ug_book.specs.declared.opening.Opening.{Opening}
+use Rattle.ug_book.specs.Openings.{IsCoveredOpening}
 use Rattle.ug_desk.specs.Entries.{IsLocked, LockedState}
 use Rattle.ug_snapshot.specs.Snapshots.{IsSnapshot}
 

@@ -8,9 +8,9 @@ use Rattle.ug_ranks.specs.Looks.{is_alive}
 use Rattle.ug_book.specs.Views.{IsSameRun}
 use Rattle.ug_base.specs.Tasks.{TaskState}
 use Rattle.ug_snapshot.specs.Moments.{IsImageOf}
-use Rattle.ug_snapshot.specs.declared.opening.Opening.{Opening}
+use Rattle.ug_book.specs.declared.opening.Opening.{Opening}
 use Rattle.ug_snapshot.specs.Snapshots.{SnapshotState}
-use Rattle.ug_snapshot.specs.Openings.{IsCoveredOpening, opening_book}
+use Rattle.ug_book.specs.Openings.{IsCoveredOpening, opening_book}
 use Rattle.ug_desk.specs.Standings.{Standing, opening_standing}
 use Rattle.ug_desk.specs.Dones.{IsOfTicket}
 use Rattle.ug_desk.specs.Histories.{Call, Entry, Replays, Step, ended}

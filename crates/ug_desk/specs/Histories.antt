@@ -4,7 +4,7 @@ use Rattle.ug_rows.specs.declared.area.Interval.{Interval}
 use Rattle.ug_rules.specs.declared.heard.Heard.{Heard}
 use Rattle.ug_rules.specs.State.{BookState}
 use Rattle.ug_rules.specs.Deaths.{killed}
-use Rattle.ug_book.specs.declared.unfinished.Unfinished.{Unfinished}
+use Rattle.ug_stock.specs.declared.unfinished.Unfinished.{Unfinished}
 use Rattle.ug_base.specs.Tasks.{TaskState}
 use Rattle.ug_worker.specs.declared.took.Took.{Took}
 use Rattle.ug_worker.specs.declared.took.Untaken.{Untaken}

@@ -3,8 +3,8 @@ use Rattle.std.specs.Prelude.{◌≡◌, ℕ, List, replicate, slice_index_or}
 use Rattle.ug_nodes.specs.declared.name.Ticket.{Ticket}
 use Rattle.ug_rules.specs.State.{BookState}
 use Rattle.ug_book.specs.Starts.{first_ticket}
-use Rattle.ug_snapshot.specs.declared.opening.Opening.{Opening}
-use Rattle.ug_snapshot.specs.Openings.{opening_book}
+use Rattle.ug_book.specs.declared.opening.Opening.{Opening}
+use Rattle.ug_book.specs.Openings.{opening_book}
 
 -- what stands at a moment: the book, and the ticket of the last work of each pass
 pub record Standing : Type 0 where

@@ -1,15 +1,15 @@
 ghost use Rattle.std.specs.Prelude.{◌≡◌, ℕ, ◌<◌, [], length, slice_index, IfOk};
-ghost use Rattle.ug_snapshot.specs.Openings.{IsMade};
+ghost use Rattle.ug_book.specs.Openings.{IsOpening};
 
 use crate::locked::Locked;
 use crate::pass::Pass;
 use std::alloc::{AllocError, Global};
 use std::sync::{Condvar, Mutex, Wait};
 use ug_base::Task;
-use ug_book::{Book, Unfinished};
+use ug_book::{Opening, Unfinished};
 use ug_rows::{IntBox, Point};
 use ug_rules::Heard;
-use ug_snapshot::{Snapshot, opening_of};
+use ug_snapshot::Snapshot;
 use ug_worker::{Reply, Took, Untaken};
 
 /// One book that threads share, each through passes of its own. What a call does is said by the
@@ -25,22 +25,22 @@ pub struct Desk {
 }
 
 impl Desk {
-    /// A desk over a book that is as it was made, and a pass for each of its ranks.
-    pub fn new(alloc: Global, book: Book) -> Result<(Desk, Vec<Pass>), AllocError>
-        requires { IsMade book }
-        ensures count { IfOk result (λ made. length made.1.items ≡ length book.ranks) }
+    /// A desk over the book that starts with the opening, and a pass for each of its ranks.
+    pub fn new(alloc: Global, opening: Opening) -> Result<(Desk, Vec<Pass>), AllocError>
+        requires { IsOpening opening }
+        ensures count { IfOk result (λ made. length made.1.items ≡ opening.settings.solvers) }
         ensures each { IfOk result (λ made. (r : ℕ) → r < length made.1.items
             → slice_index made.1.items r ≡ r) }
     {
-        let count = book.settings().solvers;
+        let count = opening.settings.solvers;
         let passes = match passes(alloc, count) {
             Ok(passes) => passes,
             Err(error) => {
-                drop(book);
+                drop(opening);
                 return Err(error);
             }
         };
-        match locked_over(alloc, book) {
+        match Locked::new(alloc, opening) {
             Ok(locked) => Ok((Desk::over(locked, count), passes)),
             Err(error) => {
                 drop(passes);
@@ -151,19 +151,6 @@ impl Desk {
         *stirred = stirred.wrapping_add(1);
         drop(stirred);
         self.bell.notify_all();
-    }
-}
-
-// What stands behind the lock over a book that is as it was made.
-fn locked_over(alloc: Global, book: Book) -> Result<Locked, AllocError>
-    requires { IsMade book }
-{
-    match opening_of(alloc, &book) {
-        Ok(opening) => Locked::new(alloc, opening, book),
-        Err(error) => {
-            drop(book);
-            Err(error)
-        }
     }
 }
 

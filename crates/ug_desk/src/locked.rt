@@ -1,5 +1,5 @@
 ghost use Rattle.std.specs.Prelude.{◌≡◌, ◌<◌, [], length, IfOk, OnErr, OnOk};
-ghost use Rattle.ug_snapshot.specs.Openings.{opening_book};
+ghost use Rattle.ug_book.specs.Openings.{IsOpening};
 ghost use Rattle.ug_desk.specs.Standings.{opening_standing, own_ticket};
 ghost use Rattle.ug_desk.specs.Histories.{taken, offered, handed, stated, given_up, left, copied};
 ghost use Rattle.ug_desk.specs.Entries.{HasEnded, HasEntered, HasEnteredAlive, IsLocked, one_more};
@@ -14,12 +14,12 @@ use crate::tickets::tickets;
 use std::alloc::{AllocError, Global};
 use std::marker::Model;
 use ug_base::Task;
-use ug_book::{Book, Unfinished};
+use ug_book::{Book, Opening, Unfinished};
 use ug_frames::Report;
 use ug_nodes::Ticket;
 use ug_rows::{IntBox, Point};
 use ug_rules::Heard;
-use ug_snapshot::{Opening, Snapshot, copy_opening, image_of};
+use ug_snapshot::{Snapshot, image_of};
 use ug_worker::{Reply, Took, Untaken};
 
 /// The value behind the lock of a desk.
@@ -46,9 +46,9 @@ impl Model for Locked {
 }
 
 impl Locked {
-    /// The book is as it was made, and the history has no call.
-    pub fn new(alloc: Global, opening: Opening, book: Book) -> Result<Locked, AllocError>
-        requires { opening_book opening ≡ book }
+    /// What stands when a run begins: the book is that of the opening, and the history has no call.
+    pub fn new(alloc: Global, opening: Opening) -> Result<Locked, AllocError>
+        requires { IsOpening opening }
         ensures { IfOk result (λ locked. locked ≡ record {
           opening = opening;
           now = opening_standing opening;
@@ -59,8 +59,12 @@ impl Locked {
             run: opening.run,
             number: 0,
         };
-        match tickets(alloc, opening.settings.solvers, first) {
-            Ok(tickets) => Ok(Locked {
+        let Ok(tickets) = tickets(alloc, opening.settings.solvers, first) else {
+            drop(opening);
+            return Err(AllocError);
+        };
+        match Book::new(alloc, &opening) {
+            Ok(book) => Ok(Locked {
                 alloc,
                 opening,
                 book,
@@ -69,7 +73,7 @@ impl Locked {
             }),
             Err(error) => {
                 drop(opening);
-                drop(book);
+                drop(tickets);
                 Err(error)
             }
         }
@@ -207,7 +211,7 @@ impl Locked {
     fn copy(&self) -> Result<Snapshot, AllocError>
         ensures { IfOk result (IsSnapshotOf self.now (one_more self.now.count)) }
     {
-        let opening = copy_opening(&self.opening)?;
+        let opening = self.opening.copy()?;
         match image_of(self.alloc, &self.book, 1) {
             Ok(image) => Ok(Snapshot::new(opening, image, one_more(self.count))),
             Err(error) => {

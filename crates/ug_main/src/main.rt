@@ -35,6 +35,7 @@ use ug_disk::Disk;
 use ug_io::{Sink, Source};
 use ug_print::reason;
 use ug_real::{FileDisk, Reader, Writer};
+use ug_threads::{Gate, Host};
 use ug_top::{Refusal, Status, run};
 
 // The words behind the program's own name. A word that is not UTF-8 is no command.
@@ -78,6 +79,13 @@ where
     }
 }
 
+// What the program is to do: what its words say, and the files that they name.
+#[derive(Clone, Copy)]
+struct Job<'a> {
+    words: &'a [String],
+    paths: Paths<'a>,
+}
+
 // Does what the words ask for, with these files.
 fn work<R>(rt: &R, words: &[String], paths: Paths<'_>, is_told: bool) -> Status
 where
@@ -91,42 +99,48 @@ where
     } else {
         FileDisk::new(rt, rt.alloc(), paths.folder)
     };
-    let status = carry_out(rt, words, paths, &mut input, &mut out, &mut disk, is_told);
+    let gate = Progress::new(rt, is_told);
+    let host = Host {
+        rt,
+        alloc: rt.alloc(),
+        gate: &gate,
+    };
+    let job = Job { words, paths };
+    let status = carry_out(&host, job, &mut input, &mut out, &mut disk);
     drop(disk);
     drop(out);
     drop(input);
     status
 }
 
-// Does what the words ask for, with these objects. Why it failed goes to standard error: the
-// system's words where a call did, else what is the matter with the text or the checkpoint.
-fn carry_out<R, S, K, D>(
-    rt: &R,
-    words: &[String],
-    paths: Paths<'_>,
+// Does the job with these objects. Why it failed goes to standard error: the system's words where a
+// call did, else what is the matter with the text or the checkpoint.
+fn carry_out<R, G, S, K, D>(
+    host: &Host<'_, R, G>,
+    job: Job<'_>,
     input: &mut S,
     out: &mut K,
     disk: &mut D,
-    is_told: bool,
 ) -> Status
 where
-    R: Eprint + AllocGlobal + Threads + Wait + Sync,
+    R: Eprint + Threads + Wait + Sync,
+    G: Gate,
     S: Source + Reasons,
     K: Sink + Reasons,
     D: Disk + Reasons,
-    ensures { HasRun (texts words.now)
+    ensures { HasRun (texts job.words.now)
         (outside (S.left input.old) (S.faults input.old) (D.told disk.old) (D.faults disk.old))
         (outside (S.left input.new) (S.faults input.new) (D.told disk.new) (D.faults disk.new))
         (K.written out.old) (K.written out.new) (K.faults out.old) (K.faults out.new) result }
 {
-    let gate = Progress::new(rt, is_told);
-    let ran = run(rt, rt.alloc(), words, input, out, disk, &gate);
+    let ran = run(host, job.words, input, out, disk);
+    let rt = host.rt;
     match ran.status {
-        Status::ReadFault => explain(rt, paths.file, input.reason()),
+        Status::ReadFault => explain(rt, job.paths.file, input.reason()),
         Status::WriteFault => explain(rt, "standard output", out.reason()),
-        Status::Refused => explain_refusal(rt, paths.file, ran.refusal),
-        Status::DiskFault => explain(rt, paths.folder, disk.reason()),
-        status => advise(rt, paths.folder, status),
+        Status::Refused => explain_refusal(rt, job.paths.file, ran.refusal),
+        Status::DiskFault => explain(rt, job.paths.folder, disk.reason()),
+        status => advise(rt, job.paths.folder, status),
     }
     ran.status
 }

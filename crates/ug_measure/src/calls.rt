@@ -1,14 +1,10 @@
-ghost use Rattle.std.specs.Prelude.{◌≡◌, [], ◌∷◌, None, IfOk};
 ghost use Rattle.ug_rules.specs.Books.{AreSettings};
-ghost use Rattle.ug_book.specs.Starts.{started};
 
 use crate::start::problem;
 use std::alloc::{AllocError, Global};
 use std::sync::Wait;
-use ug_book::{Book, Boxes};
+use ug_book::Opening;
 use ug_desk::{Desk, Pass};
-use ug_nodes::Changes;
-use ug_problem::Shared;
 use ug_rules::Settings;
 use ug_worker::Took;
 
@@ -26,8 +22,8 @@ pub struct Replies {
 /// Takes the root of a desk and tells so often what is left of it; each thousandth time a snapshot
 /// is made too.
 pub fn call_desk<R: Wait>(rt: &R, alloc: Global, calls: u64) -> Result<Replies, AllocError> {
-    let book = book(alloc, problem(alloc)?, settings())?;
-    let (desk, passes) = Desk::new(alloc, book)?;
+    let opening = Opening::new(alloc, problem(alloc)?, 1, settings())?;
+    let (desk, passes) = Desk::new(alloc, opening)?;
     let replies = tell_all(rt, &desk, passes, calls);
     drop(desk);
     Ok(replies)
@@ -73,22 +69,6 @@ fn tell<R: Wait>(rt: &R, desk: &Desk, pass: &mut Pass, calls: u64, replies: &mut
         }
         if call % 1000 == 0 && is_copied(rt, desk, pass) {
             replies.snapshots = replies.snapshots.saturating_add(1);
-        }
-    }
-}
-
-// A book of the root.
-fn book(alloc: Global, problem: Shared, settings: Settings) -> Result<Book, AllocError>
-    requires { AreSettings settings }
-    ensures { IfOk result (λ book. book ≡ started problem 1 None ([] ∷ []) settings) }
-{
-    let mut boxes = Boxes::new(alloc);
-    match boxes.push(Changes::new(Vec::new(alloc))) {
-        Ok(()) => Book::new(alloc, problem, 1, None, boxes, settings),
-        Err(error) => {
-            drop(problem);
-            drop(boxes);
-            Err(error)
         }
     }
 }

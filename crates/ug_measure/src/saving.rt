@@ -6,7 +6,7 @@ ghost use Rattle.ug_image.specs.Images.{IsImage};
 
 use crate::start::problem;
 use std::alloc::{AllocError, Global};
-use ug_book::{Book, Boxes};
+use ug_book::{Book, Boxes, Opening};
 use ug_checkpoint::{Saver, load};
 use ug_disk::{MemoryDisk, Script};
 use ug_image::{Image, length};
@@ -123,7 +123,16 @@ fn book_of(alloc: Global, count: u32) -> Result<Book, AllocError> {
         winner: 20,
         gap: 0,
     };
-    Book::new(alloc, problem, 1, None, boxes, settings)
+    let opening = Opening {
+        problem,
+        run: 1,
+        best: None,
+        boxes,
+        settings,
+    };
+    let book = Book::new(alloc, &opening);
+    drop(opening);
+    book
 }
 
 fn boxes_of(alloc: Global, root: &IntBox, count: u32) -> Result<Boxes, AllocError>

@@ -1,7 +1,6 @@
 use std::alloc::{AllocError, Global};
-use ug_book::{Book, Boxes};
+use ug_book::{Book, Opening};
 use ug_mps::read;
-use ug_nodes::Changes;
 use ug_problem::Shared;
 use ug_rules::Settings;
 
@@ -73,16 +72,8 @@ pub fn begin(alloc: Global, problem: &Shared) -> Result<Book, AllocError> {
         winner: 20,
         gap: 0,
     };
-    let Some(root) = Changes::checked(Vec::new(alloc)) else {
-        return Err(AllocError);
-    };
-    let mut boxes = Boxes::new(alloc);
-    boxes.push(root)?;
-    match problem.share() {
-        Ok(problem) => Book::new(alloc, problem, 1, None, boxes, settings),
-        Err(error) => {
-            drop(boxes);
-            Err(error)
-        }
-    }
+    let opening = Opening::new(alloc, problem.share()?, 1, settings)?;
+    let book = Book::new(alloc, &opening);
+    drop(opening);
+    book
 }

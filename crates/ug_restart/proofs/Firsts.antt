@@ -1,4 +1,4 @@
--- The book and the saver with which a run begins.
+-- What a run begins with, and its saver.
 use Rattle.std.proofs.Common.{◌≡◌, inl, inr, ℕ, ◌≤◌, ◌<◌, ◌^◌, ℤ, List, [], ◌∷◌, map, Option, None, Some, Bor, sym, subst, arith}
 use Rattle.std.specs.Prelude.{MatchOption}
 use Rattle.std.proofs.Math.Nat.{lt_of_not-le}
@@ -12,7 +12,7 @@ use Rattle.ug_checkpoint.specs.declared.found.Found.{Found}
 use Rattle.ug_checkpoint.specs.declared.saver.Saver.{Saver}
 use Rattle.ug_checkpoint.specs.Recovery.{HasFound}
 use Rattle.ug_checkpoint.specs.Savers.{IsKept, last_slot, sequence_of}
-use Rattle.ug_restart.specs.Starts.{IsSpent}
+use Rattle.ug_restart.specs.Starts.{IsSpent, next_run}
 use Rattle.ug_restart.specs.Books.{IsSaverOf}
 
 -- each point lies in the root
@@ -36,3 +36,20 @@ saver_of (Some lent) saver same last kept room = record {
   room = subst (λ n. n < 2 ^ 62) (sym same)
       (lt_of_not-le (λ great. room (inr great)));
 }
+
+-- so it is of one that was found
+pub next_saver : (found : Found) (saver : Saver) → sequence_of saver ≡ found.image.sequence
+    → last_slot saver ≡ Some found.slot
+    → ((old new : Option History) → HasFound old new (Some found) → IsKept saver new)
+    → ¬ IsSpent (Some found) → IsSaverOf (Some found) saver
+next_saver found saver same last kept room = record {
+  last = last;
+  kept = kept;
+  room = subst (λ n. n < 2 ^ 62) (sym same) (lt_of_not-le (λ great. room (inr great)));
+}
+
+-- the run after one is no run 0
+pub some_run : (lent : Option (Bor Found)) (run : ℕ) → run ≡ next_run (option_copied lent)
+    → 0 < run
+some_run None run is = omega (arith, is)
+some_run (Some found) run is = omega (arith, is)

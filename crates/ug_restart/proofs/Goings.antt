@@ -20,7 +20,9 @@ use Rattle.ug_checkpoint.specs.Recovery.{HasFound}
 use Rattle.ug_snapshot.specs.Moments.{IsCovered, boxes_in}
 use Rattle.ug_restart.specs.Openings.{CoversWhatIsFound, IsNotSaved}
 use Rattle.ug_restart.specs.Starts.{IsGoneOn, IsNotGoneOn, boxes_saved, gone_on, next_run}
-use Rattle.ug_restart.specs.Books.{HasNoNext, MayGoOn}
+use Rattle.ug_rules.specs.Books.{AreSettings}
+use Rattle.ug_checkpoint.specs.declared.saver.Saver.{Saver}
+use Rattle.ug_restart.specs.Books.{HasNoNext, IsNextStart, IsSaverOf, MayGoOn}
 use Rattle.ug_restart.specs.declared.fault.StartFault.{StartFault}
 use Rattle.ug_restart.specs.declared.fault.StartFault.TheVariants.{Memory, DiskFault, BadImage, NoCheckpoint, OtherProblem, SmallerGap, Spent}
 use Rattle.ug_restart.proofs.Composes.{chosen_has, loaded_could}
@@ -158,3 +160,32 @@ not_saved_on p settings old new NoCheckpoint not = absurd not
 not_saved_on p settings old new (OtherProblem at kept read) not = absurd not
 not_saved_on p settings old new (SmallerGap kept asked) not = absurd not
 not_saved_on p settings old new Spent not = absurd not
+
+-- what goes on from an image makes a book, and is Covered where the image was
+pub kept_makes : (p q : Instance) (found : Found) (run : ℕ) (best : Option (List ℤ))
+    (boxes : List (List Change)) (settings : Settings) (saver : Saver) → q ≡ p
+    → run ≡ next_run (Some found) → best ≡ found.image.best
+    → boxes ≡ boxes_saved found.image.nodes → IsImage found.image → AreSettings settings
+    → found.image.problem ≡ p → found.image.gap ≤ℤ settings.gap → IsSaverOf (Some found) saver
+    → IsNextStart p settings found (record {
+      opening = record { problem = q; run = run; best = best; boxes = boxes; settings = settings };
+      saver = saver;
+    })
+kept_makes p q found run best boxes settings saver same number point left is fit problem low kept =
+    record {
+      book = made_on p settings found run best boxes _ number point left
+          (ap (λ (k : Instance). started k run best boxes settings) same);
+      opening = record {
+        run = omega (arith, number);
+        best = subst (λ b. IfSome b (Feasible q)) (sym point)
+            (subst (λ (k : Instance). IfSome found.image.best (Feasible k)) (problem ∙ sym same)
+            is.best);
+        boxes = subst (λ (k : Instance). All (AreChangesOf (root_of k)) boxes) (sym same)
+            (boxes_kept p found boxes is problem left);
+        settings = fit;
+      };
+      covered = λ covered. subst
+          (λ (k : Instance). Covered k settings.gap best (map (area_by (root_of k)) boxes)) (sym same)
+          (covered_kept p settings.gap found best boxes problem low point left covered);
+      saver = kept;
+    }

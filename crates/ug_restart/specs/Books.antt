@@ -1,4 +1,4 @@
--- The book and the saver with which a run begins, by what was found on its disk.
+-- What a run begins with, and its saver, by what was found on its disk.
 use Rattle.std.specs.Prelude.{◌≡◌, ◌<◌, ◌<ℤ◌, ◌≤ℤ◌, ◌^◌, MatchOption, Option, None, Some}
 use Rattle.ug_disk.specs.Histories.{History}
 use Rattle.ug_problem.specs.Instances.{Instance}
@@ -8,7 +8,10 @@ use Rattle.ug_checkpoint.specs.declared.found.Found.{Found}
 use Rattle.ug_checkpoint.specs.declared.saver.Saver.{Saver}
 use Rattle.ug_checkpoint.specs.Recovery.{HasFound}
 use Rattle.ug_checkpoint.specs.Savers.{IsKept, last_slot, sequence_of}
-use Rattle.ug_restart.specs.Starts.{IsFirstDifference, IsSpent}
+use Rattle.ug_book.specs.Openings.{IsCoveredOpening, IsOpening, opening_book}
+use Rattle.ug_snapshot.specs.Moments.{IsCovered}
+use Rattle.ug_restart.specs.Starts.{IsFirstDifference, IsSpent, begun, gone_on}
+use Rattle.ug_restart.specs.declared.start.Start.{Start}
 use Rattle.ug_restart.specs.declared.fault.StartFault.{StartFault}
 use Rattle.ug_restart.specs.declared.fault.StartFault.TheVariants.{Memory}
 use Rattle.ug_restart.specs.declared.fault.StartFault.TheVariants.{OtherProblem}
@@ -19,6 +22,22 @@ pub record IsSaverOf (found : Option Found) (saver : Saver) : Type 0 where
   pub last : MatchOption found (last_slot saver ≡ None) (λ f. last_slot saver ≡ Some f.slot)
   pub kept : (old new : Option History) → HasFound old new found → IsKept saver new
   pub room : sequence_of saver < 2 ^ 62
+
+-- the start of a new solve, where this is found on the disk
+pub record IsFirstStart (p : Instance) (settings : Settings) (found : Option Found) (s : Start)
+    : Type 0 where
+  pub book : opening_book s.opening ≡ begun p settings found
+  pub opening : IsOpening s.opening
+  pub covered : IsCoveredOpening s.opening
+  pub saver : IsSaverOf found s.saver
+
+-- the start that goes on from what was found; where that was Covered, so is what it begins with
+pub record IsNextStart (p : Instance) (settings : Settings) (found : Found) (s : Start)
+    : Type 0 where
+  pub book : opening_book s.opening ≡ gone_on p settings found
+  pub opening : IsOpening s.opening
+  pub covered : IsCovered found.image → IsCoveredOpening s.opening
+  pub saver : IsSaverOf (Some found) s.saver
 
 -- why no new book is made
 abbrev pub HasNoFirst : Option Found → StartFault → Type 0

@@ -5,10 +5,13 @@ use Rattle.ug_rules.specs.State.{BookState}
 use Rattle.ug_checkpoint.specs.declared.found.Found.{Found}
 use Rattle.ug_checkpoint.specs.declared.saver.Saver.{Saver}
 use Rattle.ug_checkpoint.specs.Recovery.{Recovered}
-use Rattle.ug_checkpoint.specs.Savers.{CouldFind, Finds, IsLast, IsWritten, last_slot, sequence_of}
+use Rattle.ug_checkpoint.specs.Savers.{CouldFind, Finds, IsKept, IsLast, IsWritten}
+use Rattle.ug_checkpoint.specs.Savers.{last_slot, sequence_of}
 use Rattle.ug_checkpoint.specs.Runs.{CouldLeave}
 use Rattle.ug_snapshot.specs.Moments.{IsCovered, IsImageOf}
+use Rattle.ug_book.specs.Openings.{IsCoveredOpening, IsOpening, opening_book}
 use Rattle.ug_restart.specs.Starts.{IsFirstImage}
+use Rattle.ug_restart.specs.declared.start.Start.{Start}
 use Rattle.ug_restart.specs.declared.fault.StartFault.{StartFault}
 use Rattle.ug_restart.specs.declared.fault.StartFault.TheVariants.{Memory, DiskFault}
 
@@ -21,6 +24,16 @@ pub record IsAcknowledgedStart (told : Option History) (book : BookState) (saver
   pub image : IsImageOf book (sequence_of saver) found.image
   pub last : last_slot saver ≡ Some found.slot
   pub written : IsWritten found.slot found.image told
+
+-- How a run starts: its book is one of these, and can be made of what it begins with; where it can be
+-- trusted that is Covered; and an image of it is acknowledged, which the saver knows.
+pub record IsStart (Is : BookState → Type 0) (Trusted : Type 0) (told : Option History) (s : Start)
+    : Type 0 where
+  pub book : Is (opening_book s.opening)
+  pub opening : IsOpening s.opening
+  pub covered : Trusted → IsCoveredOpening s.opening
+  pub acknowledged : IsAcknowledgedStart told (opening_book s.opening) s.saver
+  pub kept : IsKept s.saver told
 
 -- each image that recovery could find then is Covered
 abbrev pub CoversWhatIsFound : Option History → Type 0

@@ -6,7 +6,7 @@ use Rattle.ug_checkpoint.specs.declared.saver.Saver.{Saver}
 use Rattle.ug_checkpoint.specs.Savers.{sequence_of}
 use Rattle.ug_rules.specs.State.{BookState}
 use Rattle.ug_snapshot.specs.Moments.{IsImageOf}
-use Rattle.ug_snapshot.specs.declared.opening.Opening.{Opening}
+use Rattle.ug_book.specs.declared.opening.Opening.{Opening}
 use Rattle.ug_snapshot.specs.Snapshots.{SnapshotState}
 use Rattle.ug_restart.specs.declared.saves.Saves.{Saves}
 

@@ -1,35 +1,33 @@
-ghost use Rattle.std.specs.Prelude.{◌≡◌, [], ◌∷◌, Some, IfOk, IfErr, OnOk};
+ghost use Rattle.std.specs.Prelude.{◌≡◌, Some, IfOk, IfErr, OnOk};
 ghost use Rattle.std.specs.Option.{option_copied};
 ghost use Rattle.ug_image.specs.Images.{IsImage};
-ghost use Rattle.ug_rules.specs.Books.{AreSettings, IsSoundBook};
-ghost use Rattle.ug_snapshot.specs.Moments.{IsCovered};
-ghost use Rattle.ug_restart.specs.Starts.{IsSpent, begun, boxes_saved, gone_on, next_run};
-ghost use Rattle.ug_restart.specs.Books.{HasNoFirst, HasNoNext, IsSaverOf, MayGoOn};
+ghost use Rattle.ug_rules.specs.Books.{AreSettings};
+ghost use Rattle.ug_restart.specs.Starts.{IsSpent, boxes_saved, next_run};
+ghost use Rattle.ug_restart.specs.Books.{HasNoFirst, HasNoNext, IsFirstStart, IsNextStart, MayGoOn};
 
 use crate::compare::check_problem;
 use crate::fault::StartFault;
 use crate::opening::{check_gap, next_run};
+use crate::start::Start;
 use std::alloc::{AllocError, Global};
-use ug_book::{Book, Boxes};
+use ug_book::{Boxes, Opening};
 use ug_checkpoint::{Found, Saver};
 use ug_image::{Image, Saved};
 use ug_lists::Items;
-use ug_nodes::Changes;
 use ug_problem::{Problem, Shared};
 use ug_rows::Point;
 use ug_rules::Settings;
 
-/// The book of a new solve, under the run after the one that was found, and the saver of that disk.
-pub fn first_book(
+/// The start of a new solve, under the run after the one that was found, with the saver of that
+/// disk.
+pub fn first_start(
     alloc: Global,
     found: Option<&Found>,
     problem: Shared,
     settings: Settings,
-) -> Result<(Book, Saver), StartFault>
+) -> Result<Start, StartFault>
     requires { AreSettings settings }
-    ensures book { IfOk result (λ x. x.0 ≡ begun problem settings (option_copied found.entry)) }
-    ensures sound { IfOk result (λ x. IsSoundBook x.0) }
-    ensures saver { IfOk result (λ x. IsSaverOf (option_copied found.entry) x.1) }
+    ensures made { IfOk result (IsFirstStart problem settings (option_copied found.entry)) }
     ensures room { OnOk result (¬ IsSpent (option_copied found.entry)) }
     ensures refused { IfErr result (HasNoFirst (option_copied found.entry)) }
 {
@@ -41,28 +39,22 @@ pub fn first_book(
         }
     };
     let saver = Saver::new(found);
-    let Ok(boxes) = root_alone(alloc) else {
-        drop(problem);
-        return Err(StartFault::Memory);
-    };
-    match Book::new(alloc, problem, run, None, boxes, settings) {
-        Ok(book) => Ok((book, saver)),
+    match Opening::new(alloc, problem, run, settings) {
+        Ok(opening) => Ok(Start { opening, saver }),
         Err(_) => Err(StartFault::Memory),
     }
 }
 
-/// The book that goes on from what was found, and the saver of that disk.
-pub fn next_book(
+/// The start that goes on from what was found, with the saver of that disk.
+pub fn next_start(
     alloc: Global,
     found: Found,
     problem: Shared,
     settings: Settings,
-) -> Result<(Book, Saver), StartFault>
+) -> Result<Start, StartFault>
     requires settings { AreSettings settings }
     requires image { IsImage found.image }
-    ensures book { IfOk result (λ x. x.0 ≡ gone_on problem settings found) }
-    ensures sound { IsCovered found.image → IfOk result (λ x. IsSoundBook x.0) }
-    ensures saver { IfOk result (λ x. IsSaverOf (Some found) x.1) }
+    ensures made { IfOk result (IsNextStart problem settings found) }
     ensures may { OnOk result (MayGoOn problem settings found) }
     ensures refused { IfErr result (HasNoNext problem settings found) }
 {
@@ -79,9 +71,21 @@ pub fn next_book(
         drop(problem);
         return Err(StartFault::Memory);
     };
-    match Book::new(alloc, problem, run, kept.best, kept.boxes, settings) {
-        Ok(book) => Ok((book, saver)),
-        Err(_) => Err(StartFault::Memory),
+    match problem.into_counted(alloc) {
+        Ok(problem) => Ok(Start {
+            opening: Opening {
+                problem,
+                run,
+                best: kept.best,
+                boxes: kept.boxes,
+                settings,
+            },
+            saver,
+        }),
+        Err(_) => {
+            drop(kept);
+            Err(StartFault::Memory)
+        }
     }
 }
 
@@ -132,15 +136,6 @@ fn kept_of(alloc: Global, found: Found) -> Result<Kept, AllocError>
             Err(error)
         }
     }
-}
-
-// The root box alone.
-fn root_alone(alloc: Global) -> Result<Boxes, AllocError>
-    ensures { IfOk result (λ boxes. boxes ≡ [] ∷ []) }
-{
-    let mut boxes = Items::new(alloc);
-    boxes.push(Changes::new(Vec::new(alloc)))?;
-    Ok(boxes)
 }
 
 // The boxes of the nodes.

@@ -1,8 +1,8 @@
 //! How a run begins on a disk, new or from its last checkpoint, what it saves, and how it ended.
 //! It stands on ug_checkpoint, and on ug_snapshot for the image of a moment. `begin` and `restart`
-//! give a book under a run number above the one that is found there, once an image of it is
-//! acknowledged: so no ticket of the run that is found is current in it. The book is sound, that of
-//! a restart where the image was Covered. `Saves` saves snapshots, and counts those that it missed.
+//! give what a run begins with, under a run number above the one that is found there, once an image
+//! of its book is acknowledged: so no ticket of the run that is found is current in it. It is
+//! Covered, that of a restart where the image was. `Saves` saves snapshots, and counts those missed.
 #![tactic(auto)]
 
 mod books;
@@ -17,4 +17,4 @@ mod start;
 pub use fault::StartFault;
 pub use outcome::{End, Outcome};
 pub use saves::Saves;
-pub use start::{begin, restart};
+pub use start::{Start, begin, restart};

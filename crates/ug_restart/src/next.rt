@@ -6,7 +6,7 @@ ghost use Rattle.ug_image.specs.Spelling.{spelled};
 ghost use Rattle.ug_rules.specs.Books.{IsSoundBook};
 ghost use Rattle.ug_checkpoint.specs.Savers.{sequence_of};
 ghost use Rattle.ug_snapshot.specs.Moments.{IsCovered};
-ghost use Rattle.ug_snapshot.specs.Openings.{IsCoveredOpening};
+ghost use Rattle.ug_book.specs.Openings.{IsCoveredOpening};
 ghost use Rattle.ug_restart.specs.Saves.{IsNext, IsOfBook, IsOfSnapshot, under};
 
 use std::alloc::Global;

@@ -1,17 +1,22 @@
-ghost use Rattle.std.specs.Prelude.{◌≡◌, ◌≤◌, ◌<◌, ◌<ℤ◌, ◌≤ℤ◌, ◌+◌, ◌^◌, IfOk, IfErr, OnOk, IsErrOf};
+ghost use Rattle.std.specs.Prelude.{◌≡◌, ◌≤◌, ◌<◌, ◌<ℤ◌, ◌≤ℤ◌, ◌+◌, ◌^◌, length, IfOk, IfErr, OnOk, IsErrOf};
 ghost use Rattle.std.specs.Option.{option_copied};
 ghost use Rattle.ug_io.specs.Outside.{Rose};
 ghost use Rattle.ug_disk.specs.Crashes.{Leaves};
 ghost use Rattle.ug_checkpoint.specs.Savers.{IsKept, sequence_of};
+ghost use Rattle.ug_image.specs.Images.{IsImage};
+ghost use Rattle.ug_image.specs.Spelling.{spelled};
+ghost use Rattle.ug_book.specs.Openings.{IsOpening, opening_book};
+ghost use Rattle.ug_snapshot.specs.Moments.{IsImageOf};
 ghost use Rattle.ug_restart.specs.Starts.{IsSpent, next_run};
 ghost use Rattle.ug_restart.specs.Openings.{IsAcknowledgedStart, IsNotSaved, IsSafeFirst};
 ghost use Rattle.ug_restart.specs.declared.fault.StartFault.TheVariants.{Spent, SmallerGap};
 
 use crate::fault::StartFault;
-use std::alloc::Global;
-use ug_book::Book;
+use std::alloc::{AllocError, Global};
+use ug_book::{Book, Opening};
 use ug_checkpoint::{Found, Saver};
 use ug_disk::Disk;
+use ug_image::Image;
 use ug_rules::Settings;
 use ug_snapshot::image_of;
 
@@ -48,19 +53,22 @@ pub fn check_gap(found: &Found, settings: &Settings) -> Result<(), StartFault>
     Ok(())
 }
 
-/// Saves the first image of the book.
+/// Saves the first image of a run: that of the book that starts with the opening.
 pub fn save_first<D: Disk>(
     alloc: Global,
     disk: &mut D,
-    book: &Book,
+    opening: &Opening,
     saver: &mut Saver,
 ) -> Result<(), StartFault>
+    requires opening { IsOpening opening.now }
     requires kept { IsKept saver.old (D.told disk.old) }
     requires room { sequence_of saver.old < 2 ^ 62 }
-    ensures acknowledged { OnOk result (IsAcknowledgedStart (D.told disk.new) book.now saver.new) }
+    ensures acknowledged { OnOk result (IsAcknowledgedStart (D.told disk.new)
+        (opening_book opening.now) saver.new) }
     ensures kept { IsKept saver.new (D.told disk.new) }
     ensures refused { IfErr result IsNotSaved }
-    ensures any_moment { Leaves (IsSafeFirst saver.old (D.told disk.old) book.now)
+    ensures any_moment { Leaves (IsSafeFirst saver.old (D.told disk.old)
+        (opening_book opening.now))
         (D.told disk.old) (D.told disk.new) }
     ensures never_falls { D.faults disk.old ≤ D.faults disk.new }
     ensures fault { IsErrOf result StartFault.DiskFault
@@ -68,9 +76,23 @@ pub fn save_first<D: Disk>(
     ensures calm { (IsErrOf result StartFault.DiskFault → ⊥)
         → D.faults disk.new ≡ D.faults disk.old }
 {
-    let image = image_of(alloc, book, saver.sequence() + 1)?;
+    let image = first_image(alloc, opening, saver.sequence() + 1)?;
     let saved = saver.save(alloc, disk, &image);
     drop(image);
     saved?;
     Ok(())
+}
+
+// The image of the book that starts with the opening, under this sequence.
+fn first_image(alloc: Global, opening: &Opening, sequence: u64) -> Result<Image, AllocError>
+    requires opening { IsOpening opening.now }
+    requires sequence { 1 ≤ sequence }
+    ensures moment { IfOk result (IsImageOf (opening_book opening.now) sequence) }
+    ensures image { IfOk result IsImage }
+    ensures short { IfOk result (λ image. length (spelled image) < 2 ^ 63) }
+{
+    let book = Book::new(alloc, opening)?;
+    let image = image_of(alloc, &book, sequence);
+    drop(book);
+    image
 }

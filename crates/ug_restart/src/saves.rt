@@ -3,18 +3,18 @@ ghost use Rattle.ug_disk.specs.Crashes.{Leaves};
 ghost use Rattle.ug_rules.specs.Books.{IsSoundBook};
 ghost use Rattle.ug_checkpoint.specs.Savers.{IsKept};
 ghost use Rattle.ug_snapshot.specs.Moments.{IsCovered};
-ghost use Rattle.ug_snapshot.specs.Openings.{IsCoveredOpening};
+ghost use Rattle.ug_book.specs.Openings.{IsCoveredOpening};
 ghost use Rattle.ug_restart.specs.Saves.{IsDue, IsNext, IsOfBook, IsOfSnapshot, IsPassedOver, NoneIsCounted, begun, calls_of, missed_of, one_more, opening_of, saver_of, unsaved_of};
 ghost use Rattle.ug_restart.specs.Moments.{FindsOne, IsSafeSave};
 ghost use Rattle.ug_restart.specs.Going.{GoesOn, IsUntouched, time};
 
 use crate::next::{is_short, of_book, of_snapshot};
 use std::alloc::Global;
-use ug_book::Book;
+use ug_book::{Book, Opening};
 use ug_checkpoint::{SaveError, Saver};
 use ug_disk::Disk;
 use ug_image::Image;
-use ug_snapshot::{Opening, Snapshot};
+use ug_snapshot::Snapshot;
 
 /// What a run saves after its first image.
 #[derive(Drop)]

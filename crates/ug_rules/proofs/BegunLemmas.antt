@@ -159,6 +159,7 @@ module _ (b : BookState) (entry : Entry) (h : IsBook b) (a : IsAlone b entry) wh
     pool = refl;
     none = a.none;
     number = h.number;
+    orders = h.orders;
   }
 
   moved_sound : IsSoundBook b → IsSoundBook moved

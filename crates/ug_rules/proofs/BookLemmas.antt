@@ -1,10 +1,10 @@
 -- What every book is stays: where what it is not about changed, where one rank has another state
 -- for the same work, and where pool, ranks and race changed as they may.
-use Rattle.std.proofs.Common.{◌≡◌, ◌≢◌, ◌⊎◌, inl, inr, ℕ, ℤ, ◌<◌, Bool, List, [], ◌++◌, length, map, refl, ap, sym, ◌∙◌, subst, arith}
+use Rattle.std.proofs.Common.{◌≡◌, ◌≢◌, ◌⊎◌, inl, inr, ℕ, ℤ, ◌<◌, Bool, List, [], ◌∷◌, ◌++◌, length, map, refl, ap, sym, ◌∙◌, subst, arith}
 use Rattle.std.specs.Prelude.{All, Contains, IfSome, if◌then◌else◌, IsSome, Option, Some, None, slice_set}
 use Rattle.std.proofs.lemmas.Bool.{cases_Bool, false≢true}
 use Rattle.std.proofs.lemmas.List.{length-set}
-use Rattle.std.proofs.lemmas.List.Elements.{All-get_or, All-map, All-set, All-weaker}
+use Rattle.std.proofs.lemmas.List.Elements.{All-get_or, All-map, All-set, All-tail, All-weaker}
 use Rattle.ug_problem.specs.Feasible.{Feasible}
 use Rattle.ug_problem.specs.Instances.{Instance, root_of}
 use Rattle.ug_nodes.specs.declared.node.Node.{Node}
@@ -22,7 +22,8 @@ use Rattle.ug_rules.specs.declared.told.Told.{Told}
 use Rattle.ug_rules.specs.State.{BookState, current_of, ledger_of, node_at, nodes_in, nodes_of, raced_node, ticket_with}
 use Rattle.ug_rules.specs.Ranks.{ranks_that}
 use Rattle.ug_ranks.specs.Looks.{is_racing}
-use Rattle.ug_rules.specs.Books.{IsBook, IsRaceAlone, IsSoundBook, KeepFloors, KeepsItsFloor}
+use Rattle.ug_frames.specs.Orders.{IsOrder}
+use Rattle.ug_rules.specs.Books.{AreOrders, IsBook, IsRaceAlone, IsSoundBook, KeepFloors, KeepsItsFloor}
 use Rattle.ug_rules.proofs.WorkLemmas.{idled, same_nodes, works_at}
 use Rattle.ug_rules.proofs.TicketLemmas.{same_tickets}
 use Rattle.ug_rules.proofs.RacerLemmas.{SomeRaces, are_racing, set_same_races, set_still_races, some_races}
@@ -30,9 +31,9 @@ use Rattle.ug_rules.proofs.RacerLemmas.{SomeRaces, are_racing, set_same_races, s
 -- the book with another incumbent that is feasible, other orders, another count, and another cutoff
 -- announced
 pub book_told : (b : BookState) (best : Option (List ℤ)) (orders : List Told) (heard : ℕ)
-    (announced : Option ℤ) → IfSome best (Feasible b.problem) → IsBook b
+    (announced : Option ℤ) → IfSome best (Feasible b.problem) → AreOrders orders → IsBook b
     → IsBook (record b { best = best; orders = orders; heard = heard; announced = announced })
-book_told b best orders heard announced feasible h = record {
+book_told b best orders heard announced feasible carried h = record {
   problem = h.problem;
   run = h.run;
   settings = h.settings;
@@ -48,7 +49,15 @@ book_told b best orders heard announced feasible h = record {
     ranks = h.race.ranks;
   };
   number = h.number;
+  orders = carried;
 }
+
+-- the book of which the earliest order was told
+pub book_with_rest : (b : BookState) (told : Told) (rest : List Told) → b.orders ≡ told ∷ rest
+    → IsBook b → IsBook (record b { orders = rest })
+book_with_rest b told rest first h = book_told b b.best rest b.heard b.announced h.incumbent
+    (All-tail (λ (one : Told). IsOrder one.order) told rest
+    (subst (λ (orders : List Told). AreOrders orders) first h.orders)) h
 
 -- the book with another state at a rank
 abbrev pub written : ℕ → State → BookState → BookState
@@ -179,13 +188,13 @@ floors_idled p test ss h =
 
 -- the book with another pool, other ranks and another race, where each is as it may be
 pub book_changed : (b : BookState) (pool : List Entry) (ranks : List State) (raced : Option Entry)
-    (orders : List Told) → IsBook b → length ranks ≡ length b.ranks → IsInOrder pool
+    (orders : List Told) → IsBook b → AreOrders orders → length ranks ≡ length b.ranks → IsInOrder pool
     → KeepFloors (record b { pool = pool; ranks = ranks; raced = raced; orders = orders })
     → IsLedger (root_of b.problem)
     (ledger_of (record b { pool = pool; ranks = ranks; raced = raced; orders = orders }))
     → IsRaceAlone (record b { pool = pool; ranks = ranks; raced = raced; orders = orders })
     → IsBook (record b { pool = pool; ranks = ranks; raced = raced; orders = orders })
-book_changed b pool ranks raced orders h size order floors ledger race = record {
+book_changed b pool ranks raced orders h carried size order floors ledger race = record {
   problem = h.problem;
   run = h.run;
   settings = h.settings;
@@ -196,6 +205,7 @@ book_changed b pool ranks raced orders h size order floors ledger race = record 
   ledger = ledger;
   race = race;
   number = h.number;
+  orders = carried;
 }
 
 -- a rank's state for the same work
@@ -207,7 +217,7 @@ book_written b r s l a h =
     let nodes = same_nodes b.ranks r s a.nodes in
     let before : SomeRaces new.ranks → ranks_that is_racing b.ranks ≢ [] =
     λ t. are_racing b.ranks (set_same_races b.ranks r s l a.racing t) in
-    book_changed b b.pool new.ranks b.raced b.orders h (length-set b.ranks r s) h.order
+    book_changed b b.pool new.ranks b.raced b.orders h h.orders (length-set b.ranks r s) h.order
     (record {
       pool = h.floors.pool;
       ranks = All-set (KeepsItsFloor b.problem) b.ranks r s

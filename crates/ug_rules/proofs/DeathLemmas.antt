@@ -25,6 +25,7 @@ use Rattle.ug_ledger.proofs.TakenInLemmas.{taken_in_ledger, taken_in_sound}
 use Rattle.ug_rules.specs.State.{BookState, current_for, current_of, held_nodes, ledger_of, node_at, nodes_in, nodes_of, raced_node}
 use Rattle.ug_rules.specs.Deaths.{called_off, entry_of, killed_at, works_below}
 use Rattle.ug_rules.specs.Books.{HasItsFloor, IsBook, IsSoundBook, KeepsItsFloor}
+use Rattle.ug_rules.proofs.OrderLemmas.{dead_carried}
 use Rattle.ug_rules.proofs.WorkLemmas.{WorksOn, dead_is_free, free_old, idled_kept, idled_old, others_kept, state_failed, state_there, works_at, works_from, works_to}
 use Rattle.ug_rules.proofs.HeldLemmas.{current_cases, current_is, held_cases, in_pool, in_race, in_work, is_current, still}
 use Rattle.ug_rules.proofs.TicketLemmas.{free_current, idled_current, others_current}
@@ -194,7 +195,7 @@ module _ (b : BookState) (r : ℕ) (work : Work) (there : r < length b.ranks)
       let raced = nothing_raced b r work h.race is in
       let moved = death_takes_in raced h.ledger.ticketed.named in
       let p = b.problem in
-      book_changed b new.pool new.ranks b.raced new.orders h
+      book_changed b new.pool new.ranks b.raced new.orders h (dead_carried b h r line)
       (length-map dead (λ (s : State). if works_below line s then Idle else s)
       ∙ length-set b.ranks r (Dead Died))
       (put_in_order (entry_of work) (without_below line b.pool)

@@ -93,7 +93,7 @@ module _ (b : BookState) (r : ℕ) (work : Work) (there : r < length b.ranks)
   -- the book is one, and sound where it was, if the ticket's box was searched
   pub done_at_work_keeps : IsBook b → IsBook new
   done_at_work_keeps h =
-      book_changed b b.pool new.ranks b.raced b.orders h (length-set b.ranks r Idle) h.order
+      book_changed b b.pool new.ranks b.raced b.orders h h.orders (length-set b.ranks r Idle) h.order
       (record {
         pool = h.floors.pool;
         ranks = All-set (KeepsItsFloor b.problem) b.ranks r Idle tt h.floors.ranks;

@@ -141,7 +141,7 @@ has_dropped b h = record {
 
 pub dropped_book : (b : BookState) → IsBook b → IsBook (dropped b)
 dropped_book b h = book_changed b
-    (below_cutoff (cutoff_of_best b) b.pool) b.ranks b.raced b.orders h refl
+    (below_cutoff (cutoff_of_best b) b.pool) b.ranks b.raced b.orders h h.orders refl
     (left_in_order (cutoff_of_best b) b.pool h.order)
     (record {
       pool = left_all (HasItsFloor b.problem) (cutoff_of_best b) b.pool h.floors.pool;

@@ -33,7 +33,7 @@ use Rattle.ug_rules.proofs.OwnLemmas.{own_current}
 
 pub counted_keeps : CountedKeeps
 counted_keeps b = record {
-  book = λ h. book_told b b.best b.orders (counted b).heard b.announced h.incumbent h;
+  book = λ h. book_told b b.best b.orders (counted b).heard b.announced h.incumbent h.orders h;
   sound = λ h s. s;
 }
 
@@ -83,7 +83,7 @@ solution_improves b x better = record {
 
 pub solution_keeps : SolutionKeeps
 solution_keeps b r ticket x better = record {
-  book = λ h. book_told b (Some x) b.orders b.heard b.announced better.feasible h;
+  book = λ h. book_told b (Some x) b.orders b.heard b.announced better.feasible h.orders h;
   sound = λ h s. improved_sound b.problem b.settings.gap b.best x (ledger_of b)
       (solution_improves b x better) s;
 }

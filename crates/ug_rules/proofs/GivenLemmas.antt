@@ -1,5 +1,5 @@
 -- After the first of the pool was given to an idle rank, nothing is lost.
-use Rattle.std.proofs.Common.{◌≡◌, ◌≢◌, ◌⊎◌, inl, inr, ℕ, zero, suc, ◌+◌, ◌^◌, ◌<◌, ◌≤◌, List, [], ◌∷◌, length, set, refl, ap, sym, ◌∙◌, subst, arith}
+use Rattle.std.proofs.Common.{◌≡◌, ◌≢◌, ◌⊎◌, inl, inr, ℕ, zero, suc, ◌+◌, ◌^◌, ◌<◌, ◌≤◌, List, [], ◌∷◌, length, set, refl, ap, sym, ◌∙◌, subst, arith, false}
 use Rattle.std.specs.Prelude.{All, Contains}
 use Rattle.std.proofs.lemmas.Bool.{cases_eq}
 use Rattle.std.proofs.lemmas.List.{length-map, length-set, map-set}
@@ -22,6 +22,7 @@ use Rattle.ug_ledger.proofs.GivenLemmas.{given_ledger, given_sound}
 use Rattle.ug_rules.specs.State.{BookState, current_of, held_nodes, ledger_of, node_at, nodes_in, nodes_of, ticket_with}
 use Rattle.ug_rules.specs.Books.{HasItsFloor, IsBook, IsSoundBook, KeepsItsFloor}
 use Rattle.ug_rules.specs.Deciding.{given_to, params_with}
+use Rattle.ug_rules.proofs.OrderLemmas.{given_carried}
 use Rattle.ug_rules.proofs.WorkLemmas.{WorksOn, idle_is_free, others_kept, state_here, state_there, works_at, works_from, works_to}
 use Rattle.ug_rules.proofs.HeldLemmas.{current_by, held_cases, in_pool, in_race, in_work}
 use Rattle.ug_rules.proofs.CountLemmas.{of_held, of_set, times_adds}
@@ -166,6 +167,10 @@ module _ (b : BookState) (r : ℕ) (entry : Entry) (rest : List Entry)
         (λ t. none_there h (set_fewer_races b.ranks r (Active its_work) can.there refl t))
         (none_raced b.raced (λ some. none_there h (some_races b.ranks (h.race.raced some))));
     number = can.number;
+    orders = given_carried b h.run h.problem h.settings.gap h.incumbent r (b.last + 1) (params_with 0)
+        false entry (omega arith)
+        (All-get_or (HasItsFloor b.problem) (entry ∷ rest) 0 entry (omega arith) pool_floors)
+        h.orders;
   }
     where
       pool_floors : All (HasItsFloor b.problem) (entry ∷ rest)

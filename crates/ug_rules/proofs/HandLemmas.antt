@@ -111,7 +111,7 @@ module _ (b : BookState) (r : ℕ) (work : Work) (there : r < length b.ranks)
       let p = b.problem in
       let own = subst (KeepsItsFloor p) is (floor_at b r there h.floors) in
       subst IsBook (sym is_new)
-      (book_changed b new.pool new.ranks b.raced b.orders h (length-set b.ranks r more)
+      (book_changed b new.pool new.ranks b.raced b.orders h h.orders (length-set b.ranks r more)
       (put_in_order entry b.pool h.order)
       (record {
         pool = all_put (HasItsFloor p) entry b.pool

@@ -7,6 +7,7 @@ pub mod CountLemmas
 pub mod PoolLemmas
 pub mod RacerLemmas
 pub mod BookLemmas
+pub mod OrderLemmas
 pub mod OwnLemmas
 pub mod DeathLemmas
 pub mod DoneLemmas

@@ -1,5 +1,5 @@
 -- While ranks take part in a race one by one, and after, nothing is lost.
-use Rattle.std.proofs.Common.{◌≡◌, inl, inr, ℕ, suc, ◌+◌, ◌%◌, ◌^◌, ◌<◌, ◌≤◌, List, [], ◌∷◌, ◌++◌, length, map, set, refl, ap, sym, ◌∙◌, subst, arith}
+use Rattle.std.proofs.Common.{◌≡◌, inl, inr, ℕ, suc, ◌+◌, ◌%◌, ◌^◌, ◌<◌, ◌≤◌, List, [], ◌∷◌, ◌++◌, length, map, set, refl, ap, sym, ◌∙◌, subst, arith, true}
 use Rattle.std.specs.Prelude.{All, Contains, IfSome, IsSome, Some}
 use Rattle.std.proofs.lemmas.Bool.{cases_Bool}
 use Rattle.std.proofs.lemmas.List.{length-map, length-set, map-set}
@@ -22,8 +22,9 @@ use Rattle.ug_ledger.proofs.GivenLemmas.{given_ledger, given_sound}
 use Rattle.ug_rules.specs.State.{BookState, current_of, held_nodes, ledger_of, node_at, nodes_in, nodes_of, raced_node, ticket_with}
 use Rattle.ug_rules.specs.Ranks.{of_ranks, rank_if, ranks_that}
 use Rattle.ug_ranks.specs.Looks.{is_idle, is_racing}
-use Rattle.ug_rules.specs.Books.{AreSettings, HasItsFloor, IsBook, IsSoundBook, KeepsItsFloor}
+use Rattle.ug_rules.specs.Books.{AreOrders, AreSettings, HasItsFloor, IsBook, IsSoundBook, KeepsItsFloor}
 use Rattle.ug_rules.specs.Deciding.{params_with, raced_by, raced_by_all}
+use Rattle.ug_rules.proofs.OrderLemmas.{given_carried}
 use Rattle.ug_rules.proofs.WorkLemmas.{same_nodes, state_here, state_there}
 use Rattle.ug_rules.proofs.HeldLemmas.{current_by, in_race}
 use Rattle.ug_rules.proofs.RacerLemmas.{SomeRaces}
@@ -95,6 +96,7 @@ pub record IsInRace (b : BookState) (entry : Entry) : Type 0 where
   pub pool : b.pool ≡ []
   pub none : nodes_of b.ranks ≡ []
   pub number : b.last < 2 ^ 64
+  pub orders : AreOrders b.orders
 
 module _ (b : BookState) (r : ℕ) (entry : Entry) (h : IsInRace b entry) (i : IsIdleAt b.ranks r)
     (left : b.last + 1 < 2 ^ 64) where
@@ -150,6 +152,8 @@ module _ (b : BookState) (r : ℕ) (entry : Entry) (h : IsInRace b entry) (i : I
     pool = h.pool;
     none = nodes_same ∙ h.none;
     number = left;
+    orders = given_carried b h.run h.problem h.settings.gap h.incumbent r (b.last + 1)
+        (params_with (r % 8)) true entry (omega arith) h.floor h.orders;
   }
 
   after_sound : IsSoundBook b → IsSoundBook after
@@ -218,4 +222,5 @@ race_open b entry h some = record {
   race = alone_from b (λ is. some) (λ t. subst (λ raced. IsSome raced) (sym h.raced) refl)
       (λ t. h.pool) (λ t. h.none);
   number = h.number;
+  orders = h.orders;
 }

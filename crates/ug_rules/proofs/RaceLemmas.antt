@@ -114,7 +114,7 @@ module _ (b : BookState) (r : ℕ) (racer : Racer) (there : r < length b.ranks)
 
   fewer_keeps : ranks_that is_racing fewer.ranks ≢ [] → IsBook b → IsBook fewer
   fewer_keeps some h =
-      book_changed b b.pool fewer.ranks b.raced b.orders h (length-set b.ranks r (Dead Died)) h.order
+      book_changed b b.pool fewer.ranks b.raced b.orders h h.orders (length-set b.ranks r (Dead Died)) h.order
       (record {
         pool = h.floors.pool;
         ranks = All-set (KeepsItsFloor b.problem) b.ranks r (Dead Died) tt h.floors.ranks;
@@ -160,7 +160,7 @@ module _ (b : BookState) (r : ℕ) (racer : Racer) (there : r < length b.ranks)
         subst (λ (o : Option Entry). IfSome o (HasItsFloor p)) raced h.floors.raced in
         let one : All (HasItsFloor p) (with_entry entry []) =
         All-cons (HasItsFloor p) entry [] own (All-nil (HasItsFloor p)) in
-        book_changed b lost.pool fewer.ranks None b.orders h (length-set b.ranks r (Dead Died))
+        book_changed b lost.pool fewer.ranks None b.orders h h.orders (length-set b.ranks r (Dead Died))
         (put_in_order entry b.pool h.order)
         (record {
           pool = subst (λ es. All (HasItsFloor p) (with_entry entry es)) (sym racing_pool) one;
@@ -256,7 +256,7 @@ module _ (b : BookState) (r : ℕ) (racer : Racer) (there : r < length b.ranks)
   pub done_in_race_keeps : IsBook b → IsBook over
   done_in_race_keeps h =
       let entry = racing_entry.0 in
-      book_changed b b.pool over.ranks None b.orders h
+      book_changed b b.pool over.ranks None b.orders h h.orders
       (length-map b.ranks (λ (s : State). if is_racing s then Idle else s)) h.order
       (record {
         pool = h.floors.pool;

@@ -24,6 +24,7 @@ use Rattle.ug_rules.specs.Ranks.{of_ranks, racer_at}
 use Rattle.ug_ranks.specs.Looks.{is_racing}
 use Rattle.ug_rules.specs.Books.{HasItsFloor, IsBook, Keeps, KeepsItsFloor}
 use Rattle.ug_rules.specs.Deciding.{IsRaceWon, race_won, ranks_won}
+use Rattle.ug_rules.proofs.OrderLemmas.{won_carried}
 use Rattle.ug_rules.proofs.WorkLemmas.{WorksOn, idled, idled_old, state_here, state_there, state_passed, works_at, works_from, works_to}
 use Rattle.ug_rules.proofs.HeldLemmas.{current_is, held_cases, in_pool, in_race, in_work, is_current, raced_is, still}
 use Rattle.ug_rules.proofs.TicketLemmas.{idled_current, without_race}
@@ -226,6 +227,7 @@ module _ (b : BookState) (rank : ℕ) (its : Racer) (entry : Entry)
 
   after_book : IsBook b → IsBook after
   after_book h = book_changed b b.pool ranks_after None after.orders h
+      (won_carried b h rank)
       (length-set freed rank (Active its_work)
       ∙ length-map b.ranks (λ (state : State). if is_racing state then Idle else state))
       h.order

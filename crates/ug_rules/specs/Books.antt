@@ -1,5 +1,5 @@
 -- What every book is, whatever was heard, and when a book is sound.
-use Rattle.std.specs.Prelude.{◌≡◌, ◌≢◌, ◌<◌, ◌≤◌, ◌^◌, [], length, All, IfSome, IsSome}
+use Rattle.std.specs.Prelude.{◌≡◌, ◌≢◌, ◌<◌, ◌≤◌, ◌^◌, List, [], length, All, IfSome, IsSome}
 use Rattle.ug_rows.specs.Sums.{box_floor}
 use Rattle.ug_problem.specs.Instances.{Instance, root_of}
 use Rattle.ug_problem.specs.Limits.{IsProblem}
@@ -11,8 +11,10 @@ use Rattle.ug_pool.specs.declared.entry.Entry.{Entry}
 use Rattle.ug_pool.specs.Pools.{IsInOrder}
 use Rattle.ug_ranks.specs.declared.state.State.{State}
 use Rattle.ug_ranks.specs.declared.state.State.TheVariants.{Absent, Idle, Racing, Active, Dead}
+use Rattle.ug_frames.specs.Orders.{IsOrder}
 use Rattle.ug_ledger.specs.Sound.{IsLedger, Sound}
 use Rattle.ug_rules.specs.declared.settings.Settings.{Settings}
+use Rattle.ug_rules.specs.declared.told.Told.{Told}
 use Rattle.ug_rules.specs.State.{BookState, ledger_of, nodes_of}
 use Rattle.ug_rules.specs.Ranks.{ranks_that}
 use Rattle.ug_ranks.specs.Looks.{is_racing}
@@ -52,6 +54,10 @@ pub record IsRaceAlone (b : BookState) : Type 0 where
   pub pool : ranks_that is_racing b.ranks ≢ [] → b.pool ≡ []
   pub ranks : ranks_that is_racing b.ranks ≢ [] → nodes_of b.ranks ≡ []
 
+-- a frame can carry each of these orders
+abbrev pub AreOrders : List Told → Type 0
+AreOrders orders = All (λ (told : Told). IsOrder told.order) orders
+
 -- what every book is, whatever was heard
 pub record IsBook (b : BookState) : Type 0 where
   pub problem : IsProblem b.problem
@@ -64,6 +70,7 @@ pub record IsBook (b : BookState) : Type 0 where
   pub ledger : IsLedger (root_of b.problem) (ledger_of b)
   pub race : IsRaceAlone b
   pub number : b.last < 2 ^ 64
+  pub orders : AreOrders b.orders
 
 -- a sound book: each better point lies in a held node, and in one below its hand
 abbrev pub IsSoundBook : BookState → Type 0

@@ -1,5 +1,6 @@
 -- What a report is answered, and what is done under the answer.
-use Rattle.std.specs.Prelude.{◌≡◌, ◌≢◌, if◌then◌else◌, ℕ, ℤ, ◌+◌, ◌<◌, ◌^◌, nat_lt, List, length}
+use Rattle.std.specs.Prelude.{◌≡◌, ◌≢◌, if◌then◌else◌, ℕ, ℤ, ◌+◌, ◌<◌, ◌^◌, nat_lt, Bool, true, false}
+use Rattle.std.specs.Prelude.{List, length}
 use Rattle.std.specs.Prelude.{Option, Some, None, slice_set}
 use Rattle.ug_problem.specs.Instances.{root_of}
 use Rattle.ug_nodes.specs.declared.name.Ticket.{Ticket}
@@ -183,20 +184,39 @@ kept r (Reported ticket count floor) b =
 kept r (Done ticket told count ending) b = done_at (state_at b.ranks r) r b
 kept r Ended b = b
 
+-- a report that is kept is taken up, and after any other answer nothing was done yet
+abbrev pub taken_up : Heard → ℕ → Report → BookState → BookState
+taken_up Kept r report b = kept r report b
+taken_up answer r report b = b
+
+-- whether the rank is dead after the answer
+abbrev pub is_deadly : Heard → Bool
+is_deadly Kept = false
+is_deadly Stale = false
+is_deadly Early = true
+is_deadly (Broken first) = true
+is_deadly (NotBetter was given) = false
+is_deadly InRace = true
+is_deadly Again = false
+is_deadly (Gap want got) = true
+is_deadly (Outside column) = true
+is_deadly (Unbacked cutoff incumbent) = true
+is_deadly (Short said was) = true
+is_deadly Memory = false
+
+-- the death that the answer is, if it is one
+abbrev pub killed_under : Heard → ℕ → BookState → BookState
+killed_under answer r b = (if is_deadly answer then killed r b else b)
+
+-- a hand for which there is no memory counts for no delivery
+abbrev pub counted_under : Heard → BookState → BookState
+counted_under Memory b = b
+counted_under answer b = counted b
+
 -- what was done under the answer
 abbrev pub after_hearing : Heard → ℕ → Report → BookState → BookState
-after_hearing Kept r report b = counted (kept r report b)
-after_hearing Stale r report b = counted b
-after_hearing Again r report b = counted b
-after_hearing (NotBetter was given) r report b = counted b
-after_hearing Memory r report b = b
-after_hearing Early r report b = counted (killed r b)
-after_hearing (Broken first) r report b = counted (killed r b)
-after_hearing InRace r report b = counted (killed r b)
-after_hearing (Gap want got) r report b = counted (killed r b)
-after_hearing (Outside column) r report b = counted (killed r b)
-after_hearing (Unbacked cutoff incumbent) r report b = counted (killed r b)
-after_hearing (Short said was) r report b = counted (killed r b)
+after_hearing answer r report b =
+    counted_under answer (killed_under answer r (taken_up answer r report b))
 
 -- a State has an open node; of other reports nothing is asked
 abbrev pub IsHearable : Report → Type 0

@@ -1,4 +1,3 @@
 pub mod Moments
-pub mod Openings
 pub mod SnapshotViews
 pub mod Snapshots

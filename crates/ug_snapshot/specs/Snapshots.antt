@@ -3,8 +3,8 @@ use Rattle.std.specs.Prelude.{◌≡◌, ℕ}
 use Rattle.ug_image.specs.declared.image.Image.{Image}
 use Rattle.ug_image.specs.Images.{IsImage}
 use Rattle.ug_snapshot.specs.Moments.{IsCovered}
-use Rattle.ug_snapshot.specs.declared.opening.Opening.{Opening}
-use Rattle.ug_snapshot.specs.Openings.{IsCoveredOpening}
+use Rattle.ug_book.specs.declared.opening.Opening.{Opening}
+use Rattle.ug_book.specs.Openings.{IsCoveredOpening}
 
 -- what the desk began with, the image of then under sequence 1, and how many calls its history had
 pub record SnapshotState : Type 0 where

@@ -1,8 +1,8 @@
 ghost use Rattle.std.specs.Prelude.{◌≡◌};
 ghost use Rattle.ug_snapshot.specs.Snapshots.{IsSnapshot};
 
-use crate::opening::Opening;
 use std::marker::Model;
+use ug_book::Opening;
 use ug_image::Image;
 
 /// What was held at a moment, to be saved: where its opening is covered, so is its image.

@@ -4,10 +4,12 @@ pub mod AskedFirst
 pub mod CallOff
 pub mod Counted
 pub mod Counts
+pub mod Decisions
 pub mod Due
 pub mod FirstOfPool
 pub mod FirstOf
 pub mod Freed
+pub mod HandRooms
 pub mod Joining
 pub mod Loops
 pub mod Numbers

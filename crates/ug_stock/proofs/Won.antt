@@ -22,7 +22,7 @@ use Rattle.ug_rules.specs.Deciding.{IsRaceEnded, IsRaceWon, loser_stop, loser_st
 use Rattle.ug_rules.proofs.RacerLemmas.{are_racing}
 use Rattle.ug_rules.proofs.RoomLemmas.{freeing_takes_none, writing_counts}
 use Rattle.ug_rules.proofs.WonLemmas.{racer_from}
-use Rattle.ug_stock.specs.Races.{StandsAlone, IsWonAmong}
+use Rattle.ug_stock.specs.Races.{IsRacer, IsWonAmong, StandsAlone}
 
 -- where no rank wins among the racers, none does so after each has reported
 pub not_won : (enough : ℕ) (racers : List Reported) (result : Option ℕ) (rank : ℕ) → result ≡ None
@@ -31,12 +31,8 @@ not_won enough racers result rank none only won =
     none-some rank (sym none ∙ only rank won.winner)
 
 -- the rank that wins is one that races
-pub record IsWinnerThere (ss : List State) (rank : ℕ) : Type 0 where
-  pub there : rank < length ss
-  pub racing : IsRacing (state_at ss rank)
-
 pub winner_there : (enough : ℕ) (ss : List State) (rank : ℕ) → IsWonAmong enough (racers_in ss) rank
-    → IsWinnerThere ss rank
+    → IsRacer rank ss
 winner_there enough ss rank w =
     let t = racer_from 0 ss w.winner.racer w.winner.first.among in
     let same : t.place ≡ rank = omega (arith, t.named, w.winner.named) in

@@ -28,6 +28,12 @@ pub record IsGivenFirst (terms : Terms) (r : ℕ) (old new : Stock) : Type 0 whe
   pub given_ : (b : BookState) → AreTermsOf b terms
       → with_stock b new ≡ given_to r entry new.pool.entries (with_stock b old)
 
+-- the entry's place in the pool is spare, and one rank more works, whose order took a place
+pub record IsPlaced (old new : Stock) : Type 0 where
+  pub pool : new.pool.spare ≡ old.pool.spare + 1
+  pub working : length (nodes_of new.ranks) ≡ length (nodes_of old.ranks) + 1
+  pub orders : new.orders.spare + 1 ≡ old.orders.spare
+
 -- so it was, and each rank that works has a place for its Stop
 pub record IsAssigned (terms : Terms) (r : ℕ) (old new : Stock) : Type 0 where
   pub given_ : IsGivenFirst terms r old new

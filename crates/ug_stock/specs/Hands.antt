@@ -6,7 +6,7 @@ use Rattle.ug_rows.specs.Sums.{box_floor}
 use Rattle.ug_problem.specs.Instances.{root_of}
 use Rattle.ug_nodes.specs.declared.name.Name.{Name}
 use Rattle.ug_nodes.specs.declared.change.Change.{Change}
-use Rattle.ug_nodes.specs.Changes.{area_by}
+use Rattle.ug_nodes.specs.Changes.{AreChangesOf, area_by}
 use Rattle.ug_nodes.specs.Outside.{IsFirstOutside, SpellBelow}
 use Rattle.ug_pool.specs.Pools.{IsPut, Pooled}
 use Rattle.ug_ranks.specs.declared.state.Work.{Work}
@@ -19,6 +19,8 @@ use Rattle.ug_rules.specs.declared.heard.Heard.{Heard}
 use Rattle.ug_rules.specs.declared.heard.Heard.TheVariants.{Again, Gap, Outside}
 use Rattle.ug_rules.specs.State.{BookState, current_for}
 use Rattle.ug_rules.specs.Hearing.{IsHandDue, IsNextHand, IsTooFar}
+use Rattle.ug_stock.specs.declared.run.Run.{Run}
+use Rattle.ug_stock.specs.Runs.{KnowsFloor}
 
 -- the hand is the next, and spells a box below that of the node that is worked on
 pub record IsNext (root : List Interval) (work : Work) (number : ℕ) (changes : List Change)
@@ -55,6 +57,15 @@ NextIsNextHand =
 abbrev pub IsWorking : State → Type 0
 IsWorking (Active work) = Unit {0}
 IsWorking state = ⊥
+
+-- a hand of these changes can be taken of the rank: it works, and they are changes of the root's box,
+-- whose floor is known
+pub record CanBeTaken (run : Run) (rank : ℕ) (its_changes : List Change) (ranks : List State)
+    : Type 0 where
+  pub there : rank < length ranks
+  pub working : IsWorking (state_at ranks rank)
+  pub floor : KnowsFloor run
+  pub changes : AreChangesOf (root_of run.problem) its_changes
 
 -- the line of the next hand of a rank that works
 abbrev pub IsLineOfNext : State → List Name → Type 0

@@ -1,12 +1,14 @@
 pub mod Assigning
 pub mod Books
 pub mod Counting
+pub mod Decisions
 pub mod Giving
 pub mod Hands
 pub mod Queues
 pub mod Racers
 pub mod Races
 pub mod Racing
+pub mod Runs
 pub mod Stocks
 pub mod Telling
 pub mod Turns

@@ -1,9 +1,10 @@
 -- When a race is won, and what it stands in.
-use Rattle.std.specs.Prelude.{◌≡◌, ◌≢◌, ℕ, List, [], All, IsSome, Option}
+use Rattle.std.specs.Prelude.{◌≡◌, ◌≢◌, ℕ, ◌+◌, ◌<◌, ◌≤◌, List, [], length, All, IsSome, Option, None}
 use Rattle.ug_pool.specs.declared.entry.Entry.{Entry}
 use Rattle.ug_rules.specs.declared.racer.Racer.{Racer}
 use Rattle.ug_rules.specs.Winning.{IsWinner}
 use Rattle.ug_ranks.specs.declared.state.State.{State}
+use Rattle.ug_ranks.specs.States.{IsRacing, state_at}
 use Rattle.ug_rules.specs.State.{nodes_of}
 use Rattle.ug_rules.specs.Ranks.{ranks_that}
 use Rattle.ug_ranks.specs.Looks.{is_racing}
@@ -13,6 +14,16 @@ use Rattle.ug_rules.specs.Deciding.{HasReported}
 pub record IsWonAmong (enough : ℕ) (racers : List Racer) (rank : ℕ) : Type 0 where
   pub reported : All HasReported racers
   pub winner : IsWinner enough racers rank
+
+-- the rank takes part in the race
+pub record IsRacer (rank : ℕ) (states : List State) : Type 0 where
+  pub there : rank < length states
+  pub racing : IsRacing (state_at states rank)
+
+-- no node is raced any more, and at most one more rank works
+pub record IsRaceOver (old new : List State) (raced : Option Entry) : Type 0 where
+  pub none : raced ≡ None
+  pub work : length (nodes_of new) ≤ length (nodes_of old) + 1
 
 -- a race stands alone: where some rank races, a node is raced and none works
 pub record StandsAlone (states : List State) (entry : Option Entry) : Type 0 where

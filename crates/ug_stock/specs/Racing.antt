@@ -1,14 +1,17 @@
 -- What is done where a race begins.
-use Rattle.std.specs.Prelude.{◌≡◌, ℕ, List, All}
+use Rattle.std.specs.Prelude.{◌≡◌, ℕ, ◌+◌, ◌%◌, List, All, length, slice_set}
 use Rattle.ug_nodes.specs.declared.change.Change.{Change}
 use Rattle.ug_pool.specs.declared.entry.Entry.{Entry}
-use Rattle.ug_rules.specs.State.{BookState}
+use Rattle.ug_ranks.specs.declared.state.State.TheVariants.{Racing}
+use Rattle.ug_ranks.specs.Changes.{racer_of}
+use Rattle.ug_rules.specs.State.{BookState, nodes_of}
 use Rattle.ug_rules.specs.Ranks.{ranks_that}
 use Rattle.ug_ranks.specs.Looks.{is_idle}
-use Rattle.ug_rules.specs.Deciding.{race_begun, raced_by, raced_by_all}
+use Rattle.ug_rules.specs.Deciding.{params_with, race_begun, raced_by, raced_by_all}
 use Rattle.ug_stock.specs.declared.terms.Terms.{Terms}
 use Rattle.ug_stock.specs.declared.stock.Stock.{Stock}
 use Rattle.ug_stock.specs.Stocks.{AreTermsOf, with_stock}
+use Rattle.ug_stock.specs.Telling.{ticket_under}
 
 -- each of the boxes is of the entry's node
 abbrev pub AreBoxesOf : Entry → List (List Change) → Type 0
@@ -30,6 +33,24 @@ HaveJoinedRace terms boxes old new =
 pub record KeepsPoolAndRace (old new : Stock) : Type 0 where
   pub pool : new.pool ≡ old.pool
   pub raced : new.raced ≡ old.raced
+
+-- an idle rank takes part in the race, under the next ticket, and nothing else changed
+pub record HasTakenPart (terms : Terms) (r : ℕ) (changes : List Change) (old new : Stock)
+    : Type 0 where
+  pub joined : HasJoinedRace terms r changes old new
+  pub ranks : new.ranks ≡ slice_set old.ranks r
+      (Racing (racer_of (ticket_under terms (old.last + 1)) (params_with (r % 8))))
+  pub last : new.last ≡ old.last + 1
+  pub orders : new.orders.spare + 1 ≡ old.orders.spare
+  pub kept : KeepsPoolAndRace old new
+
+-- each idle rank does, with one of these boxes, and its order took a place
+pub record HaveTakenPart (terms : Terms) (boxes : List (List Change)) (old new : Stock)
+    : Type 0 where
+  pub joined : HaveJoinedRace terms boxes old new
+  pub nodes : length (nodes_of new.ranks) ≡ length (nodes_of old.ranks)
+  pub orders : new.orders.spare + length (ranks_that is_idle old.ranks) ≡ old.orders.spare
+  pub kept : KeepsPoolAndRace old new
 
 -- the race began
 abbrev pub HasBegun : Terms → Stock → Stock → Type 0

@@ -1,16 +1,13 @@
-ghost use Rattle.std.specs.Prelude.{◌≡◌, ◌↔◌, ◌<◌, ◌+◌, ◌-◌, ◌^◌, length, IfErr, IfOk, IsTrue, OnErr, OnOk};
+ghost use Rattle.std.specs.Prelude.{◌≡◌, ◌↔◌, ◌<◌, length, IfErr, IfOk, IsTrue, OnErr, OnOk};
 ghost use Rattle.ug_pool.specs.Pools.{entry_at};
-ghost use Rattle.ug_ranks.specs.States.{state_at};
-ghost use Rattle.ug_ranks.specs.declared.state.State.TheVariants.{Idle};
-ghost use Rattle.ug_rules.specs.State.{nodes_of};
-ghost use Rattle.ug_stock.specs.Assigning.{CanBeAssigned, HasAssignedAll, HasAssignedPart, IsAssigned, IsGivenFirst, KeepsPlaces};
+ghost use Rattle.ug_stock.specs.Assigning.{CanBeAssigned, HasAssignedAll, HasAssignedPart, IsAssigned, IsGivenFirst, IsPlaced, KeepsPlaces};
 
 use crate::firsts::{first_changes, take_first};
 use crate::stock::Stock;
-use crate::telling::{params_with, work_order};
+use crate::telling::{node_order, params_with};
 use crate::terms::{Stopped, Terms};
 use std::alloc::AllocError;
-use ug_nodes::{Changes, Ticket};
+use ug_nodes::Changes;
 
 impl Stock {
     /// Gives the least node of the pool to the lowest idle rank, while there are a rank, a node and
@@ -61,9 +58,7 @@ impl Stock {
     // works or not: so none need be counted. After an error nothing has changed.
     fn assign(&mut self, terms: Terms, rank: u32) -> Result<(), AllocError>
         requires there { rank < length self.old.ranks }
-        requires idle { state_at self.old.ranks rank ≡ Idle }
-        requires some { 0 < length self.old.pool.entries }
-        requires number { self.old.last < 2 ^ 64 - 1 }
+        requires can { CanBeAssigned rank self.old.ranks self.old.pool.entries self.old.last }
         ensures ok { OnOk result (IsAssigned terms rank self.old self.new) }
         ensures err { OnErr result (self.new ≡ self.old) }
     {
@@ -77,27 +72,19 @@ impl Stock {
     #[tactic(auto, using(crate::proofs::Places::one_works))]
     fn give_first(&mut self, terms: Terms, rank: u32, changes: Changes)
         requires there { rank < length self.old.ranks }
-        requires idle { state_at self.old.ranks rank ≡ Idle }
-        requires some { 0 < length self.old.pool.entries }
+        requires can { CanBeAssigned rank self.old.ranks self.old.pool.entries self.old.last }
         requires changes { changes ≡ (entry_at self.old.pool.entries 0).node.changes }
-        requires number { self.old.last < 2 ^ 64 - 1 }
         requires room { 0 < self.old.orders.spare }
         ensures given { IsGivenFirst terms rank self.old self.new }
-        ensures pool { self.new.pool.spare ≡ self.old.pool.spare + 1 }
-        ensures ranks { length (nodes_of self.new.ranks) ≡ length (nodes_of self.old.ranks) + 1 }
-        ensures orders { self.new.orders.spare + 1 ≡ self.old.orders.spare }
+        ensures placed { IsPlaced self.old self.new }
     {
         if let Some(entry) = take_first(&mut self.pool) {
             self.last += 1;
-            let params = params_with(0);
             self.orders
-                .push(work_order(terms, rank, self.last, params, false, changes));
-            let ticket = Ticket {
-                run: terms.run,
-                number: self.last,
-            };
+                .push(node_order(terms, rank, self.last, changes));
+            let ticket = terms.ticket(self.last);
             self.ranks
-                .give(rank, ticket, entry.node, entry.floor, params);
+                .give(rank, ticket, entry.node, entry.floor, params_with(0));
         }
     }
 }

@@ -1,7 +1,7 @@
-ghost use Rattle.std.specs.Prelude.{◌≡◌, ◌↔◌, ◌<◌, ◌≤◌, ◌+◌, ◌^◌, IsTrue, OnOk, OnErr, length};
-ghost use Rattle.ug_rules.specs.State.{BookState, nodes_of};
+ghost use Rattle.std.specs.Prelude.{◌≡◌, ◌↔◌, ◌<◌, ◌≤◌, IsTrue, OnOk, OnErr, length};
+ghost use Rattle.ug_rules.specs.State.{BookState};
 ghost use Rattle.ug_rules.specs.Deciding.{IsCollected, collected};
-ghost use Rattle.ug_stock.specs.Books.{CanBeTold, with_told};
+ghost use Rattle.ug_stock.specs.Books.{AreAtWork, CanBeTold, StayAtWork, with_told};
 ghost use Rattle.ug_stock.specs.Stocks.{HasRoom, with_stock};
 
 use crate::asking::{ask, ask_no_more};
@@ -56,16 +56,13 @@ fn tell(
     demand: Wanted,
     working: usize,
 ) -> Result<(), AllocError>
-    requires few { length ranks.old < 2 ^ 32 }
     requires told { CanBeTold (length ranks.old) demand }
-    requires working { length (nodes_of ranks.old) ≡ working }
-    requires room { length (nodes_of ranks.old) ≤ orders.old.spare }
+    requires working { AreAtWork working ranks.old orders.old }
     ensures ok { OnOk result ((b : BookState) → with_told b ranks.new orders.new.orders
         ≡ collected demand (with_told b ranks.old orders.old.orders)) }
     ensures ranks { OnErr result (ranks.new ≡ ranks.old) }
     ensures orders { OnErr result (orders.new ≡ orders.old) }
-    ensures room { length (nodes_of ranks.new) ≤ orders.new.spare }
-    ensures work { nodes_of ranks.new ≡ nodes_of ranks.old }
+    ensures working { StayAtWork ranks.old ranks.new orders.new }
 {
     // A place for each that is told, and for the Stop of each rank that works.
     match demand {

@@ -50,11 +50,10 @@ fn take_in(ranks: &mut Ranks, pool: &mut Pool, orders: &mut Queue, node: Node, f
     requires orders { length (stops_below node.line ranks.old) ≤ orders.old.spare }
     ensures pool { pool.new.entries ≡ with_entry (record { floor = floor; node = node })
         (without_below node.line pool.old.entries) }
-    ensures spare { pool.old.spare ≤ pool.new.spare + 1 }
     ensures ranks { ranks.new ≡ called_off node.line ranks.old }
     ensures orders { orders.new.orders ≡ orders.old.orders ++ stops_below node.line ranks.old }
-    ensures places { orders.new.spare + length (stops_below node.line ranks.old)
-        ≡ orders.old.spare }
+    ensures places { (pool.old.spare ≤ pool.new.spare + 1)
+        × (orders.new.spare + length (stops_below node.line ranks.old) ≡ orders.old.spare) }
 {
     pool.drop_below(&node.line);
     call_off(ranks, orders, &node.line);

@@ -2,7 +2,6 @@ ghost use Rattle.std.specs.Prelude.{IfErr, IfOk};
 ghost use Rattle.ug_stock.specs.Giving.{HasGivenAll, HasGivenPart};
 ghost use Rattle.ug_stock.specs.Stocks.{HasRoom};
 
-use crate::counting::count;
 use crate::stock::Stock;
 use crate::terms::{Stopped, Terms};
 use crate::turns::Turn;
@@ -23,8 +22,7 @@ impl Stock {
     {
         match self.turn(terms) {
             Turn::Race => {
-                let counts = count(&self.ranks);
-                let Ok(()) = self.begin_race(alloc, terms, counts) else {
+                let Ok(()) = self.begin_race(alloc, terms) else {
                     return Err(Stopped { steps: 0 });
                 };
                 Ok(1)

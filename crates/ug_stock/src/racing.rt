@@ -1,35 +1,23 @@
-ghost use Rattle.std.specs.Prelude.{◌≡◌, ◌<◌, ◌≤◌, ◌+◌, ◌%◌, ◌^◌, length, slice_set, OnErr, OnOk};
+ghost use Rattle.std.specs.Prelude.{◌≡◌, ◌<◌, ◌≤◌, ◌^◌, length, OnErr, OnOk};
 ghost use Rattle.ug_ranks.specs.States.{state_at};
-ghost use Rattle.ug_ranks.specs.declared.state.State.TheVariants.{Idle, Racing};
-ghost use Rattle.ug_ranks.specs.Changes.{racer_of};
+ghost use Rattle.ug_ranks.specs.declared.state.State.TheVariants.{Idle};
 ghost use Rattle.ug_ranks.specs.Looks.{is_idle};
-ghost use Rattle.ug_rules.specs.Deciding.{params_with};
-ghost use Rattle.ug_rules.specs.State.{nodes_of};
 ghost use Rattle.ug_rules.specs.Ranks.{ranks_that};
-ghost use Rattle.ug_stock.specs.Counting.{AreCounted};
-ghost use Rattle.ug_stock.specs.Racing.{HasBegun, HasJoinedRace, HaveJoinedRace, KeepsPoolAndRace};
+ghost use Rattle.ug_stock.specs.Racing.{HasBegun, HasTakenPart, HaveTakenPart};
 ghost use Rattle.ug_stock.specs.Stocks.{HasRoom};
-ghost use Rattle.ug_stock.specs.Telling.{ticket_under};
 
-use crate::counting::Counts;
+use crate::counting::count;
 use crate::firsts::{copies, take_first};
 use crate::stock::Stock;
-use crate::telling::{params_with, work_order};
+use crate::telling::{params_with, race_order};
 use crate::terms::Terms;
 use std::alloc::{AllocError, Global};
-use ug_nodes::{Changes, Ticket};
+use ug_nodes::Changes;
 
 impl Stock {
     /// The race for the pool's first node begins: all memory for it is taken first, so that it
     /// begins whole. After an error nothing has changed.
-    pub fn begin_race(
-        &mut self,
-        alloc: Global,
-        terms: Terms,
-        counts: Counts,
-    ) -> Result<(), AllocError>
-        requires counts { AreCounted self.old.ranks counts }
-        requires small { counts.idle + counts.working < 2 ^ 64 }
+    pub fn begin_race(&mut self, alloc: Global, terms: Terms) -> Result<(), AllocError>
         requires first { self.old.last ≡ 0 }
         requires room { HasRoom self.old }
         ensures ok { OnOk result (HasBegun terms self.old self.new) }
@@ -39,6 +27,7 @@ impl Stock {
         let Some(first) = self.pool.first() else {
             return Ok(());
         };
+        let counts = count(&self.ranks);
         let boxes = copies(alloc, &first.node.changes, counts.idle)?;
         self.orders.reserve(counts.idle + counts.working)?;
         if let Some(entry) = take_first(&mut self.pool) {
@@ -53,11 +42,7 @@ impl Stock {
         requires first { self.old.last ≡ 0 }
         requires boxes { length boxes.items ≡ length (ranks_that is_idle self.old.ranks) }
         requires room { length (ranks_that is_idle self.old.ranks) ≤ self.old.orders.spare }
-        ensures joined { HaveJoinedRace terms boxes.items self.old self.new }
-        ensures nodes { length (nodes_of self.new.ranks) ≡ length (nodes_of self.old.ranks) }
-        ensures orders { self.new.orders.spare + length (ranks_that is_idle self.old.ranks)
-            ≡ self.old.orders.spare }
-        ensures kept { KeepsPoolAndRace self.old self.new }
+        ensures part { HaveTakenPart terms boxes.items self.old self.new }
     {
         let mut boxes = boxes;
         for rank in 0..self.ranks.as_slice().len() as u32 {
@@ -77,21 +62,12 @@ impl Stock {
         requires idle { state_at self.old.ranks rank ≡ Idle }
         requires number { self.old.last < 2 ^ 32 }
         requires room { 0 < self.old.orders.spare }
-        ensures joined { HasJoinedRace terms rank changes self.old self.new }
-        ensures ranks { self.new.ranks ≡ slice_set self.old.ranks rank
-            (Racing (racer_of (ticket_under terms (self.old.last + 1)) (params_with (rank % 8)))) }
-        ensures last { self.new.last ≡ self.old.last + 1 }
-        ensures orders { self.new.orders.spare + 1 ≡ self.old.orders.spare }
-        ensures kept { KeepsPoolAndRace self.old self.new }
+        ensures part { HasTakenPart terms rank changes self.old self.new }
     {
         self.last += 1;
-        let params = params_with((rank % 8) as u8);
         self.orders
-            .push(work_order(terms, rank, self.last, params, true, changes));
-        let ticket = Ticket {
-            run: terms.run,
-            number: self.last,
-        };
-        self.ranks.race(rank, ticket, params);
+            .push(race_order(terms, rank, self.last, changes));
+        let ticket = terms.ticket(self.last);
+        self.ranks.race(rank, ticket, params_with((rank % 8) as u8));
     }
 }

@@ -1,44 +1,54 @@
-ghost use Rattle.std.specs.Prelude.{◌≡◌, ◌<◌, ◌≤◌, ◌+◌, ◌*◌, ◌^◌, length, IfOk, OnOk, OnErr, unsigned_abs};
-ghost use Rattle.ug_rows.specs.Rows.{IsLinear};
-ghost use Rattle.ug_rows.specs.Sums.{box_floor};
-ghost use Rattle.ug_nodes.specs.Changes.{AreChangesOf};
+ghost use Rattle.std.specs.Prelude.{◌≡◌, ◌<◌, length, IfOk, OnOk, OnErr};
+ghost use Rattle.ug_problem.specs.Instances.{root_of};
 ghost use Rattle.ug_ranks.specs.States.{state_at};
-ghost use Rattle.ug_stock.specs.Hands.{IsHandTaken, IsLineOfNext, IsNothingTaken, IsWorking};
+ghost use Rattle.ug_rules.specs.State.{BookState};
+ghost use Rattle.ug_rules.specs.Hearing.{handed_at};
+ghost use Rattle.ug_stock.specs.Hands.{CanBeTaken, IsHandTaken, IsLineOfNext, IsNothingTaken, IsWorking};
+ghost use Rattle.ug_stock.specs.Stocks.{HasRoom, with_stock};
 
+use crate::run::Run;
+use crate::stock::Stock;
 use std::alloc::{AllocError, Global};
-use ug_nodes::{Changes, Line, Name, Node, area_of, floor_of_changes};
+use ug_nodes::{Changes, Line, Name, Node, area_of};
 use ug_pool::Pool;
 use ug_ranks::{Ranks, State};
-use ug_rows::{IntBox, Objective};
 
-/// Takes a hand of a rank that works: a node with these changes is in the pool, in a place that was
-/// spare, with its floor, and its box is noted. All memory is taken before anything changes, so
-/// after an error nothing has.
-pub fn take(
-    alloc: Global,
+impl Stock {
+    /// Takes a hand of a rank that works: a node with these changes is in the pool, with its floor,
+    /// and its box is noted. The pool gets room for one node more than can be out: one of each
+    /// rank, and one that is raced; so none need be counted. After an error nothing has changed.
+    pub fn take_hand(&mut self, run: &Run, rank: u32, changes: Changes) -> Result<(), AllocError>
+        requires hand { CanBeTaken run.now rank changes self.old.ranks }
+        requires room { HasRoom self.old }
+        ensures ok { OnOk result ((b : BookState) → b.problem ≡ run.now.problem
+            → with_stock b self.new
+            ≡ handed_at (state_at self.old.ranks rank) rank changes (with_stock b self.old)) }
+        ensures err { OnErr result ((b : BookState)
+            → with_stock b self.new ≡ with_stock b self.old) }
+        ensures room { HasRoom self.new }
+    {
+        self.pool.reserve(self.ranks.as_slice().len() + 2)?;
+        take(run, &mut self.ranks, &mut self.pool, rank, changes)
+    }
+}
+
+// The same, in a place of the pool that is spare. All memory is taken before anything changes.
+fn take(
+    run: &Run,
     ranks: &mut Ranks,
     pool: &mut Pool,
-    objective: &Objective,
-    root: &IntBox,
-    root_floor: i128,
     rank: u32,
     changes: Changes,
 ) -> Result<(), AllocError>
-    requires there { rank < length ranks.old }
-    requires working { IsWorking (state_at ranks.old rank) }
-    requires terms { IsLinear (length root.now) objective.now.terms }
-    requires constant { unsigned_abs objective.now.constant ≤ 10 ^ 37 }
-    requires floor { root_floor ≡ box_floor objective.now root.now }
-    requires small { unsigned_abs root_floor ≤ 4 * 10 ^ 37 }
-    requires changes { AreChangesOf root.now changes }
+    requires hand { CanBeTaken run.now rank changes ranks.old }
     requires room { 0 < pool.old.spare }
-    ensures ok { OnOk result (IsHandTaken objective.now root.now rank changes
-        ranks.old pool.old ranks.new pool.new) }
+    ensures ok { OnOk result (IsHandTaken run.now.problem.objective (root_of run.now.problem)
+        rank changes ranks.old pool.old ranks.new pool.new) }
     ensures err { OnErr result (IsNothingTaken ranks.old pool.old ranks.new pool.new) }
 {
-    let line = child_line(alloc, ranks, rank)?;
-    let floor = floor_of_changes(objective, root, root_floor, &changes);
-    let Ok(area) = area_of(alloc, root, &changes) else {
+    let line = child_line(run.alloc, ranks, rank)?;
+    let floor = run.floor_of(&changes);
+    let Ok(area) = area_of(run.alloc, run.problem.problem().root(), &changes) else {
         return Err(AllocError);
     };
     ranks.take(rank, area)?;

@@ -1,33 +1,41 @@
-ghost use Rattle.std.specs.Prelude.{◌≡◌, ◌<◌};
+ghost use Rattle.std.specs.Prelude.{◌≡◌, ◌<◌, ◌%◌, true, false};
 ghost use Rattle.ug_rules.specs.Deciding.{params_with};
 ghost use Rattle.ug_stock.specs.Telling.{told_under};
 
 use crate::terms::Terms;
 use ug_branch::Params;
 use ug_frames::Order;
-use ug_nodes::{Changes, Ticket};
+use ug_nodes::Changes;
 use ug_rules::Told;
 
-/// The order for a rank to work on the box of these changes, under the ticket of this number.
-pub fn work_order(
-    terms: Terms,
-    rank: u32,
-    number: u64,
-    params: Params,
-    race: bool,
-    changes: Changes,
-) -> Told
-    ensures { result ≡ told_under terms rank number params race changes }
+/// The order for a rank to work on the box of these changes, under the ticket of this number, with
+/// the first params.
+pub fn node_order(terms: Terms, rank: u32, number: u64, changes: Changes) -> Told
+    ensures { result ≡ told_under terms rank number (params_with 0) false changes }
 {
     Told {
         rank,
         order: Order::Work {
-            ticket: Ticket {
-                run: terms.run,
-                number,
-            },
-            params,
-            race,
+            ticket: terms.ticket(number),
+            params: params_with(0),
+            race: false,
+            cutoff: terms.cutoff,
+            changes,
+        },
+    }
+}
+
+/// The order for a rank to race for the box of these changes, under the ticket of this number, with
+/// params of its own.
+pub fn race_order(terms: Terms, rank: u32, number: u64, changes: Changes) -> Told
+    ensures { result ≡ told_under terms rank number (params_with (rank % 8)) true changes }
+{
+    Told {
+        rank,
+        order: Order::Work {
+            ticket: terms.ticket(number),
+            params: params_with((rank % 8) as u8),
+            race: true,
             cutoff: terms.cutoff,
             changes,
         },

@@ -1,3 +1,8 @@
+ghost use Rattle.std.specs.Prelude.{◌≡◌};
+ghost use Rattle.ug_stock.specs.Telling.{ticket_under};
+
+use ug_nodes::Ticket;
+
 /// What is given out under.
 #[derive(Clone, Copy)]
 pub struct Terms {
@@ -6,6 +11,18 @@ pub struct Terms {
     pub racing: bool,
     /// The incumbent's cutoff.
     pub cutoff: Option<i128>,
+}
+
+impl Terms {
+    /// The ticket of this number.
+    pub fn ticket(self, number: u64) -> Ticket
+        ensures { result ≡ ticket_under self number }
+    {
+        Ticket {
+            run: self.run,
+            number,
+        }
+    }
 }
 
 /// Memory ran out after so many steps, which stand.

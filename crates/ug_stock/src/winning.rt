@@ -1,8 +1,8 @@
-ghost use Rattle.std.specs.Prelude.{◌≡◌, ◌<◌, ◌≤◌, ◌+◌, ℕ, None, IsOk, IsSome, OnOk, OnErr, length};
-ghost use Rattle.ug_ranks.specs.States.{IsRacing, state_at};
-ghost use Rattle.ug_rules.specs.State.{BookState, nodes_of};
+ghost use Rattle.std.specs.Prelude.{◌≡◌, ◌≤◌, ◌+◌, None, IsOk, IsSome, OnOk, OnErr, length};
+ghost use Rattle.ug_ranks.specs.States.{state_at};
+ghost use Rattle.ug_rules.specs.State.{BookState};
 ghost use Rattle.ug_rules.specs.Deciding.{IsRaceEnded, loser_stops, race_won, winner_order};
-ghost use Rattle.ug_stock.specs.Races.{StandsAlone};
+ghost use Rattle.ug_stock.specs.Races.{IsRaceOver, IsRacer, StandsAlone};
 ghost use Rattle.ug_stock.specs.Stocks.{HasRoom, with_stock};
 
 use crate::ending::crown;
@@ -43,8 +43,7 @@ impl Stock {
 
 // The racer wins the race for the node that is raced.
 fn win_race(ranks: &mut Ranks, orders: &mut Queue, raced: &mut Option<Entry>, rank: u32)
-    requires there { rank < length ranks.old }
-    requires racing { IsRacing (state_at ranks.old rank) }
+    requires racer { IsRacer rank ranks.old }
     requires raced { IsSome raced.old }
     requires room { length (winner_order rank (state_at ranks.old rank))
         + length (loser_stops rank ranks.old) ≤ orders.old.spare }
@@ -54,8 +53,7 @@ fn win_race(ranks: &mut Ranks, orders: &mut Queue, raced: &mut Option<Entry>, ra
         (record b { ranks = ranks.old; raced = raced.old; orders = orders.old.orders }) }
     ensures places { orders.new.spare + (length (winner_order rank (state_at ranks.old rank))
         + length (loser_stops rank ranks.old)) ≡ orders.old.spare }
-    ensures work { length (nodes_of ranks.new) ≤ length (nodes_of ranks.old) + 1 }
-    ensures none { raced.new ≡ None }
+    ensures over { IsRaceOver ranks.old ranks.new raced.new }
 {
     if let Some(entry) = raced.take() {
         crown(ranks, orders, entry.node, entry.floor, rank);

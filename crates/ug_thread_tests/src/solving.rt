@@ -1,21 +1,18 @@
 //! Solves of small problems.
 
-ghost use Rattle.std.specs.Prelude.{◌≡◌, ◌<◌, [], ◌∷◌, IfOk};
 ghost use Rattle.ug_rules.specs.Books.{AreSettings};
-ghost use Rattle.ug_snapshot.specs.Openings.{IsMade};
 
 use crate::answer::{Answer, answer_of};
 use crate::problems::{Small, made};
-use std::alloc::{AllocError, Global};
+use std::alloc::Global;
 use std::sync::Wait;
 use std::thread::Threads;
-use ug_book::{Book, Boxes};
+use ug_book::Opening;
 use ug_disk::{MemoryDisk, Script};
-use ug_nodes::Changes;
 use ug_problem::Shared;
-use ug_restart::{Outcome, begin};
+use ug_restart::{Outcome, Start, begin};
 use ug_rules::Settings;
-use ug_threads::{Gate, OpenGate, solve_threads};
+use ug_threads::{Gate, Host, OpenGate, solve_threads};
 
 /// One box in the pool is enough, each delivery is followed by a snapshot, and so many may be
 /// heard.
@@ -32,23 +29,6 @@ pub fn settings(solvers: u32, racing: bool, limit: u64) -> Settings
         winner: 20,
         gap: 0,
     }
-}
-
-fn root(alloc: Global) -> Result<Boxes, AllocError>
-    ensures { IfOk result (λ boxes. boxes ≡ [] ∷ []) }
-{
-    let mut boxes = Boxes::new(alloc);
-    boxes.push(Changes::new(Vec::new(alloc)))?;
-    Ok(boxes)
-}
-
-#[tactic(auto, using(ug_snapshot::proofs::Beginnings::made_so))]
-fn book(alloc: Global, problem: Shared, settings: Settings) -> Result<Book, AllocError>
-    requires { AreSettings settings }
-    ensures { IfOk result IsMade }
-{
-    let boxes = root(alloc)?;
-    Book::new(alloc, problem, 1, None, boxes, settings)
 }
 
 /// A disk with nothing on it, of whose calls these fail, and all after these.
@@ -73,12 +53,13 @@ pub fn solved_without<R: Threads + Wait + Sync, G: Gate>(
     requires { AreSettings settings }
 {
     let problem = made(alloc, small)?;
-    let Ok(book) = book(alloc, Shared::own(problem), settings) else {
+    let Ok(opening) = Opening::new(alloc, Shared::own(problem), 1, settings) else {
         return None;
     };
     let mut disk = sound_disk(alloc);
-    let outcome = solve_threads(rt, alloc, book, None, &mut disk, gate);
+    let outcome = solve_threads(&Host { rt, alloc, gate }, &opening, None, &mut disk);
     let calls = disk.calls();
+    drop(opening);
     drop(disk);
     if calls == 0 {
         Some(outcome)
@@ -114,13 +95,13 @@ pub fn solved_on<R: Threads + Wait + Sync>(
     disk: &mut MemoryDisk,
 ) -> Option<Outcome> {
     let problem = made(alloc, small)?;
-    match begin(
-        alloc,
-        disk,
-        Shared::own(problem),
-        settings(3, false, u64::MAX),
-    ) {
-        Ok((book, saver)) => { Some(solve_threads(rt, alloc, book, Some(saver), disk, &OpenGate)) }
-        Err(_) => None,
-    }
+    let settings = settings(3, false, u64::MAX);
+    let Ok(start) = begin(alloc, disk, Shared::own(problem), settings) else {
+        return None;
+    };
+    let Start { opening, saver } = start;
+    let gate = &OpenGate;
+    let outcome = solve_threads(&Host { rt, alloc, gate }, &opening, Some(saver), disk);
+    drop(opening);
+    Some(outcome)
 }

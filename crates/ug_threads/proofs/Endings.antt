@@ -5,8 +5,8 @@ use Rattle.ug_rules.specs.Books.{IsSoundBook}
 use Rattle.ug_book.proofs.Starts.{start_is_sound}
 use Rattle.ug_restart.specs.declared.outcome.End.{End}
 use Rattle.ug_restart.specs.declared.outcome.End.TheVariants.{Answered, Limited, Stranded, Memory}
-use Rattle.ug_snapshot.specs.declared.opening.Opening.{Opening}
-use Rattle.ug_snapshot.specs.Openings.{IsCoveredOpening, opening_book}
+use Rattle.ug_book.specs.declared.opening.Opening.{Opening}
+use Rattle.ug_book.specs.Openings.{IsCoveredOpening, opening_book}
 use Rattle.ug_threads.specs.Ends.{IfAnswered, IfBook, IfLimited, IsEnding, IsLimited, IsReplayOf, IsRight, IsStranded}
 use Rattle.ug_threads.specs.Outcomes.{HasEnded}
 

@@ -1,3 +1,2 @@
-mod Starting
 mod Endings
 mod Outcomes

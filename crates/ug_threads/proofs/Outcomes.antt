@@ -8,8 +8,8 @@ use Rattle.ug_rules.specs.State.{BookState}
 use Rattle.ug_rules.specs.Books.{IsSoundBook}
 use Rattle.ug_restart.specs.declared.outcome.End.{End}
 use Rattle.ug_restart.specs.declared.outcome.End.TheVariants.{Answered, Limited, Stranded, Memory}
-use Rattle.ug_snapshot.specs.declared.opening.Opening.{Opening}
-use Rattle.ug_snapshot.specs.Openings.{IsCoveredOpening, opening_book}
+use Rattle.ug_book.specs.declared.opening.Opening.{Opening}
+use Rattle.ug_book.specs.Openings.{IsCoveredOpening, opening_book}
 use Rattle.ug_restart.specs.declared.saves.Saves.{Saves}
 use Rattle.ug_restart.specs.Saves.{IsOfBook, NoneIsCounted, begun, missed_of, opening_of, saver_of, unsaved_of}
 use Rattle.ug_restart.specs.Moments.{AllCovered, FindsOne, IsCoveredFind, IsCoveredNow}

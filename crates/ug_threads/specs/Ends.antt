@@ -3,8 +3,8 @@ use Rattle.std.specs.Prelude.{◌≡◌, ◌≢◌, ◌≤◌, []}
 use Rattle.ug_problem.specs.Right.{Right}
 use Rattle.ug_ledger.specs.Answers.{answer_of}
 use Rattle.ug_rules.specs.State.{BookState, held_nodes}
-use Rattle.ug_snapshot.specs.declared.opening.Opening.{Opening}
-use Rattle.ug_snapshot.specs.Openings.{opening_book}
+use Rattle.ug_book.specs.declared.opening.Opening.{Opening}
+use Rattle.ug_book.specs.Openings.{opening_book}
 use Rattle.ug_desk.specs.Entries.{IsLocked, LockedState}
 use Rattle.ug_restart.specs.declared.outcome.End.{End}
 use Rattle.ug_restart.specs.declared.outcome.End.TheVariants.{Answered, Limited, Stranded, Memory}

@@ -1,6 +1,6 @@
 -- That listening goes on: the laws of what a listener becomes.
 use Rattle.std.proofs.Common.{◌≡◌, ◌∙◌, refl, subst, sym}
-use Rattle.ug_snapshot.specs.Openings.{IsCoveredOpening}
+use Rattle.ug_book.specs.Openings.{IsCoveredOpening}
 use Rattle.ug_restart.specs.Saves.{opening_of}
 use Rattle.ug_restart.specs.Going.{GoesOn, Time}
 use Rattle.ug_restart.proofs.Going.{goes_nowhere, goes_on, goes_where}

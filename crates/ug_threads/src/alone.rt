@@ -1,61 +1,30 @@
 //! A solve by the caller alone, without a desk.
 
-ghost use Rattle.std.specs.Prelude.{◌≡◌, ◌<◌, ◌↔◌, [], length, IfOk, IfSome, IsTrue};
-ghost use Rattle.ug_rules.specs.Books.{IsBook};
-ghost use Rattle.ug_snapshot.specs.Openings.{opening_book};
+ghost use Rattle.std.specs.Prelude.{◌≡◌, ◌<◌, ◌↔◌, length, IfSome, IsTrue};
+ghost use Rattle.ug_book.specs.Openings.{IsOpening};
 ghost use Rattle.ug_threads.specs.Ends.{IsEnding};
 
 use crate::ending::of_opening;
-use std::alloc::{AllocError, Global};
+use std::alloc::Global;
 use std::sync::Wait;
 use ug_base::Task;
-use ug_book::{Book, Unfinished};
+use ug_book::{Book, Opening, Unfinished};
 use ug_desk::Locked;
 use ug_rows::{IntBox, Point};
 use ug_rules::Heard;
-use ug_snapshot::{Opening, copy_opening};
 use ug_worker::{Reply, Seat, Took, Untaken, work};
 
 /// The ending book of a run that begins with the opening, in which rank 0 alone works.
 pub fn alone<R: Wait>(rt: &R, alloc: Global, opening: &Opening) -> Option<Book>
-    requires { IsBook (opening_book opening.now) }
+    requires { IsOpening opening.now }
     ensures { IfSome result (IsEnding opening.now) }
 {
-    let locked = begun_again(alloc, opening).ok()?;
+    let copy = opening.copy().ok()?;
+    let locked = Locked::new(alloc, copy).ok()?;
     let mut seat = OwnSeat { locked };
     seat.send_away();
     work(rt, &mut seat);
     of_opening(seat.locked, opening)
-}
-
-// The value of a desk over a book that was made anew of the opening.
-fn begun_again(alloc: Global, opening: &Opening) -> Result<Locked, AllocError>
-    requires { IsBook (opening_book opening.now) }
-{
-    let copy = copy_opening(opening)?;
-    match book_again(alloc, opening) {
-        Ok(book) => Locked::new(alloc, copy, book),
-        Err(error) => {
-            drop(copy);
-            Err(error)
-        }
-    }
-}
-
-// The book that starts with the opening.
-fn book_again(alloc: Global, opening: &Opening) -> Result<Book, AllocError>
-    requires { IsBook (opening_book opening.now) }
-    ensures { IfOk result (λ book. book ≡ opening_book opening.now) }
-{
-    let parts = copy_opening(opening)?;
-    Book::new(
-        alloc,
-        parts.problem,
-        parts.run,
-        parts.best,
-        parts.boxes,
-        parts.settings,
-    )
 }
 
 // The seat of rank 0 of a book that nobody shares.

@@ -2,6 +2,7 @@
 
 use crate::desk_seat::DeskSeat;
 use crate::gate::Gate;
+use crate::host::Host;
 use crossbeam_channel::Sender;
 use std::alloc::{AllocError, Global};
 use std::sync::{Mutex, Wait};
@@ -28,21 +29,26 @@ pub fn passes(alloc: Global, places: Vec<Mutex<Pass>>) -> Result<Vec<Pass>, Allo
     Ok(passes)
 }
 
+/// Where the workers sit: the desk, the place of each pass, and after how many deliveries of a pass a
+/// snapshot is wanted, if any is.
+#[derive(Clone, Copy)]
+pub struct Table<'a> {
+    pub desk: &'a Desk,
+    pub places: &'a [Mutex<Pass>],
+    pub every: Option<u64>,
+}
+
 /// Starts a thread for each pass. One whose thread was not started leaves; where none was started
 /// the caller works with the first. No sender is left but those of the threads.
 pub fn start<'s, E, R: Threads + Wait + Sync, G: Gate>(
     scope: &'s Scope<'s, E>,
-    rt: &'s R,
-    alloc: Global,
-    desk: &'s Desk,
-    places: &'s [Mutex<Pass>],
-    gate: &'s G,
+    host: &'s Host<'s, R, G>,
+    table: Table<'s>,
     sender: Sender<Snapshot>,
-    every: Option<u64>,
 ) {
-    let started = start_each(scope, rt, alloc, desk, places, gate, &sender, every);
-    match places.first() {
-        Some(place) if started == 0 => sit(rt, alloc, desk, place, gate, Some(sender), every),
+    let started = start_each(scope, host, table, &sender);
+    match table.places.first() {
+        Some(place) if started == 0 => sit(host, table.desk, place, Some(sender), table.every),
         _ => drop(sender),
     }
 }
@@ -50,22 +56,20 @@ pub fn start<'s, E, R: Threads + Wait + Sync, G: Gate>(
 // Starts a thread for each pass, and says how many were started. One whose thread was not leaves.
 fn start_each<'s, E, R: Threads + Wait + Sync, G: Gate>(
     scope: &'s Scope<'s, E>,
-    rt: &'s R,
-    alloc: Global,
-    desk: &'s Desk,
-    places: &'s [Mutex<Pass>],
-    gate: &'s G,
+    host: &'s Host<'s, R, G>,
+    table: Table<'s>,
     sender: &Sender<Snapshot>,
-    every: Option<u64>,
 ) -> u32 {
     let mut started = 0u32;
-    for place in places {
+    let desk = table.desk;
+    let every = table.every;
+    for place in table.places {
         let own = sender_for(sender, every);
-        let spawned = scope.spawn(move || sit(rt, alloc, desk, place, gate, own, every));
+        let spawned = scope.spawn(move || sit(host, desk, place, own, every));
         if spawned.is_ok() {
             started = started.saturating_add(1);
         } else {
-            desk.leave(rt, &mut place.lock(rt));
+            desk.leave(host.rt, &mut place.lock(host.rt));
         }
         drop(spawned);
     }
@@ -80,25 +84,23 @@ fn sender_for(sender: &Sender<Snapshot>, every: Option<u64>) -> Option<Sender<Sn
 
 // A worker with the pass of this place.
 fn sit<R: Wait, G: Gate>(
-    rt: &R,
-    alloc: Global,
+    host: &Host<'_, R, G>,
     desk: &Desk,
     place: &Mutex<Pass>,
-    gate: &G,
     sender: Option<Sender<Snapshot>>,
     every: Option<u64>,
 ) {
-    let mut pass = place.lock(rt);
+    let mut pass = place.lock(host.rt);
     let mut seat = DeskSeat {
-        rt,
-        alloc,
+        rt: host.rt,
+        alloc: host.alloc,
         desk,
         pass: &mut pass,
-        gate,
+        gate: host.gate,
         sender,
         every: every.unwrap_or(0),
         seen: 0,
     };
-    work(rt, &mut seat);
+    work(host.rt, &mut seat);
     drop(seat);
 }

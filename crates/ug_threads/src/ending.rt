@@ -5,10 +5,9 @@ ghost use Rattle.ug_rules.specs.State.{held_nodes};
 ghost use Rattle.ug_rules.specs.Books.{IsSoundBook};
 ghost use Rattle.ug_threads.specs.Ends.{IfAnswered, IfBook, IfLimited, IsEnding, IsLimited, IsRight, IsStranded};
 
-use ug_book::Book;
+use ug_book::{Book, Opening};
 use ug_desk::Locked;
 use ug_restart::End;
-use ug_snapshot::Opening;
 
 /// The book of what was behind a lock, if it began with this opening.
 pub fn of_opening(locked: Locked, opening: &Opening) -> Option<Book>

@@ -1,6 +1,6 @@
 ghost use Rattle.std.specs.Prelude.{◌≡◌};
 ghost use Rattle.ug_checkpoint.specs.Savers.{IsKept};
-ghost use Rattle.ug_snapshot.specs.Openings.{IsCoveredOpening};
+ghost use Rattle.ug_book.specs.Openings.{IsCoveredOpening};
 ghost use Rattle.ug_restart.specs.Saves.{opening_of, saver_of};
 ghost use Rattle.ug_restart.specs.Going.{GoesOn, time};
 ghost use Rattle.ug_threads.specs.Listening.{nothing_heard, one_after_another, unheard, heard_both};

@@ -1,17 +1,17 @@
 use crate::gate::{Gate, Standing};
 use std::alloc::Global;
-use ug_book::Book;
+use ug_book::Opening;
 use ug_image::Image;
 use ug_problem::Problem;
 use ug_rows::Point;
 
-/// Tells the gate that a run of the book begins.
-pub fn tell_begin<G: Gate>(gate: &G, book: &Book) {
-    let problem = book.problem().problem();
+/// Tells the gate that a run begins.
+pub fn tell_begin<G: Gate>(gate: &G, opening: &Opening) {
+    let problem = opening.problem.problem();
     gate.begin(
         problem.columns().len(),
         problem.rows().len(),
-        book.settings().solvers,
+        opening.settings.solvers,
     );
 }
 

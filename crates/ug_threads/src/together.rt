@@ -1,23 +1,23 @@
 //! A solve by threads that share a desk.
 
-ghost use Rattle.std.specs.Prelude.{◌≡◌, IfSome};
-ghost use Rattle.ug_rules.specs.Books.{IsBook};
-ghost use Rattle.ug_snapshot.specs.Openings.{IsMade, opening_book};
+ghost use Rattle.std.specs.Prelude.{IfSome};
+ghost use Rattle.ug_book.specs.Openings.{IsOpening};
 ghost use Rattle.ug_threads.specs.Ends.{IsEnding};
 
 use crate::alone::alone;
-use crate::crew::{passes, places, start};
+use crate::crew::{Table, passes, places, start};
 use crate::ending::of_opening;
 use crate::gate::Gate;
+use crate::host::Host;
 use crate::listener::{Listener, listen};
 use crossbeam_channel::{Receiver, Sender, bounded};
 use std::alloc::{AllocError, Global};
 use std::sync::{Mutex, Wait};
 use std::thread;
 use std::thread::Threads;
-use ug_book::Book;
+use ug_book::{Book, Opening};
 use ug_desk::{Desk, Pass};
-use ug_snapshot::{Opening, Snapshot};
+use ug_snapshot::Snapshot;
 
 /// How many snapshots may wait to be saved. Where so many do, no other is made.
 const WAITING: usize = 2;
@@ -32,46 +32,39 @@ pub struct Solved<T> {
 /// Solves by threads. Where there is no desk, or what was behind its lock began with another
 /// opening, which the lock's type does not rule out, the caller solves alone, from the opening.
 pub fn solve<R: Threads + Wait + Sync, G: Gate, T: Listener + Drop>(
-    rt: &R,
-    alloc: Global,
-    book: Book,
+    host: &Host<'_, R, G>,
     opening: &Opening,
-    gate: &G,
     every: Option<u64>,
     listener: T,
 ) -> Solved<T>
-    requires made { IsMade book }
-    requires opening { IsBook (opening_book opening.now) }
+    requires opening { IsOpening opening.now }
     requires ready { T.ready listener }
     ensures ended { IfSome result.book (IsEnding opening.now) }
     ensures ready { T.ready result.listener }
     ensures moves { T.moves listener result.listener }
 {
-    let Solved { book, listener } = at_desk(rt, alloc, book, opening, gate, every, listener);
+    let Solved { book, listener } = at_desk(host, opening, every, listener);
     let book = match book {
         Some(book) => Some(book),
-        None => alone(rt, alloc, opening),
+        None => alone(host.rt, host.alloc, opening),
     };
     Solved { book, listener }
 }
 
 // Solves by threads at a desk. There is no book where memory is wanting for desk or threads.
 fn at_desk<R: Threads + Wait + Sync, G: Gate, T: Listener + Drop>(
-    rt: &R,
-    alloc: Global,
-    book: Book,
+    host: &Host<'_, R, G>,
     opening: &Opening,
-    gate: &G,
     every: Option<u64>,
     listener: T,
 ) -> Solved<T>
-    requires made { IsMade book }
+    requires opening { IsOpening opening.now }
     requires ready { T.ready listener }
     ensures ended { IfSome result.book (IsEnding opening.now) }
     ensures ready { T.ready result.listener }
     ensures moves { T.moves listener result.listener }
 {
-    let Ok(room) = make_room(alloc, book) else {
+    let Ok(room) = make_room(host.alloc, opening) else {
         return Solved {
             book: None,
             listener,
@@ -83,19 +76,14 @@ fn at_desk<R: Threads + Wait + Sync, G: Gate, T: Listener + Drop>(
         sender,
         receiver,
     } = seating;
-    let listener = run(
-        rt,
-        alloc,
-        &desk,
-        places.as_slice(),
-        gate,
-        sender,
-        &receiver,
+    let table = Table {
+        desk: &desk,
+        places: places.as_slice(),
         every,
-        listener,
-    );
+    };
+    let listener = run(host, table, sender, &receiver, listener);
     Solved {
-        book: closed(alloc, desk, places, opening),
+        book: closed(host.alloc, desk, places, opening),
         listener,
     }
 }
@@ -115,10 +103,10 @@ struct Seating {
     receiver: Receiver<Snapshot>,
 }
 
-fn make_room(alloc: Global, book: Book) -> Result<Room, AllocError>
-    requires { IsMade book }
+fn make_room(alloc: Global, opening: &Opening) -> Result<Room, AllocError>
+    requires { IsOpening opening.now }
 {
-    let (desk, passes) = Desk::new(alloc, book)?;
+    let (desk, passes) = Desk::new(alloc, opening.copy()?)?;
     match make_seating(alloc, passes) {
         Ok(seating) => Ok(Room { desk, seating }),
         Err(error) => {
@@ -145,14 +133,10 @@ fn make_seating(alloc: Global, passes: Vec<Pass>) -> Result<Seating, AllocError>
 
 // Runs the workers to their end, while the caller listens.
 fn run<R: Threads + Wait + Sync, G: Gate, T: Listener + Drop>(
-    rt: &R,
-    alloc: Global,
-    desk: &Desk,
-    places: &[Mutex<Pass>],
-    gate: &G,
+    host: &Host<'_, R, G>,
+    table: Table<'_>,
     sender: Sender<Snapshot>,
     receiver: &Receiver<Snapshot>,
-    every: Option<u64>,
     listener: T,
 ) -> T
     requires { T.ready listener }
@@ -161,14 +145,14 @@ fn run<R: Threads + Wait + Sync, G: Gate, T: Listener + Drop>(
 {
     thread::scope(
         thread::scope_env(),
-        rt,
+        host.rt,
         move |scope| -> T
             requires { T.ready listener }
             ensures ready { T.ready result }
             ensures moves { T.moves listener result }
         {
-            start(scope, rt, alloc, desk, places, gate, sender, every);
-            listen(rt, listener, receiver)
+            start(scope, host, table, sender);
+            listen(host.rt, listener, receiver)
         },
     )
 }

@@ -12,25 +12,22 @@ use crate::outcome::{tell_fault, tell_outcome};
 use crate::reading::read_problem;
 use crate::settings::settings_for;
 use crate::show::show;
-use std::alloc::Global;
 use std::sync::Wait;
 use std::thread::Threads;
 use ug_cli::{Plan, Restart, Settings as Asked, Solve};
 use ug_disk::Disk;
 use ug_io::Source;
 use ug_problem::Shared;
-use ug_threads::Gate;
+use ug_threads::{Gate, Host};
 
 /// Does what the plan asks for, up to the lines, which it does not write: it reads the source,
 /// runs, and saves to the disk, each as far as the plan has it.
 #[tactic(auto, using(crate::proofs::Gathered::has_stopped, crate::proofs::Gathered::stops_unread))]
 pub fn run_plan<R: Threads + Wait + Sync, S: Source, D: Disk, G: Gate>(
-    rt: &R,
-    alloc: Global,
+    host: &Host<'_, R, G>,
     plan: &Plan<'_>,
     input: &mut S,
     disk: &mut D,
-    gate: &G,
 ) -> Ended
     requires { IsPlannedOf plan.now }
     ensures lines { AreLinesOf plan.now
@@ -46,22 +43,20 @@ pub fn run_plan<R: Threads + Wait + Sync, S: Source, D: Disk, G: Gate>(
     ensures stopped { HasStopped (S.left input.old) (S.left input.new) result }
 {
     match plan {
-        Plan::Solve(solve) => run_solve(rt, alloc, solve, input, disk, gate),
-        Plan::Restart(restart) => run_restart(rt, alloc, restart, input, disk, gate),
-        Plan::Show(_) => show(alloc, disk),
-        Plan::Gen(asked) => run_made(rt, alloc, asked, disk, gate),
+        Plan::Solve(solve) => run_solve(host, solve, input, disk),
+        Plan::Restart(restart) => run_restart(host, restart, input, disk),
+        Plan::Show(_) => show(host.alloc, disk),
+        Plan::Gen(asked) => run_made(host, asked, disk),
     }
 }
 
 // Reads the problem and solves it.
 #[tactic(auto, using(crate::proofs::Gathered::has_stopped, crate::proofs::Gathered::stops_unread))]
 fn run_solve<R: Threads + Wait + Sync, S: Source, D: Disk, G: Gate>(
-    rt: &R,
-    alloc: Global,
+    host: &Host<'_, R, G>,
     solve: &Solve<'_>,
     input: &mut S,
     disk: &mut D,
-    gate: &G,
 ) -> Ended
     requires { IsPlanned solve.now.settings }
     ensures lines { AreSolveLines solve.now.checkpoint solve.now.settings
@@ -76,25 +71,23 @@ fn run_solve<R: Threads + Wait + Sync, S: Source, D: Disk, G: Gate>(
         (D.faults disk.old) (D.faults disk.new) }
     ensures stopped { HasStopped (S.left input.old) (S.left input.new) result }
 {
-    let problem = match read_problem(alloc, solve.settings.bounds.boxed, input) {
+    let problem = match read_problem(host.alloc, solve.settings.bounds.boxed, input) {
         Ok(problem) => problem,
         Err(ended) => return ended,
     };
     match solve.checkpoint {
-        None => run_alone(rt, alloc, &solve.settings, problem, disk, gate),
-        Some(_) => run_saved(rt, alloc, &solve.settings, problem, disk, gate),
+        None => run_alone(host, &solve.settings, problem, disk),
+        Some(_) => run_saved(host, &solve.settings, problem, disk),
     }
 }
 
 // Reads the problem and goes on with it.
 #[tactic(auto, using(crate::proofs::Gathered::has_stopped, crate::proofs::Gathered::stops_unread))]
 fn run_restart<R: Threads + Wait + Sync, S: Source, D: Disk, G: Gate>(
-    rt: &R,
-    alloc: Global,
+    host: &Host<'_, R, G>,
     restart: &Restart<'_>,
     input: &mut S,
     disk: &mut D,
-    gate: &G,
 ) -> Ended
     requires { IsPlanned restart.now.settings }
     ensures lines { AreRestartLines restart.now.settings
@@ -107,21 +100,19 @@ fn run_restart<R: Threads + Wait + Sync, S: Source, D: Disk, G: Gate>(
         (status_of result) }
     ensures stopped { HasStopped (S.left input.old) (S.left input.new) result }
 {
-    let problem = match read_problem(alloc, restart.settings.bounds.boxed, input) {
+    let problem = match read_problem(host.alloc, restart.settings.bounds.boxed, input) {
         Ok(problem) => problem,
         Err(ended) => return ended,
     };
-    run_on(rt, alloc, &restart.settings, problem, disk, gate)
+    run_on(host, &restart.settings, problem, disk)
 }
 
 // Solves the problem without a checkpoint.
 fn run_alone<R: Threads + Wait + Sync, D: Disk, G: Gate>(
-    rt: &R,
-    alloc: Global,
+    host: &Host<'_, R, G>,
     asked: &Asked<'_>,
     problem: Shared,
     disk: &mut D,
-    gate: &G,
 ) -> Ended
     requires { IsPlanned asked.now }
     ensures run { TellsRun
@@ -134,20 +125,18 @@ fn run_alone<R: Threads + Wait + Sync, D: Disk, G: Gate>(
         (D.faults disk.old) (D.faults disk.new) }
 {
     let settings = settings_for(asked, problem.problem());
-    let outcome = solve_new(rt, alloc, problem, settings, disk, gate);
-    let ended = tell_outcome(alloc, &outcome, asked.bounds.gap);
+    let outcome = solve_new(host, problem, settings, disk);
+    let ended = tell_outcome(host.alloc, &outcome, asked.bounds.gap);
     drop(outcome);
     ended
 }
 
 // Solves the problem and keeps a checkpoint.
 fn run_saved<R: Threads + Wait + Sync, D: Disk, G: Gate>(
-    rt: &R,
-    alloc: Global,
+    host: &Host<'_, R, G>,
     asked: &Asked<'_>,
     problem: Shared,
     disk: &mut D,
-    gate: &G,
 ) -> Ended
     requires { IsPlanned asked.now }
     ensures run { TellsRun
@@ -158,24 +147,22 @@ fn run_saved<R: Threads + Wait + Sync, D: Disk, G: Gate>(
         (D.faults disk.old) (D.faults disk.new) (status_of result) }
 {
     let settings = settings_for(asked, problem.problem());
-    match solve_saved(rt, alloc, problem, settings, disk, gate) {
+    match solve_saved(host, problem, settings, disk) {
         Ok(outcome) => {
-            let ended = tell_outcome(alloc, &outcome, asked.bounds.gap);
+            let ended = tell_outcome(host.alloc, &outcome, asked.bounds.gap);
             drop(outcome);
             ended
         }
-        Err(fault) => tell_fault(alloc, &fault),
+        Err(fault) => tell_fault(host.alloc, &fault),
     }
 }
 
 // Goes on with the problem from the checkpoint.
 fn run_on<R: Threads + Wait + Sync, D: Disk, G: Gate>(
-    rt: &R,
-    alloc: Global,
+    host: &Host<'_, R, G>,
     asked: &Asked<'_>,
     problem: Shared,
     disk: &mut D,
-    gate: &G,
 ) -> Ended
     requires { IsPlanned asked.now }
     ensures run { TellsRun
@@ -187,12 +174,12 @@ fn run_on<R: Threads + Wait + Sync, D: Disk, G: Gate>(
         (D.faults disk.old) (D.faults disk.new) (status_of result) }
 {
     let settings = settings_for(asked, problem.problem());
-    match go_on(rt, alloc, problem, settings, disk, gate) {
+    match go_on(host, problem, settings, disk) {
         Ok(outcome) => {
-            let ended = tell_outcome(alloc, &outcome, asked.bounds.gap);
+            let ended = tell_outcome(host.alloc, &outcome, asked.bounds.gap);
             drop(outcome);
             ended
         }
-        Err(fault) => tell_fault(alloc, &fault),
+        Err(fault) => tell_fault(host.alloc, &fault),
     }
 }

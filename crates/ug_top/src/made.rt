@@ -5,22 +5,19 @@ use crate::ended::Ended;
 use crate::one_run::solve_new;
 use crate::outcome::tell_end;
 use crate::settings::settings_made;
-use std::alloc::Global;
 use std::sync::Wait;
 use std::thread::Threads;
 use ug_cli::Gen;
 use ug_disk::Disk;
 use ug_gen::make;
 use ug_problem::Shared;
-use ug_threads::Gate;
+use ug_threads::{Gate, Host};
 
 /// Makes the instance of the plan and solves it. The disk is left alone.
 pub fn run_made<R: Threads + Wait + Sync, D: Disk, G: Gate>(
-    rt: &R,
-    alloc: Global,
+    host: &Host<'_, R, G>,
     asked: &Gen,
     disk: &mut D,
-    gate: &G,
 ) -> Ended
     requires { IsPlannedGen asked.now }
     ensures lines { AreGenLines asked.now (D.told disk.old) (D.told disk.new)
@@ -30,12 +27,12 @@ pub fn run_made<R: Threads + Wait + Sync, D: Disk, G: Gate>(
     ensures alone { IsLeftAlone (D.told disk.old) (D.told disk.new)
         (D.faults disk.old) (D.faults disk.new) }
 {
-    let Ok(problem) = make(alloc, asked.seed, asked.size) else {
+    let Ok(problem) = make(host.alloc, asked.seed, asked.size) else {
         return Ended::Memory;
     };
     let settings = settings_made(asked.solvers);
-    let outcome = solve_new(rt, alloc, Shared::own(problem), settings, disk, gate);
-    let ended = tell_end(alloc, &outcome);
+    let outcome = solve_new(host, Shared::own(problem), settings, disk);
+    let ended = tell_end(host.alloc, &outcome);
     drop(outcome);
     ended
 }

@@ -8,27 +8,24 @@ use crate::ended::Ended;
 use crate::ran::Ran;
 use crate::status::Status;
 use crate::write::write_all;
-use std::alloc::Global;
 use std::sync::Wait;
 use std::thread::Threads;
 use ug_cli::{Usage, crossed_is_not_taken, read_words};
 use ug_disk::Disk;
 use ug_io::{Failed, Sink, Source};
 use ug_mps::one_outcome;
-use ug_threads::Gate;
+use ug_threads::{Gate, Host};
 
 /// Does all that the program does: reads the words, which are those behind the program's name, does
 /// what they ask for, and writes the lines of it. `Memory` alone has no cause: it may come in place
 /// of any status but `Usage`, or before the outside fails. Of a text that was refused it answers why,
 /// whatever became of its line.
 pub fn run<R: Threads + Wait + Sync, S: Source, K: Sink, D: Disk, G: Gate>(
-    rt: &R,
-    alloc: Global,
+    host: &Host<'_, R, G>,
     words: &[String],
     input: &mut S,
     out: &mut K,
     disk: &mut D,
-    gate: &G,
 ) -> Ran
     ensures { HasRun (texts words.now)
         (outside (S.left input.old) (S.faults input.old) (D.told disk.old) (D.faults disk.old))
@@ -36,7 +33,7 @@ pub fn run<R: Threads + Wait + Sync, S: Source, K: Sink, D: Disk, G: Gate>(
         (K.written out.old) (K.written out.new) (K.faults out.old) (K.faults out.new)
         result.status }
 {
-    let Some(ended) = carry_out(rt, alloc, words, input, disk, gate) else {
+    let Some(ended) = carry_out(host, words, input, disk) else {
         return Ran {
             status: Status::Usage,
             refusal: None,
@@ -62,12 +59,10 @@ fn tell<K: Sink>(out: &mut K, ended: &Ended) -> Status
 // Does what the words ask for: how it ended, with the lines that are due; none where they ask for
 // nothing.
 fn carry_out<R: Threads + Wait + Sync, S: Source, D: Disk, G: Gate>(
-    rt: &R,
-    alloc: Global,
+    host: &Host<'_, R, G>,
     words: &[String],
     input: &mut S,
     disk: &mut D,
-    gate: &G,
 ) -> Option<Ended>
     ensures { IsDue (texts words.now)
         (outside (S.left input.old) (S.faults input.old) (D.told disk.old) (D.faults disk.old))
@@ -76,8 +71,8 @@ fn carry_out<R: Threads + Wait + Sync, S: Source, D: Disk, G: Gate>(
 {
     one_outcome();
     crossed_is_not_taken();
-    match read_words(alloc, words) {
-        Ok(plan) => Some(run_plan(rt, alloc, &plan, input, disk, gate)),
+    match read_words(host.alloc, words) {
+        Ok(plan) => Some(run_plan(host, &plan, input, disk)),
         Err(Usage::Memory) => Some(Ended::Memory),
         Err(Usage::Words) => None,
         Err(Usage::HighBelowLow { .. }) => None,

@@ -5,7 +5,7 @@ use std::sync::Wait;
 use std::thread::Threads;
 use ug_disk::{Disk, MemoryDisk};
 use ug_io::{MemorySink, MemorySource, Script, Source};
-use ug_threads::OpenGate;
+use ug_threads::{Host, OpenGate};
 use ug_top::{Ran, run};
 
 /// The words of a line, which blanks part; `''` is an empty word.
@@ -51,7 +51,10 @@ pub fn told_of<R: Threads + Wait + Sync, S: Source, D: Disk>(
 ) -> Result<Vec<u8>, AllocError> {
     let words = words_of(alloc, line)?;
     let mut out = MemorySink::new(alloc, Script::new(Vec::new(alloc), 64));
-    let ran = run(rt, alloc, &words, input, &mut out, disk, &OpenGate);
+    let gate = &OpenGate;
+    let host = Host { rt, alloc, gate };
+    let ran = run(&host, &words, input, &mut out, disk);
+    drop(host);
     drop(words);
     let told = behind(alloc, ran.status.code(), out.bytes());
     drop(out);
@@ -87,7 +90,10 @@ pub fn ran_over<R: Threads + Wait + Sync>(
     let words = words_of(alloc, "solve f")?;
     let mut input = MemorySource { rest: text };
     let mut disk = sound_disk(alloc);
-    let ran = run(rt, alloc, &words, &mut input, out, &mut disk, &OpenGate);
+    let gate = &OpenGate;
+    let host = Host { rt, alloc, gate };
+    let ran = run(&host, &words, &mut input, out, &mut disk);
+    drop(host);
     drop(words);
     drop(disk);
     Ok(ran)

@@ -14,6 +14,7 @@ use Rattle.ug_rules.specs.State.{BookState, ledger_of}
 use Rattle.ug_rules.specs.Books.{IsBook, IsSoundBook}
 use Rattle.ug_rules.specs.Deaths.{killed}
 use Rattle.ug_rules.specs.Hearing.{after_hearing, kept}
+use Rattle.ug_rules.proofs.BookLemmas.{book_with_rest}
 use Rattle.ug_rules.proofs.DecidedLemmas.{decided_keeps, stands_keeps}
 use Rattle.ug_rules.proofs.EventLemmas.{death_keeps, ready_keeps}
 use Rattle.ug_rules.proofs.HearingLemmas.{hearing_keeps_book, hearing_keeps_sound}
@@ -78,26 +79,6 @@ heard_holds n old new place rank l t true_ h =
       wide = m.wide;
     })
 
--- the orders that wait are no part of what every book is
-orders_keep : (b : BookState) (rest : List Told) → IsBook b → IsBook (record b { orders = rest })
-orders_keep b rest h = record {
-  problem = h.problem;
-  run = h.run;
-  settings = h.settings;
-  incumbent = h.incumbent;
-  ranks = h.ranks;
-  order = h.order;
-  floors = record { pool = h.floors.pool; ranks = h.floors.ranks; raced = h.floors.raced };
-  ledger = h.ledger;
-  race = record {
-    raced = h.race.raced;
-    racing = h.race.racing;
-    pool = h.race.pool;
-    ranks = h.race.ranks;
-  };
-  number = h.number;
-}
-
 -- an order that is told was among those that wait
 told_holds : (n : ℕ) (old : World) (orders : List Told) → old.book.orders ≡ orders → Holds n old
     → Holds n (told_first orders old)
@@ -107,7 +88,7 @@ told_holds n old (first ∷ rest) e h =
     let all : old.told ++ old.book.orders ≡ (old.told ++ first ∷ []) ++ rest =
     ap (λ (os : List Told). old.told ++ os) e ∙ sym (append_assoc old.told (first ∷ []) rest) in
     record {
-      book = orders_keep old.book rest h.book;
+      book = book_with_rest old.book first rest e h.book;
       sound = h.sound;
       known = record {
         each = λ q c i. subst (λ (os : List Told). IsKnown (root_of old.book.problem) old.sent os c)

@@ -10,7 +10,7 @@ use std::alloc::Global;
 use ug_book::Book;
 use ug_checkpoint::Saver;
 use ug_disk::MemoryDisk;
-use ug_restart::{StartFault, restart};
+use ug_restart::{Start, StartFault, restart};
 use ug_rules::Settings;
 
 /// Restarts the run of a book's problem from what the disk has.
@@ -33,5 +33,9 @@ pub fn begin_again(
         (Some (history_of disk.old)) (Some (history_of disk.new)) }
 {
     let problem = book.problem().share()?;
-    restart(alloc, disk, problem, settings)
+    let start = restart(alloc, disk, problem, settings)?;
+    let Start { opening, saver } = start;
+    let made = Book::new(alloc, &opening);
+    drop(opening);
+    Ok((made?, saver))
 }

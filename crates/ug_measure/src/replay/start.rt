@@ -1,11 +1,10 @@
-ghost use Rattle.std.specs.Prelude.{◌≡◌, [], ◌∷◌, IfSome};
+ghost use Rattle.std.specs.Prelude.{IfSome};
 ghost use Rattle.ug_rules.specs.Books.{AreSettings};
 
 use crate::replay::words::{count, small, word};
 use std::alloc::Global;
-use ug_book::{Book, Boxes};
+use ug_book::{Book, Opening};
 use ug_mps::read;
-use ug_nodes::Changes;
 use ug_problem::Shared;
 use ug_rules::Settings;
 
@@ -76,24 +75,12 @@ fn problem(alloc: Global, name: &str) -> Option<Shared> {
     Some(Shared::own(problem))
 }
 
-// The root's box alone.
-fn root_alone(alloc: Global) -> Option<Boxes>
-    ensures { IfSome result (λ boxes. boxes ≡ [] ∷ []) }
-{
-    let mut boxes = Boxes::new(alloc);
-    boxes.push(Changes::new(Vec::new(alloc))).ok()?;
-    Some(boxes)
-}
-
 /// The book with which a schedule begins.
 pub fn begin(alloc: Global, words: &[&str]) -> Option<Book> {
     let settings = settings(words)?;
-    let boxes = root_alone(alloc)?;
-    match problem(alloc, word(words, 2)) {
-        Some(problem) => Book::new(alloc, problem, 1, None, boxes, settings).ok(),
-        None => {
-            drop(boxes);
-            None
-        }
-    }
+    let problem = problem(alloc, word(words, 2))?;
+    let opening = Opening::new(alloc, problem, 1, settings).ok()?;
+    let book = Book::new(alloc, &opening);
+    drop(opening);
+    book.ok()
 }

@@ -1,7 +1,7 @@
-use Rattle.std.proofs.Common.{rules, ◌≡◌, ◌++◌, ◌∷◌, [], List, subst, sym, ap, ◌∙◌, arith}
+use Rattle.std.proofs.Common.{◌≡◌, ◌+◌, ◌++◌, ◌∷◌, [], ℕ, List, length, take, get_or, subst, sym, ap, ◌∙◌, arith}
 use Rattle.std.specs.Prelude.{All}
-use Rattle.std.proofs.lemmas.List.{append_assoc, length-append}
-use Rattle.std.specs.Vec.Iter.{into_iter_items}
+use Rattle.std.proofs.lemmas.List.{length-take, take_more}
+use Rattle.ug_nodes.specs.declared.change.Change.{Change}
 use Rattle.ug_pool.specs.declared.entry.Entry.{Entry}
 use Rattle.ug_pool.specs.Pools.{with_entry}
 use Rattle.ug_rules.specs.Books.{HasItsFloor}
@@ -12,26 +12,30 @@ use Rattle.ug_book.proofs.start.start_pool.Goals as goal
 
 pub loop-changes-preserved : goal.loop-changes-preserved
 loop-changes-preserved c =
+    let p = c.args.run.now.problem in
+    let n = c.args.run.now.number in
+    let items = c.as_slice-changes-items.result.now in
+    let k = c.loop-changes.changes-index in
     let inv = c.loop-changes.invariant in
     let put = c.in_ok-put_start.ensures.ok in
-    let p = c.args.problem.now in
-    let next : into_iter_items c.loop-changes.changes-iterator
-    ≡ c.in-Some.changes ∷ into_iter_items c.next.new.self = search rules in
-    let e = start_entry p c.args.run c.loop-changes.hand c.in-Some.changes in (
-      append_assoc c.loop-changes.yielded (c.in-Some.changes ∷ []) (into_iter_items c.next.new.self)
-          ∙ (ap (λ xs. c.loop-changes.yielded ++ xs) (sym next) ∙ inv.0),
-      search rules,
-      omega (
-        arith,
-        inv.2,
-        length-append c.loop-changes.yielded (c.in-Some.changes ∷ []),
-      ),
+    let box = c.in_ok-changes.changes in
+    let e = start_entry p n c.loop-changes.hand box in
+    let first = take k items in
+    let same : box ≡ get_or items k c.changes-item.result =
+    c.in_ok-changes.ensures ∙ c.changes-item.is in
+    let long : length first ≡ k =
+    omega (arith, length-take k items, c.loop-changes-test.true) in
+    let all : first ++ box ∷ [] ≡ take (k + 1) items =
+    ap (λ (x : List Change). first ++ x ∷ []) same
+    ∙ sym (take_more items k c.changes-item.result c.loop-changes-test.true) in (
+      ap (λ (i : ℕ). i + 1) inv.0,
       put.entries
-          ∙ (ap (λ (es : List Entry). with_entry e es) inv.3
-          ∙ (ap (λ n. with_entry (start_entry p c.args.run n c.in-Some.changes)
-          (with_entries (start_entries p c.args.run 0 c.loop-changes.yielded) [])) inv.2
-          ∙ one_put p c.args.run c.loop-changes.yielded c.in-Some.changes)),
+          ∙ (ap (λ (es : List Entry). with_entry e es) inv.1
+          ∙ (ap (λ (h : ℕ). with_entry (start_entry p n h box)
+          (with_entries (start_entries p n 0 first) [])) (inv.0 ∙ sym long)
+          ∙ (one_put p n first box
+          ∙ ap (λ (bs : List (List Change)). with_entries (start_entries p n 0 bs) []) all))),
       subst (λ (es : List Entry). All (HasItsFloor p) es) (sym put.entries)
-          (all_put (HasItsFloor p) e c.loop-changes.pool.entries put.floor inv.4),
-      search rules,
+          (all_put (HasItsFloor p) e c.loop-changes.pool.entries put.floor inv.2),
+      omega (arith, put.spare, inv.3),
     )

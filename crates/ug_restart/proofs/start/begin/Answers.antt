@@ -1,4 +1,5 @@
 use Rattle.std.proofs.Common.{◌∙◌, IfErr, Result, subst}
+use Rattle.ug_book.specs.Openings.{opening_book}
 use Rattle.ug_restart.specs.Openings.{IsNotSaved}
 use Rattle.ug_restart.specs.declared.fault.StartFault.{StartFault}
 use Rattle.ug_restart.specs.Starts.{IsBegun}
@@ -14,23 +15,23 @@ returns-in-Err-started-clause-any_moment g c = alone _ _ _ c.load.ensures.any_mo
 pub returns-in-Ok-save_first-clause-any_moment : goal.returns-in-Ok-save_first-clause-any_moment
 returns-in-Ok-save_first-clause-any_moment g c =
     both (IsBegun c.args.problem c.args.settings (g.D.Disk.told c.args.disk.now)) _ _ _
-    c.in-Ok.found c.in-Ok-started.started.1 c.in-Ok-started.started.0 c.in-Ok.ensures.found
-    (saver_last c.in-Ok.found _ c.in-Ok-started.started.1 c.as_ref.ensures.value
-    c.in-Ok-started.ensures.saver)
-    (beginning c.args.problem c.args.settings _ _ c.in-Ok.found _ c.in-Ok-started.started.0
+    c.in-Ok.found c.in-Ok-started.start.saver (opening_book c.in-Ok-started.start.opening) c.in-Ok.ensures.found
+    (saver_last c.in-Ok.found _ c.in-Ok-started.start.saver c.as_ref.ensures.value
+    c.in-Ok-started.ensures.made.saver)
+    (beginning c.args.problem c.args.settings _ _ c.in-Ok.found _ (opening_book c.in-Ok-started.start.opening)
     c.in-Ok.ensures.found c.as_ref.ensures.value c.in-Ok-started.ensures.room
-    c.in-Ok-started.ensures.book)
+    c.in-Ok-started.ensures.made.book)
     c.load.ensures.any_moment c.save_first.ensures.any_moment
 
 pub returns-in-Err-save_first-clause-any_moment : goal.returns-in-Err-save_first-clause-any_moment
 returns-in-Err-save_first-clause-any_moment g c =
     both (IsBegun c.args.problem c.args.settings (g.D.Disk.told c.args.disk.now)) _ _ _
-    c.in-Ok.found c.in-Ok-started.started.1 c.in-Ok-started.started.0 c.in-Ok.ensures.found
-    (saver_last c.in-Ok.found _ c.in-Ok-started.started.1 c.as_ref.ensures.value
-    c.in-Ok-started.ensures.saver)
-    (beginning c.args.problem c.args.settings _ _ c.in-Ok.found _ c.in-Ok-started.started.0
+    c.in-Ok.found c.in-Ok-started.start.saver (opening_book c.in-Ok-started.start.opening) c.in-Ok.ensures.found
+    (saver_last c.in-Ok.found _ c.in-Ok-started.start.saver c.as_ref.ensures.value
+    c.in-Ok-started.ensures.made.saver)
+    (beginning c.args.problem c.args.settings _ _ c.in-Ok.found _ (opening_book c.in-Ok-started.start.opening)
     c.in-Ok.ensures.found c.as_ref.ensures.value c.in-Ok-started.ensures.room
-    c.in-Ok-started.ensures.book)
+    c.in-Ok-started.ensures.made.book)
     c.load.ensures.any_moment c.save_first.ensures.any_moment
 
 pub returns-in-Err-save_first-clause-calm : goal.returns-in-Err-save_first-clause-calm
@@ -43,3 +44,15 @@ pub returns-in-Err-save_first-clause-refused : goal.returns-in-Err-save_first-cl
 returns-in-Err-save_first-clause-refused g c =
     let P : Result Unit StartFault → Type 0 = λ r. IfErr r IsNotSaved in
     not_saved _ _ c.in-Err-save_first.fault (subst P c.in-Err-save_first.is c.save_first.ensures.refused)
+
+pub returns-in-Ok-save_first-clause-started : goal.returns-in-Ok-save_first-clause-started
+returns-in-Ok-save_first-clause-started g c = record {
+  book = beginning c.args.problem c.args.settings _ _ c.in-Ok.found _
+      (opening_book c.in-Ok-started.start.opening)
+      c.in-Ok.ensures.found c.as_ref.ensures.value c.in-Ok-started.ensures.room
+      c.in-Ok-started.ensures.made.book;
+  opening = c.in-Ok-started.ensures.made.opening;
+  covered = λ trusted. c.in-Ok-started.ensures.made.covered;
+  acknowledged = c.in-Ok-save_first.ensures.acknowledged;
+  kept = c.save_first.ensures.kept;
+}

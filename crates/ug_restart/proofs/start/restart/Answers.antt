@@ -1,7 +1,8 @@
-use Rattle.std.proofs.Common.{Some, subst}
+use Rattle.std.proofs.Common.{◌∙◌, Some, subst}
 use Rattle.ug_checkpoint.specs.Recovery.{HasFound}
+use Rattle.ug_book.specs.Openings.{opening_book}
 use Rattle.ug_restart.specs.Starts.{IsGoneOn}
-use Rattle.ug_restart.proofs.Composes.{alone, both}
+use Rattle.ug_restart.proofs.Composes.{alone, both, not_told_as}
 use Rattle.ug_restart.proofs.Goings.{covered_loaded, going_on, image_of_loaded}
 use Rattle.ug_restart.proofs.start.restart.Goals as goal
 
@@ -11,33 +12,47 @@ returns-in-Err-clause-any_moment g c = alone _ _ _ c.load.ensures.any_moment
 pub returns-in-Ok-None-clause-any_moment : goal.returns-in-Ok-None-clause-any_moment
 returns-in-Ok-None-clause-any_moment g c = alone _ _ _ c.load.ensures.any_moment
 
-pub next_book-requires-clause-image : goal.next_book-requires-clause-image
-next_book-requires-clause-image g c =
+pub next_start-requires-clause-image : goal.next_start-requires-clause-image
+next_start-requires-clause-image g c =
     image_of_loaded _ _ c.in-Ok-Some.found
     (subst (HasFound _ _) c.in-Ok-Some.field-0-is c.in-Ok-Some.ensures.found)
 
-pub returns-in-Err-next_book-clause-any_moment : goal.returns-in-Err-next_book-clause-any_moment
-returns-in-Err-next_book-clause-any_moment g c = alone _ _ _ c.load.ensures.any_moment
+pub returns-in-Err-next_start-clause-any_moment : goal.returns-in-Err-next_start-clause-any_moment
+returns-in-Err-next_start-clause-any_moment g c = alone _ _ _ c.load.ensures.any_moment
 
-pub returns-in-Ok-save_first-clause-sound : goal.returns-in-Ok-save_first-clause-sound
-returns-in-Ok-save_first-clause-sound g c covers =
-    c.in-Ok.ensures.sound (covered_loaded _ _ c.in-Ok-Some.found
-    (subst (HasFound _ _) c.in-Ok-Some.field-0-is c.in-Ok-Some.ensures.found) covers)
+pub returns-in-Ok-save_first-clause-started : goal.returns-in-Ok-save_first-clause-started
+returns-in-Ok-save_first-clause-started g c =
+    let has = subst (HasFound _ _) c.in-Ok-Some.field-0-is c.in-Ok-Some.ensures.found in
+    record {
+      book = going_on c.args.problem c.args.settings _ _ c.in-Ok-Some.found
+          (opening_book c.in-Ok.start.opening) has c.in-Ok.ensures.may c.in-Ok.ensures.made.book;
+      opening = c.in-Ok.ensures.made.opening;
+      covered = λ covers.
+          c.in-Ok.ensures.made.covered (covered_loaded _ _ c.in-Ok-Some.found has covers);
+      acknowledged = c.in-Ok-save_first.ensures.acknowledged;
+      kept = c.save_first.ensures.kept;
+    }
 
 pub returns-in-Ok-save_first-clause-any_moment : goal.returns-in-Ok-save_first-clause-any_moment
 returns-in-Ok-save_first-clause-any_moment g c =
     let has = subst (HasFound _ _) c.in-Ok-Some.field-0-is c.in-Ok-Some.ensures.found in
     both (IsGoneOn c.args.problem c.args.settings (g.D.Disk.told c.args.disk.now)) _ _ _
-    (Some c.in-Ok-Some.found) c.in-Ok.started.1 c.in-Ok.started.0 has c.in-Ok.ensures.saver.last
-    (going_on c.args.problem c.args.settings _ _ c.in-Ok-Some.found c.in-Ok.started.0 has
-    c.in-Ok.ensures.may c.in-Ok.ensures.book)
+    (Some c.in-Ok-Some.found) c.in-Ok.start.saver (opening_book c.in-Ok.start.opening) has c.in-Ok.ensures.made.saver.last
+    (going_on c.args.problem c.args.settings _ _ c.in-Ok-Some.found (opening_book c.in-Ok.start.opening) has
+    c.in-Ok.ensures.may c.in-Ok.ensures.made.book)
     c.load.ensures.any_moment c.save_first.ensures.any_moment
 
 pub returns-in-Err-save_first-clause-any_moment : goal.returns-in-Err-save_first-clause-any_moment
 returns-in-Err-save_first-clause-any_moment g c =
     let has = subst (HasFound _ _) c.in-Ok-Some.field-0-is c.in-Ok-Some.ensures.found in
     both (IsGoneOn c.args.problem c.args.settings (g.D.Disk.told c.args.disk.now)) _ _ _
-    (Some c.in-Ok-Some.found) c.in-Ok.started.1 c.in-Ok.started.0 has c.in-Ok.ensures.saver.last
-    (going_on c.args.problem c.args.settings _ _ c.in-Ok-Some.found c.in-Ok.started.0 has
-    c.in-Ok.ensures.may c.in-Ok.ensures.book)
+    (Some c.in-Ok-Some.found) c.in-Ok.start.saver (opening_book c.in-Ok.start.opening) has c.in-Ok.ensures.made.saver.last
+    (going_on c.args.problem c.args.settings _ _ c.in-Ok-Some.found (opening_book c.in-Ok.start.opening) has
+    c.in-Ok.ensures.may c.in-Ok.ensures.made.book)
     c.load.ensures.any_moment c.save_first.ensures.any_moment
+
+pub returns-in-Err-save_first-clause-calm : goal.returns-in-Err-save_first-clause-calm
+returns-in-Err-save_first-clause-calm g c = λ not.
+    c.save_first.ensures.calm (not_told_as c.in-Err-save_first.fault c.save_first.result
+    c.in-Err-save_first.is not)
+    ∙ c.in-Ok-Some.ensures.calm

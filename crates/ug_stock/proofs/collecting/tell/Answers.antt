@@ -12,7 +12,7 @@ use Rattle.ug_stock.proofs.collecting.tell.Goals as goal
 
 pub overflow_add-working : goal.overflow_add-working
 overflow_add-working c =
-    omega (arith, few_work c.args.ranks.now, c.requires.few, c.requires.working)
+    omega (arith, few_work c.args.ranks.now, c.requires.working.few, c.requires.working.count)
 
 pub overflow_add-working-in-Enough : goal.overflow_add-working-in-Enough
 overflow_add-working-in-Enough c =
@@ -22,26 +22,25 @@ overflow_add-working-in-Enough c =
     omega (
       arith,
       few_work c.args.ranks.now,
-      c.requires.few,
-      c.requires.working,
+      c.requires.working.few,
+      c.requires.working.count,
       told.1,
       c.len.ensures,
     )
 
-pub returns-in_ok-reserve-in-Ask-clause-room : goal.returns-in_ok-reserve-in-Ask-clause-room
-returns-in_ok-reserve-in-Ask-clause-room c = omega (
-  arith,
-  ap (λ (ss : List State). length (nodes_of ss)) c.ask.ensures.ranks,
-  ap (λ ns. length ns) (asked_works c.args.ranks.now c.in-Ask.rank c.in-Ask.count),
-  c.requires.working,
-  ap (λ (queue : Queued). queue.spare) c.in_ok-reserve-in-Ask.ensures.ok,
-  c.ask.ensures.spare,
-)
-
-pub returns-in_ok-reserve-in-Ask-clause-work : goal.returns-in_ok-reserve-in-Ask-clause-work
-returns-in_ok-reserve-in-Ask-clause-work c =
-    ap (λ (ss : List State). nodes_of ss) c.ask.ensures.ranks
-    ∙ asked_works c.args.ranks.now c.in-Ask.rank c.in-Ask.count
+pub returns-in_ok-reserve-in-Ask-clause-working : goal.returns-in_ok-reserve-in-Ask-clause-working
+returns-in_ok-reserve-in-Ask-clause-working c = record {
+  work = ap (λ (ss : List State). nodes_of ss) c.ask.ensures.ranks
+      ∙ asked_works c.args.ranks.now c.in-Ask.rank c.in-Ask.count;
+  room = omega (
+    arith,
+    ap (λ (ss : List State). length (nodes_of ss)) c.ask.ensures.ranks,
+    ap (λ ns. length ns) (asked_works c.args.ranks.now c.in-Ask.rank c.in-Ask.count),
+    c.requires.working.count,
+    ap (λ (queue : Queued). queue.spare) c.in_ok-reserve-in-Ask.ensures.ok,
+    c.ask.ensures.spare,
+  );
+}
 
 pub returns-in_ok-reserve-in-Enough-clause-ok : goal.returns-in_ok-reserve-in-Enough-clause-ok
 returns-in_ok-reserve-in-Enough-clause-ok c = λ b.

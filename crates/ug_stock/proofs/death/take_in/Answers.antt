@@ -12,11 +12,14 @@ put-requires c = omega (
   no_more c.args.node.line c.args.pool.now.entries,
 )
 
-pub returns-clause-spare : goal.returns-clause-spare
-returns-clause-spare c = omega (
-  arith,
-  c.put.ensures.spare,
-  c.drop_below.ensures.spare,
-  ap (λ (es : List Entry). length es) c.drop_below.ensures.entries,
-  no_more c.args.node.line c.args.pool.now.entries,
+pub returns-clause-places : goal.returns-clause-places
+returns-clause-places c = (
+  omega (
+    arith,
+    c.put.ensures.spare,
+    c.drop_below.ensures.spare,
+    ap (λ (es : List Entry). length es) c.drop_below.ensures.entries,
+    no_more c.args.node.line c.args.pool.now.entries,
+  ),
+  c.call_off.ensures.spare,
 )

@@ -1,4 +1,5 @@
-use Rattle.std.proofs.Common.{◌≡◌, ◌⊎◌, ℕ, ◌+◌, ◌≤◌, sym, subst}
+use Rattle.std.proofs.Common.{◌≡◌, ◌⊎◌, ℕ, ◌+◌, ◌≤◌, refl, sym, subst}
+use Rattle.ug_book.specs.Openings.{opening_book}
 use Rattle.ug_restart.specs.declared.outcome.End.{End}
 use Rattle.ug_restart.specs.Saves.{IsOfBook, NoneIsCounted, missed_of, unsaved_of}
 use Rattle.ug_restart.specs.Moments.{FindsOne}
@@ -27,17 +28,17 @@ returns-clause-saved g c =
 
 pub returns-clause-ended : goal.returns-clause-ended
 returns-clause-ended g c =
-    has_ended c.args.opening.now c.args.book c.solve-solved.result.book c.end_of-end.result
-    c.requires.opening c.solve-solved.ensures.ended c.end_of-end.ensures.same
+    has_ended c.args.opening.now (opening_book c.args.opening.now) c.solve-solved.result.book c.end_of-end.result
+    refl c.solve-solved.ensures.ended c.end_of-end.ensures.same
     c.end_of-end.ensures.answered c.end_of-end.ensures.right c.end_of-end.ensures.limited
     c.end_of-end.ensures.stranded
 
 pub returns-clause-goes_on : goal.returns-clause-goes_on
 returns-clause-goes_on g c =
-    let ended = has_ended c.args.opening.now c.args.book c.solve-solved.result.book
-    c.end_of-end.result c.requires.opening c.solve-solved.ensures.ended c.end_of-end.ensures.same
+    let ended = has_ended c.args.opening.now (opening_book c.args.opening.now) c.solve-solved.result.book
+    c.end_of-end.result refl c.solve-solved.ensures.ended c.end_of-end.ensures.same
     c.end_of-end.ensures.answered c.end_of-end.ensures.right c.end_of-end.ensures.limited
     c.end_of-end.ensures.stranded in
-    both_go c.args.book c.args.opening.now c.end_of-end.result _ _ _
-    c.requires.opening c.requires.saves ended.sound c.solve-solved.ensures.moves.1
+    both_go (opening_book c.args.opening.now) c.args.opening.now c.end_of-end.result _ _ _
+    refl c.requires.saves ended.sound c.solve-solved.ensures.moves.1
     c.save_end.ensures.goes_on

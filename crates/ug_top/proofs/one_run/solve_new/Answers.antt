@@ -1,30 +1,21 @@
-use Rattle.std.proofs.Common.{◌≡◌, [], ◌∷◌, sym, ap, subst}
+use Rattle.std.proofs.Common.{◌≡◌, sym, ap, subst}
 use Rattle.ug_rules.specs.State.{BookState}
 use Rattle.ug_rules.specs.Books.{IsSoundBook}
-use Rattle.ug_snapshot.proofs.Beginnings.{made_so}
+use Rattle.ug_book.specs.declared.opening.Opening.{Opening}
+use Rattle.ug_book.specs.Openings.{opening_book}
 use Rattle.ug_top.specs.Runs.{first_book}
 use Rattle.ug_top.proofs.Books.{is_run, root_is_sound}
 use Rattle.ug_top.proofs.one_run.solve_new.Goals as goal
 
-pub solve_threads-requires-clause-made : goal.solve_threads-requires-clause-made
-solve_threads-requires-clause-made g c κs within =
-    made_so _ _ _ _ ([] ∷ []) _ c.in-Ok.ensures
-
 pub returns-clause-ran : goal.returns-clause-ran
 returns-clause-ran g c =
+    let is = c.in-Ok.ensures.made in
+    let began = ap (λ (o : Opening). opening_book o) is in
     is_run (λ b. b ≡ first_book c.args.problem c.args.settings) (Unit {0}) c.args.problem
-    c.args.settings c.solve_threads.result c.in-Ok.book c.in-Ok.ensures
+    c.args.settings c.solve_threads-outcome.result (opening_book c.in-Ok.opening) began
     (record {
-      its_problem = ap (λ (b : BookState). b.problem) c.in-Ok.ensures;
-      its_settings = ap (λ (b : BookState). b.settings) c.in-Ok.ensures;
+      its_problem = ap (λ (b : BookState). b.problem) began;
+      its_settings = ap (λ (b : BookState). b.settings) began;
     })
-    (λ trusted. subst IsSoundBook (sym c.in-Ok.ensures)
-    (root_is_sound c.args.problem 1 c.args.settings))
-    (record {
-      replayed = c.solve_threads.ensures.replayed;
-      sound = c.solve_threads.ensures.sound;
-      answered = c.solve_threads.ensures.answered;
-      right = c.solve_threads.ensures.right;
-      limited = c.solve_threads.ensures.limited;
-      stranded = c.solve_threads.ensures.stranded;
-    })
+    (λ trusted. subst IsSoundBook (sym began) (root_is_sound c.args.problem 1 c.args.settings))
+    c.solve_threads-outcome.ensures.ended

@@ -6,8 +6,8 @@ use Rattle.ug_rules.specs.HearingLaws.{IsTrueReport}
 use Rattle.ug_rules.proofs.HearingLemmas.{hearing_keeps_book, hearing_keeps_sound}
 use Rattle.ug_book.specs.Views.{IsSameRun, state_of}
 use Rattle.ug_book.proofs.Runs.{same_run}
-use Rattle.ug_book.specs.Heard.{touched, with_touched}
-use Rattle.ug_book.proofs.Taken.{rank_taken, stops_taken}
+use Rattle.ug_book.specs.Heard.{with_held}
+use Rattle.ug_book.proofs.Taken.{rank_taken}
 use Rattle.ug_book.proofs.After.{heard_so}
 use Rattle.ug_book.proofs.book.Book.hear.Goals as goal
 
@@ -16,30 +16,20 @@ end_by-requires-clause-there c =
     let b : BookState = state_of c.self.inside in
     let there = subst (λ (k : BookState). c.args.rank < length k.ranks) (sym c.self.view_is)
     c.requires.there in
-    let told = c.take_report-answer.ensures.answered b (sym c.problem.ensures.value) refl in
+    let told = c.take_report-answer.ensures.answered b (record { problem = refl; settings = refl }) in
     rank_taken b _ c.take_report-answer.result c.args.rank c.args.report there told.taken
 
 pub end_by-requires-clause-room : goal.end_by-requires-clause-room
-end_by-requires-clause-room c =
-    let b : BookState = state_of c.self.inside in
-    let there = subst (λ (k : BookState). c.args.rank < length k.ranks) (sym c.self.view_is)
-    c.requires.there in
-    let told = c.take_report-answer.ensures.answered b (sym c.problem.ensures.value) refl in
-    record {
-      pool = c.take_report-answer.ensures.places b;
-      orders = stops_taken b _ c.take_report-answer.result c.args.rank c.args.report
-          c.self.inside.stock.orders.spare there told.taken c.self.invariant.room.orders;
-    }
+end_by-requires-clause-room c = c.take_report-answer.ensures.room (state_of c.self.inside)
 
 pub invariant_of-self : goal.invariant_of-self
 invariant_of-self c =
     let b : BookState = state_of c.self.inside in
     let there = subst (λ (k : BookState). c.args.rank < length k.ranks) (sym c.self.view_is)
     c.requires.there in
-    let taken : BookState = with_touched b
-    (touched c.take_report-answer.new.best c.take_report-answer.new.pool
-    c.take_report-answer.new.ranks c.take_report-answer.new.raced) in
-    let told = c.take_report-answer.ensures.answered b (sym c.problem.ensures.value) refl in
+    let taken : BookState = with_held b c.take_report-answer.new.best
+    c.take_report-answer.new.stock in
+    let told = c.take_report-answer.ensures.answered b (record { problem = refl; settings = refl }) in
     let is = heard_so b _ _ c.take_report-answer.result c.args.rank c.args.report
     c.heard_after-self-inside.result told.taken (c.end_by.ensures.ended taken)
     c.heard_after-self-inside.ensures in
@@ -54,17 +44,16 @@ invariant_of-self c =
 pub returns-clause-due : goal.returns-clause-due
 returns-clause-due c =
     let b : BookState = state_of c.self.inside in
-    let told = c.take_report-answer.ensures.answered b (sym c.problem.ensures.value) refl in
+    let told = c.take_report-answer.ensures.answered b (record { problem = refl; settings = refl }) in
     subst (λ (k : BookState). IsDue k c.args.rank c.args.report c.take_report-answer.result)
     c.self.view_is told.due
 
 pub returns-clause-done : goal.returns-clause-done
 returns-clause-done c =
     let b : BookState = state_of c.self.inside in
-    let taken : BookState = with_touched b
-    (touched c.take_report-answer.new.best c.take_report-answer.new.pool
-    c.take_report-answer.new.ranks c.take_report-answer.new.raced) in
-    let told = c.take_report-answer.ensures.answered b (sym c.problem.ensures.value) refl in
+    let taken : BookState = with_held b c.take_report-answer.new.best
+    c.take_report-answer.new.stock in
+    let told = c.take_report-answer.ensures.answered b (record { problem = refl; settings = refl }) in
     heard_so b taken _ c.take_report-answer.result c.args.rank c.args.report
     c.heard_after-self-inside.result told.taken (c.end_by.ensures.ended taken)
     c.heard_after-self-inside.ensures
@@ -77,10 +66,9 @@ returns-clause-sound c = λ true_ sound.
     let b : BookState = state_of c.self.inside in
     let there = subst (λ (k : BookState). c.args.rank < length k.ranks) (sym c.self.view_is)
     c.requires.there in
-    let taken : BookState = with_touched b
-    (touched c.take_report-answer.new.best c.take_report-answer.new.pool
-    c.take_report-answer.new.ranks c.take_report-answer.new.raced) in
-    let told = c.take_report-answer.ensures.answered b (sym c.problem.ensures.value) refl in
+    let taken : BookState = with_held b c.take_report-answer.new.best
+    c.take_report-answer.new.stock in
+    let told = c.take_report-answer.ensures.answered b (record { problem = refl; settings = refl }) in
     let is = heard_so b _ _ c.take_report-answer.result c.args.rank c.args.report
     c.heard_after-self-inside.result told.taken (c.end_by.ensures.ended taken)
     c.heard_after-self-inside.ensures in
@@ -94,10 +82,9 @@ returns-clause-same c =
     let b : BookState = state_of c.self.inside in
     let there = subst (λ (k : BookState). c.args.rank < length k.ranks) (sym c.self.view_is)
     c.requires.there in
-    let taken : BookState = with_touched b
-    (touched c.take_report-answer.new.best c.take_report-answer.new.pool
-    c.take_report-answer.new.ranks c.take_report-answer.new.raced) in
-    let told = c.take_report-answer.ensures.answered b (sym c.problem.ensures.value) refl in
+    let taken : BookState = with_held b c.take_report-answer.new.best
+    c.take_report-answer.new.stock in
+    let told = c.take_report-answer.ensures.answered b (record { problem = refl; settings = refl }) in
     let is = heard_so b _ _ c.take_report-answer.result c.args.rank c.args.report
     c.heard_after-self-inside.result told.taken (c.end_by.ensures.ended taken)
     c.heard_after-self-inside.ensures in

@@ -1,6 +1,18 @@
-use Rattle.std.proofs.Common.{subst, sym}
+use Rattle.std.proofs.Common.{refl, subst, sym}
 use Rattle.ug_rules.specs.Books.{IsSoundBook}
+use Rattle.ug_book.specs.Views.{state_of}
+use Rattle.ug_book.proofs.Told.{told_book, told_room}
 use Rattle.ug_book.proofs.book.Book.next_order.Goals as goal
+
+pub invariant_of-self : goal.invariant_of-self
+invariant_of-self c =
+    let stock = c.self.inside.stock in
+    record {
+      book = told_book (state_of c.self.inside) stock.orders c.next.new.self c.next.result refl
+          c.next.ensures c.self.invariant.book;
+      floor = c.self.invariant.floor;
+      room = told_room stock c.next.new.self c.next.result c.next.ensures c.self.invariant.room;
+    }
 
 pub returns-clause-sound : goal.returns-clause-sound
 returns-clause-sound c = λ s. subst IsSoundBook (sym c.self.view_is) s

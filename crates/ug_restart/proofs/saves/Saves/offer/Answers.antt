@@ -1,6 +1,6 @@
 use Rattle.std.proofs.Common.{◌≡◌, Some, IfSome, refl, sym, subst, arith}
 use Rattle.ug_snapshot.specs.Moments.{IsCovered}
-use Rattle.ug_snapshot.specs.Openings.{IsCoveredOpening}
+use Rattle.ug_book.specs.Openings.{IsCoveredOpening}
 use Rattle.ug_restart.specs.Saves.{IsOfSnapshot, opening_of}
 use Rattle.ug_restart.proofs.Covering.{nothing_done, saving_more}
 use Rattle.ug_restart.proofs.Going.{goes_nowhere, goes_where, with_calls}

@@ -23,13 +23,13 @@ returns-clause-ok c =
             ∙ ap (λ (q : Queued). given_to c.args.rank g.entry c.give_first.new.self.pool.entries
             (with_stock b (record c.args.self.now { orders = q }))) reserved;
       };
-      pool = c.give_first.ensures.pool;
-      working = c.give_first.ensures.ranks;
+      pool = c.give_first.ensures.placed.pool;
+      working = c.give_first.ensures.placed.working;
       orders = omega (
         arith,
         spare,
-        c.give_first.ensures.orders,
-        c.give_first.ensures.ranks,
+        c.give_first.ensures.placed.orders,
+        c.give_first.ensures.placed.working,
         few_work c.args.self.now.ranks,
         ap (λ (ss : List State). length ss) c.as_slice.ensures.value,
         c.as_slice.ensures,

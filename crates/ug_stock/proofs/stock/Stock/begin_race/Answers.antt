@@ -18,10 +18,10 @@ returns-in-Some-take_first-clause-ok c = λ b is.
     let s = c.args.self.now in
     let same = same_first s.pool.entries c.take_first.new.pool.entries
     c.in-Some.first.now entry c.in-Some.ensures first in
-    c.race_all.ensures.joined b entry is
+    c.race_all.ensures.part.joined b entry is
     (subst (λ (boxes : List (List Change)). All (λ box. entry.node.changes ≡ box) boxes)
     (sym c.in_ok-boxes.ensures)
-    (All-replicate (λ (box : List Change). entry.node.changes ≡ box) c.args.counts.idle
+    (All-replicate (λ (box : List Change). entry.node.changes ≡ box) c.count-counts.result.idle
     c.in-Some.first.now.node.changes same))
     ∙ (ap (λ (queue : Queued). raced_by_all (ranks_that is_idle s.ranks) entry
     (with_stock b (record s { pool = c.take_first.new.pool; raced = Some entry; orders = queue })))

@@ -17,14 +17,18 @@ tell-requires-clause-told c =
     (c.as_slice.ensures.value ∙ c.in_ok-members.ensures.members) c.in_ok-demand.ensures.wanted)
 
 pub tell-requires-clause-working : goal.tell-requires-clause-working
-tell-requires-clause-working c = omega (
-  arith,
-  members_work c.args.self.now.ranks,
-  ap (λ (ms : List Member). length ms)
-      (c.as_slice.ensures.value ∙ c.in_ok-members.ensures.members),
-  c.as_slice.ensures.len,
-  c.len.ensures,
-)
+tell-requires-clause-working c = record {
+  few = c.members_of.ensures.count;
+  count = omega (
+    arith,
+    members_work c.args.self.now.ranks,
+    ap (λ (ms : List Member). length ms)
+        (c.as_slice.ensures.value ∙ c.in_ok-members.ensures.members),
+    c.as_slice.ensures.len,
+    c.len.ensures,
+  );
+  room = c.requires.room.orders;
+}
 
 pub returns-clause-ok : goal.returns-clause-ok
 returns-clause-ok c =

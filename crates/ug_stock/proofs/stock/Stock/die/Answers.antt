@@ -43,7 +43,7 @@ returns-in-Some-clause-room c =
         killed_,
         called,
         stops,
-        c.take_in.ensures.spare,
+        c.take_in.ensures.places.0,
       );
       orders = omega (
         arith,
@@ -52,7 +52,7 @@ returns-in-Some-clause-room c =
         killed_,
         called,
         stops,
-        c.take_in.ensures.places,
+        c.take_in.ensures.places.1,
       );
     }
 

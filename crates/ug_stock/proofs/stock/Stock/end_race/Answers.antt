@@ -22,17 +22,11 @@ returns-in_default-clause-ok c = λ b e.
     (subst (λ (rs : List Racer). (rank : ℕ) → IsWonAmong c.args.enough rs rank → ⊥)
     (c.as_slice.ensures.value ∙ c.in_ok-racers.ensures) (c.in_default.ensures.none refl))
 
-pub win_race-requires-clause-there : goal.win_race-requires-clause-there
-win_race-requires-clause-there c =
+pub win_race-requires-clause-racer : goal.win_race-requires-clause-racer
+win_race-requires-clause-racer c =
     let won = subst (λ (rs : List Racer). IsWonAmong c.args.enough rs c.in-Some.rank)
     (c.as_slice.ensures.value ∙ c.in_ok-racers.ensures) c.in-Some.ensures.some in
-    (winner_there c.args.enough c.args.self.now.ranks c.in-Some.rank won).there
-
-pub win_race-requires-clause-racing : goal.win_race-requires-clause-racing
-win_race-requires-clause-racing c =
-    let won = subst (λ (rs : List Racer). IsWonAmong c.args.enough rs c.in-Some.rank)
-    (c.as_slice.ensures.value ∙ c.in_ok-racers.ensures) c.in-Some.ensures.some in
-    (winner_there c.args.enough c.args.self.now.ranks c.in-Some.rank won).racing
+    winner_there c.args.enough c.args.self.now.ranks c.in-Some.rank won
 
 pub win_race-requires-clause-room : goal.win_race-requires-clause-room
 win_race-requires-clause-room c =
@@ -71,8 +65,8 @@ returns-clause-room c =
       pool = omega (
         arith,
         c.requires.room.pool,
-        c.win_race.ensures.work,
-        ap (λ (raced : Option Entry). length (raced_node raced)) c.win_race.ensures.none,
+        c.win_race.ensures.over.work,
+        ap (λ (raced : Option Entry). length (raced_node raced)) c.win_race.ensures.over.none,
         one_raced c.args.self.now.raced (c.is_none.ensures ∙ ap not c.if-is_none.false),
       );
       orders = omega (
@@ -86,6 +80,6 @@ returns-clause-room c =
         c.len.ensures,
         ap (λ (queue : Queued). queue.spare) c.in_ok-reserve.ensures.ok,
         c.win_race.ensures.places,
-        c.win_race.ensures.work,
+        c.win_race.ensures.over.work,
       );
     }

@@ -1,4 +1,4 @@
-use Rattle.std.proofs.Common.{◌+◌, ◌%◌, ◌∙◌, ap, sym, length, List, arith}
+use Rattle.std.proofs.Common.{◌+◌, ◌%◌, ◌≤◌, ◌∙◌, ap, sym, length, List, arith}
 use Rattle.ug_ranks.specs.declared.state.State.{State}
 use Rattle.ug_ranks.specs.Changes.{racer_of}
 use Rattle.ug_ranks.specs.States.{state_at}
@@ -86,36 +86,26 @@ loop-rank-preserved c =
     ))
     (idle_is (state_at c.loop-rank.self.ranks c.loop-rank.rank)
     (ap is_idle (sym c.state.ensures) ∙ (sym c.is_idle.ensures ∙ c.if-not-is_idle.false)))
-    c.in-Some.ensures.items c.race_one.ensures.ranks c.race_one.ensures.last
-    c.race_one.ensures.orders c.race_one.ensures.kept c.race_one.ensures.joined
+    c.in-Some.ensures.items c.race_one.ensures.part.ranks c.race_one.ensures.part.last
+    c.race_one.ensures.part.orders c.race_one.ensures.part.kept c.race_one.ensures.part.joined
     c.loop-rank.invariant
 
-pub returns-clause-joined : goal.returns-clause-joined
-returns-clause-joined c =
-    all_joined c.args.terms c.args.boxes.items c.loop-rank.boxes.items
-    c.args.self.now
-    c.loop-rank.self c.loop-rank.rank
-    (omega (
+pub returns : goal.returns
+returns c =
+    let old = c.args.self.now in
+    let now = c.loop-rank.self in
+    let end : length old.ranks ≤ c.loop-rank.rank = omega (
       arith,
       c.loop-rank-test.false,
       ap (λ (ss : List State). length ss) c.as_slice.ensures.value,
-    ))
-    c.loop-rank.invariant
-
-pub returns-clause-nodes : goal.returns-clause-nodes
-returns-clause-nodes c = c.loop-rank.invariant.nodes
-
-pub returns-clause-orders : goal.returns-clause-orders
-returns-clause-orders c = as_many_spare c.args.terms c.args.boxes.items c.loop-rank.boxes.items
-    c.args.self.now
-    c.loop-rank.self
-    c.loop-rank.rank
-    (omega (
-      arith,
-      c.loop-rank-test.false,
-      ap (λ (ss : List State). length ss) c.as_slice.ensures.value,
-    ))
-    c.loop-rank.invariant
-
-pub returns-clause-kept : goal.returns-clause-kept
-returns-clause-kept c = c.loop-rank.invariant.kept
+    ) in
+    record {
+      part = record {
+        joined = all_joined c.args.terms c.args.boxes.items c.loop-rank.boxes.items old now
+            c.loop-rank.rank end c.loop-rank.invariant;
+        nodes = c.loop-rank.invariant.nodes;
+        orders = as_many_spare c.args.terms c.args.boxes.items c.loop-rank.boxes.items old now
+            c.loop-rank.rank end c.loop-rank.invariant;
+        kept = c.loop-rank.invariant.kept;
+      };
+    }
