@@ -14,14 +14,14 @@ ghost use Rattle.ug_top.specs.Ran.{HasRun};
 
 mod descriptors;
 mod paths;
-mod progress;
 mod reasons;
+mod teller;
 mod words;
 
 use crate::descriptors::take_standard;
 use crate::paths::{Paths, paths_of};
-use crate::progress::Progress;
 use crate::reasons::Reasons;
+use crate::teller::Teller;
 use crate::words::Behind;
 use std::fs::File;
 use std::io::{Eprint, IsTerminal, Print};
@@ -35,7 +35,7 @@ use ug_disk::Disk;
 use ug_io::{Sink, Source};
 use ug_print::reason;
 use ug_real::{FileDisk, Reader, Writer};
-use ug_threads::{Gate, Host};
+use ug_threads::{Host, Observer};
 use ug_top::{Refusal, Status, run};
 
 // The words behind the program's own name. A word that is not UTF-8 is no command.
@@ -99,11 +99,11 @@ where
     } else {
         FileDisk::new(rt, rt.alloc(), paths.folder)
     };
-    let gate = Progress::new(rt, is_told);
+    let observer = Teller::new(rt, is_told);
     let host = Host {
         rt,
         alloc: rt.alloc(),
-        gate: &gate,
+        observer: &observer,
     };
     let job = Job { words, paths };
     let status = carry_out(&host, job, &mut input, &mut out, &mut disk);
@@ -115,8 +115,8 @@ where
 
 // Does the job with these objects. Why it failed goes to standard error: the system's words where a
 // call did, else what is the matter with the text or the checkpoint.
-fn carry_out<R, G, S, K, D>(
-    host: &Host<'_, R, G>,
+fn carry_out<R, O, S, K, D>(
+    host: &Host<'_, R, O>,
     job: Job<'_>,
     input: &mut S,
     out: &mut K,
@@ -124,7 +124,7 @@ fn carry_out<R, G, S, K, D>(
 ) -> Status
 where
     R: Eprint + Threads + Wait + Sync,
-    G: Gate,
+    O: Observer,
     S: Source + Reasons,
     K: Sink + Reasons,
     D: Disk + Reasons,

@@ -1,7 +1,7 @@
 use std::alloc::{AllocError, Global};
 use std::sync::atomic::{AtomicU64, Ordering};
 use std::thread;
-use ug_threads::{Gate, Moment};
+use ug_threads::{Moment, Observer};
 
 /// That a rank comes to a moment for the time of this number, of which 1 is the first.
 #[derive(Clone, Copy, PartialEq, Eq)]
@@ -26,17 +26,17 @@ struct Comings {
     answered: AtomicU64,
 }
 
-/// A gate that holds ranks until others have come.
+/// An observer that holds ranks until others have come.
 #[derive(Drop)]
-pub struct HoldingGate {
+pub struct HoldingObserver {
     comings: Vec<Comings>,
     holds: Vec<Hold>,
     missed: AtomicU64,
 }
 
-impl HoldingGate {
-    /// A gate for so many ranks, to which none has come.
-    pub fn new(alloc: Global, ranks: u32, holds: &[Hold]) -> Result<HoldingGate, AllocError> {
+impl HoldingObserver {
+    /// An observer for so many ranks, to which none has come.
+    pub fn new(alloc: Global, ranks: u32, holds: &[Hold]) -> Result<HoldingObserver, AllocError> {
         let mut comings = Vec::new(alloc);
         for _ in 0..ranks {
             comings.push(Comings {
@@ -44,7 +44,7 @@ impl HoldingGate {
                 answered: AtomicU64::new(0),
             })?;
         }
-        Ok(HoldingGate {
+        Ok(HoldingObserver {
             comings,
             holds: Vec::from_slice(alloc, holds)?,
             missed: AtomicU64::new(0),
@@ -56,7 +56,7 @@ impl HoldingGate {
         self.missed.load(Ordering::SeqCst)
     }
 
-    // How often a rank has come to a moment; none of another number than the gate has.
+    // How often a rank has come to a moment; none of another number than the observer has.
     fn count_of(&self, rank: u32, moment: Moment) -> Option<&AtomicU64> {
         let comings = self.comings.get(rank as usize)?;
         Some(match moment {
@@ -85,7 +85,7 @@ impl HoldingGate {
     }
 }
 
-impl Gate for HoldingGate {
+impl Observer for HoldingObserver {
     fn pass(&self, rank: u32, moment: Moment) {
         let Some(count) = self.count_of(rank, moment) else {
             return;

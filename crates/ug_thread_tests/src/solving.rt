@@ -12,7 +12,7 @@ use ug_disk::{MemoryDisk, Script};
 use ug_problem::Shared;
 use ug_restart::{Outcome, Start, begin};
 use ug_rules::Settings;
-use ug_threads::{Gate, Host, OpenGate, solve_threads};
+use ug_threads::{Host, Observer, Unobserved, solve_threads};
 
 /// One box in the pool is enough, each delivery is followed by a snapshot, and so many may be
 /// heard.
@@ -43,12 +43,12 @@ pub fn sound_disk(alloc: Global) -> MemoryDisk {
 }
 
 /// The outcome of a solve without a saver, if it has not touched the disk.
-pub fn solved_without<R: Threads + Wait + Sync, G: Gate>(
+pub fn solved_without<R: Threads + Wait + Sync, O: Observer>(
     rt: &R,
     alloc: Global,
     small: &Small<'_>,
     settings: Settings,
-    gate: &G,
+    observer: &O,
 ) -> Option<Outcome>
     requires { AreSettings settings }
 {
@@ -57,7 +57,16 @@ pub fn solved_without<R: Threads + Wait + Sync, G: Gate>(
         return None;
     };
     let mut disk = sound_disk(alloc);
-    let outcome = solve_threads(&Host { rt, alloc, gate }, &opening, None, &mut disk);
+    let outcome = solve_threads(
+        &Host {
+            rt,
+            alloc,
+            observer,
+        },
+        &opening,
+        None,
+        &mut disk,
+    );
     let calls = disk.calls();
     drop(opening);
     drop(disk);
@@ -70,16 +79,16 @@ pub fn solved_without<R: Threads + Wait + Sync, G: Gate>(
 }
 
 /// What a problem comes to, without a saver.
-pub fn solved<R: Threads + Wait + Sync, G: Gate>(
+pub fn solved<R: Threads + Wait + Sync, O: Observer>(
     rt: &R,
     alloc: Global,
     small: &Small<'_>,
     solvers: u32,
     racing: bool,
-    gate: &G,
+    observer: &O,
 ) -> Answer {
     let settings = settings(solvers, racing, u64::MAX);
-    let Some(outcome) = solved_without(rt, alloc, small, settings, gate) else {
+    let Some(outcome) = solved_without(rt, alloc, small, settings, observer) else {
         return Answer::Other;
     };
     let answer = answer_of(&outcome);
@@ -100,8 +109,17 @@ pub fn solved_on<R: Threads + Wait + Sync>(
         return None;
     };
     let Start { opening, saver } = start;
-    let gate = &OpenGate;
-    let outcome = solve_threads(&Host { rt, alloc, gate }, &opening, Some(saver), disk);
+    let observer = &Unobserved;
+    let outcome = solve_threads(
+        &Host {
+            rt,
+            alloc,
+            observer,
+        },
+        &opening,
+        Some(saver),
+        disk,
+    );
     drop(opening);
     Some(outcome)
 }

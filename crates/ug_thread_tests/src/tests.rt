@@ -2,28 +2,28 @@ use crate::answer::{Answer, answer_of};
 use crate::cases::{CHOICE, KNAPSACK, ODD, RAMP, SQUARE};
 use crate::expect::{holds, holds_at, same};
 use crate::family::Member;
-use crate::gates::each_waits;
-use crate::holding::HoldingGate;
+use crate::holding::HoldingObserver;
+use crate::observers::each_waits;
 use crate::problems::Small;
 use crate::solving::{settings, solved, solved_on, solved_without, sound_disk};
 use crate::trying::least_by_trying;
-use crate::yielding::YieldingGate;
+use crate::yielding::YieldingObserver;
 use std::alloc::Global;
 use std::sync::Wait;
 use std::thread::Threads;
 use ug_checkpoint::load;
 use ug_disk::MemoryDisk;
 use ug_restart::{End, Outcome};
-use ug_threads::OpenGate;
+use ug_threads::Unobserved;
 
 // When rank 0 asks again, it has the root.
 #[test]
 fn two_threads_overlap(rt: HostRuntime) {
-    let gate = HoldingGate::new(rt.alloc(), 2, &each_waits()).expect(&rt, "memory");
-    let answer = solved(&rt, rt.alloc(), &KNAPSACK, 2, false, &gate);
+    let observer = HoldingObserver::new(rt.alloc(), 2, &each_waits()).expect(&rt, "memory");
+    let answer = solved(&rt, rt.alloc(), &KNAPSACK, 2, false, &observer);
     same(&rt, &answer, &Answer::Value(-13));
-    same(&rt, &gate.missed(), &0);
-    drop(gate);
+    same(&rt, &observer.missed(), &0);
+    drop(observer);
 }
 
 // Whether each number of solvers finds the answer, racing or not.
@@ -34,7 +34,7 @@ fn all_find<R: Threads + Wait + Sync + AllocGlobal>(
 ) -> bool {
     for solvers in [1, 2, 3, 8] {
         for racing in [false, true] {
-            if solved(rt, rt.alloc(), small, solvers, racing, &OpenGate) != answer {
+            if solved(rt, rt.alloc(), small, solvers, racing, &Unobserved) != answer {
                 return false;
             }
         }
@@ -84,8 +84,8 @@ fn any_number_of_threads_finds_what_trying_finds(rt: HostRuntime) {
 #[test]
 fn threads_in_any_order_find_one_value(rt: HostRuntime) {
     for number in 0..100 {
-        let gate = YieldingGate::new(number);
-        let found = solved(&rt, rt.alloc(), &KNAPSACK, 4, false, &gate);
+        let observer = YieldingObserver::new(number);
+        let found = solved(&rt, rt.alloc(), &KNAPSACK, 4, false, &observer);
         same(&rt, &found, &Answer::Value(-13));
     }
 }
@@ -101,7 +101,7 @@ fn ends_at(outcome: &Outcome, limit: u64) -> bool {
 // Whether a run of the knapsack that may hear so much ends so.
 fn is_limited<R: Threads + Wait + Sync>(rt: &R, alloc: Global, limit: u64) -> bool {
     let settings = settings(3, false, limit);
-    let Some(outcome) = solved_without(rt, alloc, &KNAPSACK, settings, &OpenGate) else {
+    let Some(outcome) = solved_without(rt, alloc, &KNAPSACK, settings, &Unobserved) else {
         return false;
     };
     let ends = ends_at(&outcome, limit);

@@ -1,25 +1,25 @@
 use std::sync::atomic::{AtomicU64, Ordering};
 use std::thread;
-use ug_threads::{Gate, Moment};
+use ug_threads::{Moment, Observer};
 
 // An odd number without a pattern.
 const STRIDE: u64 = 0x9e37_79b9_7f4a_7c15;
 
-/// A gate at which some threads let others go first, at turns that are made up from a number.
+/// An observer at which some threads let others go first, at turns that are made up from a number.
 #[derive(Drop)]
-pub struct YieldingGate {
+pub struct YieldingObserver {
     next: AtomicU64,
 }
 
-impl YieldingGate {
-    pub fn new(number: u64) -> YieldingGate {
-        YieldingGate {
+impl YieldingObserver {
+    pub fn new(number: u64) -> YieldingObserver {
+        YieldingObserver {
             next: AtomicU64::new(number),
         }
     }
 }
 
-impl Gate for YieldingGate {
+impl Observer for YieldingObserver {
     fn pass(&self, _rank: u32, _moment: Moment) {
         let drawn = self.next.fetch_add(STRIDE, Ordering::SeqCst);
         for _ in 0..mixed(drawn) % 4 {

@@ -1,8 +1,8 @@
 //! The threads of a solve, one for each pass.
 
 use crate::desk_seat::DeskSeat;
-use crate::gate::Gate;
 use crate::host::Host;
+use crate::observer::Observer;
 use crossbeam_channel::Sender;
 use std::alloc::{AllocError, Global};
 use std::sync::{Mutex, Wait};
@@ -40,9 +40,9 @@ pub struct Table<'a> {
 
 /// Starts a thread for each pass. One whose thread was not started leaves; where none was started
 /// the caller works with the first. No sender is left but those of the threads.
-pub fn start<'s, E, R: Threads + Wait + Sync, G: Gate>(
+pub fn start<'s, E, R: Threads + Wait + Sync, O: Observer>(
     scope: &'s Scope<'s, E>,
-    host: &'s Host<'s, R, G>,
+    host: &'s Host<'s, R, O>,
     table: Table<'s>,
     sender: Sender<Snapshot>,
 ) {
@@ -54,9 +54,9 @@ pub fn start<'s, E, R: Threads + Wait + Sync, G: Gate>(
 }
 
 // Starts a thread for each pass, and says how many were started. One whose thread was not leaves.
-fn start_each<'s, E, R: Threads + Wait + Sync, G: Gate>(
+fn start_each<'s, E, R: Threads + Wait + Sync, O: Observer>(
     scope: &'s Scope<'s, E>,
-    host: &'s Host<'s, R, G>,
+    host: &'s Host<'s, R, O>,
     table: Table<'s>,
     sender: &Sender<Snapshot>,
 ) -> u32 {
@@ -83,8 +83,8 @@ fn sender_for(sender: &Sender<Snapshot>, every: Option<u64>) -> Option<Sender<Sn
 }
 
 // A worker with the pass of this place.
-fn sit<R: Wait, G: Gate>(
-    host: &Host<'_, R, G>,
+fn sit<R: Wait, O: Observer>(
+    host: &Host<'_, R, O>,
     desk: &Desk,
     place: &Mutex<Pass>,
     sender: Option<Sender<Snapshot>>,
@@ -96,7 +96,7 @@ fn sit<R: Wait, G: Gate>(
         alloc: host.alloc,
         desk,
         pass: &mut pass,
-        gate: host.gate,
+        observer: host.observer,
         sender,
         every: every.unwrap_or(0),
         seen: 0,

@@ -1,7 +1,7 @@
 ghost use Rattle.std.specs.Prelude.{◌≡◌, ◌<◌, []};
 
-use crate::gate::{Gate, Moment, Standing};
-use crate::standing::standing_of;
+use crate::observer::{Moment, Observer, Progress};
+use crate::progress::progress_of;
 use crossbeam_channel::Sender;
 use std::alloc::Global;
 use std::sync::Wait;
@@ -15,12 +15,12 @@ use ug_worker::{Reply, Seat, Took, Untaken};
 
 /// A seat at a desk that threads share, with what a worker brings along.
 #[derive(Drop)]
-pub struct DeskSeat<'a, R, G> {
+pub struct DeskSeat<'a, R, O> {
     pub rt: &'a R,
     pub alloc: Global,
     pub desk: &'a Desk,
     pub pass: &'a mut Pass,
-    pub gate: &'a G,
+    pub observer: &'a O,
     /// Where snapshots go, if they are wanted.
     pub sender: Option<Sender<Snapshot>>,
     /// After how many deliveries one is wanted.
@@ -50,62 +50,62 @@ fn send_if_due<R: Wait>(
 }
 
 // How the run stands now, if memory suffices.
-fn standing<R: Wait>(rt: &R, alloc: Global, desk: &Desk, pass: &mut Pass) -> Option<Standing> {
+fn progress<R: Wait>(rt: &R, alloc: Global, desk: &Desk, pass: &mut Pass) -> Option<Progress> {
     let image = desk.snapshot(rt, pass).ok()?.into_image();
-    let standing = standing_of(alloc, &image);
+    let progress = progress_of(alloc, &image);
     drop(image);
-    standing
+    progress
 }
 
-impl<'a, R: Wait, G: Gate> Seat for DeskSeat<'a, R, G> {
+impl<'a, R: Wait, O: Observer> Seat for DeskSeat<'a, R, O> {
     fn take(&mut self) -> Result<Took, Untaken> {
         self.seen = self.desk.stirred(self.rt);
-        self.gate.pass(self.pass.rank(), Moment::Asking);
+        self.observer.pass(self.pass.rank(), Moment::Asking);
         let took = self.desk.take(self.rt, self.pass);
-        self.gate.pass(self.pass.rank(), Moment::Answered);
+        self.observer.pass(self.pass.rank(), Moment::Answered);
         took
     }
 
     fn solution(&mut self, point: Point) -> Heard {
-        self.gate.pass(self.pass.rank(), Moment::Asking);
+        self.observer.pass(self.pass.rank(), Moment::Asking);
         let heard = self.desk.solution(self.rt, self.pass, point);
-        self.gate.pass(self.pass.rank(), Moment::Answered);
+        self.observer.pass(self.pass.rank(), Moment::Answered);
         send_if_due(self.rt, self.desk, self.pass, &self.sender, self.every);
-        if self.gate.wants(self.pass.heard(), heard == Heard::Kept) {
-            if let Some(standing) = standing(self.rt, self.alloc, self.desk, self.pass) {
-                self.gate.tell(&standing);
-                drop(standing);
+        if self.observer.wants(self.pass.heard(), heard == Heard::Kept) {
+            if let Some(progress) = progress(self.rt, self.alloc, self.desk, self.pass) {
+                self.observer.tell(&progress);
+                drop(progress);
             }
         }
         heard
     }
 
     fn hand(&mut self, number: u64, area: &IntBox) -> Heard {
-        self.gate.pass(self.pass.rank(), Moment::Asking);
+        self.observer.pass(self.pass.rank(), Moment::Asking);
         let heard = self.desk.hand(self.rt, self.pass, number, area);
-        self.gate.pass(self.pass.rank(), Moment::Answered);
+        self.observer.pass(self.pass.rank(), Moment::Answered);
         send_if_due(self.rt, self.desk, self.pass, &self.sender, self.every);
         heard
     }
 
     fn state(&mut self, left: u64, floor: i128) -> Result<Reply, Unfinished> {
-        self.gate.pass(self.pass.rank(), Moment::Asking);
+        self.observer.pass(self.pass.rank(), Moment::Asking);
         let reply = self.desk.state(self.rt, self.pass, left, floor);
-        self.gate.pass(self.pass.rank(), Moment::Answered);
+        self.observer.pass(self.pass.rank(), Moment::Answered);
         send_if_due(self.rt, self.desk, self.pass, &self.sender, self.every);
-        if self.gate.wants(self.pass.heard(), false) {
-            if let Some(standing) = standing(self.rt, self.alloc, self.desk, self.pass) {
-                self.gate.tell(&standing);
-                drop(standing);
+        if self.observer.wants(self.pass.heard(), false) {
+            if let Some(progress) = progress(self.rt, self.alloc, self.desk, self.pass) {
+                self.observer.tell(&progress);
+                drop(progress);
             }
         }
         reply
     }
 
     fn done(&mut self, task: Task) -> Heard {
-        self.gate.pass(self.pass.rank(), Moment::Asking);
+        self.observer.pass(self.pass.rank(), Moment::Asking);
         let heard = self.desk.done(self.rt, self.pass, task);
-        self.gate.pass(self.pass.rank(), Moment::Answered);
+        self.observer.pass(self.pass.rank(), Moment::Answered);
         send_if_due(self.rt, self.desk, self.pass, &self.sender, self.every);
         heard
     }

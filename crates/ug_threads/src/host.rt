@@ -6,5 +6,5 @@ use std::alloc::Global;
 pub struct Host<'a, R, G> {
     pub rt: &'a R,
     pub alloc: Global,
-    pub gate: &'a G,
+    pub observer: &'a G,
 }

@@ -9,14 +9,14 @@ mod alone;
 mod crew;
 mod desk_seat;
 mod ending;
-mod gate;
 mod host;
 mod listener;
+mod observer;
+mod progress;
 mod saving;
 mod solve;
-mod standing;
 mod together;
 
-pub use gate::{Gate, Moment, OpenGate, Standing};
 pub use host::Host;
+pub use observer::{Moment, Observer, Progress, Unobserved};
 pub use solve::solve_threads;

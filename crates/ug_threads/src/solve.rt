@@ -10,11 +10,11 @@ ghost use Rattle.ug_restart.specs.Going.{GoesOn, time};
 ghost use Rattle.ug_threads.specs.Outcomes.{HasEnded, IsSavedOrCounted, IsUntouched};
 
 use crate::ending::end_of;
-use crate::gate::Gate;
 use crate::host::Host;
 use crate::listener::{Saving, Silent};
+use crate::observer::Observer;
+use crate::progress::tell_begin;
 use crate::saving::save_end;
-use crate::standing::tell_begin;
 use crate::together::solve;
 use std::sync::Wait;
 use std::thread::Threads;
@@ -26,8 +26,8 @@ use ug_restart::{End, Outcome, Saves};
 /// Solves what the opening has left, by as many threads as its settings have solvers, all of which
 /// have ended when it returns. With a saver the snapshots that the workers send are saved, and at
 /// last the ending book.
-pub fn solve_threads<R: Threads + Wait + Sync, D: Disk, G: Gate>(
-    host: &Host<'_, R, G>,
+pub fn solve_threads<R: Threads + Wait + Sync, D: Disk, O: Observer>(
+    host: &Host<'_, R, O>,
     opening: &Opening,
     saver: Option<Saver>,
     disk: &mut D,
@@ -50,7 +50,7 @@ pub fn solve_threads<R: Threads + Wait + Sync, D: Disk, G: Gate>(
     ensures missed { 0 < result.missed → Rose (D.faults disk.old) (D.faults disk.new) }
     ensures calm { result.missed ≡ 0 → D.faults disk.new ≡ D.faults disk.old }
 {
-    tell_begin(host.gate, opening);
+    tell_begin(host.observer, opening);
     match saver {
         None => silently(host, opening),
         Some(saver) => with_saver(host, opening, saver, disk),
@@ -73,7 +73,10 @@ fn wanting() -> Outcome
 }
 
 // Without a saver.
-fn silently<R: Threads + Wait + Sync, G: Gate>(host: &Host<'_, R, G>, opening: &Opening) -> Outcome
+fn silently<R: Threads + Wait + Sync, O: Observer>(
+    host: &Host<'_, R, O>,
+    opening: &Opening,
+) -> Outcome
     requires { IsOpening opening.now }
     ensures ended { HasEnded (opening_book opening.now) result.end }
     ensures missed { result.missed ≡ 0 }
@@ -89,8 +92,8 @@ fn silently<R: Threads + Wait + Sync, G: Gate>(host: &Host<'_, R, G>, opening: &
 
 // With a saver.
 #[tactic(auto, using(crate::proofs::Outcomes::still_covered, crate::proofs::Outcomes::covered_begun))]
-fn with_saver<R: Threads + Wait + Sync, D: Disk, G: Gate>(
-    host: &Host<'_, R, G>,
+fn with_saver<R: Threads + Wait + Sync, D: Disk, O: Observer>(
+    host: &Host<'_, R, O>,
     opening: &Opening,
     saver: Saver,
     disk: &mut D,
@@ -114,8 +117,8 @@ fn with_saver<R: Threads + Wait + Sync, D: Disk, G: Gate>(
 
 // With what is saved.
 #[tactic(auto, using(crate::proofs::Outcomes::time_covered))]
-fn saving<R: Threads + Wait + Sync, D: Disk, G: Gate>(
-    host: &Host<'_, R, G>,
+fn saving<R: Threads + Wait + Sync, D: Disk, O: Observer>(
+    host: &Host<'_, R, O>,
     opening: &Opening,
     saves: Saves,
     disk: &mut D,
@@ -165,8 +168,8 @@ struct Concluded<'a, D> {
 }
 
 // Solves, and saves the ending book.
-fn conclude<'a, R: Threads + Wait + Sync, D: Disk, G: Gate>(
-    host: &Host<'_, R, G>,
+fn conclude<'a, R: Threads + Wait + Sync, D: Disk, O: Observer>(
+    host: &Host<'_, R, O>,
     opening: &Opening,
     listener: Saving<'a, D>,
 ) -> Concluded<'a, D>

@@ -7,9 +7,9 @@ ghost use Rattle.ug_threads.specs.Ends.{IsEnding};
 use crate::alone::alone;
 use crate::crew::{Table, passes, places, start};
 use crate::ending::of_opening;
-use crate::gate::Gate;
 use crate::host::Host;
 use crate::listener::{Listener, listen};
+use crate::observer::Observer;
 use crossbeam_channel::{Receiver, Sender, bounded};
 use std::alloc::{AllocError, Global};
 use std::sync::{Mutex, Wait};
@@ -31,8 +31,8 @@ pub struct Solved<T> {
 
 /// Solves by threads. Where there is no desk, or what was behind its lock began with another
 /// opening, which the lock's type does not rule out, the caller solves alone, from the opening.
-pub fn solve<R: Threads + Wait + Sync, G: Gate, T: Listener + Drop>(
-    host: &Host<'_, R, G>,
+pub fn solve<R: Threads + Wait + Sync, O: Observer, T: Listener + Drop>(
+    host: &Host<'_, R, O>,
     opening: &Opening,
     every: Option<u64>,
     listener: T,
@@ -52,8 +52,8 @@ pub fn solve<R: Threads + Wait + Sync, G: Gate, T: Listener + Drop>(
 }
 
 // Solves by threads at a desk. There is no book where memory is wanting for desk or threads.
-fn at_desk<R: Threads + Wait + Sync, G: Gate, T: Listener + Drop>(
-    host: &Host<'_, R, G>,
+fn at_desk<R: Threads + Wait + Sync, O: Observer, T: Listener + Drop>(
+    host: &Host<'_, R, O>,
     opening: &Opening,
     every: Option<u64>,
     listener: T,
@@ -132,8 +132,8 @@ fn make_seating(alloc: Global, passes: Vec<Pass>) -> Result<Seating, AllocError>
 }
 
 // Runs the workers to their end, while the caller listens.
-fn run<R: Threads + Wait + Sync, G: Gate, T: Listener + Drop>(
-    host: &Host<'_, R, G>,
+fn run<R: Threads + Wait + Sync, O: Observer, T: Listener + Drop>(
+    host: &Host<'_, R, O>,
     table: Table<'_>,
     sender: Sender<Snapshot>,
     receiver: &Receiver<Snapshot>,

@@ -18,13 +18,13 @@ use ug_cli::{Plan, Restart, Settings as Asked, Solve};
 use ug_disk::Disk;
 use ug_io::Source;
 use ug_problem::Shared;
-use ug_threads::{Gate, Host};
+use ug_threads::{Host, Observer};
 
 /// Does what the plan asks for, up to the lines, which it does not write: it reads the source,
 /// runs, and saves to the disk, each as far as the plan has it.
 #[tactic(auto, using(crate::proofs::Gathered::has_stopped, crate::proofs::Gathered::stops_unread))]
-pub fn run_plan<R: Threads + Wait + Sync, S: Source, D: Disk, G: Gate>(
-    host: &Host<'_, R, G>,
+pub fn run_plan<R: Threads + Wait + Sync, S: Source, D: Disk, O: Observer>(
+    host: &Host<'_, R, O>,
     plan: &Plan<'_>,
     input: &mut S,
     disk: &mut D,
@@ -52,8 +52,8 @@ pub fn run_plan<R: Threads + Wait + Sync, S: Source, D: Disk, G: Gate>(
 
 // Reads the problem and solves it.
 #[tactic(auto, using(crate::proofs::Gathered::has_stopped, crate::proofs::Gathered::stops_unread))]
-fn run_solve<R: Threads + Wait + Sync, S: Source, D: Disk, G: Gate>(
-    host: &Host<'_, R, G>,
+fn run_solve<R: Threads + Wait + Sync, S: Source, D: Disk, O: Observer>(
+    host: &Host<'_, R, O>,
     solve: &Solve<'_>,
     input: &mut S,
     disk: &mut D,
@@ -83,8 +83,8 @@ fn run_solve<R: Threads + Wait + Sync, S: Source, D: Disk, G: Gate>(
 
 // Reads the problem and goes on with it.
 #[tactic(auto, using(crate::proofs::Gathered::has_stopped, crate::proofs::Gathered::stops_unread))]
-fn run_restart<R: Threads + Wait + Sync, S: Source, D: Disk, G: Gate>(
-    host: &Host<'_, R, G>,
+fn run_restart<R: Threads + Wait + Sync, S: Source, D: Disk, O: Observer>(
+    host: &Host<'_, R, O>,
     restart: &Restart<'_>,
     input: &mut S,
     disk: &mut D,
@@ -108,8 +108,8 @@ fn run_restart<R: Threads + Wait + Sync, S: Source, D: Disk, G: Gate>(
 }
 
 // Solves the problem without a checkpoint.
-fn run_alone<R: Threads + Wait + Sync, D: Disk, G: Gate>(
-    host: &Host<'_, R, G>,
+fn run_alone<R: Threads + Wait + Sync, D: Disk, O: Observer>(
+    host: &Host<'_, R, O>,
     asked: &Asked<'_>,
     problem: Shared,
     disk: &mut D,
@@ -132,8 +132,8 @@ fn run_alone<R: Threads + Wait + Sync, D: Disk, G: Gate>(
 }
 
 // Solves the problem and keeps a checkpoint.
-fn run_saved<R: Threads + Wait + Sync, D: Disk, G: Gate>(
-    host: &Host<'_, R, G>,
+fn run_saved<R: Threads + Wait + Sync, D: Disk, O: Observer>(
+    host: &Host<'_, R, O>,
     asked: &Asked<'_>,
     problem: Shared,
     disk: &mut D,
@@ -158,8 +158,8 @@ fn run_saved<R: Threads + Wait + Sync, D: Disk, G: Gate>(
 }
 
 // Goes on with the problem from the checkpoint.
-fn run_on<R: Threads + Wait + Sync, D: Disk, G: Gate>(
-    host: &Host<'_, R, G>,
+fn run_on<R: Threads + Wait + Sync, D: Disk, O: Observer>(
+    host: &Host<'_, R, O>,
     asked: &Asked<'_>,
     problem: Shared,
     disk: &mut D,

@@ -11,11 +11,11 @@ use ug_cli::Gen;
 use ug_disk::Disk;
 use ug_gen::make;
 use ug_problem::Shared;
-use ug_threads::{Gate, Host};
+use ug_threads::{Host, Observer};
 
 /// Makes the instance of the plan and solves it. The disk is left alone.
-pub fn run_made<R: Threads + Wait + Sync, D: Disk, G: Gate>(
-    host: &Host<'_, R, G>,
+pub fn run_made<R: Threads + Wait + Sync, D: Disk, O: Observer>(
+    host: &Host<'_, R, O>,
     asked: &Gen,
     disk: &mut D,
 ) -> Ended

@@ -17,12 +17,12 @@ use ug_disk::Disk;
 use ug_problem::Shared;
 use ug_restart::{End, Outcome, Start, StartFault, begin, restart};
 use ug_rules::Settings;
-use ug_threads::{Gate, Host, solve_threads};
+use ug_threads::{Host, Observer, solve_threads};
 
 /// Solves the problem without checkpoints, by as many threads as the settings have solvers. The
 /// disk is left alone.
-pub fn solve_new<R: Threads + Wait + Sync, D: Disk, G: Gate>(
-    host: &Host<'_, R, G>,
+pub fn solve_new<R: Threads + Wait + Sync, D: Disk, O: Observer>(
+    host: &Host<'_, R, O>,
     problem: Shared,
     settings: Settings,
     disk: &mut D,
@@ -47,8 +47,8 @@ pub fn solve_new<R: Threads + Wait + Sync, D: Disk, G: Gate>(
 /// Solves the problem and saves checkpoints, whatever the disk has: the run number is above that of
 /// the checkpoint there. The first image is acknowledged before a solver begins; the snapshots that
 /// come are saved, and the book at the end.
-pub fn solve_saved<R: Threads + Wait + Sync, D: Disk, G: Gate>(
-    host: &Host<'_, R, G>,
+pub fn solve_saved<R: Threads + Wait + Sync, D: Disk, O: Observer>(
+    host: &Host<'_, R, O>,
     problem: Shared,
     settings: Settings,
     disk: &mut D,
@@ -72,8 +72,8 @@ pub fn solve_saved<R: Threads + Wait + Sync, D: Disk, G: Gate>(
 
 /// Goes on from the checkpoint on the disk, which is of the same problem, with its incumbent and
 /// its boxes, under the run number after its own.
-pub fn go_on<R: Threads + Wait + Sync, D: Disk, G: Gate>(
-    host: &Host<'_, R, G>,
+pub fn go_on<R: Threads + Wait + Sync, D: Disk, O: Observer>(
+    host: &Host<'_, R, O>,
     problem: Shared,
     settings: Settings,
     disk: &mut D,
@@ -97,8 +97,8 @@ pub fn go_on<R: Threads + Wait + Sync, D: Disk, G: Gate>(
 }
 
 // Solves from this start, and saves.
-fn solve_from<R: Threads + Wait + Sync, D: Disk, G: Gate>(
-    host: &Host<'_, R, G>,
+fn solve_from<R: Threads + Wait + Sync, D: Disk, O: Observer>(
+    host: &Host<'_, R, O>,
     start: Start,
     disk: &mut D,
 ) -> Outcome

@@ -14,14 +14,14 @@ use ug_cli::{Usage, crossed_is_not_taken, read_words};
 use ug_disk::Disk;
 use ug_io::{Failed, Sink, Source};
 use ug_mps::one_outcome;
-use ug_threads::{Gate, Host};
+use ug_threads::{Host, Observer};
 
 /// Does all that the program does: reads the words, which are those behind the program's name, does
 /// what they ask for, and writes the lines of it. `Memory` alone has no cause: it may come in place
 /// of any status but `Usage`, or before the outside fails. Of a text that was refused it answers why,
 /// whatever became of its line.
-pub fn run<R: Threads + Wait + Sync, S: Source, K: Sink, D: Disk, G: Gate>(
-    host: &Host<'_, R, G>,
+pub fn run<R: Threads + Wait + Sync, S: Source, K: Sink, D: Disk, O: Observer>(
+    host: &Host<'_, R, O>,
     words: &[String],
     input: &mut S,
     out: &mut K,
@@ -58,8 +58,8 @@ fn tell<K: Sink>(out: &mut K, ended: &Ended) -> Status
 
 // Does what the words ask for: how it ended, with the lines that are due; none where they ask for
 // nothing.
-fn carry_out<R: Threads + Wait + Sync, S: Source, D: Disk, G: Gate>(
-    host: &Host<'_, R, G>,
+fn carry_out<R: Threads + Wait + Sync, S: Source, D: Disk, O: Observer>(
+    host: &Host<'_, R, O>,
     words: &[String],
     input: &mut S,
     disk: &mut D,

@@ -5,7 +5,7 @@ use std::sync::Wait;
 use std::thread::Threads;
 use ug_disk::{Disk, MemoryDisk};
 use ug_io::{MemorySink, MemorySource, Script, Source};
-use ug_threads::{Host, OpenGate};
+use ug_threads::{Host, Unobserved};
 use ug_top::{Ran, run};
 
 /// The words of a line, which blanks part; `''` is an empty word.
@@ -51,8 +51,12 @@ pub fn told_of<R: Threads + Wait + Sync, S: Source, D: Disk>(
 ) -> Result<Vec<u8>, AllocError> {
     let words = words_of(alloc, line)?;
     let mut out = MemorySink::new(alloc, Script::new(Vec::new(alloc), 64));
-    let gate = &OpenGate;
-    let host = Host { rt, alloc, gate };
+    let observer = &Unobserved;
+    let host = Host {
+        rt,
+        alloc,
+        observer,
+    };
     let ran = run(&host, &words, input, &mut out, disk);
     drop(host);
     drop(words);
@@ -90,8 +94,12 @@ pub fn ran_over<R: Threads + Wait + Sync>(
     let words = words_of(alloc, "solve f")?;
     let mut input = MemorySource { rest: text };
     let mut disk = sound_disk(alloc);
-    let gate = &OpenGate;
-    let host = Host { rt, alloc, gate };
+    let observer = &Unobserved;
+    let host = Host {
+        rt,
+        alloc,
+        observer,
+    };
     let ran = run(&host, &words, &mut input, out, &mut disk);
     drop(host);
     drop(words);

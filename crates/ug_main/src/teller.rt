@@ -1,6 +1,6 @@
 use std::io::Eprint;
 use std::sync::atomic::{AtomicU64, Ordering};
-use ug_threads::{Gate, Moment, Standing};
+use ug_threads::{Moment, Observer, Progress};
 
 const MILLION: u64 = 1_000_000;
 
@@ -8,16 +8,16 @@ const MILLION: u64 = 1_000_000;
 /// each better incumbent, and one after 1000, 2000, 5000, 10000 and so on reports, from a million on
 /// at each million.
 #[derive(Drop)]
-pub struct Progress<'a, R> {
+pub struct Teller<'a, R> {
     rt: &'a R,
     is_on: bool,
     // After so many reports the next line comes.
     next: AtomicU64,
 }
 
-impl<'a, R> Progress<'a, R> {
-    pub fn new(rt: &'a R, is_on: bool) -> Progress<'a, R> {
-        Progress {
+impl<'a, R> Teller<'a, R> {
+    pub fn new(rt: &'a R, is_on: bool) -> Teller<'a, R> {
+        Teller {
             rt,
             is_on,
             next: AtomicU64::new(1000),
@@ -52,7 +52,7 @@ fn after(heard: u64) -> u64 {
     (heard / MILLION).saturating_add(1).saturating_mul(MILLION)
 }
 
-impl<'a, R: Eprint + Sync> Gate for Progress<'a, R> {
+impl<'a, R: Eprint + Sync> Observer for Teller<'a, R> {
     fn pass(&self, _rank: u32, _moment: Moment) {}
 
     fn begin(&self, columns: usize, rows: usize, solvers: u32) {
@@ -65,8 +65,8 @@ impl<'a, R: Eprint + Sync> Gate for Progress<'a, R> {
         self.is_on && (self.has_come(heard) || is_better)
     }
 
-    fn tell(&self, standing: &Standing) {
-        let Standing { heard, best, nodes } = standing;
+    fn tell(&self, progress: &Progress) {
+        let Progress { heard, best, nodes } = progress;
         let best = best
             .as_deref()
             .and_then(|value| str::from_utf8(value).ok())

@@ -9,7 +9,7 @@ pub enum Moment {
 
 /// How a run stands.
 #[derive(Drop)]
-pub struct Standing {
+pub struct Progress {
     /// How many reports were heard.
     pub heard: u64,
     /// The value of the incumbent as it is printed, if there is one.
@@ -18,9 +18,9 @@ pub struct Standing {
     pub nodes: usize,
 }
 
-/// What the threads of a run pass, and to whom they tell how it stands. Each call of it ends. A
-/// gate that wants to be told nothing has `pass` alone.
-pub trait Gate: Sync {
+/// What the threads of a run pass, and to whom they tell how it gets on. Each call of it ends. An
+/// observer that wants to be told nothing has `pass` alone.
+pub trait Observer: Sync {
     /// The worker of a rank has come to a moment.
     fn pass(&self, rank: u32, moment: Moment);
 
@@ -34,13 +34,13 @@ pub trait Gate: Sync {
     }
 
     /// It is told how the run stands.
-    fn tell(&self, _standing: &Standing) {}
+    fn tell(&self, _progress: &Progress) {}
 }
 
-/// The real gate, which does nothing.
+/// None observes: it does nothing.
 #[derive(Clone, Copy)]
-pub struct OpenGate;
+pub struct Unobserved;
 
-impl Gate for OpenGate {
+impl Observer for Unobserved {
     fn pass(&self, _rank: u32, _moment: Moment) {}
 }

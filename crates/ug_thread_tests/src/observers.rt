@@ -1,8 +1,8 @@
 use crate::expect::same;
-use crate::holding::{Coming, Hold, HoldingGate};
-use crate::yielding::YieldingGate;
+use crate::holding::{Coming, Hold, HoldingObserver};
+use crate::yielding::YieldingObserver;
 use std::thread::join;
-use ug_threads::{Gate, Moment, OpenGate};
+use ug_threads::{Moment, Observer, Unobserved};
 
 // When a rank has come to a moment so many times.
 fn coming(rank: u32, moment: Moment, number: u64) -> Coming {
@@ -29,19 +29,23 @@ pub fn each_waits() -> [Hold; 2] {
     [first, second]
 }
 
-fn pass_by<G: Gate>(gate: &G, rank: u32, times: u32) {
+fn pass_by<O: Observer>(observer: &O, rank: u32, times: u32) {
     for _ in 0..times {
-        gate.pass(rank, Moment::Asking);
-        gate.pass(rank, Moment::Answered);
+        observer.pass(rank, Moment::Asking);
+        observer.pass(rank, Moment::Answered);
     }
 }
 
 #[test]
 fn each_rank_waits_for_the_other(rt: HostRuntime) {
-    let gate = HoldingGate::new(rt.alloc(), 2, &each_waits()).expect(&rt, "memory");
-    join(&rt, || pass_by(&gate, 0, 3), || pass_by(&gate, 1, 2));
-    same(&rt, &gate.missed(), &0);
-    drop(gate);
+    let observer = HoldingObserver::new(rt.alloc(), 2, &each_waits()).expect(&rt, "memory");
+    join(
+        &rt,
+        || pass_by(&observer, 0, 3),
+        || pass_by(&observer, 1, 2),
+    );
+    same(&rt, &observer.missed(), &0);
+    drop(observer);
 }
 
 #[test]
@@ -51,11 +55,11 @@ fn rank_that_waits_for_none_goes_on(rt: HostRuntime) {
         until: coming(1, Moment::Asking, 1),
         turns: 100,
     };
-    let gate = HoldingGate::new(rt.alloc(), 2, &[hold]).expect(&rt, "memory");
-    pass_by(&gate, 0, 2);
-    pass_by(&gate, 2, 1);
-    same(&rt, &gate.missed(), &1);
-    drop(gate);
-    pass_by(&OpenGate, 0, 1);
-    pass_by(&YieldingGate::new(7), 0, 9);
+    let observer = HoldingObserver::new(rt.alloc(), 2, &[hold]).expect(&rt, "memory");
+    pass_by(&observer, 0, 2);
+    pass_by(&observer, 2, 1);
+    same(&rt, &observer.missed(), &1);
+    drop(observer);
+    pass_by(&Unobserved, 0, 1);
+    pass_by(&YieldingObserver::new(7), 0, 9);
 }

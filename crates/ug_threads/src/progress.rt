@@ -1,14 +1,14 @@
-use crate::gate::{Gate, Standing};
+use crate::observer::{Observer, Progress};
 use std::alloc::Global;
 use ug_book::Opening;
 use ug_image::Image;
 use ug_problem::Problem;
 use ug_rows::Point;
 
-/// Tells the gate that a run begins.
-pub fn tell_begin<G: Gate>(gate: &G, opening: &Opening) {
+/// Tells the observer that a run begins.
+pub fn tell_begin<O: Observer>(observer: &O, opening: &Opening) {
     let problem = opening.problem.problem();
-    gate.begin(
+    observer.begin(
         problem.columns().len(),
         problem.rows().len(),
         opening.settings.solvers,
@@ -17,12 +17,12 @@ pub fn tell_begin<G: Gate>(gate: &G, opening: &Opening) {
 
 /// How a run stands, by an image of it; nothing where memory is wanting for the value of the
 /// incumbent.
-pub fn standing_of(alloc: Global, image: &Image) -> Option<Standing> {
+pub fn progress_of(alloc: Global, image: &Image) -> Option<Progress> {
     let best = match &image.best {
         Some(best) => Some(value_text(alloc, image.problem.problem(), best)?),
         None => None,
     };
-    Some(Standing {
+    Some(Progress {
         heard: image.deliveries,
         best,
         nodes: image.nodes.len(),
