@@ -5,7 +5,7 @@ use Rattle.std.proofs.lemmas.Fmt.{decimal_injective}
 use Rattle.clap.specs.Walk.{Row, Text}
 use Rattle.ug_cli.specs.declared.plan.Plan.{Plan}
 use Rattle.ug_cli.specs.declared.plan.Plan.TheVariants as plans
-use Rattle.ug_cli.specs.declared.plan.Ranks.{Ranks}
+use Rattle.ug_cli.specs.declared.plan.Solvers.{Solvers}
 use Rattle.ug_cli.specs.Numbers.{IsGiven, IsGivenOr, IsNumber}
 use Rattle.ug_cli.specs.Taken.{AreRanks, AskedIn, InOrder, ranks_of, word_of}
 
@@ -25,7 +25,7 @@ one_given_or other another least most None a b wide e x y = x ∙ (e ∙ sym y)
 one_given_or other another least most (Some word) a b wide e x y = one_number least most word a b wide x y
 
 -- two readings of the ranks have one low and one high
-one_reading : (rows : List Row) (a b : Ranks) → AreRanks rows a → AreRanks rows b → (a.low ≡ b.low) × (a.high ≡ b.high)
+one_reading : (rows : List Row) (a b : Solvers) → AreRanks rows a → AreRanks rows b → (a.low ≡ b.low) × (a.high ≡ b.high)
 one_reading rows a b x y =
     let solvers = one_given 1 256 (word_of (codes "solvers") rows) a.solvers b.solvers (omega arith) x.solvers y.solvers in
     let low = one_given_or a.solvers b.solvers 1 65536 (word_of (codes "low") rows) a.low b.low (omega arith) solvers x.low y.low in
@@ -33,13 +33,13 @@ one_reading rows a b x y =
     (omega arith) (ap (λ n. div_ceil (3 * n) 2) low) x.high y.high in
     (low, high)
 
-clash : (rows : List Row) (a b : Ranks) → AreRanks rows a → AreRanks rows b → a.high < a.low → b.low ≤ b.high → ⊥
+clash : (rows : List Row) (a b : Solvers) → AreRanks rows a → AreRanks rows b → a.high < a.low → b.low ≤ b.high → ⊥
 clash rows a b x y below order = let same = one_reading rows a b x y in absurd (omega (arith, same.0, same.1))
 
-below_of : (a r : Ranks) → Some a ≡ Some r → r.high < r.low → a.high < a.low
+below_of : (a r : Solvers) → Some a ≡ Some r → r.high < r.low → a.high < a.low
 below_of a r e below = let same : a ≡ r = cc in rw same below
 
-pub not_both : (command : Option (Text × List Row)) (p q : Plan) (r : Ranks) → AskedIn command p → AskedIn command q
+pub not_both : (command : Option (Text × List Row)) (p q : Plan) (r : Solvers) → AskedIn command p → AskedIn command q
     → ranks_of p ≡ Some r → r.high < r.low → InOrder (ranks_of q) → ⊥
 not_both None p q r x y e below order = x
 not_both (Some c) (plans.Solve a) (plans.Solve b) r x y e below order =

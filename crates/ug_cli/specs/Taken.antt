@@ -6,13 +6,13 @@ use Rattle.std.specs.Int.{div_ceil}
 use Rattle.clap.specs.Walk.{Row, Text, first_of}
 use Rattle.clap.specs.Simple.{subcommand_of}
 use Rattle.clap.specs.Faults.{fault_of}
-use Rattle.ug_cli.specs.declared.plan.Bounds.{Bounds}
+use Rattle.ug_cli.specs.declared.plan.Limits.{Limits}
 use Rattle.ug_cli.specs.declared.plan.Gen.{Gen}
 use Rattle.ug_cli.specs.declared.plan.Plan.{Plan}
 use Rattle.ug_cli.specs.declared.plan.Plan.TheVariants as plans
-use Rattle.ug_cli.specs.declared.plan.Ranks.{Ranks}
+use Rattle.ug_cli.specs.declared.plan.Solvers.{Solvers}
 use Rattle.ug_cli.specs.declared.plan.Restart.{Restart}
-use Rattle.ug_cli.specs.declared.plan.Settings.{Settings}
+use Rattle.ug_cli.specs.declared.plan.Asked.{Asked}
 use Rattle.ug_cli.specs.declared.plan.Show.{Show}
 use Rattle.ug_cli.specs.declared.plan.Solve.{Solve}
 use Rattle.ug_cli.specs.declared.usage.Usage.{Usage}
@@ -29,7 +29,7 @@ unfoldable pub word_of : Text → List Row → Option Text
 word_of name rows = first_of name rows
 
 -- how many solvers there are, whether they race, and how many open nodes the pool is to hold
-pub record AreRanks (rows : List Row) (ranks : Ranks) : Type 0 where
+pub record AreRanks (rows : List Row) (ranks : Solvers) : Type 0 where
   pub solvers : IsGiven 1 256 (word_of (codes "solvers") rows) ranks.solvers
   pub racing : IsTrue ranks.racing ↔ (word_of (codes "racing") rows ≡ Some (codes "true"))
   pub low : IsGivenOr ranks.solvers 1 65536 (word_of (codes "low") rows) ranks.low
@@ -37,14 +37,14 @@ pub record AreRanks (rows : List Row) (ranks : Ranks) : Type 0 where
       ranks.high
 
 -- how often is saved, how far is gone, the bound of a column that has none, and the gap
-pub record AreBounds (rows : List Row) (bounds : Bounds) : Type 0 where
+pub record AreBounds (rows : List Row) (bounds : Limits) : Type 0 where
   pub every : IsGiven 1 4294967295 (word_of (codes "every") rows) bounds.every
   pub limit : IsGiven 0 1099511627776 (word_of (codes "limit") rows) bounds.limit
   pub boxed : IsGivenIf 0 1000000000 (word_of (codes "box") rows) bounds.boxed
   pub gap : IsGiven 0 1000000000000000000 (word_of (codes "gap") rows) bounds.gap
 
 -- the settings of a solve, which runs in threads
-pub record AreSettings (rows : List Row) (settings : Settings) : Type 0 where
+pub record AreSettings (rows : List Row) (settings : Asked) : Type 0 where
   pub mode : word_of (codes "mode") rows ≡ Some (codes "threads")
   pub ranks : AreRanks rows settings.ranks
   pub bounds : AreBounds rows settings.bounds
@@ -91,14 +91,14 @@ pub record AskedBy (words : List Text) (plan : Plan) : Type 0 where
   pub asks : AskedIn (subcommand_of ug words) plan
 
 -- the ranks of a plan that has a low and a high
-abbrev pub ranks_of : Plan → Option Ranks
+abbrev pub ranks_of : Plan → Option Solvers
 ranks_of (plans.Solve solve) = Some solve.settings.ranks
 ranks_of (plans.Restart restart) = Some restart.settings.ranks
 ranks_of (plans.Show show) = None
 ranks_of (plans.Gen gen) = None
 
 -- the low is at most the high
-abbrev pub InOrder : Option Ranks → Type 0
+abbrev pub InOrder : Option Solvers → Type 0
 InOrder None = Unit {0}
 InOrder (Some ranks) = ranks.low ≤ ranks.high
 
@@ -111,7 +111,7 @@ pub record TakenWords (words : List Text) (plan : Plan) : Type 0 where
 pub record IsCrossed (words : List Text) (low high : ℕ) : Type 0 where
   pub plan : Plan
   pub asked : AskedBy words plan
-  pub ranks : Ranks
+  pub ranks : Solvers
   pub has : ranks_of plan ≡ Some ranks
   pub low_is : ranks.low ≡ low
   pub high_is : ranks.high ≡ high

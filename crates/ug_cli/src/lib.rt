@@ -15,6 +15,6 @@ mod settings;
 mod usage;
 
 pub use laws::crossed_is_not_taken;
-pub use plan::{Bounds, Gen, Plan, Ranks, Restart, Settings, Show, Solve};
+pub use plan::{Asked, Gen, Limits, Plan, Restart, Show, Solve, Solvers};
 pub use reading::read_words;
 pub use usage::Usage;

@@ -1,6 +1,6 @@
 /// How many solvers there are, and how many open nodes the pool is to hold.
 #[derive(Clone, Copy, PartialEq, Eq)]
-pub struct Ranks {
+pub struct Solvers {
     pub solvers: u32,
     /// Whether the solvers begin with a race.
     pub racing: bool,
@@ -12,7 +12,7 @@ pub struct Ranks {
 
 /// How often is saved, and how far is gone.
 #[derive(Clone, Copy, PartialEq, Eq)]
-pub struct Bounds {
+pub struct Limits {
     /// A checkpoint is saved at each delivery whose number is a multiple of this.
     pub every: u32,
     /// After this many deliveries the run ends.
@@ -25,9 +25,9 @@ pub struct Bounds {
 
 /// How a file is solved, in threads.
 #[derive(Clone, Copy, PartialEq, Eq)]
-pub struct Settings<'a> {
-    pub ranks: Ranks,
-    pub bounds: Bounds,
+pub struct Asked<'a> {
+    pub ranks: Solvers,
+    pub bounds: Limits,
     /// The folder of the sockets.
     pub sockets: &'a str,
 }
@@ -38,7 +38,7 @@ pub struct Solve<'a> {
     pub file: &'a str,
     /// The folder of the checkpoint, where one is to be kept.
     pub checkpoint: Option<&'a str>,
-    pub settings: Settings<'a>,
+    pub settings: Asked<'a>,
 }
 
 /// Go on from a checkpoint.
@@ -47,7 +47,7 @@ pub struct Restart<'a> {
     pub file: &'a str,
     /// The folder of the checkpoint.
     pub checkpoint: &'a str,
-    pub settings: Settings<'a>,
+    pub settings: Asked<'a>,
 }
 
 /// Print a checkpoint.

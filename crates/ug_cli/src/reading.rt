@@ -7,7 +7,7 @@ ghost use Rattle.ug_cli.specs.Taken.{ranks_of as stated_ranks, texts};
 
 use crate::given::{given, text_of};
 use crate::options::command;
-use crate::plan::{Gen, Plan, Ranks, Restart, Show, Solve};
+use crate::plan::{Gen, Plan, Restart, Show, Solve, Solvers};
 use crate::settings::settings_of;
 use crate::usage::Usage;
 use clap::ArgMatches;
@@ -121,7 +121,7 @@ fn parsed<'a>(alloc: Global, words: &'a [String]) -> Result<ArgMatches<'a>, Usag
 }
 
 // The ranks of a plan that has a low and a high.
-fn ranks_in(plan: &Plan<'_>) -> Option<Ranks>
+fn ranks_in(plan: &Plan<'_>) -> Option<Solvers>
     ensures { result ≡ stated_ranks plan.now }
 {
     match plan {
@@ -144,7 +144,7 @@ pub fn read_words<'a>(alloc: Global, words: &'a [String]) -> Result<Plan<'a>, Us
         return Err(Usage::Words);
     };
     match ranks_in(&plan) {
-        Some(Ranks { low, high, .. }) if high < low => Err(Usage::HighBelowLow { low, high }),
+        Some(Solvers { low, high, .. }) if high < low => Err(Usage::HighBelowLow { low, high }),
         _ => Ok(plan),
     }
 }

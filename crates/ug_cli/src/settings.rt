@@ -4,18 +4,18 @@ ghost use Rattle.ug_cli.specs.Numbers.{IsGivenIf};
 ghost use Rattle.ug_cli.specs.Taken.{AreBounds, AreRanks, AreSettings, word_of};
 
 use crate::given::{given, given_if, given_or, has_word, text_of};
-use crate::plan::{Bounds, Ranks, Settings};
+use crate::plan::{Asked, Limits, Solvers};
 use clap::ArgMatches;
 
-fn ranks_of(matches: &ArgMatches<'_>) -> Option<Ranks>
+fn ranks_of(matches: &ArgMatches<'_>) -> Option<Solvers>
     ensures found { IfSome result (AreRanks (rows_of (found_of matches.now))) }
-    ensures none { IfNone result ((ranks : Ranks)
+    ensures none { IfNone result ((ranks : Solvers)
         → AreRanks (rows_of (found_of matches.now)) ranks → ⊥) }
 {
     let solvers = given(matches, "solvers", 1, 256)?;
     let low = given_or(matches, "low", 1, 65_536, solvers)?;
     let high = given_or(matches, "high", 1, 131_072, (3 * low).div_ceil(2))?;
-    Some(Ranks {
+    Some(Solvers {
         solvers: solvers as u32,
         racing: has_word(matches, "racing", "true"),
         low: low as u32,
@@ -38,9 +38,9 @@ fn box_of(matches: &ArgMatches<'_>) -> Option<Option<u32>>
     }
 }
 
-fn bounds_of(matches: &ArgMatches<'_>) -> Option<Bounds>
+fn bounds_of(matches: &ArgMatches<'_>) -> Option<Limits>
     ensures found { IfSome result (AreBounds (rows_of (found_of matches.now))) }
-    ensures none { IfNone result ((bounds : Bounds)
+    ensures none { IfNone result ((bounds : Limits)
         → AreBounds (rows_of (found_of matches.now)) bounds → ⊥) }
 {
     let every = given(matches, "every", 1, 4_294_967_295);
@@ -48,7 +48,7 @@ fn bounds_of(matches: &ArgMatches<'_>) -> Option<Bounds>
     let boxed = box_of(matches);
     let gap = given(matches, "gap", 0, 1_000_000_000_000_000_000);
     match (every, limit, boxed, gap) {
-        (Some(every), Some(limit), Some(boxed), Some(gap)) => Some(Bounds {
+        (Some(every), Some(limit), Some(boxed), Some(gap)) => Some(Limits {
             every: every as u32,
             limit,
             boxed,
@@ -59,9 +59,9 @@ fn bounds_of(matches: &ArgMatches<'_>) -> Option<Bounds>
 }
 
 /// The settings of a solve.
-pub fn settings_of<'a>(matches: &ArgMatches<'a>) -> Option<Settings<'a>>
+pub fn settings_of<'a>(matches: &ArgMatches<'a>) -> Option<Asked<'a>>
     ensures found { IfSome result (AreSettings (rows_of (found_of matches.now))) }
-    ensures none { IfNone result ((settings : Settings)
+    ensures none { IfNone result ((settings : Asked)
         → AreSettings (rows_of (found_of matches.now)) settings → ⊥) }
 {
     if !has_word(matches, "mode", "threads") {
@@ -72,7 +72,7 @@ pub fn settings_of<'a>(matches: &ArgMatches<'a>) -> Option<Settings<'a>>
         bounds_of(matches),
         text_of(matches, "sockets"),
     ) {
-        (Some(ranks), Some(bounds), Some(sockets)) => Some(Settings {
+        (Some(ranks), Some(bounds), Some(sockets)) => Some(Asked {
             ranks,
             bounds,
             sockets,

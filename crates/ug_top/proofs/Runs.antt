@@ -12,7 +12,7 @@ use Rattle.ug_cli.specs.Taken.{AskedIn, AreSettings, IsGen, TakenWords}
 use Rattle.ug_cli.specs.declared.plan.Gen.{Gen}
 use Rattle.ug_cli.specs.declared.plan.Plan.{Plan}
 use Rattle.ug_cli.specs.declared.plan.Plan.TheVariants as plans
-use Rattle.ug_cli.specs.declared.plan.Settings.{Settings as Asked}
+use Rattle.ug_cli.specs.declared.plan.Asked.{Asked}
 use Rattle.ug_top.specs.Outside.{Outside}
 use Rattle.ug_top.specs.Ends.{AreFileLines, AreLinesOf, AreSolveLines, IsPlannedOf, status_of}
 use Rattle.ug_top.specs.Lines.{States}

@@ -7,7 +7,7 @@ use Rattle.ug_restart.specs.declared.outcome.End.{End}
 use Rattle.ug_restart.specs.declared.outcome.End.TheVariants as ends
 use Rattle.ug_restart.specs.declared.outcome.Outcome.{Outcome}
 use Rattle.ug_print.specs.Faults.{fault_line}
-use Rattle.ug_cli.specs.declared.plan.Settings.{Settings as Asked}
+use Rattle.ug_cli.specs.declared.plan.Asked.{Asked}
 use Rattle.ug_top.specs.declared.ended.Ended.{Ended}
 use Rattle.ug_top.specs.declared.ended.Ended.TheVariants.{Lines, Refused, ReadFault, Memory}
 use Rattle.ug_top.specs.declared.status.Status.{Status}

@@ -18,7 +18,7 @@ use Rattle.ug_print.specs.Lines.{memory_line, read_fault_line}
 use Rattle.ug_print.specs.Faults.{fault_line}
 use Rattle.ug_print.specs.Checkpoints.{AreCheckpointLines}
 use Rattle.ug_gen.specs.Stated.{instance}
-use Rattle.ug_cli.specs.declared.plan.Settings.{Settings as Asked}
+use Rattle.ug_cli.specs.declared.plan.Asked.{Asked}
 use Rattle.ug_cli.specs.declared.plan.Gen.{Gen}
 use Rattle.ug_cli.specs.declared.plan.Plan.{Plan}
 use Rattle.ug_cli.specs.declared.plan.Plan.TheVariants as plans

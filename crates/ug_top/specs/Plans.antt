@@ -3,7 +3,7 @@ use Rattle.std.specs.Prelude.{ℕ, ◌*◌, ◌<◌, ◌≤◌, ◌^◌, false, 
 use Rattle.std.specs.Int.{div_ceil}
 use Rattle.ug_problem.specs.Instances.{Instance}
 use Rattle.ug_rules.specs.declared.settings.Settings.{Settings}
-use Rattle.ug_cli.specs.declared.plan.Settings.{Settings as Asked}
+use Rattle.ug_cli.specs.declared.plan.Asked.{Asked}
 use Rattle.ug_cli.specs.declared.plan.Gen.{Gen}
 use Rattle.ug_top.specs.Scaled.{scaled_gap}
 

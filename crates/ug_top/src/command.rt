@@ -14,7 +14,7 @@ use crate::settings::settings_for;
 use crate::show::show;
 use std::sync::Wait;
 use std::thread::Threads;
-use ug_cli::{Plan, Restart, Settings as Asked, Solve};
+use ug_cli::{Asked, Plan, Restart, Solve};
 use ug_disk::Disk;
 use ug_io::Source;
 use ug_problem::Shared;

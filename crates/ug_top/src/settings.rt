@@ -3,7 +3,7 @@ ghost use Rattle.ug_rules.specs.Books.{AreSettings};
 ghost use Rattle.ug_top.specs.Plans.{IsPlanned, settings_for, settings_made};
 
 use crate::scaled::scaled;
-use ug_cli::Settings as Asked;
+use ug_cli::Asked;
 use ug_problem::Problem;
 use ug_rules::Settings;
 

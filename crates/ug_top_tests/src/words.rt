@@ -1,18 +1,18 @@
 use crate::expect::{holds, holds_at};
 use crate::running::words_of;
 use std::alloc::Global;
-use ug_cli::{Bounds, Gen, Plan, Ranks, Restart, Settings, Show, Solve, Usage, read_words};
+use ug_cli::{Asked, Gen, Limits, Plan, Restart, Show, Solve, Solvers, Usage, read_words};
 
 // The settings with these ranks, and otherwise what they are by default.
-fn settings_with(solvers: u32, low: u32, high: u32) -> Settings<'static> {
-    Settings {
-        ranks: Ranks {
+fn settings_with(solvers: u32, low: u32, high: u32) -> Asked<'static> {
+    Asked {
+        ranks: Solvers {
             solvers,
             racing: false,
             low,
             high,
         },
-        bounds: Bounds {
+        bounds: Limits {
             every: 100,
             limit: 1_099_511_627_776,
             boxed: None,
@@ -40,14 +40,14 @@ const GREATEST: &str = "solve m --mode threads --solvers 256 --racing --low 6553
 const ALL: Solve<'static> = Solve {
     file: "m",
     checkpoint: Some("c"),
-    settings: Settings {
-        ranks: Ranks {
+    settings: Asked {
+        ranks: Solvers {
             solvers: 256,
             racing: true,
             low: 65_536,
             high: 131_072,
         },
-        bounds: Bounds {
+        bounds: Limits {
             every: 4_294_967_295,
             limit: 0,
             boxed: Some(1_000_000_000),
