@@ -1,9 +1,9 @@
 use crate::expect::same;
-use ug_rules::Racer;
+use ug_rules::Contender;
 use ug_stock::winner;
 
-fn racer(rank: u32, open: u64, floor: i128) -> Racer {
-    Racer { rank, open, floor }
+fn racer(rank: u32, open: u64, floor: i128) -> Contender {
+    Contender { rank, open, floor }
 }
 
 #[test]

@@ -11,10 +11,10 @@ use Rattle.ug_book.specs.Views.{IsSameRun}
 use Rattle.ug_book.proofs.Starts.{start_is_sound}
 use Rattle.ug_book.specs.declared.opening.Opening.{Opening}
 use Rattle.ug_book.specs.Openings.{opening_book}
-use Rattle.ug_desk.specs.Standings.{Standing}
+use Rattle.ug_desk.specs.DeskStates.{DeskState}
 use Rattle.ug_desk.specs.Entries.{IsLocked}
 
-abbrev with_tickets : BookState → List Ticket → Standing
+abbrev with_tickets : BookState → List Ticket → DeskState
 with_tickets b tickets = record { book = b; tickets = tickets }
 
 -- with no call yet

@@ -11,13 +11,13 @@ use Rattle.ug_worker.specs.declared.took.Took.{Took}
 use Rattle.ug_worker.specs.declared.took.Took.TheVariants.{Work, Wait, Over}
 use Rattle.ug_worker.specs.declared.took.Untaken.{Untaken}
 use Rattle.ug_worker.specs.declared.reply.Reply.{Reply}
-use Rattle.ug_desk.specs.Standings.{Standing, own_ticket}
+use Rattle.ug_desk.specs.DeskStates.{DeskState, own_ticket}
 use Rattle.ug_desk.specs.Takes.{HasAnswered, IsCutShort, tickets_after}
 use Rattle.ug_desk.specs.Reports.{HasNotStated, HasStated}
 use Rattle.ug_desk.specs.Histories.{Call, Entry, Replays, Step, stated, taken}
 use Rattle.ug_desk.specs.Entries.{HasEntered, IsLocked, LockedState, one_more}
 
-replays_more : (old mid new : Standing) (history : List Entry) (entry : Entry)
+replays_more : (old mid new : DeskState) (history : List Entry) (entry : Entry)
     → Replays old history mid → Step entry.pass entry.call mid new
     → Replays old (history ++ entry ∷ []) new
 replays_more old mid new [] entry t s =
@@ -72,7 +72,7 @@ entered_by l b count r call is step same sound counted =
     entered l _ r call is (record { step = step; opening = refl; count = counted }) same sound refl
 
 -- a step by the answer of the call
-pub stated_step : (result : Result Reply Unfinished) (r left : ℕ) (floor : ℤ) (s : Standing)
+pub stated_step : (result : Result Reply Unfinished) (r left : ℕ) (floor : ℤ) (s : DeskState)
     (b : BookState)
     → IfOk result (λ reply. HasStated r (own_ticket s r) left floor reply s.book b)
     → IfErr result (λ (e : Unfinished). HasNotStated r (own_ticket s r) left floor e.stood s.book b)
@@ -80,7 +80,7 @@ pub stated_step : (result : Result Reply Unfinished) (r left : ℕ) (floor : ℤ
 stated_step (Ok reply) r left floor s b ok err = record { book = ok; tickets = refl }
 stated_step (Err e) r left floor s b ok err = record { book = err; tickets = refl }
 
-pub taken_step : (result : Result Took Untaken) (r : ℕ) (s : Standing) (b : BookState)
+pub taken_step : (result : Result Took Untaken) (r : ℕ) (s : DeskState) (b : BookState)
     (tickets : List Ticket) → IfOk result (λ took. HasAnswered r took s.book b)
     → IfErr result (λ end. IsCutShort r end s.book b)
     → IfOk result (λ took. tickets ≡ tickets_after took r s.tickets)

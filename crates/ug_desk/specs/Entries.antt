@@ -11,7 +11,7 @@ use Rattle.ug_snapshot.specs.Moments.{IsImageOf}
 use Rattle.ug_book.specs.declared.opening.Opening.{Opening}
 use Rattle.ug_snapshot.specs.Snapshots.{SnapshotState}
 use Rattle.ug_book.specs.Openings.{IsCoveredOpening, opening_book}
-use Rattle.ug_desk.specs.Standings.{Standing, opening_standing}
+use Rattle.ug_desk.specs.DeskStates.{DeskState, opening_state}
 use Rattle.ug_desk.specs.Dones.{IsOfTicket}
 use Rattle.ug_desk.specs.Histories.{Call, Entry, Replays, Step, ended}
 
@@ -19,7 +19,7 @@ use Rattle.ug_desk.specs.Histories.{Call, Entry, Replays, Step, ended}
 -- still at its greatest value
 pub record LockedState : Type 0 where
   pub opening : Opening
-  pub now : Standing
+  pub now : DeskState
   pub count : ℕ
 
 -- one call more
@@ -30,7 +30,7 @@ one_more count = min (count + 1) (2 ^ 64 - 1)
 -- the opening's problem, run and settings, and is sound where that is covered; each rank has a pass
 pub record IsLocked (l : LockedState) : Type 0 where
   pub history : List Entry
-  pub replays : Replays (opening_standing l.opening) history l.now
+  pub replays : Replays (opening_state l.opening) history l.now
   pub counted : l.count ≡ min (length history) (2 ^ 64 - 1)
   pub same : IsSameRun (opening_book l.opening) l.now.book
   pub sound : IsCoveredOpening l.opening → IsSoundBook l.now.book

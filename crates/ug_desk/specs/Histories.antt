@@ -9,7 +9,7 @@ use Rattle.ug_base.specs.Tasks.{TaskState}
 use Rattle.ug_worker.specs.declared.took.Took.{Took}
 use Rattle.ug_worker.specs.declared.took.Untaken.{Untaken}
 use Rattle.ug_worker.specs.declared.reply.Reply.{Reply}
-use Rattle.ug_desk.specs.Standings.{OfBook, Standing, own_ticket}
+use Rattle.ug_desk.specs.DeskStates.{OfBook, DeskState, own_ticket}
 use Rattle.ug_desk.specs.Takes.{HasTaken, IsCutShort}
 use Rattle.ug_desk.specs.Reports.{HasHanded, HasNotStated, HasOffered, HasStated}
 use Rattle.ug_desk.specs.Dones.{HasDone}
@@ -30,7 +30,7 @@ abbrev pub HasGone : ℕ → BookState → BookState → Type 0
 HasGone r old new = new ≡ killed r old
 
 -- what a call of pass r does, by the rules of the book
-abbrev pub Step : ℕ → Call → Standing → Standing → Type 0
+abbrev pub Step : ℕ → Call → DeskState → DeskState → Type 0
 Step r (taken (Ok took)) old new = HasTaken r took old new
 Step r (taken (Err end)) old new = OfBook (IsCutShort r end) old new
 Step r (offered x answer) old new = OfBook (HasOffered r (own_ticket old r) x answer) old new
@@ -51,7 +51,7 @@ pub record Entry : Type 0 where
   pub call : Call
 
 -- the calls, one after another, lead from the old to the new
-abbrev pub Replays : Standing → List Entry → Standing → Type 0
+abbrev pub Replays : DeskState → List Entry → DeskState → Type 0
 Replays old [] new = new ≡ old
 Replays old (entry ∷ history) new =
-    (next : Standing) × Step entry.pass entry.call old next × Replays next history new
+    (next : DeskState) × Step entry.pass entry.call old next × Replays next history new

@@ -8,4 +8,4 @@ pub mod Histories
 pub mod Entries
 pub mod Passes
 pub mod Views
-pub mod Standings
+pub mod DeskStates

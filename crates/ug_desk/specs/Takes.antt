@@ -20,7 +20,7 @@ use Rattle.ug_worker.specs.declared.took.Took.TheVariants.{Work, Wait, Over}
 use Rattle.ug_worker.specs.declared.took.Untaken.{Untaken}
 use Rattle.ug_worker.specs.declared.took.Untaken.TheVariants.{Deciding, Making}
 use Rattle.ug_desk.specs.Decided.{HasDecided, HasStood}
-use Rattle.ug_desk.specs.Standings.{Standing}
+use Rattle.ug_desk.specs.DeskStates.{DeskState}
 
 -- the rank joined, where it was absent or dead: what a rank does whose Ready is kept
 abbrev pub with_joined : ℕ → BookState → BookState
@@ -89,7 +89,7 @@ pub record HasAnswered (r : ℕ) (took : Took) (old new : BookState) : Type 0 wh
   pub answer : IsAnswer new r took
 
 -- so the pass took this
-pub record HasTaken (r : ℕ) (took : Took) (old new : Standing) : Type 0 where
+pub record HasTaken (r : ℕ) (took : Took) (old new : DeskState) : Type 0 where
   pub answered : HasAnswered r took old.book new.book
   pub tickets : new.tickets ≡ tickets_after took r old.tickets
 

@@ -1,6 +1,6 @@
 ghost use Rattle.std.specs.Prelude.{◌≡◌, ◌<◌, [], length, IfOk, OnErr, OnOk};
 ghost use Rattle.ug_book.specs.Openings.{IsOpening};
-ghost use Rattle.ug_desk.specs.Standings.{opening_standing, own_ticket};
+ghost use Rattle.ug_desk.specs.DeskStates.{opening_state, own_ticket};
 ghost use Rattle.ug_desk.specs.Histories.{taken, offered, handed, stated, given_up, left, copied};
 ghost use Rattle.ug_desk.specs.Entries.{HasEnded, HasEntered, HasEnteredAlive, IsLocked, one_more};
 ghost use Rattle.ug_desk.specs.Entries.{IsSnapshotOf};
@@ -51,7 +51,7 @@ impl Locked {
         requires { IsOpening opening }
         ensures { IfOk result (λ locked. locked ≡ record {
           opening = opening;
-          now = opening_standing opening;
+          now = opening_state opening;
           count = 0;
         }) }
     {

@@ -6,7 +6,7 @@ ghost use Rattle.ug_image.specs.Reading.{image_at};
 ghost use Rattle.ug_image.specs.Spelling.{Spell};
 
 use crate::error::ImageError;
-use crate::fields::image_of;
+use crate::fields::whole_image;
 use crate::image::Image;
 use std::alloc::Global;
 use ug_fields::Fault;
@@ -19,7 +19,7 @@ pub fn decode(alloc: Global, bytes: &[u8]) -> Result<Image, ImageError>
         → MatchResult result (λ read. read ≡ image) (λ e. e ≡ Memory) }
     ensures refused { IfErr result (IsRefused bytes.now) }
 {
-    match image_of(alloc, bytes) {
+    match whole_image(alloc, bytes) {
         Ok(image) => Ok(image),
         Err(Fault::Memory) => Err(ImageError::Memory),
         Err(Fault::Bad(left)) => Err(ImageError::BadAt {

@@ -79,7 +79,7 @@ fn behind_problem(
 
 /// The image that the bytes spell.
 #[tactic(auto, unfolding(crate::specs::Reading::image_at))]
-pub fn image_of(alloc: Global, bytes: &[u8]) -> Result<Image, Fault>
+pub fn whole_image(alloc: Global, bytes: &[u8]) -> Result<Image, Fault>
     ensures { Gives (λ x. x) result (image_at bytes.now) }
 {
     let (image, rest) = fields_at(alloc, bytes)?;

@@ -9,7 +9,7 @@ use Rattle.ug_nodes.specs.declared.name.Name.{Name}
 use Rattle.ug_nodes.specs.declared.node.Node.{Node}
 use Rattle.ug_pool.specs.declared.entry.Entry.{Entry}
 use Rattle.ug_nodes.specs.Primitive.{times}
-use Rattle.ug_rules.specs.declared.racer.Racer.{Racer as Reported}
+use Rattle.ug_rules.specs.declared.contender.Contender.{Contender}
 use Rattle.ug_ranks.specs.declared.state.Racer.{Racer}
 use Rattle.ug_ranks.specs.declared.state.Work.{Work}
 use Rattle.ug_ranks.specs.declared.state.State.{State}
@@ -33,14 +33,14 @@ use Rattle.ug_rules.proofs.RacerLemmas.{SomeRaces, are_racing, idled_fewer_races
 use Rattle.ug_rules.proofs.BookLemmas.{book_changed, floors_idled, no_race}
 
 -- racer number q of the states, counted from k
-pub record IsRacerFrom (k : ℕ) (ss : List State) (racer : Reported) : Type 0 where
+pub record IsRacerFrom (k : ℕ) (ss : List State) (racer : Contender) : Type 0 where
   pub place : ℕ
   pub there : place < length ss
   pub named : racer.rank ≡ k + place
   pub its : Racer
   pub state : state_at ss place ≡ Racing its
 
-pub racer_from : (k : ℕ) (ss : List State) (racer : Reported) → Contains (of_ranks racer_at k ss) racer
+pub racer_from : (k : ℕ) (ss : List State) (racer : Contender) → Contains (of_ranks racer_at k ss) racer
     → IsRacerFrom k ss racer
 racer_from k [] racer h = absurd (omega (arith, h.1))
 racer_from k (s ∷ ss) racer h =
@@ -61,7 +61,7 @@ racer_from k (s ∷ ss) racer h =
     here (Racing its) (zero, l, same) = record {
       place = 0;
       there = omega arith;
-      named = omega (arith, ap (λ (x : Reported). x.rank) same);
+      named = omega (arith, ap (λ (x : Contender). x.rank) same);
       its = its;
       state = refl;
     }

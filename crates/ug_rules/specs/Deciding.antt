@@ -9,7 +9,7 @@ use Rattle.ug_branch.specs.declared.params.End.TheVariants.{Lowest, Highest}
 use Rattle.ug_branch.specs.declared.params.Half.TheVariants.{Lower, Upper}
 use Rattle.ug_pool.specs.declared.entry.Entry.{Entry}
 use Rattle.ug_pool.specs.Pools.{with_floor_below}
-use Rattle.ug_rules.specs.declared.racer.Racer.{Racer}
+use Rattle.ug_rules.specs.declared.contender.Contender.{Contender}
 use Rattle.ug_rules.specs.Winning.{IsWinner}
 use Rattle.ug_rules.specs.declared.demand.Wanted.{Wanted}
 use Rattle.ug_rules.specs.declared.demand.Wanted.TheVariants.{Ask, Enough, Nothing}
@@ -57,11 +57,11 @@ abbrev pub announced : BookState → BookState
 announced b = announced_as (cutoff_of_best b) b
 
 -- 3: where each racer has reported and one of them has enough open nodes, it wins
-abbrev pub racers_of : BookState → List Racer
+abbrev pub racers_of : BookState → List Contender
 racers_of b = racers_in b.ranks
 
 -- the racer has reported
-abbrev pub HasReported : Racer → Type 0
+abbrev pub HasReported : Contender → Type 0
 HasReported racer = racer.«open» ≢ 0
 
 pub record IsRaceWon (b : BookState) (rank : ℕ) : Type 0 where

@@ -5,7 +5,7 @@ use Rattle.ug_ranks.specs.declared.state.State.{State}
 use Rattle.ug_ranks.specs.declared.state.State.TheVariants.{Idle, Racing, Active}
 use Rattle.ug_ranks.specs.Looks.{is_racing}
 use Rattle.ug_rules.specs.declared.member.Member.{Member}
-use Rattle.ug_rules.specs.declared.racer.Racer.{Racer}
+use Rattle.ug_rules.specs.declared.contender.Contender.{Contender}
 
 -- what f tells of each rank from r on, in order
 abbrev pub of_ranks : {A : Type 0} → (ℕ → State → List A) → ℕ → List State → List A
@@ -21,12 +21,12 @@ abbrev pub ranks_that : (State → Bool) → List State → List ℕ
 ranks_that test states = of_ranks (rank_if test) 0 states
 
 -- the racer that a rank is, if it races
-abbrev pub racer_at : ℕ → State → List Racer
+abbrev pub racer_at : ℕ → State → List Contender
 racer_at r (Racing racer) = record { rank = r; «open» = racer.«open»; floor = racer.floor } ∷ []
 racer_at r state = []
 
 -- the racers, rising in rank
-abbrev pub racers_in : List State → List Racer
+abbrev pub racers_in : List State → List Contender
 racers_in states = of_ranks racer_at 0 states
 
 -- the member that a rank is, if it works

@@ -5,15 +5,16 @@
 //! when it is sound). The laws: both stay; a book that holds nothing has a right answer.
 #![tactic(auto)]
 
+mod contender;
 mod demand;
 mod heard;
 mod laws_of_deciding;
 mod laws_of_hearing;
 mod member;
-mod racer;
 mod settings;
 mod told;
 
+pub use contender::Contender;
 pub use demand::Wanted;
 pub use heard::Heard;
 pub use laws_of_deciding::{
@@ -24,6 +25,5 @@ pub use laws_of_hearing::{
     hearing_takes_no_room, other_events_are_none, stops_have_places,
 };
 pub use member::Member;
-pub use racer::Racer;
 pub use settings::Settings;
 pub use told::Told;

@@ -8,7 +8,7 @@ use Rattle.std.proofs.lemmas.List.{length-append, length-map}
 use Rattle.ug_frames.specs.declared.order.Order.TheVariants.{Stop}
 use Rattle.ug_nodes.specs.declared.node.Node.{Node}
 use Rattle.ug_pool.specs.declared.entry.Entry.{Entry}
-use Rattle.ug_rules.specs.declared.racer.Racer.{Racer as Reported}
+use Rattle.ug_rules.specs.declared.contender.Contender.{Contender}
 use Rattle.ug_rules.specs.Winning.{IsWinner}
 use Rattle.ug_ranks.specs.declared.state.State.{State}
 use Rattle.ug_ranks.specs.declared.state.State.TheVariants.{Absent, Idle, Racing, Active, Dead}
@@ -25,7 +25,7 @@ use Rattle.ug_rules.proofs.WonLemmas.{racer_from}
 use Rattle.ug_stock.specs.Races.{IsRacer, IsWonAmong, StandsAlone}
 
 -- where no rank wins among the racers, none does so after each has reported
-pub not_won : (enough : ℕ) (racers : List Reported) (result : Option ℕ) (rank : ℕ) → result ≡ None
+pub not_won : (enough : ℕ) (racers : List Contender) (result : Option ℕ) (rank : ℕ) → result ≡ None
     → ((r : ℕ) → IsWinner enough racers r → result ≡ Some r) → IsWonAmong enough racers rank → ⊥
 not_won enough racers result rank none only won =
     none-some rank (sym none ∙ only rank won.winner)

@@ -1,7 +1,7 @@
 -- When a race is won, and what it stands in.
 use Rattle.std.specs.Prelude.{◌≡◌, ◌≢◌, ℕ, ◌+◌, ◌<◌, ◌≤◌, List, [], length, All, IsSome, Option, None}
 use Rattle.ug_pool.specs.declared.entry.Entry.{Entry}
-use Rattle.ug_rules.specs.declared.racer.Racer.{Racer}
+use Rattle.ug_rules.specs.declared.contender.Contender.{Contender}
 use Rattle.ug_rules.specs.Winning.{IsWinner}
 use Rattle.ug_ranks.specs.declared.state.State.{State}
 use Rattle.ug_ranks.specs.States.{IsRacing, state_at}
@@ -11,7 +11,7 @@ use Rattle.ug_ranks.specs.Looks.{is_racing}
 use Rattle.ug_rules.specs.Deciding.{HasReported}
 
 -- each of the racers has reported, and this rank wins
-pub record IsWonAmong (enough : ℕ) (racers : List Racer) (rank : ℕ) : Type 0 where
+pub record IsWonAmong (enough : ℕ) (racers : List Contender) (rank : ℕ) : Type 0 where
   pub reported : All HasReported racers
   pub winner : IsWinner enough racers rank
 

@@ -6,10 +6,10 @@ ghost use Rattle.ug_stock.specs.Races.{IsWonAmong};
 use crate::choosing::winner;
 use std::alloc::{AllocError, Global};
 use ug_ranks::{Ranks, State};
-use ug_rules::Racer;
+use ug_rules::Contender;
 
 /// The racers with their last reports, rising in rank.
-pub fn racers_of(alloc: Global, ranks: &Ranks) -> Result<Vec<Racer>, AllocError>
+pub fn racers_of(alloc: Global, ranks: &Ranks) -> Result<Vec<Contender>, AllocError>
     ensures { IfOk result (λ racers. racers.items ≡ racers_in ranks.now) }
 {
     let mut racers = Vec::new(alloc);
@@ -20,11 +20,11 @@ pub fn racers_of(alloc: Global, ranks: &Ranks) -> Result<Vec<Racer>, AllocError>
 }
 
 // The rank is one of the racers, if it races.
-fn add_racer(racers: &mut Vec<Racer>, rank: u32, state: &State) -> Result<(), AllocError>
+fn add_racer(racers: &mut Vec<Contender>, rank: u32, state: &State) -> Result<(), AllocError>
     ensures { OnOk result (racers.new.items ≡ racers.old.items ++ racer_at rank state.now) }
 {
     if let State::Racing(racer) = state {
-        racers.push(Racer {
+        racers.push(Contender {
             rank,
             open: racer.open,
             floor: racer.floor,
@@ -35,7 +35,7 @@ fn add_racer(racers: &mut Vec<Racer>, rank: u32, state: &State) -> Result<(), Al
 
 /// The rank that wins, where each racer has reported and one of them has enough open nodes.
 #[tactic(auto, using(crate::proofs::Won::not_won))]
-pub fn winner_of(racers: &[Racer], enough: u64) -> Option<u32>
+pub fn winner_of(racers: &[Contender], enough: u64) -> Option<u32>
     ensures none { IsNone result → (rank : ℕ) → IsWonAmong enough racers.now rank → ⊥ }
     ensures some { IfSome result (IsWonAmong enough racers.now) }
 {
@@ -45,7 +45,7 @@ pub fn winner_of(racers: &[Racer], enough: u64) -> Option<u32>
     winner(racers, enough)
 }
 
-fn have_reported(racers: &[Racer]) -> bool
+fn have_reported(racers: &[Contender]) -> bool
     ensures { MatchBool result
         (All HasReported racers.now)
         (All HasReported racers.now → ⊥) }

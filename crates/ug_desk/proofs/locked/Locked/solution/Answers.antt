@@ -1,5 +1,5 @@
 use Rattle.std.proofs.Common.{◌≡◌, ap, sym, subst, ◌∙◌, refl}
-use Rattle.ug_desk.specs.Standings.{own_ticket}
+use Rattle.ug_desk.specs.DeskStates.{own_ticket}
 use Rattle.ug_desk.specs.Histories.{offered}
 use Rattle.ug_desk.specs.Reports.{HasOffered}
 use Rattle.ug_desk.specs.Entries.{LockedState}

@@ -3,7 +3,7 @@ use mir.Syntax.{w128}
 use Rattle.std.proofs.lemmas.Int.{to_z-of_z}
 use Rattle.std.specs.Prelude.{IfOk, IfErr}
 use Rattle.ug_stock.specs.declared.unfinished.Unfinished.{Unfinished}
-use Rattle.ug_desk.specs.Standings.{own_ticket}
+use Rattle.ug_desk.specs.DeskStates.{own_ticket}
 use Rattle.ug_desk.specs.Histories.{stated}
 use Rattle.ug_desk.specs.Reports.{HasNotStated, HasStated}
 use Rattle.ug_desk.specs.Entries.{LockedState}

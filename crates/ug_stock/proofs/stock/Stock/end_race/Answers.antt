@@ -2,7 +2,7 @@ use Rattle.std.proofs.Common.{◌∙◌, inl, ap, refl, subst, length, not, List
 use Rattle.std.specs.Prelude.{ℕ, Option}
 use Rattle.ug_pool.specs.declared.entry.Entry.{Entry}
 use Rattle.ug_stock.specs.Queues.{Queued}
-use Rattle.ug_rules.specs.declared.racer.Racer.{Racer}
+use Rattle.ug_rules.specs.declared.contender.Contender.{Contender}
 use Rattle.ug_rules.specs.State.{raced_node}
 use Rattle.ug_rules.specs.Deciding.{race_won}
 use Rattle.ug_stock.specs.Races.{IsWonAmong}
@@ -19,24 +19,24 @@ pub returns-in_default-clause-ok : goal.returns-in_default-clause-ok
 returns-in_default-clause-ok c = λ b e.
     none_won (with_stock b c.args.self.now)
     c.args.enough e
-    (subst (λ (rs : List Racer). (rank : ℕ) → IsWonAmong c.args.enough rs rank → ⊥)
+    (subst (λ (rs : List Contender). (rank : ℕ) → IsWonAmong c.args.enough rs rank → ⊥)
     (c.as_slice.ensures.value ∙ c.in_ok-racers.ensures) (c.in_default.ensures.none refl))
 
 pub win_race-requires-clause-racer : goal.win_race-requires-clause-racer
 win_race-requires-clause-racer c =
-    let won = subst (λ (rs : List Racer). IsWonAmong c.args.enough rs c.in-Some.rank)
+    let won = subst (λ (rs : List Contender). IsWonAmong c.args.enough rs c.in-Some.rank)
     (c.as_slice.ensures.value ∙ c.in_ok-racers.ensures) c.in-Some.ensures.some in
     winner_there c.args.enough c.args.self.now.ranks c.in-Some.rank won
 
 pub win_race-requires-clause-room : goal.win_race-requires-clause-room
 win_race-requires-clause-room c =
-    let won = subst (λ (rs : List Racer). IsWonAmong c.args.enough rs c.in-Some.rank)
+    let won = subst (λ (rs : List Contender). IsWonAmong c.args.enough rs c.in-Some.rank)
     (c.as_slice.ensures.value ∙ c.in_ok-racers.ensures) c.in-Some.ensures.some in
     omega (
       arith,
       one_each c.in-Some.rank c.args.self.now.ranks
           (winner_there c.args.enough c.args.self.now.ranks c.in-Some.rank won).racing,
-      ap (λ (rs : List Racer). length rs) (c.as_slice.ensures.value ∙ c.in_ok-racers.ensures),
+      ap (λ (rs : List Contender). length rs) (c.as_slice.ensures.value ∙ c.in_ok-racers.ensures),
       c.as_slice.ensures.len,
       c.len.ensures,
       ap (λ (queue : Queued). queue.spare) c.in_ok-reserve.ensures.ok,
@@ -45,7 +45,7 @@ win_race-requires-clause-room c =
 pub returns-clause-ok : goal.returns-clause-ok
 returns-clause-ok c = λ b e.
     let old = with_stock b c.args.self.now in
-    let won = subst (λ (rs : List Racer). IsWonAmong c.args.enough rs c.in-Some.rank)
+    let won = subst (λ (rs : List Contender). IsWonAmong c.args.enough rs c.in-Some.rank)
     (c.as_slice.ensures.value ∙ c.in_ok-racers.ensures) c.in-Some.ensures.some in
     inl (
       c.in-Some.rank,
@@ -59,7 +59,7 @@ returns-clause-ok c = λ b e.
 
 pub returns-clause-room : goal.returns-clause-room
 returns-clause-room c =
-    let won = subst (λ (rs : List Racer). IsWonAmong c.args.enough rs c.in-Some.rank)
+    let won = subst (λ (rs : List Contender). IsWonAmong c.args.enough rs c.in-Some.rank)
     (c.as_slice.ensures.value ∙ c.in_ok-racers.ensures) c.in-Some.ensures.some in
     record {
       pool = omega (
@@ -75,7 +75,7 @@ returns-clause-room c =
             (winner_there c.args.enough c.args.self.now.ranks c.in-Some.rank won).racing,
         none_works c.args.enough c.args.self.now.ranks c.args.self.now.raced c.in-Some.rank
             c.requires.alone won,
-        ap (λ (rs : List Racer). length rs) (c.as_slice.ensures.value ∙ c.in_ok-racers.ensures),
+        ap (λ (rs : List Contender). length rs) (c.as_slice.ensures.value ∙ c.in_ok-racers.ensures),
         c.as_slice.ensures.len,
         c.len.ensures,
         ap (λ (queue : Queued). queue.spare) c.in_ok-reserve.ensures.ok,

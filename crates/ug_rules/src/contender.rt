@@ -1,6 +1,6 @@
 /// A rank in a race, with what it last reported.
 #[derive(Clone, Copy, PartialEq, Eq)]
-pub struct Racer {
+pub struct Contender {
     pub rank: u32,
     /// How many open nodes it has, 0 before its first report.
     pub open: u64,

@@ -7,13 +7,13 @@ use Rattle.ug_book.specs.declared.opening.Opening.{Opening}
 use Rattle.ug_book.specs.Openings.{opening_book}
 
 -- what stands at a moment: the book, and the ticket of the last work of each pass
-pub record Standing : Type 0 where
+pub record DeskState : Type 0 where
   pub book : BookState
   pub tickets : List Ticket
 
 -- at the beginning no pass has work; its ticket is that of the starting nodes, which no rank has
-abbrev pub opening_standing : Opening → Standing
-opening_standing o = record {
+abbrev pub opening_state : Opening → DeskState
+opening_state o = record {
   book = opening_book o;
   tickets = replicate o.settings.solvers (first_ticket o.run);
 }
@@ -23,10 +23,10 @@ abbrev pub no_ticket : Ticket
 no_ticket = record { run = 0; number = 0 }
 
 -- the ticket of the last work of pass r
-abbrev pub own_ticket : Standing → ℕ → Ticket
+abbrev pub own_ticket : DeskState → ℕ → Ticket
 own_ticket s r = slice_index_or s.tickets r no_ticket
 
 -- the book alone changed, in this way
-pub record OfBook (Moved : BookState → BookState → Type 0) (old new : Standing) : Type 0 where
+pub record OfBook (Moved : BookState → BookState → Type 0) (old new : DeskState) : Type 0 where
   pub book : Moved old.book new.book
   pub tickets : new.tickets ≡ old.tickets
