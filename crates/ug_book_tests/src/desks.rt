@@ -1,12 +1,13 @@
+ghost use Rattle.std.specs.Prelude.{◌≡◌, [], OnOk};
 ghost use Rattle.ug_rules.specs.Books.{AreSettings};
 
 use crate::expect::holds;
 use crate::problems::square;
-use std::alloc::Global;
+use std::alloc::{AllocError, Global};
 use std::sync::Wait;
 use std::thread::{Threads, join};
 use ug_base::{Step, Task};
-use ug_book::{Answered, Opening};
+use ug_book::{Answered, Book, Opening};
 use ug_desk::{Desk, Pass};
 use ug_nodes::Ticket;
 use ug_problem::Shared;

@@ -1,3 +1,7 @@
+ghost use Rattle.std.specs.Prelude.{IfOk};
+ghost use Rattle.ug_stock.specs.Races.{StandsAlone};
+ghost use Rattle.ug_stock.specs.Stocks.{HasRoom};
+
 use crate::expect::{holds, same};
 use std::alloc::{AllocError, Global};
 use ug_branch::Params;
@@ -31,24 +35,35 @@ fn is_won_by_the_second(ranks: &Ranks) -> bool {
     matches!(ranks.as_slice(), [State::Idle, State::Active(_)])
 }
 
-#[test]
-fn gives_the_root_to_the_racer_that_is_ahead(rt: HostRuntime) {
-    let alloc = rt.alloc();
-    let mut ranks = Ranks::new(alloc, 2).expect(&rt, "memory");
+// Two ranks race for the root, with room for its place, and each has reported three open nodes.
+fn race(alloc: Global) -> Result<Stock, AllocError>
+    ensures room { IfOk result HasRoom }
+    ensures alone { IfOk result (λ stock. StandsAlone stock.ranks stock.raced) }
+{
+    let mut pool = Pool::new(alloc);
+    pool.reserve(1)?;
+    let mut ranks = Ranks::new(alloc, 2)?;
     ranks.idle(0);
     ranks.idle(1);
     ranks.race(0, ticket(1), Params::new(0));
     ranks.race(1, ticket(2), Params::new(1));
     ranks.note(0, 3, -5);
     ranks.note(1, 3, -4);
-    let mut stock = Stock {
-        pool: Pool::new(alloc),
+    let root = root(alloc)?;
+    Ok(Stock {
+        pool,
         ranks,
-        raced: Some(root(alloc).expect(&rt, "memory")),
+        raced: Some(root),
         last: 2,
         orders: Queue::new(alloc),
         announced: None,
-    };
+    })
+}
+
+#[test]
+fn gives_the_root_to_the_racer_that_is_ahead(rt: HostRuntime) {
+    let alloc = rt.alloc();
+    let mut stock = race(alloc).expect(&rt, "memory");
     holds(&rt, stock.end_race(alloc, 3).is_ok());
     holds(&rt, stock.raced.is_none());
     holds(&rt, is_won_by_the_second(&stock.ranks));

@@ -1,6 +1,6 @@
 //! Schedules that are played against the replies of a model.
 
-ghost use Rattle.std.specs.Prelude.{length, All, IfSome};
+ghost use Rattle.std.specs.Prelude.{◌≡◌, length, All, IfSome};
 ghost use Rattle.ug_rules.specs.Books.{AreSettings};
 ghost use Rattle.ug_rules.specs.Hearing.{IsHearable};
 ghost use Rattle.ug_world.specs.Events.{IsEvent};

@@ -33,10 +33,16 @@ fn begun(alloc: Global, disk: &mut MemoryDisk, gap: u8) -> Option<(Book, Saver)>
     ensures { IfSome result (λ x. IsKept x.1 (Some (history_of disk.new))) }
 {
     let problem = Shared::own(nothing(alloc, false).ok()?);
-    let Start { opening, saver } = begin(alloc, disk, problem, settings(gap)).ok()?;
+    let Ok(start) = begin(alloc, disk, problem, settings(gap)) else {
+        return None;
+    };
+    let Start { opening, saver } = start;
     let book = Book::new(alloc, &opening);
     drop(opening);
-    Some((book.ok()?, saver))
+    match book {
+        Ok(book) => Some((book, saver)),
+        Err(_) => None,
+    }
 }
 
 // Whether one begins.

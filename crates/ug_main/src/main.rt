@@ -128,7 +128,7 @@ where
     S: Source + Reasons,
     K: Sink + Reasons,
     D: Disk + Reasons,
-    ensures { HasRun (texts job.words.now)
+    ensures { HasRun (texts job.entry.words.now)
         (outside (S.left input.old) (S.faults input.old) (D.told disk.old) (D.faults disk.old))
         (outside (S.left input.new) (S.faults input.new) (D.told disk.new) (D.faults disk.new))
         (K.written out.old) (K.written out.new) (K.faults out.old) (K.faults out.new) result }
