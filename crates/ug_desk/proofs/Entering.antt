@@ -1,5 +1,5 @@
 -- A history that is longer by one call.
-use Rattle.std.proofs.Common.{◌≡◌, ℕ, ◌+◌, ◌-◌, ◌^◌, min, List, [], ◌∷◌, ◌++◌, length, refl, sym, ◌∙◌, ap, subst, arith}
+use Rattle.std.proofs.Common.{◌≡◌, ℕ, ◌+◌, ◌-◌, ◌^◌, ◌<◌, min, List, [], ◌∷◌, ◌++◌, length, refl, sym, ◌∙◌, ap, subst, arith}
 use Rattle.std.proofs.lemmas.List.{length-append, length-set}
 use Rattle.std.specs.Prelude.{ℤ, Result, Ok, Err, IfOk, IfErr, OnErr}
 use Rattle.ug_nodes.specs.declared.name.Ticket.{Ticket}
@@ -16,6 +16,7 @@ use Rattle.ug_desk.specs.Takes.{HasAnswered, IsCutShort, tickets_after}
 use Rattle.ug_desk.specs.Reports.{HasNotStated, HasStated}
 use Rattle.ug_desk.specs.Histories.{Call, Entry, Replays, Step, stated, taken}
 use Rattle.ug_desk.specs.Entries.{HasEntered, IsLocked, LockedState, one_more}
+use Rattle.ug_desk.specs.Passes.{IsFor}
 
 replays_more : (old mid new : DeskState) (history : List Entry) (entry : Entry)
     → Replays old history mid → Step entry.pass entry.call mid new
@@ -102,3 +103,26 @@ pub taken_wide : (result : Result Took Untaken) (r : ℕ) (old new : List Ticket
 taken_wide (Ok took) r old new changed same =
     ap (λ (ts : List Ticket). length ts) changed ∙ wide_after took r old
 taken_wide (Err e) r old new changed same = ap (λ (ts : List Ticket). length ts) same
+
+-- the same, where ticket and floor are known by other names
+pub stated_by : (result : Result Reply Unfinished) (r left : ℕ) (z floor : ℤ) (s : DeskState)
+    (ticket : Ticket) (b : BookState) → ticket ≡ own_ticket s r → z ≡ floor
+    → IfOk result (λ reply. HasStated r ticket left z reply s.book b)
+    → IfErr result (λ (e : Unfinished). HasNotStated r ticket left z e.stood s.book b)
+    → Step r (stated left floor result) s (record { book = b; tickets = s.tickets })
+stated_by result r left z floor s ticket b its is ok err =
+    stated_step result r left floor s b
+    (subst (λ k. IfOk result (λ reply. HasStated r k left floor reply s.book b)) its
+    (subst (λ z. IfOk result (λ reply. HasStated r ticket left z reply s.book b)) is ok))
+    (subst
+    (λ k. IfErr result (λ (e : Unfinished). HasNotStated r k left floor e.stood s.book b)) its
+    (subst
+    (λ z. IfErr result (λ (e : Unfinished). HasNotStated r ticket left z e.stood s.book b)) is err))
+
+-- what was done for a rank that is here
+pub for_one_here : (Does : LockedState → LockedState → Type 0) (mid old new : LockedState) (r : ℕ)
+    → mid ≡ old → r < length old.now.book.ranks → Does mid new → IsFor r Does old new
+for_one_here Does mid old new r is here done = record {
+  here = λ _. subst (λ k. Does k new) is done;
+  other = λ less. absurd (omega (arith, less, here));
+}

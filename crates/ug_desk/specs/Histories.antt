@@ -21,7 +21,6 @@ pub data Call : Type 0 where
   handed : ℕ → List Interval → Heard → Call
   stated : ℕ → ℤ → Result Reply Unfinished → Call
   ended : TaskState → Heard → Call
-  given_up : TaskState → Call
   left : Call
   copied : Call
 
@@ -41,7 +40,6 @@ Step r (stated count floor (Ok reply)) old new =
 Step r (stated count floor (Err end)) old new =
     OfBook (HasNotStated r (own_ticket old r) count floor end.stood) old new
 Step r (ended task answer) old new = OfBook (HasDone r task answer) old new
-Step r (given_up task) old new = OfBook (HasGone r) old new
 Step r left old new = OfBook (HasGone r) old new
 Step r copied old new = new ≡ old
 

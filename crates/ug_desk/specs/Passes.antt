@@ -1,4 +1,4 @@
--- What a call of a pass does to the value that it is lent.
+-- What a call does for a rank that is here, and for one that is not.
 use Rattle.std.specs.Prelude.{◌≡◌, ◌≢◌, ℕ, ◌<◌, ◌≤◌, true, None, List, length}
 use Rattle.ug_rows.specs.declared.area.Interval.{Interval}
 use Rattle.ug_rules.specs.declared.heard.Heard.{Heard}
@@ -7,11 +7,11 @@ use Rattle.ug_worker.specs.declared.reply.Reply.{Reply}
 use Rattle.ug_desk.specs.Histories.{handed}
 use Rattle.ug_desk.specs.Entries.{HasEntered, LockedState}
 
--- a pass speaks for a rank of another desk
+-- there is no such rank
 abbrev pub IsElsewhere : ℕ → LockedState → Type 0
 IsElsewhere r l = length l.now.book.ranks ≤ r
 
--- for a pass that speaks for a rank here this is done, and for one of another desk nothing
+-- for a rank that is here this is done, and for another nothing
 pub record IsFor (r : ℕ) (Does : LockedState → LockedState → Type 0) (old new : LockedState)
     : Type 0 where
   pub here : r < length old.now.book.ranks → Does old new
@@ -24,6 +24,6 @@ pub record HasHandedHere (r number : ℕ) (area : List Interval) (answer : Heard
       → HasEntered r (handed number area answer) old new
   pub other : length area ≢ length old.now.book.problem.columns → (answer ≡ Stale) × (new ≡ old)
 
--- what a pass is told that has no work here
+-- what a rank is told that is not here
 abbrev pub stopped : Reply
 stopped = record { cutoff = None; collect = 0; stop = true }

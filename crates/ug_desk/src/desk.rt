@@ -13,8 +13,8 @@ use ug_snapshot::Snapshot;
 use ug_worker::{Reply, Took, Untaken};
 
 /// One book that threads share, each through passes of its own. What a call does is said by the
-/// call of `Locked` of the same name, which is lent what is behind the lock. A pass of another desk
-/// has no work here.
+/// call of `Locked` of the same name, for the rank of the pass. A pass of another desk has no work
+/// here where this one has no such rank.
 #[derive(Drop)]
 pub struct Desk {
     lock: Mutex<Locked>,
@@ -61,7 +61,7 @@ impl Desk {
 
     /// Joins the pass's rank where it is absent or dead, decides, and answers what there is for it.
     pub fn take<R: Wait>(&self, rt: &R, pass: &mut Pass) -> Result<Took, Untaken> {
-        let took = self.lock.lock(rt).take_for(pass);
+        let took = self.call(rt, pass, |locked, rank| locked.take(rank));
         if !matches!(took, Ok(Took::Wait)) {
             self.stir(rt);
         }
@@ -70,14 +70,14 @@ impl Desk {
 
     /// A point that was found. It takes no memory.
     pub fn solution<R: Wait>(&self, rt: &R, pass: &mut Pass, point: Point) -> Heard {
-        let heard = self.lock.lock(rt).solution_for(pass, point);
+        let heard = self.call(rt, pass, |locked, rank| locked.solution(rank, point));
         self.stir(rt);
         heard
     }
 
     /// A box that is handed. One of another width is Stale.
     pub fn hand<R: Wait>(&self, rt: &R, pass: &mut Pass, number: u64, area: &IntBox) -> Heard {
-        let heard = self.lock.lock(rt).hand_for(pass, number, area);
+        let heard = self.call(rt, pass, |locked, rank| locked.hand(rank, number, area));
         self.stir(rt);
         heard
     }
@@ -92,7 +92,7 @@ impl Desk {
     ) -> Result<Reply, Unfinished>
         requires { 0 < left }
     {
-        let reply = self.lock.lock(rt).state_for(pass, left, floor);
+        let reply = self.call(rt, pass, |locked, rank| locked.state(rank, left, floor));
         self.stir(rt);
         reply
     }
@@ -101,7 +101,7 @@ impl Desk {
     pub fn done<R: Wait>(&self, rt: &R, pass: &mut Pass, task: Task) -> Heard
         requires { task.boxes ≡ [] }
     {
-        let heard = self.lock.lock(rt).done_for(pass, &task);
+        let heard = self.call(rt, pass, |locked, rank| locked.done(rank, &task));
         drop(task);
         self.stir(rt);
         heard
@@ -109,20 +109,20 @@ impl Desk {
 
     /// The rank is gone, in the middle of a task. It takes no memory.
     pub fn give_up<R: Wait>(&self, rt: &R, pass: &mut Pass, task: Task) {
-        self.lock.lock(rt).give_up_for(pass, &task);
+        self.call(rt, pass, |locked, rank| locked.leave(rank));
         drop(task);
         self.stir(rt);
     }
 
     /// The rank is gone. It takes no memory.
     pub fn leave<R: Wait>(&self, rt: &R, pass: &mut Pass) {
-        self.lock.lock(rt).leave_for(pass);
+        self.call(rt, pass, |locked, rank| locked.leave(rank));
         self.stir(rt);
     }
 
     /// What is held now, to be saved.
     pub fn snapshot<R: Wait>(&self, rt: &R, pass: &mut Pass) -> Result<Snapshot, AllocError> {
-        self.lock.lock(rt).snapshot_for(pass)
+        self.call(rt, pass, |locked, rank| locked.snapshot(rank))
     }
 
     /// How many calls were not answered Wait.
@@ -143,6 +143,20 @@ impl Desk {
             return Err((self, passes));
         }
         Ok(self.lock.into_inner())
+    }
+
+    // One call for the rank of a pass, which then knows how many deliveries the book had heard.
+    // Nothing else takes the lock.
+    fn call<R, T, F>(&self, rt: &R, pass: &mut Pass, call: F) -> T
+    where
+        R: Wait,
+        F: FnOnce(&mut Locked, u32) -> T,
+        requires { F.IsAlwaysCallable call }
+    {
+        let mut locked = self.lock.lock(rt);
+        let answer = call(&mut locked, pass.rank());
+        pass.note(locked.book().count());
+        answer
     }
 
     // One call more that was not answered Wait, which wakes those that rest.

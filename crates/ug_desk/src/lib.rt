@@ -13,7 +13,6 @@ mod decide;
 mod desk;
 mod done;
 mod hand;
-mod lent;
 mod locked;
 mod pass;
 mod state;

@@ -1,9 +1,12 @@
-ghost use Rattle.std.specs.Prelude.{◌≡◌, ◌<◌, [], length, IfOk, OnErr, OnOk};
+ghost use Rattle.std.specs.Prelude.{◌≡◌, ◌↔◌, ◌<◌, [], length, IfOk, IsTrue, MatchBool, Ok, OnErr, OnOk};
+ghost use Rattle.ug_rules.specs.declared.heard.Heard.TheVariants.{Stale};
+ghost use Rattle.ug_worker.specs.declared.took.Took.TheVariants.{Over};
 ghost use Rattle.ug_book.specs.Openings.{IsOpening};
 ghost use Rattle.ug_desk.specs.DeskStates.{opening_state, own_ticket};
-ghost use Rattle.ug_desk.specs.Histories.{taken, offered, handed, stated, given_up, left, copied};
+ghost use Rattle.ug_desk.specs.Histories.{taken, offered, handed, stated, left, copied};
 ghost use Rattle.ug_desk.specs.Entries.{HasEnded, HasEntered, HasEnteredAlive, IsLocked, one_more};
 ghost use Rattle.ug_desk.specs.Entries.{IsSnapshotOf};
+ghost use Rattle.ug_desk.specs.Passes.{HasHandedHere, IsElsewhere, IsFor, stopped};
 
 use crate::done::done;
 use crate::hand::hand;
@@ -28,7 +31,7 @@ pub struct Locked {
     alloc: Global,
     opening: Opening,
     book: Book,
-    // The ticket of the last work of each pass.
+    // The ticket of the last work of each rank.
     tickets: Vec<Ticket>,
     // How many calls the history has, which stands in proofs alone.
     count: u64,
@@ -110,62 +113,75 @@ impl Locked {
         book
     }
 
-    /// The pass's rank joins where it is absent or dead, the book decides, and the pass gets a new
-    /// task of the rank's ticket, if it has one.
+    /// The rank joins where it is absent or dead, the book decides, and the rank gets a new task of
+    /// its ticket, if it has one. One that is not here is told Over.
     pub fn take(&mut self, rank: u32) -> Result<Took, Untaken>
-        requires { rank < length self.old.now.book.ranks }
-        ensures { HasEntered rank (taken result) self.old self.new }
+        ensures done { IsFor rank (HasEntered rank (taken result)) self.old self.new }
+        ensures none { IsElsewhere rank self.old → result ≡ Ok Over }
     {
+        if !self.has(rank) {
+            return Ok(Took::Over);
+        }
         let took = take(self.alloc, &mut self.book, rank);
         note(&mut self.tickets, rank, &took);
         self.count = one_more(self.count);
         took
     }
 
-    /// A point that was found under the ticket of the pass's last work. It takes no memory.
+    /// A point that was found under the ticket of the rank's last work. It is Stale from a rank
+    /// that is not here. It takes no memory.
     pub fn solution(&mut self, rank: u32, point: Point) -> Heard
-        requires { rank < length self.old.now.book.ranks }
-        ensures { HasEntered rank (offered point result) self.old self.new }
+        ensures done { IsFor rank (HasEntered rank (offered point result)) self.old self.new }
+        ensures none { IsElsewhere rank self.old → result ≡ Stale }
     {
+        if !self.has(rank) {
+            return Heard::Stale;
+        }
         let ticket = self.ticket(rank);
         let heard = self.book.hear(rank, Report::Solution { ticket, point });
         self.count = one_more(self.count);
         heard
     }
 
-    /// A box that is handed under the ticket of the pass's last work.
+    /// A box that is handed under the ticket of the rank's last work. It is Stale from a rank that
+    /// is not here, and where its width is another than the problem's.
     pub fn hand(&mut self, rank: u32, number: u64, area: &IntBox) -> Heard
-        requires there { rank < length self.old.now.book.ranks }
-        requires width { length area.now ≡ length self.old.now.book.problem.columns }
-        ensures { HasEntered rank (handed number area.now result) self.old self.new }
+        ensures done { IsFor rank (HasHandedHere rank number area.now result) self.old self.new }
+        ensures none { IsElsewhere rank self.old → result ≡ Stale }
     {
+        if !self.has(rank) || !self.is_as_wide(area) {
+            return Heard::Stale;
+        }
         let ticket = self.ticket(rank);
         let heard = hand(self.alloc, &mut self.book, rank, ticket, number, area);
         self.count = one_more(self.count);
         heard
     }
 
-    /// How many boxes are left under the ticket of the pass's last work, and the least of their
-    /// floors. A racer's book then decides.
+    /// How many boxes are left under the ticket of the rank's last work, and the least of their
+    /// floors. A racer's book then decides. A rank that is not here is told to stop.
     pub fn state(&mut self, rank: u32, left: u64, floor: i128) -> Result<Reply, Unfinished>
-        requires there { rank < length self.old.now.book.ranks }
-        requires some { 0 < left }
-        ensures { HasEntered rank (stated left floor result) self.old self.new }
+        requires { 0 < left }
+        ensures done { IsFor rank (HasEntered rank (stated left floor result)) self.old self.new }
+        ensures none { IsElsewhere rank self.old → result ≡ Ok stopped }
     {
+        if !self.has(rank) {
+            return Ok(stopped());
+        }
         let ticket = self.ticket(rank);
         let reply = state(&mut self.book, rank, ticket, left, floor);
         self.count = one_more(self.count);
         reply
     }
 
-    /// A task of which no box is left. It is Stale where it is not of the rank's ticket. It takes
-    /// no memory.
+    /// A task of which no box is left. It is Stale where it is not of the rank's ticket, and from a
+    /// rank that is not here. It takes no memory.
     pub fn done(&mut self, rank: u32, task: &Task) -> Heard
-        requires there { rank < length self.old.now.book.ranks }
-        requires none { task.now.boxes ≡ [] }
-        ensures { HasEnded rank task.now result self.old self.new }
+        requires { task.now.boxes ≡ [] }
+        ensures done { IsFor rank (HasEnded rank task.now result) self.old self.new }
+        ensures none { IsElsewhere rank self.old → result ≡ Stale }
     {
-        if !is_of_ticket(&self.book, rank, task) {
+        if !self.has(rank) || !is_of_ticket(&self.book, rank, task) {
             return Heard::Stale;
         }
         let heard = done(&mut self.book, rank, task);
@@ -173,38 +189,45 @@ impl Locked {
         heard
     }
 
-    /// The rank is gone, in the middle of a task. It takes no memory.
-    pub fn give_up(&mut self, rank: u32, _task: &Task)
-        requires { rank < length self.old.now.book.ranks }
-        ensures { HasEnteredAlive rank (given_up _task.now) self.old self.new }
-    {
-        if self.book.is_alive(rank) {
-            self.book.gone(rank);
-            self.count = one_more(self.count);
-        }
-    }
-
     /// The rank is gone. It takes no memory.
     pub fn leave(&mut self, rank: u32)
-        requires { rank < length self.old.now.book.ranks }
-        ensures { HasEnteredAlive rank left self.old self.new }
+        ensures { IsFor rank (HasEnteredAlive rank left) self.old self.new }
     {
-        if self.book.is_alive(rank) {
+        if self.has(rank) && self.book.is_alive(rank) {
             self.book.gone(rank);
             self.count = one_more(self.count);
         }
     }
 
-    /// What is held now, to be saved. After an error nothing has changed.
+    /// What is held now, to be saved, for a rank that is here. After an error nothing has changed.
     pub fn snapshot(&mut self, rank: u32) -> Result<Snapshot, AllocError>
-        requires { rank < length self.old.now.book.ranks }
         ensures made { IfOk result (IsSnapshotOf self.old self.new.count) }
         ensures ok { OnOk result (HasEntered rank copied self.old self.new) }
+        ensures here { OnOk result (rank < length self.old.now.book.ranks) }
         ensures err { OnErr result (self.new ≡ self.old) }
     {
+        if !self.has(rank) {
+            return Err(AllocError);
+        }
         let snapshot = self.copy()?;
         self.count = one_more(self.count);
         Ok(snapshot)
+    }
+
+    // Whether there is such a rank.
+    fn has(&self, rank: u32) -> bool
+        ensures { MatchBool result
+            (rank < length self.now.now.book.ranks)
+            (IsElsewhere rank self.now) }
+    {
+        rank < self.book.settings().solvers
+    }
+
+    // Whether the box has a column for each of the problem.
+    fn is_as_wide(&self, area: &IntBox) -> bool
+        ensures { IsTrue result ↔ (length area.now ≡ length self.now.now.book.problem.columns) }
+    {
+        area.as_slice().len() == self.book.problem().problem().columns().len()
     }
 
     // What is held now, with one call more.
@@ -221,7 +244,7 @@ impl Locked {
         }
     }
 
-    // The ticket of the last work of a pass.
+    // The ticket of the last work of a rank.
     fn ticket(&self, rank: u32) -> Ticket
         requires { rank < length self.now.now.book.ranks }
         ensures { result ≡ own_ticket self.now.now rank }
@@ -235,4 +258,15 @@ fn one_more(count: u64) -> u64
     ensures { result ≡ one_more count }
 {
     count.saturating_add(1)
+}
+
+// What a rank is told that is not here.
+fn stopped() -> Reply
+    ensures { result ≡ stopped }
+{
+    Reply {
+        cutoff: None,
+        collect: 0,
+        stop: true,
+    }
 }

@@ -1,6 +1,6 @@
 //! A solve by the caller alone, without a desk.
 
-ghost use Rattle.std.specs.Prelude.{◌≡◌, ◌<◌, ◌↔◌, length, IfSome, IsTrue};
+ghost use Rattle.std.specs.Prelude.{IfSome};
 ghost use Rattle.ug_book.specs.Openings.{IsOpening};
 ghost use Rattle.ug_threads.specs.Ends.{IsEnding};
 
@@ -38,70 +38,40 @@ impl OwnSeat {
     fn send_away(&mut self) {
         let ranks = self.locked.book().settings().solvers;
         for rank in 1..ranks {
-            if rank < self.locked.book().settings().solvers {
-                self.locked.leave(rank);
-            }
+            self.locked.leave(rank);
         }
-    }
-
-    // There is a rank 0.
-    fn is_there(&self)
-        ensures { 0 < length self.now.locked.now.book.ranks }
-    {
-        let _book = self.locked.book().problem();
-        let _ranks = self.locked.book().settings();
-    }
-
-    // Whether the box has a column for each of the problem.
-    fn is_as_wide(&self, area: &IntBox) -> bool
-        ensures { IsTrue result
-            ↔ (length area.now ≡ length self.now.locked.now.book.problem.columns) }
-    {
-        let problem = self.locked.book().problem().problem();
-        area.as_slice().len() == problem.columns().len()
     }
 }
 
 impl Seat for OwnSeat {
     fn take(&mut self) -> Result<Took, Untaken> {
-        self.is_there();
         self.locked.take(0)
     }
 
     fn solution(&mut self, point: Point) -> Heard {
-        self.is_there();
         self.locked.solution(0, point)
     }
 
-    // A box of another width is none of this problem.
     fn hand(&mut self, number: u64, area: &IntBox) -> Heard {
-        self.is_there();
-        if !self.is_as_wide(area) {
-            return Heard::Stale;
-        }
         self.locked.hand(0, number, area)
     }
 
     fn state(&mut self, left: u64, floor: i128) -> Result<Reply, Unfinished> {
-        self.is_there();
         self.locked.state(0, left, floor)
     }
 
     fn done(&mut self, task: Task) -> Heard {
-        self.is_there();
         let heard = self.locked.done(0, &task);
         drop(task);
         heard
     }
 
     fn give_up(&mut self, task: Task) {
-        self.is_there();
-        self.locked.give_up(0, &task);
+        self.locked.leave(0);
         drop(task);
     }
 
     fn leave(&mut self) {
-        self.is_there();
         self.locked.leave(0);
     }
 

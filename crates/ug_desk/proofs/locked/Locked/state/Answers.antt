@@ -1,14 +1,11 @@
-use Rattle.std.proofs.Common.{◌≡◌, ap, sym, subst, ◌∙◌}
+use Rattle.std.proofs.Common.{◌≡◌, ap, sym, ◌∙◌, refl}
 use mir.Syntax.{w128}
 use Rattle.std.proofs.lemmas.Int.{to_z-of_z}
-use Rattle.std.specs.Prelude.{IfOk, IfErr}
-use Rattle.ug_stock.specs.declared.unfinished.Unfinished.{Unfinished}
 use Rattle.ug_desk.specs.DeskStates.{own_ticket}
 use Rattle.ug_desk.specs.Histories.{stated}
-use Rattle.ug_desk.specs.Reports.{HasNotStated, HasStated}
 use Rattle.ug_desk.specs.Entries.{LockedState}
 use Rattle.ug_desk.specs.Views.{state_of}
-use Rattle.ug_desk.proofs.Entering.{entered_by, stated_step}
+use Rattle.ug_desk.proofs.Entering.{entered_by, for_one_here, stated_by}
 use Rattle.ug_desk.proofs.locked.Locked.state.Goals as goal
 
 pub invariant_of-self : goal.invariant_of-self
@@ -17,25 +14,25 @@ invariant_of-self c =
     let ticket : c.ticket-ticket.result ≡ own_ticket l.now c.args.rank =
     c.ticket-ticket.ensures
     ∙ sym (ap (λ (k : LockedState). own_ticket k.now c.args.rank) c.self.view_is) in
-    let floor = to_z-of_z w128 c.args.floor c.ranges.floor in
     entered_by l _ _ c.args.rank (stated c.args.left c.args.floor c.state-reply.result)
     c.self.invariant
-    (stated_step c.state-reply.result c.args.rank c.args.left c.args.floor l.now
-    c.state-reply.new.book
-    (subst
-    (λ k. IfOk c.state-reply.result (λ reply. HasStated c.args.rank k c.args.left c.args.floor reply
-    c.self.inside.book c.state-reply.new.book))
-    ticket
-    (subst
-    (λ z. IfOk c.state-reply.result (λ reply. HasStated c.args.rank c.ticket-ticket.result
-    c.args.left z reply c.self.inside.book c.state-reply.new.book))
-    floor c.state-reply.ensures.ok))
-    (subst
-    (λ k. IfErr c.state-reply.result (λ (e : Unfinished). HasNotStated c.args.rank k c.args.left
-    c.args.floor e.stood c.self.inside.book c.state-reply.new.book))
-    ticket
-    (subst
-    (λ z. IfErr c.state-reply.result (λ (e : Unfinished). HasNotStated c.args.rank
-    c.ticket-ticket.result c.args.left z e.stood c.self.inside.book c.state-reply.new.book))
-    floor c.state-reply.ensures.err)))
+    (stated_by c.state-reply.result c.args.rank c.args.left _ c.args.floor l.now
+    c.ticket-ticket.result c.state-reply.new.book ticket
+    (to_z-of_z w128 c.args.floor c.ranges.floor) c.state-reply.ensures.ok c.state-reply.ensures.err)
     c.state-reply.ensures.same c.state-reply.ensures.sound c.one_more-self-inside.ensures
+
+pub returns-clause-done : goal.returns-clause-done
+returns-clause-done c =
+    let l : LockedState = state_of c.self.inside in
+    let ticket : c.ticket-ticket.result ≡ own_ticket l.now c.args.rank =
+    c.ticket-ticket.ensures
+    ∙ sym (ap (λ (k : LockedState). own_ticket k.now c.args.rank) c.self.view_is) in
+    for_one_here _ l _ _ c.args.rank c.self.view_is c.if-not-has.ensures
+    (record {
+      step = stated_by c.state-reply.result c.args.rank c.args.left _ c.args.floor l.now
+          c.ticket-ticket.result c.state-reply.new.book ticket
+          (to_z-of_z w128 c.args.floor c.ranges.floor) c.state-reply.ensures.ok
+          c.state-reply.ensures.err;
+      opening = refl;
+      count = c.one_more-self-inside.ensures;
+    })
