@@ -1,3 +1,4 @@
+pub mod Causes
 pub mod Finding
 pub mod Giving
 pub mod Having

@@ -1,3 +1,4 @@
+pub mod Causes
 pub mod Bodies
 pub mod Errors
 pub mod Given

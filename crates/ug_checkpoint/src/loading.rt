@@ -1,6 +1,7 @@
-ghost use Rattle.std.specs.Prelude.{◌≡◌, ◌≤◌, IfOk, IfErr, OnOk, IsErrOf};
-ghost use Rattle.ug_io.specs.Outside.{Rose};
+ghost use Rattle.std.specs.Prelude.{IfOk, IfErr};
+ghost use Rattle.ug_io.specs.Outside.{IsCountedBy};
 ghost use Rattle.ug_disk.specs.Crashes.{Leaves};
+ghost use Rattle.ug_checkpoint.specs.Causes.{load_cause};
 ghost use Rattle.ug_checkpoint.specs.Runs.{CouldLeave};
 ghost use Rattle.ug_checkpoint.specs.Recovery.{HasFound, IsRefused, IsCause, Recovered};
 
@@ -13,20 +14,25 @@ use ug_disk::{Disk, Slot};
 
 /// Finds the last checkpoint: of the slots that are open the image with the greater sequence, and
 /// none where both are shut. Both slots are synced first, so that nothing older is pending.
+#[tactic(auto, using(crate::proofs::Causes::unread, crate::proofs::Causes::unfound))]
 pub fn load<D: Disk>(alloc: Global, disk: &mut D) -> Result<Option<Found>, LoadError>
-    ensures found { IfOk result (HasFound (D.told disk.old) (D.told disk.new)) }
-    ensures refused { IfErr result (IsRefused (D.told disk.old) (D.told disk.new)) }
-    ensures any_moment { Leaves (CouldLeave (D.told disk.old)) (D.told disk.old) (D.told disk.new) }
-    ensures never_falls { D.faults disk.old ≤ D.faults disk.new }
-    ensures fault { IsErrOf result LoadError.Fault → Rose (D.faults disk.old) (D.faults disk.new) }
-    ensures calm { OnOk result (D.faults disk.new ≡ D.faults disk.old) }
-    ensures others { IfErr result (λ e. (e ≡ LoadError.Fault → ⊥)
-        → D.faults disk.new ≡ D.faults disk.old) }
+    ensures found { IfOk result (HasFound (D.seen disk.old).told (D.seen disk.new).told) }
+    ensures refused { IfErr result (IsRefused (D.seen disk.old).told (D.seen disk.new).told) }
+    ensures any_moment { Leaves (CouldLeave (D.seen disk.old).told)
+        (D.seen disk.old).told (D.seen disk.new).told }
+    ensures cause { IsCountedBy load_cause result
+        (D.seen disk.old).faults (D.seen disk.new).faults }
 {
-    let both = read_both(alloc, disk)?;
+    let both = match read_both(alloc, disk) {
+        Ok(both) => both,
+        Err(error) => return Err(LoadError::from(error)),
+    };
     let found = recovered(alloc, &both);
     drop(both);
-    found
+    match found {
+        Ok(found) => Ok(found),
+        Err(error) => Err(error),
+    }
 }
 
 // What recovery finds in two slots.

@@ -1,10 +1,11 @@
-ghost use Rattle.std.specs.Prelude.{◌≡◌, ◌≤◌, ◌<◌, ◌^◌, Option, None, Some, MatchOption, length, OnOk, OnErr, IsErrOf};
+ghost use Rattle.std.specs.Prelude.{◌≡◌, ◌<◌, ◌^◌, Option, None, Some, MatchOption, length, OnOk, OnErr, IsErrOf};
 ghost use Rattle.std.specs.Option.{option_copied};
-ghost use Rattle.ug_io.specs.Outside.{Rose};
+ghost use Rattle.ug_io.specs.Outside.{IsCountedBy};
 ghost use Rattle.ug_disk.specs.Histories.{History};
 ghost use Rattle.ug_disk.specs.Crashes.{Leaves};
 ghost use Rattle.ug_image.specs.Images.{IsImage};
 ghost use Rattle.ug_image.specs.Spelling.{spelled};
+ghost use Rattle.ug_checkpoint.specs.Causes.{save_cause};
 ghost use Rattle.ug_checkpoint.specs.Recovery.{HasFound};
 
 use crate::body::Body;
@@ -66,34 +67,33 @@ impl Saver {
         disk: &mut D,
         image: &Image,
     ) -> Result<(), SaveError>
-        requires kept { IsKept self.old (D.told disk.old) }
+        requires kept { IsKept self.old (D.seen disk.old).told }
         requires image { IsImage image.now }
         requires next { sequence_of self.old < image.now.sequence }
         requires fits { length (spelled image.now) < 2 ^ 63 }
 
         // At each moment, also where it fails, recovery finds the last acknowledged image, the new
         // one, or what it could find before.
-        ensures any_moment { Leaves (IsSafe (last_slot self.old) (D.told disk.old)
+        ensures any_moment { Leaves (IsSafe (last_slot self.old) (D.seen disk.old).told
             (record { slot = next_slot self.old; image = image.now }))
-            (D.told disk.old) (D.told disk.new) }
+            (D.seen disk.old).told (D.seen disk.new).told }
 
-        ensures acknowledged { OnOk result (Finds (D.told disk.new)
+        ensures acknowledged { OnOk result (Finds (D.seen disk.new).told
             (record { slot = next_slot self.old; image = image.now })) }
         ensures written { OnOk result
-            (IsWritten (next_slot self.old) image.now (D.told disk.new)) }
-        ensures alone { IsLeftAlone (next_slot self.old) (D.told disk.old) (D.told disk.new) }
-        ensures kept { IsKept self.new (D.told disk.new) }
+            (IsWritten (next_slot self.old) image.now (D.seen disk.new).told) }
+        ensures alone { IsLeftAlone (next_slot self.old)
+            (D.seen disk.old).told (D.seen disk.new).told }
+        ensures kept { IsKept self.new (D.seen disk.new).told }
         ensures last { OnOk result (last_slot self.new ≡ Some (next_slot self.old)) }
         ensures sequence { OnOk result (sequence_of self.new ≡ image.now.sequence) }
         ensures err_last { OnErr result (last_slot self.new ≡ last_slot self.old) }
         ensures err_sequence { OnErr result (sequence_of self.new ≡ sequence_of self.old) }
 
-        ensures never_falls { D.faults disk.old ≤ D.faults disk.new }
-        ensures fault { IsErrOf result SaveError.Fault
-            → Rose (D.faults disk.old) (D.faults disk.new) }
-        ensures memory { IsErrOf result SaveError.Memory → D.told disk.new ≡ D.told disk.old }
-        ensures calm { (IsErrOf result SaveError.Fault → ⊥)
-            → D.faults disk.new ≡ D.faults disk.old }
+        ensures memory { IsErrOf result SaveError.Memory
+            → (D.seen disk.new).told ≡ (D.seen disk.old).told }
+        ensures cause { IsCountedBy save_cause result
+            (D.seen disk.old).faults (D.seen disk.new).faults }
     {
         let mut buffer = zeros(alloc, BLOCK)?;
         let mut body = match Body::new(alloc, image) {

@@ -115,7 +115,7 @@ fn reads_all<D: Disk>(alloc: Global, disk: &mut D, slot: Slot) -> bool {
 
 // Whether a write and its sync are made, and whether all is read then, whatever the disk.
 fn write_and_read<D: Disk>(alloc: Global, disk: &mut D, slot: Slot, byte: u8) -> (bool, bool)
-    requires { Reads (D.told disk.old) slot (λ there. 0 ≤ length there) }
+    requires { Reads (D.seen disk.old).told slot (λ there. 0 ≤ length there) }
 {
     let wrote = write_synced(disk, slot, 0, &[byte]).is_ok();
     (wrote, reads_all(alloc, disk, slot))

@@ -37,6 +37,12 @@ stepped slot change history = record {
   before = moments history;
 }
 
+-- what is seen of a disk: what became of its slots so far, where it tells it, and how often it has
+-- failed
+pub record DiskSeen : Type 0 where
+  pub told : Option History
+  pub faults : ℕ
+
 -- this became of a slot, and nothing else changed, where it is told
 abbrev pub Steps : Option History → Option History → Slot → (SlotState → SlotState) → Type 0
 Steps old new slot change = new ≡ option_map (stepped slot change) old

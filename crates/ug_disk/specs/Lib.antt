@@ -1,3 +1,4 @@
+pub mod Causes
 pub mod Crashes
 pub mod Histories
 pub mod Laws

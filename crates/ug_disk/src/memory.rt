@@ -1,7 +1,7 @@
 //! A disk in memory: for tests, and for whoever wants to see what a crash may leave.
 
 ghost use Rattle.std.specs.Prelude.{◌≡◌, ◌≤◌, ◌<◌, ℕ, [], Some, length, take, drop, IfErr, IsOk, IsErr, OnOk, OnErr};
-ghost use Rattle.ug_io.specs.Outside.{Rose};
+ghost use Rattle.ug_io.specs.Outside.{IsCounted, Rose};
 ghost use Rattle.ug_disk.specs.Slots.{synced, written, loosened};
 ghost use Rattle.ug_disk.specs.Histories.{AreReal, Fails, slot_of, stepped};
 ghost use Rattle.ug_disk.specs.Crashes.{MayLeaveBoth};
@@ -98,7 +98,6 @@ impl MemoryDisk {
     fn next(&mut self) -> Turn
         ensures told { history_of self.new ≡ history_of self.old }
         ensures real { AreReal (Some (history_of self.old)) }
-        ensures never_falls { faults_of self.old ≤ faults_of self.new }
         ensures fails { (result ≡ Turn.Goes → ⊥) → Rose (faults_of self.old) (faults_of self.new) }
         ensures goes { result ≡ Turn.Goes → faults_of self.new ≡ faults_of self.old }
     {
@@ -111,9 +110,7 @@ impl MemoryDisk {
     fn goes(&mut self) -> Result<(), Failed>
         ensures told { history_of self.new ≡ history_of self.old }
         ensures real { AreReal (Some (history_of self.old)) }
-        ensures never_falls { faults_of self.old ≤ faults_of self.new }
-        ensures failed { OnErr result (Rose (faults_of self.old) (faults_of self.new)) }
-        ensures calm { OnOk result (faults_of self.new ≡ faults_of self.old) }
+        ensures cause { IsCounted result (faults_of self.old) (faults_of self.new) }
     {
         match self.next() {
             Turn::Goes => Ok(()),
@@ -126,9 +123,7 @@ impl MemoryDisk {
         ensures ok { OnOk result (IsOk done) }
         ensures err { OnErr result (IsErr done) }
         ensures told { history_of self.new ≡ history_of self.old }
-        ensures never_falls { faults_of self.old ≤ faults_of self.new }
-        ensures failed { OnErr result (Rose (faults_of self.old) (faults_of self.new)) }
-        ensures calm { OnOk result (faults_of self.new ≡ faults_of self.old) }
+        ensures cause { IsCounted result (faults_of self.old) (faults_of self.new) }
     {
         if done.is_err() {
             self.calls.fail();
@@ -194,9 +189,7 @@ impl MemoryDisk {
 impl Disk for MemoryDisk {
     ghost use Rattle.ug_disk.specs.Memories.{history_of, faults_of};
 
-    ghost told = { λ disk. Some (history_of disk) };
-
-    ghost faults = { faults_of };
+    ghost seen = { λ disk. record { told = Some (history_of disk); faults = faults_of disk } };
 
     fn len(&mut self, slot: Slot) -> Result<u64, Failed> {
         self.goes()?;

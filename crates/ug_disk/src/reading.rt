@@ -1,12 +1,12 @@
-ghost use Rattle.std.specs.Prelude.{◌≡◌, ◌<◌, ◌≤◌, length, IfOk, OnOk, IsErrOf};
-ghost use Rattle.ug_io.specs.Outside.{Rose};
+ghost use Rattle.std.specs.Prelude.{◌≡◌, ◌<◌, length, IfOk};
+ghost use Rattle.ug_io.specs.Outside.{IsCountedBy};
+ghost use Rattle.ug_disk.specs.Causes.{read_cause};
 ghost use Rattle.ug_disk.specs.Histories.{Reads};
-ghost use Rattle.ug_disk.specs.declared.reading.ReadError.TheVariants.{Memory, Fault};
 
 use crate::disk::Disk;
 use crate::slot::Slot;
-use std::alloc::{AllocError, Global};
-use ug_io::{Failed, zeros};
+use std::alloc::Global;
+use ug_io::zeros;
 
 /// How many bytes are asked for at once.
 const PIECE: usize = 65_536;
@@ -19,34 +19,18 @@ pub enum ReadError {
     Fault,
 }
 
-impl From<AllocError> for ReadError {
-    ghost from_gives = { λ _ e. e ≡ Memory };
-
-    fn from(_error: AllocError) -> ReadError {
-        ReadError::Memory
-    }
-}
-
-impl From<Failed> for ReadError {
-    ghost from_gives = { λ _ e. e ≡ Fault };
-
-    fn from(_error: Failed) -> ReadError {
-        ReadError::Fault
-    }
-}
-
 /// Reads all bytes of the slot. It takes memory for the bytes that are there and a piece more,
 /// whatever length the slot tells.
 pub fn read_all<D: Disk>(alloc: Global, disk: &mut D, slot: Slot) -> Result<Vec<u8>, ReadError>
-    ensures bytes { IfOk result (λ bytes. Reads (D.told disk.old) slot
+    ensures bytes { IfOk result (λ bytes. Reads (D.seen disk.old).told slot
         (λ there. bytes.items ≡ there)) }
-    ensures same { D.told disk.new ≡ D.told disk.old }
-    ensures never_falls { D.faults disk.old ≤ D.faults disk.new }
-    ensures fault { IsErrOf result ReadError.Fault → Rose (D.faults disk.old) (D.faults disk.new) }
-    ensures calm { OnOk result (D.faults disk.new ≡ D.faults disk.old) }
-    ensures memory { IsErrOf result ReadError.Memory → D.faults disk.new ≡ D.faults disk.old }
+    ensures same { (D.seen disk.new).told ≡ (D.seen disk.old).told }
+    ensures cause { IsCountedBy read_cause result
+        (D.seen disk.old).faults (D.seen disk.new).faults }
 {
-    let mut buffer = zeros(alloc, PIECE)?;
+    let Ok(mut buffer) = zeros(alloc, PIECE) else {
+        return Err(ReadError::Memory);
+    };
     let read = read_by(alloc, disk, slot, &mut buffer);
     drop(buffer);
     read
@@ -60,13 +44,11 @@ fn read_by<D: Disk>(
     buffer: &mut [u8],
 ) -> Result<Vec<u8>, ReadError>
     requires { 0 < length buffer.old }
-    ensures bytes { IfOk result (λ bytes. Reads (D.told disk.old) slot
+    ensures bytes { IfOk result (λ bytes. Reads (D.seen disk.old).told slot
         (λ there. bytes.items ≡ there)) }
-    ensures same { D.told disk.new ≡ D.told disk.old }
-    ensures never_falls { D.faults disk.old ≤ D.faults disk.new }
-    ensures fault { IsErrOf result ReadError.Fault → Rose (D.faults disk.old) (D.faults disk.new) }
-    ensures calm { OnOk result (D.faults disk.new ≡ D.faults disk.old) }
-    ensures memory { IsErrOf result ReadError.Memory → D.faults disk.new ≡ D.faults disk.old }
+    ensures same { (D.seen disk.new).told ≡ (D.seen disk.old).told }
+    ensures cause { IsCountedBy read_cause result
+        (D.seen disk.old).faults (D.seen disk.new).faults }
 {
     let mut bytes = Vec::new(alloc);
     loop {
@@ -77,9 +59,9 @@ fn read_by<D: Disk>(
         if n == 0 {
             return Ok(bytes);
         }
-        if let Err(error) = bytes.extend_from_slice(&buffer[..n]) {
+        if let Err(_) = bytes.extend_from_slice(&buffer[..n]) {
             drop(bytes);
-            return Err(ReadError::from(error));
+            return Err(ReadError::Memory);
         }
     }
 }

@@ -1,6 +1,18 @@
 -- What is said of the outside: bytes that come and go, where they are told, and a count of faults.
 use Rattle.std.specs.Prelude.{◌≡◌, ℕ, ◌-◌, ◌<◌, ◌≤◌, ◌^◌, ◌⊎◌, List, [], ◌++◌, Option, IfSome}
+use Rattle.std.specs.Prelude.{Result, Ok, Err}
 use Rattle.std.specs.Option.{option_map}
+
+-- what is seen of a source: the bytes that are left, where it tells them, and how often it has failed
+pub record SourceSeen : Type 0 where
+  pub left : Option (List ℕ)
+  pub faults : ℕ
+
+-- what is seen of a sink: the bytes that were written, where it tells them, and how often it has
+-- failed
+pub record SinkSeen : Type 0 where
+  pub written : Option (List ℕ)
+  pub faults : ℕ
 
 -- the count of faults rose; one that stands at its greatest value stays, and counts as risen
 abbrev pub Rose : ℕ → ℕ → Type 0
@@ -10,6 +22,16 @@ Rose old new = (old < new) ⊎ ((2 ^ 64 - 1 ≤ old) × (new ≡ old))
 pub record IsCalm (old new : ℕ) : Type 0 where
   pub same : new ≡ old
   pub small : old < 2 ^ 64 - 1
+
+-- The count of faults stayed where a call succeeded; where it did not, its error says what became of
+-- the count.
+abbrev pub IsCountedBy : {T E : Type 0} → (E → ℕ → ℕ → Type 0) → Result T E → ℕ → ℕ → Type 0
+IsCountedBy Cause (Ok x) old new = new ≡ old
+IsCountedBy Cause (Err e) old new = Cause e old new
+
+-- it rose exactly where the call failed
+abbrev pub IsCounted : {T E : Type 0} → Result T E → ℕ → ℕ → Type 0
+IsCounted result old new = IsCountedBy (λ e. Rose) result old new
 
 -- these bytes came from the front of what was left
 abbrev pub Gives : Option (List ℕ) → Option (List ℕ) → List ℕ → Type 0

@@ -1,7 +1,7 @@
 //! The outside in memory: for tests, and for whoever has the bytes already.
 
-ghost use Rattle.std.specs.Prelude.{◌≡◌, ◌<◌, ◌≤◌, ◌++◌, [], length, take, Some, OnOk, OnErr};
-ghost use Rattle.ug_io.specs.Outside.{Rose};
+ghost use Rattle.std.specs.Prelude.{◌≡◌, ◌<◌, ◌≤◌, ◌++◌, [], length, take, Some};
+ghost use Rattle.ug_io.specs.Outside.{IsCounted, Rose};
 
 use crate::outside::{Failed, Sink, Source};
 use std::alloc::Global;
@@ -13,9 +13,7 @@ pub struct MemorySource<'a> {
 }
 
 impl Source for MemorySource<'_> {
-    ghost left = { λ s. Some s.rest.now };
-
-    ghost faults = { λ _. 0 };
+    ghost seen = { λ s. record { left = Some s.rest.now; faults = 0 } };
 
     fn read(&mut self, buffer: &mut [u8]) -> Result<usize, Failed> {
         Ok(move_front(&mut self.rest, buffer))
@@ -63,8 +61,7 @@ impl Script {
 
     // The next call, and whether it fails.
     fn step(&mut self) -> Result<(), Failed>
-        ensures failed { OnErr result (Rose (faults_of self.old) (faults_of self.new)) }
-        ensures calm { OnOk result (faults_of self.new ≡ faults_of self.old) }
+        ensures { IsCounted result (faults_of self.old) (faults_of self.new) }
     {
         self.calls = self.calls.saturating_add(1);
         if self.failing.contains(&self.calls) {
@@ -100,9 +97,7 @@ pub struct ScriptedSource<'a> {
 impl Source for ScriptedSource<'_> {
     ghost use Rattle.ug_io.specs.Scripted.{faults_of};
 
-    ghost left = { λ s. Some s.rest.now };
-
-    ghost faults = { λ s. faults_of s.script };
+    ghost seen = { λ s. record { left = Some s.rest.now; faults = faults_of s.script } };
 
     fn read(&mut self, buffer: &mut [u8]) -> Result<usize, Failed> {
         self.script.step()?;
@@ -143,9 +138,7 @@ impl MemorySink {
 impl Sink for MemorySink {
     ghost use Rattle.ug_io.specs.Scripted.{faults_of, bytes_of};
 
-    ghost written = { λ s. Some (bytes_of s) };
-
-    ghost faults = { λ s. faults_of s.script };
+    ghost seen = { λ s. record { written = Some (bytes_of s); faults = faults_of s.script } };
 
     fn write(&mut self, bytes: &[u8]) -> Result<usize, Failed> {
         self.script.step()?;

@@ -6,7 +6,7 @@
 //! `UG_PROGRESS` set, how it gets on.
 #![tactic(auto)]
 
-ghost use Rattle.std.specs.Prelude.{◌≡◌, ◌⊎◌};
+ghost use Rattle.std.specs.Prelude.{◌⊎◌};
 ghost use Rattle.ug_cli.specs.Taken.{texts};
 ghost use Rattle.ug_top.specs.Outside.{outside};
 ghost use Rattle.ug_main.specs.Files.{HasRunOnFiles, IsUnbegun};
@@ -56,14 +56,18 @@ fn status_of(error: &io::Error) -> Status {
     }
 }
 
-// Ends before a run has begun. Want of memory is told as a run tells it.
-fn unbegun<R: Print>(rt: &R, status: Status) -> Status
-    ensures { result ≡ status }
+// Tells want of memory before a run has begun, as a run tells it.
+fn unbegun<R: Print + Eprint>(rt: &R) -> Status
+    ensures { IsUnbegun result }
 {
-    if status == Status::Memory {
-        let _ = println!(rt; "memory");
+    match println!(rt; "memory") {
+        Ok(()) => Status::Memory,
+        Err(error) => {
+            explain(rt, "standard output", Some(&error));
+            drop(error);
+            Status::WriteFault
+        }
     }
-    status
 }
 
 // Finds the files that the words name, and does what the words ask for.
@@ -74,7 +78,7 @@ where
 {
     match read_words(rt.alloc(), words) {
         Ok(plan) => work(rt, words, paths_of(Some(&plan)), is_told),
-        Err(Usage::Memory) => unbegun(rt, Status::Memory),
+        Err(Usage::Memory) => unbegun(rt),
         Err(_) => work(rt, words, paths_of(None), is_told),
     }
 }
@@ -129,9 +133,8 @@ where
     K: Sink + Reasons,
     D: Disk + Reasons,
     ensures { HasRun (texts job.entry.words.now)
-        (outside (S.left input.old) (S.faults input.old) (D.told disk.old) (D.faults disk.old))
-        (outside (S.left input.new) (S.faults input.new) (D.told disk.new) (D.faults disk.new))
-        (K.written out.old) (K.written out.new) (K.faults out.old) (K.faults out.new) result }
+        (outside (S.seen input.old) (D.seen disk.old))
+        (outside (S.seen input.new) (D.seen disk.new)) (K.seen out.old) (K.seen out.new) result }
 {
     let ran = run(host, job.words, input, out, disk);
     let rt = host.rt;
@@ -182,7 +185,8 @@ fn main(rt: HostRuntime) -> ExitCode {
     let standard = take_standard(&rt);
     let status = match words_of(&rt) {
         Ok(words) => obey(&rt, &words, wants_progress(&rt)),
-        Err(status) => unbegun(&rt, status),
+        Err(Status::Memory) => unbegun(&rt),
+        Err(status) => status,
     };
     if status == Status::Usage {
         let _ = eprintln!(rt; "usage: ug solve|restart|gen|show");

@@ -11,7 +11,7 @@ use Rattle.ug_mps.proofs.EndingLemmas.{no_end_of, no_end_behind, no_end_yet}
 use Rattle.ug_mps.proofs.LineTails.{no_feed_both}
 use Rattle.ug_mps.specs.declared.gathering.GatherError.{GatherError}
 use Rattle.ug_mps.specs.declared.gathering.GatherError.TheVariants.{Memory, Fault}
-use Rattle.ug_mps.specs.Enough.{IsEnough, IsRead, PieceCame, StopsAtEnd, StopsAtFeed, StopsBehind}
+use Rattle.ug_mps.specs.Enough.{IsEnough, PieceCame, StopsAtEnd, StopsAtFeed, StopsBehind}
 
 -- first some bytes came, then more
 pub gives_more : (a b c : Option (List ℕ)) (xs ys : List ℕ) → Gives a b xs → Gives b c ys
@@ -178,12 +178,6 @@ pub enough_last : (a b : Option (List ℕ)) (xs ys zs : List ℕ) (n : ℕ) → 
     → IfSome a (λ whole. IsEnough whole ys)
 enough_last a b xs ys zs n z e g at =
     subst (λ l. IfSome a (λ whole. IsEnough whole l)) (sym (e ∙ ap (λ k. xs ++ take k zs) z ∙ append-nil xs)) (enough_at_end a b xs g at)
-
--- a fault of one call is one of the call above it, whatever they answer else
-pub fault_told : {A B : Type 0} (e : GatherError) (faults risen : ℕ) → IsRead {A = A} (Err e) faults risen
-    → IsErrOf {T = B} (Err e) Fault → Rose faults risen
-fault_told Memory faults risen t is = absurd (cc is)
-fault_told Fault faults risen t is = t.fault refl
 
 -- nothing was read
 pub stops_at_once : (a : Option (List ℕ)) → StopsAtEnd a a

@@ -9,11 +9,10 @@ use Rattle.ug_mps.specs.Laws.{StatesSame}
 use Rattle.ug_mps.specs.declared.gathering.GatherError.{GatherError}
 use Rattle.ug_mps.specs.declared.gathering.GatherError.TheVariants.{Memory, Fault}
 
--- a fault is told only where the source's count of faults rose, and else the count stayed
-pub record IsRead {A : Type 0} (result : Result A GatherError) (faults risen : ℕ) : Type 0 where
-  pub fault : IsErrOf result Fault → Rose faults risen
-  pub calm : OnOk result (risen ≡ faults)
-  pub memory : IsErrOf result Memory → risen ≡ faults
+-- what the error of a gathering says of the source's faults: want of memory is none
+abbrev pub gather_cause : GatherError → ℕ → ℕ → Type 0
+gather_cause Memory old new = new ≡ old
+gather_cause Fault old new = Rose old new
 
 -- so many bytes came to the front of the buffer and went behind the bytes, and with none the source
 -- is at its end

@@ -1,7 +1,7 @@
-ghost use Rattle.std.specs.Prelude.{◌≡◌, ◌<◌, ◌≤◌, ◌^◌, ◌++◌, length, take, drop, IfOk, IfErr, OnOk, OnErr, IfSome, IsErrOf};
-ghost use Rattle.ug_io.specs.Outside.{Rose, Gives, IsAtEnd};
+ghost use Rattle.std.specs.Prelude.{◌≡◌, ◌<◌, ◌≤◌, ◌^◌, ◌++◌, length, take, drop, IfOk, IfErr, OnOk, IfSome, IsErrOf};
+ghost use Rattle.ug_io.specs.Outside.{Gives, IsAtEnd, IsCounted, IsCountedBy};
 ghost use Rattle.ug_mps.specs.Ending.{HasNoEnd, begins_legibly, legible_by, mark};
-ghost use Rattle.ug_mps.specs.Enough.{HasCome, IsEnough, IsRead, PieceCame, StopsAtEnd, StopsAtFeed, StopsBehind};
+ghost use Rattle.ug_mps.specs.Enough.{HasCome, IsEnough, PieceCame, StopsAtEnd, StopsAtFeed, StopsBehind, gather_cause};
 ghost use Rattle.ug_mps.specs.declared.gathering.GatherError.TheVariants.{Memory, Fault};
 
 use crate::ending::{Seen, Tail, see, tail_of};
@@ -44,16 +44,15 @@ impl From<Failed> for GatherError {
 /// No call of the source comes after the one that brought the end of that line.
 #[tactic(auto, using(crate::proofs::Gathered::gives_more))]
 pub fn gather<S: Source>(alloc: Global, input: &mut S) -> Result<Vec<u8>, GatherError>
-    ensures enough { IfOk result (λ bytes. IfSome (S.left input.old)
+    ensures enough { IfOk result (λ bytes. IfSome (S.seen input.old).left
         (λ whole. IsEnough whole bytes.items)) }
-    ensures stops { OnOk result (StopsAtEnd (S.left input.old) (S.left input.new)) }
-    ensures fault { IsErrOf result GatherError.Fault
-        → Rose (S.faults input.old) (S.faults input.new) }
-    ensures calm { OnOk result (S.faults input.new ≡ S.faults input.old) }
-    ensures memory { IsErrOf result GatherError.Memory
-        → S.faults input.new ≡ S.faults input.old }
+    ensures stops { OnOk result (StopsAtEnd (S.seen input.old).left (S.seen input.new).left) }
+    ensures cause { IsCountedBy gather_cause result
+        (S.seen input.old).faults (S.seen input.new).faults }
 {
-    let mut buffer = zeros(alloc, PIECE)?;
+    let Ok(mut buffer) = zeros(alloc, PIECE) else {
+        return Err(GatherError::Memory);
+    };
     let mut bytes = Vec::new(alloc);
     let mut line = 0;
     let mut from = 0;
@@ -98,12 +97,17 @@ fn read_on<S: Source>(
     requires room { 0 < length buffer.old }
     ensures room { length buffer.new ≡ length buffer.old }
     ensures came { IfOk result (HasCome buffer.new bytes.old.items bytes.new.items
-        (S.left input.old) (S.left input.new)) }
-    ensures read { IsRead result (S.faults input.old) (S.faults input.new) }
+        (S.seen input.old).left (S.seen input.new).left) }
+    ensures cause { IsCountedBy gather_cause result
+        (S.seen input.old).faults (S.seen input.new).faults }
 {
-    let n = input.read(buffer)?;
-    bytes.extend_from_slice(&buffer[..n])?;
-    Ok(n)
+    let Ok(n) = input.read(buffer) else {
+        return Err(GatherError::Fault);
+    };
+    match bytes.extend_from_slice(&buffer[..n]) {
+        Ok(()) => Ok(n),
+        Err(_) => Err(GatherError::Memory),
+    }
 }
 
 // The bytes up to `cut`, where the word ENDATA ends, and a mark for the rest of its line, which is
@@ -115,12 +119,13 @@ fn ended<S: Source>(
     cut: usize,
 ) -> Result<Vec<u8>, GatherError>
     requires { cut ≤ length bytes.items }
-    ensures text { IfOk result (λ text. IfSome (S.left input.old)
+    ensures text { IfOk result (λ text. IfSome (S.seen input.old).left
         (λ more. text.items
         ≡ take cut bytes.items ++ mark (begins_legibly (drop cut bytes.items ++ more)))) }
     ensures stops { OnOk result
-        (StopsBehind (drop cut bytes.items) (S.left input.old) (S.left input.new)) }
-    ensures read { IsRead result (S.faults input.old) (S.faults input.new) }
+        (StopsBehind (drop cut bytes.items) (S.seen input.old).left (S.seen input.new).left) }
+    ensures cause { IsCountedBy gather_cause result
+        (S.seen input.old).faults (S.seen input.new).faults }
 {
     let tail = tail_of(false, bytes.split_at(cut).1);
     match passed(alloc, input, tail) {
@@ -149,12 +154,15 @@ fn cut_off(bytes: Vec<u8>, cut: usize, legible: bool) -> Result<Vec<u8>, GatherE
 
 // Reads on over the rest of the ENDATA line by pieces, and says whether it is legible.
 fn passed<S: Source>(alloc: Global, input: &mut S, tail: Tail) -> Result<bool, GatherError>
-    ensures legible { IfOk result (λ legible. IfSome (S.left input.old)
+    ensures legible { IfOk result (λ legible. IfSome (S.seen input.old).left
         (λ more. legible ≡ legible_by tail more)) }
-    ensures stops { OnOk result (StopsAtFeed tail (S.left input.old) (S.left input.new)) }
-    ensures read { IsRead result (S.faults input.old) (S.faults input.new) }
+    ensures stops { OnOk result (StopsAtFeed tail (S.seen input.old).left (S.seen input.new).left) }
+    ensures cause { IsCountedBy gather_cause result
+        (S.seen input.old).faults (S.seen input.new).faults }
 {
-    let mut buffer = zeros(alloc, PIECE)?;
+    let Ok(mut buffer) = zeros(alloc, PIECE) else {
+        return Err(GatherError::Memory);
+    };
     let passed = pass(input, &mut buffer, tail);
     drop(buffer);
     passed
@@ -166,12 +174,13 @@ fn passed<S: Source>(alloc: Global, input: &mut S, tail: Tail) -> Result<bool, G
 fn pass<S: Source>(input: &mut S, buffer: &mut [u8], tail: Tail) -> Result<bool, GatherError>
     requires some { 0 < length buffer.old }
     requires few { length buffer.old ≤ 65536 }
-    ensures legible { IfOk result (λ legible. IfSome (S.left input.old)
+    ensures legible { IfOk result (λ legible. IfSome (S.seen input.old).left
         (λ more. legible ≡ legible_by tail more)) }
-    ensures stops { OnOk result (StopsAtFeed tail (S.left input.old) (S.left input.new)) }
-    ensures read { IsRead result (S.faults input.old) (S.faults input.new) }
+    ensures stops { OnOk result (StopsAtFeed tail (S.seen input.old).left (S.seen input.new).left) }
+    ensures cause { IsCountedBy gather_cause result
+        (S.seen input.old).faults (S.seen input.new).faults }
     ensures endless { IsErrOf result GatherError.Memory
-        → IfSome (S.left input.old) (λ more. 2 ^ 63 ≤ length more) }
+        → IfSome (S.seen input.old).left (λ more. 2 ^ 63 ≤ length more) }
 {
     let mut tail = tail;
     for _ in 0..u64::MAX {
@@ -189,9 +198,8 @@ fn pass_piece<S: Source>(input: &mut S, buffer: &mut [u8], after: bool) -> Resul
     requires some { 0 < length buffer.old }
     requires few { length buffer.old ≤ 65536 }
     ensures came { IfOk result
-        (λ tail. PieceCame after tail (S.left input.old) (S.left input.new)) }
-    ensures failed { OnErr result (Rose (S.faults input.old) (S.faults input.new)) }
-    ensures calm { OnOk result (S.faults input.new ≡ S.faults input.old) }
+        (λ tail. PieceCame after tail (S.seen input.old).left (S.seen input.new).left) }
+    ensures cause { IsCounted result (S.seen input.old).faults (S.seen input.new).faults }
     ensures room { length buffer.new ≡ length buffer.old }
 {
     let n = input.read(buffer)?;

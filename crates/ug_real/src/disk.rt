@@ -1,4 +1,4 @@
-ghost use Rattle.std.specs.Prelude.{◌≤◌, None, length, IfOk};
+ghost use Rattle.std.specs.Prelude.{◌≡◌, ◌≤◌, None, length, IfOk};
 
 use crate::faults::Faults;
 use crate::slot_copies::SlotCopies;
@@ -37,7 +37,9 @@ impl<'a, R: Files<File = File>> FileDisk<'a, R> {
     /// The slots of a folder for writing. The folder and the files are made where they are not
     /// there, at the first call; from then on no other `FileDisk` writes the folder until this one
     /// is dropped: a call on one that would is a fault.
-    pub fn new(rt: &'a R, alloc: Global, folder: &'a str) -> FileDisk<'a, R> {
+    pub fn new(rt: &'a R, alloc: Global, folder: &'a str) -> FileDisk<'a, R>
+        ensures { result.faults.count ≡ 0 }
+    {
         FileDisk {
             access: Access::Writing(SlotFiles::new(rt, alloc, folder)),
             faults: Faults::new(),
@@ -48,7 +50,9 @@ impl<'a, R: Files<File = File>> FileDisk<'a, R> {
     /// made, and a file that is not there is an empty slot. Both slots are copied when one is first
     /// looked at, as two readings of both in a row gave them. A write is a fault, and a sync has
     /// nothing to do: what a crash would leave is for the program that writes.
-    pub fn reading(rt: &'a R, alloc: Global, folder: &'a str) -> FileDisk<'a, R> {
+    pub fn reading(rt: &'a R, alloc: Global, folder: &'a str) -> FileDisk<'a, R>
+        ensures { result.faults.count ≡ 0 }
+    {
         FileDisk {
             access: Access::Reading(SlotCopies::new(rt, alloc, folder)),
             faults: Faults::new(),
@@ -62,9 +66,7 @@ impl<'a, R: Files<File = File>> FileDisk<'a, R> {
 }
 
 impl<R: Files<File = File>> Disk for FileDisk<'_, R> {
-    ghost told = { λ _. None };
-
-    ghost faults = { λ d. d.faults.count };
+    ghost seen = { λ d. record { told = None; faults = d.faults.count } };
 
     fn len(&mut self, slot: Slot) -> Result<u64, Failed> {
         let got = match &mut self.access {

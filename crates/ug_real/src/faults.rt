@@ -1,5 +1,5 @@
-ghost use Rattle.std.specs.Prelude.{◌≡◌, ◌≤◌, Ok, IfOk, OnOk, OnErr};
-ghost use Rattle.ug_io.specs.Outside.{Rose};
+ghost use Rattle.std.specs.Prelude.{◌≡◌, Ok, IfOk};
+ghost use Rattle.ug_io.specs.Outside.{IsCounted, Rose};
 
 use std::io;
 use ug_io::Failed;
@@ -12,7 +12,9 @@ pub struct Faults {
 }
 
 impl Faults {
-    pub fn new() -> Faults {
+    pub fn new() -> Faults
+        ensures { result.count ≡ 0 }
+    {
         Faults {
             count: 0,
             last: None,
@@ -31,9 +33,7 @@ impl Faults {
     /// What a call gave, its error counted.
     pub fn counted<T: Drop>(&mut self, got: io::Result<T>) -> Result<T, Failed>
         ensures given { IfOk result (λ x. got ≡ Ok x) }
-        ensures never_falls { self.old.count ≤ self.new.count }
-        ensures failed { OnErr result (Rose self.old.count self.new.count) }
-        ensures calm { OnOk result (self.new.count ≡ self.old.count) }
+        ensures cause { IsCounted result self.old.count self.new.count }
     {
         match got {
             Ok(x) => Ok(x),

@@ -1,4 +1,4 @@
-ghost use Rattle.std.specs.Prelude.{◌≤◌, None, length, IfOk};
+ghost use Rattle.std.specs.Prelude.{◌≡◌, ◌≤◌, None, length, IfOk};
 
 use crate::again;
 use crate::faults::Faults;
@@ -17,7 +17,10 @@ pub struct Reader<'a, R: Files> {
 }
 
 impl<'a, R: Files> Reader<'a, R> {
-    pub fn new(rt: &'a R, path: &'a str) -> Reader<'a, R> {
+    /// The file of this path. No call has failed yet.
+    pub fn new(rt: &'a R, path: &'a str) -> Reader<'a, R>
+        ensures { result.faults.count ≡ 0 }
+    {
         Reader {
             rt,
             path,
@@ -51,9 +54,7 @@ fn read_some<R: Files>(
 }
 
 impl<R: Files> Source for Reader<'_, R> {
-    ghost left = { λ _. None };
-
-    ghost faults = { λ r. r.faults.count };
+    ghost seen = { λ r. record { left = None; faults = r.faults.count } };
 
     fn read(&mut self, buffer: &mut [u8]) -> Result<usize, Failed> {
         let got = read_some(self.rt, self.path, &mut self.file, buffer);

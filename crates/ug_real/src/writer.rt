@@ -1,4 +1,4 @@
-ghost use Rattle.std.specs.Prelude.{None};
+ghost use Rattle.std.specs.Prelude.{◌≡◌, None};
 
 use crate::again;
 use crate::faults::Faults;
@@ -15,7 +15,10 @@ pub struct Writer<W: Write + Drop> {
 }
 
 impl<W: Write + Drop> Writer<W> {
-    pub fn new(to: W) -> Writer<W> {
+    /// A sink to this writer. No call has failed yet.
+    pub fn new(to: W) -> Writer<W>
+        ensures { result.faults.count ≡ 0 }
+    {
         Writer {
             to,
             faults: Faults::new(),
@@ -29,9 +32,7 @@ impl<W: Write + Drop> Writer<W> {
 }
 
 impl<W: Write + Drop> Sink for Writer<W> {
-    ghost written = { λ _. None };
-
-    ghost faults = { λ w. w.faults.count };
+    ghost seen = { λ w. record { written = None; faults = w.faults.count } };
 
     fn write(&mut self, bytes: &[u8]) -> Result<usize, Failed> {
         match again::write(&mut self.to, bytes) {

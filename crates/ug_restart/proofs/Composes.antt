@@ -1,5 +1,5 @@
 -- A load and a first save, one after the other.
-use Rattle.std.proofs.Common.{◌≡◌, inl, inr, ℕ, List, Option, None, Some, IfErr, Result, Err, Bor, [], ◌∷◌, Bool, true, false, sym, ◌∙◌, ap, subst}
+use Rattle.std.proofs.Common.{◌≡◌, inl, inr, ℕ, List, Option, None, Some, Bor, [], ◌∷◌, Bool, true, false, sym, ◌∙◌, ap, subst}
 use Rattle.std.specs.Prelude.{MatchOption, nat_lt, if◌then◌else◌}
 use Rattle.std.specs.Option.{option_copied}
 use Rattle.ug_disk.specs.declared.slot.Slot.{Slot}
@@ -204,24 +204,3 @@ not_saved old new NoCheckpoint not = absurd not
 not_saved old new (OtherProblem at kept read) not = absurd not
 not_saved old new (SmallerGap kept asked) not = absurd not
 not_saved old new Spent not = absurd not
-
-same_fault : {A : Type 0} → (a b : StartFault) → ◌≡◌ {A = Result A StartFault} (Err a) (Err b)
-    → a ≡ b
-same_fault a b same = cc same
-
--- what is told is no fault of the disk, if what holds of it holds of none
-pub told_calm : {A : Type 0} → (P : StartFault → Type 0) (fault : StartFault) → P fault
-    → (P DiskFault → ⊥) → ◌≡◌ {A = Result A StartFault} (Err fault) (Err DiskFault) → ⊥
-told_calm P fault holds not same = not (subst P (same_fault fault DiskFault same) holds)
-
--- a fault is told as another call told it
-pub told_as : {A B : Type 0} → (fault : StartFault) (told : Result B StartFault) → told ≡ Err fault
-    → ◌≡◌ {A = Result A StartFault} (Err fault) (Err DiskFault) → told ≡ Err DiskFault
-told_as fault told is same = is ∙ ap Err (same_fault fault DiskFault same)
-
--- and is none where it was told as none
-pub not_told_as : {A B : Type 0} → (fault : StartFault) (told : Result B StartFault)
-    → told ≡ Err fault
-    → (◌≡◌ {A = Result A StartFault} (Err fault) (Err DiskFault) → ⊥) → told ≡ Err DiskFault → ⊥
-not_told_as fault told is not same =
-    not (ap Err (same_fault fault DiskFault (sym is ∙ same)))

@@ -1,5 +1,5 @@
 -- The first save of a run.
-use Rattle.std.proofs.Common.{◌≡◌, inl, inr, ℕ, Option, None, Some, Result, Err, sym, ◌∙◌, ap, subst}
+use Rattle.std.proofs.Common.{◌≡◌, inl, inr, ℕ, Option, None, Some, sym, ◌∙◌, ap, subst}
 use Rattle.ug_disk.specs.Histories.{History}
 use Rattle.ug_disk.specs.Crashes.{Leaves}
 use Rattle.ug_disk.proofs.Moments.{LeavesNow, starts, weakens}
@@ -10,11 +10,6 @@ use Rattle.ug_checkpoint.specs.declared.saver.Saver.{Saver}
 use Rattle.ug_checkpoint.specs.Savers.{IsSafe, IsWritten, Finds, last_slot, next_slot, sequence_of}
 use Rattle.ug_snapshot.specs.Moments.{IsImageOf}
 use Rattle.ug_restart.specs.Openings.{IsAcknowledgedStart, IsSafeFirst}
-use Rattle.ug_checkpoint.specs.declared.error.SaveError.{SaveError}
-use Rattle.ug_checkpoint.specs.declared.error.SaveError.TheVariants.{Fault}
-use Rattle.ug_restart.specs.declared.fault.StartFault.{StartFault}
-use Rattle.ug_restart.specs.declared.fault.StartFault.TheVariants.{DiskFault}
-use Rattle.ug_restart.specs.Faults.{fault_of_save}
 
 could_now : (told : Option History) → LeavesNow (CouldLeave told) told
 could_now None = tt
@@ -64,13 +59,3 @@ acknowledged saver after told book image sequence moment same last written finds
   last = last;
   written = written;
 }
-
-same_error : (a b : SaveError) → ◌≡◌ {A = Result (Unit {0}) SaveError} (Err a) (Err b) → a ≡ b
-same_error a b same = cc same
-
--- a start that does not say that the disk failed was not told so by its save
-pub not_failed : (r : Result (Unit {0}) StartFault) (s : Result (Unit {0}) SaveError)
-    (fault : StartFault) (error : SaveError) → r ≡ Err fault → fault ≡ fault_of_save error
-    → s ≡ Err error → (r ≡ Err DiskFault → ⊥) → s ≡ Err Fault → ⊥
-not_failed r s fault error is from was not failed =
-    not (is ∙ ap Err (from ∙ ap fault_of_save (same_error error Fault (sym was ∙ failed))))

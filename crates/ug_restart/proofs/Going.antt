@@ -1,15 +1,20 @@
 -- Saves go on, one after another.
-use Rattle.std.proofs.Common.{◌≡◌, inl, inr, ℕ, ◌-◌, ◌^◌, ◌≤◌, ◌<◌, Option, refl, ◌∙◌, arith}
+use Rattle.std.proofs.Common.{◌≡◌, ◌⊎◌, inl, inr, ℕ, ◌+◌, ◌-◌, ◌^◌, ◌≤◌, ◌<◌, refl, ◌∙◌, arith}
 use Rattle.std.proofs.lemmas.Bool.{cases_lt}
 use Rattle.ug_io.specs.Outside.{Rose}
-use Rattle.ug_disk.specs.Histories.{History}
+use Rattle.ug_disk.specs.Histories.{DiskSeen}
 use Rattle.ug_checkpoint.specs.declared.saver.Saver.{Saver}
 use Rattle.ug_restart.specs.declared.saves.Saves.{Saves}
 use Rattle.ug_restart.specs.Moments.{IsCoveredNow}
-use Rattle.ug_restart.specs.Going.{GoesOn, StaysCovered, Time, time}
+use Rattle.ug_restart.specs.Going.{GoesOn, IsEachAFault, StaysCovered, Time, time}
 use Rattle.ug_restart.proofs.Covering.{covered_joined, covered_same}
 
 -- ---- counts of faults
+
+-- a count that rose did not fall
+pub rose_rises : (old new : ℕ) → Rose old new → old ≤ new
+rose_rises old new (inl h) = omega (arith, h)
+rose_rises old new (inr h) = omega (arith, h.1)
 
 pub rose_on : (a b c : ℕ) → Rose a b → b ≤ c → Rose a c
 rose_on a b c (inl less) more = inl (omega (arith, less, more))
@@ -25,75 +30,88 @@ rose_late a b c less (inr full) = elim (cases_lt a c) [
   | inr same ↦ inr (omega (arith, same, full.0, full.1), omega (arith, same, full.1, less))
 ]
 
+-- one save more is missed for a fault
+one_fault : (missed more faults after : ℕ) → more ≤ missed + 1 → Rose faults after
+    → (more + faults ≤ missed + after) ⊎ (2 ^ 64 - 1 ≤ after)
+one_fault missed more faults after most (inl less) = inl (omega (arith, most, less))
+one_fault missed more faults after most (inr full) = inr (omega (arith, full.0, full.1))
+
+-- some saves, and then others
+each_joined : (a b c : Time) → IsEachAFault a b → b.disk.faults ≤ c.disk.faults
+    → IsEachAFault b c → IsEachAFault a c
+each_joined a b c (inl first) more (inl second) = inl (omega (arith, first, second))
+each_joined a b c (inr full) more (inl second) = inr (omega (arith, full, more))
+each_joined a b c first more (inr full) = inr full
+
 -- ---- from one time to another
 
 -- nothing was done, but perhaps counted as unsaved
-pub not_made : (Covers : Type 0) (saves : Saves) (unsaved : ℕ) (told new : Option History)
-    (faults after : ℕ) → saves.unsaved ≤ unsaved → new ≡ told → after ≡ faults
-    → GoesOn Covers (time saves told faults)
-    (time (record saves { unsaved = unsaved }) new after)
-not_made Covers saves unsaved told new faults after more same calm = record {
+pub not_made : (Covers : Type 0) (saves : Saves) (unsaved : ℕ) (old new : DiskSeen)
+    → saves.unsaved ≤ unsaved → new.told ≡ old.told → new.faults ≡ old.faults
+    → GoesOn Covers (time saves old) (time (record saves { unsaved = unsaved }) new)
+not_made Covers saves unsaved old new more same calm = record {
   opening = refl;
   calls = omega arith;
   missed = omega arith;
   unsaved = more;
   faults = omega (arith, calm);
   rose = λ less. absurd (omega (arith, less));
+  each = inl (omega (arith, calm));
   calm = λ none room. calm;
-  covered = λ covers now. covered_same saves.saver saves.saver told new same refl now;
+  covered = λ covers now. covered_same saves.saver saves.saver old.told new.told same refl now;
 }
 
 -- memory was wanting
-pub unmade : (Covers : Type 0) (saves : Saves) (saver : Saver) (unsaved : ℕ)
-    (told new : Option History) (faults after : ℕ) → saves.unsaved ≤ unsaved → after ≡ faults
-    → (Covers → IsCoveredNow saves.saver told
-    → StaysCovered (time saves told faults)
-    (time (record saves { saver = saver; unsaved = unsaved }) new after))
-    → GoesOn Covers (time saves told faults)
-    (time (record saves { saver = saver; unsaved = unsaved }) new after)
-unmade Covers saves saver unsaved told new faults after more calm covered = record {
+pub unmade : (Covers : Type 0) (saves : Saves) (saver : Saver) (unsaved : ℕ) (old new : DiskSeen)
+    → saves.unsaved ≤ unsaved → new.faults ≡ old.faults
+    → (Covers → IsCoveredNow saves.saver old.told
+    → StaysCovered (time saves old) (time (record saves { saver = saver; unsaved = unsaved }) new))
+    → GoesOn Covers (time saves old) (time (record saves { saver = saver; unsaved = unsaved }) new)
+unmade Covers saves saver unsaved old new more calm covered = record {
   opening = refl;
   calls = omega arith;
   missed = omega arith;
   unsaved = more;
   faults = omega (arith, calm);
   rose = λ less. absurd (omega (arith, less));
+  each = inl (omega (arith, calm));
   calm = λ none room. calm;
   covered = covered;
 }
 
 -- an image was saved
-pub made : (Covers : Type 0) (saves : Saves) (saver : Saver) (told new : Option History)
-    (faults after : ℕ) → after ≡ faults
-    → (Covers → IsCoveredNow saves.saver told
-    → StaysCovered (time saves told faults) (time (record saves { saver = saver }) new after))
-    → GoesOn Covers (time saves told faults) (time (record saves { saver = saver }) new after)
-made Covers saves saver told new faults after calm covered = record {
+pub made : (Covers : Type 0) (saves : Saves) (saver : Saver) (old new : DiskSeen)
+    → new.faults ≡ old.faults
+    → (Covers → IsCoveredNow saves.saver old.told
+    → StaysCovered (time saves old) (time (record saves { saver = saver }) new))
+    → GoesOn Covers (time saves old) (time (record saves { saver = saver }) new)
+made Covers saves saver old new calm covered = record {
   opening = refl;
   calls = omega arith;
   missed = omega arith;
   unsaved = omega arith;
   faults = omega (arith, calm);
   rose = λ less. absurd (omega (arith, less));
+  each = inl (omega (arith, calm));
   calm = λ none room. calm;
   covered = covered;
 }
 
 -- the disk failed
-pub failed : (Covers : Type 0) (saves : Saves) (saver : Saver) (missed : ℕ)
-    (told new : Option History) (faults after : ℕ) → saves.missed ≤ missed
-    → (saves.missed < 2 ^ 64 - 1 → saves.missed < missed) → faults ≤ after → Rose faults after
-    → (Covers → IsCoveredNow saves.saver told → StaysCovered (time saves told faults)
-    (time (record saves { saver = saver; missed = missed }) new after))
-    → GoesOn Covers (time saves told faults)
-    (time (record saves { saver = saver; missed = missed }) new after)
-failed Covers saves saver missed told new faults after more rises least rose covered = record {
+pub failed : (Covers : Type 0) (saves : Saves) (saver : Saver) (missed : ℕ) (old new : DiskSeen)
+    → saves.missed ≤ missed → missed ≤ saves.missed + 1
+    → (saves.missed < 2 ^ 64 - 1 → saves.missed < missed) → Rose old.faults new.faults
+    → (Covers → IsCoveredNow saves.saver old.told
+    → StaysCovered (time saves old) (time (record saves { saver = saver; missed = missed }) new))
+    → GoesOn Covers (time saves old) (time (record saves { saver = saver; missed = missed }) new)
+failed Covers saves saver missed old new more most rises rose covered = record {
   opening = refl;
   calls = omega arith;
   missed = more;
   unsaved = omega arith;
-  faults = least;
+  faults = rose_rises old.faults new.faults rose;
   rose = λ less. rose;
+  each = one_fault saves.missed missed old.faults new.faults most rose;
   calm = λ none room. absurd (omega (arith, none, rises room));
   covered = covered;
 }
@@ -101,7 +119,7 @@ failed Covers saves saver missed told new faults after more rises least rose cov
 -- the last snapshot that was saved is a newer one
 pub with_calls : (Covers : Type 0) (old new : Time) (calls : ℕ) → old.saves.calls ≤ calls
     → GoesOn Covers old new
-    → GoesOn Covers old (time (record new.saves { calls = calls }) new.told new.faults)
+    → GoesOn Covers old (time (record new.saves { calls = calls }) new.disk)
 with_calls Covers old new calls more goes = record {
   opening = goes.opening;
   calls = more;
@@ -109,6 +127,7 @@ with_calls Covers old new calls more goes = record {
   unsaved = goes.unsaved;
   faults = goes.faults;
   rose = goes.rose;
+  each = goes.each;
   calm = goes.calm;
   covered = goes.covered;
 }
@@ -122,6 +141,7 @@ goes_where P Q old new is goes = record {
   unsaved = goes.unsaved;
   faults = goes.faults;
   rose = goes.rose;
+  each = goes.each;
   calm = goes.calm;
   covered = λ q now. goes.covered (is q) now;
 }
@@ -136,17 +156,19 @@ goes_on Covers a b c first second = record {
   unsaved = omega (arith, first.unsaved, second.unsaved);
   faults = omega (arith, first.faults, second.faults);
   rose = λ more. elim (cases_lt a.saves.missed b.saves.missed) [
-    | inl early ↦ rose_on a.faults b.faults c.faults (first.rose early) second.faults
-    | inr late ↦ rose_late a.faults b.faults c.faults first.faults
+    | inl early ↦ rose_on a.disk.faults b.disk.faults c.disk.faults (first.rose early)
+        second.faults
+    | inr late ↦ rose_late a.disk.faults b.disk.faults c.disk.faults first.faults
         (second.rose (omega (arith, late, more)))
   ];
+  each = each_joined a b c first.each second.faults second.each;
   calm = λ none room.
       let same : b.saves.missed ≡ a.saves.missed =
       omega (arith, none, first.missed, second.missed) in
       second.calm (omega (arith, none, same)) (omega (arith, same, room)) ∙ first.calm same room;
   covered = λ covers now.
-      covered_joined a.told b.told c.told b.saves.saver c.saves.saver (first.covered covers now)
-      (λ mid. second.covered covers mid);
+      covered_joined a.disk.told b.disk.told c.disk.told b.saves.saver c.saves.saver
+      (first.covered covers now) (λ mid. second.covered covers mid);
 }
 
 -- nothing at all
@@ -158,6 +180,8 @@ goes_nowhere Covers a = record {
   unsaved = omega arith;
   faults = omega arith;
   rose = λ less. absurd (omega (arith, less));
+  each = inl (omega arith);
   calm = λ none room. refl;
-  covered = λ covers now. covered_same a.saves.saver a.saves.saver a.told a.told refl refl now;
+  covered = λ covers now.
+      covered_same a.saves.saver a.saves.saver a.disk.told a.disk.told refl refl now;
 }

@@ -1,3 +1,4 @@
+pub mod Causes
 mod First
 pub mod Firsts
 pub mod Composes

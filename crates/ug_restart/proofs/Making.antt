@@ -1,13 +1,11 @@
 -- What may be saved next.
-use Rattle.std.proofs.Common.{◌≡◌, Option, Some, IfSome, Result, Ok, Err, ℕ, ◌+◌, ◌^◌, ◌≤◌, ◌<◌, sym, ap, subst, arith}
+use Rattle.std.proofs.Common.{◌≡◌, Option, Some, IfSome, ℕ, ◌+◌, ◌^◌, ◌≤◌, ◌<◌, sym, ap, subst, arith}
 use Rattle.ug_image.specs.declared.image.Image.{Image}
 use Rattle.ug_image.specs.Images.{IsImage}
 use Rattle.ug_checkpoint.specs.declared.saver.Saver.{Saver}
 use Rattle.ug_checkpoint.specs.Savers.{sequence_of}
 use Rattle.ug_snapshot.specs.Moments.{IsCovered, IsImageOf}
 use Rattle.ug_rules.specs.State.{BookState}
-use Rattle.ug_checkpoint.specs.declared.error.SaveError.{SaveError}
-use Rattle.ug_checkpoint.specs.declared.error.SaveError.TheVariants.{Fault, Memory}
 use Rattle.ug_restart.specs.Saves.{IsNext, under}
 
 -- an image under another sequence is one
@@ -52,12 +50,3 @@ next_of_book saver b made sequence is next moment = record {
 pub of_some : (o : Option Image) (P : Image → Type 0) (image : Image) → IfSome o P
     → o ≡ Some image → P image
 of_some o P image known is = subst (λ (k : Option Image). IfSome k P) is known
-
--- a save that ended well, or for want of memory, did not end by a fault
-pub ok_is_no_fault : (done : Unit {0})
-    → ◌≡◌ {A = Result (Unit {0}) SaveError} (Ok done) (Err Fault) → ⊥
-ok_is_no_fault done same = absurd cc
-
-pub memory_is_no_fault : (error : SaveError) → error ≡ Memory
-    → ◌≡◌ {A = Result (Unit {0}) SaveError} (Err error) (Err Fault) → ⊥
-memory_is_no_fault error is same = let e : error ≡ Fault = cc same in absurd (cc (is, e))

@@ -1,4 +1,6 @@
--- Which fault of a start stands for one of a load or of a save.
+-- Which fault of a start stands for one of a load or of a save, and what it says of the disk.
+use Rattle.std.specs.Prelude.{◌≡◌, ℕ}
+use Rattle.ug_io.specs.Outside.{Rose}
 use Rattle.ug_checkpoint.specs.declared.error.LoadError.{LoadError}
 use Rattle.ug_checkpoint.specs.declared.error.LoadError.TheVariants as load
 use Rattle.ug_checkpoint.specs.declared.error.SaveError.{SaveError}
@@ -14,3 +16,8 @@ fault_of_load (load.BadImage slot at) = BadImage slot at
 abbrev pub fault_of_save : SaveError → StartFault
 fault_of_save save.Memory = Memory
 fault_of_save save.Fault = DiskFault
+
+-- the disk's count of faults rose where it is told to have failed, and stayed where it is not
+abbrev pub start_cause : StartFault → ℕ → ℕ → Type 0
+start_cause DiskFault old new = Rose old new
+start_cause fault old new = new ≡ old

@@ -73,3 +73,9 @@ pub record NoneIsCounted (old new : Saves) : Type 0 where
   pub unsaved : unsaved_of new ≡ unsaved_of old
   pub missed_room : missed_of old < 2 ^ 64 - 1
   pub unsaved_room : unsaved_of old < 2 ^ 64 - 1
+
+-- of the two counts at most one rose, and by one
+pub record IsCountedByOne (old new : Saves) : Type 0 where
+  pub missed : missed_of new ≤ missed_of old + 1
+  pub unsaved : unsaved_of new ≤ unsaved_of old + 1
+  pub one : (missed_of new ≡ missed_of old) ⊎ (unsaved_of new ≡ unsaved_of old)

@@ -1,12 +1,13 @@
-ghost use Rattle.std.specs.Prelude.{◌≡◌, ◌≤◌, ◌<◌, ◌<ℤ◌, ◌≤ℤ◌, ◌+◌, ◌^◌, length, IfOk, IfErr, OnOk, IsErrOf};
+ghost use Rattle.std.specs.Prelude.{◌≡◌, ◌≤◌, ◌<◌, ◌<ℤ◌, ◌≤ℤ◌, ◌^◌, length, IfOk, IfErr, OnOk};
 ghost use Rattle.std.specs.Option.{option_copied};
-ghost use Rattle.ug_io.specs.Outside.{Rose};
+ghost use Rattle.ug_io.specs.Outside.{IsCountedBy};
 ghost use Rattle.ug_disk.specs.Crashes.{Leaves};
 ghost use Rattle.ug_checkpoint.specs.Savers.{IsKept, sequence_of};
 ghost use Rattle.ug_image.specs.Images.{IsImage};
 ghost use Rattle.ug_image.specs.Spelling.{spelled};
 ghost use Rattle.ug_book.specs.Openings.{IsOpening, opening_book};
 ghost use Rattle.ug_snapshot.specs.Moments.{IsImageOf};
+ghost use Rattle.ug_restart.specs.Faults.{start_cause};
 ghost use Rattle.ug_restart.specs.Starts.{IsSpent, next_run};
 ghost use Rattle.ug_restart.specs.Openings.{IsAcknowledgedStart, IsNotSaved, IsSafeFirst};
 ghost use Rattle.ug_restart.specs.declared.fault.StartFault.TheVariants.{Spent, SmallerGap};
@@ -54,6 +55,7 @@ pub fn check_gap(found: &Found, settings: &Settings) -> Result<(), StartFault>
 }
 
 /// Saves the first image of a run: that of the book that starts with the opening.
+#[tactic(auto, using(crate::proofs::Causes::not_saved))]
 pub fn save_first<D: Disk>(
     alloc: Global,
     disk: &mut D,
@@ -61,26 +63,27 @@ pub fn save_first<D: Disk>(
     saver: &mut Saver,
 ) -> Result<(), StartFault>
     requires opening { IsOpening opening.now }
-    requires kept { IsKept saver.old (D.told disk.old) }
+    requires kept { IsKept saver.old (D.seen disk.old).told }
     requires room { sequence_of saver.old < 2 ^ 62 }
-    ensures acknowledged { OnOk result (IsAcknowledgedStart (D.told disk.new)
+    ensures acknowledged { OnOk result (IsAcknowledgedStart (D.seen disk.new).told
         (opening_book opening.now) saver.new) }
-    ensures kept { IsKept saver.new (D.told disk.new) }
+    ensures kept { IsKept saver.new (D.seen disk.new).told }
     ensures refused { IfErr result IsNotSaved }
-    ensures any_moment { Leaves (IsSafeFirst saver.old (D.told disk.old)
-        (opening_book opening.now))
-        (D.told disk.old) (D.told disk.new) }
-    ensures never_falls { D.faults disk.old ≤ D.faults disk.new }
-    ensures fault { IsErrOf result StartFault.DiskFault
-        → Rose (D.faults disk.old) (D.faults disk.new) }
-    ensures calm { (IsErrOf result StartFault.DiskFault → ⊥)
-        → D.faults disk.new ≡ D.faults disk.old }
+    ensures any_moment { Leaves
+        (IsSafeFirst saver.old (D.seen disk.old).told (opening_book opening.now))
+        (D.seen disk.old).told (D.seen disk.new).told }
+    ensures cause { IsCountedBy start_cause result
+        (D.seen disk.old).faults (D.seen disk.new).faults }
 {
-    let image = first_image(alloc, opening, saver.sequence() + 1)?;
+    let Ok(image) = first_image(alloc, opening, saver.sequence() + 1) else {
+        return Err(StartFault::Memory);
+    };
     let saved = saver.save(alloc, disk, &image);
     drop(image);
-    saved?;
-    Ok(())
+    match saved {
+        Ok(()) => Ok(()),
+        Err(error) => Err(StartFault::from(error)),
+    }
 }
 
 // The image of the book that starts with the opening, under this sequence.

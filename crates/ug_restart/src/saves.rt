@@ -1,10 +1,10 @@
-ghost use Rattle.std.specs.Prelude.{◌≡◌, ◌↔◌, ◌≤◌, ◌<◌, ◌-◌, ◌^◌, Some, IfSome, IsTrue, MatchBool};
+ghost use Rattle.std.specs.Prelude.{◌≡◌, ◌↔◌, ◌≤◌, ◌<◌, ◌+◌, ◌-◌, ◌^◌, Some, IfSome, IsTrue, MatchBool};
 ghost use Rattle.ug_disk.specs.Crashes.{Leaves};
 ghost use Rattle.ug_rules.specs.Books.{IsSoundBook};
 ghost use Rattle.ug_checkpoint.specs.Savers.{IsKept};
 ghost use Rattle.ug_snapshot.specs.Moments.{IsCovered};
 ghost use Rattle.ug_book.specs.Openings.{IsCoveredOpening};
-ghost use Rattle.ug_restart.specs.Saves.{IsDue, IsNext, IsOfBook, IsOfSnapshot, IsPassedOver, NoneIsCounted, begun, calls_of, missed_of, one_more, opening_of, saver_of, unsaved_of};
+ghost use Rattle.ug_restart.specs.Saves.{IsCountedByOne, IsDue, IsNext, IsOfBook, IsOfSnapshot, IsPassedOver, NoneIsCounted, begun, calls_of, missed_of, one_more, opening_of, saver_of, unsaved_of};
 ghost use Rattle.ug_restart.specs.Moments.{FindsOne, IsSafeSave};
 ghost use Rattle.ug_restart.specs.Going.{GoesOn, IsUntouched, time};
 
@@ -58,20 +58,19 @@ impl Saves {
     /// Saves the image of a snapshot, unless it is of another opening or no newer than the last one
     /// that was saved.
     pub fn offer<D: Disk>(&mut self, alloc: Global, disk: &mut D, snapshot: Snapshot)
-        requires { IsKept (saver_of self.old) (D.told disk.old) }
-        ensures kept { IsKept (saver_of self.new) (D.told disk.new) }
+        requires { IsKept (saver_of self.old) (D.seen disk.old).told }
+        ensures kept { IsKept (saver_of self.new) (D.seen disk.new).told }
         ensures passed { IsPassedOver self.old snapshot → IsUntouched
-            (time self.old (D.told disk.old) (D.faults disk.old))
-            (time self.new (D.told disk.new) (D.faults disk.new)) }
+            (time self.old (D.seen disk.old)) (time self.new (D.seen disk.new)) }
         ensures acknowledged { ¬ IsPassedOver self.old snapshot → NoneIsCounted self.old self.new
-            → FindsOne (IsOfSnapshot snapshot) (D.told disk.new)
+            → FindsOne (IsOfSnapshot snapshot) (D.seen disk.new).told
             × (calls_of self.new ≡ snapshot.count) }
         ensures any_moment { Leaves
-            (IsSafeSave (saver_of self.old) (D.told disk.old) (IsOfSnapshot snapshot))
-            (D.told disk.old) (D.told disk.new) }
+            (IsSafeSave (saver_of self.old) (D.seen disk.old).told (IsOfSnapshot snapshot))
+            (D.seen disk.old).told (D.seen disk.new).told }
         ensures goes_on { GoesOn (IsCoveredOpening (opening_of self.old))
-            (time self.old (D.told disk.old) (D.faults disk.old))
-            (time self.new (D.told disk.new) (D.faults disk.new)) }
+            (time self.old (D.seen disk.old)) (time self.new (D.seen disk.new)) }
+        ensures by_one { IsCountedByOne self.old self.new }
     {
         if self.passes_over(&snapshot) {
             drop(snapshot);
@@ -86,16 +85,16 @@ impl Saves {
 
     /// Saves the image of the ending book.
     pub fn finish<D: Disk>(&mut self, alloc: Global, disk: &mut D, book: &Book)
-        requires { IsKept (saver_of self.old) (D.told disk.old) }
-        ensures kept { IsKept (saver_of self.new) (D.told disk.new) }
+        requires { IsKept (saver_of self.old) (D.seen disk.old).told }
+        ensures kept { IsKept (saver_of self.new) (D.seen disk.new).told }
         ensures acknowledged { NoneIsCounted self.old self.new
-            → FindsOne (IsOfBook book.now) (D.told disk.new) }
+            → FindsOne (IsOfBook book.now) (D.seen disk.new).told }
         ensures any_moment { Leaves
-            (IsSafeSave (saver_of self.old) (D.told disk.old) (IsOfBook book.now))
-            (D.told disk.old) (D.told disk.new) }
+            (IsSafeSave (saver_of self.old) (D.seen disk.old).told (IsOfBook book.now))
+            (D.seen disk.old).told (D.seen disk.new).told }
         ensures goes_on { GoesOn (IsSoundBook book.now)
-            (time self.old (D.told disk.old) (D.faults disk.old))
-            (time self.new (D.told disk.new) (D.faults disk.new)) }
+            (time self.old (D.seen disk.old)) (time self.new (D.seen disk.new)) }
+        ensures by_one { IsCountedByOne self.old self.new }
     {
         let image = of_book(alloc, &self.saver, book);
         self.save(alloc, disk, image);
@@ -113,19 +112,19 @@ impl Saves {
 
     // Saves the image, and counts it where there is none or it is not saved. Whether it was.
     fn save<D: Disk>(&mut self, alloc: Global, disk: &mut D, image: Option<Image>) -> bool
-        requires kept { IsKept self.old.saver (D.told disk.old) }
+        requires kept { IsKept self.old.saver (D.seen disk.old).told }
         requires image { IfSome image (IsNext self.old.saver) }
-        ensures kept { IsKept self.new.saver (D.told disk.new) }
+        ensures kept { IsKept self.new.saver (D.seen disk.new).told }
         ensures calls { self.new.calls ≡ self.old.calls }
         ensures saved { IsTrue result
-            → FindsOne (λ made. image ≡ Some made) (D.told disk.new) }
+            → FindsOne (λ made. image ≡ Some made) (D.seen disk.new).told }
         ensures counted { NoneIsCounted self.old self.new → IsTrue result }
         ensures any_moment { Leaves
-            (IsSafeSave self.old.saver (D.told disk.old) (λ made. image ≡ Some made))
-            (D.told disk.old) (D.told disk.new) }
+            (IsSafeSave self.old.saver (D.seen disk.old).told (λ made. image ≡ Some made))
+            (D.seen disk.old).told (D.seen disk.new).told }
         ensures goes_on { GoesOn (IfSome image IsCovered)
-            (time self.old (D.told disk.old) (D.faults disk.old))
-            (time self.new (D.told disk.new) (D.faults disk.new)) }
+            (time self.old (D.seen disk.old)) (time self.new (D.seen disk.new)) }
+        ensures by_one { IsCountedByOne self.old self.new }
     {
         let Some(image) = image else {
             self.unsaved = one_more(self.unsaved);
@@ -159,6 +158,7 @@ impl Saves {
 fn one_more(count: u64) -> u64
     ensures value { result ≡ one_more count }
     ensures least { count ≤ result }
+    ensures most { result ≤ count + 1 }
     ensures rises { count < 2 ^ 64 - 1 → count < result }
 {
     count.saturating_add(1)

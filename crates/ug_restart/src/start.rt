@@ -1,7 +1,8 @@
-ghost use Rattle.std.specs.Prelude.{◌≡◌, ◌≤◌, IfOk, IfErr, IsErrOf};
-ghost use Rattle.ug_io.specs.Outside.{Rose};
+ghost use Rattle.std.specs.Prelude.{IfOk, IfErr};
+ghost use Rattle.ug_io.specs.Outside.{IsCountedBy};
 ghost use Rattle.ug_disk.specs.Crashes.{Leaves};
 ghost use Rattle.ug_rules.specs.Books.{AreSettings};
+ghost use Rattle.ug_restart.specs.Faults.{start_cause};
 ghost use Rattle.ug_restart.specs.Starts.{IsBegun, IsGoneOn, IsNotBegun, IsNotGoneOn, IsSafeStart};
 ghost use Rattle.ug_restart.specs.Openings.{CoversWhatIsFound, IsStart};
 
@@ -24,6 +25,7 @@ pub struct Start {
 
 /// Begins a new solve on the disk, whatever it has: under a run number that is above that of the
 /// checkpoint there, with no incumbent and the root left. An image of its book is acknowledged.
+#[tactic(auto, using(crate::proofs::Causes::not_loaded, crate::proofs::Causes::no_first, crate::proofs::Causes::same_cause))]
 pub fn begin<D: Disk>(
     alloc: Global,
     disk: &mut D,
@@ -32,16 +34,13 @@ pub fn begin<D: Disk>(
 ) -> Result<Start, StartFault>
     requires { AreSettings settings }
     ensures started { IfOk result (IsStart
-        (IsBegun problem settings (D.told disk.old)) (Unit {0}) (D.told disk.new)) }
-    ensures refused { IfErr result (IsNotBegun (D.told disk.old) (D.told disk.new)) }
+        (IsBegun problem settings (D.seen disk.old).told) (Unit {0}) (D.seen disk.new).told) }
+    ensures refused { IfErr result (IsNotBegun (D.seen disk.old).told (D.seen disk.new).told) }
     ensures any_moment { Leaves
-        (IsSafeStart (D.told disk.old) (IsBegun problem settings (D.told disk.old)))
-        (D.told disk.old) (D.told disk.new) }
-    ensures never_falls { D.faults disk.old ≤ D.faults disk.new }
-    ensures fault { IsErrOf result StartFault.DiskFault
-        → Rose (D.faults disk.old) (D.faults disk.new) }
-    ensures calm { (IsErrOf result StartFault.DiskFault → ⊥)
-        → D.faults disk.new ≡ D.faults disk.old }
+        (IsSafeStart (D.seen disk.old).told (IsBegun problem settings (D.seen disk.old).told))
+        (D.seen disk.old).told (D.seen disk.new).told }
+    ensures cause { IsCountedBy start_cause result
+        (D.seen disk.old).faults (D.seen disk.new).faults }
 {
     let found = match load(alloc, disk) {
         Ok(found) => found,
@@ -67,6 +66,7 @@ pub fn begin<D: Disk>(
 
 /// Goes on from the checkpoint on the disk, under the run number after its own, with its incumbent,
 /// its boxes and the gap of the settings. An image of its book is acknowledged.
+#[tactic(auto, using(crate::proofs::Causes::not_loaded, crate::proofs::Causes::no_next, crate::proofs::Causes::same_cause))]
 pub fn restart<D: Disk>(
     alloc: Global,
     disk: &mut D,
@@ -74,18 +74,15 @@ pub fn restart<D: Disk>(
     settings: Settings,
 ) -> Result<Start, StartFault>
     requires { AreSettings settings }
-    ensures started { IfOk result (IsStart (IsGoneOn problem settings (D.told disk.old))
-        (CoversWhatIsFound (D.told disk.old)) (D.told disk.new)) }
+    ensures started { IfOk result (IsStart (IsGoneOn problem settings (D.seen disk.old).told)
+        (CoversWhatIsFound (D.seen disk.old).told) (D.seen disk.new).told) }
     ensures refused { IfErr result (IsNotGoneOn problem settings
-        (D.told disk.old) (D.told disk.new)) }
+        (D.seen disk.old).told (D.seen disk.new).told) }
     ensures any_moment { Leaves
-        (IsSafeStart (D.told disk.old) (IsGoneOn problem settings (D.told disk.old)))
-        (D.told disk.old) (D.told disk.new) }
-    ensures never_falls { D.faults disk.old ≤ D.faults disk.new }
-    ensures fault { IsErrOf result StartFault.DiskFault
-        → Rose (D.faults disk.old) (D.faults disk.new) }
-    ensures calm { (IsErrOf result StartFault.DiskFault → ⊥)
-        → D.faults disk.new ≡ D.faults disk.old }
+        (IsSafeStart (D.seen disk.old).told (IsGoneOn problem settings (D.seen disk.old).told))
+        (D.seen disk.old).told (D.seen disk.new).told }
+    ensures cause { IsCountedBy start_cause result
+        (D.seen disk.old).faults (D.seen disk.new).faults }
 {
     let found = match load(alloc, disk) {
         Ok(Some(found)) => found,

@@ -1,13 +1,14 @@
 -- What the ending book of a run is.
 use Rattle.std.proofs.Common.{◌≡◌, [], Option, Some, IfSome, sym, ◌∙◌, ap, subst}
 use Rattle.ug_rules.specs.State.{BookState, held_nodes}
-use Rattle.ug_rules.specs.Books.{IsSoundBook}
+use Rattle.ug_rules.specs.Books.{IsBook, IsSoundBook}
 use Rattle.ug_book.proofs.Starts.{start_is_sound}
 use Rattle.ug_restart.specs.declared.outcome.End.{End}
 use Rattle.ug_restart.specs.declared.outcome.End.TheVariants.{Answered, Limited, Stranded, Memory}
 use Rattle.ug_book.specs.declared.opening.Opening.{Opening}
 use Rattle.ug_book.specs.Openings.{IsCoveredOpening, opening_book}
-use Rattle.ug_threads.specs.Ends.{IfAnswered, IfBook, IfLimited, IsEnding, IsLimited, IsReplayOf, IsRight, IsStranded}
+use Rattle.ug_threads.specs.Ends.{HasFeasible, IfAnswered, IfBook, IfLimited, IsEnding, IsLimited, IsReplayOf}
+use Rattle.ug_threads.specs.Ends.{IsRight, IsStranded}
 use Rattle.ug_threads.specs.Outcomes.{HasEnded}
 
 -- an opening is covered where its book is sound
@@ -36,35 +37,42 @@ its_ending : (o : Opening) (ended : Option BookState) (b : BookState) → IfSome
     → ended ≡ Some b → IsEnding o b
 its_ending o ended b is same = subst (λ e. IfSome e (IsEnding o)) same is
 
+-- what each book's incumbent is
+pub book_feasible : (b : BookState) → IsBook b → HasFeasible b
+book_feasible b is = is.incumbent
+
 -- how a run ended that began with the opening
 pub has_ended : (o : Opening) (given : BookState) (ended : Option BookState) (end : End)
     → opening_book o ≡ given → IfSome ended (IsEnding o) → IfBook end (λ b. ended ≡ Some b)
-    → IfAnswered end (λ b. held_nodes b ≡ [])
+    → IfBook end HasFeasible → IfAnswered end (λ b. held_nodes b ≡ [])
     → IfAnswered end (λ b. IsSoundBook b → IsRight b) → IfLimited end IsLimited
     → (IsStranded end → ⊥) → HasEnded given end
-has_ended o given ended (Answered b) same is own none right limited stranded =
+has_ended o given ended (Answered b) same is own feasible none right limited stranded =
     let ending = its_ending o ended b is own in
     let sound = sound_of o given b same ending in record {
       replayed = replay_of o given b same ending;
+      feasible = feasible;
       sound = sound;
       answered = none;
       right = λ given_sound. right (sound given_sound);
       limited = limited;
       stranded = stranded;
     }
-has_ended o given ended (Limited b) same is own none right limited stranded =
+has_ended o given ended (Limited b) same is own feasible none right limited stranded =
     let ending = its_ending o ended b is own in record {
       replayed = replay_of o given b same ending;
+      feasible = feasible;
       sound = sound_of o given b same ending;
       answered = none;
       right = λ given_sound. tt;
       limited = limited;
       stranded = stranded;
     }
-has_ended o given ended (Stranded b) same is own none right limited stranded =
+has_ended o given ended (Stranded b) same is own feasible none right limited stranded =
     absurd (stranded tt)
-has_ended o given ended Memory same is own none right limited stranded = record {
+has_ended o given ended Memory same is own feasible none right limited stranded = record {
   replayed = tt;
+  feasible = tt;
   sound = λ given_sound. tt;
   answered = tt;
   right = λ given_sound. tt;
@@ -76,6 +84,7 @@ has_ended o given ended Memory same is own none right limited stranded = record 
 pub none_ended : (given : BookState) → HasEnded given Memory
 none_ended given = record {
   replayed = tt;
+  feasible = tt;
   sound = λ given_sound. tt;
   answered = tt;
   right = λ given_sound. tt;

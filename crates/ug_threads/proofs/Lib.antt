@@ -1,2 +1,2 @@
-mod Endings
+pub mod Endings
 mod Outcomes

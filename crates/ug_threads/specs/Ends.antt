@@ -1,5 +1,6 @@
 -- The book with which a run ends, and how it ended.
-use Rattle.std.specs.Prelude.{◌≡◌, ◌≢◌, ◌≤◌, []}
+use Rattle.std.specs.Prelude.{◌≡◌, ◌≢◌, ◌≤◌, [], IfSome}
+use Rattle.ug_problem.specs.Feasible.{Feasible}
 use Rattle.ug_problem.specs.Right.{Right}
 use Rattle.ug_ledger.specs.Answers.{answer_of}
 use Rattle.ug_rules.specs.State.{BookState, held_nodes}
@@ -47,6 +48,10 @@ IfLimited Memory P = Unit {0}
 abbrev pub IsStranded : End → Type 0
 IsStranded (Stranded b) = Unit {0}
 IsStranded end = ⊥
+
+-- its incumbent is feasible, if there is one
+abbrev pub HasFeasible : BookState → Type 0
+HasFeasible b = IfSome b.best (Feasible b.problem)
 
 -- its answer is right: the incumbent is optimal within the gap, or there is none, and no point is
 -- feasible

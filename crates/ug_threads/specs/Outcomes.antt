@@ -1,18 +1,20 @@
 -- What a solve promises.
-use Rattle.std.specs.Prelude.{◌≡◌, ◌≤◌, ◌⊎◌, ◌+◌, ℕ, [], Option}
-use Rattle.ug_disk.specs.Histories.{History}
+use Rattle.std.specs.Prelude.{◌≡◌, ◌≤◌, ◌<◌, ◌⊎◌, ◌+◌, ◌-◌, ◌^◌, [], Option}
+use Rattle.ug_io.specs.Outside.{Rose}
+use Rattle.ug_disk.specs.Histories.{DiskSeen, History}
 use Rattle.ug_rules.specs.State.{BookState, held_nodes}
 use Rattle.ug_rules.specs.Books.{IsSoundBook}
 use Rattle.ug_restart.specs.declared.outcome.End.{End}
 use Rattle.ug_restart.specs.declared.outcome.Outcome.{Outcome}
 use Rattle.ug_restart.specs.Saves.{IsOfBook}
 use Rattle.ug_restart.specs.Moments.{FindsOne}
-use Rattle.ug_threads.specs.Ends.{IfAnswered, IfBook, IfLimited, IsLimited, IsReplayOf, IsRight}
+use Rattle.ug_threads.specs.Ends.{HasFeasible, IfAnswered, IfBook, IfLimited, IsLimited, IsReplayOf, IsRight}
 use Rattle.ug_threads.specs.Ends.{IsStranded}
 
 -- how it ended, by its book
 pub record HasEnded (given : BookState) (end : End) : Type 0 where
   pub replayed : IfBook end (IsReplayOf given)
+  pub feasible : IfBook end HasFeasible
   pub sound : IsSoundBook given → IfBook end IsSoundBook
   pub answered : IfAnswered end (λ b. held_nodes b ≡ [])
   pub right : IsSoundBook given → IfAnswered end IsRight
@@ -20,12 +22,18 @@ pub record HasEnded (given : BookState) (end : End) : Type 0 where
   pub stranded : IsStranded end → ⊥
 
 -- the disk was not touched, and no save is counted
-pub record IsUntouched (outcome : Outcome) (old new : Option History) (faults after : ℕ)
-    : Type 0 where
-  pub told : new ≡ old
-  pub calm : after ≡ faults
+pub record IsUntouched (outcome : Outcome) (old new : DiskSeen) : Type 0 where
+  pub told : new.told ≡ old.told
+  pub calm : new.faults ≡ old.faults
   pub missed : outcome.missed ≡ 0
   pub unsaved : outcome.unsaved ≡ 0
+
+-- Saves are missed only where the disk failed, and no more than it did, unless its count of faults
+-- stands at its greatest value. It did not fail where none was missed.
+pub record IsMissedByFaults (outcome : Outcome) (old new : DiskSeen) : Type 0 where
+  pub rose : 0 < outcome.missed → Rose old.faults new.faults
+  pub each : (outcome.missed + old.faults ≤ new.faults) ⊎ (2 ^ 64 - 1 ≤ new.faults)
+  pub calm : outcome.missed ≡ 0 → new.faults ≡ old.faults
 
 -- where the run ended with a book, recovery finds an image of it, whatever a crash leaves; or a
 -- save is counted

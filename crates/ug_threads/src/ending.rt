@@ -3,7 +3,7 @@
 ghost use Rattle.std.specs.Prelude.{◌≡◌, ◌↔◌, [], Some, IfSome, IsTrue};
 ghost use Rattle.ug_rules.specs.State.{held_nodes};
 ghost use Rattle.ug_rules.specs.Books.{IsSoundBook};
-ghost use Rattle.ug_threads.specs.Ends.{IfAnswered, IfBook, IfLimited, IsEnding, IsLimited, IsRight, IsStranded};
+ghost use Rattle.ug_threads.specs.Ends.{HasFeasible, IfAnswered, IfBook, IfLimited, IsEnding, IsLimited, IsRight, IsStranded};
 
 use ug_book::{Book, Opening};
 use ug_desk::Locked;
@@ -21,8 +21,10 @@ pub fn of_opening(locked: Locked, opening: &Opening) -> Option<Book>
 }
 
 /// How a run ended, by its ending book, if it has one.
+#[tactic(auto, using(crate::proofs::Endings::book_feasible))]
 pub fn end_of(ended: Option<Book>) -> End
     ensures same { IfBook result (λ book. ended ≡ Some book) }
+    ensures feasible { IfBook result HasFeasible }
     ensures answered { IfAnswered result (λ book. held_nodes book ≡ []) }
     ensures right { IfAnswered result (λ book. IsSoundBook book → IsRight book) }
     ensures limited { IfLimited result IsLimited }
@@ -31,6 +33,8 @@ pub fn end_of(ended: Option<Book>) -> End
     let Some(book) = ended else {
         return End::Memory;
     };
+    // Whatever it began with, the incumbent of a book is feasible for its problem.
+    let _problem = book.problem();
     if is_answered(&book) {
         return End::Answered(book);
     }

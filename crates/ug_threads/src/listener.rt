@@ -76,21 +76,21 @@ pub struct Saving<'a, D> {
 }
 
 impl<'a, D: Disk> Listener for Saving<'a, D> {
-    ghost ready = { λ x. IsKept (saver_of x.saves) (D.told x.disk.now) };
+    ghost ready = { λ x. IsKept (saver_of x.saves) (D.seen x.disk.now).told };
 
     ghost moves = { λ x y. (y.disk.ghost_name ≡ x.disk.ghost_name)
         × GoesOn (IsCoveredOpening (opening_of x.saves))
-        (time x.saves (D.told x.disk.now) (D.faults x.disk.now))
-        (time y.saves (D.told y.disk.now) (D.faults y.disk.now)) };
+        (time x.saves (D.seen x.disk.now))
+        (time y.saves (D.seen y.disk.now)) };
 
     ghost stays = { λ x. nothing_heard x.disk.ghost_name
-        (time x.saves (D.told x.disk.now) (D.faults x.disk.now)) };
+        (time x.saves (D.seen x.disk.now)) };
 
     ghost goes_on = { λ x y z. one_after_another
         x.disk.ghost_name y.disk.ghost_name z.disk.ghost_name
-        (time x.saves (D.told x.disk.now) (D.faults x.disk.now))
-        (time y.saves (D.told y.disk.now) (D.faults y.disk.now))
-        (time z.saves (D.told z.disk.now) (D.faults z.disk.now)) };
+        (time x.saves (D.seen x.disk.now))
+        (time y.saves (D.seen y.disk.now))
+        (time z.saves (D.seen z.disk.now)) };
 
     fn take(&mut self, snapshot: Snapshot) {
         self.saves.offer(self.alloc, self.disk, snapshot);

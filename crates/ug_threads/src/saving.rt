@@ -14,12 +14,12 @@ use ug_restart::{End, Saves};
 
 /// Saves the ending book, if there is one.
 pub fn save_end<D: Disk>(alloc: Global, disk: &mut D, saves: &mut Saves, end: &End)
-    requires { IsKept (saver_of saves.old) (D.told disk.old) }
+    requires { IsKept (saver_of saves.old) (D.seen disk.old).told }
     ensures saved { IfBook end.now (λ book. NoneIsCounted saves.old saves.new
-        → FindsOne (IsOfBook book) (D.told disk.new)) }
+        → FindsOne (IsOfBook book) (D.seen disk.new).told) }
     ensures goes_on { GoesOn (IfBook end.now IsSoundBook)
-        (time saves.old (D.told disk.old) (D.faults disk.old))
-        (time saves.new (D.told disk.new) (D.faults disk.new)) }
+        (time saves.old (D.seen disk.old))
+        (time saves.new (D.seen disk.new)) }
 {
     match end {
         End::Answered(book) => saves.finish(alloc, disk, book),

@@ -1,5 +1,4 @@
-ghost use Rattle.std.specs.Prelude.{◌≡◌, ◌≤◌, ◌<◌, IfSome, IsNone};
-ghost use Rattle.ug_io.specs.Outside.{Rose};
+ghost use Rattle.std.specs.Prelude.{◌≡◌, IfSome, IsNone};
 ghost use Rattle.ug_checkpoint.specs.Savers.{IsKept};
 ghost use Rattle.ug_rules.specs.State.{BookState};
 ghost use Rattle.ug_rules.specs.Books.{IsSoundBook};
@@ -7,7 +6,7 @@ ghost use Rattle.ug_book.specs.Openings.{IsOpening, opening_book};
 ghost use Rattle.ug_restart.specs.Saves.{missed_of, opening_of, saver_of, unsaved_of};
 ghost use Rattle.ug_restart.specs.Moments.{AllCovered, IsCoveredNow};
 ghost use Rattle.ug_restart.specs.Going.{GoesOn, time};
-ghost use Rattle.ug_threads.specs.Outcomes.{HasEnded, IsSavedOrCounted, IsUntouched};
+ghost use Rattle.ug_threads.specs.Outcomes.{HasEnded, IsMissedByFaults, IsSavedOrCounted, IsUntouched};
 
 use crate::ending::end_of;
 use crate::host::Host;
@@ -26,6 +25,7 @@ use ug_restart::{End, Outcome, Saves};
 /// Solves what the opening has left, by as many threads as its settings have solvers, all of which
 /// have ended when it returns. With a saver the snapshots that the workers send are saved, and at
 /// last the ending book.
+#[tactic(auto, using(crate::proofs::Outcomes::none_missed))]
 pub fn solve_threads<R: Threads + Wait + Sync, D: Disk, O: Observer>(
     host: &Host<'_, R, O>,
     opening: &Opening,
@@ -33,22 +33,18 @@ pub fn solve_threads<R: Threads + Wait + Sync, D: Disk, O: Observer>(
     disk: &mut D,
 ) -> Outcome
     requires opening { IsOpening opening.now }
-    requires kept { IfSome saver (λ s. IsKept s (D.told disk.old)) }
+    requires kept { IfSome saver (λ s. IsKept s (D.seen disk.old).told) }
 
     // The book at the end is the replay of a history from the opening's.
     ensures ended { HasEnded (opening_book opening.now) result.end }
 
     // What stands on the disk.
-    ensures untouched { IsNone saver → IsUntouched result
-        (D.told disk.old) (D.told disk.new) (D.faults disk.old) (D.faults disk.new) }
-    ensures saved { IfSome saver (λ s. IsSavedOrCounted result (D.told disk.new)) }
+    ensures untouched { IsNone saver → IsUntouched result (D.seen disk.old) (D.seen disk.new) }
+    ensures saved { IfSome saver (λ s. IsSavedOrCounted result (D.seen disk.new).told) }
     ensures any_moment { IfSome saver (λ s. IsSoundBook (opening_book opening.now)
-        → IsCoveredNow s (D.told disk.old) → AllCovered (D.told disk.old) (D.told disk.new)) }
-
-    // Faults.
-    ensures never_falls { D.faults disk.old ≤ D.faults disk.new }
-    ensures missed { 0 < result.missed → Rose (D.faults disk.old) (D.faults disk.new) }
-    ensures calm { result.missed ≡ 0 → D.faults disk.new ≡ D.faults disk.old }
+        → IsCoveredNow s (D.seen disk.old).told
+        → AllCovered (D.seen disk.old).told (D.seen disk.new).told) }
+    ensures missed { IsMissedByFaults result (D.seen disk.old) (D.seen disk.new) }
 {
     tell_begin(host.observer, opening);
     match saver {
@@ -91,7 +87,7 @@ fn silently<R: Threads + Wait + Sync, O: Observer>(
 }
 
 // With a saver.
-#[tactic(auto, using(crate::proofs::Outcomes::still_covered, crate::proofs::Outcomes::covered_begun))]
+#[tactic(auto, using(crate::proofs::Outcomes::still_covered, crate::proofs::Outcomes::covered_begun, crate::proofs::Outcomes::none_missed))]
 fn with_saver<R: Threads + Wait + Sync, D: Disk, O: Observer>(
     host: &Host<'_, R, O>,
     opening: &Opening,
@@ -99,14 +95,13 @@ fn with_saver<R: Threads + Wait + Sync, D: Disk, O: Observer>(
     disk: &mut D,
 ) -> Outcome
     requires opening { IsOpening opening.now }
-    requires kept { IsKept saver (D.told disk.old) }
+    requires kept { IsKept saver (D.seen disk.old).told }
     ensures ended { HasEnded (opening_book opening.now) result.end }
-    ensures saved { IsSavedOrCounted result (D.told disk.new) }
+    ensures saved { IsSavedOrCounted result (D.seen disk.new).told }
     ensures any_moment { IsSoundBook (opening_book opening.now)
-        → IsCoveredNow saver (D.told disk.old) → AllCovered (D.told disk.old) (D.told disk.new) }
-    ensures never_falls { D.faults disk.old ≤ D.faults disk.new }
-    ensures missed { 0 < result.missed → Rose (D.faults disk.old) (D.faults disk.new) }
-    ensures calm { result.missed ≡ 0 → D.faults disk.new ≡ D.faults disk.old }
+        → IsCoveredNow saver (D.seen disk.old).told
+        → AllCovered (D.seen disk.old).told (D.seen disk.new).told }
+    ensures missed { IsMissedByFaults result (D.seen disk.old) (D.seen disk.new) }
 {
     let Ok(own) = opening.copy() else {
         return wanting();
@@ -116,7 +111,7 @@ fn with_saver<R: Threads + Wait + Sync, D: Disk, O: Observer>(
 }
 
 // With what is saved.
-#[tactic(auto, using(crate::proofs::Outcomes::time_covered))]
+#[tactic(auto, using(crate::proofs::Outcomes::time_covered, crate::proofs::Outcomes::time_missed))]
 fn saving<R: Threads + Wait + Sync, D: Disk, O: Observer>(
     host: &Host<'_, R, O>,
     opening: &Opening,
@@ -126,15 +121,13 @@ fn saving<R: Threads + Wait + Sync, D: Disk, O: Observer>(
     requires opening { IsOpening opening.now }
     requires saves { opening_of saves ≡ opening.now }
     requires none { (missed_of saves ≡ 0) × (unsaved_of saves ≡ 0) }
-    requires kept { IsKept (saver_of saves) (D.told disk.old) }
+    requires kept { IsKept (saver_of saves) (D.seen disk.old).told }
     ensures ended { HasEnded (opening_book opening.now) result.end }
-    ensures saved { IsSavedOrCounted result (D.told disk.new) }
+    ensures saved { IsSavedOrCounted result (D.seen disk.new).told }
     ensures any_moment { IsSoundBook (opening_book opening.now)
-        → IsCoveredNow (saver_of saves) (D.told disk.old)
-        → AllCovered (D.told disk.old) (D.told disk.new) }
-    ensures never_falls { D.faults disk.old ≤ D.faults disk.new }
-    ensures missed { 0 < result.missed → Rose (D.faults disk.old) (D.faults disk.new) }
-    ensures calm { result.missed ≡ 0 → D.faults disk.new ≡ D.faults disk.old }
+        → IsCoveredNow (saver_of saves) (D.seen disk.old).told
+        → AllCovered (D.seen disk.old).told (D.seen disk.new).told }
+    ensures missed { IsMissedByFaults result (D.seen disk.old) (D.seen disk.new) }
 {
     let alloc = host.alloc;
     let listener = Saving { alloc, saves, disk };
@@ -175,15 +168,14 @@ fn conclude<'a, R: Threads + Wait + Sync, D: Disk, O: Observer>(
 ) -> Concluded<'a, D>
     requires opening { IsOpening opening.now }
     requires saves { opening_of listener.saves ≡ opening.now }
-    requires kept { IsKept (saver_of listener.saves) (D.told listener.disk.now) }
+    requires kept { IsKept (saver_of listener.saves) (D.seen listener.disk.now).told }
     ensures name { result.kept.disk.ghost_name ≡ listener.entry.disk.ghost_name }
     ensures ended { HasEnded (opening_book opening.now) result.outcome.end }
-    ensures saved { IsSavedOrCounted result.outcome (D.told result.kept.disk.now) }
+    ensures saved { IsSavedOrCounted result.outcome (D.seen result.kept.disk.now).told }
     ensures missed { result.outcome.missed ≡ missed_of result.kept.saves }
     ensures goes_on { GoesOn (IsSoundBook (opening_book opening.now))
-        (time listener.entry.saves (D.told listener.entry.disk.now)
-        (D.faults listener.entry.disk.now))
-        (time result.kept.saves (D.told result.kept.disk.now) (D.faults result.kept.disk.now)) }
+        (time listener.entry.saves (D.seen listener.entry.disk.now))
+        (time result.kept.saves (D.seen result.kept.disk.now)) }
 {
     let alloc = host.alloc;
     let every = Some(opening.settings.every);

@@ -1,7 +1,8 @@
 -- What the ending book of a run is, by what the run began with.
-use Rattle.std.proofs.Common.{ℕ, [], ◌∷◌, map, None, ◌∙◌, subst, inl}
+use Rattle.std.proofs.Common.{ℕ, [], ◌∷◌, map, None, IfSome, ◌∙◌, subst, inl}
 use Rattle.ug_problem.specs.Instances.{Instance, root_of}
 use Rattle.ug_problem.specs.Better.{Covered}
+use Rattle.ug_problem.specs.Feasible.{Feasible}
 use Rattle.ug_problem.specs.Right.{Right}
 use Rattle.ug_nodes.specs.Changes.{area_by}
 use Rattle.ug_ledger.specs.Answers.{answer_of}
@@ -63,26 +64,30 @@ ends_right given (Limited b) p settings of sound t = tt
 ends_right given (Stranded b) p settings of sound t = tt
 ends_right given Memory p settings of sound t = tt
 
--- a run that ended without a book
-pub none_ended : (given : BookState) → HasEnded given Memory
-none_ended given = record {
-  replayed = tt;
-  sound = λ sound. tt;
-  answered = tt;
-  right = λ sound. tt;
-  limited = tt;
-  stranded = λ stranded. stranded;
-}
+pub ends_feasible : (given : BookState) (end : End) (p : Instance) (settings : Settings)
+    → IsOf p settings given → HasEnded given end
+    → IfBook end (λ b. IfSome b.best (Feasible p))
+ends_feasible given (Answered b) p settings of t =
+    subst (λ (q : Instance). IfSome b.best (Feasible q))
+    (is_of given b p settings of t.replayed).its_problem t.feasible
+ends_feasible given (Limited b) p settings of t =
+    subst (λ (q : Instance). IfSome b.best (Feasible q))
+    (is_of given b p settings of t.replayed).its_problem t.feasible
+ends_feasible given (Stranded b) p settings of t =
+    subst (λ (q : Instance). IfSome b.best (Feasible q))
+    (is_of given b p settings of t.replayed).its_problem t.feasible
+ends_feasible given Memory p settings of t = tt
 
 -- a run from a book of the problem
-pub is_run : (Began : BookState → Type 0) (Trusted : Type 0) (p : Instance) (settings : Settings)
-    (outcome : Outcome) (given : BookState) → Began given → IsOf p settings given
-    → (Trusted → IsSoundBook given) → HasEnded given outcome.end
-    → IsRun Began Trusted p settings outcome
+pub is_run : (Began : BookState → Type 0) (Trusted : (b : BookState) → Began b → Type 0)
+    (p : Instance) (settings : Settings) (outcome : Outcome) (given : BookState)
+    → (began : Began given) → IsOf p settings given → (Trusted given began → IsSoundBook given)
+    → HasEnded given outcome.end → IsRun Began Trusted p settings outcome
 is_run Began Trusted p settings outcome given began of sound ended = record {
   given = given;
   began = began;
   ended = ended;
   of = ends_of given outcome.end p settings of ended;
+  feasible = ends_feasible given outcome.end p settings of ended;
   right = λ trusted. ends_right given outcome.end p settings of (sound trusted) ended;
 }

@@ -30,13 +30,20 @@ pub begun_sound : (p : Instance) (settings : Settings) (old : Option History) (b
 begun_sound p settings old b t =
     subst IsSoundBook (sym t.is) (root_is_sound p (next_run t.found) settings)
 
-pub gone_on_sound : (p : Instance) (settings : Settings) (old : Option History) (b : BookState)
-    → CoversWhatIsFound old → IsGoneOn p settings old b → IsSoundBook b
-gone_on_sound p settings old b covers t =
+-- where the image from which it goes on was Covered
+pub image_sound : (p : Instance) (settings : Settings) (old : Option History) (b : BookState)
+    (t : IsGoneOn p settings old b) → IsCovered t.found.image → IsSoundBook b
+image_sound p settings old b t covered =
     subst IsSoundBook (sym t.is)
     ((start_is_sound p (next_run (Some t.found)) t.found.image.best
     (boxes_saved t.found.image.nodes) settings).1
-    (covered_on p settings.gap t.found t.problem t.gap (covers t.found t.could)))
+    (covered_on p settings.gap t.found t.problem t.gap covered))
+
+-- where each was that could be found
+pub gone_on_sound : (p : Instance) (settings : Settings) (old : Option History) (b : BookState)
+    → CoversWhatIsFound old → IsGoneOn p settings old b → IsSoundBook b
+gone_on_sound p settings old b covers t =
+    image_sound p settings old b t (covers t.found t.could)
 
 -- the image of a sound book is Covered
 moment_covered : (b : BookState) (sequence : ℕ) (image : Image) → IsSoundBook b

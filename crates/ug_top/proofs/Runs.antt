@@ -132,24 +132,24 @@ module _ (one : OneOutcome) (Ran : Instance → Outcome → Type 0)
 
 solve_complete : OneOutcome → {A : Type 0} (folder : Option A) (asked : Asked) (old new : Outside)
     (status : Status) (text : List ℕ) → AreSolveLines folder asked old new status text
-    → IsComplete asked.bounds.boxed old.left status
+    → IsComplete asked.bounds.boxed old.source.left status
 solve_complete one None asked old new status text t =
-    file_complete one _ _ asked old.left text status t
+    file_complete one _ _ asked old.source.left text status t
 solve_complete one (Some folder) asked old new status text t =
-    file_complete one _ _ asked old.left text status t
+    file_complete one _ _ asked old.source.left text status t
 
 pub lines_complete : OneOutcome → (plan : Plan) (old new : Outside) (status : Status)
-    (text : List ℕ) → AreLinesOf plan old new status text → IsCompleteOf plan old.left status
+    (text : List ℕ) → AreLinesOf plan old new status text → IsCompleteOf plan old.source.left status
 lines_complete one (plans.Solve solve) old new status text t =
     solve_complete one solve.checkpoint solve.settings old new status text t
 lines_complete one (plans.Restart restart) old new status text t =
-    file_complete one _ _ restart.settings old.left text status t
+    file_complete one _ _ restart.settings old.source.left text status t
 lines_complete one (plans.Show show) old new status text t = tt
 lines_complete one (plans.Gen gen) old new status text t = tt
 
 -- ---- how far the source is read
 
-pub read_to : (old new : Outside) (ended : Ended) → HasStopped old.left new.left ended
+pub read_to : (old new : Outside) (ended : Ended) → HasStopped old.source.left new.source.left ended
     → IsReadTo old new (status_of ended)
 read_to old new (ends.Lines status told) stops = inr (inr stops)
 read_to old new (ends.Refused refusal told) stops = inr (inr stops)

@@ -1,16 +1,22 @@
 -- What became of the disk, and how often it failed, by how a command ended.
 use Rattle.std.proofs.Common.{◌≡◌, inl, inr, ℕ, ◌≤◌, List, Option, None, Some, IfSome, refl, sym, ◌∙◌, subst, arith}
-use Rattle.ug_io.specs.Outside.{Rose}
-use Rattle.ug_disk.specs.Histories.{History}
+use Rattle.std.proofs.lemmas.Bool.{cases_lt}
+use Rattle.ug_disk.specs.Histories.{DiskSeen, History}
 use Rattle.ug_disk.specs.Crashes.{Leaves, MayLeaveBoth}
 use Rattle.ug_disk.proofs.Moments.{starts, weakens}
+use Rattle.ug_checkpoint.specs.Causes.{load_cause}
 use Rattle.ug_checkpoint.specs.Runs.{CouldLeave}
+use Rattle.ug_checkpoint.specs.declared.error.LoadError.{LoadError}
+use Rattle.ug_restart.proofs.Causes.{not_loaded}
+use Rattle.ug_restart.proofs.Going.{rose_rises}
+use Rattle.ug_restart.specs.Faults.{fault_of_load, start_cause}
 use Rattle.ug_restart.specs.declared.fault.StartFault.{StartFault}
 use Rattle.ug_restart.specs.declared.fault.StartFault.TheVariants as faults
 use Rattle.ug_restart.specs.declared.outcome.Outcome.{Outcome}
 use Rattle.ug_restart.specs.Openings.{CoversWhatIsFound}
 use Rattle.ug_restart.specs.Moments.{AllCovered, IsCoveredFind}
-use Rattle.ug_threads.specs.Outcomes.{IsUntouched}
+use Rattle.ug_threads.specs.Outcomes.{IsMissedByFaults, IsUntouched}
+use Rattle.ug_top.specs.Runs.{IsKeptOn}
 use Rattle.ug_top.specs.declared.ended.Ended.{Ended}
 use Rattle.ug_top.specs.declared.ended.Ended.TheVariants.{Lines, Refused, ReadFault, Memory}
 use Rattle.ug_top.specs.declared.status.Status.{Status}
@@ -30,31 +36,29 @@ covered_now None covers = tt
 covered_now (Some history) covers = λ zero one may found recovered.
     covers found (record { zero = zero; one = one; could = may; recovered = recovered })
 
-pub untouched : (slots after : Option History) (stores risen : ℕ) (status : Status)
-    → (status ≡ statuses.DiskFault → ⊥) → after ≡ slots → risen ≡ stores
-    → IsStored slots after stores risen status
-untouched slots after stores risen status none same calm = record {
+pub untouched : (old new : DiskSeen) (status : Status) → (status ≡ statuses.DiskFault → ⊥)
+    → new.told ≡ old.told → new.faults ≡ old.faults → IsStored old new status
+untouched old new status none same calm = record {
   rises = omega (arith, calm);
   fault = λ is. absurd (none is);
   calm = λ c. calm;
   unread = λ u. same;
-  any_moment = λ covers. subst (λ t. AllCovered slots t) (sym same)
-      (starts IsCoveredFind slots (covered_now slots covers));
+  any_moment = λ covers. subst (λ t. AllCovered old.told t) (sym same)
+      (starts IsCoveredFind old.told (covered_now old.told covers));
 }
 
 -- ---- a run
 
-over : (slots after : Option History) (stores risen : ℕ) (status : Status) → IsOver status
-    → stores ≤ risen → (CoversWhatIsFound slots → AllCovered slots after)
-    → IsStored slots after stores risen status
-over slots after stores risen status (inl is) rises moment = record {
+over : (old new : DiskSeen) (status : Status) → IsOver status → old.faults ≤ new.faults
+    → (CoversWhatIsFound old.told → AllCovered old.told new.told) → IsStored old new status
+over old new status (inl is) rises moment = record {
   rises = rises;
   fault = λ e. absurd (cc (sym is ∙ e));
   calm = λ c. absurd (subst IsCalmFor is c);
   unread = λ u. absurd (subst IsUnreadFor is u);
   any_moment = moment;
 }
-over slots after stores risen status (inr is) rises moment = record {
+over old new status (inr is) rises moment = record {
   rises = rises;
   fault = λ e. absurd (cc (sym is ∙ e));
   calm = λ c. absurd (subst IsCalmFor is c);
@@ -62,10 +66,10 @@ over slots after stores risen status (inr is) rises moment = record {
   any_moment = moment;
 }
 
-memory : (slots after : Option History) (stores risen : ℕ) → stores ≤ risen
-    → (CoversWhatIsFound slots → AllCovered slots after)
-    → IsStored slots after stores risen statuses.Memory
-memory slots after stores risen rises moment = record {
+memory : (old new : DiskSeen) → old.faults ≤ new.faults
+    → (CoversWhatIsFound old.told → AllCovered old.told new.told)
+    → IsStored old new statuses.Memory
+memory old new rises moment = record {
   rises = rises;
   fault = λ e. absurd (cc e);
   calm = λ c. absurd c;
@@ -73,103 +77,96 @@ memory slots after stores risen rises moment = record {
   any_moment = moment;
 }
 
-pub outcome_stored : (gap : ℕ) (outcome : Outcome) (e : Ended) (slots after : Option History)
-    (stores risen : ℕ) → TellsOutcome gap outcome e → stores ≤ risen
-    → (CoversWhatIsFound slots → AllCovered slots after)
-    → IsStored slots after stores risen (status_of e)
-outcome_stored gap outcome (Lines status text) slots after stores risen t rises moment =
-    over slots after stores risen status (outcome_is_over gap outcome status text.items t) rises
-    moment
-outcome_stored gap outcome (Refused refusal text) slots after stores risen t rises moment = absurd t
-outcome_stored gap outcome ReadFault slots after stores risen t rises moment = absurd t
-outcome_stored gap outcome Memory slots after stores risen t rises moment =
-    memory slots after stores risen rises moment
+outcome_stored : (gap : ℕ) (outcome : Outcome) (e : Ended) (old new : DiskSeen)
+    → TellsOutcome gap outcome e → old.faults ≤ new.faults
+    → (CoversWhatIsFound old.told → AllCovered old.told new.told)
+    → IsStored old new (status_of e)
+outcome_stored gap outcome (Lines status text) old new t rises moment =
+    over old new status (outcome_is_over gap outcome status text.items t) rises moment
+outcome_stored gap outcome (Refused refusal text) old new t rises moment = absurd t
+outcome_stored gap outcome ReadFault old new t rises moment = absurd t
+outcome_stored gap outcome Memory old new t rises moment = memory old new rises moment
 
--- a run without a checkpoint
-pub alone_stored : (gap : ℕ) (outcome : Outcome) (e : Ended) (slots after : Option History)
-    (stores risen : ℕ) → TellsOutcome gap outcome e → IsUntouched outcome slots after stores risen
-    → IsStored slots after stores risen (status_of e)
-alone_stored gap outcome e slots after stores risen t u =
-    let un = untouched slots after stores risen statuses.Memory (λ e. absurd (cc e)) u.told u.calm in
-    outcome_stored gap outcome e slots after stores risen t un.rises un.any_moment
+-- the disk's count of faults did not fall, whatever was missed
+missed_rises : (outcome : Outcome) (old new : DiskSeen) → IsMissedByFaults outcome old new
+    → old.faults ≤ new.faults
+missed_rises outcome old new t = elim (cases_lt 0 outcome.missed) [
+  | inl some ↦ rose_rises old.faults new.faults (t.rose some)
+  | inr none ↦ omega (arith, t.calm (omega (arith, none)))
+]
 
-pub end_stored : (outcome : Outcome) (e : Ended) (slots after : Option History)
-    (stores risen : ℕ) → TellsEnd outcome e → after ≡ slots → risen ≡ stores
-    → IsStored slots after stores risen (status_of e)
-end_stored outcome (Lines status text) slots after stores risen t same calm =
-    let un = untouched slots after stores risen statuses.Memory (λ e. absurd (cc e)) same calm in
-    over slots after stores risen status (line_is_over outcome.end status text.items t) un.rises
-    un.any_moment
-end_stored outcome (Refused refusal text) slots after stores risen t same calm = absurd t
-end_stored outcome ReadFault slots after stores risen t same calm = absurd t
-end_stored outcome Memory slots after stores risen t same calm =
-    untouched slots after stores risen statuses.Memory (λ e. absurd (cc e)) same calm
+-- a run with a checkpoint
+pub kept_stored : (gap : ℕ) (outcome : Outcome) (e : Ended) (old new : DiskSeen)
+    → TellsOutcome gap outcome e → IsKeptOn outcome old new
+    → (CoversWhatIsFound old.told → AllCovered old.told new.told)
+    → IsStored old new (status_of e)
+kept_stored gap outcome e old new t kept moment =
+    outcome_stored gap outcome e old new t (missed_rises outcome old new kept.missed) moment
+
+-- a run without one
+pub alone_stored : (gap : ℕ) (outcome : Outcome) (e : Ended) (old new : DiskSeen)
+    → TellsOutcome gap outcome e → IsUntouched outcome old new → IsStored old new (status_of e)
+alone_stored gap outcome e old new t u =
+    let un = untouched old new statuses.Memory (λ e. absurd (cc e)) u.told u.calm in
+    outcome_stored gap outcome e old new t un.rises un.any_moment
+
+pub end_stored : (outcome : Outcome) (e : Ended) (old new : DiskSeen) → TellsEnd outcome e
+    → new.told ≡ old.told → new.faults ≡ old.faults → IsStored old new (status_of e)
+end_stored outcome (Lines status text) old new t same calm =
+    let un = untouched old new statuses.Memory (λ e. absurd (cc e)) same calm in
+    over old new status (line_is_over outcome.end status text.items t) un.rises un.any_moment
+end_stored outcome (Refused refusal text) old new t same calm = absurd t
+end_stored outcome ReadFault old new t same calm = absurd t
+end_stored outcome Memory old new t same calm =
+    untouched old new statuses.Memory (λ e. absurd (cc e)) same calm
 
 -- ---- a fault
 
-faulty : (fault : StartFault) (slots after : Option History) (stores risen : ℕ) → stores ≤ risen
-    → (fault ≡ faults.DiskFault → Rose stores risen)
-    → ((fault ≡ faults.DiskFault → ⊥) → risen ≡ stores)
-    → (CoversWhatIsFound slots → AllCovered slots after)
-    → IsStored slots after stores risen (status_of_fault fault)
-faulty faults.Memory slots after stores risen rises rose calm moment =
-    memory slots after stores risen rises moment
-faulty faults.DiskFault slots after stores risen rises rose calm moment = record {
-  rises = rises;
-  fault = λ e. rose refl;
+-- no call of the disk failed
+calm_fault : (status : Status) (old new : DiskSeen) → (status ≡ statuses.DiskFault → ⊥)
+    → (IsUnreadFor status → ⊥) → new.faults ≡ old.faults
+    → (CoversWhatIsFound old.told → AllCovered old.told new.told) → IsStored old new status
+calm_fault status old new none read calm moment = record {
+  rises = omega (arith, calm);
+  fault = λ e. absurd (none e);
+  calm = λ c. calm;
+  unread = λ u. absurd (read u);
+  any_moment = moment;
+}
+
+faulty : (fault : StartFault) (old new : DiskSeen) → start_cause fault old.faults new.faults
+    → (CoversWhatIsFound old.told → AllCovered old.told new.told)
+    → IsStored old new (status_of_fault fault)
+faulty faults.Memory old new calm moment = memory old new (omega (arith, calm)) moment
+faulty faults.DiskFault old new rose moment = record {
+  rises = rose_rises old.faults new.faults rose;
+  fault = λ e. rose;
   calm = λ c. absurd c;
   unread = λ u. absurd u;
   any_moment = moment;
 }
-faulty (faults.BadImage slot at) slots after stores risen rises rose calm moment = record {
-  rises = rises;
-  fault = λ e. absurd (cc e);
-  calm = λ c. calm (λ e. absurd (cc e));
-  unread = λ u. absurd u;
-  any_moment = moment;
-}
-faulty faults.NoCheckpoint slots after stores risen rises rose calm moment = record {
-  rises = rises;
-  fault = λ e. absurd (cc e);
-  calm = λ c. calm (λ e. absurd (cc e));
-  unread = λ u. absurd u;
-  any_moment = moment;
-}
-faulty (faults.OtherProblem at kept read) slots after stores risen rises rose calm moment = record {
-  rises = rises;
-  fault = λ e. absurd (cc e);
-  calm = λ c. calm (λ e. absurd (cc e));
-  unread = λ u. absurd u;
-  any_moment = moment;
-}
-faulty (faults.SmallerGap kept asked) slots after stores risen rises rose calm moment = record {
-  rises = rises;
-  fault = λ e. absurd (cc e);
-  calm = λ c. calm (λ e. absurd (cc e));
-  unread = λ u. absurd u;
-  any_moment = moment;
-}
-faulty faults.Spent slots after stores risen rises rose calm moment = record {
-  rises = rises;
-  fault = λ e. absurd (cc e);
-  calm = λ c. calm (λ e. absurd (cc e));
-  unread = λ u. absurd u;
-  any_moment = moment;
-}
+faulty (faults.BadImage slot at) old new calm moment =
+    calm_fault statuses.BadImage old new (λ e. absurd (cc e)) (λ u. u) calm moment
+faulty faults.NoCheckpoint old new calm moment =
+    calm_fault statuses.NoCheckpoint old new (λ e. absurd (cc e)) (λ u. u) calm moment
+faulty (faults.OtherProblem at kept read) old new calm moment =
+    calm_fault statuses.OtherProblem old new (λ e. absurd (cc e)) (λ u. u) calm moment
+faulty (faults.SmallerGap kept asked) old new calm moment =
+    calm_fault statuses.SmallerGap old new (λ e. absurd (cc e)) (λ u. u) calm moment
+faulty faults.Spent old new calm moment =
+    calm_fault statuses.Spent old new (λ e. absurd (cc e)) (λ u. u) calm moment
 
-pub fault_stored : (fault : StartFault) (e : Ended) (slots after : Option History)
-    (stores risen : ℕ) → TellsFault fault e → stores ≤ risen
-    → (fault ≡ faults.DiskFault → Rose stores risen)
-    → ((fault ≡ faults.DiskFault → ⊥) → risen ≡ stores)
-    → (CoversWhatIsFound slots → AllCovered slots after)
-    → IsStored slots after stores risen (status_of e)
-fault_stored fault (Lines status text) slots after stores risen t rises rose calm moment =
-    subst (IsStored slots after stores risen) (sym t.0)
-    (faulty fault slots after stores risen rises rose calm moment)
-fault_stored fault (Refused refusal text) slots after stores risen t rises rose calm moment = absurd t
-fault_stored fault ReadFault slots after stores risen t rises rose calm moment = absurd t
-fault_stored fault Memory slots after stores risen t rises rose calm moment =
-    memory slots after stores risen rises moment
+-- a fault that is told, or for which memory was wanting
+pub fault_stored : (fault : StartFault) (e : Ended) (old new : DiskSeen) → TellsFault fault e
+    → start_cause fault old.faults new.faults
+    → (CoversWhatIsFound old.told → AllCovered old.told new.told)
+    → IsStored old new (status_of e)
+fault_stored fault (Lines status text) old new t cause moment =
+    subst (IsStored old new) (sym t.0) (faulty fault old new cause moment)
+fault_stored fault (Refused refusal text) old new t cause moment = absurd t
+fault_stored fault ReadFault old new t cause moment = absurd t
+fault_stored fault Memory old new t cause moment =
+    memory old new (faulty fault old new cause moment).rises moment
 
 -- ---- a load
 
@@ -178,18 +175,26 @@ could_covered : (told : Option History) → CoversWhatIsFound told → (zero one
 could_covered told covers zero one could found recovered =
     covers found (record { zero = zero; one = one; could = could; recovered = recovered })
 
-pub load_covered : (slots after : Option History) → Leaves (CouldLeave slots) slots after
-    → CoversWhatIsFound slots → AllCovered slots after
-load_covered slots after leaves covers =
-    weakens (CouldLeave slots) IsCoveredFind slots after (could_covered slots covers) leaves
+pub load_covered : (old new : Option History) → Leaves (CouldLeave old) old new
+    → CoversWhatIsFound old → AllCovered old new
+load_covered old new leaves covers =
+    weakens (CouldLeave old) IsCoveredFind old new (could_covered old covers) leaves
 
-pub image_stored : (image : Image) (e : Ended) (slots after : Option History) (stores risen : ℕ)
-    → TellsImage image e → risen ≡ stores → Leaves (CouldLeave slots) slots after
-    → IsStored slots after stores risen (status_of e)
-image_stored image (Lines status text) slots after stores risen t calm leaves =
-    over slots after stores risen status (inl t.0) (omega (arith, calm))
-    (load_covered slots after leaves)
-image_stored image (Refused refusal text) slots after stores risen t calm leaves = absurd t
-image_stored image ReadFault slots after stores risen t calm leaves = absurd t
-image_stored image Memory slots after stores risen t calm leaves =
-    memory slots after stores risen (omega (arith, calm)) (load_covered slots after leaves)
+pub image_stored : (image : Image) (e : Ended) (old new : DiskSeen) → TellsImage image e
+    → new.faults ≡ old.faults → Leaves (CouldLeave old.told) old.told new.told
+    → IsStored old new (status_of e)
+image_stored image (Lines status text) old new t calm leaves =
+    over old new status (inl t.0) (omega (arith, calm)) (load_covered old.told new.told leaves)
+image_stored image (Refused refusal text) old new t calm leaves = absurd t
+image_stored image ReadFault old new t calm leaves = absurd t
+image_stored image Memory old new t calm leaves =
+    memory old new (omega (arith, calm)) (load_covered old.told new.told leaves)
+
+-- where nothing is loaded, the same is said of the start that stands for it
+pub load_stored : (error : LoadError) (e : Ended) (old new : DiskSeen)
+    → TellsFault (fault_of_load error) e → load_cause error old.faults new.faults
+    → Leaves (CouldLeave old.told) old.told new.told → IsStored old new (status_of e)
+load_stored error e old new t cause leaves =
+    fault_stored (fault_of_load error) e old new t
+    (not_loaded error (fault_of_load error) old.faults new.faults refl cause)
+    (load_covered old.told new.told leaves)

@@ -15,7 +15,7 @@ use Rattle.ug_top.specs.declared.status.Status.TheVariants as statuses
 use Rattle.ug_top.specs.Ends.{AreFileLines, AreGenLines, AreRestartLines, AreSolveLines, BeginsAlways, HasNotBegun, HasNotGoneOn, HasRunAlone, HasRunOn, HasRunSaved, status_of, text_of}
 use Rattle.ug_top.specs.Outside.{Outside}
 use Rattle.ug_top.specs.Plans.{settings_made}
-use Rattle.ug_disk.specs.Histories.{History}
+use Rattle.ug_disk.specs.Histories.{DiskSeen}
 use Rattle.ug_threads.specs.Outcomes.{IsUntouched}
 use Rattle.ug_top.specs.Runs.{IsNewRun}
 use Rattle.ug_gen.specs.Stated.{instance}
@@ -137,34 +137,34 @@ module _ (Ran : Instance → Outcome → Type 0) (Not : Instance → StartFault 
 
 -- a solve without a checkpoint
 pub alone_lines : {A : Type 0} (folder : Option A) (asked : Asked) (old new : Outside) (p : Instance)
-    → folder ≡ None → States old.left asked.bounds.boxed p → (e : Ended)
-    → TellsRun (HasRunAlone asked old.slots new.slots old.stores new.stores p) (BeginsAlways p)
+    → folder ≡ None → States old.source.left asked.bounds.boxed p → (e : Ended)
+    → TellsRun (HasRunAlone asked old.disk new.disk p) (BeginsAlways p)
     asked.bounds.gap e → AreSolveLines folder asked old new (status_of e) (text_of e)
 alone_lines {A} folder asked old new p is states e t =
     subst (λ (k : Option A). AreSolveLines k asked old new (status_of e) (text_of e)) (sym is)
-    (run_lines (HasRunAlone asked old.slots new.slots old.stores new.stores) BeginsAlways asked
-    old.left p states e t)
+    (run_lines (HasRunAlone asked old.disk new.disk) BeginsAlways asked
+    old.source.left p states e t)
 
 -- a solve with one
 pub saved_lines : {A : Type 0} (folder : Option A) (name : A) (asked : Asked) (old new : Outside)
-    (p : Instance) → folder ≡ Some name → States old.left asked.bounds.boxed p → (e : Ended)
-    → TellsRun (HasRunSaved asked old.slots new.slots old.stores new.stores p)
-    (HasNotBegun old.slots new.slots p) asked.bounds.gap e
+    (p : Instance) → folder ≡ Some name → States old.source.left asked.bounds.boxed p → (e : Ended)
+    → TellsRun (HasRunSaved asked old.disk new.disk p)
+    (HasNotBegun asked old.disk new.disk p) asked.bounds.gap e
     → AreSolveLines folder asked old new (status_of e) (text_of e)
 saved_lines {A} folder name asked old new p is states e t =
     subst (λ (k : Option A). AreSolveLines k asked old new (status_of e) (text_of e)) (sym is)
-    (run_lines (HasRunSaved asked old.slots new.slots old.stores new.stores)
-    (HasNotBegun old.slots new.slots) asked old.left p states e t)
+    (run_lines (HasRunSaved asked old.disk new.disk)
+    (HasNotBegun asked old.disk new.disk) asked old.source.left p states e t)
 
 -- a restart
 pub restart_lines : (asked : Asked) (old new : Outside) (p : Instance)
-    → States old.left asked.bounds.boxed p → (e : Ended)
-    → TellsRun (HasRunOn asked old.slots new.slots old.stores new.stores p)
-    (HasNotGoneOn asked old.slots new.slots p) asked.bounds.gap e
+    → States old.source.left asked.bounds.boxed p → (e : Ended)
+    → TellsRun (HasRunOn asked old.disk new.disk p)
+    (HasNotGoneOn asked old.disk new.disk p) asked.bounds.gap e
     → AreRestartLines asked old new (status_of e) (text_of e)
 restart_lines asked old new p states e t =
-    run_lines (HasRunOn asked old.slots new.slots old.stores new.stores)
-    (HasNotGoneOn asked old.slots new.slots) asked old.left p states e t
+    run_lines (HasRunOn asked old.disk new.disk)
+    (HasNotGoneOn asked old.disk new.disk) asked old.source.left p states e t
 
 -- a command that read no problem
 pub unread_lines : (Ran : Instance → Outcome → Type 0) (Not : Instance → StartFault → Type 0)
@@ -194,20 +194,20 @@ tells_fault Ran Not gap fault Memory not t = tt
 
 -- ---- the lines of a made instance
 
-module _ (gen : Gen) (slots after : Option History) (stores risen : ℕ) (outcome : Outcome)
+module _ (gen : Gen) (old new : DiskSeen) (outcome : Outcome)
     (ran : IsNewRun (instance gen.seed gen.size) (settings_made gen.solvers) outcome)
-    (untouched : IsUntouched outcome slots after stores risen) where
+    (untouched : IsUntouched outcome old new) where
   made_over : (status : Status) (text : List ℕ) → IsEndLine outcome.end status text
-      → IsOver status → AreGenLines gen slots after stores risen status text
+      → IsOver status → AreGenLines gen old new status text
   made_over status text line (inl is) =
-      subst (λ s. AreGenLines gen slots after stores risen s text) (sym is) (record {
+      subst (λ s. AreGenLines gen old new s text) (sym is) (record {
         outcome = outcome;
         ran = ran;
         untouched = untouched;
         line = subst (λ s. IsEndLine outcome.end s text) is line;
       })
   made_over status text line (inr is) =
-      subst (λ s. AreGenLines gen slots after stores risen s text) (sym is) (record {
+      subst (λ s. AreGenLines gen old new s text) (sym is) (record {
         outcome = outcome;
         ran = ran;
         untouched = untouched;
@@ -215,7 +215,7 @@ module _ (gen : Gen) (slots after : Option History) (stores risen : ℕ) (outcom
       })
 
   pub made_lines : (e : Ended) → TellsEnd outcome e
-      → AreGenLines gen slots after stores risen (status_of e) (text_of e)
+      → AreGenLines gen old new (status_of e) (text_of e)
   made_lines (Lines status text) t =
       made_over status text.items t (line_is_over outcome.end status text.items t)
   made_lines (Refused refusal text) t = absurd t

@@ -1,13 +1,14 @@
 -- How each command ends: its status and its lines, by what it read and what the disk had.
 use Rattle.std.specs.Prelude.{◌≡◌, ℕ, ◌<◌, ◌≤◌, List, Option, None, Some}
-use Rattle.ug_io.specs.Outside.{Rose}
+use Rattle.ug_io.specs.Outside.{Rose, SourceSeen}
 use Rattle.ug_disk.specs.declared.slot.Slot.{Slot}
-use Rattle.ug_disk.specs.Histories.{History}
+use Rattle.ug_disk.specs.Crashes.{Leaves}
+use Rattle.ug_disk.specs.Histories.{DiskSeen}
 use Rattle.ug_problem.specs.Instances.{Instance}
 use Rattle.ug_restart.specs.declared.fault.StartFault.{StartFault}
 use Rattle.ug_restart.specs.declared.fault.StartFault.TheVariants as faults
 use Rattle.ug_restart.specs.declared.outcome.Outcome.{Outcome}
-use Rattle.ug_restart.specs.Starts.{IsNotBegun, IsNotGoneOn}
+use Rattle.ug_restart.specs.Starts.{IsBegun, IsGoneOn, IsNotBegun, IsNotGoneOn, IsSafeStart}
 use Rattle.ug_restart.specs.Openings.{CoversWhatIsFound}
 use Rattle.ug_restart.specs.Moments.{AllCovered}
 use Rattle.ug_checkpoint.specs.declared.found.Found.{Found}
@@ -72,80 +73,89 @@ AreFileLines Ran Not asked left statuses.Usage text = ⊥
 AreFileLines Ran Not asked left statuses.WriteFault text = ⊥
 
 -- a new solve without a checkpoint: the disk is left alone, and nothing keeps it from beginning
-pub record HasRunAlone (asked : Asked) (slots after : Option History) (stores risen : ℕ)
-    (p : Instance) (outcome : Outcome) : Type 0 where
+pub record HasRunAlone (asked : Asked) (old new : DiskSeen) (p : Instance) (outcome : Outcome)
+    : Type 0 where
   pub ran : IsNewRun p (settings_for asked p) outcome
-  pub untouched : IsUntouched outcome slots after stores risen
+  pub untouched : IsUntouched outcome old new
 
 abbrev pub BeginsAlways : Instance → StartFault → Type 0
 BeginsAlways p fault = ⊥
 
 -- a new solve with a checkpoint
-pub record HasRunSaved (asked : Asked) (slots after : Option History) (stores risen : ℕ)
-    (p : Instance) (outcome : Outcome) : Type 0 where
-  pub ran : IsSavedRun p (settings_for asked p) slots outcome
-  pub kept : IsKeptOn outcome after stores risen
+pub record HasRunSaved (asked : Asked) (old new : DiskSeen) (p : Instance) (outcome : Outcome)
+    : Type 0 where
+  pub ran : IsSavedRun p (settings_for asked p) old.told outcome
+  pub kept : IsKeptOn outcome old new
 
-abbrev pub HasNotBegun : Option History → Option History → Instance → StartFault → Type 0
-HasNotBegun slots after p fault = IsNotBegun slots after fault
+-- It does not begin: at each moment a crash leaves what a beginning may leave, so nothing was saved
+-- but, perhaps, its first image.
+pub record HasNotBegun (asked : Asked) (old new : DiskSeen) (p : Instance) (fault : StartFault)
+    : Type 0 where
+  pub why : IsNotBegun old.told new.told fault
+  pub safe : Leaves (IsSafeStart old.told (IsBegun p (settings_for asked p) old.told))
+      old.told new.told
 
 -- a run that goes on from the checkpoint
-pub record HasRunOn (asked : Asked) (slots after : Option History) (stores risen : ℕ)
-    (p : Instance) (outcome : Outcome) : Type 0 where
-  pub ran : IsRunOn p (settings_for asked p) slots outcome
-  pub kept : IsKeptOn outcome after stores risen
+pub record HasRunOn (asked : Asked) (old new : DiskSeen) (p : Instance) (outcome : Outcome)
+    : Type 0 where
+  pub ran : IsRunOn p (settings_for asked p) old.told outcome
+  pub kept : IsKeptOn outcome old new
 
-abbrev pub HasNotGoneOn : Asked → Option History → Option History → Instance → StartFault → Type 0
-HasNotGoneOn asked slots after p fault = IsNotGoneOn p (settings_for asked p) slots after fault
+-- it does not go on, and likewise nothing was saved but, perhaps, its first image
+pub record HasNotGoneOn (asked : Asked) (old new : DiskSeen) (p : Instance) (fault : StartFault)
+    : Type 0 where
+  pub why : IsNotGoneOn p (settings_for asked p) old.told new.told fault
+  pub safe : Leaves (IsSafeStart old.told (IsGoneOn p (settings_for asked p) old.told))
+      old.told new.told
 
 -- how a solve ends, where a checkpoint is kept and where none is
 abbrev pub AreSolveLines : {A : Type 0} → Option A → Asked → Outside → Outside → Status → List ℕ
     → Type 0
 AreSolveLines None asked old new status text =
-    AreFileLines (HasRunAlone asked old.slots new.slots old.stores new.stores) BeginsAlways asked
-    old.left status text
+    AreFileLines (HasRunAlone asked old.disk new.disk) BeginsAlways asked old.source.left status
+    text
 AreSolveLines (Some folder) asked old new status text =
-    AreFileLines (HasRunSaved asked old.slots new.slots old.stores new.stores)
-    (HasNotBegun old.slots new.slots) asked old.left status text
+    AreFileLines (HasRunSaved asked old.disk new.disk) (HasNotBegun asked old.disk new.disk) asked
+    old.source.left status text
 
 -- how a restart ends
 abbrev pub AreRestartLines : Asked → Outside → Outside → Status → List ℕ → Type 0
 AreRestartLines asked old new status text =
-    AreFileLines (HasRunOn asked old.slots new.slots old.stores new.stores)
-    (HasNotGoneOn asked old.slots new.slots) asked old.left status text
+    AreFileLines (HasRunOn asked old.disk new.disk) (HasNotGoneOn asked old.disk new.disk) asked
+    old.source.left status text
 
 -- ---- a checkpoint
 
 -- what recovery finds is shown, and no call of the disk failed
-pub record IsShown (slots after : Option History) (stores risen : ℕ) (text : List ℕ) : Type 0 where
+pub record IsShown (old new : DiskSeen) (text : List ℕ) : Type 0 where
   pub found : Found
-  pub has : HasFound slots after (Some found)
-  pub calm : risen ≡ stores
+  pub has : HasFound old.told new.told (Some found)
+  pub calm : new.faults ≡ old.faults
   pub lines : AreCheckpointLines found.image text
 
 -- the first slot that is open and spells no image is named
-pub record IsBadShown (slots after : Option History) (text : List ℕ) : Type 0 where
+pub record IsBadShown (old new : DiskSeen) (text : List ℕ) : Type 0 where
   pub slot : Slot
   pub at : ℕ
-  pub bad : Loaded (λ zero one. IsFirstBadSlot zero one slot at) slots after
+  pub bad : Loaded (λ zero one. IsFirstBadSlot zero one slot at) old.told new.told
   pub is : text ≡ fault_line (faults.BadImage slot at)
 
 -- how a show ends
-abbrev pub AreShowLines : Option History → Option History → ℕ → ℕ → Status → List ℕ → Type 0
-AreShowLines slots after stores risen statuses.Answered text = IsShown slots after stores risen text
-AreShowLines slots after stores risen statuses.NoCheckpoint text =
-    HasFound slots after None × (text ≡ fault_line faults.NoCheckpoint)
-AreShowLines slots after stores risen statuses.BadImage text = IsBadShown slots after text
-AreShowLines slots after stores risen statuses.DiskFault text = text ≡ fault_line faults.DiskFault
-AreShowLines slots after stores risen statuses.Memory text = text ≡ memory_line
-AreShowLines slots after stores risen statuses.Usage text = ⊥
-AreShowLines slots after stores risen statuses.Refused text = ⊥
-AreShowLines slots after stores risen statuses.ReadFault text = ⊥
-AreShowLines slots after stores risen statuses.WriteFault text = ⊥
-AreShowLines slots after stores risen statuses.Limited text = ⊥
-AreShowLines slots after stores risen statuses.OtherProblem text = ⊥
-AreShowLines slots after stores risen statuses.Spent text = ⊥
-AreShowLines slots after stores risen statuses.SmallerGap text = ⊥
+abbrev pub AreShowLines : DiskSeen → DiskSeen → Status → List ℕ → Type 0
+AreShowLines old new statuses.Answered text = IsShown old new text
+AreShowLines old new statuses.NoCheckpoint text =
+    HasFound old.told new.told None × (text ≡ fault_line faults.NoCheckpoint)
+AreShowLines old new statuses.BadImage text = IsBadShown old new text
+AreShowLines old new statuses.DiskFault text = text ≡ fault_line faults.DiskFault
+AreShowLines old new statuses.Memory text = text ≡ memory_line
+AreShowLines old new statuses.Usage text = ⊥
+AreShowLines old new statuses.Refused text = ⊥
+AreShowLines old new statuses.ReadFault text = ⊥
+AreShowLines old new statuses.WriteFault text = ⊥
+AreShowLines old new statuses.Limited text = ⊥
+AreShowLines old new statuses.OtherProblem text = ⊥
+AreShowLines old new statuses.Spent text = ⊥
+AreShowLines old new statuses.SmallerGap text = ⊥
 
 -- ---- faults
 
@@ -184,51 +194,50 @@ IsUnreadFor statuses.SmallerGap = ⊥
 -- The count of the disk's faults does not fall. A disk fault is told only where it rose, and it did
 -- not where a run was refused for another cause. Where no text was read the slots are as they were.
 -- Where all that recovery could find was Covered, it is so at each moment.
-pub record IsStored (slots after : Option History) (stores risen : ℕ) (status : Status)
-    : Type 0 where
-  pub rises : stores ≤ risen
-  pub fault : status ≡ statuses.DiskFault → Rose stores risen
-  pub calm : IsCalmFor status → risen ≡ stores
-  pub unread : IsUnreadFor status → after ≡ slots
-  pub any_moment : CoversWhatIsFound slots → AllCovered slots after
+pub record IsStored (old new : DiskSeen) (status : Status) : Type 0 where
+  pub rises : old.faults ≤ new.faults
+  pub fault : status ≡ statuses.DiskFault → Rose old.faults new.faults
+  pub calm : IsCalmFor status → new.faults ≡ old.faults
+  pub unread : IsUnreadFor status → new.told ≡ old.told
+  pub any_moment : CoversWhatIsFound old.told → AllCovered old.told new.told
 
 -- The count of the source's faults does not fall, and a read fault is told exactly where it rose.
-pub record IsReadAs (reads risen : ℕ) (status : Status) : Type 0 where
-  pub rises : reads ≤ risen
-  pub fault : status ≡ statuses.ReadFault → Rose reads risen
-  pub source : reads < risen → status ≡ statuses.ReadFault
+pub record IsReadAs (old new : SourceSeen) (status : Status) : Type 0 where
+  pub rises : old.faults ≤ new.faults
+  pub fault : status ≡ statuses.ReadFault → Rose old.faults new.faults
+  pub source : old.faults < new.faults → status ≡ statuses.ReadFault
 
 pub record IsAccounted (old new : Outside) (status : Status) : Type 0 where
-  pub read : IsReadAs old.reads new.reads status
-  pub stored : IsStored old.slots new.slots old.stores new.stores status
+  pub read : IsReadAs old.source new.source status
+  pub stored : IsStored old.disk new.disk status
 
 -- ---- a made instance
 
 -- a run of the made instance ended with this outcome, and the first line of its end is printed
-pub record IsMadeRun (gen : Gen) (slots after : Option History) (stores risen : ℕ)
-    (status : Status) (text : List ℕ) : Type 0 where
+pub record IsMadeRun (gen : Gen) (old new : DiskSeen) (status : Status) (text : List ℕ)
+    : Type 0 where
   pub outcome : Outcome
   pub ran : IsNewRun (instance gen.seed gen.size) (settings_made gen.solvers) outcome
-  pub untouched : IsUntouched outcome slots after stores risen
+  pub untouched : IsUntouched outcome old new
   pub line : IsEndLine outcome.end status text
 
 -- how a run of a made instance ends
-abbrev pub AreGenLines : Gen → Option History → Option History → ℕ → ℕ → Status → List ℕ → Type 0
-AreGenLines gen slots after stores risen statuses.Answered text =
-    IsMadeRun gen slots after stores risen statuses.Answered text
-AreGenLines gen slots after stores risen statuses.Limited text =
-    IsMadeRun gen slots after stores risen statuses.Limited text
-AreGenLines gen slots after stores risen statuses.Memory text = text ≡ memory_line
-AreGenLines gen slots after stores risen statuses.Usage text = ⊥
-AreGenLines gen slots after stores risen statuses.Refused text = ⊥
-AreGenLines gen slots after stores risen statuses.ReadFault text = ⊥
-AreGenLines gen slots after stores risen statuses.WriteFault text = ⊥
-AreGenLines gen slots after stores risen statuses.DiskFault text = ⊥
-AreGenLines gen slots after stores risen statuses.NoCheckpoint text = ⊥
-AreGenLines gen slots after stores risen statuses.OtherProblem text = ⊥
-AreGenLines gen slots after stores risen statuses.BadImage text = ⊥
-AreGenLines gen slots after stores risen statuses.Spent text = ⊥
-AreGenLines gen slots after stores risen statuses.SmallerGap text = ⊥
+abbrev pub AreGenLines : Gen → DiskSeen → DiskSeen → Status → List ℕ → Type 0
+AreGenLines gen old new statuses.Answered text =
+    IsMadeRun gen old new statuses.Answered text
+AreGenLines gen old new statuses.Limited text =
+    IsMadeRun gen old new statuses.Limited text
+AreGenLines gen old new statuses.Memory text = text ≡ memory_line
+AreGenLines gen old new statuses.Usage text = ⊥
+AreGenLines gen old new statuses.Refused text = ⊥
+AreGenLines gen old new statuses.ReadFault text = ⊥
+AreGenLines gen old new statuses.WriteFault text = ⊥
+AreGenLines gen old new statuses.DiskFault text = ⊥
+AreGenLines gen old new statuses.NoCheckpoint text = ⊥
+AreGenLines gen old new statuses.OtherProblem text = ⊥
+AreGenLines gen old new statuses.BadImage text = ⊥
+AreGenLines gen old new statuses.Spent text = ⊥
+AreGenLines gen old new statuses.SmallerGap text = ⊥
 
 -- ---- any plan
 
@@ -239,9 +248,9 @@ AreLinesOf (plans.Solve solve) old new status text =
 AreLinesOf (plans.Restart restart) old new status text =
     AreRestartLines restart.settings old new status text
 AreLinesOf (plans.Show show) old new status text =
-    AreShowLines old.slots new.slots old.stores new.stores status text
+    AreShowLines old.disk new.disk status text
 AreLinesOf (plans.Gen gen) old new status text =
-    AreGenLines gen old.slots new.slots old.stores new.stores status text
+    AreGenLines gen old.disk new.disk status text
 
 -- it asks for no checkpoint
 abbrev pub IsDiskless : Plan → Type 0
@@ -251,9 +260,9 @@ IsDiskless (plans.Show show) = ⊥
 IsDiskless (plans.Gen gen) = Unit {0}
 
 -- the disk is as it was, and none of its calls failed
-pub record IsLeftAlone (slots after : Option History) (stores risen : ℕ) : Type 0 where
-  pub same : after ≡ slots
-  pub calm : risen ≡ stores
+pub record IsLeftAlone (old new : DiskSeen) : Type 0 where
+  pub same : new.told ≡ old.told
+  pub calm : new.faults ≡ old.faults
 
 -- its numbers are within their limits
 abbrev pub IsPlannedOf : Plan → Type 0

@@ -1,15 +1,11 @@
 -- What a command reads and saves, and how often that failed.
-use Rattle.std.specs.Prelude.{ℕ, List, Option}
-use Rattle.ug_disk.specs.Histories.{History}
+use Rattle.ug_io.specs.Outside.{SourceSeen}
+use Rattle.ug_disk.specs.Histories.{DiskSeen}
 
--- at one time: the bytes that the source has left and what became of the disk, where they are told,
--- and how often each of them failed
+-- what is seen at one time of the source that it reads and of the disk on which it saves
 pub record Outside : Type 0 where
-  pub left : Option (List ℕ)
-  pub reads : ℕ
-  pub slots : Option History
-  pub stores : ℕ
+  pub source : SourceSeen
+  pub disk : DiskSeen
 
-abbrev pub outside : Option (List ℕ) → ℕ → Option History → ℕ → Outside
-outside left reads slots stores =
-    record { left = left; reads = reads; slots = slots; stores = stores }
+abbrev pub outside : SourceSeen → DiskSeen → Outside
+outside source disk = record { source = source; disk = disk }

@@ -4,7 +4,7 @@ use Rattle.clap.specs.Walk.{Text}
 use Rattle.ug_problem.specs.Instances.{Instance}
 use Rattle.ug_drafts.specs.declared.fault.MpsFault.{MpsFault}
 use Rattle.ug_mps.specs.Reads.{Reads, FirstFault}
-use Rattle.ug_io.specs.Outside.{Rose, Takes, TakesFront}
+use Rattle.ug_io.specs.Outside.{Rose, SinkSeen, Takes, TakesFront}
 use Rattle.ug_print.specs.Lines.{memory_line}
 use Rattle.ug_cli.specs.Taken.{TakenWords}
 use Rattle.ug_cli.specs.declared.plan.Plan.{Plan}
@@ -38,7 +38,7 @@ IsCompleteOf (plans.Gen gen) left status = Unit {0}
 
 -- reading stopped with the line ENDATA, unless the source failed or memory was wanting
 abbrev pub IsReadTo : Outside → Outside → Status → Type 0
-IsReadTo old new status = (status ≡ ReadFault) ⊎ ((status ≡ Memory) ⊎ StopsAtEnd old.left new.left)
+IsReadTo old new status = (status ≡ ReadFault) ⊎ ((status ≡ Memory) ⊎ StopsAtEnd old.source.left new.source.left)
 
 -- the words ask for a plan, and what is due is what it comes to; without a checkpoint the disk is
 -- left alone
@@ -48,8 +48,8 @@ pub record IsWorked (words : List Text) (old new : Outside) (status : Status) (t
   pub taken : TakenWords words plan
   pub lines : AreLinesOf plan old new status text
   pub accounted : IsAccounted old new status
-  pub alone : IsDiskless plan → IsLeftAlone old.slots new.slots old.stores new.stores
-  pub complete : IsCompleteOf plan old.left status
+  pub alone : IsDiskless plan → IsLeftAlone old.disk new.disk
+  pub complete : IsCompleteOf plan old.source.left status
   pub read : IsReadTo old new status
 
 -- the words ask for no plan, and nothing is due
@@ -84,29 +84,26 @@ IsDue words old new status text =
     IsWorked words old new status text ⊎ IsIdle words old new status text
 
 -- the lines were written
-pub record IsWritten (due status : Status) (text : List ℕ) (written after : Option (List ℕ))
-    (writes risen : ℕ) : Type 0 where
+pub record IsWritten (due status : Status) (text : List ℕ) (old new : SinkSeen) : Type 0 where
   pub is : status ≡ due
-  pub all : Takes written after text
-  pub calm : risen ≡ writes
+  pub all : Takes old.written new.written text
+  pub calm : new.faults ≡ old.faults
 
 -- a front of the lines was, and then the sink failed
-pub record IsCutShort (status : Status) (text : List ℕ) (written after : Option (List ℕ))
-    (writes risen : ℕ) : Type 0 where
+pub record IsCutShort (status : Status) (text : List ℕ) (old new : SinkSeen) : Type 0 where
   pub is : status ≡ WriteFault
-  pub front : TakesFront written after text
-  pub fault : Rose writes risen
+  pub front : TakesFront old.written new.written text
+  pub fault : Rose old.faults new.faults
 
 -- what is due is written, or the status is a write fault
-abbrev pub HasTold : Status → List ℕ → Option (List ℕ) → Option (List ℕ) → ℕ → ℕ → Status → Type 0
-HasTold due text written after writes risen status =
-    IsWritten due status text written after writes risen
-    ⊎ IsCutShort status text written after writes risen
+abbrev pub HasTold : Status → List ℕ → SinkSeen → SinkSeen → Status → Type 0
+HasTold due text old new status =
+    IsWritten due status text old new ⊎ IsCutShort status text old new
 
 -- What was due is told.
-pub record HasRun (words : List Text) (old new : Outside) (written after : Option (List ℕ))
-    (writes risen : ℕ) (status : Status) : Type 0 where
+pub record HasRun (words : List Text) (old new : Outside) (before after : SinkSeen)
+    (status : Status) : Type 0 where
   pub due_status : Status
   pub text : List ℕ
   pub due : IsDue words old new due_status text
-  pub told : HasTold due_status text written after writes risen status
+  pub told : HasTold due_status text before after status

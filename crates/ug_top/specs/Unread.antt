@@ -1,5 +1,6 @@
 -- How a command ends that reads no problem.
 use Rattle.std.specs.Prelude.{◌≡◌, ℕ, List, Option}
+use Rattle.ug_io.specs.Outside.{Rose}
 use Rattle.ug_drafts.specs.declared.fault.MpsFault.{MpsFault}
 use Rattle.ug_mps.specs.Reads.{FirstFault}
 use Rattle.ug_print.specs.Refusals.{refused_line}
@@ -28,3 +29,10 @@ HasStopped old new (Lines status told) = StopsAtEnd old new
 HasStopped old new (Refused refusal told) = StopsAtEnd old new
 HasStopped old new ReadFault = Unit {0}
 HasStopped old new Memory = Unit {0}
+
+-- how often the source failed: it did only where a read fault is told
+abbrev pub unread_cause : Ended → ℕ → ℕ → Type 0
+unread_cause (Lines status told) old new = new ≡ old
+unread_cause (Refused refusal told) old new = new ≡ old
+unread_cause ReadFault old new = Rose old new
+unread_cause Memory old new = new ≡ old

@@ -31,16 +31,13 @@ pub fn run_plan<R: Threads + Wait + Sync, S: Source, D: Disk, O: Observer>(
 ) -> Ended
     requires { IsPlannedOf plan.now }
     ensures lines { AreLinesOf plan.now
-        (outside (S.left input.old) (S.faults input.old) (D.told disk.old) (D.faults disk.old))
-        (outside (S.left input.new) (S.faults input.new) (D.told disk.new) (D.faults disk.new))
-        (status_of result) (text_of result) }
+        (outside (S.seen input.old) (D.seen disk.old))
+        (outside (S.seen input.new) (D.seen disk.new)) (status_of result) (text_of result) }
     ensures accounted { IsAccounted
-        (outside (S.left input.old) (S.faults input.old) (D.told disk.old) (D.faults disk.old))
-        (outside (S.left input.new) (S.faults input.new) (D.told disk.new) (D.faults disk.new))
-        (status_of result) }
-    ensures alone { IsDiskless plan.now → IsLeftAlone (D.told disk.old) (D.told disk.new)
-        (D.faults disk.old) (D.faults disk.new) }
-    ensures stopped { HasStopped (S.left input.old) (S.left input.new) result }
+        (outside (S.seen input.old) (D.seen disk.old))
+        (outside (S.seen input.new) (D.seen disk.new)) (status_of result) }
+    ensures alone { IsDiskless plan.now → IsLeftAlone (D.seen disk.old) (D.seen disk.new) }
+    ensures stopped { HasStopped (S.seen input.old).left (S.seen input.new).left result }
 {
     match plan {
         Plan::Solve(solve) => run_solve(host, solve, input, disk),
@@ -60,16 +57,13 @@ fn run_solve<R: Threads + Wait + Sync, S: Source, D: Disk, O: Observer>(
 ) -> Ended
     requires { IsPlanned solve.now.settings }
     ensures lines { AreSolveLines solve.now.checkpoint solve.now.settings
-        (outside (S.left input.old) (S.faults input.old) (D.told disk.old) (D.faults disk.old))
-        (outside (S.left input.new) (S.faults input.new) (D.told disk.new) (D.faults disk.new))
-        (status_of result) (text_of result) }
+        (outside (S.seen input.old) (D.seen disk.old))
+        (outside (S.seen input.new) (D.seen disk.new)) (status_of result) (text_of result) }
     ensures accounted { IsAccounted
-        (outside (S.left input.old) (S.faults input.old) (D.told disk.old) (D.faults disk.old))
-        (outside (S.left input.new) (S.faults input.new) (D.told disk.new) (D.faults disk.new))
-        (status_of result) }
-    ensures alone { solve.now.checkpoint ≡ None → IsLeftAlone (D.told disk.old) (D.told disk.new)
-        (D.faults disk.old) (D.faults disk.new) }
-    ensures stopped { HasStopped (S.left input.old) (S.left input.new) result }
+        (outside (S.seen input.old) (D.seen disk.old))
+        (outside (S.seen input.new) (D.seen disk.new)) (status_of result) }
+    ensures alone { solve.now.checkpoint ≡ None → IsLeftAlone (D.seen disk.old) (D.seen disk.new) }
+    ensures stopped { HasStopped (S.seen input.old).left (S.seen input.new).left result }
 {
     let problem = match read_problem(host.alloc, solve.settings.bounds.boxed, input) {
         Ok(problem) => problem,
@@ -91,14 +85,12 @@ fn run_restart<R: Threads + Wait + Sync, S: Source, D: Disk, O: Observer>(
 ) -> Ended
     requires { IsPlanned restart.now.settings }
     ensures lines { AreRestartLines restart.now.settings
-        (outside (S.left input.old) (S.faults input.old) (D.told disk.old) (D.faults disk.old))
-        (outside (S.left input.new) (S.faults input.new) (D.told disk.new) (D.faults disk.new))
-        (status_of result) (text_of result) }
+        (outside (S.seen input.old) (D.seen disk.old))
+        (outside (S.seen input.new) (D.seen disk.new)) (status_of result) (text_of result) }
     ensures accounted { IsAccounted
-        (outside (S.left input.old) (S.faults input.old) (D.told disk.old) (D.faults disk.old))
-        (outside (S.left input.new) (S.faults input.new) (D.told disk.new) (D.faults disk.new))
-        (status_of result) }
-    ensures stopped { HasStopped (S.left input.old) (S.left input.new) result }
+        (outside (S.seen input.old) (D.seen disk.old))
+        (outside (S.seen input.new) (D.seen disk.new)) (status_of result) }
+    ensures stopped { HasStopped (S.seen input.old).left (S.seen input.new).left result }
 {
     let problem = match read_problem(host.alloc, restart.settings.bounds.boxed, input) {
         Ok(problem) => problem,
@@ -116,13 +108,10 @@ fn run_alone<R: Threads + Wait + Sync, D: Disk, O: Observer>(
 ) -> Ended
     requires { IsPlanned asked.now }
     ensures run { TellsRun
-        (HasRunAlone asked.now (D.told disk.old) (D.told disk.new) (D.faults disk.old)
-        (D.faults disk.new) problem)
+        (HasRunAlone asked.now (D.seen disk.old) (D.seen disk.new) problem)
         (BeginsAlways problem) asked.now.bounds.gap result }
-    ensures stored { IsStored (D.told disk.old) (D.told disk.new)
-        (D.faults disk.old) (D.faults disk.new) (status_of result) }
-    ensures alone { IsLeftAlone (D.told disk.old) (D.told disk.new)
-        (D.faults disk.old) (D.faults disk.new) }
+    ensures stored { IsStored (D.seen disk.old) (D.seen disk.new) (status_of result) }
+    ensures alone { IsLeftAlone (D.seen disk.old) (D.seen disk.new) }
 {
     let settings = settings_for(asked, problem.problem());
     let outcome = solve_new(host, problem, settings, disk);
@@ -140,11 +129,9 @@ fn run_saved<R: Threads + Wait + Sync, D: Disk, O: Observer>(
 ) -> Ended
     requires { IsPlanned asked.now }
     ensures run { TellsRun
-        (HasRunSaved asked.now (D.told disk.old) (D.told disk.new) (D.faults disk.old)
-        (D.faults disk.new) problem)
-        (HasNotBegun (D.told disk.old) (D.told disk.new) problem) asked.now.bounds.gap result }
-    ensures stored { IsStored (D.told disk.old) (D.told disk.new)
-        (D.faults disk.old) (D.faults disk.new) (status_of result) }
+        (HasRunSaved asked.now (D.seen disk.old) (D.seen disk.new) problem)
+        (HasNotBegun asked.now (D.seen disk.old) (D.seen disk.new) problem) asked.now.bounds.gap result }
+    ensures stored { IsStored (D.seen disk.old) (D.seen disk.new) (status_of result) }
 {
     let settings = settings_for(asked, problem.problem());
     match solve_saved(host, problem, settings, disk) {
@@ -166,12 +153,10 @@ fn run_on<R: Threads + Wait + Sync, D: Disk, O: Observer>(
 ) -> Ended
     requires { IsPlanned asked.now }
     ensures run { TellsRun
-        (HasRunOn asked.now (D.told disk.old) (D.told disk.new) (D.faults disk.old)
-        (D.faults disk.new) problem)
-        (HasNotGoneOn asked.now (D.told disk.old) (D.told disk.new) problem)
+        (HasRunOn asked.now (D.seen disk.old) (D.seen disk.new) problem)
+        (HasNotGoneOn asked.now (D.seen disk.old) (D.seen disk.new) problem)
         asked.now.bounds.gap result }
-    ensures stored { IsStored (D.told disk.old) (D.told disk.new)
-        (D.faults disk.old) (D.faults disk.new) (status_of result) }
+    ensures stored { IsStored (D.seen disk.old) (D.seen disk.new) (status_of result) }
 {
     let settings = settings_for(asked, problem.problem());
     match go_on(host, problem, settings, disk) {

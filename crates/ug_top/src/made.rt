@@ -20,12 +20,10 @@ pub fn run_made<R: Threads + Wait + Sync, D: Disk, O: Observer>(
     disk: &mut D,
 ) -> Ended
     requires { IsPlannedGen asked.now }
-    ensures lines { AreGenLines asked.now (D.told disk.old) (D.told disk.new)
-        (D.faults disk.old) (D.faults disk.new) (status_of result) (text_of result) }
-    ensures stored { IsStored (D.told disk.old) (D.told disk.new)
-        (D.faults disk.old) (D.faults disk.new) (status_of result) }
-    ensures alone { IsLeftAlone (D.told disk.old) (D.told disk.new)
-        (D.faults disk.old) (D.faults disk.new) }
+    ensures lines { AreGenLines asked.now (D.seen disk.old) (D.seen disk.new)
+        (status_of result) (text_of result) }
+    ensures stored { IsStored (D.seen disk.old) (D.seen disk.new) (status_of result) }
+    ensures alone { IsLeftAlone (D.seen disk.old) (D.seen disk.new) }
 {
     let Ok(problem) = make(host.alloc, asked.seed, asked.size) else {
         return Ended::Memory;

@@ -1,8 +1,9 @@
-ghost use Rattle.std.specs.Prelude.{◌≡◌, ◌≤◌, IfOk, IfErr, IsErrOf};
-ghost use Rattle.ug_io.specs.Outside.{Rose};
+ghost use Rattle.std.specs.Prelude.{IfOk, IfErr, OnErr};
+ghost use Rattle.ug_disk.specs.Crashes.{Leaves};
 ghost use Rattle.ug_rules.specs.Books.{AreSettings};
 ghost use Rattle.ug_restart.specs.Openings.{CoversWhatIsFound};
-ghost use Rattle.ug_restart.specs.Starts.{IsNotBegun, IsNotGoneOn};
+ghost use Rattle.ug_restart.specs.Faults.{start_cause};
+ghost use Rattle.ug_restart.specs.Starts.{IsBegun, IsGoneOn, IsNotBegun, IsNotGoneOn, IsSafeStart};
 ghost use Rattle.ug_restart.specs.Moments.{AllCovered, IsCoveredNow};
 ghost use Rattle.ug_checkpoint.specs.Savers.{IsKept};
 ghost use Rattle.ug_rules.specs.Books.{IsSoundBook};
@@ -29,8 +30,7 @@ pub fn solve_new<R: Threads + Wait + Sync, D: Disk, O: Observer>(
 ) -> Outcome
     requires { AreSettings settings }
     ensures ran { IsNewRun problem settings result }
-    ensures untouched { IsUntouched result
-        (D.told disk.old) (D.told disk.new) (D.faults disk.old) (D.faults disk.new) }
+    ensures untouched { IsUntouched result (D.seen disk.old) (D.seen disk.new) }
 {
     let Ok(opening) = Opening::new(host.alloc, problem, 1, settings) else {
         return Outcome {
@@ -54,20 +54,21 @@ pub fn solve_saved<R: Threads + Wait + Sync, D: Disk, O: Observer>(
     disk: &mut D,
 ) -> Result<Outcome, StartFault>
     requires { AreSettings settings }
-    ensures ran { IfOk result (IsSavedRun problem settings (D.told disk.old)) }
-    ensures kept { IfOk result (λ o. IsKeptOn o (D.told disk.new)
-        (D.faults disk.old) (D.faults disk.new)) }
-    ensures refused { IfErr result (IsNotBegun (D.told disk.old) (D.told disk.new)) }
-    ensures any_moment { CoversWhatIsFound (D.told disk.old)
-        → AllCovered (D.told disk.old) (D.told disk.new) }
-    ensures never_falls { D.faults disk.old ≤ D.faults disk.new }
-    ensures fault { IsErrOf result StartFault.DiskFault
-        → Rose (D.faults disk.old) (D.faults disk.new) }
-    ensures calm { IfErr result (λ e. (e ≡ StartFault.DiskFault → ⊥)
-        → D.faults disk.new ≡ D.faults disk.old) }
+    ensures ran { IfOk result (IsSavedRun problem settings (D.seen disk.old).told) }
+    ensures kept { IfOk result (λ o. IsKeptOn o (D.seen disk.old) (D.seen disk.new)) }
+    ensures refused { IfErr result (IsNotBegun (D.seen disk.old).told (D.seen disk.new).told) }
+    ensures safe { OnErr result (Leaves
+        (IsSafeStart (D.seen disk.old).told (IsBegun problem settings (D.seen disk.old).told))
+        (D.seen disk.old).told (D.seen disk.new).told) }
+    ensures cause { IfErr result (λ fault. start_cause fault
+        (D.seen disk.old).faults (D.seen disk.new).faults) }
+    ensures any_moment { CoversWhatIsFound (D.seen disk.old).told
+        → AllCovered (D.seen disk.old).told (D.seen disk.new).told }
 {
-    let start = begin(host.alloc, disk, problem, settings)?;
-    Ok(solve_from(host, start, disk))
+    match begin(host.alloc, disk, problem, settings) {
+        Ok(start) => Ok(solve_from(host, start, disk)),
+        Err(fault) => Err(fault),
+    }
 }
 
 /// Goes on from the checkpoint on the disk, which is of the same problem, with its incumbent and
@@ -79,21 +80,22 @@ pub fn go_on<R: Threads + Wait + Sync, D: Disk, O: Observer>(
     disk: &mut D,
 ) -> Result<Outcome, StartFault>
     requires { AreSettings settings }
-    ensures ran { IfOk result (IsRunOn problem settings (D.told disk.old)) }
-    ensures kept { IfOk result (λ o. IsKeptOn o (D.told disk.new)
-        (D.faults disk.old) (D.faults disk.new)) }
+    ensures ran { IfOk result (IsRunOn problem settings (D.seen disk.old).told) }
+    ensures kept { IfOk result (λ o. IsKeptOn o (D.seen disk.old) (D.seen disk.new)) }
     ensures refused { IfErr result (IsNotGoneOn problem settings
-        (D.told disk.old) (D.told disk.new)) }
-    ensures any_moment { CoversWhatIsFound (D.told disk.old)
-        → AllCovered (D.told disk.old) (D.told disk.new) }
-    ensures never_falls { D.faults disk.old ≤ D.faults disk.new }
-    ensures fault { IsErrOf result StartFault.DiskFault
-        → Rose (D.faults disk.old) (D.faults disk.new) }
-    ensures calm { IfErr result (λ e. (e ≡ StartFault.DiskFault → ⊥)
-        → D.faults disk.new ≡ D.faults disk.old) }
+        (D.seen disk.old).told (D.seen disk.new).told) }
+    ensures safe { OnErr result (Leaves
+        (IsSafeStart (D.seen disk.old).told (IsGoneOn problem settings (D.seen disk.old).told))
+        (D.seen disk.old).told (D.seen disk.new).told) }
+    ensures cause { IfErr result (λ fault. start_cause fault
+        (D.seen disk.old).faults (D.seen disk.new).faults) }
+    ensures any_moment { CoversWhatIsFound (D.seen disk.old).told
+        → AllCovered (D.seen disk.old).told (D.seen disk.new).told }
 {
-    let start = restart(host.alloc, disk, problem, settings)?;
-    Ok(solve_from(host, start, disk))
+    match restart(host.alloc, disk, problem, settings) {
+        Ok(next) => Ok(solve_from(host, next, disk)),
+        Err(fault) => Err(fault),
+    }
 }
 
 // Solves from this start, and saves.
@@ -103,13 +105,12 @@ fn solve_from<R: Threads + Wait + Sync, D: Disk, O: Observer>(
     disk: &mut D,
 ) -> Outcome
     requires opening { IsOpening start.opening }
-    requires kept { IsKept start.saver (D.told disk.old) }
+    requires kept { IsKept start.saver (D.seen disk.old).told }
     ensures ended { HasEnded (opening_book start.opening) result.end }
-    ensures kept { IsKeptOn result (D.told disk.new) (D.faults disk.old) (D.faults disk.new) }
+    ensures kept { IsKeptOn result (D.seen disk.old) (D.seen disk.new) }
     ensures any_moment { IsSoundBook (opening_book start.opening)
-        → IsCoveredNow start.saver (D.told disk.old)
-        → AllCovered (D.told disk.old) (D.told disk.new) }
-    ensures never_falls { D.faults disk.old ≤ D.faults disk.new }
+        → IsCoveredNow start.saver (D.seen disk.old).told
+        → AllCovered (D.seen disk.old).told (D.seen disk.new).told }
 {
     let Start { opening, saver } = start;
     let outcome = solve_threads(host, &opening, Some(saver), disk);

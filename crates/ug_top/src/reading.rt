@@ -1,10 +1,9 @@
-ghost use Rattle.std.specs.Prelude.{◌≡◌, ◌≤◌, ◌<◌, ◌^◌, ◌⊎◌, IfSome, IfOk, IfErr, OnOk};
-ghost use Rattle.ug_io.specs.Outside.{Rose};
+ghost use Rattle.std.specs.Prelude.{◌≤◌, ◌^◌, IfSome, IfOk, IfErr, OnOk};
+ghost use Rattle.ug_io.specs.Outside.{IsCountedBy};
 ghost use Rattle.ug_mps.specs.Reads.{Reads};
 ghost use Rattle.ug_mps.specs.Enough.{StopsAtEnd};
 ghost use Rattle.ug_top.specs.Lines.{States};
-ghost use Rattle.ug_top.specs.Unread.{HasStopped, IsTextUnread, IsUnread};
-ghost use Rattle.ug_top.specs.declared.ended.Ended.TheVariants.{ReadFault};
+ghost use Rattle.ug_top.specs.Unread.{HasStopped, IsTextUnread, IsUnread, unread_cause};
 
 use crate::ended::Ended;
 use crate::ran::Refusal;
@@ -16,21 +15,20 @@ use ug_print::refusal;
 use ug_problem::{Problem, Shared};
 
 /// The problem that the source states under the box; or how the command ends that read no problem.
-#[tactic(auto, using(crate::proofs::Texts::told_problem, crate::proofs::Texts::told_unread, crate::proofs::Gathered::has_stopped))]
+#[tactic(auto, using(crate::proofs::Texts::told_problem, crate::proofs::Texts::told_unread, crate::proofs::Gathered::has_stopped, crate::proofs::Accounts::unread_calm))]
 pub fn read_problem<S: Source>(
     alloc: Global,
     boxed: Option<u32>,
     input: &mut S,
 ) -> Result<Shared, Ended>
     requires { IfSome boxed (λ u. u ≤ 10 ^ 9) }
-    ensures states { IfOk result (States (S.left input.old) boxed) }
-    ensures unread { IfErr result (IsUnread boxed (S.left input.old)) }
-    ensures stops { OnOk result (StopsAtEnd (S.left input.old) (S.left input.new)) }
-    ensures stopped { IfErr result (HasStopped (S.left input.old) (S.left input.new)) }
-    ensures fault { IfErr result (λ e. e ≡ ReadFault
-        → Rose (S.faults input.old) (S.faults input.new)) }
-    ensures calm { IfErr result (λ e. (e ≡ ReadFault) ⊎ (S.faults input.new ≡ S.faults input.old)) }
-    ensures well { OnOk result (S.faults input.new ≡ S.faults input.old) }
+    ensures states { IfOk result (States (S.seen input.old).left boxed) }
+    ensures unread { IfErr result (IsUnread boxed (S.seen input.old).left) }
+    ensures stops { OnOk result (StopsAtEnd (S.seen input.old).left (S.seen input.new).left) }
+    ensures stopped { IfErr result
+        (HasStopped (S.seen input.old).left (S.seen input.new).left) }
+    ensures cause { IsCountedBy unread_cause result
+        (S.seen input.old).faults (S.seen input.new).faults }
 {
     match gather(alloc, input) {
         Ok(text) => match problem_of(alloc, &text, boxed) {

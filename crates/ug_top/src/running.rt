@@ -28,10 +28,9 @@ pub fn run<R: Threads + Wait + Sync, S: Source, K: Sink, D: Disk, O: Observer>(
     disk: &mut D,
 ) -> Ran
     ensures { HasRun (texts words.now)
-        (outside (S.left input.old) (S.faults input.old) (D.told disk.old) (D.faults disk.old))
-        (outside (S.left input.new) (S.faults input.new) (D.told disk.new) (D.faults disk.new))
-        (K.written out.old) (K.written out.new) (K.faults out.old) (K.faults out.new)
-        result.status }
+        (outside (S.seen input.old) (D.seen disk.old))
+        (outside (S.seen input.new) (D.seen disk.new))
+        (K.seen out.old) (K.seen out.new) result.status }
 {
     let Some(ended) = carry_out(host, words, input, disk) else {
         return Ran {
@@ -47,8 +46,8 @@ pub fn run<R: Threads + Wait + Sync, S: Source, K: Sink, D: Disk, O: Observer>(
 
 // Writes the lines with which it ended. The status is then the one due, unless the sink failed.
 fn tell<K: Sink>(out: &mut K, ended: &Ended) -> Status
-    ensures { HasTold (status_of ended.now) (text_of ended.now) (K.written out.old)
-        (K.written out.new) (K.faults out.old) (K.faults out.new) result }
+    ensures { HasTold (status_of ended.now) (text_of ended.now)
+        (K.seen out.old) (K.seen out.new) result }
 {
     match write_all(out, ended.text()) {
         Ok(()) => ended.status(),
@@ -65,9 +64,8 @@ fn carry_out<R: Threads + Wait + Sync, S: Source, D: Disk, O: Observer>(
     disk: &mut D,
 ) -> Option<Ended>
     ensures { IsDue (texts words.now)
-        (outside (S.left input.old) (S.faults input.old) (D.told disk.old) (D.faults disk.old))
-        (outside (S.left input.new) (S.faults input.new) (D.told disk.new) (D.faults disk.new))
-        (due_status result) (due_text result) }
+        (outside (S.seen input.old) (D.seen disk.old))
+        (outside (S.seen input.new) (D.seen disk.new)) (due_status result) (due_text result) }
 {
     one_outcome();
     crossed_is_not_taken();

@@ -14,10 +14,9 @@ use ug_restart::StartFault;
 
 /// Tells the checkpoint that recovery finds, or why it finds none.
 pub fn show<D: Disk>(alloc: Global, disk: &mut D) -> Ended
-    ensures lines { AreShowLines (D.told disk.old) (D.told disk.new)
-        (D.faults disk.old) (D.faults disk.new) (status_of result) (text_of result) }
-    ensures stored { IsStored (D.told disk.old) (D.told disk.new)
-        (D.faults disk.old) (D.faults disk.new) (status_of result) }
+    ensures lines { AreShowLines (D.seen disk.old) (D.seen disk.new)
+        (status_of result) (text_of result) }
+    ensures stored { IsStored (D.seen disk.old) (D.seen disk.new) (status_of result) }
 {
     match load(alloc, disk) {
         Ok(Some(found)) => {

@@ -342,10 +342,16 @@ fn run_or_sequence_of_two_to_the_62_is_spent(rt: HostRuntime) {
     }
 }
 
-// A disk with nothing on it, of whose calls this one fails.
-fn failing_disk(alloc: Global, call: u64) -> Result<MemoryDisk, AllocError> {
-    let failing = [call].to_vec(alloc)?;
-    Ok(disk_with(alloc, Vec::new(alloc), Vec::new(alloc), failing))
+// A disk whose slot 0 has these bytes, of whose calls these fail.
+fn failing_disk(alloc: Global, zero: &[u8], calls: &[u64]) -> Result<MemoryDisk, AllocError> {
+    let failing = calls.to_vec(alloc)?;
+    match zero.to_vec(alloc) {
+        Ok(zero) => Ok(disk_with(alloc, zero, Vec::new(alloc), failing)),
+        Err(error) => {
+            drop(failing);
+            Err(error)
+        }
+    }
 }
 
 /// What a solve tells of a disk of which a call fails.
@@ -369,33 +375,66 @@ fn told_by(told: &[u8]) -> Told {
     }
 }
 
-// What is told of a solve with a checkpoint, of whose disk this call fails.
-fn told_where_it_fails<R: Threads + Wait + Sync + Abort>(rt: &R, alloc: Global, call: u64) -> Told {
-    let mut disk = failing_disk(alloc, call).expect(rt, "memory");
-    let told = tells(rt, alloc, "solve f --checkpoint d", EMPTY, &mut disk).expect(rt, "memory");
-    drop(disk);
+// What is told of a command over slot 0, of whose disk this call fails; and whether a checkpoint is
+// found then.
+fn told_where_it_fails<R: Threads + Wait + Sync + Abort>(
+    rt: &R,
+    alloc: Global,
+    line: &str,
+    zero: &[u8],
+    call: u64,
+) -> (Told, bool) {
+    let mut disk = failing_disk(alloc, zero, &[call]).expect(rt, "memory");
+    let told = tells(rt, alloc, line, EMPTY, &mut disk).expect(rt, "memory");
     let by = told_by(&told);
     drop(told);
-    by
+    let shown = tells(rt, alloc, "show --checkpoint d", "", &mut disk).expect(rt, "memory");
+    drop(disk);
+    let is_found = shown.starts_with(b"\0run ");
+    drop(shown);
+    (by, is_found)
 }
 
-#[test]
-fn disk_that_fails_is_a_fault_first_and_a_missed_save_later(rt: HostRuntime) {
+// Expects a command over slot 0 to tell a fault where one of the first calls of its disk fails, a
+// missed save where a later one does, and what it tells anyway behind its last. Where slot 0 has a
+// checkpoint, one is found after each that failed.
+fn tells_each_fault<R: Threads + Wait + Sync + Abort>(
+    rt: &R,
+    alloc: Global,
+    line: &str,
+    zero: &[u8],
+) {
     let mut faults = 0u32;
     let mut missed = 0u32;
     let mut found = 0u32;
     for call in 1..40 {
-        match told_where_it_fails(&rt, rt.alloc(), call) {
+        let (told, is_found) = told_where_it_fails(rt, alloc, line, zero, call);
+        holds_at(
+            rt,
+            is_found || zero.is_empty() || told == Told::Optimum,
+            &call,
+        );
+        match told {
             Told::Fault if missed == 0 => faults = faults.saturating_add(1),
             Told::Missed if found == 0 => missed = missed.saturating_add(1),
             told => {
-                same_at(&rt, &told, &Told::Optimum, &call);
+                same_at(rt, &told, &Told::Optimum, &call);
                 found = found.saturating_add(1);
             }
         }
     }
     // Six calls of a save at least are behind six of the first one, and some load before.
-    holds(&rt, faults > 6 && missed >= 6 && found > 0);
+    holds(rt, faults > 6 && missed >= 6 && found > 0);
+}
+
+#[test]
+fn disk_that_fails_is_a_fault_first_and_a_missed_save_later(rt: HostRuntime) {
+    tells_each_fault(&rt, rt.alloc(), "solve f --checkpoint d", b"");
+}
+
+#[test]
+fn restart_on_a_disk_that_fails_keeps_the_checkpoint(rt: HostRuntime) {
+    tells_each_fault(&rt, rt.alloc(), "restart f --checkpoint d", &first_slot());
 }
 
 // Whether recovery finds the book with which the first run ended.
@@ -410,6 +449,9 @@ fn shows_its_end<R: Threads + Wait + Sync + Abort>(
     is_ended
 }
 
+// A solve that saves after each report.
+const EVERY_ONE: &str = "solve f --checkpoint d --every 1";
+
 // Whether a solve that saves after each report misses a save, and nothing else, where this call of
 // its disk fails; and whether recovery then finds the book with which it ended.
 fn missed_where_it_fails<R: Threads + Wait + Sync + Abort>(
@@ -417,9 +459,8 @@ fn missed_where_it_fails<R: Threads + Wait + Sync + Abort>(
     alloc: Global,
     call: u64,
 ) -> (bool, bool) {
-    let mut disk = failing_disk(alloc, call).expect(rt, "memory");
-    let line = "solve f --checkpoint d --every 1";
-    let told = tells(rt, alloc, line, KNAPSACK, &mut disk).expect(rt, "memory");
+    let mut disk = failing_disk(alloc, b"", &[call]).expect(rt, "memory");
+    let told = tells(rt, alloc, EVERY_ONE, KNAPSACK, &mut disk).expect(rt, "memory");
     let is_missed = told.as_slice() == b"\0optimal 13\nA 2\nC 1\nmissed 1\n".as_slice();
     drop(told);
     let is_ended = shows_its_end(rt, alloc, &mut disk);
@@ -435,6 +476,31 @@ fn missed_save_of_a_snapshot_is_followed_by_the_last_save(rt: HostRuntime) {
         let (is_missed, is_ended) = missed_where_it_fails(&rt, rt.alloc(), call);
         if is_missed && met < 6 {
             holds_at(&rt, is_ended, &call);
+            met = met.saturating_add(1);
+        }
+    }
+    same(&rt, &met, &6);
+}
+
+// Whether a solve that saves after each report misses two saves, where this call of its disk and the
+// next one fail: a save ends with the call that fails, and another begins with the next.
+fn misses_two<R: Threads + Wait + Sync + Abort>(rt: &R, alloc: Global, call: u64) -> bool {
+    let calls = [call, call.saturating_add(1)];
+    let mut disk = failing_disk(alloc, b"", &calls).expect(rt, "memory");
+    let told = tells(rt, alloc, EVERY_ONE, KNAPSACK, &mut disk).expect(rt, "memory");
+    drop(disk);
+    let are_missed = told.as_slice() == b"\0optimal 13\nA 2\nC 1\nmissed 2\n".as_slice();
+    drop(told);
+    are_missed
+}
+
+#[test]
+fn each_save_that_is_missed_is_counted(rt: HostRuntime) {
+    let mut met = 0u32;
+    for call in 1..40 {
+        let (is_missed, _) = missed_where_it_fails(&rt, rt.alloc(), call);
+        if is_missed && met < 6 {
+            holds_at(&rt, misses_two(&rt, rt.alloc(), call), &call);
             met = met.saturating_add(1);
         }
     }

@@ -1,5 +1,5 @@
-ghost use Rattle.std.specs.Prelude.{◌≡◌, ◌≤◌, ◌<◌, ◌+◌, ◌^◌, length, OnOk, OnErr};
-ghost use Rattle.ug_io.specs.Outside.{Rose};
+ghost use Rattle.std.specs.Prelude.{◌<◌, ◌+◌, ◌^◌, length, OnOk};
+ghost use Rattle.ug_io.specs.Outside.{IsCounted};
 ghost use Rattle.ug_disk.specs.Crashes.{Leaves};
 ghost use Rattle.ug_checkpoint.specs.Gates.{IsSynced, IsShut, HasBehind};
 ghost use Rattle.ug_checkpoint.specs.Runs.{Stands, Becomes, OnlyOpens};
@@ -15,17 +15,16 @@ pub fn write_body<D: Disk, P: Pieces>(
     pieces: &mut P,
     buffer: &mut [u8],
 ) -> Result<(), Failed>
-    requires shut { Stands (D.told disk.old) slot IsShut }
+    requires shut { Stands (D.seen disk.old).told slot IsShut }
     requires room { 0 < length buffer.old }
     requires fits { length (P.rest pieces.old) + 1 < 2 ^ 64 }
-    ensures ok { OnOk result (Becomes (D.told disk.old) (D.told disk.new) slot (λ before after.
-        IsSynced after × HasBehind (P.rest pieces.old) after.bytes)) }
-    ensures now { Becomes (D.told disk.old) (D.told disk.new) slot (λ before after. IsShut after) }
-    ensures any_moment { Leaves (OnlyOpens (D.told disk.old) slot (λ before image. ⊥))
-        (D.told disk.old) (D.told disk.new) }
-    ensures never_falls { D.faults disk.old ≤ D.faults disk.new }
-    ensures failed { OnErr result (Rose (D.faults disk.old) (D.faults disk.new)) }
-    ensures calm { OnOk result (D.faults disk.new ≡ D.faults disk.old) }
+    ensures ok { OnOk result (Becomes (D.seen disk.old).told (D.seen disk.new).told slot
+        (λ before after. IsSynced after × HasBehind (P.rest pieces.old) after.bytes)) }
+    ensures now { Becomes (D.seen disk.old).told (D.seen disk.new).told slot
+        (λ before after. IsShut after) }
+    ensures any_moment { Leaves (OnlyOpens (D.seen disk.old).told slot (λ before image. ⊥))
+        (D.seen disk.old).told (D.seen disk.new).told }
+    ensures cause { IsCounted result (D.seen disk.old).faults (D.seen disk.new).faults }
 {
     write_blocks(disk, slot, pieces, buffer)?;
     disk.sync(slot)?;
@@ -39,17 +38,16 @@ fn write_blocks<D: Disk, P: Pieces>(
     pieces: &mut P,
     buffer: &mut [u8],
 ) -> Result<(), Failed>
-    requires shut { Stands (D.told disk.old) slot IsShut }
+    requires shut { Stands (D.seen disk.old).told slot IsShut }
     requires room { 0 < length buffer.old }
     requires fits { length (P.rest pieces.old) + 1 < 2 ^ 64 }
-    ensures ok { OnOk result (Becomes (D.told disk.old) (D.told disk.new) slot (λ before after.
-        IsShut after × HasBehind (P.rest pieces.old) after.bytes)) }
-    ensures now { Becomes (D.told disk.old) (D.told disk.new) slot (λ before after. IsShut after) }
-    ensures any_moment { Leaves (OnlyOpens (D.told disk.old) slot (λ before image. ⊥))
-        (D.told disk.old) (D.told disk.new) }
-    ensures never_falls { D.faults disk.old ≤ D.faults disk.new }
-    ensures failed { OnErr result (Rose (D.faults disk.old) (D.faults disk.new)) }
-    ensures calm { OnOk result (D.faults disk.new ≡ D.faults disk.old) }
+    ensures ok { OnOk result (Becomes (D.seen disk.old).told (D.seen disk.new).told slot
+        (λ before after. IsShut after × HasBehind (P.rest pieces.old) after.bytes)) }
+    ensures now { Becomes (D.seen disk.old).told (D.seen disk.new).told slot
+        (λ before after. IsShut after) }
+    ensures any_moment { Leaves (OnlyOpens (D.seen disk.old).told slot (λ before image. ⊥))
+        (D.seen disk.old).told (D.seen disk.new).told }
+    ensures cause { IsCounted result (D.seen disk.old).faults (D.seen disk.new).faults }
 {
     let mut written = 0u64;
     loop {

@@ -1,5 +1,5 @@
-ghost use Rattle.std.specs.Prelude.{◌≡◌, ◌≤◌, ◌∷◌, [], IfOk, OnOk, OnErr, MatchBool};
-ghost use Rattle.ug_io.specs.Outside.{Rose};
+ghost use Rattle.std.specs.Prelude.{◌≡◌, ◌∷◌, [], IfOk, OnOk, OnErr, MatchBool};
+ghost use Rattle.ug_io.specs.Outside.{IsCounted};
 ghost use Rattle.ug_disk.specs.Slots.{synced, put_at};
 ghost use Rattle.ug_disk.specs.Crashes.{Leaves, MayLeaveWriting};
 ghost use Rattle.ug_checkpoint.specs.Gates.{IsSynced, IsShut, MayBeShut, MayBeLoose};
@@ -23,13 +23,11 @@ pub enum Gate {
 
 /// Whether the gate of a slot in which nothing is pending is shut.
 pub fn is_shut<D: Disk>(disk: &mut D, slot: Slot) -> Result<bool, Failed>
-    requires { Stands (D.told disk.old) slot IsSynced }
-    ensures ok { IfOk result (λ shut. Stands (D.told disk.old) slot (λ state.
+    requires { Stands (D.seen disk.old).told slot IsSynced }
+    ensures ok { IfOk result (λ shut. Stands (D.seen disk.old).told slot (λ state.
         MatchBool shut (IsShut state) (MayBeShut state))) }
-    ensures same { D.told disk.new ≡ D.told disk.old }
-    ensures never_falls { D.faults disk.old ≤ D.faults disk.new }
-    ensures failed { OnErr result (Rose (D.faults disk.old) (D.faults disk.new)) }
-    ensures calm { OnOk result (D.faults disk.new ≡ D.faults disk.old) }
+    ensures same { (D.seen disk.new).told ≡ (D.seen disk.old).told }
+    ensures cause { IsCounted result (D.seen disk.old).faults (D.seen disk.new).faults }
 {
     let mut first = [1u8; 1];
     let n = disk.read_at(slot, 0, &mut first)?;
@@ -39,14 +37,13 @@ pub fn is_shut<D: Disk>(disk: &mut D, slot: Slot) -> Result<bool, Failed>
 /// Writes the gate, and syncs the slot. Where it fails, nothing was done, or a crash may leave any
 /// byte in its place.
 pub fn write_gate<D: Disk>(disk: &mut D, slot: Slot, byte: u8) -> Result<(), Failed>
-    ensures ok { OnOk result (Becomes (D.told disk.old) (D.told disk.new) slot (λ before after.
-        after ≡ synced (put_at 0 (byte ∷ []) before.bytes))) }
-    ensures err { OnErr result (Becomes (D.told disk.old) (D.told disk.new) slot MayBeLoose) }
-    ensures any_moment { Leaves (MayLeaveWriting (D.told disk.old) slot 0 1)
-        (D.told disk.old) (D.told disk.new) }
-    ensures never_falls { D.faults disk.old ≤ D.faults disk.new }
-    ensures failed { OnErr result (Rose (D.faults disk.old) (D.faults disk.new)) }
-    ensures calm { OnOk result (D.faults disk.new ≡ D.faults disk.old) }
+    ensures ok { OnOk result (Becomes (D.seen disk.old).told (D.seen disk.new).told slot
+        (λ before after. after ≡ synced (put_at 0 (byte ∷ []) before.bytes))) }
+    ensures err { OnErr result
+        (Becomes (D.seen disk.old).told (D.seen disk.new).told slot MayBeLoose) }
+    ensures any_moment { Leaves (MayLeaveWriting (D.seen disk.old).told slot 0 1)
+        (D.seen disk.old).told (D.seen disk.new).told }
+    ensures cause { IsCounted result (D.seen disk.old).faults (D.seen disk.new).faults }
 {
     disk.write_at(slot, 0, &[byte])?;
     disk.sync(slot)?;

@@ -1,5 +1,5 @@
-ghost use Rattle.std.specs.Prelude.{◌≡◌, ◌≤◌, ◌<◌, ◌+◌, ◌^◌, Option, Some, length, OnOk, OnErr};
-ghost use Rattle.ug_io.specs.Outside.{Rose};
+ghost use Rattle.std.specs.Prelude.{◌≡◌, ◌<◌, ◌+◌, ◌^◌, Option, Some, length, OnOk, OnErr};
+ghost use Rattle.ug_io.specs.Outside.{IsCounted};
 ghost use Rattle.ug_disk.specs.Histories.{History};
 ghost use Rattle.ug_disk.specs.Crashes.{Leaves};
 ghost use Rattle.ug_checkpoint.specs.Runs.{AreSynced, Becomes, OnlyOpens, IsOldOrNew, MaySave, HasSaved};
@@ -60,27 +60,25 @@ impl Keeper {
         pieces: &mut P,
         buffer: &mut [u8],
     ) -> Result<(), Failed>
-        requires knows { Knows self.old (D.told disk.old) }
+        requires knows { Knows self.old (D.seen disk.old).told }
         requires room { 0 < length buffer.old }
         requires fits { length (P.rest pieces.old) + 1 < 2 ^ 64 }
 
         // At each moment, also where it fails, a crash leaves of the last one's slot what it could
         // leave before, and of the other, if it is open, that or the whole new body.
         ensures any_moment { Leaves
-            (OnlyOpens (D.told disk.old) (target_of self.old) (IsOldOrNew (P.rest pieces.old)))
-            (D.told disk.old) (D.told disk.new) }
+            (OnlyOpens (D.seen disk.old).told (target_of self.old) (IsOldOrNew (P.rest pieces.old)))
+            (D.seen disk.old).told (D.seen disk.new).told }
 
-        ensures saved { OnOk result (Becomes (D.told disk.old) (D.told disk.new)
+        ensures saved { OnOk result (Becomes (D.seen disk.old).told (D.seen disk.new).told
             (target_of self.old) (HasSaved (P.rest pieces.old))) }
-        ensures now { Becomes (D.told disk.old) (D.told disk.new)
+        ensures now { Becomes (D.seen disk.old).told (D.seen disk.new).told
             (target_of self.old) (MaySave (P.rest pieces.old)) }
         ensures last { OnOk result (last_of self.new ≡ Some (target_of self.old)) }
         ensures kept { OnErr result (last_of self.new ≡ last_of self.old) }
-        ensures knows { Knows self.new (D.told disk.new) }
+        ensures knows { Knows self.new (D.seen disk.new).told }
 
-        ensures never_falls { D.faults disk.old ≤ D.faults disk.new }
-        ensures failed { OnErr result (Rose (D.faults disk.old) (D.faults disk.new)) }
-        ensures calm { OnOk result (D.faults disk.new ≡ D.faults disk.old) }
+        ensures cause { IsCounted result (D.seen disk.old).faults (D.seen disk.new).faults }
     {
         let slot = self.target();
         let mut gate = self.gate(slot);

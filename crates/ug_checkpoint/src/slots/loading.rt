@@ -1,5 +1,6 @@
-ghost use Rattle.std.specs.Prelude.{◌≡◌, ◌≤◌, IfOk, OnOk, OnErr, IsErrOf};
-ghost use Rattle.ug_io.specs.Outside.{Rose};
+ghost use Rattle.std.specs.Prelude.{IfOk, OnOk};
+ghost use Rattle.ug_io.specs.Outside.{IsCounted, IsCountedBy};
+ghost use Rattle.ug_disk.specs.Causes.{read_cause};
 ghost use Rattle.ug_disk.specs.Crashes.{Leaves};
 ghost use Rattle.ug_checkpoint.specs.Runs.{Have, Settles, CouldLeave};
 
@@ -16,16 +17,18 @@ pub struct Both {
 
 /// Syncs both slots, slot 0 first, and reads all that they have.
 pub fn read_both<D: Disk>(alloc: Global, disk: &mut D) -> Result<Both, ReadError>
-    ensures have { IfOk result (λ both. Have (D.told disk.new) both.zero.items both.one.items) }
+    ensures have { IfOk result (λ both.
+        Have (D.seen disk.new).told both.zero.items both.one.items) }
     ensures could { IfOk result (λ both.
-        CouldLeave (D.told disk.old) both.zero.items both.one.items) }
-    ensures any_moment { Leaves (CouldLeave (D.told disk.old)) (D.told disk.old) (D.told disk.new) }
-    ensures never_falls { D.faults disk.old ≤ D.faults disk.new }
-    ensures fault { IsErrOf result ReadError.Fault → Rose (D.faults disk.old) (D.faults disk.new) }
-    ensures calm { OnOk result (D.faults disk.new ≡ D.faults disk.old) }
-    ensures memory { IsErrOf result ReadError.Memory → D.faults disk.new ≡ D.faults disk.old }
+        CouldLeave (D.seen disk.old).told both.zero.items both.one.items) }
+    ensures any_moment { Leaves (CouldLeave (D.seen disk.old).told)
+        (D.seen disk.old).told (D.seen disk.new).told }
+    ensures cause { IsCountedBy read_cause result
+        (D.seen disk.old).faults (D.seen disk.new).faults }
 {
-    sync_both(disk)?;
+    let Ok(()) = sync_both(disk) else {
+        return Err(ReadError::Fault);
+    };
     let zero = read_all(alloc, disk, Slot::Zero)?;
     let one = read_all(alloc, disk, Slot::One)?;
     Ok(Both { zero, one })
@@ -33,11 +36,10 @@ pub fn read_both<D: Disk>(alloc: Global, disk: &mut D) -> Result<Both, ReadError
 
 // Syncs both slots.
 fn sync_both<D: Disk>(disk: &mut D) -> Result<(), Failed>
-    ensures settled { OnOk result (Settles (D.told disk.old) (D.told disk.new)) }
-    ensures any_moment { Leaves (CouldLeave (D.told disk.old)) (D.told disk.old) (D.told disk.new) }
-    ensures never_falls { D.faults disk.old ≤ D.faults disk.new }
-    ensures failed { OnErr result (Rose (D.faults disk.old) (D.faults disk.new)) }
-    ensures calm { OnOk result (D.faults disk.new ≡ D.faults disk.old) }
+    ensures settled { OnOk result (Settles (D.seen disk.old).told (D.seen disk.new).told) }
+    ensures any_moment { Leaves (CouldLeave (D.seen disk.old).told)
+        (D.seen disk.old).told (D.seen disk.new).told }
+    ensures cause { IsCounted result (D.seen disk.old).faults (D.seen disk.new).faults }
 {
     disk.sync(Slot::Zero)?;
     disk.sync(Slot::One)?;

@@ -12,7 +12,7 @@ loop-n-preserved g c =
     so_far.same (search (rules, c.in-Ok.ensures.bytes)) in
     record {
       same = search rules;
-      came = more_came (g.D.Disk.told c.args.disk.now) c.args.slot c.loop-n.bytes.items (take n
+      came = more_came (g.D.Disk.seen c.args.disk.now).told c.args.slot c.loop-n.bytes.items (take n
           c.read_at.new.buffer) c.extend_from_slice.new.self.items
           (vec_len c.loop-n.bytes) n (vec_len c.extend_from_slice.new.self) (search rules)
           so_far.came next (search rules);

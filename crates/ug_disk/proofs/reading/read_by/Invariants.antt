@@ -4,11 +4,11 @@ use Rattle.ug_disk.proofs.reading.read_by.Given as goal
 
 abbrev pub invariant-loop-n : goal.invariant-loop-n
 invariant-loop-n g l = record {
-  same : g.D.Disk.told l.disk ≡ g.D.Disk.told l.initial.disk;
-  came : Reads (g.D.Disk.told l.initial.disk) l.slot (λ there. l.bytes.items ≡ take
+  same : (g.D.Disk.seen l.disk).told ≡ (g.D.Disk.seen l.initial.disk).told;
+  came : Reads (g.D.Disk.seen l.initial.disk).told l.slot (λ there. l.bytes.items ≡ take
       (vec_len l.bytes) there);
   room : 0 < length l.buffer;
-  calm : g.D.Disk.faults l.disk ≡ g.D.Disk.faults l.initial.disk;
+  calm : (g.D.Disk.seen l.disk).faults ≡ (g.D.Disk.seen l.initial.disk).faults;
 }
 
 abbrev pub decreases-loop-n : goal.decreases-loop-n

@@ -7,15 +7,15 @@ use Rattle.ug_disk.proofs.synced.write_synced.Goals as goal
 
 pub returns-in_err-write_at-clause-any_moment : goal.returns-in_err-write_at-clause-any_moment
 returns-in_err-write_at-clause-any_moment g c =
-    failed_write_leaves (g.D.Disk.told c.args.disk.now) (g.D.Disk.told c.write_at.new.self)
+    failed_write_leaves (g.D.Disk.seen c.args.disk.now).told (g.D.Disk.seen c.write_at.new.self).told
     c.args.slot c.args.at (length c.args.bytes.now)
     c.in_err-write_at.ensures.err
 
 pub returns-in_err-sync-clause-any_moment : goal.returns-in_err-sync-clause-any_moment
 returns-in_err-sync-clause-any_moment g c =
-    let old = g.D.Disk.told c.args.disk.now in
-    let mid = g.D.Disk.told c.write_at.new.self in
-    let new = g.D.Disk.told c.sync.new.self in
+    let old = (g.D.Disk.seen c.args.disk.now).told in
+    let mid = (g.D.Disk.seen c.write_at.new.self).told in
+    let new = (g.D.Disk.seen c.sync.new.self).told in
     let P = MayLeaveWriting old c.args.slot c.args.at (length c.args.bytes.now) in
     let wrote = c.in_ok-write_at.ensures.ok in
     let now = after_write old mid c.args.slot c.args.at c.args.bytes.now c.write_at.ensures.real
@@ -27,9 +27,9 @@ returns-in_err-sync-clause-any_moment g c =
 
 pub returns-clause-any_moment : goal.returns-clause-any_moment
 returns-clause-any_moment g c =
-    let old = g.D.Disk.told c.args.disk.now in
-    let mid = g.D.Disk.told c.write_at.new.self in
-    let new = g.D.Disk.told c.sync.new.self in
+    let old = (g.D.Disk.seen c.args.disk.now).told in
+    let mid = (g.D.Disk.seen c.write_at.new.self).told in
+    let new = (g.D.Disk.seen c.sync.new.self).told in
     let P = MayLeaveWriting old c.args.slot c.args.at (length c.args.bytes.now) in
     let wrote = c.in_ok-write_at.ensures.ok in
     let now = after_write old mid c.args.slot c.args.at c.args.bytes.now c.write_at.ensures.real

@@ -1,23 +1,22 @@
 use Rattle.std.proofs.Common.{length, drop, subst}
-use Rattle.ug_io.specs.Outside.{Rose}
 use Rattle.ug_mps.specs.Ending.{IsEndedAt, IsLineAt}
-use Rattle.ug_mps.specs.Enough.{StopsBehind}
-use Rattle.ug_mps.proofs.Gathered.{enough_last, fault_told, stops_here, stops_behind, stops_last, on_ok}
+use Rattle.ug_mps.specs.Enough.{StopsBehind, gather_cause}
+use Rattle.ug_mps.proofs.Gathered.{enough_last, stops_here, stops_behind, stops_last, on_ok}
 use Rattle.ug_mps.proofs.gathering.gather.Goals as goal
 
 pub returns-then-n-eq0-clause-enough : goal.returns-then-n-eq0-clause-enough
 returns-then-n-eq0-clause-enough g c =
-    enough_last _ _ _ _ _ _ c.if-n-eq0.true c.in-Ok.ensures.came.put c.loop-cut.invariant.came (c.in-Ok.ensures.came.end c.if-n-eq0.true)
+    enough_last _ _ _ _ _ _ c.if-n-eq0.true c.in-Ok-read_on.ensures.came.put c.loop-cut.invariant.came (c.in-Ok-read_on.ensures.came.end c.if-n-eq0.true)
 
 pub returns-then-n-eq0-clause-stops : goal.returns-then-n-eq0-clause-stops
 returns-then-n-eq0-clause-stops g c =
-    stops_last _ _ _ c.loop-cut.bytes.items _ c.in-Open.begins c.in-Ok.n (subst (λ l. IsLineAt l c.in-Open.begins (length l)) c.deref.ensures.value c.in-Open.ensures.last)
-    c.if-n-eq0.true c.loop-cut.invariant.came c.in-Ok.ensures.came.taken
+    stops_last _ _ _ c.loop-cut.bytes.items _ c.in-Open.begins c.in-Ok-read_on.n (subst (λ l. IsLineAt l c.in-Open.begins (length l)) c.deref.ensures.value c.in-Open.ensures.last)
+    c.if-n-eq0.true c.loop-cut.invariant.came c.in-Ok-read_on.ensures.came.taken
 
 pub returns-in-Ended-clause-stops : goal.returns-in-Ended-clause-stops
 returns-in-Ended-clause-stops g c =
     let i = c.loop-cut.invariant in
-    on_ok _ (StopsBehind (drop c.in-Ended.cut c.loop-cut.bytes.items) (g.S.Source.left c.loop-cut.input) (g.S.Source.left c.ended.new.input)) _
+    on_ok _ (StopsBehind (drop c.in-Ended.cut c.loop-cut.bytes.items) (g.S.Source.seen c.loop-cut.input).left (g.S.Source.seen c.ended.new.input).left) _
     (stops_behind _ _ _ c.loop-cut.bytes.items c.loop-cut.line c.loop-cut.from c.in-Ended.cut i.line i.few i.came
     (subst (λ l. IsEndedAt l c.in-Ended.cut) c.deref.ensures.value c.in-Ended.ensures)) c.ended.ensures.stops
 
@@ -26,7 +25,7 @@ returns-in-Passed-clause-stops g c =
     let i = c.loop-cut.invariant in
     stops_here _ _ c.loop-cut.bytes.items c.loop-cut.line c.loop-cut.from i.line i.few i.came
 
-pub returns-in-Err-clause-fault : goal.returns-in-Err-clause-fault
-returns-in-Err-clause-fault g c = λ is.
-    subst (λ n. Rose n (g.S.Source.faults c.read_on.new.input)) c.loop-cut.invariant.calm
-    (fault_told c.in-Err.error _ _ c.in-Err.ensures.read is)
+pub returns-in-Err-clause-cause : goal.returns-in-Err-clause-cause
+returns-in-Err-clause-cause g c =
+    subst (λ n. gather_cause c.in-Err.error n (g.S.Source.seen c.read_on.new.input).faults)
+    c.loop-cut.invariant.calm c.in-Err.ensures.cause

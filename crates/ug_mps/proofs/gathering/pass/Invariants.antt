@@ -5,8 +5,8 @@ use Rattle.ug_mps.proofs.gathering.pass.Given as goal
 
 abbrev pub invariant-loop : goal.invariant-loop
 invariant-loop g l = record {
-  left : legible_left (g.S.Source.left l.initial.input) l.initial.tail ≡ legible_left (g.S.Source.left l.input) l.tail;
+  left : legible_left (g.S.Source.seen l.initial.input).left l.initial.tail ≡ legible_left (g.S.Source.seen l.input).left l.tail;
   room : length l.buffer ≡ length l.initial.buffer;
-  calm : g.S.Source.faults l.input ≡ g.S.Source.faults l.initial.input;
-  passed : Passed l.initial.tail l.tail l.counter (g.S.Source.left l.initial.input) (g.S.Source.left l.input);
+  calm : (g.S.Source.seen l.input).faults ≡ (g.S.Source.seen l.initial.input).faults;
+  passed : Passed l.initial.tail l.tail l.counter (g.S.Source.seen l.initial.input).left (g.S.Source.seen l.input).left;
 }

@@ -1,9 +1,9 @@
-use Rattle.std.proofs.Common.{◌∙◌, IfErr, Result, subst}
+use Rattle.std.proofs.Common.{IfErr, Result, subst}
 use Rattle.ug_book.specs.Openings.{opening_book}
 use Rattle.ug_restart.specs.Openings.{IsNotSaved}
 use Rattle.ug_restart.specs.declared.fault.StartFault.{StartFault}
 use Rattle.ug_restart.specs.Starts.{IsBegun}
-use Rattle.ug_restart.proofs.Composes.{alone, beginning, both, not_saved, not_told_as, saver_last}
+use Rattle.ug_restart.proofs.Composes.{alone, beginning, both, not_saved, saver_last}
 use Rattle.ug_restart.proofs.start.begin.Goals as goal
 
 pub returns-in-Err-clause-any_moment : goal.returns-in-Err-clause-any_moment
@@ -14,7 +14,7 @@ returns-in-Err-started-clause-any_moment g c = alone _ _ _ c.load.ensures.any_mo
 
 pub returns-in-Ok-save_first-clause-any_moment : goal.returns-in-Ok-save_first-clause-any_moment
 returns-in-Ok-save_first-clause-any_moment g c =
-    both (IsBegun c.args.problem c.args.settings (g.D.Disk.told c.args.disk.now)) _ _ _
+    both (IsBegun c.args.problem c.args.settings (g.D.Disk.seen c.args.disk.now).told) _ _ _
     c.in-Ok.found c.in-Ok-started.start.saver (opening_book c.in-Ok-started.start.opening) c.in-Ok.ensures.found
     (saver_last c.in-Ok.found _ c.in-Ok-started.start.saver c.as_ref.ensures.value
     c.in-Ok-started.ensures.made.saver)
@@ -25,7 +25,7 @@ returns-in-Ok-save_first-clause-any_moment g c =
 
 pub returns-in-Err-save_first-clause-any_moment : goal.returns-in-Err-save_first-clause-any_moment
 returns-in-Err-save_first-clause-any_moment g c =
-    both (IsBegun c.args.problem c.args.settings (g.D.Disk.told c.args.disk.now)) _ _ _
+    both (IsBegun c.args.problem c.args.settings (g.D.Disk.seen c.args.disk.now).told) _ _ _
     c.in-Ok.found c.in-Ok-started.start.saver (opening_book c.in-Ok-started.start.opening) c.in-Ok.ensures.found
     (saver_last c.in-Ok.found _ c.in-Ok-started.start.saver c.as_ref.ensures.value
     c.in-Ok-started.ensures.made.saver)
@@ -33,12 +33,6 @@ returns-in-Err-save_first-clause-any_moment g c =
     c.in-Ok.ensures.found c.as_ref.ensures.value c.in-Ok-started.ensures.room
     c.in-Ok-started.ensures.made.book)
     c.load.ensures.any_moment c.save_first.ensures.any_moment
-
-pub returns-in-Err-save_first-clause-calm : goal.returns-in-Err-save_first-clause-calm
-returns-in-Err-save_first-clause-calm g c not =
-    c.save_first.ensures.calm (not_told_as c.in-Err-save_first.fault c.save_first.result
-    c.in-Err-save_first.is not)
-    ∙ c.in-Ok.ensures.calm
 
 pub returns-in-Err-save_first-clause-refused : goal.returns-in-Err-save_first-clause-refused
 returns-in-Err-save_first-clause-refused g c =

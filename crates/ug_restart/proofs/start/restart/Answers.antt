@@ -1,8 +1,8 @@
-use Rattle.std.proofs.Common.{◌∙◌, Some, subst}
+use Rattle.std.proofs.Common.{Some, subst}
 use Rattle.ug_checkpoint.specs.Recovery.{HasFound}
 use Rattle.ug_book.specs.Openings.{opening_book}
 use Rattle.ug_restart.specs.Starts.{IsGoneOn}
-use Rattle.ug_restart.proofs.Composes.{alone, both, not_told_as}
+use Rattle.ug_restart.proofs.Composes.{alone, both}
 use Rattle.ug_restart.proofs.Goings.{covered_loaded, going_on, image_of_loaded}
 use Rattle.ug_restart.proofs.start.restart.Goals as goal
 
@@ -36,7 +36,7 @@ returns-in-Ok-save_first-clause-started g c =
 pub returns-in-Ok-save_first-clause-any_moment : goal.returns-in-Ok-save_first-clause-any_moment
 returns-in-Ok-save_first-clause-any_moment g c =
     let has = subst (HasFound _ _) c.in-Ok-Some.field-0-is c.in-Ok-Some.ensures.found in
-    both (IsGoneOn c.args.problem c.args.settings (g.D.Disk.told c.args.disk.now)) _ _ _
+    both (IsGoneOn c.args.problem c.args.settings (g.D.Disk.seen c.args.disk.now).told) _ _ _
     (Some c.in-Ok-Some.found) c.in-Ok.start.saver (opening_book c.in-Ok.start.opening) has c.in-Ok.ensures.made.saver.last
     (going_on c.args.problem c.args.settings _ _ c.in-Ok-Some.found (opening_book c.in-Ok.start.opening) has
     c.in-Ok.ensures.may c.in-Ok.ensures.made.book)
@@ -45,14 +45,8 @@ returns-in-Ok-save_first-clause-any_moment g c =
 pub returns-in-Err-save_first-clause-any_moment : goal.returns-in-Err-save_first-clause-any_moment
 returns-in-Err-save_first-clause-any_moment g c =
     let has = subst (HasFound _ _) c.in-Ok-Some.field-0-is c.in-Ok-Some.ensures.found in
-    both (IsGoneOn c.args.problem c.args.settings (g.D.Disk.told c.args.disk.now)) _ _ _
+    both (IsGoneOn c.args.problem c.args.settings (g.D.Disk.seen c.args.disk.now).told) _ _ _
     (Some c.in-Ok-Some.found) c.in-Ok.start.saver (opening_book c.in-Ok.start.opening) has c.in-Ok.ensures.made.saver.last
     (going_on c.args.problem c.args.settings _ _ c.in-Ok-Some.found (opening_book c.in-Ok.start.opening) has
     c.in-Ok.ensures.may c.in-Ok.ensures.made.book)
     c.load.ensures.any_moment c.save_first.ensures.any_moment
-
-pub returns-in-Err-save_first-clause-calm : goal.returns-in-Err-save_first-clause-calm
-returns-in-Err-save_first-clause-calm g c = λ not.
-    c.save_first.ensures.calm (not_told_as c.in-Err-save_first.fault c.save_first.result
-    c.in-Err-save_first.is not)
-    ∙ c.in-Ok-Some.ensures.calm

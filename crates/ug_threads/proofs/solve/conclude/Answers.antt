@@ -12,14 +12,14 @@ use Rattle.ug_threads.proofs.solve.conclude.Goals as goal
 -- the same of the counts that are told
 saved_as_told : (Covers : Type 0) (end : End) (b c : Time) (missed unsaved : ℕ)
     → missed ≡ missed_of c.saves → unsaved ≡ unsaved_of c.saves → GoesOn Covers b c
-    → IfBook end (λ book. NoneIsCounted b.saves c.saves → FindsOne (IsOfBook book) c.told)
-    → IfBook end (λ book. (1 ≤ missed + unsaved) ⊎ FindsOne (IsOfBook book) c.told)
+    → IfBook end (λ book. NoneIsCounted b.saves c.saves → FindsOne (IsOfBook book) c.disk.told)
+    → IfBook end (λ book. (1 ≤ missed + unsaved) ⊎ FindsOne (IsOfBook book) c.disk.told)
 saved_as_told Covers end b c missed unsaved all none goes found =
     subst (λ (k : ℕ). IfBook end (λ book. (1 ≤ k + unsaved)
-    ⊎ FindsOne (IsOfBook book) c.told)) (sym all)
+    ⊎ FindsOne (IsOfBook book) c.disk.told)) (sym all)
     (subst (λ (k : ℕ). IfBook end (λ book. (1 ≤ missed_of c.saves + k)
-    ⊎ FindsOne (IsOfBook book) c.told)) (sym none)
-    (saved_or_counted end b.saves c.saves c.told goes.missed goes.unsaved found))
+    ⊎ FindsOne (IsOfBook book) c.disk.told)) (sym none)
+    (saved_or_counted end b.saves c.saves c.disk.told goes.missed goes.unsaved found))
 
 pub returns-clause-saved : goal.returns-clause-saved
 returns-clause-saved g c =
@@ -30,14 +30,14 @@ pub returns-clause-ended : goal.returns-clause-ended
 returns-clause-ended g c =
     has_ended c.args.opening.now (opening_book c.args.opening.now) c.solve-solved.result.book c.end_of-end.result
     refl c.solve-solved.ensures.ended c.end_of-end.ensures.same
-    c.end_of-end.ensures.answered c.end_of-end.ensures.right c.end_of-end.ensures.limited
+    c.end_of-end.ensures.feasible c.end_of-end.ensures.answered c.end_of-end.ensures.right c.end_of-end.ensures.limited
     c.end_of-end.ensures.stranded
 
 pub returns-clause-goes_on : goal.returns-clause-goes_on
 returns-clause-goes_on g c =
     let ended = has_ended c.args.opening.now (opening_book c.args.opening.now) c.solve-solved.result.book
     c.end_of-end.result refl c.solve-solved.ensures.ended c.end_of-end.ensures.same
-    c.end_of-end.ensures.answered c.end_of-end.ensures.right c.end_of-end.ensures.limited
+    c.end_of-end.ensures.feasible c.end_of-end.ensures.answered c.end_of-end.ensures.right c.end_of-end.ensures.limited
     c.end_of-end.ensures.stranded in
     both_go (opening_book c.args.opening.now) c.args.opening.now c.end_of-end.result _ _ _
     refl c.requires.saves ended.sound c.solve-solved.ensures.moves.1

@@ -10,6 +10,6 @@ same_covered old mid new same all = subst (λ (n : Option History). AllCovered o
 
 pub returns-clause-any_moment : goal.returns-clause-any_moment
 returns-clause-any_moment g c = λ sound now.
-    same_covered (g.D.Disk.told c.args.disk.now)
-    (g.D.Disk.told c.conclude-concluded.result.kept.disk.now) _ (search rules)
-    (time_covered _ _ _ _ _ _ _ c.conclude-concluded.ensures.goes_on sound now)
+    same_covered (g.D.Disk.seen c.args.disk.now).told
+    (g.D.Disk.seen c.conclude-concluded.result.kept.disk.now).told _ (search rules)
+    (time_covered _ _ _ _ _ c.conclude-concluded.ensures.goes_on sound now)

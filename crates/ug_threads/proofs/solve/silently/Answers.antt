@@ -7,5 +7,5 @@ pub returns-clause-ended : goal.returns-clause-ended
 returns-clause-ended g c =
     has_ended c.args.opening.now (opening_book c.args.opening.now) c.solve-solved.result.book
     c.end_of.result refl c.solve-solved.ensures.ended c.end_of.ensures.same
-    c.end_of.ensures.answered c.end_of.ensures.right c.end_of.ensures.limited
+    c.end_of.ensures.feasible c.end_of.ensures.answered c.end_of.ensures.right c.end_of.ensures.limited
     c.end_of.ensures.stranded

@@ -13,9 +13,8 @@ returns-clause-run g c =
     let is = c.settings_for-settings.ensures.value
     ∙ ap (λ (p : Instance). settings_for c.args.asked.now p) c.problem.ensures.value in
     tells_outcome
-    (HasRunAlone c.args.asked.now (g.D.Disk.told c.args.disk.now)
-    (g.D.Disk.told c.solve_new-outcome.new.disk) (g.D.Disk.faults c.args.disk.now)
-    (g.D.Disk.faults c.solve_new-outcome.new.disk) c.args.problem)
+    (HasRunAlone c.args.asked.now (g.D.Disk.seen c.args.disk.now)
+    (g.D.Disk.seen c.solve_new-outcome.new.disk) c.args.problem)
     (BeginsAlways c.args.problem)
     c.args.asked.now.bounds.gap c.solve_new-outcome.result c.tell_outcome-ended.result
     (record {
@@ -27,5 +26,5 @@ returns-clause-run g c =
 
 pub returns-clause-stored : goal.returns-clause-stored
 returns-clause-stored g c =
-    alone_stored c.args.asked.now.bounds.gap c.solve_new-outcome.result c.tell_outcome-ended.result _ _ _ _
+    alone_stored c.args.asked.now.bounds.gap c.solve_new-outcome.result c.tell_outcome-ended.result _ _
     c.tell_outcome-ended.ensures c.solve_new-outcome.ensures.untouched

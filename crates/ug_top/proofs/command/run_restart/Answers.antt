@@ -5,16 +5,13 @@ use Rattle.ug_top.proofs.command.run_restart.Goals as goal
 
 pub returns-in-Err-clause-accounted : goal.returns-in-Err-clause-accounted
 returns-in-Err-clause-accounted g c = record {
-  read = unread_read _ _ c.in-Err.ended _ _ c.in-Err.ensures.unread c.in-Err.ensures.fault
-      c.in-Err.ensures.calm;
-  stored = unread_stored _ _ c.in-Err.ended _ _ c.in-Err.ensures.unread;
+  read = unread_read _ _ c.in-Err.ended _ _ c.in-Err.ensures.unread c.in-Err.ensures.cause;
+  stored = unread_stored _ _ c.in-Err.ended _ c.in-Err.ensures.unread;
 }
 
 pub returns-clause-lines : goal.returns-clause-lines
 returns-clause-lines g c =
     restart_lines c.args.restart.now.settings
-    (outside (g.S.Source.left c.args.input.now) (g.S.Source.faults c.args.input.now)
-    (g.D.Disk.told c.args.disk.now) (g.D.Disk.faults c.args.disk.now))
-    (outside (g.S.Source.left c.read_problem.new.input) (g.S.Source.faults c.read_problem.new.input)
-    (g.D.Disk.told c.run_on.new.disk) (g.D.Disk.faults c.run_on.new.disk))
+    (outside (g.S.Source.seen c.args.input.now) (g.D.Disk.seen c.args.disk.now))
+    (outside (g.S.Source.seen c.read_problem.new.input) (g.D.Disk.seen c.run_on.new.disk))
     c.in-Ok.problem c.in-Ok.ensures.states c.run_on.result c.run_on.ensures.run

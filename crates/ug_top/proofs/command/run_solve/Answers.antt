@@ -4,9 +4,8 @@ use Rattle.ug_top.proofs.command.run_solve.Goals as goal
 
 pub returns-in-Err-clause-accounted : goal.returns-in-Err-clause-accounted
 returns-in-Err-clause-accounted g c = record {
-  read = unread_read _ _ c.in-Err.ended _ _ c.in-Err.ensures.unread c.in-Err.ensures.fault
-      c.in-Err.ensures.calm;
-  stored = unread_stored _ _ c.in-Err.ended _ _ c.in-Err.ensures.unread;
+  read = unread_read _ _ c.in-Err.ended _ _ c.in-Err.ensures.unread c.in-Err.ensures.cause;
+  stored = unread_stored _ _ c.in-Err.ended _ c.in-Err.ensures.unread;
 }
 
 pub returns-in-None-clause-lines : goal.returns-in-None-clause-lines

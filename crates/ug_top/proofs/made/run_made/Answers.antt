@@ -10,13 +10,13 @@ use Rattle.ug_top.proofs.made.run_made.Goals as goal
 
 pub returns-in_default-clause-stored : goal.returns-in_default-clause-stored
 returns-in_default-clause-stored g c =
-    untouched _ _ _ _ statuses.Memory (λ e. absurd (cc e)) refl refl
+    untouched _ _ statuses.Memory (λ e. absurd (cc e)) refl refl
 
 pub returns-clause-lines : goal.returns-clause-lines
 returns-clause-lines g c =
     let run = c.solve_new-outcome in
-    made_lines c.args.asked.now (g.D.Disk.told c.args.disk.now) (g.D.Disk.told run.new.disk)
-    (g.D.Disk.faults c.args.disk.now) (g.D.Disk.faults run.new.disk) run.result
+    made_lines c.args.asked.now (g.D.Disk.seen c.args.disk.now) (g.D.Disk.seen run.new.disk)
+    run.result
     (subst (λ (p : Instance). IsNewRun p (settings_made c.args.asked.now.solvers) run.result)
     (c.own.ensures ∙ c.in-Ok.ensures)
     (subst (λ (s : Settings). IsNewRun c.own.result s run.result)
@@ -25,5 +25,5 @@ returns-clause-lines g c =
 
 pub returns-clause-stored : goal.returns-clause-stored
 returns-clause-stored g c =
-    end_stored c.solve_new-outcome.result c.tell_end-ended.result _ _ _ _ c.tell_end-ended.ensures
+    end_stored c.solve_new-outcome.result c.tell_end-ended.result _ _ c.tell_end-ended.ensures
     c.solve_new-outcome.ensures.untouched.told c.solve_new-outcome.ensures.untouched.calm

@@ -6,18 +6,18 @@ use Rattle.ug_top.proofs.Books.{is_run}
 use Rattle.ug_top.proofs.Covering.{begun_sound, refused_covered, run_covered}
 use Rattle.ug_top.proofs.one_run.solve_saved.Goals as goal
 
-pub returns-in_err-start-clause-any_moment : goal.returns-in_err-start-clause-any_moment
-returns-in_err-start-clause-any_moment g c = λ covers.
-    refused_covered _ _ (IsBegun c.args.problem c.args.settings (g.D.Disk.told c.args.disk.now))
-    (begun_sound c.args.problem c.args.settings (g.D.Disk.told c.args.disk.now)) covers
+pub returns-in-Err-clause-any_moment : goal.returns-in-Err-clause-any_moment
+returns-in-Err-clause-any_moment g c = λ covers.
+    refused_covered _ _ (IsBegun c.args.problem c.args.settings (g.D.Disk.seen c.args.disk.now).told)
+    (begun_sound c.args.problem c.args.settings (g.D.Disk.seen c.args.disk.now).told) covers
     c.begin.ensures.any_moment
 
-pub returns-clause-ran : goal.returns-clause-ran
-returns-clause-ran g c =
-    let told = g.D.Disk.told c.args.disk.now in
-    let given = opening_book c.in_ok-start.start.opening in
-    let began = c.in_ok-start.ensures.started.book in
-    is_run (IsBegun c.args.problem c.args.settings told) (Unit {0}) c.args.problem
+pub returns-in-Ok-clause-ran : goal.returns-in-Ok-clause-ran
+returns-in-Ok-clause-ran g c =
+    let told = (g.D.Disk.seen c.args.disk.now).told in
+    let given = opening_book c.in-Ok.start.opening in
+    let began = c.in-Ok.ensures.started.book in
+    is_run (IsBegun c.args.problem c.args.settings told) (λ b t. Unit {0}) c.args.problem
     c.args.settings c.solve_from.result given began
     (record {
       its_problem = ap (λ (b : BookState). b.problem) began.is;
@@ -26,10 +26,10 @@ returns-clause-ran g c =
     (λ trusted. begun_sound c.args.problem c.args.settings told given began)
     c.solve_from.ensures.ended
 
-pub returns-clause-any_moment : goal.returns-clause-any_moment
-returns-clause-any_moment g c = λ covers.
-    let told = g.D.Disk.told c.args.disk.now in
-    run_covered _ _ _ (opening_book c.in_ok-start.start.opening) c.in_ok-start.start.saver
+pub returns-in-Ok-clause-any_moment : goal.returns-in-Ok-clause-any_moment
+returns-in-Ok-clause-any_moment g c = λ covers.
+    let told = (g.D.Disk.seen c.args.disk.now).told in
+    run_covered _ _ _ (opening_book c.in-Ok.start.opening) c.in-Ok.start.saver
     (IsBegun c.args.problem c.args.settings told) (begun_sound c.args.problem c.args.settings told)
-    c.in_ok-start.ensures.started.book covers c.begin.ensures.any_moment
-    c.in_ok-start.ensures.started.acknowledged c.solve_from.ensures.any_moment
+    c.in-Ok.ensures.started.book covers c.begin.ensures.any_moment
+    c.in-Ok.ensures.started.acknowledged c.solve_from.ensures.any_moment

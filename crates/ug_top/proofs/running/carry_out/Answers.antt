@@ -15,15 +15,11 @@ returns-in-Ok g c = inl (record {
   accounted = c.run_plan.ensures.accounted;
   alone = c.run_plan.ensures.alone;
   complete = lines_complete c.one_outcome.ensures c.in-Ok.plan
-      (outside (g.S.Source.left c.args.input.now) (g.S.Source.faults c.args.input.now)
-      (g.D.Disk.told c.args.disk.now) (g.D.Disk.faults c.args.disk.now))
-      (outside (g.S.Source.left c.run_plan.new.input) (g.S.Source.faults c.run_plan.new.input)
-      (g.D.Disk.told c.run_plan.new.disk) (g.D.Disk.faults c.run_plan.new.disk))
+      (outside (g.S.Source.seen c.args.input.now) (g.D.Disk.seen c.args.disk.now))
+      (outside (g.S.Source.seen c.run_plan.new.input) (g.D.Disk.seen c.run_plan.new.disk))
       (status_of c.run_plan.result) (text_of c.run_plan.result) c.run_plan.ensures.lines;
   read = read_to
-      (outside (g.S.Source.left c.args.input.now) (g.S.Source.faults c.args.input.now)
-      (g.D.Disk.told c.args.disk.now) (g.D.Disk.faults c.args.disk.now))
-      (outside (g.S.Source.left c.run_plan.new.input) (g.S.Source.faults c.run_plan.new.input)
-      (g.D.Disk.told c.run_plan.new.disk) (g.D.Disk.faults c.run_plan.new.disk))
+      (outside (g.S.Source.seen c.args.input.now) (g.D.Disk.seen c.args.disk.now))
+      (outside (g.S.Source.seen c.run_plan.new.input) (g.D.Disk.seen c.run_plan.new.disk))
       c.run_plan.result c.run_plan.ensures.stopped;
 })

@@ -5,7 +5,7 @@ use Rattle.ug_top.proofs.running.tell.Goals as goal
 pub returns-in-Err : goal.returns-in-Err
 returns-in-Err g c = inr (record {
   is = refl;
-  front = subst (λ (t : List ℕ). TakesFront (g.K.Sink.written c.args.out.now)
-      (g.K.Sink.written c.write_all.new.out) t) c.text.ensures c.in-Err.ensures.front;
-  fault = c.in-Err.ensures.failed;
+  front = subst (λ (t : List ℕ). TakesFront (g.K.Sink.seen c.args.out.now).written
+      (g.K.Sink.seen c.write_all.new.out).written t) c.text.ensures c.in-Err.ensures.front;
+  fault = c.in-Err.ensures.cause;
 })

@@ -4,8 +4,8 @@ use Rattle.ug_top.proofs.write.write_all.Given as goal
 
 abbrev pub invariant-loop-rest : goal.invariant-loop-rest
 invariant-loop-rest g l = record {
-  went : Went (g.K.Sink.written l.initial.out) (g.K.Sink.written l.out) l.bytes l.rest;
-  calm : g.K.Sink.faults l.out ≡ g.K.Sink.faults l.initial.out;
+  went : Went (g.K.Sink.seen l.initial.out).written (g.K.Sink.seen l.out).written l.bytes l.rest;
+  calm : (g.K.Sink.seen l.out).faults ≡ (g.K.Sink.seen l.initial.out).faults;
 }
 
 abbrev pub decreases-loop-rest : goal.decreases-loop-rest

@@ -13,7 +13,7 @@ pub returns-in_err-buffer-clause-any_moment : goal.returns-in_err-buffer-clause-
 returns-in_err-buffer-clause-any_moment g c =
     let saver = c.args.self.now in
     let image = c.args.image.now in
-    safe_before (last_of saver.keeper) saver.sequence (g.D.Disk.told c.args.disk.now) image
+    safe_before (last_of saver.keeper) saver.sequence (g.D.Disk.seen c.args.disk.now).told image
     (λ slot. has_new image slot c.requires.image c.requires.fits) c.requires.next
     (c.requires.kept.rests, c.requires.kept.images)
 
@@ -21,7 +21,7 @@ pub returns-in-Err-clause-any_moment : goal.returns-in-Err-clause-any_moment
 returns-in-Err-clause-any_moment g c =
     let saver = c.args.self.now in
     let image = c.args.image.now in
-    safe_before (last_of saver.keeper) saver.sequence (g.D.Disk.told c.args.disk.now) image
+    safe_before (last_of saver.keeper) saver.sequence (g.D.Disk.seen c.args.disk.now).told image
     (λ slot. has_new image slot c.requires.image c.requires.fits) c.requires.next
     (c.requires.kept.rests, c.requires.kept.images)
 
@@ -29,8 +29,8 @@ pub returns-in_err-saved-clause-any_moment : goal.returns-in_err-saved-clause-an
 returns-in_err-saved-clause-any_moment g c =
     let saver = c.args.self.now in
     let image = c.args.image.now in
-    let old = g.D.Disk.told c.args.disk.now in
-    let new = g.D.Disk.told c.save-saved.new.disk in
+    let old = (g.D.Disk.seen c.args.disk.now).told in
+    let new = (g.D.Disk.seen c.save-saved.new.disk).told in
     safe (last_of saver.keeper) saver.sequence old new image
     (λ slot. has_new image slot c.requires.image c.requires.fits) c.requires.next
     (c.requires.kept.rests, c.requires.kept.images)
@@ -41,8 +41,8 @@ pub returns-in_err-saved-clause-kept : goal.returns-in_err-saved-clause-kept
 returns-in_err-saved-clause-kept g c =
     let saver = c.args.self.now in
     let image = c.args.image.now in
-    let old = g.D.Disk.told c.args.disk.now in
-    let new = g.D.Disk.told c.save-saved.new.disk in
+    let old = (g.D.Disk.seen c.args.disk.now).told in
+    let new = (g.D.Disk.seen c.save-saved.new.disk).told in
     kept_failed saver.keeper c.save-saved.new.self old new saver.sequence image
     (λ slot. has_new image slot c.requires.image c.requires.fits) c.requires.kept
     c.save-saved.ensures.knows c.in_err-saved.ensures.kept
@@ -53,8 +53,8 @@ pub returns-clause-any_moment : goal.returns-clause-any_moment
 returns-clause-any_moment g c =
     let saver = c.args.self.now in
     let image = c.args.image.now in
-    let old = g.D.Disk.told c.args.disk.now in
-    let new = g.D.Disk.told c.save-saved.new.disk in
+    let old = (g.D.Disk.seen c.args.disk.now).told in
+    let new = (g.D.Disk.seen c.save-saved.new.disk).told in
     safe (last_of saver.keeper) saver.sequence old new image
     (λ slot. has_new image slot c.requires.image c.requires.fits) c.requires.next
     (c.requires.kept.rests, c.requires.kept.images)
@@ -65,8 +65,8 @@ pub returns-clause-acknowledged : goal.returns-clause-acknowledged
 returns-clause-acknowledged g c =
     let saver = c.args.self.now in
     let image = c.args.image.now in
-    let old = g.D.Disk.told c.args.disk.now in
-    let new = g.D.Disk.told c.save-saved.new.disk in
+    let old = (g.D.Disk.seen c.args.disk.now).told in
+    let new = (g.D.Disk.seen c.save-saved.new.disk).told in
     finds (last_of saver.keeper) saver.sequence old new image
     (λ slot. has_new image slot c.requires.image c.requires.fits) c.requires.next
     (c.requires.kept.rests, c.requires.kept.images)
@@ -77,8 +77,8 @@ pub returns-clause-kept : goal.returns-clause-kept
 returns-clause-kept g c =
     let saver = c.args.self.now in
     let image = c.args.image.now in
-    let old = g.D.Disk.told c.args.disk.now in
-    let new = g.D.Disk.told c.save-saved.new.disk in
+    let old = (g.D.Disk.seen c.args.disk.now).told in
+    let new = (g.D.Disk.seen c.save-saved.new.disk).told in
     kept_saved saver.keeper c.save-saved.new.self old new saver.sequence image
     (λ slot. has_new image slot c.requires.image c.requires.fits) c.requires.kept
     c.save-saved.ensures.knows c.in_ok-saved.ensures.last
@@ -87,31 +87,31 @@ returns-clause-kept g c =
 
 pub returns-in_err-buffer-clause-alone : goal.returns-in_err-buffer-clause-alone
 returns-in_err-buffer-clause-alone g c =
-    let told = g.D.Disk.told c.args.disk.now in
+    let told = (g.D.Disk.seen c.args.disk.now).told in
     let slot = target_of c.args.self.now.keeper in
     becomes_same (λ a b. Unit {0}) told slot (stands_all (λ s. Unit {0}) told slot (λ s. tt))
 
 pub returns-in-Err-clause-alone : goal.returns-in-Err-clause-alone
 returns-in-Err-clause-alone g c =
-    let told = g.D.Disk.told c.args.disk.now in
+    let told = (g.D.Disk.seen c.args.disk.now).told in
     let slot = target_of c.args.self.now.keeper in
     becomes_same (λ a b. Unit {0}) told slot (stands_all (λ s. Unit {0}) told slot (λ s. tt))
 
 pub returns-in_err-saved-clause-alone : goal.returns-in_err-saved-clause-alone
 returns-in_err-saved-clause-alone g c =
-    becomes_is _ (λ a b. Unit {0}) (g.D.Disk.told c.args.disk.now) (g.D.Disk.told c.save-saved.new.disk)
+    becomes_is _ (λ a b. Unit {0}) (g.D.Disk.seen c.args.disk.now).told (g.D.Disk.seen c.save-saved.new.disk).told
     (target_of c.args.self.now.keeper) c.save-saved.ensures.now (λ a b r. tt)
 
 pub returns-clause-alone : goal.returns-clause-alone
 returns-clause-alone g c =
-    becomes_is _ (λ a b. Unit {0}) (g.D.Disk.told c.args.disk.now) (g.D.Disk.told c.save-saved.new.disk)
+    becomes_is _ (λ a b. Unit {0}) (g.D.Disk.seen c.args.disk.now).told (g.D.Disk.seen c.save-saved.new.disk).told
     (target_of c.args.self.now.keeper) c.save-saved.ensures.now (λ a b r. tt)
 
 pub returns-clause-written : goal.returns-clause-written
 returns-clause-written g c =
     let image = c.args.image.now in
-    let old = g.D.Disk.told c.args.disk.now in
-    let new = g.D.Disk.told c.save-saved.new.disk in
+    let old = (g.D.Disk.seen c.args.disk.now).told in
+    let new = (g.D.Disk.seen c.save-saved.new.disk).told in
     let slot = target_of c.args.self.now.keeper in
     stands_after (HasSaved (body_of image)) (λ state. Has state.bytes image) old new slot
     (subst (λ (b : List ℕ). Becomes old new slot (HasSaved b))

@@ -20,7 +20,7 @@ StaysShut before after = IsShut after
 pub loop-slot-init : goal.loop-slot-init
 loop-slot-init g c =
     let body = g.P.Pieces.rest c.args.pieces.now in
-    let old = g.D.Disk.told c.args.disk.now in
+    let old = (g.D.Disk.seen c.args.disk.now).told in
     record {
       state = becomes_same (Front body 0) old c.args.slot
           (stands_is IsShut (λ s. Front body 0 s s) old c.args.slot c.requires.shut
@@ -41,7 +41,7 @@ returns-then-n-eq0-clause-ok g c =
     let so_far = c.loop-slot.invariant in
     let left = ap (λ (l : List ℕ). length l) so_far.rest in
     let T : Change = λ a b. IsShut b × HasBehind body b.bytes in
-    becomes_is (Front body w) T (g.D.Disk.told c.args.disk.now) (g.D.Disk.told c.loop-slot.disk)
+    becomes_is (Front body w) T (g.D.Disk.seen c.args.disk.now).told (g.D.Disk.seen c.loop-slot.disk).told
     c.args.slot so_far.state (λ a b front. (
       front.0,
       behind_all body b.bytes w (omega
@@ -58,8 +58,8 @@ returns-in_err-write_at-clause-now g c =
     let body = g.P.Pieces.rest c.args.pieces.now in
     let w = c.loop-slot.written in
     let size = length (take c.next-n.result c.next-n.new.buffer) in
-    becomes_fails (Front body w) StaysShut (g.D.Disk.told c.args.disk.now)
-    (g.D.Disk.told c.loop-slot.disk) (g.D.Disk.told c.write_at.new.self) c.args.slot
+    becomes_fails (Front body w) StaysShut (g.D.Disk.seen c.args.disk.now).told
+    (g.D.Disk.seen c.loop-slot.disk).told (g.D.Disk.seen c.write_at.new.self).told c.args.slot
     (loosened (w + 1) size) c.loop-slot.invariant.state c.write_at.ensures.real
     c.in_err-write_at.ensures.err (λ a b front real. front.0)
     (λ a b bytes front real left. torn body w size a b bytes front left)
@@ -69,9 +69,9 @@ returns-in_err-write_at-clause-any_moment g c =
     let body = g.P.Pieces.rest c.args.pieces.now in
     let w = c.loop-slot.written in
     let size = length (take c.next-n.result c.next-n.new.buffer) in
-    let old = g.D.Disk.told c.args.disk.now in
-    let mid = g.D.Disk.told c.loop-slot.disk in
-    let new = g.D.Disk.told c.write_at.new.self in
+    let old = (g.D.Disk.seen c.args.disk.now).told in
+    let mid = (g.D.Disk.seen c.loop-slot.disk).told in
+    let new = (g.D.Disk.seen c.write_at.new.self).told in
     let failed = c.in_err-write_at.ensures.err in
     only_fails Nothing StaysShut old mid new c.args.slot (loosened (w + 1) size)
     c.loop-slot.invariant.leaves failed
@@ -96,9 +96,9 @@ loop-slot-preserved g c =
     let w = c.loop-slot.written in
     let n = c.next-n.result in
     let piece = take n c.next-n.new.buffer in
-    let old = g.D.Disk.told c.args.disk.now in
-    let mid = g.D.Disk.told c.loop-slot.disk in
-    let new = g.D.Disk.told c.write_at.new.self in
+    let old = (g.D.Disk.seen c.args.disk.now).told in
+    let mid = (g.D.Disk.seen c.loop-slot.disk).told in
+    let new = (g.D.Disk.seen c.write_at.new.self).told in
     let so_far = c.loop-slot.invariant in
     let left = ap (λ (l : List ℕ). length l) so_far.rest in
     let next : piece ≡ take n (drop w body) =

@@ -7,15 +7,15 @@ use Rattle.ug_checkpoint.proofs.slots.blocks.write_blocks.Given as goal
 abbrev pub invariant-loop-slot : goal.invariant-loop-slot
 invariant-loop-slot g l =
     let body = g.P.Pieces.rest l.initial.pieces in
-    let old = g.D.Disk.told l.initial.disk in
+    let old = (g.D.Disk.seen l.initial.disk).told in
     record {
-      state : Becomes old (g.D.Disk.told l.disk) l.slot (λ before after.
+      state : Becomes old (g.D.Disk.seen l.disk).told l.slot (λ before after.
           IsShut after × HasBehind (take l.written body) after.bytes);
-      leaves : Leaves (OnlyOpens old l.slot (λ before image. ⊥)) old (g.D.Disk.told l.disk);
+      leaves : Leaves (OnlyOpens old l.slot (λ before image. ⊥)) old (g.D.Disk.seen l.disk).told;
       rest : g.P.Pieces.rest l.pieces ≡ drop l.written body;
       within : l.written ≤ length body;
       room : 0 < length l.buffer;
-      calm : g.D.Disk.faults l.disk ≡ g.D.Disk.faults l.initial.disk;
+      calm : (g.D.Disk.seen l.disk).faults ≡ (g.D.Disk.seen l.initial.disk).faults;
     }
 
 abbrev pub decreases-loop-slot : goal.decreases-loop-slot

@@ -15,9 +15,9 @@ closed a b shut = shut_opens_nothing b shut
 
 pub returns-in_err-sync-clause-any_moment : goal.returns-in_err-sync-clause-any_moment
 returns-in_err-sync-clause-any_moment g c =
-    let old = g.D.Disk.told c.args.disk.now in
-    let mid = g.D.Disk.told c.write_blocks.new.disk in
-    let new = g.D.Disk.told c.sync.new.self in
+    let old = (g.D.Disk.seen c.args.disk.now).told in
+    let mid = (g.D.Disk.seen c.write_blocks.new.disk).told in
+    let new = (g.D.Disk.seen c.sync.new.self).told in
     let failed = c.in_err-sync.ensures.err in
     only_fails Nothing StaysShut old mid new c.args.slot (λ s. s)
     c.write_blocks.ensures.any_moment failed
@@ -27,9 +27,9 @@ returns-in_err-sync-clause-any_moment g c =
 
 pub returns-clause-any_moment : goal.returns-clause-any_moment
 returns-clause-any_moment g c =
-    let old = g.D.Disk.told c.args.disk.now in
-    let mid = g.D.Disk.told c.write_blocks.new.disk in
-    let new = g.D.Disk.told c.sync.new.self in
+    let old = (g.D.Disk.seen c.args.disk.now).told in
+    let mid = (g.D.Disk.seen c.write_blocks.new.disk).told in
+    let new = (g.D.Disk.seen c.sync.new.self).told in
     let synced_now = c.in_ok-sync.ensures.ok in
     only_steps Nothing StaysShut old mid new c.args.slot (λ s. synced s.bytes)
     c.write_blocks.ensures.any_moment synced_now

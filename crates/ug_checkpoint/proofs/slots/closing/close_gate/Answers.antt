@@ -19,9 +19,9 @@ next a b c found loose =
 
 pub returns-in_err-write_gate-clause-now : goal.returns-in_err-write_gate-clause-now
 returns-in_err-write_gate-clause-now g c =
-    let old = g.D.Disk.told c.args.disk.now in
-    let mid = g.D.Disk.told c.look.new.disk in
-    let new = g.D.Disk.told c.write_gate.new.disk in
+    let old = (g.D.Disk.seen c.args.disk.now).told in
+    let mid = (g.D.Disk.seen c.look.new.disk).told in
+    let new = (g.D.Disk.seen c.write_gate.new.disk).told in
     let found = subst (λ shut. Becomes old mid c.args.slot (Looked shut)) c.if-not-branch.true
     c.in_ok-look.ensures.ok in
     let T : Change = λ a b. Opens (MayLeave a) b × MayBeShut b in
@@ -30,9 +30,9 @@ returns-in_err-write_gate-clause-now g c =
 
 pub returns-in_err-write_gate-clause-any_moment : goal.returns-in_err-write_gate-clause-any_moment
 returns-in_err-write_gate-clause-any_moment g c =
-    let old = g.D.Disk.told c.args.disk.now in
-    let mid = g.D.Disk.told c.look.new.disk in
-    let new = g.D.Disk.told c.write_gate.new.disk in
+    let old = (g.D.Disk.seen c.args.disk.now).told in
+    let mid = (g.D.Disk.seen c.look.new.disk).told in
+    let new = (g.D.Disk.seen c.write_gate.new.disk).told in
     let found = subst (λ shut. Becomes old mid c.args.slot (Looked shut)) c.if-not-branch.true
     c.in_ok-look.ensures.ok in
     only_joins MayLeave MayLeave (Looked false) old mid new c.args.slot c.look.ensures.any_moment
@@ -43,9 +43,9 @@ returns-in_err-write_gate-clause-any_moment g c =
 
 pub returns-in_ok-write_gate-clause-any_moment : goal.returns-in_ok-write_gate-clause-any_moment
 returns-in_ok-write_gate-clause-any_moment g c =
-    let old = g.D.Disk.told c.args.disk.now in
-    let mid = g.D.Disk.told c.look.new.disk in
-    let new = g.D.Disk.told c.write_gate.new.disk in
+    let old = (g.D.Disk.seen c.args.disk.now).told in
+    let mid = (g.D.Disk.seen c.look.new.disk).told in
+    let new = (g.D.Disk.seen c.write_gate.new.disk).told in
     let found = subst (λ shut. Becomes old mid c.args.slot (Looked shut)) c.if-not-branch.true
     c.in_ok-look.ensures.ok in
     only_joins MayLeave MayLeave (Looked false) old mid new c.args.slot c.look.ensures.any_moment

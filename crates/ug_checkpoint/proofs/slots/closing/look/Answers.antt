@@ -8,13 +8,13 @@ use Rattle.ug_checkpoint.proofs.slots.closing.look.Goals as goal
 pub returns-in_err-sync-in-Torn-clause-any_moment :
     goal.returns-in_err-sync-in-Torn-clause-any_moment
 returns-in_err-sync-in-Torn-clause-any_moment g c =
-    fails_within (g.D.Disk.told c.args.disk.now) (g.D.Disk.told c.sync.new.self) c.args.slot
+    fails_within (g.D.Disk.seen c.args.disk.now).told (g.D.Disk.seen c.sync.new.self).told c.args.slot
     c.in_err-sync-in-Torn.ensures.err
 
 pub returns-in_ok-sync-in-Torn-clause-any_moment : goal.returns-in_ok-sync-in-Torn-clause-any_moment
 returns-in_ok-sync-in-Torn-clause-any_moment g c =
-    let old = g.D.Disk.told c.args.disk.now in
+    let old = (g.D.Disk.seen c.args.disk.now).told in
     subst (λ l. Leaves (OnlyOpens old c.args.slot MayLeave) old l)
     (sym c.is_shut-in-Torn.ensures.same)
-    (syncs_within old (g.D.Disk.told c.sync.new.self) c.args.slot c.sync.ensures.real
+    (syncs_within old (g.D.Disk.seen c.sync.new.self).told c.args.slot c.sync.ensures.real
     c.in_ok-sync-in-Torn.ensures.ok)

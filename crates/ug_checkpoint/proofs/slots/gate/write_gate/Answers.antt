@@ -11,7 +11,7 @@ use Rattle.ug_checkpoint.proofs.slots.gate.write_gate.Goals as goal
 
 pub returns-in_err-write_at-clause-any_moment : goal.returns-in_err-write_at-clause-any_moment
 returns-in_err-write_at-clause-any_moment g c =
-    failed_write_leaves (g.D.Disk.told c.args.disk.now) (g.D.Disk.told c.write_at.new.self)
+    failed_write_leaves (g.D.Disk.seen c.args.disk.now).told (g.D.Disk.seen c.write_at.new.self).told
     c.args.slot 0 1 c.in_err-write_at.ensures.err
 
 -- it was written, and the slot was real before
@@ -30,9 +30,9 @@ still_loose byte a b was real = inr (written_is_loose a b byte b.bytes was.0 was
 
 pub returns-in_err-sync-clause-err : goal.returns-in_err-sync-clause-err
 returns-in_err-sync-clause-err g c =
-    let old = g.D.Disk.told c.args.disk.now in
-    let mid = g.D.Disk.told c.write_at.new.self in
-    let new = g.D.Disk.told c.sync.new.self in
+    let old = (g.D.Disk.seen c.args.disk.now).told in
+    let mid = (g.D.Disk.seen c.write_at.new.self).told in
+    let new = (g.D.Disk.seen c.sync.new.self).told in
     let byte = c.args.byte in
     let same : Change = λ a b. b ≡ a in
     let wrote = becomes_steps same (WasWritten byte) old old mid c.args.slot
@@ -45,9 +45,9 @@ returns-in_err-sync-clause-err g c =
 
 pub returns-in_err-sync-clause-any_moment : goal.returns-in_err-sync-clause-any_moment
 returns-in_err-sync-clause-any_moment g c =
-    let old = g.D.Disk.told c.args.disk.now in
-    let mid = g.D.Disk.told c.write_at.new.self in
-    let new = g.D.Disk.told c.sync.new.self in
+    let old = (g.D.Disk.seen c.args.disk.now).told in
+    let mid = (g.D.Disk.seen c.write_at.new.self).told in
+    let new = (g.D.Disk.seen c.sync.new.self).told in
     let P = MayLeaveWriting old c.args.slot 0 1 in
     let wrote = c.in_ok-write_at.ensures.ok in
     let here = any_place old c.args.slot in
@@ -60,9 +60,9 @@ returns-in_err-sync-clause-any_moment g c =
 
 pub returns-clause-any_moment : goal.returns-clause-any_moment
 returns-clause-any_moment g c =
-    let old = g.D.Disk.told c.args.disk.now in
-    let mid = g.D.Disk.told c.write_at.new.self in
-    let new = g.D.Disk.told c.sync.new.self in
+    let old = (g.D.Disk.seen c.args.disk.now).told in
+    let mid = (g.D.Disk.seen c.write_at.new.self).told in
+    let new = (g.D.Disk.seen c.sync.new.self).told in
     let P = MayLeaveWriting old c.args.slot 0 1 in
     let wrote = c.in_ok-write_at.ensures.ok in
     let here = any_place old c.args.slot in

@@ -24,9 +24,9 @@ Written body before after = IsSynced after × HasBehind body after.bytes
 pub returns-in_err-write_body-clause-any_moment : goal.returns-in_err-write_body-clause-any_moment
 returns-in_err-write_body-clause-any_moment g c =
     let body = g.P.Pieces.rest c.args.pieces.now in
-    let old = g.D.Disk.told c.args.disk.now in
-    let closed = g.D.Disk.told c.close_gate.new.disk in
-    let new = g.D.Disk.told c.write_body.new.disk in
+    let old = (g.D.Disk.seen c.args.disk.now).told in
+    let closed = (g.D.Disk.seen c.close_gate.new.disk).told in
+    let new = (g.D.Disk.seen c.write_body.new.disk).told in
     only_joins (IsOldOrNew body) Nothing (Closed c.close_gate.new.gate) old closed new c.args.slot
     (only_wider MayLeave (IsOldOrNew body) old closed c.args.slot c.close_gate.ensures.any_moment
     (λ a image left. inl left)) c.close_gate.ensures.now
@@ -35,10 +35,10 @@ returns-in_err-write_body-clause-any_moment g c =
 pub returns-clause-any_moment : goal.returns-clause-any_moment
 returns-clause-any_moment g c =
     let body = g.P.Pieces.rest c.args.pieces.now in
-    let old = g.D.Disk.told c.args.disk.now in
-    let closed = g.D.Disk.told c.close_gate.new.disk in
-    let wrote = g.D.Disk.told c.write_body.new.disk in
-    let new = g.D.Disk.told c.open_gate.new.disk in
+    let old = (g.D.Disk.seen c.args.disk.now).told in
+    let closed = (g.D.Disk.seen c.close_gate.new.disk).told in
+    let wrote = (g.D.Disk.seen c.write_body.new.disk).told in
+    let new = (g.D.Disk.seen c.open_gate.new.disk).told in
     let first = only_joins (IsOldOrNew body) Nothing (Closed c.close_gate.new.gate) old closed wrote
     c.args.slot
     (only_wider MayLeave (IsOldOrNew body) old closed c.args.slot c.close_gate.ensures.any_moment

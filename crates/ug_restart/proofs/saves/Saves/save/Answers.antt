@@ -1,10 +1,12 @@
-use Rattle.std.proofs.Common.{◌≡◌, Some, Err, IfSome, refl, ap}
+use Rattle.std.proofs.Common.{◌≡◌, Some, IfSome, refl, subst}
+use Rattle.ug_checkpoint.specs.Causes.{save_cause}
+use Rattle.ug_checkpoint.specs.declared.error.SaveError.{SaveError}
 use Rattle.ug_checkpoint.specs.Savers.{last_slot, next_slot}
 use Rattle.ug_snapshot.specs.Moments.{IsCovered}
 use Rattle.ug_restart.proofs.Covering.{covered_failed, covered_saved, nothing_done, saving}
 use Rattle.ug_restart.proofs.Lasts.{last_now, last_still}
 use Rattle.ug_restart.proofs.Going.{failed, made, not_made, unmade}
-use Rattle.ug_restart.proofs.Making.{memory_is_no_fault, of_some, ok_is_no_fault}
+use Rattle.ug_restart.proofs.Making.{of_some}
 use Rattle.ug_restart.proofs.saves.Saves.save.Goals as goal
 
 pub returns-in_default-clause-any_moment : goal.returns-in_default-clause-any_moment
@@ -13,7 +15,7 @@ returns-in_default-clause-any_moment g c =
 
 pub returns-in_default-clause-goes_on : goal.returns-in_default-clause-goes_on
 returns-in_default-clause-goes_on g c =
-    not_made (IfSome c.args.image IsCovered) c.args.self.now c.one_more-self.result _ _ _ _
+    not_made (IfSome c.args.image IsCovered) c.args.self.now c.one_more-self.result _ _
     c.one_more-self.ensures.least refl refl
 
 pub returns-then-not-is_short-clause-any_moment : goal.returns-then-not-is_short-clause-any_moment
@@ -23,7 +25,7 @@ returns-then-not-is_short-clause-any_moment g c =
 pub returns-then-not-is_short-clause-goes_on : goal.returns-then-not-is_short-clause-goes_on
 returns-then-not-is_short-clause-goes_on g c =
     not_made (IfSome c.args.image IsCovered) c.args.self.now
-    c.one_more-self-then-not-is_short.result _ _ _ _
+    c.one_more-self-then-not-is_short.result _ _
     c.one_more-self-then-not-is_short.ensures.least refl refl
 
 pub returns-in-Ok-clause-any_moment : goal.returns-in-Ok-clause-any_moment
@@ -33,13 +35,12 @@ returns-in-Ok-clause-any_moment g c =
 
 pub returns-in-Ok-clause-goes_on : goal.returns-in-Ok-clause-goes_on
 returns-in-Ok-clause-goes_on g c =
-    made (IfSome c.args.image IsCovered) c.args.self.now c.save.new.self _ _ _ _
-    (c.in-Ok.ensures.calm (ok_is_no_fault c.in-Ok.field-0))
+    made (IfSome c.args.image IsCovered) c.args.self.now c.save.new.self _ _ c.in-Ok.ensures.cause
     (λ covers now. covered_saved c.args.self.now.saver c.save.new.self _ _ c.in-Some.image
     (of_some c.args.image IsCovered c.in-Some.image covers c.in-Some.is)
     c.save.ensures.any_moment
     (last_now (last_slot c.save.new.self) (next_slot c.args.self.now.saver)
-    (g.D.Disk.told c.save.new.disk) c.in-Some.image c.in-Ok.ensures.last
+    (g.D.Disk.seen c.save.new.disk).told c.in-Some.image c.in-Ok.ensures.last
     c.in-Ok.ensures.written) now)
 
 pub returns-in-Err-Memory-clause-any_moment : goal.returns-in-Err-Memory-clause-any_moment
@@ -50,15 +51,16 @@ returns-in-Err-Memory-clause-any_moment g c =
 pub returns-in-Err-Memory-clause-goes_on : goal.returns-in-Err-Memory-clause-goes_on
 returns-in-Err-Memory-clause-goes_on g c =
     unmade (IfSome c.args.image IsCovered) c.args.self.now c.save.new.self
-    c.one_more-self-in-Err-Memory.result _ _ _ _
+    c.one_more-self-in-Err-Memory.result _ _
     c.one_more-self-in-Err-Memory.ensures.least
-    (c.in-Err-Memory.ensures.calm
-    (memory_is_no_fault c.in-Err-Memory.field-0 c.in-Err-Memory.field-0-is))
+    (subst (λ (e : SaveError). save_cause e (g.D.Disk.seen c.args.disk.now).faults
+    (g.D.Disk.seen c.save.new.disk).faults) c.in-Err-Memory.field-0-is
+    c.in-Err-Memory.ensures.cause)
     (λ covers now. covered_failed c.args.self.now.saver c.save.new.self _ _ c.in-Some.image
     (of_some c.args.image IsCovered c.in-Some.image covers c.in-Some.is)
     c.save.ensures.any_moment
     (last_still (last_slot c.args.self.now.saver) (last_slot c.save.new.self)
-    (g.D.Disk.told c.args.disk.now) (g.D.Disk.told c.save.new.disk)
+    (g.D.Disk.seen c.args.disk.now).told (g.D.Disk.seen c.save.new.disk).told
     c.in-Err-Memory.ensures.err_last c.save.ensures.alone) now)
 
 pub returns-in-Err-Fault-clause-any_moment : goal.returns-in-Err-Fault-clause-any_moment
@@ -69,12 +71,15 @@ returns-in-Err-Fault-clause-any_moment g c =
 pub returns-in-Err-Fault-clause-goes_on : goal.returns-in-Err-Fault-clause-goes_on
 returns-in-Err-Fault-clause-goes_on g c =
     failed (IfSome c.args.image IsCovered) c.args.self.now c.save.new.self
-    c.one_more-self-in-Err-Fault.result _ _ _ _
-    c.one_more-self-in-Err-Fault.ensures.least c.one_more-self-in-Err-Fault.ensures.rises
-    c.save.ensures.never_falls (c.in-Err-Fault.ensures.fault (ap Err c.in-Err-Fault.field-0-is))
+    c.one_more-self-in-Err-Fault.result _ _
+    c.one_more-self-in-Err-Fault.ensures.least c.one_more-self-in-Err-Fault.ensures.most
+    c.one_more-self-in-Err-Fault.ensures.rises
+    (subst (λ (e : SaveError). save_cause e (g.D.Disk.seen c.args.disk.now).faults
+    (g.D.Disk.seen c.save.new.disk).faults) c.in-Err-Fault.field-0-is
+    c.in-Err-Fault.ensures.cause)
     (λ covers now. covered_failed c.args.self.now.saver c.save.new.self _ _ c.in-Some.image
     (of_some c.args.image IsCovered c.in-Some.image covers c.in-Some.is)
     c.save.ensures.any_moment
     (last_still (last_slot c.args.self.now.saver) (last_slot c.save.new.self)
-    (g.D.Disk.told c.args.disk.now) (g.D.Disk.told c.save.new.disk)
+    (g.D.Disk.seen c.args.disk.now).told (g.D.Disk.seen c.save.new.disk).told
     c.in-Err-Fault.ensures.err_last c.save.ensures.alone) now)
