@@ -21,9 +21,9 @@ use Rattle.ug_checkpoint.specs.declared.saver.Saver.{Saver}
 use Rattle.ug_checkpoint.specs.Bodies.{Has, Stores}
 use Rattle.ug_checkpoint.proofs.Finding.{has_one}
 use Rattle.ug_checkpoint.specs.Recovery.{HasFound, Recovered, chosen}
-use Rattle.ug_checkpoint.specs.Savers.{CouldFind, IsLast, last_slot}
+use Rattle.ug_checkpoint.specs.Savers.{CouldFind, IsLast, last_slot, sequence_of}
 use Rattle.ug_restart.specs.Openings.{IsNotSaved, IsSafeFirst}
-use Rattle.ug_restart.specs.Starts.{IsBegun, IsNotBegun, IsSafeStart, IsSpent, begun}
+use Rattle.ug_restart.specs.Starts.{IsBegun, IsNotBegun, IsSafeStart, IsSpent, begun, sequence_in}
 use Rattle.ug_restart.specs.Books.{HasNoFirst, IsSaverOf}
 use Rattle.ug_restart.specs.declared.fault.StartFault.{StartFault}
 use Rattle.ug_restart.specs.declared.fault.StartFault.TheVariants.{Memory, DiskFault, BadImage, NoCheckpoint, OtherProblem, SmallerGap, Spent}
@@ -181,6 +181,12 @@ pub saver_last : (found copied : Option Found) (saver : Saver) → copied ≡ fo
 saver_last found copied saver same is =
     subst (λ o. MatchOption o (last_slot saver ≡ None) (λ f. last_slot saver ≡ Some f.slot)) same
     is.last
+
+-- and its sequence
+pub saver_sequence : (found copied : Option Found) (saver : Saver) → copied ≡ found
+    → IsSaverOf copied saver → sequence_of saver ≡ sequence_in found
+saver_sequence found copied saver same is =
+    subst (λ (o : Option Found). sequence_of saver ≡ sequence_in o) same is.sequence
 
 -- why no new book is made is why none begins
 pub not_first : (old mid : Option History) (found copied : Option Found) (fault : StartFault)

@@ -29,9 +29,10 @@ pub saver_of : (lent : Option (Bor Found)) (saver : Saver)
     → ((old new : Option History) → HasFound old new (option_copied lent) → IsKept saver new)
     → ¬ IsSpent (option_copied lent) → IsSaverOf (option_copied lent) saver
 saver_of None saver same last kept room =
-    record { last = last; kept = kept; room = omega (arith, same) }
+    record { last = last; sequence = same; kept = kept; room = omega (arith, same) }
 saver_of (Some lent) saver same last kept room = record {
   last = last;
+  sequence = same;
   kept = kept;
   room = subst (λ n. n < 2 ^ 62) (sym same)
       (lt_of_not-le (λ great. room (inr great)));
@@ -44,6 +45,7 @@ pub next_saver : (found : Found) (saver : Saver) → sequence_of saver ≡ found
     → ¬ IsSpent (Some found) → IsSaverOf (Some found) saver
 next_saver found saver same last kept room = record {
   last = last;
+  sequence = same;
   kept = kept;
   room = subst (λ n. n < 2 ^ 62) (sym same) (lt_of_not-le (λ great. room (inr great)));
 }

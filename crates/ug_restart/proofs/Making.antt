@@ -1,5 +1,5 @@
 -- What may be saved next.
-use Rattle.std.proofs.Common.{◌≡◌, Option, Some, IfSome, ℕ, ◌+◌, ◌^◌, ◌≤◌, ◌<◌, sym, ap, subst, arith}
+use Rattle.std.proofs.Common.{◌≡◌, Option, Some, IfSome, ℕ, ◌+◌, ◌^◌, ◌≤◌, ◌<◌, sym, ◌∙◌, ap, subst, arith}
 use Rattle.ug_image.specs.declared.image.Image.{Image}
 use Rattle.ug_image.specs.Images.{IsImage}
 use Rattle.ug_checkpoint.specs.declared.saver.Saver.{Saver}
@@ -31,7 +31,7 @@ pub next_under : (saver : Saver) (image made : Image) (sequence : ℕ) → IsIma
 next_under saver image made sequence is next fits same =
     subst (IsNext saver) (sym same) (record {
       is = image_under image sequence is (omega (arith, next)) fits;
-      above = omega (arith, next);
+      next = next;
     })
 
 pub covered_under : (image made : Image) (sequence : ℕ) → made ≡ under sequence image
@@ -43,7 +43,7 @@ pub next_of_book : (saver : Saver) (b : BookState) (made : Image) (sequence : �
     → IsNext saver made
 next_of_book saver b made sequence is next moment = record {
   is = is;
-  above = omega (arith, next, ap (λ (i : Image). i.sequence) moment.is);
+  next = ap (λ (i : Image). i.sequence) moment.is ∙ next;
 }
 
 -- what is known of the image that there is

@@ -10,7 +10,7 @@ use Rattle.ug_checkpoint.specs.Recovery.{HasFound}
 use Rattle.ug_checkpoint.specs.Savers.{IsKept, last_slot, sequence_of}
 use Rattle.ug_book.specs.Openings.{IsCoveredOpening, IsOpening, opening_book}
 use Rattle.ug_snapshot.specs.Moments.{IsCovered}
-use Rattle.ug_restart.specs.Starts.{IsFirstDifference, IsSpent, begun, gone_on}
+use Rattle.ug_restart.specs.Starts.{IsFirstDifference, IsSpent, begun, gone_on, sequence_in}
 use Rattle.ug_restart.specs.declared.start.Start.{Start}
 use Rattle.ug_restart.specs.declared.fault.StartFault.{StartFault}
 use Rattle.ug_restart.specs.declared.fault.StartFault.TheVariants.{Memory}
@@ -20,6 +20,7 @@ use Rattle.ug_restart.specs.declared.fault.StartFault.TheVariants.{SmallerGap, S
 -- a saver of a disk on which this was found: it keeps what was found until an image is acknowledged
 pub record IsSaverOf (found : Option Found) (saver : Saver) : Type 0 where
   pub last : MatchOption found (last_slot saver ≡ None) (λ f. last_slot saver ≡ Some f.slot)
+  pub sequence : sequence_of saver ≡ sequence_in found
   pub kept : (old new : Option History) → HasFound old new found → IsKept saver new
   pub room : sequence_of saver < 2 ^ 62
 

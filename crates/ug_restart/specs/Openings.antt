@@ -1,5 +1,5 @@
 -- What stands on the disk when a run has begun.
-use Rattle.std.specs.Prelude.{◌≡◌, ◌⊎◌, ℕ, List, Option, Some}
+use Rattle.std.specs.Prelude.{◌≡◌, ◌⊎◌, ℕ, ◌+◌, List, Option, Some}
 use Rattle.ug_disk.specs.Histories.{History}
 use Rattle.ug_rules.specs.State.{BookState}
 use Rattle.ug_checkpoint.specs.declared.found.Found.{Found}
@@ -10,7 +10,7 @@ use Rattle.ug_checkpoint.specs.Savers.{last_slot, sequence_of}
 use Rattle.ug_checkpoint.specs.Runs.{CouldLeave}
 use Rattle.ug_snapshot.specs.Moments.{IsCovered, IsImageOf}
 use Rattle.ug_book.specs.Openings.{IsCoveredOpening, IsOpening, opening_book}
-use Rattle.ug_restart.specs.Starts.{IsFirstImage}
+use Rattle.ug_restart.specs.Starts.{IsFirstImage, sequence_in}
 use Rattle.ug_restart.specs.declared.start.Start.{Start}
 use Rattle.ug_restart.specs.declared.fault.StartFault.{StartFault}
 use Rattle.ug_restart.specs.declared.fault.StartFault.TheVariants.{Memory, DiskFault}
@@ -52,3 +52,9 @@ abbrev pub IsNotSaved : StartFault → Type 0
 IsNotSaved Memory = Unit {0}
 IsNotSaved DiskFault = Unit {0}
 IsNotSaved fault = ⊥
+
+-- the image of a start has the sequence after that of an image that was found, or the first
+pub record IsOneAbove (told : Option History) (s : Start) : Type 0 where
+  pub found : Option Found
+  pub could : CouldFind told found
+  pub one : sequence_of s.saver ≡ sequence_in found + 1

@@ -65,7 +65,7 @@ pub record IsOfBook (b : BookState) (made : Image) : Type 0 where
 -- it may be saved next
 pub record IsNext (saver : Saver) (made : Image) : Type 0 where
   pub is : IsImage made
-  pub above : sequence_of saver < made.sequence
+  pub next : made.sequence ≡ sequence_of saver + 1
 
 -- no save was counted, and each count could have risen
 pub record NoneIsCounted (old new : Saves) : Type 0 where
@@ -74,8 +74,9 @@ pub record NoneIsCounted (old new : Saves) : Type 0 where
   pub missed_room : missed_of old < 2 ^ 64 - 1
   pub unsaved_room : unsaved_of old < 2 ^ 64 - 1
 
--- of the two counts at most one rose, and by one
-pub record IsCountedByOne (old new : Saves) : Type 0 where
+-- of the two counts at most one rose, and by one; so did the sequence of the last image
+pub record StepsByOne (old new : Saves) : Type 0 where
   pub missed : missed_of new ≤ missed_of old + 1
   pub unsaved : unsaved_of new ≤ unsaved_of old + 1
   pub one : (missed_of new ≡ missed_of old) ⊎ (unsaved_of new ≡ unsaved_of old)
+  pub sequence : sequence_of (saver_of new) ≤ sequence_of (saver_of old) + 1

@@ -1,4 +1,4 @@
-ghost use Rattle.std.specs.Prelude.{◌≡◌, ◌≤◌, ◌<◌, ◌<ℤ◌, ◌≤ℤ◌, ◌^◌, length, IfOk, IfErr, OnOk};
+ghost use Rattle.std.specs.Prelude.{◌≡◌, ◌≤◌, ◌<◌, ◌<ℤ◌, ◌≤ℤ◌, ◌+◌, ◌^◌, length, IfOk, IfErr, OnOk};
 ghost use Rattle.std.specs.Option.{option_copied};
 ghost use Rattle.ug_io.specs.Outside.{IsCountedBy};
 ghost use Rattle.ug_disk.specs.Crashes.{Leaves};
@@ -67,6 +67,7 @@ pub fn save_first<D: Disk>(
     requires room { sequence_of saver.old < 2 ^ 62 }
     ensures acknowledged { OnOk result (IsAcknowledgedStart (D.seen disk.new).told
         (opening_book opening.now) saver.new) }
+    ensures sequence { OnOk result (sequence_of saver.new ≡ sequence_of saver.old + 1) }
     ensures kept { IsKept saver.new (D.seen disk.new).told }
     ensures refused { IfErr result IsNotSaved }
     ensures any_moment { Leaves

@@ -4,7 +4,7 @@ ghost use Rattle.ug_rules.specs.Books.{IsSoundBook};
 ghost use Rattle.ug_checkpoint.specs.Savers.{IsKept};
 ghost use Rattle.ug_snapshot.specs.Moments.{IsCovered};
 ghost use Rattle.ug_book.specs.Openings.{IsCoveredOpening};
-ghost use Rattle.ug_restart.specs.Saves.{IsCountedByOne, IsDue, IsNext, IsOfBook, IsOfSnapshot, IsPassedOver, NoneIsCounted, begun, calls_of, missed_of, one_more, opening_of, saver_of, unsaved_of};
+ghost use Rattle.ug_restart.specs.Saves.{IsDue, IsNext, IsOfBook, IsOfSnapshot, IsPassedOver, NoneIsCounted, StepsByOne, begun, calls_of, missed_of, one_more, opening_of, saver_of, unsaved_of};
 ghost use Rattle.ug_restart.specs.Moments.{FindsOne, IsSafeSave};
 ghost use Rattle.ug_restart.specs.Going.{GoesOn, IsUntouched, time};
 
@@ -70,7 +70,7 @@ impl Saves {
             (D.seen disk.old).told (D.seen disk.new).told }
         ensures goes_on { GoesOn (IsCoveredOpening (opening_of self.old))
             (time self.old (D.seen disk.old)) (time self.new (D.seen disk.new)) }
-        ensures by_one { IsCountedByOne self.old self.new }
+        ensures by_one { StepsByOne self.old self.new }
     {
         if self.passes_over(&snapshot) {
             drop(snapshot);
@@ -94,7 +94,7 @@ impl Saves {
             (D.seen disk.old).told (D.seen disk.new).told }
         ensures goes_on { GoesOn (IsSoundBook book.now)
             (time self.old (D.seen disk.old)) (time self.new (D.seen disk.new)) }
-        ensures by_one { IsCountedByOne self.old self.new }
+        ensures by_one { StepsByOne self.old self.new }
     {
         let image = of_book(alloc, &self.saver, book);
         self.save(alloc, disk, image);
@@ -124,7 +124,7 @@ impl Saves {
             (D.seen disk.old).told (D.seen disk.new).told }
         ensures goes_on { GoesOn (IfSome image IsCovered)
             (time self.old (D.seen disk.old)) (time self.new (D.seen disk.new)) }
-        ensures by_one { IsCountedByOne self.old self.new }
+        ensures by_one { StepsByOne self.old self.new }
     {
         let Some(image) = image else {
             self.unsaved = one_more(self.unsaved);

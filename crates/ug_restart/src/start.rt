@@ -4,7 +4,7 @@ ghost use Rattle.ug_disk.specs.Crashes.{Leaves};
 ghost use Rattle.ug_rules.specs.Books.{AreSettings};
 ghost use Rattle.ug_restart.specs.Faults.{start_cause};
 ghost use Rattle.ug_restart.specs.Starts.{IsBegun, IsGoneOn, IsNotBegun, IsNotGoneOn, IsSafeStart};
-ghost use Rattle.ug_restart.specs.Openings.{CoversWhatIsFound, IsStart};
+ghost use Rattle.ug_restart.specs.Openings.{CoversWhatIsFound, IsOneAbove, IsStart};
 
 use crate::books::{first_start, next_start};
 use crate::fault::StartFault;
@@ -35,6 +35,7 @@ pub fn begin<D: Disk>(
     requires { AreSettings settings }
     ensures started { IfOk result (IsStart
         (IsBegun problem settings (D.seen disk.old).told) (Unit {0}) (D.seen disk.new).told) }
+    ensures sequence { IfOk result (IsOneAbove (D.seen disk.old).told) }
     ensures refused { IfErr result (IsNotBegun (D.seen disk.old).told (D.seen disk.new).told) }
     ensures any_moment { Leaves
         (IsSafeStart (D.seen disk.old).told (IsBegun problem settings (D.seen disk.old).told))
@@ -76,6 +77,7 @@ pub fn restart<D: Disk>(
     requires { AreSettings settings }
     ensures started { IfOk result (IsStart (IsGoneOn problem settings (D.seen disk.old).told)
         (CoversWhatIsFound (D.seen disk.old).told) (D.seen disk.new).told) }
+    ensures sequence { IfOk result (IsOneAbove (D.seen disk.old).told) }
     ensures refused { IfErr result (IsNotGoneOn problem settings
         (D.seen disk.old).told (D.seen disk.new).told) }
     ensures any_moment { Leaves

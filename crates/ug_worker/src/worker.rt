@@ -1,7 +1,7 @@
 //! A worker, wherever it sits.
 
-ghost use Rattle.std.specs.Prelude.{◌≡◌, ◌<◌, [], length, IfErr, IfOk};
-ghost use Rattle.ug_worker.specs.Workers.{LeftAs};
+ghost use Rattle.std.specs.Prelude.{◌≡◌, ◌<◌, [], length, IfErr, IfOk, OnOk};
+ghost use Rattle.ug_worker.specs.Workers.{HandsOver, LeftAs};
 
 use crate::seat::Seat;
 use crate::took::Took;
@@ -111,7 +111,9 @@ fn steps<S: Seat>(seat: &mut S, task: &mut Task) -> Result<(), AllocError> {
 }
 
 // Hands so many boxes, or fewer where not two are left.
-fn hands<S: Seat>(seat: &mut S, task: &mut Task, collect: u32) -> Result<(), AllocError> {
+fn hands<S: Seat>(seat: &mut S, task: &mut Task, collect: u32) -> Result<(), AllocError>
+    ensures { OnOk result (HandsOver collect task.old task.new) }
+{
     for _ in 0..collect {
         let Some(handed) = task.hand()? else {
             return Ok(());

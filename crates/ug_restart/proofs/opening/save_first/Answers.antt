@@ -1,3 +1,5 @@
+use Rattle.std.proofs.Common.{ℕ, ◌+◌, ◌∙◌, ap}
+use Rattle.ug_image.specs.declared.image.Image.{Image}
 use Rattle.ug_book.specs.Openings.{opening_book}
 use Rattle.ug_restart.proofs.First.{not_begun, saving}
 use Rattle.ug_restart.proofs.opening.save_first.Goals as goal
@@ -15,3 +17,8 @@ pub returns-in-Ok-saved-clause-any_moment : goal.returns-in-Ok-saved-clause-any_
 returns-in-Ok-saved-clause-any_moment g c =
     saving c.args.saver.now _ _ (opening_book c.args.opening.now) c.in-Ok.image _
     c.in-Ok.ensures.moment c.save-saved.ensures.any_moment
+
+pub returns-in-Ok-saved-clause-sequence : goal.returns-in-Ok-saved-clause-sequence
+returns-in-Ok-saved-clause-sequence g c =
+    c.in-Ok-saved.ensures.sequence ∙ ap (λ (i : Image). i.sequence) c.in-Ok.ensures.moment.is
+    ∙ ap (λ (n : ℕ). n + 1) c.sequence.ensures

@@ -1,13 +1,31 @@
-use Rattle.std.proofs.Common.{◌≡◌, Some, IfSome, refl, subst}
+use Rattle.std.proofs.Common.{◌≡◌, Some, IfSome, inl, refl, subst, arith}
 use Rattle.ug_checkpoint.specs.Causes.{save_cause}
 use Rattle.ug_checkpoint.specs.declared.error.SaveError.{SaveError}
 use Rattle.ug_checkpoint.specs.Savers.{last_slot, next_slot}
 use Rattle.ug_snapshot.specs.Moments.{IsCovered}
+use Rattle.ug_restart.specs.Saves.{IsNext}
 use Rattle.ug_restart.proofs.Covering.{covered_failed, covered_saved, nothing_done, saving}
 use Rattle.ug_restart.proofs.Lasts.{last_now, last_still}
 use Rattle.ug_restart.proofs.Going.{failed, made, not_made, unmade}
 use Rattle.ug_restart.proofs.Making.{of_some}
 use Rattle.ug_restart.proofs.saves.Saves.save.Goals as goal
+
+pub save-requires-clause-next : goal.save-requires-clause-next
+save-requires-clause-next g c =
+    let is = of_some c.args.image (IsNext c.args.self.now.saver) c.in-Some.image c.requires.image
+    c.in-Some.is in
+    omega (arith, is.next)
+
+pub returns-in-Ok-clause-by_one : goal.returns-in-Ok-clause-by_one
+returns-in-Ok-clause-by_one g c =
+    let is = of_some c.args.image (IsNext c.args.self.now.saver) c.in-Some.image c.requires.image
+    c.in-Some.is in
+    record {
+      missed = omega arith;
+      unsaved = omega arith;
+      one = inl refl;
+      sequence = omega (arith, c.in-Ok.ensures.sequence, is.next);
+    }
 
 pub returns-in_default-clause-any_moment : goal.returns-in_default-clause-any_moment
 returns-in_default-clause-any_moment g c =
