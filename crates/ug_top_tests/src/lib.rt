@@ -13,6 +13,8 @@ mod commands;
 #[cfg(test)]
 mod expect;
 #[cfg(test)]
+mod failing_disks;
+#[cfg(test)]
 mod fault_texts;
 #[cfg(test)]
 mod long_texts;
