@@ -131,28 +131,28 @@ impl Line {
 }
 
 #[tactic(auto, unfolding(crate::specs::Spelling::count_field))]
-fn count_bytes(n: u32) -> [u8; 4]
+pub fn count_bytes(n: u32) -> [u8; 4]
     ensures { result ≡ count_field n }
 {
     n.to_be_bytes()
 }
 
 #[tactic(auto, unfolding(crate::specs::Spelling::bound_field))]
-fn bound_bytes(n: i32) -> [u8; 4]
+pub fn bound_bytes(n: i32) -> [u8; 4]
     ensures { result ≡ bound_field n }
 {
     n.to_be_bytes()
 }
 
 #[tactic(auto, unfolding(crate::specs::Spelling::long_field))]
-fn long_bytes(n: u64) -> [u8; 8]
+pub fn long_bytes(n: u64) -> [u8; 8]
     ensures { result ≡ long_field n }
 {
     n.to_be_bytes()
 }
 
 #[tactic(auto, unfolding(crate::specs::Spelling::number_field))]
-fn number_bytes(n: i128) -> [u8; 16]
+pub fn number_bytes(n: i128) -> [u8; 16]
     ensures { result ≡ number_field n }
 {
     n.to_be_bytes()
