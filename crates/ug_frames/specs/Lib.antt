@@ -1,3 +1,13 @@
 pub mod Ranges
 pub mod Orders
 pub mod Reports
+pub mod Fits
+pub mod Spelling
+pub mod OrderFrames
+pub mod ReportFrames
+pub mod Fronts
+pub mod Behind
+pub mod Reading
+pub mod OrderReading
+pub mod ReportReading
+pub mod Laws

@@ -1,0 +1,14 @@
+use Rattle.std.proofs.Common.{◌^◌, arith, subst, sym}
+use Rattle.ug_nodes.specs.Changes.{IsRising}
+use Rattle.ug_fields.proofs.Simple.{count_reader}
+use Rattle.ug_frames.proofs.Changed.{changes_rise}
+use Rattle.ug_frames.proofs.reading.changes.changes_at.Goals as goal
+
+pub new-requires : goal.new-requires
+new-requires c =
+    let counted = (count_reader (10 ^ 4)).taken c.args.bytes.now c.in_ok-count.count
+    c.in_ok-count.rest.now (λ i. omega (arith, c.type_inv.bytes i)) c.in_ok-count.ensures in
+    subst IsRising (sym c.into_vec.ensures)
+    (changes_rise c.in_ok-count.count c.in_ok-count.rest.now
+    c.in_ok-changes.rest.now c.in_ok-changes.changes c.in_ok-changes.field-0-0-1
+    counted.0.rest_fits c.in_ok-changes.ensures)
