@@ -3,8 +3,8 @@
 //! ug_branch for what the messages say.
 //! `Order` and `Report` are plain data; `ticket` says of which assignment one speaks, and which it
 //! is that speaks of none. `IsOrder` and `IsReport`, in specs/, say which values a frame can carry,
-//! and `spelled` which bytes the frame is. `encode_order` and `encode_report` put a frame at the end
-//! of a buffer; `decode_order` and `decode_report` tell of any bytes whether a frame stands at
+//! and `spelled` which bytes the frame is. `encode_order` and `encode_report` put a frame at the
+//! end of a buffer; `decode_order` and `decode_report` tell of any bytes whether a frame stands at
 //! their front, and whose.
 #![tactic(auto)]
 

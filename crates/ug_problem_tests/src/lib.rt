@@ -1,14 +1,16 @@
 //! Tests of problems and of what is worked out of one problem alone: numbers and their scales,
-//! limits, records and images byte for byte, changes and boxes, the steps of a task, alone and
-//! beside a slow search over whole boxes, made instances. They stand apart from the crates that
-//! they test, from ug_problem to ug_base and ug_gen. Nothing here is proved but that the tests are
-//! safe and end.
+//! limits, records, images and frames byte for byte, changes and boxes, the steps of a task, alone
+//! and beside a slow search over whole boxes, made instances. They stand apart from the crates that
+//! they test, from ug_problem to ug_base, ug_frames and ug_gen. Nothing here is proved but that the
+//! tests are safe and end.
 #![tactic(auto)]
 
 #[cfg(test)]
 mod decimals;
 #[cfg(test)]
 mod expect;
+#[cfg(test)]
+mod frames;
 #[cfg(test)]
 mod images;
 #[cfg(test)]

@@ -1,0 +1,9 @@
+//! Frames of orders and reports, byte for byte.
+
+mod bytes;
+mod lengths;
+mod limits;
+mod numbers;
+mod orders;
+mod reports;
+mod sides;
