@@ -29,6 +29,7 @@ fn whole<M>(read: Result<M, Fault>, used: usize) -> Result<Decoded<M>, AllocErro
 
 /// What stands at the front of the bytes, of orders. Memory is wanting only for one that is there.
 pub fn decode_order(alloc: Global, bytes: &[u8]) -> Result<Decoded<Order>, AllocError>
+    // The answer is right, and no other is.
     ensures read { IfOk result (IsDecoded IsCarried spelled bytes.now) }
     ensures only { (other : Decoded Order) → IsDecoded IsCarried spelled bytes.now other
         → IfOk result (λ read. read ≡ other) }
@@ -43,6 +44,7 @@ pub fn decode_order(alloc: Global, bytes: &[u8]) -> Result<Decoded<Order>, Alloc
 
 /// What stands at the front of the bytes, of reports. Memory is wanting only for one that is there.
 pub fn decode_report(alloc: Global, bytes: &[u8]) -> Result<Decoded<Report>, AllocError>
+    // The answer is right, and no other is.
     ensures read { IfOk result (IsDecoded IsCarriedReport spelled_report bytes.now) }
     ensures only { (other : Decoded Report)
         → IsDecoded IsCarriedReport spelled_report bytes.now other
