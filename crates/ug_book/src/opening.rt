@@ -4,8 +4,8 @@ ghost use Rattle.ug_rules.specs.Books.{AreSettings};
 ghost use Rattle.ug_book.specs.Openings.{IsOpening, whole};
 
 use std::alloc::{AllocError, Global};
-use ug_lists::Items;
-use ug_nodes::{Change, Changes};
+use ug_lists::{Items, Same};
+use ug_nodes::Changes;
 use ug_problem::Shared;
 use ug_rows::Point;
 use ug_rules::Settings;
@@ -87,8 +87,8 @@ impl Opening {
     {
         self.run == other.run
             && is_same_settings(self.settings, other.settings)
-            && is_same_best(self.best.as_ref(), other.best.as_ref())
-            && are_same_boxes(self.boxes.as_slice(), other.boxes.as_slice())
+            && self.best.is(&other.best)
+            && self.boxes.is(&other.boxes)
             && self.problem.problem().is(other.problem.problem())
     }
 }
@@ -116,71 +116,4 @@ fn is_same_settings(a: Settings, b: Settings) -> bool
     ensures { IsTrue result ↔ (a ≡ b) }
 {
     a == b
-}
-
-#[tactic(auto, using(ug_problem::proofs::SameLists::one_differs))]
-fn are_same_values(a: &[i32], b: &[i32]) -> bool
-    ensures { IsTrue result ↔ (a.now ≡ b.now) }
-{
-    if a.len() != b.len() {
-        return false;
-    }
-    for j in 0..a.len() {
-        if a[j] != b[j] {
-            return false;
-        }
-    }
-    true
-}
-
-fn is_same_point(a: &Point, b: &Point) -> bool
-    ensures { IsTrue result ↔ (a.now ≡ b.now) }
-{
-    are_same_values(a.as_slice(), b.as_slice())
-}
-
-fn is_same_best(a: Option<&Point>, b: Option<&Point>) -> bool
-    ensures { IsTrue result ↔ (option_copied a.entry ≡ option_copied b.entry) }
-{
-    match (a, b) {
-        (None, None) => true,
-        (Some(a), Some(b)) => is_same_point(a, b),
-        _ => false,
-    }
-}
-
-#[tactic(auto, using(ug_problem::proofs::SameLists::one_differs))]
-fn are_same_changes(a: &[Change], b: &[Change]) -> bool
-    ensures { IsTrue result ↔ (a.now ≡ b.now) }
-{
-    if a.len() != b.len() {
-        return false;
-    }
-    for j in 0..a.len() {
-        if a[j] != b[j] {
-            return false;
-        }
-    }
-    true
-}
-
-fn is_same_box(a: &Changes, b: &Changes) -> bool
-    ensures { IsTrue result ↔ (a.now ≡ b.now) }
-{
-    are_same_changes(a.as_slice(), b.as_slice())
-}
-
-#[tactic(auto, using(ug_problem::proofs::SameLists::one_differs))]
-fn are_same_boxes(a: &[Changes], b: &[Changes]) -> bool
-    ensures { IsTrue result ↔ (a.now ≡ b.now) }
-{
-    if a.len() != b.len() {
-        return false;
-    }
-    for j in 0..a.len() {
-        if !is_same_box(&a[j], &b[j]) {
-            return false;
-        }
-    }
-    true
 }

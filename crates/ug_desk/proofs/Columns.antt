@@ -1,5 +1,5 @@
 -- A box that changes make, compared column by column.
-use Rattle.std.proofs.Common.{◌≡◌, ℕ, ◌+◌, ◌<◌, ◌≤◌, List, length, inl, inr, subst, sym, ◌∙◌, ap, arith}
+use Rattle.std.proofs.Common.{◌≡◌, ◌≢◌, ℕ, ◌+◌, ◌<◌, ◌≤◌, List, length, inl, inr, subst, sym, ◌∙◌, ap, arith}
 use Rattle.std.proofs.Math.Nat.{eq-or-lt_of_le}
 use Rattle.ug_rows.specs.declared.area.Interval.{Interval}
 use Rattle.ug_rows.specs.Boxes.{interval_at}
@@ -7,6 +7,10 @@ use Rattle.ug_nodes.specs.declared.change.Change.{Change}
 use Rattle.ug_nodes.specs.Changes.{IsListed, IsRising, area_by, change_at, change_bounds}
 use Rattle.ug_nodes.proofs.Areas.{area_by_changed, area_by_kept}
 use Rattle.ug_desk.specs.Areas.{AreBefore, IsNext, IsNotNext}
+
+-- boxes that differ in one column are not the same
+pub one_differs : (a b : List Interval) (k : ℕ) → interval_at a k ≢ interval_at b k → a ≢ b
+one_differs a b k ne same = ne (ap (λ (l : List Interval). interval_at l k) same)
 
 -- no change is of a column before the first
 pub none_before : (changes : List Change) → AreBefore changes 0 0

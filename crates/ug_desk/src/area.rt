@@ -13,7 +13,7 @@ pub fn is_area_by(root: &IntBox, changes: &Changes, area: &IntBox) -> bool
     is_made(root.as_slice(), changes.as_slice(), area.as_slice())
 }
 
-#[tactic(auto, using(ug_problem::proofs::SameLists::one_differs, ug_nodes::proofs::Areas::area_by_width, crate::proofs::Columns::none_before))]
+#[tactic(auto, using(crate::proofs::Columns::one_differs, ug_nodes::proofs::Areas::area_by_width, crate::proofs::Columns::none_before))]
 fn is_made(root: &[Interval], changes: &[Change], area: &[Interval]) -> bool
     requires { IsRising changes.now }
     ensures { IsTrue result ↔ (area.now ≡ area_by root.now changes.now) }

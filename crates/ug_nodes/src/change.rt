@@ -2,6 +2,7 @@ ghost use Rattle.std.specs.Prelude.{◌≡◌, ◌↔◌, IsSome, IsTrue, IfSome
 ghost use Rattle.ug_nodes.specs.Changes.{change_bounds, IsRising};
 
 use std::marker::Model;
+use ug_lists::{Same, are_same};
 use ug_rows::Interval;
 
 /// A column whose bounds are not the root's.
@@ -22,6 +23,12 @@ impl Change {
             low: self.low,
             high: self.high,
         }
+    }
+}
+
+impl Same for Change {
+    fn is(&self, other: &Change) -> bool {
+        *self == *other
     }
 }
 
@@ -68,6 +75,12 @@ impl Changes {
         ensures rising { IsRising self.now }
     {
         self.changes.as_slice()
+    }
+}
+
+impl Same for Changes {
+    fn is(&self, other: &Changes) -> bool {
+        are_same(self.as_slice(), other.as_slice())
     }
 }
 

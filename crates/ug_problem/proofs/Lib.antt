@@ -9,7 +9,6 @@ pub mod Numerals
 pub mod OneText
 pub mod Powers
 pub mod Printing
-pub mod SameLists
 pub mod Significant
 pub mod Values
 pub mod Words

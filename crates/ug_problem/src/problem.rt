@@ -16,11 +16,10 @@ use crate::error::ProblemError;
 use crate::feasible::find_broken;
 use crate::limits::check_limits;
 use crate::print::{shown, spell};
-use crate::same::{same_columns, same_objective, same_rows};
 use crate::standings::{Standing, Standings, copied_standings, gather, standings_of};
 use std::alloc::{AllocError, Global};
 use std::marker::Model;
-use ug_lists::Text;
+use ug_lists::{Same, Text};
 use ug_rows::{IntBox, Interval, Objective, Point, floor, value};
 
 /// A bounded integer program: columns, rows and an objective, all within the limits.
@@ -286,9 +285,9 @@ impl Problem {
     pub fn is(&self, other: &Problem) -> bool
         ensures { IsTrue result ↔ (self.now ≡ other.now) }
     {
-        same_objective(&self.objective, &other.objective)
-            && same_columns(self.columns.as_slice(), other.columns.as_slice())
-            && same_rows(self.rows.as_slice(), other.rows.as_slice())
+        self.objective.is(&other.objective)
+            && self.columns.is(&other.columns)
+            && self.rows.is(&other.rows)
     }
 
     /// The first way in which a point is not feasible. It takes no memory.

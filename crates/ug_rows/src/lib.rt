@@ -8,6 +8,7 @@
 mod area;
 mod point;
 mod row;
+mod same;
 mod sums;
 
 pub use area::{IntBox, Interval, below, has_point, is_closed_within, is_fixed};

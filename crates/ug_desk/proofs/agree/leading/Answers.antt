@@ -3,8 +3,8 @@ use Rattle.std.proofs.lemmas.List.{get_or_default}
 use Rattle.ug_desk.proofs.Agreeing.{agree_to}
 use Rattle.ug_desk.proofs.agree.leading.Goals as goal
 
-pub returns-then-not-is_same : goal.returns-then-not-is_same
-returns-then-not-is_same c =
+pub returns-then-not-is : goal.returns-then-not-is
+returns-then-not-is c =
     let handed = c.args.handed.now in
     let taken = c.args.taken.now in
     let k = c.loop-k.k in
@@ -13,8 +13,7 @@ returns-then-not-is_same c =
     let first : k < length handed = omega arith in
     let one = c.index-handed-k.is ∙ get_or_default handed k c.index-handed-k.result [] first in
     let two = c.index-taken-k.is ∙ get_or_default taken k c.index-taken-k.result [] there in
-    let yes = c.is_same.ensures.1
-    (c.as_slice.ensures ∙ (one ∙ (same ∙ sym (c.as_slice-in-loop-k.ensures ∙ two)))) in
+    let yes = c.is.ensures.1 (one ∙ (same ∙ sym two)) in
     cc)
 
 pub returns : goal.returns
