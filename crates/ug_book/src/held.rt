@@ -5,7 +5,7 @@ ghost use Rattle.ug_rules.specs.State.{node_at, nodes_in, nodes_of, raced_node};
 
 use std::alloc::{AllocError, Global};
 use ug_nodes::Node;
-use ug_pool::{Entry, Pool};
+use ug_pool::{Entry, OpenNodes, Pool};
 use ug_ranks::{Ranks, State};
 use ug_stock::Stock;
 

@@ -18,6 +18,7 @@ use crate::held::held_nodes;
 use crate::working::is_any_working;
 use std::alloc::AllocError;
 use ug_nodes::{Node, primitive};
+use ug_pool::OpenNodes;
 use ug_problem::Shared;
 use ug_ranks::State;
 use ug_rows::Point;

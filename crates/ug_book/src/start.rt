@@ -12,7 +12,7 @@ use crate::decide::current_cutoff;
 use crate::opening::{Boxes, Opening, copied};
 use std::alloc::{AllocError, Global};
 use ug_nodes::{Changes, Line, Name, Node, Ticket};
-use ug_pool::Pool;
+use ug_pool::{OpenNodes, Pool};
 use ug_ranks::Ranks;
 use ug_stock::{Queue, Run, Stock};
 

@@ -6,7 +6,7 @@ use std::alloc::{AllocError, Global};
 use std::process::Abort;
 use ug_frames::Order;
 use ug_nodes::{Changes, Line, Name, Node, Ticket};
-use ug_pool::Pool;
+use ug_pool::{OpenNodes, Pool};
 use ug_ranks::Ranks;
 use ug_stock::{Queue, Stock, Terms};
 

@@ -3,7 +3,7 @@ ghost use Rattle.std.specs.Prelude.{◌≡◌, ◌<◌};
 use crate::expect::{holds, same};
 use std::alloc::{AllocError, Global};
 use ug_nodes::{Changes, Line, Name, Node, Ticket};
-use ug_pool::{PlainPool, Pool};
+use ug_pool::{OpenNodes, PlainPool, Pool};
 
 fn name(number: u64, hand: u64) -> Name {
     let ticket = Ticket { run: 1, number };
@@ -33,15 +33,9 @@ fn hand(node: Option<Node>) -> Option<u64> {
     Some(hand)
 }
 
-fn put(alloc: Global, pool: &mut Pool, hand: u64, floor: i128) -> Result<(), AllocError> {
-    pool.reserve(1)?;
-    pool.put(node(alloc, hand)?, floor);
-    Ok(())
-}
-
-fn put_plain(
+fn put<P: OpenNodes>(
     alloc: Global,
-    pool: &mut PlainPool,
+    pool: &mut P,
     hand: u64,
     floor: i128,
 ) -> Result<(), AllocError> {
@@ -164,7 +158,7 @@ fn put_both(
     floor: i128,
 ) -> Result<(), AllocError> {
     put(alloc, pool, hand, floor)?;
-    put_plain(alloc, plain, hand, floor)
+    put(alloc, plain, hand, floor)
 }
 
 fn drop_below_both(

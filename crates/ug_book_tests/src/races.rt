@@ -7,7 +7,7 @@ use std::alloc::{AllocError, Global};
 use ug_branch::Params;
 use ug_frames::Order;
 use ug_nodes::{Changes, Line, Name, Node, Ticket};
-use ug_pool::{Entry, Pool};
+use ug_pool::{Entry, OpenNodes, Pool};
 use ug_ranks::{Ranks, State};
 use ug_stock::{Queue, Stock};
 

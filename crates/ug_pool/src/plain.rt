@@ -3,6 +3,7 @@ ghost use Rattle.ug_pool.specs.Pools.{IsInOrder, IsPut, IsTaken, IsDroppedTo, wi
 ghost use Rattle.ug_pool.specs.Plain.{IsLeast, in_order};
 
 use crate::entry::Entry;
+use crate::open_nodes::OpenNodes;
 use std::alloc::{AllocError, Global};
 use std::marker::Model;
 use ug_nodes::{Line, Node, is_ancestor};
@@ -36,49 +37,31 @@ impl PlainPool {
             spare: 0,
         }
     }
+}
 
-    /// How many nodes the pool has.
-    pub fn len(&self) -> usize
-        ensures value { result ≡ length self.now.entries }
-        ensures order { IsInOrder self.now.entries }
-    {
+impl OpenNodes for PlainPool {
+    ghost pooled = { λ pool. pool };
+
+    fn len(&self) -> usize {
         self.entries.len()
     }
 
-    /// How many more nodes may be put in.
-    pub fn spare(&self) -> usize
-        ensures { result ≡ self.now.spare }
-    {
+    fn spare(&self) -> usize {
         self.spare
     }
 
-    /// Takes memory for `n` nodes more, if there is less to spare.
-    pub fn reserve(&mut self, n: usize) -> Result<(), AllocError>
-        ensures ok { OnOk result (self.new ≡ record self.old { spare = max self.old.spare n }) }
-        ensures err { OnErr result (self.new ≡ self.old) }
-        ensures enough { n ≤ self.old.spare → IsOk result }
-    {
+    fn reserve(&mut self, n: usize) -> Result<(), AllocError> {
         self.entries.reserve(n)?;
         self.spare = self.spare.max(n);
         Ok(())
     }
 
-    /// Puts a node in, behind those that are not after it.
-    pub fn put(&mut self, node: Node, floor: i128)
-        requires { 0 < self.old.spare }
-        ensures { IsPut floor node self.old self.new }
-    {
+    fn put(&mut self, node: Node, floor: i128) {
         let _ = self.entries.insert(0, Entry { floor, node });
         self.spare -= 1;
     }
 
-    /// Takes out the first node.
-    pub fn take_least(&mut self) -> Option<Node>
-        ensures order { IsInOrder self.old.entries }
-        ensures taken { MatchOption result
-            ((self.old.entries ≡ []) × (self.new ≡ self.old))
-            (IsTaken self.old self.new) }
-    {
+    fn take_least(&mut self) -> Option<Node> {
         if self.entries.is_empty() {
             return None;
         }
@@ -87,19 +70,13 @@ impl PlainPool {
         Some(entry.node)
     }
 
-    /// Drops the nodes whose floor is at least the value.
-    pub fn drop_from(&mut self, value: i128)
-        ensures { IsDroppedTo (with_floor_below value self.old.entries) self.old self.new }
-    {
+    fn drop_from(&mut self, value: i128) {
         let before = self.entries.len();
         keep_with_floor_below(&mut self.entries, value);
         self.spare += before - self.entries.len();
     }
 
-    /// Drops the nodes that have this line's node as a proper ancestor.
-    pub fn drop_below(&mut self, line: &Line)
-        ensures { IsDroppedTo (without_below line.now self.old.entries) self.old self.new }
-    {
+    fn drop_below(&mut self, line: &Line) {
         let before = self.entries.len();
         keep_others(&mut self.entries, line);
         self.spare += before - self.entries.len();

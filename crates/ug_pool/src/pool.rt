@@ -6,6 +6,7 @@ ghost use Rattle.std.specs.VecDeque.{deque_len, deque_capacity};
 ghost use Rattle.std.specs.List.{insert};
 
 use crate::entry::Entry;
+use crate::open_nodes::OpenNodes;
 use std::alloc::{AllocError, Global};
 use std::collections::VecDeque;
 use std::marker::Model;
@@ -44,14 +45,6 @@ impl Pool {
         }
     }
 
-    /// How many nodes the pool has.
-    pub fn len(&self) -> usize
-        ensures value { result ≡ length self.now.entries }
-        ensures order { IsInOrder self.now.entries }
-    {
-        self.entries.len()
-    }
-
     /// The node at a place in order, with its floor.
     pub fn get(&self, at: usize) -> Option<&Entry>
         ensures { option_copied result ≡ slice_get self.now.entries at }
@@ -65,42 +58,32 @@ impl Pool {
     {
         self.get(0)
     }
+}
 
-    /// How many more nodes may be put in.
-    pub fn spare(&self) -> usize
-        ensures { result ≡ self.now.spare }
-    {
+impl OpenNodes for Pool {
+    ghost pooled = { λ pool. pool };
+
+    fn len(&self) -> usize {
+        self.entries.len()
+    }
+
+    fn spare(&self) -> usize {
         self.spare
     }
 
-    /// Takes memory for `n` nodes more, if there is less to spare.
-    pub fn reserve(&mut self, n: usize) -> Result<(), AllocError>
-        ensures ok { OnOk result (self.new ≡ record self.old { spare = max self.old.spare n }) }
-        ensures err { OnErr result (self.new ≡ self.old) }
-        ensures enough { n ≤ self.old.spare → IsOk result }
-    {
+    fn reserve(&mut self, n: usize) -> Result<(), AllocError> {
         self.entries.reserve(n)?;
         self.spare = self.spare.max(n);
         Ok(())
     }
 
-    /// Puts a node in, behind those that are not after it.
-    pub fn put(&mut self, node: Node, floor: i128)
-        requires { 0 < self.old.spare }
-        ensures { IsPut floor node self.old self.new }
-    {
+    fn put(&mut self, node: Node, floor: i128) {
         let entry = Entry { floor, node };
         place(&mut self.entries, entry);
         self.spare -= 1;
     }
 
-    /// Takes out the first node.
-    pub fn take_least(&mut self) -> Option<Node>
-        ensures order { IsInOrder self.old.entries }
-        ensures taken { MatchOption result
-            ((self.old.entries ≡ []) × (self.new ≡ self.old))
-            (IsTaken self.old self.new) }
-    {
+    fn take_least(&mut self) -> Option<Node> {
         match take_first(&mut self.entries) {
             Some(entry) => {
                 self.spare += 1;
@@ -110,21 +93,13 @@ impl Pool {
         }
     }
 
-    /// Drops the nodes whose floor is at least the value.
-    pub fn drop_from(&mut self, value: i128)
-        ensures { IsDroppedTo (with_floor_below value self.old.entries) self.old self.new }
-    {
+    fn drop_from(&mut self, value: i128) {
         let kept = first_from(&self.entries, value);
         self.spare += self.entries.len() - kept;
         self.entries.truncate(kept);
     }
 
-    /// Drops the nodes that have this line's node as a proper ancestor, and not that node itself.
-    /// It takes no memory, passes once over the pool, and compares at most the line's names with
-    /// each.
-    pub fn drop_below(&mut self, line: &Line)
-        ensures { IsDroppedTo (without_below line.now self.old.entries) self.old self.new }
-    {
+    fn drop_below(&mut self, line: &Line) {
         let before = self.entries.len();
         keep_others(&mut self.entries, line);
         self.spare += before - self.entries.len();

@@ -8,6 +8,7 @@ use crate::telling::{node_order, params_with};
 use crate::terms::{Stopped, Terms};
 use std::alloc::AllocError;
 use ug_nodes::Changes;
+use ug_pool::OpenNodes;
 
 impl Stock {
     /// Gives the least node of the pool to the lowest idle rank, while there are a rank, a node and

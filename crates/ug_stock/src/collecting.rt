@@ -10,6 +10,7 @@ use crate::queue::Queue;
 use crate::stock::Stock;
 use crate::wanting::wanted;
 use std::alloc::{AllocError, Global};
+use ug_pool::OpenNodes;
 use ug_ranks::Ranks;
 use ug_rules::Wanted;
 

@@ -10,7 +10,7 @@ use crate::queue::Queue;
 use crate::racer_left::has_racer;
 use crate::stock::Stock;
 use ug_nodes::Node;
-use ug_pool::{Entry, Pool};
+use ug_pool::{Entry, OpenNodes, Pool};
 use ug_ranks::Ranks;
 
 impl Stock {

@@ -7,7 +7,7 @@ use crate::run::Run;
 use crate::stock::Stock;
 use crate::terms::Terms;
 use crate::unfinished::Unfinished;
-use ug_pool::Pool;
+use ug_pool::{OpenNodes, Pool};
 
 impl Stock {
     /// Makes the five parts of a decision under this cutoff, in order.

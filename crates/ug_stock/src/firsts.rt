@@ -4,7 +4,7 @@ ghost use Rattle.ug_stock.specs.Assigning.{IsTakenOut};
 
 use std::alloc::{AllocError, Global};
 use ug_nodes::Changes;
-use ug_pool::{Entry, Pool};
+use ug_pool::{Entry, OpenNodes, Pool};
 
 /// Takes the first entry out of the pool.
 #[tactic(auto, using(crate::proofs::FirstOfPool::none_first))]

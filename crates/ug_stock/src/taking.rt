@@ -10,7 +10,7 @@ use crate::run::Run;
 use crate::stock::Stock;
 use std::alloc::{AllocError, Global};
 use ug_nodes::{Changes, Line, Name, Node, area_of};
-use ug_pool::Pool;
+use ug_pool::{OpenNodes, Pool};
 use ug_ranks::{Ranks, State};
 
 impl Stock {

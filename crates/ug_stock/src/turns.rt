@@ -6,7 +6,7 @@ ghost use Rattle.ug_stock.specs.Turns.{HasTurn};
 use crate::counting::{Counts, count};
 use crate::stock::Stock;
 use crate::terms::Terms;
-use ug_pool::{Entry, Pool};
+use ug_pool::{Entry, OpenNodes, Pool};
 
 /// What is to be given out.
 #[derive(Clone, Copy)]

@@ -1,7 +1,7 @@
 use Rattle.std.proofs.Common.{refl, subst, arith}
 use Rattle.ug_pool.specs.Pools.{IsInOrder}
 use Rattle.ug_pool.proofs.Places.{rest_in_order}
-use Rattle.ug_pool.proofs.pool.Pool.take_least.Goals as goal
+use Rattle.ug_pool.proofs.pool.PoolOpenNodes.take_least.Goals as goal
 
 pub invariant_of-self : goal.invariant_of-self
 invariant_of-self c = record {

@@ -5,7 +5,7 @@ use Rattle.ug_pool.specs.declared.entry.Entry.{Entry}
 use Rattle.ug_pool.specs.Pools.{without_below}
 use Rattle.ug_pool.specs.Plain.{in_order}
 use Rattle.ug_pool.proofs.Sorts.{filter_of_order, length_in_order}
-use Rattle.ug_pool.proofs.plain.PlainPool.drop_below.Goals as goal
+use Rattle.ug_pool.proofs.plain.PlainPoolOpenNodes.drop_below.Goals as goal
 
 pub returns : goal.returns
 returns c =

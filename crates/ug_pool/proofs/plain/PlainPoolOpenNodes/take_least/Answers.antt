@@ -1,6 +1,6 @@
 use Rattle.std.proofs.Common.{refl}
 use Rattle.ug_pool.proofs.Sorts.{is_in_order}
-use Rattle.ug_pool.proofs.plain.PlainPool.take_least.Goals as goal
+use Rattle.ug_pool.proofs.plain.PlainPoolOpenNodes.take_least.Goals as goal
 
 pub returns-clause-taken : goal.returns-clause-taken
 returns-clause-taken c = rw (← c.self.view_is)

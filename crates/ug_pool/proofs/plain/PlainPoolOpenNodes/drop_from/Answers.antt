@@ -4,7 +4,7 @@ use Rattle.ug_pool.specs.Pools.{with_floor_below}
 use Rattle.ug_pool.specs.declared.entry.Entry.{Entry}
 use Rattle.ug_pool.specs.Plain.{in_order}
 use Rattle.ug_pool.proofs.Sorts.{filter_of_order, length_in_order}
-use Rattle.ug_pool.proofs.plain.PlainPool.drop_from.Goals as goal
+use Rattle.ug_pool.proofs.plain.PlainPoolOpenNodes.drop_from.Goals as goal
 
 pub returns : goal.returns
 returns c =
