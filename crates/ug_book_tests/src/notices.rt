@@ -7,7 +7,7 @@ use ug_branch::Params;
 use ug_frames::Order;
 use ug_nodes::{Changes, Line, Name, Node, Ticket};
 use ug_pool::{OpenNodes, Pool};
-use ug_ranks::Ranks;
+use ug_ranks::{Assignment, Ranks};
 use ug_stock::{Queue, Stock};
 
 fn node(alloc: Global) -> Result<Node, AllocError> {
@@ -77,7 +77,13 @@ fn at_work(alloc: Global, asked: u32, nodes: u32) -> Result<Stock, AllocError>
     let mut ranks = Ranks::new(alloc, 2)?;
     ranks.idle(1);
     let ticket = Ticket { run: 1, number: 5 };
-    ranks.give(1, ticket, node(alloc)?, -3, Params::new(0));
+    let given = Assignment {
+        ticket,
+        node: node(alloc)?,
+        floor: -3,
+        params: Params::new(0),
+    };
+    ranks.give(1, given);
     ranks.note(1, 4, -2);
     ranks.ask(1, asked);
     Ok(Stock {

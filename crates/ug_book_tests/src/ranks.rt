@@ -5,7 +5,7 @@ use std::alloc::{AllocError, Global};
 use std::process::Abort;
 use ug_branch::Params;
 use ug_nodes::{Changes, Line, Name, Node, Ticket};
-use ug_ranks::{Ranks, State};
+use ug_ranks::{Assignment, Ranks, State};
 use ug_rows::{IntBox, Interval};
 
 fn ticket(number: u64) -> Ticket {
@@ -82,7 +82,13 @@ fn works_as_it_was_told(rt: HostRuntime) {
     ranks.idle(2);
     holds(&rt, are(&ranks, b"aii") && ranks.free(0).is_none());
     let node = node(alloc, 4).expect(&rt, "memory");
-    ranks.give(1, ticket(1), node, -3, params);
+    let given = Assignment {
+        ticket: ticket(1),
+        node,
+        floor: -3,
+        params,
+    };
+    ranks.give(1, given);
     ranks.note(1, 8, -2);
     ranks.ask(1, 1);
     take_two(&rt, alloc, &mut ranks, 1);

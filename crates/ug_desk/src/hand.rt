@@ -10,29 +10,31 @@ use ug_nodes::{Ticket, changes_of};
 use ug_rows::IntBox;
 use ug_rules::Heard;
 
-/// A rank hands a box under a ticket.
-pub fn hand(
-    alloc: Global,
-    book: &mut Book,
-    rank: u32,
-    ticket: Ticket,
-    number: u64,
-    area: &IntBox,
-) -> Heard
+/// A box that is handed under a ticket, and which of its hands it is.
+#[derive(Clone, Copy)]
+pub struct HandedBox<'a> {
+    pub ticket: Ticket,
+    pub number: u64,
+    pub area: &'a IntBox,
+}
+
+/// A rank hands a box.
+pub fn hand(alloc: Global, book: &mut Book, rank: u32, handed: HandedBox<'_>) -> Heard
     requires there { rank < length book.old.ranks }
-    requires width { length area.now ≡ length book.old.problem.columns }
-    ensures handed { HasHanded rank ticket number area.now result book.old book.new }
+    requires width { length handed.area.now ≡ length book.old.problem.columns }
+    ensures handed { HasHanded rank handed.entry.ticket handed.entry.number
+        handed.entry.area.now result book.old book.new }
     ensures same { IsSameRun book.old book.new }
     ensures sound { IsSoundBook book.old → IsSoundBook book.new }
 {
-    let Ok(changes) = changes_of(alloc, book.problem().problem().root(), area) else {
+    let Ok(changes) = changes_of(alloc, book.problem().problem().root(), handed.area) else {
         return Heard::Memory;
     };
     book.hear(
         rank,
         Report::Hand {
-            ticket,
-            number,
+            ticket: handed.ticket,
+            number: handed.number,
             changes,
         },
     )

@@ -9,7 +9,7 @@ ghost use Rattle.ug_desk.specs.Entries.{IsSnapshotOf};
 ghost use Rattle.ug_desk.specs.Passes.{HasHandedHere, IsElsewhere, IsFor, stopped};
 
 use crate::done::done;
-use crate::hand::hand;
+use crate::hand::{HandedBox, hand};
 use crate::state::state;
 use crate::take::{note, take};
 use crate::ticket::is_of_ticket;
@@ -152,8 +152,12 @@ impl Locked {
         if !self.has(rank) || !self.is_as_wide(area) {
             return Heard::Stale;
         }
-        let ticket = self.ticket(rank);
-        let heard = hand(self.alloc, &mut self.book, rank, ticket, number, area);
+        let handed = HandedBox {
+            ticket: self.ticket(rank),
+            number,
+            area,
+        };
+        let heard = hand(self.alloc, &mut self.book, rank, handed);
         self.count = one_more(self.count);
         heard
     }

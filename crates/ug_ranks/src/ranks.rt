@@ -4,7 +4,7 @@ ghost use Rattle.ug_ranks.specs.declared.state.State.TheVariants.{Absent, Active
 ghost use Rattle.ug_ranks.specs.States.{IsRacing, held_by, state_at};
 ghost use Rattle.ug_ranks.specs.Changes.{asked_for, grown, joined, noted, racer_of, won, work_of};
 
-use crate::state::{Boxes, Off, Racer, State, Work};
+use crate::state::{Assignment, Boxes, Off, Racer, State, Work};
 use std::alloc::{AllocError, Global};
 use std::marker::Model;
 use std::mem;
@@ -62,17 +62,18 @@ impl Ranks {
         join(&mut self.states[rank as usize]);
     }
 
-    /// An idle rank works on this node, which has this floor.
-    pub fn give(&mut self, rank: u32, ticket: Ticket, node: Node, floor: i128, params: Params)
+    /// An idle rank works on this.
+    pub fn give(&mut self, rank: u32, given: Assignment)
         requires there { rank < length self.old }
         requires idle { state_at self.old rank ≡ Idle }
-        ensures { self.new ≡ slice_set self.old rank (Active (work_of ticket node floor params)) }
+        ensures { self.new ≡ slice_set self.old rank
+            (Active (work_of given.ticket given.node given.floor given.params)) }
     {
         let work = Work {
-            ticket,
-            node,
-            floor,
-            params,
+            ticket: given.ticket,
+            node: given.node,
+            floor: given.floor,
+            params: given.params,
             taken: Boxes::new(*self.states.allocator()),
             open: 0,
             reported: 0,

@@ -35,6 +35,16 @@ pub struct Work {
     pub asked: u32,
 }
 
+/// What an idle rank is to work on.
+#[derive(Drop)]
+pub struct Assignment {
+    pub ticket: Ticket,
+    pub node: Node,
+    /// The floor of the node.
+    pub floor: i128,
+    pub params: Params,
+}
+
 /// How a rank came to be off.
 #[derive(Clone, Copy)]
 pub enum Off {

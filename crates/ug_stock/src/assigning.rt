@@ -9,6 +9,7 @@ use crate::terms::{Stopped, Terms};
 use std::alloc::AllocError;
 use ug_nodes::Changes;
 use ug_pool::OpenNodes;
+use ug_ranks::Assignment;
 
 impl Stock {
     /// Gives the least node of the pool to the lowest idle rank, while there are a rank, a node and
@@ -84,8 +85,13 @@ impl Stock {
             self.orders
                 .push(node_order(terms, rank, self.last, changes));
             let ticket = terms.ticket(self.last);
-            self.ranks
-                .give(rank, ticket, entry.node, entry.floor, params_with(0));
+            let given = Assignment {
+                ticket,
+                node: entry.node,
+                floor: entry.floor,
+                params: params_with(0),
+            };
+            self.ranks.give(rank, given);
         }
     }
 }

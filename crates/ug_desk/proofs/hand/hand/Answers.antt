@@ -12,7 +12,7 @@ returns-clause-handed c =
     inl (record {
       changes = c.in-Ok.changes;
       rising = c.in-Ok.ensures.rising;
-      told = subst (λ (area : List Interval). Tell area c.in-Ok.changes c.args.area.now) root
+      told = subst (λ (area : List Interval). Tell area c.in-Ok.changes c.args.handed.area.now) root
           c.in-Ok.ensures.told;
       heard = record { due = c.hear.ensures.due; done = c.hear.ensures.done };
     })

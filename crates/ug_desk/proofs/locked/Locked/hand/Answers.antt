@@ -10,8 +10,8 @@ use Rattle.ug_desk.proofs.locked.Locked.hand.Goals as goal
 pub invariant_of-self : goal.invariant_of-self
 invariant_of-self c =
     let l : LockedState = state_of c.self.inside in
-    let ticket : c.ticket-ticket.result ≡ own_ticket l.now c.args.rank =
-    c.ticket-ticket.ensures
+    let ticket : c.ticket.result ≡ own_ticket l.now c.args.rank =
+    c.ticket.ensures
     ∙ sym (ap (λ (k : LockedState). own_ticket k.now c.args.rank) c.self.view_is) in
     entered_by l _ _ c.args.rank (handed c.args.number c.args.area.now c.hand-heard.result) c.self.invariant
     (record {
