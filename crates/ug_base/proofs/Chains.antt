@@ -6,9 +6,9 @@ use Rattle.ug_rows.specs.declared.area.Interval.{Interval}
 use Rattle.ug_rows.specs.Boxes.{IsBelow, IsNonEmpty}
 use Rattle.ug_problem.specs.Instances.{Instance, bounds_of, root_of}
 use Rattle.ug_problem.specs.Limits.{IsProblem}
-use Rattle.ug_propagate.specs.declared.working.Change.{Change}
+use Rattle.ug_propagate.specs.declared.working.Trailed.{Trailed}
 use Rattle.ug_propagate.specs.Running.{IsRunning}
-use Rattle.ug_propagate.specs.Working.{AllRest, AreChanges, AreReached, AreResting, HasBits, IsBox, IsLater, IsWorking, WentBack, WorkState, undone}
+use Rattle.ug_propagate.specs.Working.{AllRest, AreTrailed, AreReached, AreResting, HasBits, IsBox, IsLater, IsWorking, WentBack, WorkState, undone}
 use Rattle.ug_propagate.proofs.Stepping.{reach_below, undone_append}
 use Rattle.ug_base.specs.declared.part.Part.{Part}
 use Rattle.ug_base.specs.Chains.{IsBase, IsChain, IsCut, IsPart, KeepsBases, Rise, area_of, areas_of, base_of, narrowed}
@@ -18,30 +18,30 @@ use Rattle.ug_base.specs.declared.part.Narrowing.{Narrowing}
 use Rattle.ug_propagate.proofs.Parts.{part_nonempty, part_set}
 
 -- of the changes kept, those behind a part's, and then those that were undone
-behind : (n depth : ℕ) (trail : List Change) → n ≤ depth → depth ≤ length trail
+behind : (n depth : ℕ) (trail : List Trailed) → n ≤ depth → depth ≤ length trail
     → drop n trail ≡ drop n (take depth trail) ++ drop depth trail
 behind n depth trail h k =
-    ap (λ (t : List Change). drop n t) (sym (take-append-drop depth trail))
+    ap (λ (t : List Trailed). drop n t) (sym (take-append-drop depth trail))
     ∙ drop-append-le n (take depth trail) (drop depth trail) (omega (arith, length-take-le depth trail k))
 
 -- going back keeps the boxes of parts that are not behind
 pub bases_back : (depth : ℕ) (old new : WorkState) → depth ≤ length old.trail → WentBack depth old new → KeepsBases depth old new
 bases_back depth old new deep h = record {
-  deep = omega (arith, ap (λ (t : List Change). length t) h.trail, length-take-le depth old.trail deep);
+  deep = omega (arith, ap (λ (t : List Trailed). length t) h.trail, length-take-le depth old.trail deep);
   bases = λ part within.
-      ap (λ (t : List Change). undone new.sums.area (drop part.depth t)) h.trail
+      ap (λ (t : List Trailed). undone new.sums.area (drop part.depth t)) h.trail
       ∙ ap (λ (a : List Interval). undone a (drop part.depth (take depth old.trail))) h.area
       ∙ sym (undone_append old.sums.area (drop part.depth (take depth old.trail)) (drop depth old.trail))
-      ∙ sym (ap (λ (t : List Change). undone old.sums.area t) (behind part.depth depth old.trail within deep));
+      ∙ sym (ap (λ (t : List Trailed). undone old.sums.area t) (behind part.depth depth old.trail within deep));
 }
 
 -- going on keeps them too
 pub bases_later : (depth : ℕ) (old new : WorkState) → depth ≤ length old.trail → IsLater old new → KeepsBases depth old new
 bases_later depth old new deep h = record {
-  deep = omega (arith, ap (λ (t : List Change). length t) h.trail, length-append old.trail h.more);
+  deep = omega (arith, ap (λ (t : List Trailed). length t) h.trail, length-append old.trail h.more);
   bases = λ part within.
-      ap (λ (t : List Change). undone new.sums.area (drop part.depth t)) h.trail
-      ∙ ap (λ (t : List Change). undone new.sums.area t) (drop-append-le part.depth old.trail h.more (omega arith))
+      ap (λ (t : List Trailed). undone new.sums.area (drop part.depth t)) h.trail
+      ∙ ap (λ (t : List Trailed). undone new.sums.area t) (drop-append-le part.depth old.trail h.more (omega arith))
       ∙ undone_append new.sums.area (drop part.depth old.trail) h.more
       ∙ ap (λ (a : List Interval). undone a (drop part.depth old.trail)) h.back;
 }
@@ -62,7 +62,7 @@ pub base_back : (p : Instance) (whole : List Interval) (depth : ℕ) (old new : 
 base_back p whole depth old new problem root base h sums below =
     let wide : length whole ≡ length p.columns = root.width ∙ length-map p.columns bounds_of in
     let P : List ℕ → Type 0 = λ (awake : List ℕ). HasBits p awake in
-    let C : Change → Type 0 = λ (change : Change). change.column < length p.columns in
+    let C : Trailed → Type 0 = λ (change : Trailed). change.column < length p.columns in
     let reach : AreReached p whole new.reach = subst (AreReached p whole) (sym h.reach) base.reach in
     record {
       box = record {
@@ -70,7 +70,7 @@ base_back p whole depth old new problem root base h sums below =
         reach = reach_below p new.sums.area whole new.reach problem wide below reach;
         bits = subst P (sym h.awake) base.box.bits;
       };
-      trail = subst (AreChanges (length p.columns)) (sym h.trail) (All-take C depth old.trail base.trail);
+      trail = subst (AreTrailed (length p.columns)) (sym h.trail) (All-take C depth old.trail base.trail);
       reach = reach;
     }
 
@@ -78,11 +78,11 @@ base_back p whole depth old new problem root base h sums below =
 pub base_later : (p : Instance) (whole : List Interval) (old new : WorkState) → IsBase p whole old → IsLater old new → IsBox p new
     → IsBase p whole new
 base_later p whole old new base h box =
-    let C : Change → Type 0 = λ (change : Change). change.column < length p.columns in
-    let there : AreChanges (length p.columns) h.more = subst (λ (n : ℕ). AreChanges n h.more) base.box.sums.width h.there in
+    let C : Trailed → Type 0 = λ (change : Trailed). change.column < length p.columns in
+    let there : AreTrailed (length p.columns) h.more = subst (λ (n : ℕ). AreTrailed n h.more) base.box.sums.width h.there in
     record {
       box = box;
-      trail = subst (AreChanges (length p.columns)) (sym h.trail) (All-append C old.trail h.more base.trail there);
+      trail = subst (AreTrailed (length p.columns)) (sym h.trail) (All-append C old.trail h.more base.trail there);
       reach = subst (AreReached p whole) (sym h.reach) base.reach;
     }
 

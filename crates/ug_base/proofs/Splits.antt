@@ -10,7 +10,7 @@ use Rattle.ug_branch.specs.declared.params.Half.{Half}
 use Rattle.ug_branch.specs.declared.params.Half.TheVariants.{Lower, Upper}
 use Rattle.ug_branch.specs.declared.params.Params.{Params}
 use Rattle.ug_problem.specs.Instances.{Instance}
-use Rattle.ug_propagate.specs.declared.working.Change.{Change}
+use Rattle.ug_propagate.specs.declared.working.Trailed.{Trailed}
 use Rattle.ug_propagate.specs.Working.{AllRest, WorkState, undone}
 use Rattle.ug_base.specs.declared.part.Part.{Part}
 use Rattle.ug_base.specs.Chains.{IsCut, IsPart, area_of, base_of, first_side, narrowed, other_side}
@@ -63,7 +63,7 @@ other_half_is Upper area branch = refl
 -- behind all changes lies the working box itself
 pub base_here : (work : WorkState) (part : Part) → part.depth ≡ length work.trail → base_of work part ≡ work.sums.area
 base_here work part deep =
-    ap (λ (t : List Change). undone work.sums.area t) (drop_all part.depth work.trail (omega (arith, deep)))
+    ap (λ (t : List Trailed). undone work.sums.area t) (drop_all part.depth work.trail (omega (arith, deep)))
 
 -- the working box with a column narrowed is a part
 pub part_here : (p : Instance) (whole : List Interval) (work : WorkState) (part : Part) (column : ℕ) (side : Interval)
@@ -91,7 +91,7 @@ area_here work part column side deep cut =
     ap (λ c. narrowed c (base_of work part)) cut ∙ ap (λ (a : List Interval). set a column side) (base_here work part deep)
 
 -- one change more is undone
-pub undone_more : (area : List Interval) (changes : List Change) (i : ℕ) (d : Change) → i < length changes
+pub undone_more : (area : List Interval) (changes : List Trailed) (i : ℕ) (d : Trailed) → i < length changes
     → undone area (drop i changes)
     ≡ set (undone area (drop (i + 1) changes)) (get_or changes i d).column (get_or changes i d).before
-undone_more area changes i d there = ap (λ (t : List Change). undone area t) (drop_more changes i d there)
+undone_more area changes i d there = ap (λ (t : List Trailed). undone area t) (drop_more changes i d there)

@@ -11,8 +11,8 @@ use Rattle.ug_problem.specs.Limits.{IsProblem}
 use Rattle.ug_problem.specs.Better.{IsGap, IsSmallCutoff}
 use Rattle.ug_rows.specs.Sums.{box_floor}
 use Rattle.ug_propagate.specs.declared.resting.Rest.TheVariants.{Unknown}
-use Rattle.ug_propagate.specs.declared.working.Change.{Change}
-use Rattle.ug_propagate.specs.Working.{AreChanges, AreReached, IsBox, WorkState, undone}
+use Rattle.ug_propagate.specs.declared.working.Trailed.{Trailed}
+use Rattle.ug_propagate.specs.Working.{AreTrailed, AreReached, IsBox, WorkState, undone}
 use Rattle.ug_base.specs.declared.part.Part.{Part}
 use Rattle.ug_base.specs.Chains.{IsChain, IsPart, areas_of, base_of}
 use Rattle.ug_base.specs.Tasks.{AreBelow, IsTask, TaskState, lesser_of}
@@ -26,7 +26,7 @@ pub new_task : (t : TaskState) (work : WorkState) (parts : List Part) (gap floor
 new_task t work parts gap floor problem below small g same e none area left handed =
     let P : List Interval → Type 0 = λ (a : List Interval). IsBelow a t.whole in
     let one : t.boxes ≡ t.whole ∷ [] = left ∙ ap (areas_of work) e
-    ∙ ap (λ (trail : List Change). undone work.sums.area (drop 0 trail) ∷ []) none ∙ ap (λ (a : List Interval). a ∷ []) area in
+    ∙ ap (λ (trail : List Trailed). undone work.sums.area (drop 0 trail) ∷ []) none ∙ ap (λ (a : List Interval). a ∷ []) area in
     record {
       problem = problem;
       whole = below;
@@ -43,9 +43,9 @@ pub new_chain : (p : Instance) (whole : List Interval) (work : WorkState) (parts
     → IsBox p work → work.trail ≡ [] → work.sums.area ≡ whole → IsChain p whole work parts
 new_chain p whole work parts e box none area =
     let only : Part = record { depth = 0; cut = None; floor = box_floor p.objective work.sums.area; rest = Unknown } in
-    let C : Change → Type 0 = λ (change : Change). change.column < length p.columns in
+    let C : Trailed → Type 0 = λ (change : Trailed). change.column < length p.columns in
     let base : base_of work only ≡ work.sums.area =
-    ap (λ (trail : List Change). undone work.sums.area (drop 0 trail)) none in
+    ap (λ (trail : List Trailed). undone work.sums.area (drop 0 trail)) none in
     let is : IsPart p whole work only = record {
       deep = omega arith;
       below = subst (λ (a : List Interval). IsBelow a whole) (sym (base ∙ area)) (below_itself whole);
@@ -56,7 +56,7 @@ new_chain p whole work parts e box none area =
     subst (λ (ps : List Part). IsChain p whole work ps) (sym e) (record {
       base = record {
         box = box;
-        trail = subst (λ (trail : List Change). AreChanges (length p.columns) trail) (sym none) (All-nil C);
+        trail = subst (λ (trail : List Trailed). AreTrailed (length p.columns) trail) (sym none) (All-nil C);
         reach = subst (λ (a : List Interval). AreReached p a work.reach) area box.reach;
       };
       each = All-cons (IsPart p whole work) only [] is (All-nil (IsPart p whole work));

@@ -10,7 +10,7 @@ use Rattle.ug_branch.specs.declared.params.Half.TheVariants.{Lower, Upper}
 use Rattle.ug_branch.specs.declared.choice.Branch.{Branch}
 use Rattle.ug_problem.specs.Instances.{Instance}
 use Rattle.ug_propagate.specs.declared.resting.Rest.TheVariants.{Unknown}
-use Rattle.ug_propagate.specs.Working.{AllRest, AreChanges, AreReached, IsBox, WorkState, undone}
+use Rattle.ug_propagate.specs.Working.{AllRest, AreTrailed, AreReached, IsBox, WorkState, undone}
 use Rattle.ug_base.specs.declared.part.Narrowing.{Narrowing}
 use Rattle.ug_base.specs.declared.part.Part.{Part}
 use Rattle.ug_base.specs.Fronts.{front_of}
@@ -56,7 +56,7 @@ pub record IsPart (p : Instance) (whole : List Interval) (work : WorkState) (par
 -- what the working box keeps in the search of a whole box
 pub record IsBase (p : Instance) (whole : List Interval) (work : WorkState) : Type 0 where
   pub box : IsBox p work
-  pub trail : AreChanges (length p.columns) work.trail
+  pub trail : AreTrailed (length p.columns) work.trail
   pub reach : AreReached p whole work.reach
 
 -- a part that stands for one that is not there

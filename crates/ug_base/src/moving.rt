@@ -5,11 +5,11 @@ ghost use Rattle.ug_base.specs.Hands.{IsMoved};
 
 use crate::part::{Narrowing, Part};
 use std::alloc::{AllocError, Global};
-use ug_propagate::{Change, Working};
+use ug_propagate::{Trailed, Working};
 use ug_rows::{IntBox, Interval};
 
 // Puts back what columns were before these changes, the last first.
-fn undo(sides: &mut [Interval], changes: &[Change])
+fn undo(sides: &mut [Interval], changes: &[Trailed])
     ensures { sides.new ≡ undone sides.old changes.now }
 {
     for at in (0..changes.len()).rev() {

@@ -11,8 +11,8 @@ use Rattle.ug_checkpoint.specs.Gates.{IsOpen, Opens}
 use Rattle.ug_checkpoint.specs.Runs.{other, image_of, Stands, Becomes, OnlyOpens}
 
 -- from a state of a slot to another
-abbrev pub Change : Type 1
-Change = SlotState → SlotState → Type 0
+abbrev pub Becoming : Type 1
+Becoming = SlotState → SlotState → Type 0
 
 abbrev pub Opened : Type 1
 Opened = SlotState → List ℕ → Type 0
@@ -44,13 +44,13 @@ parted Zero slots zero one left = (left.1, left.0)
 parted One slots zero one left = (left.0, left.1)
 
 -- nothing became of it
-pub becomes_same : (R : Change) (told : Option History) (slot : Slot)
+pub becomes_same : (R : Becoming) (told : Option History) (slot : Slot)
     → Stands told slot (λ s. R s s) → Becomes told told slot R
 becomes_same R None slot now = tt
 becomes_same R (Some told) slot now = (refl, now)
 
 -- one call more
-stepped_to : (S : Change) (old mid new : History) (slot : Slot) (change : SlotState → SlotState)
+stepped_to : (S : Becoming) (old mid new : History) (slot : Slot) (change : SlotState → SlotState)
     → slot_of (other slot) mid.now ≡ slot_of (other slot) old.now → new ≡ stepped slot change mid
     → S (slot_of slot old.now) (change (slot_of slot mid.now))
     → Becomes (Some old) (Some new) slot S
@@ -66,7 +66,7 @@ pub becomes_none : (told : Option History) (slot : Slot) → Becomes told told s
 becomes_none None slot = tt
 becomes_none (Some told) slot = (refl, refl)
 
-pub becomes_steps : (R S : Change) (old mid new : Option History) (slot : Slot) (change : SlotState
+pub becomes_steps : (R S : Becoming) (old mid new : Option History) (slot : Slot) (change : SlotState
     → SlotState)
     → Becomes old mid slot R → AreReal mid → Steps mid new slot change
     → ((a b : SlotState) → R a b → IsReal b → S a (change b))
@@ -80,7 +80,7 @@ becomes_steps R S (Some old) (Some mid) (Some new) slot change so_far real steps
     stepped_to S old mid new slot change so_far.0 (cc steps)
     (next _ _ so_far.1 (real_there slot mid.now real))
 
-becomes_real : (R S : Change) (old new : Option History) (slot : Slot)
+becomes_real : (R S : Becoming) (old new : Option History) (slot : Slot)
     → Becomes old new slot R → AreReal new → ((a b : SlotState) → R a b → IsReal b → S a b)
     → Becomes old new slot S
 becomes_real R S None None slot so_far real next = tt
@@ -90,7 +90,7 @@ becomes_real R S (Some old) (Some new) slot so_far real next =
     (so_far.0, next _ _ so_far.1 (real_there slot new.now real))
 
 -- one call more, which failed
-pub becomes_fails : (R S : Change) (old mid new : Option History) (slot : Slot) (change : SlotState
+pub becomes_fails : (R S : Becoming) (old mid new : Option History) (slot : Slot) (change : SlotState
     → SlotState)
     → Becomes old mid slot R → AreReal mid → Fails mid new slot change
     → ((a b : SlotState) → R a b → IsReal b → S a b)
@@ -114,7 +114,7 @@ becomes_fails R S (Some old) (Some mid) (Some new) slot change so_far real (inr 
     so_far.0 (cc shakes.steps)
     (next _ _ shakes.bytes so_far.1 (real_there slot mid.now real) shakes.real)
 
-pub becomes_is : (R S : Change) (old new : Option History) (slot : Slot)
+pub becomes_is : (R S : Becoming) (old new : Option History) (slot : Slot)
     → Becomes old new slot R → ((a b : SlotState) → R a b → S a b) → Becomes old new slot S
 becomes_is R S None None slot so_far next = tt
 becomes_is R S None (Some new) slot so_far next = absurd so_far
@@ -122,7 +122,7 @@ becomes_is R S (Some old) None slot so_far next = absurd so_far
 becomes_is R S (Some old) (Some new) slot so_far next = (so_far.0, next _ _ so_far.1)
 
 -- with what stood at the start
-pub becomes_from : (P : SlotState → Type 0) (R S : Change) (old new : Option History) (slot : Slot)
+pub becomes_from : (P : SlotState → Type 0) (R S : Becoming) (old new : Option History) (slot : Slot)
     → Stands old slot P → Becomes old new slot R → ((a b : SlotState) → P a → R a b → S a b)
     → Becomes old new slot S
 becomes_from P R S None None slot stood so_far next = tt
@@ -132,7 +132,7 @@ becomes_from P R S (Some old) (Some new) slot stood so_far next =
     (so_far.0, next _ _ stood so_far.1)
 
 -- one run after another
-pub becomes_joins : (R S T : Change) (old mid new : Option History) (slot : Slot)
+pub becomes_joins : (R S T : Becoming) (old mid new : Option History) (slot : Slot)
     → Becomes old mid slot R → Becomes mid new slot S
     → ((a b c : SlotState) → R a b → S b c → T a c) → Becomes old new slot T
 becomes_joins R S T None None None slot first second next = tt
@@ -144,7 +144,7 @@ becomes_joins R S T (Some old) (Some mid) (Some new) slot first second next =
     (second.0 ∙ first.0, next _ _ _ first.1 second.1)
 
 -- what stands at the end
-pub stands_after : (R : Change) (P : SlotState → Type 0) (old new : Option History) (slot : Slot)
+pub stands_after : (R : Becoming) (P : SlotState → Type 0) (old new : Option History) (slot : Slot)
     → Becomes old new slot R → ((a b : SlotState) → R a b → P b) → Stands new slot P
 stands_after R P None None slot so_far next = tt
 stands_after R P None (Some new) slot so_far next = absurd so_far
@@ -167,7 +167,7 @@ any_place None slot = tt
 any_place (Some told) slot = omega arith
 
 -- what a crash now may leave
-only_now : (Q : Opened) (R : Change) (old new : Option History) (slot : Slot)
+only_now : (Q : Opened) (R : Becoming) (old new : Option History) (slot : Slot)
     → Becomes old new slot R → ((a b : SlotState) → R a b → Opens (Q a) b)
     → LeavesNow (OnlyOpens old slot Q) new
 only_now Q R None None slot so_far opens = tt
@@ -183,12 +183,12 @@ only_now Q R (Some old) (Some new) slot so_far opens = λ zero one left.
 pub only_starts : (Q : Opened) (told : Option History) (slot : Slot)
     → Stands told slot (λ s. Opens (Q s) s) → Leaves (OnlyOpens told slot Q) told told
 only_starts Q told slot now =
-    let R : Change = λ a b. Opens (Q a) b in
+    let R : Becoming = λ a b. Opens (Q a) b in
     starts (OnlyOpens told slot Q) told
     (only_now Q R told told slot (becomes_same R told slot now) (λ a b opens. opens))
 
 -- one call more
-pub only_steps : (Q : Opened) (R : Change) (old mid new : Option History) (slot : Slot) (change :
+pub only_steps : (Q : Opened) (R : Becoming) (old mid new : Option History) (slot : Slot) (change :
     SlotState → SlotState)
     → Leaves (OnlyOpens old slot Q) old mid → Steps mid new slot change → Becomes old new slot R
     → ((a b : SlotState) → R a b → Opens (Q a) b) → Leaves (OnlyOpens old slot Q) old new
@@ -197,7 +197,7 @@ only_steps Q R old mid new slot change so_far steps becomes opens =
     (only_now Q R old new slot becomes opens)
 
 -- one call more, which failed
-pub only_fails : (Q : Opened) (R : Change) (old mid new : Option History) (slot : Slot) (change :
+pub only_fails : (Q : Opened) (R : Becoming) (old mid new : Option History) (slot : Slot) (change :
     SlotState → SlotState)
     → Leaves (OnlyOpens old slot Q) old mid → Fails mid new slot change → Becomes old new slot R
     → ((a b : SlotState) → R a b → Opens (Q a) b) → Leaves (OnlyOpens old slot Q) old new
@@ -205,7 +205,7 @@ only_fails Q R old mid new slot change so_far failed becomes opens =
     fails_on (OnlyOpens old slot Q) old mid new slot change so_far failed
     (only_now Q R old new slot becomes opens)
 
-from_before : (Q Q' : Opened) (R : Change) (old mid : Option History) (slot : Slot)
+from_before : (Q Q' : Opened) (R : Becoming) (old mid : Option History) (slot : Slot)
     → Becomes old mid slot R
     → ((a b : SlotState) (image : List ℕ) → R a b → IsOpen image → Q' b image → Q a image)
     → (zero one : List ℕ) → OnlyOpens mid slot Q' zero one → OnlyOpens old slot Q zero one
@@ -217,7 +217,7 @@ from_before Q Q' R (Some old) (Some mid) slot becomes next zero one left = (
 )
 
 -- one run after another
-pub only_joins : (Q Q' : Opened) (R : Change) (old mid new : Option History) (slot : Slot)
+pub only_joins : (Q Q' : Opened) (R : Becoming) (old mid new : Option History) (slot : Slot)
     → Leaves (OnlyOpens old slot Q) old mid → Becomes old mid slot R
     → Leaves (OnlyOpens mid slot Q') mid new
     → ((a b : SlotState) (image : List ℕ) → R a b → IsOpen image → Q' b image → Q a image)
@@ -266,7 +266,7 @@ only_writing Q old new slot opens leaves =
 only_before : (told : Option History) (slot : Slot)
     → LeavesNow (OnlyOpens told slot MayLeave) told
 only_before told slot =
-    let R : Change = λ a b. Opens (MayLeave a) b in
+    let R : Becoming = λ a b. Opens (MayLeave a) b in
     only_now MayLeave R told told slot
     (becomes_same R told slot (stands_all (λ s. Opens (MayLeave s) s) told slot
     (λ s image left opened. left))) (λ a b opens. opens)

@@ -3,9 +3,9 @@ use Rattle.std.specs.Prelude.{◌≡◌, ℕ, ◌+◌, ◌-◌, List, [], ◌∷
 use Rattle.std.specs.Prelude.{IsTrue}
 use Rattle.ug_disk.specs.declared.slot.Slot.{Slot}
 use Rattle.ug_disk.specs.declared.slot.Slot.TheVariants.{Zero, One}
-use Rattle.ug_disk.specs.declared.change.Change.{Change}
-use Rattle.ug_disk.specs.declared.change.Kept.{Kept}
-use Rattle.ug_disk.specs.declared.change.Kept.TheVariants.{Bytes, Pending}
+use Rattle.ug_disk.specs.declared.undo.Undo.{Undo}
+use Rattle.ug_disk.specs.declared.undo.Kept.{Kept}
+use Rattle.ug_disk.specs.declared.undo.Kept.TheVariants.{Bytes, Pending}
 use Rattle.ug_disk.specs.declared.memory.MemoryDisk.{MemoryDisk}
 use Rattle.ug_disk.specs.declared.stored.StoredSlots.{StoredSlots}
 use Rattle.ug_disk.specs.Slots.{SlotState, MayLeave, synced}
@@ -31,21 +31,21 @@ restored (Pending shortest longest loose) slot = record {
 }
 
 -- the slots before a change
-abbrev pub earlier : Change → Slots → Slots
-earlier change slots =
-    with_slot change.slot (restored change.kept (slot_of change.slot slots)) slots
+abbrev pub earlier : Undo → Slots → Slots
+earlier undo slots =
+    with_slot undo.slot (restored undo.kept (slot_of undo.slot slots)) slots
 
 -- the slots before each of these changes, the latest first
-abbrev pub all_earlier : List Change → Slots → List Slots
+abbrev pub all_earlier : List Undo → Slots → List Slots
 all_earlier [] slots = []
-all_earlier (change ∷ changes) slots =
-    earlier change slots ∷ all_earlier changes (earlier change slots)
+all_earlier (undo ∷ undos) slots =
+    earlier undo slots ∷ all_earlier undos (earlier undo slots)
 
 -- this became of a slot, and what is kept of it tells what was before
 pub record HasChanged (slot : Slot) (f : SlotState → SlotState) (old new : StoredSlots)
-    (change : Change) : Type 0 where
+    (undo : Undo) : Type 0 where
   pub now : slots_of new ≡ with_slot slot (f (slot_of slot (slots_of old))) (slots_of old)
-  pub before : earlier change (slots_of new) ≡ slots_of old
+  pub before : earlier undo (slots_of new) ≡ slots_of old
 
 -- what became of a disk so far
 abbrev pub history_of : MemoryDisk → History

@@ -5,7 +5,6 @@
 //! vectors and tells all. Its calls fail as its `Script` says.
 #![tactic(auto)]
 
-mod change;
 mod disk;
 mod laws;
 mod memory;
@@ -15,6 +14,7 @@ mod slot;
 mod stored;
 mod stored_slots;
 mod synced;
+mod undo;
 
 pub use disk::Disk;
 pub use laws::{sync_leaves_one, write_is_torn, writes_add_images};

@@ -6,11 +6,11 @@ ghost use Rattle.ug_disk.specs.Slots.{synced, written, loosened};
 ghost use Rattle.ug_disk.specs.Histories.{AreReal, Fails, slot_of, stepped};
 ghost use Rattle.ug_disk.specs.Crashes.{MayLeaveBoth};
 
-use crate::change::Change;
 use crate::disk::Disk;
 use crate::script::{Calls, Script, Turn};
 use crate::slot::{NotAllowed, Slot};
 use crate::stored::StoredSlots;
+use crate::undo::Undo;
 use std::alloc::{AllocError, Global};
 use std::mem;
 use ug_io::Failed;
@@ -22,7 +22,7 @@ use ug_io::Failed;
 pub struct MemoryDisk {
     alloc: Global,
     slots: StoredSlots,
-    past: Vec<Change>,
+    past: Vec<Undo>,
     calls: Calls,
 }
 
@@ -141,8 +141,8 @@ impl MemoryDisk {
         ensures faults { faults_of self.new ≡ faults_of self.old }
     {
         self.past.reserve(1)?;
-        let change = self.slots.write(self.alloc, slot, at, bytes)?;
-        let _ = self.past.push(change);
+        let undo = self.slots.write(self.alloc, slot, at, bytes)?;
+        let _ = self.past.push(undo);
         Ok(())
     }
 
@@ -167,8 +167,8 @@ impl MemoryDisk {
         ensures faults { faults_of self.new ≡ faults_of self.old }
     {
         self.past.reserve(1)?;
-        let change = self.slots.loosen(self.alloc, slot, at, bytes)?;
-        let _ = self.past.push(change);
+        let undo = self.slots.loosen(self.alloc, slot, at, bytes)?;
+        let _ = self.past.push(undo);
         Ok(())
     }
 
@@ -180,8 +180,8 @@ impl MemoryDisk {
         ensures faults { faults_of self.new ≡ faults_of self.old }
     {
         self.past.reserve(1)?;
-        let change = self.slots.sync(self.alloc, slot);
-        let _ = self.past.push(change);
+        let undo = self.slots.sync(self.alloc, slot);
+        let _ = self.past.push(undo);
         Ok(())
     }
 }

@@ -2,8 +2,8 @@ ghost use Rattle.std.specs.Prelude.{◌≡◌, ◌<◌, ◌≤◌, ◌+◌, ◌�
 ghost use Rattle.ug_disk.specs.Slots.{IsReal, IsLoose, MayLeave, put_at, synced, loosened, written};
 ghost use Rattle.ug_disk.specs.Memories.{restored};
 
-use crate::change::Kept;
 use crate::slot::Span;
+use crate::undo::Kept;
 use std::alloc::{AllocError, Global};
 use std::marker::Model;
 use std::mem;

@@ -3,18 +3,18 @@ ghost use Rattle.ug_disk.specs.Slots.{IsReal, synced, loosened, written};
 ghost use Rattle.ug_disk.specs.Histories.{slot_of};
 ghost use Rattle.ug_disk.specs.Memories.{HasChanged, slots_of};
 
-use crate::change::{Change, Kept};
 use crate::slot::Slot;
 use crate::stored::{Stored, StoredSlots};
+use crate::undo::{Kept, Undo};
 use std::alloc::{AllocError, Global};
 
-// The change of a slot that took this from it.
-fn changed(slot: Slot, kept: Result<Kept, AllocError>) -> Result<Change, AllocError>
+// What undoes the change of a slot that took this from it.
+fn changed(slot: Slot, kept: Result<Kept, AllocError>) -> Result<Undo, AllocError>
     ensures ok { IfOk result (λ change. (change.slot ≡ slot) × (kept ≡ Ok change.kept)) }
     ensures err { OnErr result (IsErr kept) }
 {
     match kept {
-        Ok(kept) => Ok(Change { slot, kept }),
+        Ok(kept) => Ok(Undo { slot, kept }),
         Err(error) => Err(error),
     }
 }
@@ -47,7 +47,7 @@ impl StoredSlots {
         slot: Slot,
         at: u64,
         piece: &[u8],
-    ) -> Result<Change, AllocError>
+    ) -> Result<Undo, AllocError>
         requires { at ≤ length (slot_of slot (slots_of self.old)).bytes }
         ensures ok { IfOk result (HasChanged slot (written at piece.now) self.old self.new) }
         ensures err { OnErr result (self.new ≡ self.old) }
@@ -66,7 +66,7 @@ impl StoredSlots {
         slot: Slot,
         at: u64,
         piece: &[u8],
-    ) -> Result<Change, AllocError>
+    ) -> Result<Undo, AllocError>
         requires { at ≤ length (slot_of slot (slots_of self.old)).bytes }
         ensures ok { IfOk result (HasChanged slot (loosened at (length piece.now))
             self.old self.new) }
@@ -80,13 +80,13 @@ impl StoredSlots {
     }
 
     /// Nothing is pending in the slot any more.
-    pub fn sync(&mut self, alloc: Global, slot: Slot) -> Change
+    pub fn sync(&mut self, alloc: Global, slot: Slot) -> Undo
         ensures { HasChanged slot (λ state. synced state.bytes) self.old self.new result }
     {
         let kept = match slot {
             Slot::Zero => self.zero.sync(alloc),
             Slot::One => self.one.sync(alloc),
         };
-        Change { slot, kept }
+        Undo { slot, kept }
     }
 }

@@ -7,7 +7,7 @@ use Rattle.ug_problem.specs.Fractions.{floor_of, ceiling_of}
 use Rattle.ug_drafts.specs.declared.bound.Bound.{Bound}
 use Rattle.ug_drafts.specs.declared.bound.Amount.{Amount}
 use Rattle.ug_drafts.specs.declared.bound.Amount.TheVariants as amounts
-use Rattle.ug_drafts.specs.Bounds.{finite, upper_bound, lower_bound, sets, sets_both, IsSmall, IsChange}
+use Rattle.ug_drafts.specs.Bounds.{finite, upper_bound, lower_bound, sets, sets_both, IsSmall, IsBoundChange}
 
 -- what is said of a value, if there is one
 abbrev pub If : {A : Type 0} → (A → Type 0) → Option A → Type 0
@@ -30,20 +30,20 @@ lower_small amounts.BelowAll = tt
 lower_small amounts.AboveAll = tt
 lower_small (amounts.Number d) = finite_small (ceiling_of d)
 
-pub sets_high : (o : Option Bound) (f i : Bool) → If IsSmall o → If IsChange (option_map (λ b. sets None (Some b) f i) o)
+pub sets_high : (o : Option Bound) (f i : Bool) → If IsSmall o → If IsBoundChange (option_map (λ b. sets None (Some b) f i) o)
 sets_high None f i h = tt
 sets_high (Some b) f i h = record { low = tt; high = h }
 
-pub sets_low : (o : Option Bound) (f i : Bool) → If IsSmall o → If IsChange (option_map (λ b. sets (Some b) None f i) o)
+pub sets_low : (o : Option Bound) (f i : Bool) → If IsSmall o → If IsBoundChange (option_map (λ b. sets (Some b) None f i) o)
 sets_low None f i h = tt
 sets_low (Some b) f i h = record { low = h; high = tt }
 
-both_small : (o p : Option Bound) → If IsSmall o → If IsSmall p → If IsChange (option_and_then (λ low. option_map (λ high. sets (Some low) (Some high) false false) p) o)
+both_small : (o p : Option Bound) → If IsSmall o → If IsSmall p → If IsBoundChange (option_and_then (λ low. option_map (λ high. sets (Some low) (Some high) false false) p) o)
 both_small None p h k = tt
 both_small (Some b) None h k = tt
 both_small (Some b) (Some c) h k = record { low = h; high = k }
 
-pub sets_both_small : (a : Amount) → If IsChange (sets_both a)
+pub sets_both_small : (a : Amount) → If IsBoundChange (sets_both a)
 sets_both_small amounts.BelowAll = tt
 sets_both_small amounts.AboveAll = tt
 sets_both_small (amounts.Number d) = both_small (finite (ceiling_of d)) (finite (floor_of d)) (finite_small (ceiling_of d)) (finite_small (floor_of d))

@@ -10,7 +10,7 @@ use Rattle.ug_drafts.specs.declared.bound.Bound.{Bound}
 use Rattle.ug_drafts.specs.declared.bound.Bound.TheVariants.{Infinite, Finite}
 use Rattle.ug_drafts.specs.declared.bound.Amount.{Amount}
 use Rattle.ug_drafts.specs.declared.bound.Amount.TheVariants as amounts
-use Rattle.ug_drafts.specs.declared.bound.Change.{Change}
+use Rattle.ug_drafts.specs.declared.bound.BoundChange.{BoundChange}
 
 -- ---- what an amount sets
 
@@ -51,18 +51,18 @@ lower_bound (amounts.Number d) = finite (ceiling_of d)
 
 -- a change: the lower bound, the upper bound, that a lower bound that was not set falls, and that
 -- the column is integer
-abbrev pub sets : Option Bound → Option Bound → Bool → Bool → Change
+abbrev pub sets : Option Bound → Option Bound → Bool → Bool → BoundChange
 sets low high falls integer = record { low = low; high = high; falls = falls; integer = integer }
 
 -- an upper bound, which lets an unset lower bound fall where it is below 0
-abbrev pub sets_upper : Bool → Amount → Option Change
+abbrev pub sets_upper : Bool → Amount → Option BoundChange
 sets_upper integer a = option_map (λ b. sets None (Some b) (is_negative a) integer) (upper_bound a)
 
-abbrev pub sets_lower : Bool → Amount → Option Change
+abbrev pub sets_lower : Bool → Amount → Option BoundChange
 sets_lower integer a = option_map (λ b. sets (Some b) None false integer) (lower_bound a)
 
 -- both bounds, each rounded inwards; neither may be infinite
-abbrev pub sets_both : Amount → Option Change
+abbrev pub sets_both : Amount → Option BoundChange
 sets_both (amounts.Number d) =
     option_and_then (λ low.
     option_map (λ high. sets (Some low) (Some high) false false) (finite (floor_of d)))
@@ -82,7 +82,7 @@ IsSmall Infinite = Unit {0}
 IsSmall (Finite z) = unsigned_abs z ≤ 10 ^ 9
 
 -- the bounds that a change sets are within the limit
-pub record IsChange (c : Change) : Type 0 where
+pub record IsBoundChange (c : BoundChange) : Type 0 where
   pub low : IfSome c.low IsSmall
   pub high : IfSome c.high IsSmall
 
@@ -93,11 +93,11 @@ or_bound None other = other
 
 -- the bounds after a change, by those before it; a fall sets a lower bound that was not set to
 -- minus infinity
-abbrev pub low_after : Change → Option Bound → Option Bound
+abbrev pub low_after : BoundChange → Option Bound → Option Bound
 low_after change old = or_bound change.low
     (if change.falls then or_bound old (Some Infinite) else old)
 
-abbrev pub high_after : Change → Option Bound → Option Bound
+abbrev pub high_after : BoundChange → Option Bound → Option Bound
 high_after change old = or_bound change.high old
 
 -- a bound, where an infinite one is this

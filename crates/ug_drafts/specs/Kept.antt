@@ -2,16 +2,16 @@
 use Rattle.std.specs.Prelude.{ℕ, ◌==◌, ◌||◌, Bool, true, false, List, [], ◌∷◌, ◌++◌, Option, Some}
 use Rattle.std.specs.Prelude.{None, if◌then◌else◌}
 use Rattle.ug_problem.specs.declared.decimal.Decimal.{Decimal}
-use Rattle.ug_drafts.specs.declared.bound.Change.{Change}
+use Rattle.ug_drafts.specs.declared.bound.BoundChange.{BoundChange}
 use Rattle.ug_drafts.specs.declared.column.ColumnDraft.{ColumnDraft}
 use Rattle.ug_drafts.specs.declared.row.Factor.{Factor}
-use Rattle.ug_drafts.specs.declared.row.Part.{Part}
-use Rattle.ug_drafts.specs.declared.row.Part.TheVariants as parts
+use Rattle.ug_drafts.specs.declared.row.RowPart.{RowPart}
+use Rattle.ug_drafts.specs.declared.row.RowPart.TheVariants as parts
 use Rattle.ug_drafts.specs.declared.row.RowDraft.{RowDraft}
 use Rattle.ug_drafts.specs.Bounds.{low_after, high_after}
 
 -- the column with a change
-abbrev pub with_change : Change → ColumnDraft → ColumnDraft
+abbrev pub with_change : BoundChange → ColumnDraft → ColumnDraft
 with_change change c = record {
   line = c.line;
   integer = c.integer || change.integer;
@@ -25,7 +25,7 @@ with_factor j d terms = if d.digits == 0 then terms
     else terms ++ record { column = j; number = d } ∷ []
 
 -- the row with a part more
-abbrev pub with_part : Part → Decimal → RowDraft → RowDraft
+abbrev pub with_part : RowPart → Decimal → RowDraft → RowDraft
 with_part (parts.Coefficient j) d r =
     record {
       line = r.line;
@@ -65,7 +65,7 @@ is_given None = false
 is_given (Some d) = true
 
 -- the row has the part
-abbrev pub has_part : Part → RowDraft → Bool
+abbrev pub has_part : RowPart → RowDraft → Bool
 has_part (parts.Coefficient j) r = is_place r.last j
 has_part parts.Side r = is_given r.side
 has_part parts.Range r = is_given r.range

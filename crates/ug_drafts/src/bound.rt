@@ -22,9 +22,9 @@ pub enum Amount {
     Number(Decimal),
 }
 
-/// What is set of a column.
+/// What the line of a bound sets of a column.
 #[derive(Clone, Copy, PartialEq, Eq)]
-pub struct Change {
+pub struct BoundChange {
     /// The lower bound, if it sets it.
     pub low: Option<Bound>,
     /// The upper bound, if it sets it.
@@ -106,11 +106,11 @@ fn lower_bound(amount: Amount) -> Option<Bound>
     }
 }
 
-/// A change.
-pub fn sets(low: Option<Bound>, high: Option<Bound>, falls: bool, integer: bool) -> Change
+/// What a line sets of a column.
+pub fn sets(low: Option<Bound>, high: Option<Bound>, falls: bool, integer: bool) -> BoundChange
     ensures { result ≡ sets low high falls integer }
 {
-    Change {
+    BoundChange {
         low,
         high,
         falls,
@@ -119,7 +119,7 @@ pub fn sets(low: Option<Bound>, high: Option<Bound>, falls: bool, integer: bool)
 }
 
 /// An upper bound, which lets an unset lower bound fall where it is below 0.
-pub fn sets_upper(integer: bool, amount: Amount) -> Option<Change>
+pub fn sets_upper(integer: bool, amount: Amount) -> Option<BoundChange>
     requires { IsAmount amount }
     ensures { result ≡ sets_upper integer amount }
 {
@@ -130,7 +130,7 @@ pub fn sets_upper(integer: bool, amount: Amount) -> Option<Change>
 }
 
 /// A lower bound.
-pub fn sets_lower(integer: bool, amount: Amount) -> Option<Change>
+pub fn sets_lower(integer: bool, amount: Amount) -> Option<BoundChange>
     requires { IsAmount amount }
     ensures { result ≡ sets_lower integer amount }
 {
@@ -141,7 +141,7 @@ pub fn sets_lower(integer: bool, amount: Amount) -> Option<Change>
 }
 
 /// Both bounds, each rounded inwards.
-pub fn sets_both(amount: Amount) -> Option<Change>
+pub fn sets_both(amount: Amount) -> Option<BoundChange>
     requires { IsAmount amount }
     ensures { result ≡ sets_both amount }
 {

@@ -2,7 +2,7 @@ ghost use Rattle.std.specs.Prelude.{◌≡◌};
 ghost use Rattle.ug_drafts.specs.Bounds.{low_after, high_after};
 ghost use Rattle.ug_drafts.specs.Kept.{with_change};
 
-use crate::bound::{Bound, Change};
+use crate::bound::{Bound, BoundChange};
 
 /// What a column has so far.
 #[derive(Clone, Copy)]
@@ -18,7 +18,7 @@ pub struct ColumnDraft {
 }
 
 // The lower bound after a change.
-fn low_after(change: Change, old: Option<Bound>) -> Option<Bound>
+fn low_after(change: BoundChange, old: Option<Bound>) -> Option<Bound>
     ensures { result ≡ low_after change old }
 {
     match change.low {
@@ -34,7 +34,7 @@ fn low_after(change: Change, old: Option<Bound>) -> Option<Bound>
 }
 
 // The upper bound after a change.
-fn high_after(change: Change, old: Option<Bound>) -> Option<Bound>
+fn high_after(change: BoundChange, old: Option<Bound>) -> Option<Bound>
     ensures { result ≡ high_after change old }
 {
     match change.high {
@@ -45,7 +45,7 @@ fn high_after(change: Change, old: Option<Bound>) -> Option<Bound>
 
 impl ColumnDraft {
     /// The column after a change.
-    pub fn changed(self, change: Change) -> ColumnDraft
+    pub fn changed(self, change: BoundChange) -> ColumnDraft
         ensures { result ≡ with_change change self }
     {
         ColumnDraft {

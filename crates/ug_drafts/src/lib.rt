@@ -17,12 +17,12 @@ mod rows_and_objective;
 mod scaling;
 
 pub use bound::{
-    Amount, Bound, Change, amount_from, infinity, sets, sets_both, sets_lower, sets_upper,
+    Amount, Bound, BoundChange, amount_from, infinity, sets, sets_both, sets_lower, sets_upper,
 };
 pub use column::ColumnDraft;
 pub use fault::{Kind, MpsError, MpsFault};
 pub use laws::least_scale;
 pub use made_columns::make_columns;
 pub use role::Role;
-pub use row::{Factor, Part, RowDraft};
+pub use row::{Factor, RowDraft, RowPart};
 pub use rows_and_objective::{RowsAndObjective, make_rows};

@@ -31,7 +31,7 @@ pub struct RowDraft {
 
 /// What pairs give their rows.
 #[derive(Clone, Copy)]
-pub enum Part {
+pub enum RowPart {
     /// A coefficient of the column at a place.
     Coefficient(u32),
     /// A right-hand side.
@@ -42,16 +42,16 @@ pub enum Part {
 
 impl RowDraft {
     /// Whether the row has the part; of the columns none comes behind the one asked for.
-    pub fn has(&self, part: Part) -> bool
+    pub fn has(&self, part: RowPart) -> bool
         ensures { result ≡ has_part part self.now }
     {
         match part {
-            Part::Coefficient(column) => match self.last {
+            RowPart::Coefficient(column) => match self.last {
                 Some(last) => last == column,
                 None => false,
             },
-            Part::Side => self.side.is_some(),
-            Part::Range => self.range.is_some(),
+            RowPart::Side => self.side.is_some(),
+            RowPart::Range => self.range.is_some(),
         }
     }
 
@@ -67,16 +67,16 @@ impl RowDraft {
     }
 
     /// Gives the row the part.
-    pub fn put(&mut self, part: Part, number: Decimal) -> Result<(), AllocError>
+    pub fn put(&mut self, part: RowPart, number: Decimal) -> Result<(), AllocError>
         ensures { OnOk result (self.new ≡ with_part part number self.old) }
     {
         match part {
-            Part::Coefficient(column) => {
+            RowPart::Coefficient(column) => {
                 self.add_factor(column, number)?;
                 self.last = Some(column);
             }
-            Part::Side => self.side = Some(number),
-            Part::Range => self.range = Some(number),
+            RowPart::Side => self.side = Some(number),
+            RowPart::Range => self.range = Some(number),
         }
         Ok(())
     }

@@ -3,12 +3,12 @@ use Rattle.std.proofs.Common.{◌≡◌, true, false, Option, Some, None, subst,
 use Rattle.ug_lines.specs.declared.kinds.BoundKind.{BoundKind}
 use Rattle.ug_lines.specs.declared.kinds.BoundKind.TheVariants.{Upper, Lower, Fixed, IntegerLower, IntegerUpper, Free, MinusInfinity, PlusInfinity, Binary}
 use Rattle.ug_drafts.specs.declared.bound.Amount.{Amount}
-use Rattle.ug_drafts.specs.declared.bound.Change.{Change}
-use Rattle.ug_drafts.specs.Bounds.{is_negative, upper_bound, lower_bound, IsChange}
+use Rattle.ug_drafts.specs.declared.bound.BoundChange.{BoundChange}
+use Rattle.ug_drafts.specs.Bounds.{is_negative, upper_bound, lower_bound, IsBoundChange}
 use Rattle.ug_drafts.proofs.BoundsLemmas.{If, upper_small, lower_small, sets_high, sets_low, sets_both_small}
 use Rattle.ug_mps.specs.BoundWords.{bare_change, change_of, numbered_change}
 
-change_small : (kind : BoundKind) (a : Option Amount) → If IsChange (change_of kind a)
+change_small : (kind : BoundKind) (a : Option Amount) → If IsBoundChange (change_of kind a)
 unfolding bare_change numbered_change
 change_small Upper (Some a) = sets_high (upper_bound a) (is_negative a) false (upper_small a)
 change_small IntegerUpper (Some a) = sets_high (upper_bound a) (is_negative a) true (upper_small a)
@@ -29,5 +29,5 @@ change_small MinusInfinity None = record { low = tt; high = tt }
 change_small PlusInfinity None = record { low = tt; high = tt }
 change_small Binary None = record { low = omega arith; high = omega arith }
 
-pub small_of : (kind : BoundKind) (a : Option Amount) (c : Change) → change_of kind a ≡ Some c → IsChange c
-small_of kind a c e = subst (λ o. If IsChange o) e (change_small kind a)
+pub small_of : (kind : BoundKind) (a : Option Amount) (c : BoundChange) → change_of kind a ≡ Some c → IsBoundChange c
+small_of kind a c e = subst (λ o. If IsBoundChange o) e (change_small kind a)

@@ -9,7 +9,7 @@ use Rattle.ug_lines.specs.Shapes as shapes
 use Rattle.ug_problem.specs.Decimals.{decimal_of}
 use Rattle.ug_problem.specs.Instances.{IsName}
 use Rattle.ug_drafts.specs.declared.fault.Kind.TheVariants as kinds
-use Rattle.ug_drafts.specs.declared.row.Part.TheVariants as parts
+use Rattle.ug_drafts.specs.declared.row.RowPart.TheVariants as parts
 use Rattle.ug_mps.specs.declared.draft.Draft.{Draft}
 use Rattle.ug_mps.specs.Entries.{Pair, Entry, column}
 use Rattle.ug_mps.specs.Faults.{repeated, rows_in, numbers_in, is_begun_again}

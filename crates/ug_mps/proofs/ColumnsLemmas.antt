@@ -4,7 +4,7 @@ use Rattle.std.specs.Str.{bytes_eq}
 use Rattle.std.proofs.lemmas.Bool.{cases_eq, false≢true}
 use Rattle.std.proofs.lemmas.List.{same_lists, length-set, length-map, get_or-map, get_or-set_same, get_or-set_other, map_push}
 use Rattle.ug_drafts.specs.declared.bound.Bound.{Bound}
-use Rattle.ug_drafts.specs.declared.bound.Change.{Change}
+use Rattle.ug_drafts.specs.declared.bound.BoundChange.{BoundChange}
 use Rattle.ug_drafts.specs.declared.column.ColumnDraft.{ColumnDraft}
 use Rattle.ug_drafts.specs.Kept.{with_change}
 use Rattle.ug_mps.specs.Entries.{Pair, Entry, column, bound}
@@ -115,7 +115,7 @@ or_turn false true false = refl
 or_turn false false c = sym (or_false_right c)
 
 -- a column's bounds are changed
-pub columns_and_change : (set' : Option (List ℕ)) (name : List ℕ) (change : Change) (h : List Entry) (c : KeptColumns) (at : ℕ) → AreColumns h c → AreDistinct c.names → StandsAt c.names name at
+pub columns_and_change : (set' : Option (List ℕ)) (name : List ℕ) (change : BoundChange) (h : List Entry) (c : KeptColumns) (at : ℕ) → AreColumns h c → AreDistinct c.names → StandsAt c.names name at
     → AreColumns (bound set' name change ∷ h) (record { names = c.names; drafts = set c.drafts at (with_change change (column_at c.drafts at)) })
 columns_and_change set' name change h c at are apart here =
     let e : Entry = bound set' name change in

@@ -4,7 +4,7 @@ use Rattle.std.specs.Str.{bytes_eq}
 use Rattle.std.proofs.lemmas.Bool.{cases_Bool, cases_eq, eqb-true, eq-eqb}
 use Rattle.ug_lines.specs.declared.shape.NamedWord.{NamedWord}
 use Rattle.ug_lines.specs.Shaped.{second_shaped}
-use Rattle.ug_drafts.specs.declared.row.Part.{Part}
+use Rattle.ug_drafts.specs.declared.row.RowPart.{RowPart}
 use Rattle.ug_drafts.specs.Kept.{with_part, has_part}
 use Rattle.ug_mps.specs.declared.pairs.NamedNumber.{NamedNumber}
 use Rattle.ug_mps.specs.Entries.{Pair}
@@ -45,7 +45,7 @@ places_same names r q i j apart here there = ⊎_elim
     (λ ne. bytes_apart q r (λ e. ne (apart j i there.there here.there (there.same ∙ e ∙ sym here.same))) ∙ sym (no_eq j i ne))
     (cases_eq j i)
 
-module _ (part : Part) (rows : KeptRows) (r : List ℕ) (i : ℕ) (apart : AreDistinct rows.names) where
+module _ (part : RowPart) (rows : KeptRows) (r : List ℕ) (i : ℕ) (apart : AreDistinct rows.names) where
   pub repeated_first : (o : Option NamedWord) (p : Option ℕ) (w : Bor (List ℕ)) → w.now ≡ r → has_part part (row_at rows.drafts i) ≡ true
       → FindsRepeated part (r ∷ rows_in (second_shaped o)) (i ∷ second_place p) rows (Some w)
   repeated_first o p w e t l are below stand =
@@ -103,7 +103,7 @@ pub put_there : (names : List (List ℕ)) (o : Option NamedNumber) (p : Option �
 put_there names o p j w e n stand =
     (let at : AreAt names (w.row.now ∷ []) (j ∷ []) = subst (λ q. AreAt names (w.row.now ∷ []) (second_place q)) e (subst (λ q. AreAt names (rows_named (second_said q)) (second_place p)) n stand) in at).0.there
 
-module _ (part : Part) (old mid : KeptRows) (p : Pair) (i : ℕ) (apart : AreDistinct old.names)
+module _ (part : RowPart) (old mid : KeptRows) (p : Pair) (i : ℕ) (apart : AreDistinct old.names)
     (is : mid ≡ record { names = old.names; drafts = set old.drafts i (with_part part p.number (row_at old.drafts i)) }) where
   pub put_no_place : (o : Option NamedNumber) (q : Option ℕ) → q ≡ None → PutsPairs part (p ∷ second_said o) (i ∷ second_place q) old mid
   put_no_place None q e l are stand none = puts_one part p i old mid apart is l are (stand.0, tt) none

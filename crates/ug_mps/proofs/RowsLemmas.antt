@@ -10,9 +10,9 @@ use Rattle.ug_drafts.specs.declared.role.Role.{Role}
 use Rattle.ug_drafts.specs.declared.role.Role.TheVariants.{Objective}
 use Rattle.ug_drafts.specs.declared.row.Factor.{Factor}
 use Rattle.ug_drafts.specs.declared.row.RowDraft.{RowDraft}
-use Rattle.ug_drafts.specs.declared.row.Part.{Part}
-use Rattle.ug_drafts.specs.declared.row.Part.TheVariants.{Side, Range}
-use Rattle.ug_drafts.specs.declared.row.Part.TheVariants as parts
+use Rattle.ug_drafts.specs.declared.row.RowPart.{RowPart}
+use Rattle.ug_drafts.specs.declared.row.RowPart.TheVariants.{Side, Range}
+use Rattle.ug_drafts.specs.declared.row.RowPart.TheVariants as parts
 use Rattle.ug_drafts.specs.Kept.{with_factor, with_part, is_place, is_given, has_part}
 use Rattle.ug_mps.specs.Entries.{Pair}
 use Rattle.ug_mps.specs.Faults.{repeated}
@@ -118,14 +118,14 @@ terms_elsewhere j p cs name e =
     ap (map factor_of) (terms_push cs (record { place = j; row = p.row; number = p.number }) name) ∙ rw e (ap (map factor_of) (append_none (terms_of cs name)))
 
 -- a row with a part more, and a row that it is not of
-pub part_here : (part : Part) (l : Lists) (p : Pair) (r : RowNamed) → bytes_eq r.name p.row ≡ true → is_taken part l p.row ≡ false
+pub part_here : (part : RowPart) (l : Lists) (p : Pair) (r : RowNamed) → bytes_eq r.name p.row ≡ true → is_taken part l p.row ≡ false
     → row_so_far (and_pairs part (p ∷ []) l) r ≡ with_part part p.number (row_so_far l r)
 part_here (parts.Coefficient j) l p r e n = draft_same r.line r.role _ _ _ _ _ _ _ _ (terms_here j p l.coefficients r.name e) refl refl
     (last_push l.coefficients (record { place = j; row = p.row; number = p.number }) r.name ∙ rw e refl)
 part_here Side l p r e n = draft_same r.line r.role _ _ _ _ _ _ _ _ refl (side_push l.sides p r.name n ∙ rw e refl) refl refl
 part_here Range l p r e n = draft_same r.line r.role _ _ _ _ _ _ _ _ refl refl (side_push l.ranges p r.name n ∙ rw e refl) refl
 
-pub part_elsewhere : (part : Part) (l : Lists) (p : Pair) (r : RowNamed) → bytes_eq r.name p.row ≡ false → is_taken part l p.row ≡ false
+pub part_elsewhere : (part : RowPart) (l : Lists) (p : Pair) (r : RowNamed) → bytes_eq r.name p.row ≡ false → is_taken part l p.row ≡ false
     → row_so_far (and_pairs part (p ∷ []) l) r ≡ row_so_far l r
 part_elsewhere (parts.Coefficient j) l p r e n = draft_same r.line r.role _ _ _ _ _ _ _ _ (terms_elsewhere j p l.coefficients r.name e) refl refl
     (last_push l.coefficients (record { place = j; row = p.row; number = p.number }) r.name ∙ rw e refl)
@@ -133,7 +133,7 @@ part_elsewhere Side l p r e n = draft_same r.line r.role _ _ _ _ _ _ _ _ refl (s
 part_elsewhere Range l p r e n = draft_same r.line r.role _ _ _ _ _ _ _ _ refl refl (side_push l.ranges p r.name n ∙ rw e refl) refl
 
 -- the rows stay those named
-same_named : (part : Part) (pairs : List Pair) (l : Lists) → (and_pairs part pairs l).named ≡ l.named
+same_named : (part : RowPart) (pairs : List Pair) (l : Lists) → (and_pairs part pairs l).named ≡ l.named
 same_named (parts.Coefficient j) pairs l = refl
 same_named Side pairs l = refl
 same_named Range pairs l = refl
@@ -167,7 +167,7 @@ module _ (l : Lists) (rows : KeptRows) (old : AreRows l rows) (at : ℕ) (name :
   range_there = (row_there (λ x. number_given l.ranges name ≡ (row_at rows.drafts at).range) (λ x e f. ap (number_given l.ranges) (sym e) ∙ ap (λ (d : RowDraft). d.range) f)).1
 
 -- the rows with one pair more
-pub rows_and_pair : (part : Part) (l : Lists) (rows : KeptRows) (p : Pair) (at : ℕ) → AreRows l rows → AreDistinct rows.names → StandsAt rows.names p.row at → is_taken part l p.row ≡ false
+pub rows_and_pair : (part : RowPart) (l : Lists) (rows : KeptRows) (p : Pair) (at : ℕ) → AreRows l rows → AreDistinct rows.names → StandsAt rows.names p.row at → is_taken part l p.row ≡ false
     → AreRows (and_pairs part (p ∷ []) l) (record { names = rows.names; drafts = set rows.drafts at (with_part part p.number (row_at rows.drafts at)) })
 rows_and_pair part l rows p at old apart here free =
     let apart-n = apart_named l rows old at p.row apart here in
@@ -258,7 +258,7 @@ given_named : (pairs : List Pair) (name : List ℕ) → is_given (number_given p
 given_named [] name = refl
 given_named (p ∷ pairs) name = ⊎_elim (λ t. rw t refl) (λ f. rw f (given_named pairs name)) (cases_Bool (bytes_eq name p.row))
 
-pub has_there : (part : Part) (l : Lists) (rows : KeptRows) (at : ℕ) (name : List ℕ) → AreRows l rows → AreDistinct rows.names → StandsAt rows.names name at → AreBelow part l
+pub has_there : (part : RowPart) (l : Lists) (rows : KeptRows) (at : ℕ) (name : List ℕ) → AreRows l rows → AreDistinct rows.names → StandsAt rows.names name at → AreBelow part l
     → has_part part (row_at rows.drafts at) ≡ is_taken part l name
 has_there (parts.Coefficient j) l rows at name old apart here below =
     ap (λ p. is_place p j) (sym (last_there l rows old at name apart here)) ∙ sym (has_last l.coefficients j name below.0 below.1)
@@ -266,7 +266,7 @@ has_there Side l rows at name old apart here below = ap is_given (sym (side_ther
 has_there Range l rows at name old apart here below = ap is_given (sym (range_there l rows old at name apart here)) ∙ given_named l.ranges name
 
 -- a pair more is taken
-taken_more : (part : Part) (l : Lists) (p : Pair) (name : List ℕ) → is_taken part (and_pairs part (p ∷ []) l) name ≡ (is_taken part l name || bytes_eq name p.row)
+taken_more : (part : RowPart) (l : Lists) (p : Pair) (name : List ℕ) → is_taken part (and_pairs part (p ∷ []) l) name ≡ (is_taken part l name || bytes_eq name p.row)
 taken_more (parts.Coefficient j) l p name = any_append (λ (c : Coefficient). (c.place == j) && bytes_eq name c.row) l.coefficients (placed j (p ∷ []))
     ∙ rw (eq-eqb j j refl) (ap (λ b. has l.coefficients j name || b) (or_false_right (bytes_eq name p.row)))
 taken_more Side l p name = any_append (λ (q : Pair). bytes_eq name q.row) l.sides (p ∷ []) ∙ ap (λ b. names_row l.sides name || b) (or_false_right (bytes_eq name p.row))
@@ -277,7 +277,7 @@ lists_same : (n : List RowNamed) (c c' : List Coefficient) (s s' r r' : List Pai
 lists_same n c c' s s' r r' p q t = cc
 
 -- two pairs one after the other
-two_pairs : (part : Part) (l : Lists) (p q : Pair) → and_pairs part (q ∷ []) (and_pairs part (p ∷ []) l) ≡ and_pairs part (p ∷ q ∷ []) l
+two_pairs : (part : RowPart) (l : Lists) (p q : Pair) → and_pairs part (q ∷ []) (and_pairs part (p ∷ []) l) ≡ and_pairs part (p ∷ q ∷ []) l
 two_pairs (parts.Coefficient j) l p q = lists_same l.named _ _ _ _ _ _ (append_assoc l.coefficients (placed j (p ∷ [])) (placed j (q ∷ []))) refl refl
 two_pairs Side l p q = lists_same l.named _ _ _ _ _ _ refl (append_assoc l.sides (p ∷ []) (q ∷ [])) refl
 two_pairs Range l p q = lists_same l.named _ _ _ _ _ _ refl refl (append_assoc l.ranges (p ∷ []) (q ∷ []))
@@ -290,12 +290,12 @@ not_repeated_one taken r rs e = ⊎_elim
     (cases_Bool (taken r))
 
 -- the rows with one pair or two
-pub puts_one : (part : Part) (p : Pair) (at : ℕ) (old new : KeptRows) → AreDistinct old.names
+pub puts_one : (part : RowPart) (p : Pair) (at : ℕ) (old new : KeptRows) → AreDistinct old.names
     → new ≡ record { names = old.names; drafts = set old.drafts at (with_part part p.number (row_at old.drafts at)) } → PutsPairs part (p ∷ []) (at ∷ []) old new
 puts_one part p at old new apart is l are stand none =
     subst (λ rows. AreRows (and_pairs part (p ∷ []) l) rows) (sym is) (rows_and_pair part l old p at are apart stand.0 (not_repeated_one (is_taken part l) p.row [] none).0)
 
-pub puts_two : (part : Part) (p q : Pair) (i j : ℕ) (old mid new : KeptRows) → AreDistinct old.names
+pub puts_two : (part : RowPart) (p q : Pair) (i j : ℕ) (old mid new : KeptRows) → AreDistinct old.names
     → mid ≡ record { names = old.names; drafts = set old.drafts i (with_part part p.number (row_at old.drafts i)) }
     → new ≡ record { names = mid.names; drafts = set mid.drafts j (with_part part q.number (row_at mid.drafts j)) } → PutsPairs part (p ∷ q ∷ []) (i ∷ j ∷ []) old new
 puts_two part p q i j old mid new apart is is' l are stand none =

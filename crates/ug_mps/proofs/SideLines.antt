@@ -10,12 +10,12 @@ use Rattle.ug_lines.specs.Shapes.{WordPair, Shape}
 use Rattle.ug_lines.specs.Shapes as shapes
 use Rattle.ug_problem.specs.Decimals.{decimal_of}
 use Rattle.ug_drafts.specs.declared.bound.Amount.{Amount}
-use Rattle.ug_drafts.specs.declared.bound.Change.{Change}
+use Rattle.ug_drafts.specs.declared.bound.BoundChange.{BoundChange}
 use Rattle.ug_drafts.specs.declared.fault.Kind.TheVariants as kinds
 use Rattle.ug_drafts.specs.declared.fault.MpsError.{MpsError}
-use Rattle.ug_drafts.specs.declared.row.Part.{Part}
-use Rattle.ug_drafts.specs.declared.row.Part.TheVariants as parts
-use Rattle.ug_drafts.specs.Bounds.{IsChange}
+use Rattle.ug_drafts.specs.declared.row.RowPart.{RowPart}
+use Rattle.ug_drafts.specs.declared.row.RowPart.TheVariants as parts
+use Rattle.ug_drafts.specs.Bounds.{IsBoundChange}
 use Rattle.ug_drafts.specs.Kept.{with_change}
 use Rattle.ug_mps.specs.declared.draft.Draft.{Draft}
 use Rattle.ug_mps.specs.BoundWords.{amount_of, change_of}
@@ -77,7 +77,7 @@ set_of_ranges : (h : List Entry) (named : Option (List ℕ)) (ps : List Pair) �
 set_of_ranges h None ps = refl
 set_of_ranges h (Some s) ps = refl
 
-set_of_bound : (h : List Entry) (named : Option (List ℕ)) (name : List ℕ) (change : Change) → first_set named (set_of h) ≡ set_of (bound named name change ∷ h)
+set_of_bound : (h : List Entry) (named : Option (List ℕ)) (name : List ℕ) (change : BoundChange) → first_set named (set_of h) ≡ set_of (bound named name change ∷ h)
 set_of_bound h None name change = refl
 set_of_bound h (Some s) name change = refl
 
@@ -130,17 +130,17 @@ module _ (h : List Entry) (d : Draft) (old : Drafts h d) (named : Option (List �
     sides_repeats : (o : Option (Bor (List ℕ))) → FindsRepeated (part_in d.section) (rows_in ws) places d.rows o
         → repeated (λ word. names_row (given_in h (section_of h)) word) (rows_in ws) ≡ option_map (λ w. w.now) o
     sides_repeats o found =
-        let s : Part = part_in (section_of h) in
+        let s : RowPart = part_in (section_of h) in
         let f = subst (λ s. FindsRepeated (part_in s) (rows_in ws) places d.rows o) old.section found in
         repeated_ext (λ word. names_row (given_in h (section_of h)) word) (λ word. is_taken (part_in (section_of h)) (lists_of h) word) (rows_in ws) (λ x. sym (part_taken (is_ranges (section_of h)) (lists_of h) x))
         ∙ sym (f (lists_of h) old.rows (part_below (is_ranges (section_of h)) (lists_of h)) stand)
 
-    pub sides_repeated : (part : Part) (w : Bor (List ℕ)) → part ≡ part_in d.section → FindsRepeated part (rows_in ws) places d.rows (Some w)
+    pub sides_repeated : (part : RowPart) (w : Bor (List ℕ)) → part ≡ part_in d.section → FindsRepeated part (rows_in ws) places d.rows (Some w)
         → shaped_fault (shapes.sides named ws) h ≡ Some (record { kind = kinds.Duplicate; word = Some w.now })
     sides_repeated part w e found =
         rw (used-h, missing_is h d.rows (rows_in ws) old.rows ∙ m, sides_repeats (Some w) (subst (λ p. FindsRepeated p (rows_in ws) places d.rows (Some w)) e found)) refl
 
-    module _ (part : Part) (e : part ≡ part_in d.section) (finds : FindsRepeated part (rows_in ws) places d.rows None) where
+    module _ (part : RowPart) (e : part ≡ part_in d.section) (finds : FindsRepeated part (rows_in ws) places d.rows None) where
       found : FindsRepeated (part_in d.section) (rows_in ws) places d.rows None
       found = subst (λ p. FindsRepeated p (rows_in ws) places d.rows None) e finds
 
@@ -219,11 +219,11 @@ module _ (h : List Entry) (d : Draft) (old : Drafts h d) (named : Option (List �
       pub bound_too_wide : (a : Option Amount) → IsAmountOf number a → change_of kind a ≡ None → shaped_fault (shapes.bound kind named name number) h ≡ Some (record { kind = kinds.TooWide; word = Some name })
       bound_too_wide a e n = rw (used-b, there, amount_there number a e kind named name, change_said kind number a e ∙ n) refl
 
-      pub bound_good : (a : Option Amount) (change : Change) → IsAmountOf number a → change_of kind a ≡ Some change → shaped_fault (shapes.bound kind named name number) h ≡ None
+      pub bound_good : (a : Option Amount) (change : BoundChange) → IsAmountOf number a → change_of kind a ≡ Some change → shaped_fault (shapes.bound kind named name number) h ≡ None
       bound_good a change e n = rw (used-b, there, amount_there number a e kind named name, change_said kind number a e ∙ n) refl
 
       -- the draft with the bound
-      pub drafts_and_bound : (n : ℕ) (a : Option Amount) (change : Change) (new : Draft) → IsAmountOf number a → change_of kind a ≡ Some change → IsChange change → AreDistinct d.columns.names → d.section ≡ Some sections.Bounds
+      pub drafts_and_bound : (n : ℕ) (a : Option Amount) (change : BoundChange) (new : Draft) → IsAmountOf number a → change_of kind a ≡ Some change → IsBoundChange change → AreDistinct d.columns.names → d.section ≡ Some sections.Bounds
           → new ≡ record d { set = set_after named d.set; columns = record { names = d.columns.names; drafts = set d.columns.drafts at (with_change change (column_at d.columns.drafts at)) } }
           → Drafts (shaped_says n (shapes.bound kind named name number) h ++ h) new
       drafts_and_bound n a change new e c small apart s is =

@@ -12,7 +12,7 @@ use Rattle.ug_lines.specs.Kinds.{is_in_any_case}
 use Rattle.ug_problem.specs.Decimals.{decimal_of}
 use Rattle.ug_drafts.specs.declared.bound.Bound.TheVariants.{Infinite, Finite}
 use Rattle.ug_drafts.specs.declared.bound.Amount.{Amount}
-use Rattle.ug_drafts.specs.declared.bound.Change.{Change}
+use Rattle.ug_drafts.specs.declared.bound.BoundChange.{BoundChange}
 use Rattle.ug_drafts.specs.Bounds.{infinity, amount, sets, sets_upper, sets_lower, sets_both}
 
 -- the word is inf or infinity, in any case, with or without a sign
@@ -27,7 +27,7 @@ amount_of word = if is_infinite_word word then Some (infinity (starts_with_minus
     else option_map amount (decimal_of word)
 
 -- what a bound with a number sets; nothing where the number is too wide
-unfoldable pub numbered_change : BoundKind → Amount → Option Change
+unfoldable pub numbered_change : BoundKind → Amount → Option BoundChange
 numbered_change Upper a = sets_upper false a
 numbered_change IntegerUpper a = sets_upper true a
 numbered_change Lower a = sets_lower false a
@@ -36,7 +36,7 @@ numbered_change Fixed a = sets_both a
 numbered_change _ a = None
 
 -- what a bound without a number sets
-unfoldable pub bare_change : BoundKind → Option Change
+unfoldable pub bare_change : BoundKind → Option BoundChange
 bare_change Free = Some (sets (Some Infinite) (Some Infinite) false false)
 bare_change MinusInfinity = Some (sets (Some Infinite) None false false)
 bare_change PlusInfinity = Some (sets None (Some Infinite) false false)
@@ -44,6 +44,6 @@ bare_change Binary = Some (sets (Some (Finite (pos 0))) (Some (Finite (pos 1))) 
 bare_change _ = None
 
 -- what a bound sets, by its type and its amount, if it has one; nothing where that is too wide
-abbrev pub change_of : BoundKind → Option Amount → Option Change
+abbrev pub change_of : BoundKind → Option Amount → Option BoundChange
 change_of kind None = bare_change kind
 change_of kind (Some a) = numbered_change kind a

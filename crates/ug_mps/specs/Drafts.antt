@@ -10,8 +10,8 @@ use Rattle.ug_drafts.specs.declared.fault.Kind.TheVariants as kinds
 use Rattle.ug_drafts.specs.declared.fault.MpsError.{MpsError}
 use Rattle.ug_drafts.specs.declared.fault.MpsError.TheVariants.{Memory, Fault}
 use Rattle.ug_drafts.specs.declared.bound.Amount.{Amount}
-use Rattle.ug_drafts.specs.declared.row.Part.{Part}
-use Rattle.ug_drafts.specs.declared.row.Part.TheVariants as parts
+use Rattle.ug_drafts.specs.declared.row.RowPart.{RowPart}
+use Rattle.ug_drafts.specs.declared.row.RowPart.TheVariants as parts
 use Rattle.ug_drafts.specs.FirstFaults.{fault_at}
 use Rattle.ug_mps.specs.declared.draft.Draft.{Draft}
 use Rattle.ug_mps.specs.BoundWords.{amount_of}
@@ -127,7 +127,7 @@ is_passed_set None used = false
 is_passed_set (Some set) used = is_other set used
 
 -- what pairs give their rows in a section
-abbrev pub part_in : Option Section → Part
+abbrev pub part_in : Option Section → RowPart
 part_in section = if is_ranges section then parts.Range else parts.Side
 
 -- the set after a line that uses one: the one that it names, or else the one before

@@ -5,7 +5,7 @@ use Rattle.ug_lines.specs.declared.section.Section.TheVariants.{Objsense, Rows, 
 use Rattle.ug_lines.specs.declared.section.Section.TheVariants.{Ranges, Bounds}
 use Rattle.ug_lines.specs.declared.kinds.RowKind.{RowKind}
 use Rattle.ug_problem.specs.declared.decimal.Decimal.{Decimal}
-use Rattle.ug_drafts.specs.declared.bound.Change.{Change}
+use Rattle.ug_drafts.specs.declared.bound.BoundChange.{BoundChange}
 
 -- a row's name and a number
 pub record Pair : Type 0 where
@@ -23,7 +23,7 @@ pub data Entry : Type 0 where
   column : ℕ → List ℕ → List Pair → Entry
   sides : Option (List ℕ) → List Pair → Entry
   ranges : Option (List ℕ) → List Pair → Entry
-  bound : Option (List ℕ) → List ℕ → Change → Entry
+  bound : Option (List ℕ) → List ℕ → BoundChange → Entry
 
 -- the section in which an entry stands
 abbrev pub section_of_entry : Entry → Section

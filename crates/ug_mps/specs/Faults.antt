@@ -17,7 +17,7 @@ use Rattle.ug_lines.specs.Shapes.{bound, either}
 use Rattle.ug_problem.specs.Decimals.{decimal_of}
 use Rattle.ug_drafts.specs.declared.fault.Kind.{Kind}
 use Rattle.ug_drafts.specs.declared.fault.Kind.TheVariants as kinds
-use Rattle.ug_drafts.specs.declared.bound.Change.{Change}
+use Rattle.ug_drafts.specs.declared.bound.BoundChange.{BoundChange}
 use Rattle.ug_mps.specs.BoundWords.{amount_of, change_of}
 use Rattle.ug_mps.specs.Entries.{Pair, Entry}
 use Rattle.ug_mps.specs.History.{is_section, has_section, has_sense, rows_of, is_row, is_column}
@@ -224,7 +224,7 @@ bad_number (bound kind set name (Some word)) =
 bad_number shape = None
 
 -- what a bound sets, by its type and its word, if it has one; nothing where it is too wide
-abbrev pub change_by : BoundKind → Option (List ℕ) → Option Change
+abbrev pub change_by : BoundKind → Option (List ℕ) → Option BoundChange
 change_by kind None = change_of kind None
 change_by kind (Some word) = option_and_then (λ a. change_of kind (Some a)) (amount_of word)
 

@@ -5,7 +5,7 @@ use Rattle.std.specs.Prelude.{nat_lt, nat_le}
 use Rattle.std.specs.List.{list_all}
 use Rattle.ug_problem.specs.Decimals.{IsDecimal}
 use Rattle.ug_problem.specs.Instances.{IsName}
-use Rattle.ug_drafts.specs.Bounds.{IsChange}
+use Rattle.ug_drafts.specs.Bounds.{IsBoundChange}
 use Rattle.ug_mps.specs.Entries.{Pair, Entry, row, column, sides, ranges, bound}
 use Rattle.ug_mps.specs.History.{rows_of, is_row, goes_on, is_column, place_of, coefficients, has}
 use Rattle.ug_mps.specs.History.{names_row, sides_given, ranges_given}
@@ -58,7 +58,7 @@ IsProper (row line kind name) = IsName name
 IsProper (column line name pairs) = IsColumnEntry name pairs
 IsProper (sides set pairs) = All IsNumbered pairs
 IsProper (ranges set pairs) = All IsNumbered pairs
-IsProper (bound set name change) = IsChange change
+IsProper (bound set name change) = IsBoundChange change
 IsProper _ = Unit {0}
 
 -- the entry may follow, and its words are proper

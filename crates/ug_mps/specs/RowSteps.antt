@@ -8,7 +8,7 @@ use Rattle.std.specs.Str.{bytes_eq}
 use Rattle.ug_drafts.specs.declared.role.Role.{Role}
 use Rattle.ug_drafts.specs.declared.role.Role.TheVariants.{Objective}
 use Rattle.ug_drafts.specs.declared.row.RowDraft.{RowDraft}
-use Rattle.ug_drafts.specs.declared.row.Part.{Part}
+use Rattle.ug_drafts.specs.declared.row.RowPart.{RowPart}
 use Rattle.ug_mps.specs.declared.draft.rows.RowPlaces.{RowPlaces}
 use Rattle.ug_mps.specs.Entries.{Pair}
 use Rattle.ug_mps.specs.Faults.{repeated}
@@ -53,7 +53,7 @@ abbrev pub first_missing : List (List ℕ) → List (List ℕ) → Option (List 
 first_missing names words = find (λ word. not (is_among names word)) words
 
 -- the first row that has the part, or that an earlier one of the rows is too
-abbrev pub FindsRepeated : Part → List (List ℕ) → List ℕ → KeptRows → Option (Bor (List ℕ)) → Type 0
+abbrev pub FindsRepeated : RowPart → List (List ℕ) → List ℕ → KeptRows → Option (Bor (List ℕ)) → Type 0
 FindsRepeated part names places rows word = (l : Lists) → AreRows l rows → AreBelow part l
     → AreAt rows.names names places
     → option_map (λ w. w.now) word ≡ repeated (λ name. is_taken part l name) names
@@ -63,7 +63,7 @@ abbrev pub rows_named : List Pair → List (List ℕ)
 rows_named pairs = map (λ (p : Pair). p.row) pairs
 
 -- the rows have the pairs as this part
-abbrev pub PutsPairs : Part → List Pair → List ℕ → KeptRows → KeptRows → Type 0
+abbrev pub PutsPairs : RowPart → List Pair → List ℕ → KeptRows → KeptRows → Type 0
 PutsPairs part pairs places old new = (l : Lists) → AreRows l old
     → AreAt old.names (rows_named pairs) places
     → repeated (λ name. is_taken part l name) (rows_named pairs) ≡ None

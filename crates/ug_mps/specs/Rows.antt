@@ -5,8 +5,8 @@ use Rattle.std.specs.Prelude.{None, if◌then◌else◌}
 use Rattle.std.specs.List.{list_any}
 use Rattle.std.specs.Str.{bytes_eq}
 use Rattle.ug_drafts.specs.declared.row.RowDraft.{RowDraft}
-use Rattle.ug_drafts.specs.declared.row.Part.{Part}
-use Rattle.ug_drafts.specs.declared.row.Part.TheVariants as parts
+use Rattle.ug_drafts.specs.declared.row.RowPart.{RowPart}
+use Rattle.ug_drafts.specs.declared.row.RowPart.TheVariants as parts
 use Rattle.ug_mps.specs.Entries.{Pair, Entry}
 use Rattle.ug_mps.specs.History.{RowNamed, Coefficient, rows_of, coefficients, placed, has}
 use Rattle.ug_mps.specs.History.{names_row, sides_given, ranges_given}
@@ -79,18 +79,18 @@ abbrev pub AreWithin : ℕ → List Coefficient → Type 0
 AreWithin j cs = All (λ (c : Coefficient). c.place ≤ j) cs
 
 -- the coefficients are in order, and none is of a column above the one that the part is of
-abbrev pub AreBelow : Part → Lists → Type 0
+abbrev pub AreBelow : RowPart → Lists → Type 0
 AreBelow (parts.Coefficient j) l = AreOrdered l.coefficients × AreWithin j l.coefficients
 AreBelow part l = Unit {0}
 
 -- the row has this part
-abbrev pub is_taken : Part → Lists → List ℕ → Bool
+abbrev pub is_taken : RowPart → Lists → List ℕ → Bool
 is_taken (parts.Coefficient j) l name = has l.coefficients j name
 is_taken parts.Side l name = names_row l.sides name
 is_taken parts.Range l name = names_row l.ranges name
 
 -- the lists with pairs more
-abbrev pub and_pairs : Part → List Pair → Lists → Lists
+abbrev pub and_pairs : RowPart → List Pair → Lists → Lists
 and_pairs (parts.Coefficient j) pairs l =
     record {
       named = l.named;

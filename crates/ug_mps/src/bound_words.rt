@@ -3,7 +3,7 @@ ghost use Rattle.ug_drafts.specs.Bounds.{IsAmount};
 ghost use Rattle.ug_mps.specs.BoundWords.{is_infinite_word, amount_of, numbered_change, bare_change, change_of};
 
 use ug_drafts::{
-    Amount, Bound, Change, amount_from, infinity, sets, sets_both, sets_lower, sets_upper,
+    Amount, Bound, BoundChange, amount_from, infinity, sets, sets_both, sets_lower, sets_upper,
 };
 use ug_lines::{BoundKind, is_in_any_case};
 use ug_problem::{Decimal, starts_with_minus, without_sign};
@@ -33,7 +33,7 @@ pub fn amount_of(word: &[u8]) -> Option<Amount>
 
 // What a bound with a number sets; nothing where the number is too wide.
 #[tactic(auto, unfolding(crate::specs::BoundWords::numbered_change))]
-fn numbered_change(kind: BoundKind, amount: Amount) -> Option<Change>
+fn numbered_change(kind: BoundKind, amount: Amount) -> Option<BoundChange>
     requires { IsAmount amount }
     ensures { result ≡ numbered_change kind amount }
 {
@@ -49,7 +49,7 @@ fn numbered_change(kind: BoundKind, amount: Amount) -> Option<Change>
 
 // What a bound without a number sets.
 #[tactic(auto, unfolding(crate::specs::BoundWords::bare_change))]
-fn bare_change(kind: BoundKind) -> Option<Change>
+fn bare_change(kind: BoundKind) -> Option<BoundChange>
     ensures { result ≡ bare_change kind }
 {
     match kind {
@@ -67,7 +67,7 @@ fn bare_change(kind: BoundKind) -> Option<Change>
 }
 
 /// What a bound sets, by its type and its amount, if it has one; nothing where that is too wide.
-pub fn change_of(kind: BoundKind, amount: Option<Amount>) -> Option<Change>
+pub fn change_of(kind: BoundKind, amount: Option<Amount>) -> Option<BoundChange>
     requires { IfSome amount IsAmount }
     ensures { result ≡ change_of kind amount }
 {

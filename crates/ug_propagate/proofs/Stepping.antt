@@ -20,22 +20,22 @@ use Rattle.ug_propagate.proofs.Running.{linear_terms}
 use Rattle.ug_propagate.specs.declared.look.Look.{Look}
 use Rattle.ug_propagate.specs.declared.look.Looked.TheVariants.{Same}
 use Rattle.ug_propagate.specs.declared.measure.Room.{Room}
-use Rattle.ug_propagate.specs.declared.working.Change.{Change}
+use Rattle.ug_propagate.specs.declared.working.Trailed.{Trailed}
 use Rattle.ug_propagate.specs.declared.tight.Tight.TheVariants.{Kept}
 use Rattle.ug_propagate.specs.Rounds.{row_step}
 use Rattle.ug_propagate.proofs.Still.{row_within, terms_still}
 use Rattle.ug_propagate.specs.Steps.{IsLookable, IsRoomOf, IsTermOf, high_of, low_of, row_of, span_of}
-use Rattle.ug_propagate.specs.Working.{AreChanges, AreReached, AreResting, FitsWhereSame, HasBits, HasChanged, HasUndone, WentBack, IsAtRest, IsBox, IsLater, IsStep, WorkState, look_for, reach_at, undone}
+use Rattle.ug_propagate.specs.Working.{AreTrailed, AreReached, AreResting, FitsWhereSame, HasBits, HasChanged, HasUndone, WentBack, IsAtRest, IsBox, IsLater, IsStep, WorkState, look_for, reach_at, undone}
 
-pub undone_append : (area : List Interval) (xs ys : List Change) → undone area (xs ++ ys) ≡ undone (undone area ys) xs
+pub undone_append : (area : List Interval) (xs ys : List Trailed) → undone area (xs ++ ys) ≡ undone (undone area ys) xs
 undone_append area [] ys = refl
 undone_append area (x ∷ xs) ys = ap (λ (a : List Interval). set a x.column x.before) (undone_append area xs ys)
 
-undone_width : (area : List Interval) (xs : List Change) → length (undone area xs) ≡ length area
+undone_width : (area : List Interval) (xs : List Trailed) → length (undone area xs) ≡ length area
 undone_width area [] = refl
 undone_width area (x ∷ xs) = length-set (undone area xs) x.column x.before ∙ undone_width area xs
 
-abbrev is_there : ℕ → Change → Type 0
+abbrev is_there : ℕ → Trailed → Type 0
 is_there width change = change.column < width
 
 pub later_same : (work : WorkState) → IsLater work work
@@ -54,10 +54,10 @@ later_width old new h = sym (ap (λ (a : List Interval). length a) h.back) ∙ u
 pub later_trans : (a b c : WorkState) → IsLater a b → IsLater b c → IsLater a c
 later_trans a b c h k = record {
   more = h.more ++ k.more;
-  trail = k.trail ∙ ap (λ (t : List Change). t ++ k.more) h.trail ∙ append_assoc a.trail h.more k.more;
+  trail = k.trail ∙ ap (λ (t : List Trailed). t ++ k.more) h.trail ∙ append_assoc a.trail h.more k.more;
   back = undone_append c.sums.area h.more k.more ∙ ap (λ (x : List Interval). undone x h.more) k.back ∙ h.back;
   there = All-append (is_there (length a.sums.area)) h.more k.more h.there
-      (subst (λ (n : ℕ). AreChanges n k.more) (sym (later_width a b h)) k.there);
+      (subst (λ (n : ℕ). AreTrailed n k.more) (sym (later_width a b h)) k.there);
   reach = k.reach ∙ h.reach;
 }
 
@@ -262,17 +262,17 @@ pub back_step : (depth : ℕ) (old mid new : WorkState) → depth < length mid.t
     → GoesBack depth old new
 back_step depth old mid new more h k =
     let long : length mid.trail ≡ length new.trail + 1 =
-    ap (λ (t : List Change). length t) h.trail ∙ length_push new.trail h.change in
+    ap (λ (t : List Trailed). length t) h.trail ∙ length_push new.trail h.change in
     let deep : depth ≤ length new.trail = omega arith in
     let cut : drop depth mid.trail ≡ drop depth new.trail ++ h.change ∷ [] =
-    ap (λ (t : List Change). drop depth t) h.trail ∙ drop-append-le depth new.trail (h.change ∷ []) deep in
+    ap (λ (t : List Trailed). drop depth t) h.trail ∙ drop-append-le depth new.trail (h.change ∷ []) deep in
     record {
       deep = deep;
       trail = sym (take-append-le depth new.trail (h.change ∷ []) deep)
-          ∙ sym (ap (λ (t : List Change). take depth t) h.trail) ∙ k.trail;
+          ∙ sym (ap (λ (t : List Trailed). take depth t) h.trail) ∙ k.trail;
       area = ap (λ (a : List Interval). undone a (drop depth new.trail)) h.area
           ∙ sym (undone_append mid.sums.area (drop depth new.trail) (h.change ∷ []))
-          ∙ sym (ap (λ (t : List Change). undone mid.sums.area t) cut) ∙ k.area;
+          ∙ sym (ap (λ (t : List Trailed). undone mid.sums.area t) cut) ∙ k.area;
       reach = h.reach ∙ k.reach;
       awake = h.awake ∙ k.awake;
     }
@@ -280,7 +280,7 @@ back_step depth old mid new more h k =
 pub back_ends : (depth : ℕ) (old new : WorkState) → length new.trail ≤ depth → GoesBack depth old new → WentBack depth old new
 back_ends depth old new short h = record {
   trail = sym (take_all depth new.trail short) ∙ h.trail;
-  area = sym (ap (λ (t : List Change). undone new.sums.area t) (drop_all depth new.trail short)) ∙ h.area;
+  area = sym (ap (λ (t : List Trailed). undone new.sums.area t) (drop_all depth new.trail short)) ∙ h.area;
   reach = h.reach;
   awake = h.awake;
 }

@@ -17,7 +17,7 @@ use Rattle.ug_propagate.specs.declared.look.Looked.TheVariants.{Same, Changed, E
 use Rattle.ug_propagate.specs.declared.measure.Room.{Room}
 use Rattle.ug_propagate.specs.declared.resting.Rest.{Rest}
 use Rattle.ug_propagate.specs.declared.resting.Rest.TheVariants.{Unknown, Under}
-use Rattle.ug_propagate.specs.declared.working.Change.{Change}
+use Rattle.ug_propagate.specs.declared.working.Trailed.{Trailed}
 use Rattle.ug_propagate.specs.Awake.{bit_of}
 use Rattle.ug_propagate.specs.Running.{IsRunning, SumsState}
 use Rattle.ug_propagate.specs.Steps.{IsRoomOf, span_of}
@@ -28,10 +28,10 @@ pub record WorkState : Type 0 where
   pub sums : SumsState
   pub reach : List ℤ
   pub awake : List ℕ
-  pub trail : List Change
+  pub trail : List Trailed
 
 -- the box before these changes
-abbrev pub undone : List Interval → List Change → List Interval
+abbrev pub undone : List Interval → List Trailed → List Interval
 undone area [] = area
 undone area (change ∷ changes) = slice_set (undone area changes) change.column change.before
 
@@ -127,20 +127,20 @@ pub record HasChanged (p : Instance) (j : ℕ) (side : Interval) (old new : Work
   pub woke : WokeColumn p j old.awake new.awake
 
 -- the changes are of columns that are there
-abbrev pub AreChanges : ℕ → List Change → Type 0
-AreChanges width changes = All (λ (change : Change). change.column < width) changes
+abbrev pub AreTrailed : ℕ → List Trailed → Type 0
+AreTrailed width changes = All (λ (change : Trailed). change.column < width) changes
 
 -- some changes were made since, which undone give the box that there was
 pub record IsLater (old new : WorkState) : Type 0 where
-  pub more : List Change
+  pub more : List Trailed
   pub trail : new.trail ≡ old.trail ++ more
   pub back : undone new.sums.area more ≡ old.sums.area
-  pub there : AreChanges (length old.sums.area) more
+  pub there : AreTrailed (length old.sums.area) more
   pub reach : new.reach ≡ old.reach
 
 -- the last change was undone
 pub record HasUndone (old new : WorkState) : Type 0 where
-  pub change : Change
+  pub change : Trailed
   pub trail : old.trail ≡ new.trail ++ change ∷ []
   pub area : new.sums.area ≡ slice_set old.sums.area change.column change.before
   pub reach : new.reach ≡ old.reach

@@ -26,4 +26,4 @@ pub use resting::Rest;
 pub use settle::{propagate, rest_after};
 pub use sums::Sums;
 pub use tight::{Reason, Side, Tight};
-pub use working::{Change, Working};
+pub use working::{Trailed, Working};

@@ -8,7 +8,7 @@ ghost use Rattle.ug_propagate.specs.Awake.{HasBit, IsFound};
 ghost use Rattle.ug_propagate.specs.Cuts.{IsInnerCut, cut_of};
 ghost use Rattle.ug_propagate.specs.Steps.{outcome_of};
 ghost use Rattle.ug_propagate.specs.Running.{IsRunning, extremes_at};
-ghost use Rattle.ug_propagate.specs.Working.{AllRest, AreAwake, AreResting, WakesOthers, AreChanges, AreFirstReached, AreOnes, AreReached, AreWoken, HasBits, HasChanged, HasUndone, WentBack, IsBox, IsStep, WokeColumn, reach_at};
+ghost use Rattle.ug_propagate.specs.Working.{AllRest, AreAwake, AreResting, WakesOthers, AreTrailed, AreFirstReached, AreOnes, AreReached, AreWoken, HasBits, HasChanged, HasUndone, WentBack, IsBox, IsStep, WokeColumn, reach_at};
 
 use crate::awake::{fill, next, rest, wake};
 use crate::cut::Cut;
@@ -23,7 +23,7 @@ use ug_rows::{IntBox, Interval};
 
 /// A column that was changed, and what its interval was before.
 #[derive(Clone, Copy)]
-pub struct Change {
+pub struct Trailed {
     pub column: u32,
     pub before: Interval,
 }
@@ -35,7 +35,7 @@ pub struct Working {
     sums: Sums,
     reach: Vec<i128>,
     awake: Vec<u64>,
-    trail: Vec<Change>,
+    trail: Vec<Trailed>,
 }
 
 impl Model for Working {
@@ -63,12 +63,12 @@ fn wake_rows(standings: &[Standing], awake: &mut [u64])
 }
 
 // Puts what a column was on the trail. After an error the trail is as it was.
-fn note(trail: &mut Vec<Change>, column: u32, before: Interval) -> Result<(), AllocError>
+fn note(trail: &mut Vec<Trailed>, column: u32, before: Interval) -> Result<(), AllocError>
     ensures ok { OnOk result
         (trail.new.items ≡ trail.old.items ++ record { column = column; before = before } ∷ []) }
     ensures err { OnErr result (trail.new.items ≡ trail.old.items) }
 {
-    trail.push(Change { column, before })?;
+    trail.push(Trailed { column, before })?;
     Ok(())
 }
 
@@ -268,10 +268,10 @@ impl Working {
     // Undoes the last change.
     fn undo(&mut self, problem: &Problem)
         requires some { 0 < length self.old.trail }
-        requires trail { AreChanges (length problem.now.columns) self.old.trail }
+        requires trail { AreTrailed (length problem.now.columns) self.old.trail }
         requires sums { IsRunning problem.now self.old.sums }
         ensures undone { HasUndone self.old self.new }
-        ensures trail { AreChanges (length problem.now.columns) self.new.trail }
+        ensures trail { AreTrailed (length problem.now.columns) self.new.trail }
         ensures sums { IsRunning problem.now self.new.sums }
     {
         if let Some(change) = self.trail.pop() {
@@ -283,7 +283,7 @@ impl Working {
     /// Undoes the changes behind the first `depth`. The rows stay as awake as they were.
     pub fn go_back(&mut self, problem: &Problem, depth: usize)
         requires depth { depth ≤ length self.old.trail }
-        requires trail { AreChanges (length problem.now.columns) self.old.trail }
+        requires trail { AreTrailed (length problem.now.columns) self.old.trail }
         requires sums { IsRunning problem.now self.old.sums }
         ensures back { WentBack depth self.old self.new }
         ensures sums { IsRunning problem.now self.new.sums }
@@ -294,7 +294,7 @@ impl Working {
     }
 
     /// The changes that were made and not undone.
-    pub fn trail(&self) -> &[Change]
+    pub fn trail(&self) -> &[Trailed]
         ensures { result.now ≡ self.now.trail }
     {
         self.trail.as_slice()

@@ -8,7 +8,7 @@ ghost use Rattle.ug_mps.specs.Numbered.{AreShortNumbers};
 use crate::draft::Draft;
 use crate::error::{bare_fault, fault_of};
 use crate::pairs::numbers_of;
-use ug_drafts::{Kind, MpsError, Part};
+use ug_drafts::{Kind, MpsError, RowPart};
 use ug_lines::NamedWords;
 use ug_problem::{MOST_COLUMNS, MOST_TERMS};
 
@@ -37,7 +37,7 @@ impl Draft {
         let Some(place) = self.columns.place(name) else {
             return Err(fault_of(self.alloc, line, Kind::Duplicate, name));
         };
-        let part = Part::Coefficient(place.at);
+        let part = RowPart::Coefficient(place.at);
         if let Some(word) = self.rows.repeated(part, places, pairs) {
             return Err(fault_of(self.alloc, line, Kind::Duplicate, word));
         }

@@ -6,7 +6,7 @@ ghost use Rattle.ug_mps.specs.Names.{StandsAt, AreDistinct};
 use crate::names::Names;
 use std::alloc::{AllocError, Global};
 use std::marker::Model;
-use ug_drafts::{Change, ColumnDraft};
+use ug_drafts::{BoundChange, ColumnDraft};
 use ug_lists::Text;
 
 /// The place of the column of a line, and whether it begins there.
@@ -150,7 +150,7 @@ impl Columns {
     }
 
     /// Changes the bounds of a column.
-    pub fn change(&mut self, at: u32, change: Change)
+    pub fn change(&mut self, at: u32, change: BoundChange)
         requires { at < length self.old.drafts }
         ensures { self.new ≡ record self.old {
           drafts = slice_set self.old.drafts at (with_change change (column_at self.old.drafts at));

@@ -11,7 +11,7 @@ use crate::names::Names;
 use crate::pairs::NamedNumbers;
 use std::alloc::{AllocError, Global};
 use std::marker::Model;
-use ug_drafts::{Part, Role, RowDraft};
+use ug_drafts::{Role, RowDraft, RowPart};
 use ug_lines::NamedWords;
 use ug_lists::{Items, Text};
 use ug_problem::Decimal;
@@ -120,7 +120,7 @@ impl Rows {
     }
 
     // Gives a row a part.
-    fn put(&mut self, at: u32, part: Part, number: Decimal) -> Result<(), AllocError>
+    fn put(&mut self, at: u32, part: RowPart, number: Decimal) -> Result<(), AllocError>
         requires { at < length self.old.names }
         ensures value { OnOk result (self.new ≡ record self.old {
           drafts = slice_set self.old.drafts at (with_part part number (row_at self.old.drafts at));
@@ -162,7 +162,7 @@ impl Rows {
     /// twice.
     pub fn repeated<'a>(
         &self,
-        part: Part,
+        part: RowPart,
         places: RowPlaces,
         pairs: &NamedWords<'a>,
     ) -> Option<&'a [u8]>
@@ -188,7 +188,7 @@ impl Rows {
     /// Gives the rows of the pairs, which stand at the places, the part.
     pub fn put_pairs(
         &mut self,
-        part: Part,
+        part: RowPart,
         places: RowPlaces,
         pairs: &NamedNumbers<'_>,
     ) -> Result<(), AllocError>

@@ -8,7 +8,7 @@ use crate::draft::Draft;
 use crate::error::fault_of;
 use crate::pairs::numbers_of;
 use std::alloc::AllocError;
-use ug_drafts::{Kind, MpsError, Part};
+use ug_drafts::{Kind, MpsError, RowPart};
 use ug_lines::{NamedWords, Section};
 use ug_lists::Text;
 
@@ -38,12 +38,12 @@ impl Draft {
     }
 
     // What pairs give their rows in this section.
-    fn part(&self) -> Part
+    fn part(&self) -> RowPart
         ensures { result ≡ part_in self.now.section }
     {
         match self.section {
-            Some(Section::Ranges) => Part::Range,
-            _ => Part::Side,
+            Some(Section::Ranges) => RowPart::Range,
+            _ => RowPart::Side,
         }
     }
 

@@ -3,18 +3,18 @@ use Rattle.std.proofs.lemmas.List.{length-drop, drop-drop}
 use Rattle.ug_disk.specs.Slots.{SlotState, MayLeave, IsReal, loosened, written}
 use Rattle.ug_checkpoint.specs.Gates.{Opens, IsShut, HasBehind}
 use Rattle.ug_checkpoint.proofs.Behind.{behind_fits, behind_more, behind_all}
-use Rattle.ug_checkpoint.proofs.Going.{Change, Opened, becomes_same, becomes_steps, becomes_fails, becomes_is, only_starts, only_steps, only_fails, stands_is}
+use Rattle.ug_checkpoint.proofs.Going.{Becoming, Opened, becomes_same, becomes_steps, becomes_fails, becomes_is, only_starts, only_steps, only_fails, stands_is}
 use Rattle.ug_checkpoint.proofs.Shutting.{shut_opens_nothing, shut_loosened, shut_written}
 use Rattle.ug_checkpoint.proofs.slots.blocks.write_blocks.Goals as goal
 
 -- the gate is shut, and behind it stand the first bytes of the body
-abbrev Front : List ℕ → ℕ → Change
+abbrev Front : List ℕ → ℕ → Becoming
 Front body w before after = IsShut after × HasBehind (take w body) after.bytes
 
 abbrev Nothing : Opened
 Nothing before image = ⊥
 
-abbrev StaysShut : Change
+abbrev StaysShut : Becoming
 StaysShut before after = IsShut after
 
 pub loop-slot-init : goal.loop-slot-init
@@ -40,7 +40,7 @@ returns-then-n-eq0-clause-ok g c =
     let w = c.loop-slot.written in
     let so_far = c.loop-slot.invariant in
     let left = ap (λ (l : List ℕ). length l) so_far.rest in
-    let T : Change = λ a b. IsShut b × HasBehind body b.bytes in
+    let T : Becoming = λ a b. IsShut b × HasBehind body b.bytes in
     becomes_is (Front body w) T (g.D.Disk.seen c.args.disk.now).told (g.D.Disk.seen c.loop-slot.disk).told
     c.args.slot so_far.state (λ a b front. (
       front.0,

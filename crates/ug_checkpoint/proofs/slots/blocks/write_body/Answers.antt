@@ -1,13 +1,13 @@
 use Rattle.ug_disk.specs.Slots.{SlotState, synced}
 use Rattle.ug_checkpoint.specs.Gates.{Opens, IsShut}
-use Rattle.ug_checkpoint.proofs.Going.{Change, Opened, becomes_steps, becomes_fails, only_steps, only_fails}
+use Rattle.ug_checkpoint.proofs.Going.{Becoming, Opened, becomes_steps, becomes_fails, only_steps, only_fails}
 use Rattle.ug_checkpoint.proofs.Shutting.{shut_opens_nothing, shut_synced, shut_shaken}
 use Rattle.ug_checkpoint.proofs.slots.blocks.write_body.Goals as goal
 
 abbrev Nothing : Opened
 Nothing before image = ⊥
 
-abbrev StaysShut : Change
+abbrev StaysShut : Becoming
 StaysShut before after = IsShut after
 
 closed : (a b : SlotState) → StaysShut a b → Opens (Nothing a) b

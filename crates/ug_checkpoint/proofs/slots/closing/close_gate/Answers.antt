@@ -2,12 +2,12 @@ use Rattle.std.proofs.Common.{Bool, false, MatchBool, subst}
 use Rattle.ug_disk.specs.Slots.{SlotState, MayLeave}
 use Rattle.ug_checkpoint.specs.Gates.{Opens, IsShut, MayBeShut, MayBeLoose}
 use Rattle.ug_checkpoint.specs.Runs.{Becomes}
-use Rattle.ug_checkpoint.proofs.Going.{Change, becomes_joins, only_joins, only_writing, stands_after}
+use Rattle.ug_checkpoint.proofs.Going.{Becoming, becomes_joins, only_joins, only_writing, stands_after}
 use Rattle.ug_checkpoint.proofs.Shutting.{loose_again}
 use Rattle.ug_checkpoint.proofs.slots.closing.close_gate.Goals as goal
 
 -- what was found of a gate that is not known to be shut
-abbrev Looked : Bool → Change
+abbrev Looked : Bool → Becoming
 Looked shut before after =
     Opens (MayLeave before) after × MatchBool shut (IsShut after) (MayBeShut after)
 
@@ -24,7 +24,7 @@ returns-in_err-write_gate-clause-now g c =
     let new = (g.D.Disk.seen c.write_gate.new.disk).told in
     let found = subst (λ shut. Becomes old mid c.args.slot (Looked shut)) c.if-not-branch.true
     c.in_ok-look.ensures.ok in
-    let T : Change = λ a b. Opens (MayLeave a) b × MayBeShut b in
+    let T : Becoming = λ a b. Opens (MayLeave a) b × MayBeShut b in
     becomes_joins (Looked false) MayBeLoose T old mid new c.args.slot found
     c.in_err-write_gate.ensures.err next
 

@@ -5,7 +5,7 @@ use Rattle.ug_disk.proofs.Moments.{steps_on, fails_on}
 use Rattle.ug_disk.proofs.Writing.{write_leaves, failed_write_leaves, after_write, after_sync, after_failed_sync}
 use Rattle.ug_checkpoint.specs.Gates.{MayBeLoose}
 use Rattle.ug_checkpoint.specs.Runs.{Becomes}
-use Rattle.ug_checkpoint.proofs.Going.{on_err, Change, any_place, becomes_none, becomes_steps, becomes_fails}
+use Rattle.ug_checkpoint.proofs.Going.{on_err, Becoming, any_place, becomes_none, becomes_steps, becomes_fails}
 use Rattle.ug_checkpoint.proofs.Shutting.{written_is_loose}
 use Rattle.ug_checkpoint.proofs.slots.gate.write_gate.Goals as goal
 
@@ -15,7 +15,7 @@ returns-in_err-write_at-clause-any_moment g c =
     c.args.slot 0 1 c.in_err-write_at.ensures.err
 
 -- it was written, and the slot was real before
-abbrev WasWritten : ℕ → Change
+abbrev WasWritten : ℕ → Becoming
 WasWritten byte before after = IsReal before × (after ≡ written 0 (byte ∷ []) before)
 
 was_written : (byte : ℕ) (a b : SlotState) → b ≡ a → IsReal b
@@ -34,7 +34,7 @@ returns-in_err-sync-clause-err g c =
     let mid = (g.D.Disk.seen c.write_at.new.self).told in
     let new = (g.D.Disk.seen c.sync.new.self).told in
     let byte = c.args.byte in
-    let same : Change = λ a b. b ≡ a in
+    let same : Becoming = λ a b. b ≡ a in
     let wrote = becomes_steps same (WasWritten byte) old old mid c.args.slot
     (λ s. written 0 (byte ∷ []) s) (becomes_none old c.args.slot) c.write_at.ensures.real
     c.in_ok-write_at.ensures.ok (was_written byte) in

@@ -4,7 +4,7 @@ use Rattle.ug_checkpoint.specs.declared.slots.gate.Gate.{Gate}
 use Rattle.ug_checkpoint.specs.Gates.{Opens, IsGate, IsSynced, HasBehind, HasBody}
 use Rattle.ug_checkpoint.specs.Runs.{IsOldOrNew}
 use Rattle.ug_checkpoint.proofs.Behind.{body_of_all}
-use Rattle.ug_checkpoint.proofs.Going.{Change, Opened, becomes_joins, only_joins, only_wider}
+use Rattle.ug_checkpoint.proofs.Going.{Becoming, Opened, becomes_joins, only_joins, only_wider}
 use Rattle.ug_checkpoint.proofs.slots.saving.save_into.Goals as goal
 
 abbrev Nothing : Opened
@@ -14,11 +14,11 @@ abbrev All : Opened
 All before = HasBody (drop 1 before.bytes)
 
 -- after the first step
-abbrev Closed : Gate → Change
+abbrev Closed : Gate → Becoming
 Closed gate before after = Opens (MayLeave before) after × IsGate gate after
 
 -- after the second
-abbrev Written : List ℕ → Change
+abbrev Written : List ℕ → Becoming
 Written body before after = IsSynced after × HasBehind body after.bytes
 
 pub returns-in_err-write_body-clause-any_moment : goal.returns-in_err-write_body-clause-any_moment

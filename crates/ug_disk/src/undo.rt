@@ -2,7 +2,7 @@ use crate::slot::{Slot, Span};
 
 /// What is kept of a change of a slot, so that it can be told what the slot was before.
 #[derive(Drop)]
-pub struct Change {
+pub struct Undo {
     pub slot: Slot,
     pub kept: Kept,
 }
