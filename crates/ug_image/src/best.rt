@@ -15,18 +15,18 @@ fn push_value(values: &mut Items<i32>, value: i32) -> Result<(), AllocError>
     values.push(value)
 }
 
-// So many values.
-fn values_at(alloc: Global, bytes: &[u8], count: u32) -> Result<(Items<i32>, &[u8]), Fault>
-    ensures { Gives (λ x. ((x.0, tt), x.1.now)) result (values_at count bytes.now) }
+// So many values, which are put into an empty list.
+fn values_at<'a>(bytes: &'a [u8], count: u32, values: &mut Items<i32>) -> Result<&'a [u8], Fault>
+    requires { values.old ≡ [] }
+    ensures { Gives (λ rest. ((values.new, tt), rest.now)) result (values_at count bytes.now) }
 {
-    let mut values = Items::new(alloc);
     let mut rest = bytes;
     for _ in 0..count {
         let (value, after) = bound_at(rest)?;
-        push_value(&mut values, value)?;
+        push_value(values, value)?;
         rest = after;
     }
-    Ok((values, rest))
+    Ok(rest)
 }
 
 // A point: how many values it has, and each.
@@ -35,8 +35,14 @@ fn point_at(alloc: Global, bytes: &[u8]) -> Result<(Point, &[u8]), Fault>
     ensures { Gives (λ x. (x.0, x.1.now)) result (point_at bytes.now) }
 {
     let (count, rest) = count_at(bytes, 10_000)?;
-    let (values, rest) = values_at(alloc, rest, count)?;
-    Ok((Point::from_vec(values.into_vec()), rest))
+    let mut values = Items::new(alloc);
+    match values_at(rest, count, &mut values) {
+        Ok(rest) => Ok((Point::from_vec(values.into_vec()), rest)),
+        Err(fault) => {
+            drop(values);
+            Err(fault)
+        }
+    }
 }
 
 // Whether the point is feasible.

@@ -1,4 +1,4 @@
-ghost use Rattle.std.specs.Prelude.{◌≡◌, ◌+◌};
+ghost use Rattle.std.specs.Prelude.{◌≡◌, ◌+◌, []};
 ghost use Rattle.ug_rows.specs.Boxes.{interval_at};
 ghost use Rattle.ug_nodes.specs.Changes.{IsRising};
 ghost use Rattle.ug_fields.specs.Reading.{Gives};
@@ -68,17 +68,17 @@ fn change_at<'a>(bytes: &'a [u8], root: &IntBox, least: u64) -> Result<(Change, 
     }
 }
 
-// So many changes, and the least column of another.
+// So many changes, which are put into an empty list, and the least column of another.
 fn changes_from<'a>(
-    alloc: Global,
     bytes: &'a [u8],
     root: &IntBox,
     count: u32,
-) -> Result<((Items<Change>, u64), &'a [u8]), Fault>
-    ensures { Gives (λ x. ((x.0.0, x.0.1), x.1.now)) result
+    changes: &mut Items<Change>,
+) -> Result<(u64, &'a [u8]), Fault>
+    requires { changes.old ≡ [] }
+    ensures { Gives (λ x. ((changes.new, x.0), x.1.now)) result
         (changes_from root.now count bytes.now) }
 {
-    let mut changes = Items::new(alloc);
     let mut least = 0;
     let mut rest = bytes;
     for _ in 0..count {
@@ -87,7 +87,7 @@ fn changes_from<'a>(
         least = u64::from(change.column) + 1;
         rest = after;
     }
-    Ok(((changes, least), rest))
+    Ok((least, rest))
 }
 
 /// How many changes there are, and each.
@@ -100,6 +100,12 @@ pub fn changes_at<'a>(
     ensures { Gives (λ x. (x.0, x.1.now)) result (changes_at root.now bytes.now) }
 {
     let (count, rest) = count_at(bytes, 10_000)?;
-    let ((changes, _), rest) = changes_from(alloc, rest, root, count)?;
-    Ok((Changes::new(changes.into_vec()), rest))
+    let mut changes = Items::new(alloc);
+    match changes_from(rest, root, count, &mut changes) {
+        Ok((_, rest)) => Ok((Changes::new(changes.into_vec()), rest)),
+        Err(fault) => {
+            drop(changes);
+            Err(fault)
+        }
+    }
 }

@@ -1,10 +1,10 @@
-ghost use Rattle.std.specs.Prelude.{◌≡◌, ◌+◌, ◌≤◌, ◌^◌, length};
+ghost use Rattle.std.specs.Prelude.{◌≡◌, ◌+◌, ◌≤◌, ◌^◌, [], length};
 ghost use Rattle.ug_fields.specs.Reading.{Gives};
 ghost use Rattle.ug_records.specs.Reading.{column_at, place_at, factor_at, term_at, terms_at, terms_from, columns_at, row_at};
 
 use std::alloc::Global;
 use ug_fields::{Fault, bound_at, count_at, name_at, number_at, optional_at, unsigned_at};
-use ug_lists::Items;
+use ug_lists::{Items, Text};
 use ug_problem::{Column, Columns, NamedRow};
 use ug_rows::{Row, Term, Terms};
 
@@ -13,25 +13,32 @@ use ug_rows::{Row, Term, Terms};
 fn column_at(alloc: Global, bytes: &[u8]) -> Result<(Column, &[u8]), Fault>
     ensures { Gives (λ x. (x.0, x.1.now)) result (column_at bytes.now) }
 {
-    let (name, rest) = name_at(alloc, bytes)?;
+    let (name, rest) = name_at(bytes)?;
     let (low, rest) = bound_at(rest)?;
     let (high, rest) = bound_at(rest)?;
-    Ok((Column { name, low, high }, rest))
+    match Text::from_slice(alloc, name) {
+        Ok(name) => Ok((Column { name, low, high }, rest)),
+        Err(error) => Err(Fault::from(error)),
+    }
 }
 
-/// So many columns.
-pub fn columns_at(alloc: Global, bytes: &[u8], count: u32) -> Result<(Columns, &[u8]), Fault>
-    ensures { Gives (λ x. ((x.0, tt), x.1.now)) result
-        (columns_at count bytes.now) }
+/// So many columns, which are put into an empty list.
+pub fn columns_at<'a>(
+    alloc: Global,
+    bytes: &'a [u8],
+    count: u32,
+    columns: &mut Columns,
+) -> Result<&'a [u8], Fault>
+    requires { columns.old ≡ [] }
+    ensures { Gives (λ rest. ((columns.new, tt), rest.now)) result (columns_at count bytes.now) }
 {
-    let mut columns = Items::new(alloc);
     let mut rest = bytes;
     for _ in 0..count {
         let (column, after) = column_at(alloc, rest)?;
         columns.push(column)?;
         rest = after;
     }
-    Ok((columns, rest))
+    Ok(rest)
 }
 
 // The column of a term.
@@ -72,16 +79,16 @@ fn term_at(bytes: &[u8], width: u32, least: u64) -> Result<(Term, &[u8]), Fault>
     Ok((Term { column, factor }, rest))
 }
 
-// So many terms.
-fn terms_from(
-    alloc: Global,
-    bytes: &[u8],
+// So many terms, which are put into an empty list, and the least column of another.
+fn terms_from<'a>(
+    bytes: &'a [u8],
     width: u32,
     count: u32,
-) -> Result<((Terms, u64), &[u8]), Fault>
-    ensures { Gives (λ x. ((x.0.0, x.0.1), x.1.now)) result (terms_from width count bytes.now) }
+    terms: &mut Terms,
+) -> Result<(u64, &'a [u8]), Fault>
+    requires { terms.old ≡ [] }
+    ensures { Gives (λ x. ((terms.new, x.0), x.1.now)) result (terms_from width count bytes.now) }
 {
-    let mut terms = Items::new(alloc);
     let mut least = 0;
     let mut rest = bytes;
     for _ in 0..count {
@@ -90,7 +97,7 @@ fn terms_from(
         least = u64::from(term.column) + 1;
         rest = after;
     }
-    Ok(((terms, least), rest))
+    Ok((least, rest))
 }
 
 /// How many terms there are, of which so many may be, and they.
@@ -99,8 +106,14 @@ pub fn terms_at(alloc: Global, bytes: &[u8], width: u32, room: u64) -> Result<(T
     ensures { Gives (λ x. (x.0, x.1.now)) result (terms_at width room bytes.now) }
 {
     let (count, rest) = count_at(bytes, room)?;
-    let ((terms, _), rest) = terms_from(alloc, rest, width, count)?;
-    Ok((terms, rest))
+    let mut terms = Items::new(alloc);
+    match terms_from(rest, width, count, &mut terms) {
+        Ok((_, rest)) => Ok((terms, rest)),
+        Err(fault) => {
+            drop(terms);
+            Err(fault)
+        }
+    }
 }
 
 /// The greatest side, and the greatest constant.
@@ -116,15 +129,16 @@ pub fn row_at(
 ) -> Result<(NamedRow, &[u8]), Fault>
     ensures { Gives (λ x. (x.0, x.1.now)) result (row_at width room bytes.now) }
 {
-    let (name, rest) = name_at(alloc, bytes)?;
+    let (name, rest) = name_at(bytes)?;
     let (low, rest) = optional_at(rest, MOST_SIDE)?;
     let (high, rest) = optional_at(rest, MOST_SIDE)?;
     let (terms, rest) = terms_at(alloc, rest, width, room)?;
-    Ok((
-        NamedRow {
-            name,
-            row: Row { terms, low, high },
-        },
-        rest,
-    ))
+    let row = Row { terms, low, high };
+    match Text::from_slice(alloc, name) {
+        Ok(name) => Ok((NamedRow { name, row }, rest)),
+        Err(error) => {
+            drop(row);
+            Err(Fault::from(error))
+        }
+    }
 }

@@ -1,4 +1,4 @@
-ghost use Rattle.std.specs.Prelude.{◌≡◌, ◌≤◌, ◌^◌, length};
+ghost use Rattle.std.specs.Prelude.{◌≡◌, ◌≤◌, ◌^◌, [], length};
 ghost use Rattle.ug_problem.specs.Instances.{instance_of};
 ghost use Rattle.ug_fields.specs.Reading.{Gives};
 ghost use Rattle.ug_records.specs.Reading.{rows_at, objective_at, parts_at, record_at};
@@ -10,26 +10,34 @@ use ug_lists::Items;
 use ug_problem::{Columns, NamedRows};
 use ug_rows::Objective;
 
-// So many rows, and how many terms may still be.
-fn rows_at(
-    alloc: Global,
-    bytes: &[u8],
+// What the rows may have: columns below the width, and so many terms.
+#[derive(Clone, Copy)]
+struct Limits {
     width: u32,
     room: u64,
+}
+
+// So many rows, which are put into an empty list, and how many terms may still be.
+fn rows_at<'a>(
+    alloc: Global,
+    bytes: &'a [u8],
+    limits: Limits,
     count: u32,
-) -> Result<((NamedRows, u64), &[u8]), Fault>
-    ensures { Gives (λ x. ((x.0.0, x.0.1), x.1.now)) result (rows_at width room count bytes.now) }
+    rows: &mut NamedRows,
+) -> Result<(u64, &'a [u8]), Fault>
+    requires { rows.old ≡ [] }
+    ensures { Gives (λ x. ((rows.new, x.0), x.1.now)) result
+        (rows_at limits.width limits.room count bytes.now) }
 {
-    let mut rows = Items::new(alloc);
-    let mut left = room;
+    let mut left = limits.room;
     let mut rest = bytes;
     for _ in 0..count {
-        let (row, after) = row_at(alloc, rest, width, left)?;
+        let (row, after) = row_at(alloc, rest, limits.width, left)?;
         left = left.saturating_sub(row.row.terms.len() as u64);
         rows.push(row)?;
         rest = after;
     }
-    Ok(((rows, left), rest))
+    Ok((left, rest))
 }
 
 // The objective: its sense, its scale, its constant and its terms.
@@ -55,35 +63,28 @@ fn objective_at(
     Ok((objective, rest))
 }
 
-/// The columns, the rows and the objective.
+// The columns and the rows, which are put into empty lists, and the objective.
 #[tactic(auto, unfolding(crate::specs::Reading::parts_at))]
-fn parts_at(alloc: Global, bytes: &[u8]) -> Result<((Columns, NamedRows, Objective), &[u8]), Fault>
-    ensures { Gives (λ x. (instance_of x.0.0 x.0.1 x.0.2, x.1.now)) result (parts_at bytes.now) }
+fn parts_at<'a>(
+    alloc: Global,
+    bytes: &'a [u8],
+    columns: &mut Columns,
+    rows: &mut NamedRows,
+) -> Result<(Objective, &'a [u8]), Fault>
+    requires columns { columns.old ≡ [] }
+    requires rows { rows.old ≡ [] }
+    ensures { Gives (λ x. (instance_of columns.new rows.new x.0, x.1.now)) result
+        (parts_at bytes.now) }
 {
     let (width, rest) = count_at(bytes, 10_000)?;
-    let (columns, rest) = columns_at(alloc, rest, width)?;
-    let (height, rest) = match count_at(rest, 10_000) {
-        Ok(found) => found,
-        Err(fault) => {
-            drop(columns);
-            return Err(fault);
-        }
+    let rest = columns_at(alloc, rest, width, columns)?;
+    let (height, rest) = count_at(rest, 10_000)?;
+    let limits = Limits {
+        width,
+        room: 1_000_000,
     };
-    let ((rows, room), rest) = match rows_at(alloc, rest, width, 1_000_000, height) {
-        Ok(found) => found,
-        Err(fault) => {
-            drop(columns);
-            return Err(fault);
-        }
-    };
-    match objective_at(alloc, rest, width, room) {
-        Ok((objective, rest)) => Ok(((columns, rows, objective), rest)),
-        Err(fault) => {
-            drop(columns);
-            drop(rows);
-            Err(fault)
-        }
-    }
+    let (room, rest) = rows_at(alloc, rest, limits, height, rows)?;
+    objective_at(alloc, rest, width, room)
 }
 
 /// The parts of the problem whose record the bytes are.
@@ -91,10 +92,19 @@ fn parts_at(alloc: Global, bytes: &[u8]) -> Result<((Columns, NamedRows, Objecti
 pub fn parts_of(alloc: Global, bytes: &[u8]) -> Result<(Columns, NamedRows, Objective), Fault>
     ensures { Gives (λ x. instance_of x.0 x.1 x.2) result (record_at bytes.now) }
 {
-    let (parts, rest) = parts_at(alloc, bytes)?;
-    if !rest.is_empty() {
-        drop(parts);
-        return Err(Fault::Bad(rest.len()));
-    }
-    Ok(parts)
+    let mut columns = Items::new(alloc);
+    let mut rows = Items::new(alloc);
+    let fault = match parts_at(alloc, bytes, &mut columns, &mut rows) {
+        Ok((objective, rest)) => {
+            if rest.is_empty() {
+                return Ok((columns, rows, objective));
+            }
+            drop(objective);
+            Fault::Bad(rest.len())
+        }
+        Err(fault) => fault,
+    };
+    drop(columns);
+    drop(rows);
+    Err(fault)
 }

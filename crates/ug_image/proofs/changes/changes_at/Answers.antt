@@ -10,5 +10,5 @@ new-requires c =
     c.in_ok-count.rest.now (λ i. omega (arith, c.type_inv.bytes i)) c.in_ok-count.ensures in
     subst IsRising (sym c.into_vec.ensures)
     (changes_rise c.args.root.now c.in_ok-count.count c.in_ok-count.rest.now
-    c.in_ok-changes.rest.now c.in_ok-changes.changes c.in_ok-changes.field-0-0-1
-    counted.0.rest_fits c.in_ok-changes.ensures)
+    c.in-Ok.rest.now c.changes_from.new.changes c.in-Ok.field-0-0
+    counted.0.rest_fits c.in-Ok.ensures)

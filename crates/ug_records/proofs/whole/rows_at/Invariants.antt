@@ -7,6 +7,6 @@ use Rattle.ug_records.proofs.whole.rows_at.Given as goal
 
 abbrev pub invariant-loop : goal.invariant-loop
 invariant-loop l =
-    with_front l.rows (many_at (row_at l.width)
+    with_front l.rows (many_at (row_at l.limits.width)
     (λ room (row : NamedRow). room - length row.row.terms) (l.count - l.counter) l.left l.rest)
-    ≡ rows_at l.width l.room l.count l.bytes
+    ≡ rows_at l.limits.width l.limits.room l.count l.bytes
