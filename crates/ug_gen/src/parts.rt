@@ -12,10 +12,13 @@ use ug_rows::{Row, Term};
 fn name(alloc: Global, letter: u8, number: u32) -> Result<Text, AllocError>
     ensures { IfOk result (λ name. name ≡ named letter number) }
 {
-    let mut bytes = Vec::new(alloc);
-    bytes.push(letter)?;
-    bytes.extend_from_slice(number.to_string(alloc)?.as_bytes())?;
-    Ok(Text::from_vec(bytes))
+    let digits = number.to_string(alloc)?;
+    let name = [&[letter], digits.as_bytes()].concat(alloc);
+    drop(digits);
+    match name {
+        Ok(name) => Ok(Text::from_vec(name)),
+        Err(error) => Err(error),
+    }
 }
 
 /// The columns, each of which is taken or not.
