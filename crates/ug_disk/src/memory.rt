@@ -69,15 +69,10 @@ impl MemoryDisk {
         ensures goes { OnOk result (¬ HasStopped self.new) }
         ensures faults { faults_of self.new ≡ faults_of self.old }
     {
-        if !self.slots.zero.may_leave(&zero) {
+        if let Some(slot) = self.slots.first_forbidden(&zero, &one) {
             drop(zero);
             drop(one);
-            return Err(NotAllowed { slot: Slot::Zero });
-        }
-        if !self.slots.one.may_leave(&one) {
-            drop(zero);
-            drop(one);
-            return Err(NotAllowed { slot: Slot::One });
+            return Err(NotAllowed { slot });
         }
         drop(mem::replace(&mut self.slots, StoredSlots::new(self.alloc, zero, one)));
         self.past.clear();
@@ -142,7 +137,7 @@ impl MemoryDisk {
     {
         self.past.reserve(1)?;
         let undo = self.slots.write(self.alloc, slot, at, bytes)?;
-        let _ = self.past.push(undo);
+        drop(self.past.push(undo));
         Ok(())
     }
 
@@ -168,7 +163,7 @@ impl MemoryDisk {
     {
         self.past.reserve(1)?;
         let undo = self.slots.loosen(self.alloc, slot, at, bytes)?;
-        let _ = self.past.push(undo);
+        drop(self.past.push(undo));
         Ok(())
     }
 
@@ -181,7 +176,7 @@ impl MemoryDisk {
     {
         self.past.reserve(1)?;
         let undo = self.slots.sync(self.alloc, slot);
-        let _ = self.past.push(undo);
+        drop(self.past.push(undo));
         Ok(())
     }
 }

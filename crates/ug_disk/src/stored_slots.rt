@@ -1,7 +1,8 @@
-ghost use Rattle.std.specs.Prelude.{◌≡◌, ◌≤◌, length, Ok, IfOk, IsErr, OnErr};
+ghost use Rattle.std.specs.Prelude.{◌≡◌, ◌≤◌, ◌↔◌, length, Ok, IfOk, IfSome, IsErr, IsNone, OnErr};
 ghost use Rattle.ug_disk.specs.Slots.{IsReal, synced, loosened, written};
 ghost use Rattle.ug_disk.specs.Histories.{slot_of};
-ghost use Rattle.ug_disk.specs.Memories.{HasChanged, slots_of};
+ghost use Rattle.ug_disk.specs.Crashes.{MayLeaveBoth};
+ghost use Rattle.ug_disk.specs.Memories.{HasChanged, IsFirstForbidden, slots_of};
 
 use crate::slot::Slot;
 use crate::stored::{Stored, StoredSlots};
@@ -38,6 +39,20 @@ impl StoredSlots {
             Slot::Zero => self.zero.bytes(),
             Slot::One => self.one.bytes(),
         }
+    }
+
+    /// The first slot whose image a crash may not leave.
+    pub fn first_forbidden(&self, zero: &[u8], one: &[u8]) -> Option<Slot>
+        ensures allowed { IsNone result ↔ MayLeaveBoth (slots_of self.now) zero.now one.now }
+        ensures forbidden { IfSome result (IsFirstForbidden (slots_of self.now) zero.now one.now) }
+    {
+        if !self.zero.may_leave(zero) {
+            return Some(Slot::Zero);
+        }
+        if !self.one.may_leave(one) {
+            return Some(Slot::One);
+        }
+        None
     }
 
     /// Writes over the slot's bytes.

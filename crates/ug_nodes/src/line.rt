@@ -47,10 +47,10 @@ impl Line {
     pub fn child(&self, alloc: Global, name: Name) -> Result<Line, AllocError>
         ensures { IfOk result (λ line. line ≡ self.now ++ name ∷ []) }
     {
-        let mut names = Vec::new(alloc);
-        names.reserve_exact(self.names.len() + 1)?;
-        names.extend_from_slice(&self.names)?;
-        names.push(name)?;
+        let mut names = Vec::with_capacity(alloc, self.names.len() + 1)?;
+        // There is room for all of them.
+        let _ = names.extend_from_slice(&self.names);
+        let _ = names.push(name);
         Ok(Line { names })
     }
 

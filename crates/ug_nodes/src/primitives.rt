@@ -17,8 +17,16 @@ pub fn primitive<'a>(alloc: Global, nodes: &[&'a Node]) -> Result<Vec<&'a Node>,
     ensures rising { AreNamedOnce (lent nodes.now)
         → IfOk result (λ made. AllPairs IsNamedBefore (lent made.items)) }
 {
-    let lines = sorted_lines(alloc, nodes)?;
     let mut held = by_name(alloc, nodes)?;
-    keep_primitive(&mut held, &lines);
-    Ok(held)
+    match sorted_lines(alloc, nodes) {
+        Ok(lines) => {
+            keep_primitive(&mut held, &lines);
+            drop(lines);
+            Ok(held)
+        }
+        Err(error) => {
+            drop(held);
+            Err(error)
+        }
+    }
 }

@@ -43,9 +43,16 @@ fn tighten_sides(
         ≡ last_round problem.now cutoff (rounds_of 32 problem.now cutoff (Kept area.now))) }
 {
     let mut work = Working::new(alloc, problem, area)?;
-    match propagate(&mut work, problem, cutoff)? {
-        Some(reason) => Ok(Tight::Empty(reason)),
-        None => Ok(Tight::Kept(IntBox::from_vec(work.into_sides()))),
+    match propagate(&mut work, problem, cutoff) {
+        Ok(None) => Ok(Tight::Kept(IntBox::from_vec(work.into_sides()))),
+        Ok(Some(reason)) => {
+            drop(work);
+            Ok(Tight::Empty(reason))
+        }
+        Err(error) => {
+            drop(work);
+            Err(error)
+        }
     }
 }
 

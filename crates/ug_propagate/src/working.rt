@@ -160,14 +160,26 @@ impl Working {
         ensures trail { IfOk result (λ w. w.trail ≡ []) }
     {
         let sums = Sums::new(alloc, problem, area)?;
-        let reach = all_reach(alloc, problem, sums.sides())?;
-        let awake = all_awake(alloc, problem)?;
-        Ok(Working {
-            sums,
-            reach,
-            awake,
-            trail: Vec::new(alloc),
-        })
+        let reach = match all_reach(alloc, problem, sums.sides()) {
+            Ok(reach) => reach,
+            Err(error) => {
+                drop(sums);
+                return Err(error);
+            }
+        };
+        match all_awake(alloc, problem) {
+            Ok(awake) => Ok(Working {
+                sums,
+                reach,
+                awake,
+                trail: Vec::new(alloc),
+            }),
+            Err(error) => {
+                drop(sums);
+                drop(reach);
+                Err(error)
+            }
+        }
     }
 
     /// The first row from this one on that is awake.

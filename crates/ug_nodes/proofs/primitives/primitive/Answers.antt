@@ -9,26 +9,26 @@ use Rattle.ug_nodes.proofs.Kept.{each_primitive, firsts, lent_filter}
 use Rattle.ug_nodes.proofs.Named.{NotAfter, picked_order, picked_rises}
 use Rattle.ug_nodes.proofs.primitives.primitive.Goals as goal
 
-pub returns-clause-each : goal.returns-clause-each
-returns-clause-each c =
-    let lines = c.in_ok-lines.lines.items in
+pub returns-in-Ok-clause-each : goal.returns-in-Ok-clause-each
+returns-in-Ok-clause-each c =
+    let lines = c.in-Ok.lines.items in
     let held = c.in_ok-held.held.items in
     let kept : lent c.keep_primitive.new.held.items ≡ filter (firsts lines) (lent held) =
     ap lent (subst (λ ls. c.keep_primitive.new.held.items ≡ filter (λ (x : Bor Node). not (is_below_any (fronts ls) x.now.line)) held)
     c.deref.ensures.value c.keep_primitive.ensures) ∙ lent_filter (firsts lines) held in
     λ n. subst (λ ns. Contains ns n ↔ IsPrimitive (lent c.args.nodes.now) n) (sym kept)
-    (each_primitive c.args.nodes.now held lines c.in_ok-lines.ensures.same c.in_ok-held.ensures.same n)
+    (each_primitive c.args.nodes.now held lines c.in-Ok.ensures.same c.in_ok-held.ensures.same n)
 
-pub returns-clause-order : goal.returns-clause-order
-returns-clause-order c =
+pub returns-in-Ok-clause-order : goal.returns-in-Ok-clause-order
+returns-in-Ok-clause-order c =
     let lines = c.deref.result.now in
     let held = c.in_ok-held.held.items in
     let kept : lent c.keep_primitive.new.held.items ≡ filter (firsts lines) (lent held) =
     ap lent c.keep_primitive.ensures ∙ lent_filter (firsts lines) held in
     subst (λ ns. AllPairs NotAfter ns) (sym kept) (picked_order (firsts lines) held c.in_ok-held.ensures.order)
 
-pub returns-clause-rising : goal.returns-clause-rising
-returns-clause-rising c = λ once.
+pub returns-in-Ok-clause-rising : goal.returns-in-Ok-clause-rising
+returns-in-Ok-clause-rising c = λ once.
     let lines = c.deref.result.now in
     let held = c.in_ok-held.held.items in
     let kept : lent c.keep_primitive.new.held.items ≡ filter (firsts lines) (lent held) =
