@@ -242,8 +242,40 @@ fn push_end(alloc: Global, text: &mut String, book: &Book) -> Result<(), AllocEr
     pushed
 }
 
+// The words of a reply without numbers.
+fn bare_words(reply: Heard) -> &'static str {
+    match reply {
+        Heard::Kept => "Kept",
+        Heard::Stale => "Stale",
+        Heard::Early => "Early",
+        Heard::InRace => "InRace",
+        Heard::Again => "Again",
+        Heard::Memory => "Memory",
+        _ => "",
+    }
+}
+
+// The words of a reply.
+fn words(alloc: Global, reply: Heard) -> Result<String, AllocError> {
+    match reply {
+        Heard::Broken(first) => format!(in alloc; "Broken({first:?}); "),
+        Heard::NotBetter { kept, given } => {
+            format!(in alloc; "NotBetter {{ kept: {kept}, given: {given} }}; ")
+        }
+        Heard::Gap { want, got } => format!(in alloc; "Gap {{ want: {want}, got: {got} }}; "),
+        Heard::Outside { column } => format!(in alloc; "Outside {{ column: {column} }}; "),
+        Heard::Unbacked { cutoff, incumbent } => {
+            format!(in alloc; "Unbacked {{ cutoff: {cutoff}, incumbent: {incumbent:?} }}; ")
+        }
+        Heard::Short { told, taken } => {
+            format!(in alloc; "Short {{ told: {told}, taken: {taken} }}; ")
+        }
+        _ => format!(in alloc; "{}; ", bare_words(reply)),
+    }
+}
+
 fn push_reply(alloc: Global, text: &mut String, reply: Heard) -> Result<(), AllocError> {
-    let part = format!(in alloc; "{reply:?}; ")?;
+    let part = words(alloc, reply)?;
     let pushed = text.push_str(&part);
     drop(part);
     pushed

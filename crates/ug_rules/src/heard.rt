@@ -1,7 +1,7 @@
 use ug_problem::Broken;
 
 /// What a report is answered.
-#[derive(Clone, Copy, Debug, PartialEq, Eq)]
+#[derive(Clone, Copy, PartialEq, Eq)]
 pub enum Heard {
     /// It was taken.
     Kept,
