@@ -60,11 +60,6 @@ pub error_of_turn : {P : Type 0} (fault : P → Option MpsFault) (all before : L
 error_of_turn fault all before p Memory n turn is = tt
 error_of_turn fault all before p (Fault f) n turn is = fault_of_turn fault all before p f n turn is
 
-pub result_of_turn : {P T : Type 0} (fault : P → Option MpsFault) (all before : List P) (p : P) (e : MpsError) (r : Result T MpsError) (good : T → Type 0)
-    → first_fault fault before ≡ None → IsTurn all before p → IsOf (fault p) e → IsErrAnd r (λ x. x ≡ e) → MatchResult r good (IsOf (first_fault fault all))
-result_of_turn fault all before p e (Ok x) good n turn is same = absurd same
-result_of_turn fault all before p e (Err x) good n turn is same = subst (IsOf (first_fault fault all)) (sym same) (error_of_turn fault all before p e n turn is)
-
 pub columns_more : (boxed : Option ℕ) (ps : List (List ℕ × ColumnDraft)) (p : List ℕ × ColumnDraft) (columns more : List Column) (column : Column)
     → AreColumnsMade boxed ps columns → column_fault_kept boxed p ≡ None → column ≡ made_column boxed p → more ≡ columns ++ column ∷ [] → AreColumnsMade boxed (ps ++ p ∷ []) more
 columns_more boxed ps p columns more column old n made is = record {

@@ -96,7 +96,13 @@ pub fn make_rows(
 {
     let mut parts = RowsAndObjective::new(alloc, maximise);
     for (name, draft) in names.into_iter().zip(drafts) {
-        parts.take(alloc, maximise, name, draft)?;
+        match parts.take(alloc, maximise, name, draft) {
+            Ok(()) => {}
+            Err(error) => {
+                drop(parts);
+                return Err(error);
+            }
+        }
     }
     Ok(parts)
 }

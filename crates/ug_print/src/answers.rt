@@ -3,7 +3,7 @@ ghost use Rattle.ug_ledger.specs.Answers.{answer_of};
 ghost use Rattle.ug_rules.specs.State.{held_nodes};
 ghost use Rattle.ug_print.specs.Answers.{AreAnswerLines, ArePointLines, IsAnswerLine, IsValueLine, claim_line, claim_under, value_lines, value_part};
 
-use crate::words::{push_number, push_word};
+use crate::words::{push_named_signed, push_number, push_word};
 use std::alloc::{AllocError, Global};
 use ug_book::{Answered, Book};
 use ug_problem::{Column, Problem};
@@ -115,10 +115,5 @@ fn push_value_line(
     if value == 0 {
         return Ok(());
     }
-    text.extend_from_slice(column.name.as_slice())?;
-    text.push(b' ')?;
-    let number = value.to_string(alloc)?;
-    text.extend_from_slice(number.as_bytes())?;
-    text.push(b'\n')?;
-    Ok(())
+    push_named_signed(text, alloc, column.name.as_slice(), i128::from(value))
 }
