@@ -9,7 +9,7 @@ use Rattle.ug_rows.specs.Rows.{value_of}
 use Rattle.ug_problem.specs.Instances.{Instance}
 use Rattle.ug_problem.specs.Feasible.{Feasible}
 use Rattle.ug_problem.specs.Limits.{IsProblem}
-use Rattle.ug_problem.proofs.Cutoffs.{cutoff_small, good_is_better}
+use Rattle.ug_problem.proofs.Cutoffs.{cutoff_small, good_is_less}
 use Rattle.ug_propagate.specs.Working.{WorkState}
 use Rattle.ug_branch.specs.declared.choice.Branch.{Branch}
 use Rattle.ug_base.specs.declared.part.Part.{Part}
@@ -75,7 +75,7 @@ less_still (Some c) v w h k = omega (arith, ints, h, k)
 less_than : (p : Instance) (gap : ℤ) (x y : List ℤ) → IsProblem p → IsGap gap → IsGood p (Some (cutoff_of p gap x)) y
     → value_of p.objective y <ℤ value_of p.objective x
 less_than p gap x y problem g good =
-    less_value (value_of p.objective x) (value_of p.objective y) gap g.low (good_is_better p gap (Some x) y problem good).less
+    less_value (value_of p.objective x) (value_of p.objective y) gap g.low (good_is_less p gap (Some x) y problem good)
 
 -- and is good where that one is
 good_still : (p : Instance) (cutoff : Option ℤ) (x y : List ℤ) → IsGood p cutoff x → Feasible p y

@@ -9,6 +9,7 @@ use Rattle.std.proofs.lemmas.List.Elements.{All-cons, All-nil}
 use Rattle.ug_rows.specs.declared.area.Interval.{Interval}
 use Rattle.ug_rows.specs.Sums.{box_floor}
 use Rattle.ug_problem.specs.Instances.{Instance, root_of}
+use Rattle.ug_problem.specs.Incumbents.{one_kept}
 use Rattle.ug_problem.specs.Better.{Covered, best_cutoff}
 use Rattle.ug_problem.specs.Feasible.{Feasible}
 use Rattle.ug_problem.specs.Limits.{IsProblem}
@@ -308,18 +309,18 @@ module _ (p : Instance) (run : ℕ) (best : Option (List ℤ)) (boxes : List (Li
       (boxes_told (hand + 1) bs)
 
   pub start_is_sound : IsSoundBook start
-      ↔ Covered p settings.gap best (map (area_by (root_of p)) boxes)
+      ↔ Covered p settings.gap (one_kept best) (map (area_by (root_of p)) boxes)
   start_is_sound =
-      let both = start_sound p settings.gap best (ledger_of start) is_start in
+      let both = start_sound p settings.gap (one_kept best) (ledger_of start) is_start in
       let told = boxes_told 0 boxes in (
-        λ s. subst (λ (bs : List (List Interval)). Covered p settings.gap best bs) told
-            (covered_by p settings.gap best (held_nodes start) (nodes_in entries)
+        λ s. subst (λ (bs : List (List Interval)). Covered p settings.gap (one_kept best) bs) told
+            (covered_by p settings.gap (one_kept best) (held_nodes start) (nodes_in entries)
             (λ n h x better inside.
             record { node = n; there = held_old n h; inside = inside }) (both.0 s)),
         λ covered. both.1
-            (covered_by p settings.gap best (nodes_in entries) (held_nodes start)
+            (covered_by p settings.gap (one_kept best) (nodes_in entries) (held_nodes start)
             (λ n h x better inside.
             record { node = n; there = held_new n h; inside = inside })
-            (subst (λ (bs : List (List Interval)). Covered p settings.gap best bs) (sym told)
-            covered)),
+            (subst (λ (bs : List (List Interval)). Covered p settings.gap (one_kept best) bs)
+            (sym told) covered)),
       )

@@ -1,6 +1,7 @@
 -- What a run begins with, and the book that is made of it.
 use Rattle.std.specs.Prelude.{◌≡◌, ℕ, ◌<◌, List, [], ◌∷◌, None, All, IfSome, map}
 use Rattle.ug_problem.specs.Instances.{Instance, root_of}
+use Rattle.ug_problem.specs.Incumbents.{one_kept}
 use Rattle.ug_problem.specs.Feasible.{Feasible}
 use Rattle.ug_problem.specs.Better.{Covered}
 use Rattle.ug_nodes.specs.Changes.{AreChangesOf, area_by}
@@ -30,4 +31,5 @@ pub record IsOpening (o : Opening) : Type 0 where
 -- each better point lies in one of the opening's boxes
 abbrev pub IsCoveredOpening : Opening → Type 0
 IsCoveredOpening o =
-    Covered o.problem o.settings.gap o.best (map (area_by (root_of o.problem)) o.boxes)
+    Covered o.problem o.settings.gap (one_kept o.best)
+    (map (area_by (root_of o.problem)) o.boxes)

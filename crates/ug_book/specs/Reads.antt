@@ -1,9 +1,9 @@
 -- What is read of a book.
 use Rattle.std.specs.Prelude.{◌≡◌, [], ◌∷◌}
+use Rattle.ug_problem.specs.Right.{answer_of}
 use Rattle.ug_problem.specs.declared.answer.Answer.{Answer}
 use Rattle.ug_problem.specs.declared.answer.Answer.TheVariants.{Optimal as IsOptimal}
 use Rattle.ug_problem.specs.declared.answer.Answer.TheVariants.{Infeasible as IsInfeasible}
-use Rattle.ug_ledger.specs.Answers.{answer_of}
 use Rattle.ug_rules.specs.declared.told.Told.{Told}
 use Rattle.ug_rules.specs.State.{BookState, held_nodes}
 use Rattle.ug_book.specs.declared.reads.Answered.{Answered}

@@ -1,5 +1,6 @@
 ghost use Rattle.std.specs.Prelude.{◌≡◌, ℤ, List, None, IfSome};
 ghost use Rattle.std.specs.Option.{option_copied};
+ghost use Rattle.ug_problem.specs.Incumbents.{one_kept};
 ghost use Rattle.ug_problem.specs.Better.{Better, IsGap, IsSmallCutoff, best_cutoff};
 ghost use Rattle.ug_problem.specs.Feasible.{Feasible};
 ghost use Rattle.ug_problem.specs.Offers.{IsAnswer, best_after, best_value};
@@ -46,13 +47,15 @@ impl Best {
 
     /// Takes the point for the incumbent, if it is better. After any other answer nothing has
     /// changed, and the point is dropped. Values alone count, whatever gap a cutoff is taken with.
+    #[tactic(auto, using(ug_problem::proofs::Incumbents::offer_falls))]
     pub fn offer(&mut self, problem: &Problem, point: Point) -> Offered
         requires { IfSome self.old (Feasible problem.now) }
         ensures answer { IsAnswer problem.now self.old point result }
         ensures best { self.new ≡ best_after result point self.old }
         ensures feasible { IfSome self.new (Feasible problem.now) }
-        ensures falls { (gap : ℤ) (x : List ℤ) → Better problem.now gap self.new x
-            → Better problem.now gap self.old x }
+        ensures falls { (gap : ℤ) (x : List ℤ) → IsGap gap
+            → Better problem.now gap (one_kept self.new) x
+            → Better problem.now gap (one_kept self.old) x }
     {
         let offered = self.judge(problem, &point);
         if offered == Offered::Taken {

@@ -2,6 +2,7 @@ ghost use Rattle.std.specs.Prelude.{◌≡◌, ◌≢◌, ◌↔◌, ◌<◌, []
 ghost use Rattle.std.specs.Option.{option_copied};
 ghost use Rattle.std.specs.List.{AllPairs};
 ghost use Rattle.ug_problem.specs.Instances.{root_of};
+ghost use Rattle.ug_problem.specs.Incumbents.{one_kept};
 ghost use Rattle.ug_problem.specs.Better.{Covered};
 ghost use Rattle.ug_problem.specs.Right.{Right};
 ghost use Rattle.ug_nodes.specs.declared.node.Node.{Node};
@@ -10,7 +11,7 @@ ghost use Rattle.ug_ledger.specs.Ledgers.{boxes_of};
 ghost use Rattle.ug_ranks.specs.States.{state_at};
 ghost use Rattle.ug_rules.specs.State.{held_nodes};
 ghost use Rattle.ug_rules.specs.Books.{IsBook, IsSoundBook};
-ghost use Rattle.ug_book.specs.Reads.{IsAnswerOf, IsOrderTold, answered};
+ghost use Rattle.ug_book.specs.Reads.{IsAnswerOf, IsOrderTold};
 ghost use Rattle.ug_ranks.specs.Looks.{is_alive};
 
 use crate::book::Book;
@@ -100,7 +101,7 @@ impl Book {
             → Contains (lent nodes.items) n ↔ IsPrimitive (held_nodes self.now) n) }
         ensures rising { IfOk result (λ nodes. AllPairs IsNamedBefore (lent nodes.items)) }
         ensures covered { IsSoundBook self.now → IfOk result (λ nodes.
-            Covered self.now.problem self.now.settings.gap self.now.best
+            Covered self.now.problem self.now.settings.gap (one_kept self.now.best)
             (boxes_of (root_of self.now.problem) (lent nodes.items))) }
     {
         let nodes = self.held()?;
@@ -112,8 +113,8 @@ impl Book {
         ensures answer { MatchOption result
             (held_nodes self.now ≢ [])
             (IsAnswerOf self.now) }
-        ensures right { IsSoundBook self.now
-            → IfSome result (λ a. Right self.now.problem self.now.settings.gap (answered a)) }
+        ensures right { IsSoundBook self.now → IfSome result (λ a.
+            Right self.now.problem self.now.settings.gap (one_kept self.now.best)) }
     {
         if !self.is_empty() {
             return None;

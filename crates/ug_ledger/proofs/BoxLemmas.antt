@@ -4,6 +4,7 @@ use Rattle.std.specs.Prelude.{Contains, Option}
 use Rattle.ug_rows.specs.declared.area.Interval.{Interval}
 use Rattle.ug_rows.specs.Boxes.{IsInOne, IsInside, box_at}
 use Rattle.ug_problem.specs.Instances.{Instance, root_of}
+use Rattle.ug_problem.specs.Incumbents.{Incumbent}
 use Rattle.ug_problem.specs.Better.{Better, Covered}
 use Rattle.ug_nodes.specs.declared.name.Name.{Name}
 use Rattle.ug_nodes.specs.declared.node.Node.{Node}
@@ -39,13 +40,13 @@ in_one root (m ∷ nodes) n x (suc k, l, e) inside =
     inr (in_one root nodes n x (k, omega (arith, l), e) inside)
 
 -- each better point of the nodes' boxes lies in the others
-abbrev AreIn : Instance → ℤ → Option (List ℤ) → List Node → List Node → Type 0
+abbrev AreIn : Instance → ℤ → Incumbent → List Node → List Node → Type 0
 AreIn p gap best nodes others =
     (n : Node) → Contains nodes n → (x : List ℤ) → Better p gap best x
     → IsInside (box_of (root_of p) n) x → IsInNode (root_of p) others x
 
 -- so these are Covered where the nodes are
-pub covered_by : (p : Instance) (gap : ℤ) (best : Option (List ℤ)) (nodes others : List Node)
+pub covered_by : (p : Instance) (gap : ℤ) (best : Incumbent) (nodes others : List Node)
     → AreIn p gap best nodes others → Covered p gap best (boxes_of (root_of p) nodes)
     → Covered p gap best (boxes_of (root_of p) others)
 covered_by p gap best nodes others f c = record {

@@ -5,6 +5,7 @@ use Rattle.std.proofs.lemmas.Int.{ints}
 use Rattle.ug_rows.specs.Boxes.{IsInside}
 use Rattle.ug_rows.specs.Rows.{value_of}
 use Rattle.ug_problem.specs.Instances.{Instance, root_of}
+use Rattle.ug_problem.specs.Incumbents.{Incumbent, cutoff_point}
 use Rattle.ug_problem.specs.Better.{Better, best_cutoff}
 use Rattle.ug_problem.proofs.Cutoffs.{better_is_good}
 use Rattle.ug_nodes.specs.declared.name.Name.{Name}
@@ -38,7 +39,7 @@ pub done_ledger : DoneIsLedger
 done_ledger root r c old new m l =
     less_ledger root old new (m.less, done_keeps_work old new r c m) l
 
-module _ (p : Instance) (gap : ℤ) (best : Option (List ℤ)) (old new : Ledger) (r : ℕ) (c : Current)
+module _ (p : Instance) (gap : ℤ) (best : Incumbent) (old new : Ledger) (r : ℕ) (c : Current)
     (l : IsLedger (root_of p) old) (m : HasDone old new r c) where
   -- the box of a node has the point
   abbrev HasPoint : List ℤ → Node → Type 0
@@ -112,5 +113,6 @@ done_searched p gap best cutoff c backed is_true x b inside =
     let good = better_is_good p gap best x b in
     is_true x b (record {
       feasible = good.feasible;
-      less = backed_below cutoff (best_cutoff p gap best) (value_of p.objective x) backed good.less;
+      less = backed_below cutoff (best_cutoff p gap (cutoff_point best)) (value_of p.objective x) backed
+          good.less;
     }) inside

@@ -4,6 +4,7 @@ use Rattle.std.specs.Prelude.{Contains, Option}
 use Rattle.std.proofs.lemmas.Option.{none-some}
 use Rattle.ug_rows.specs.declared.area.Interval.{Interval}
 use Rattle.ug_problem.specs.Instances.{Instance, root_of}
+use Rattle.ug_problem.specs.Incumbents.{Incumbent}
 use Rattle.ug_nodes.specs.declared.name.Ticket.{Ticket}
 use Rattle.ug_nodes.specs.declared.name.Name.{Name}
 use Rattle.ug_nodes.specs.Names.{IsTicketBefore}
@@ -121,7 +122,7 @@ none_taken c d i fresh e h =
     let none : i < 0 = subst (λ (ts : List (List Interval)). i < length ts) fresh short in
     omega (arith, none)
 
-module _ (p : Instance) (gap : ℤ) (best : Option (List ℤ)) (old new : Ledger) where
+module _ (p : Instance) (gap : ℤ) (best : Incumbent) (old new : Ledger) where
   -- no point is lost by it
   pub given_lossless : (r : ℕ) (c : Current) → HasGiven old new r c → LosesNone p gap best old
       → LosesNone p gap best new

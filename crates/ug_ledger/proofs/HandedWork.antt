@@ -8,6 +8,7 @@ use Rattle.std.proofs.lemmas.Option.{same_Some}
 use Rattle.ug_rows.specs.declared.area.Interval.{Interval}
 use Rattle.ug_rows.specs.Boxes.{IsInside, box_at}
 use Rattle.ug_problem.specs.Instances.{Instance, root_of}
+use Rattle.ug_problem.specs.Incumbents.{Incumbent}
 use Rattle.ug_problem.specs.Better.{Better}
 use Rattle.ug_nodes.specs.declared.change.Change.{Change}
 use Rattle.ug_nodes.specs.declared.name.Name.{Name}
@@ -91,7 +92,7 @@ handed_ledger root r c changes old new m l = record {
   worked = handed_worked root old new r c changes m l;
 }
 
-module _ (p : Instance) (gap : ℤ) (best : Option (List ℤ)) (old new : Ledger) (r : ℕ) (c : Current)
+module _ (p : Instance) (gap : ℤ) (best : Incumbent) (old new : Ledger) (r : ℕ) (c : Current)
     (changes : List Change) (m : HasHanded (root_of p) old new r c changes)
     (l : IsLedger (root_of p) old) where
   abbrev area : List Interval

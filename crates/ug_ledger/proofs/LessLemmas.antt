@@ -3,6 +3,7 @@ use Rattle.std.proofs.Common.{◌≡◌, ℤ, inl, inr, List, sym, ◌∙◌, su
 use Rattle.std.specs.Prelude.{Contains, Option, Some, None, slice_index_or}
 use Rattle.ug_rows.specs.Boxes.{IsInside}
 use Rattle.ug_problem.specs.Instances.{Instance, root_of}
+use Rattle.ug_problem.specs.Incumbents.{Incumbent}
 use Rattle.ug_problem.specs.Better.{Better}
 use Rattle.ug_nodes.specs.declared.name.Ticket.{Ticket}
 use Rattle.ug_nodes.specs.declared.node.Node.{Node}
@@ -75,7 +76,7 @@ dropped_ledger root p gap best old new d l =
     subst (λ rs. slice_index_or rs r None ≡ Some c) (sym d.ranks) h in
     less_ledger root old new (d.less, keeps) l
 
-module _ (p : Instance) (gap : ℤ) (best : Option (List ℤ)) (old new : Ledger) where
+module _ (p : Instance) (gap : ℤ) (best : Incumbent) (old new : Ledger) where
   -- a node with a better point stays
   abbrev DoStay : Type 0
   DoStay =

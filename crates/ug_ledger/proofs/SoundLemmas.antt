@@ -2,11 +2,12 @@
 use Rattle.std.proofs.Common.{ℤ, List}
 use Rattle.std.specs.Prelude.{Option}
 use Rattle.ug_problem.specs.Instances.{Instance, root_of}
+use Rattle.ug_problem.specs.Incumbents.{Incumbent}
 use Rattle.ug_ledger.specs.Ledgers.{Ledger}
 use Rattle.ug_ledger.specs.Sound.{IsLedger, LosesNone, Sound}
 use Rattle.ug_ledger.specs.FactLaws.{SoundIsBoth}
 
-module _ (p : Instance) (gap : ℤ) (best : Option (List ℤ)) (l : Ledger) where
+module _ (p : Instance) (gap : ℤ) (best : Incumbent) (l : Ledger) where
   pub is_ledger : Sound p gap best l → IsLedger (root_of p) l
   is_ledger s = record {
     ticketed = s.ticketed;

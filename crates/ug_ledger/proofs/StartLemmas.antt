@@ -3,6 +3,7 @@ use Rattle.std.proofs.Common.{◌≡◌, ℤ, ◌≤ℤ◌, zero, suc, List, [],
 use Rattle.std.specs.Prelude.{Contains, Option, Some, None}
 use Rattle.std.proofs.lemmas.Int.{ints}
 use Rattle.ug_problem.specs.Instances.{Instance, root_of}
+use Rattle.ug_problem.specs.Incumbents.{Incumbent}
 use Rattle.ug_problem.specs.Better.{Better}
 use Rattle.ug_nodes.specs.declared.name.Name.{Name}
 use Rattle.ug_nodes.specs.declared.node.Node.{Node}
@@ -11,7 +12,7 @@ use Rattle.ug_nodes.proofs.LineLemmas.{ancestor_shorter}
 use Rattle.ug_ledger.specs.Ledgers.{IsGiven, Ledger, hand_name}
 use Rattle.ug_ledger.specs.Sound.{AreTicketed}
 use Rattle.ug_ledger.specs.Starts.{IsStart}
-use Rattle.ug_ledger.specs.EndLaws.{CoveredUnderMore, StartIsLedger, StartIsSound}
+use Rattle.ug_ledger.specs.EndLaws.{StartIsLedger, StartIsSound}
 use Rattle.ug_ledger.proofs.SoundLemmas.{is_sound}
 
 -- a line of one name
@@ -67,16 +68,3 @@ start_sound p gap best l s = (
   λ h. is_sound p gap best l (start_ledger (root_of p) l s)
       (record { covered = h; backed = λ r c k. absurd (s.none r c k) }),
 )
-
--- what is better by more than the greater gap is better by more than the lesser
-better_by_less : (p : Instance) (gap more : ℤ) (best : Option (List ℤ)) (x : List ℤ) → gap ≤ℤ more
-    → Better p more best x → Better p gap best x
-better_by_less p gap more None x h b = record { feasible = b.feasible; less = tt }
-better_by_less p gap more (Some y) x h b =
-    record { feasible = b.feasible; less = omega (arith, ints, h, b.less) }
-
-pub covered_under_more : CoveredUnderMore
-covered_under_more p gap more best boxes h c = record {
-  incumbent = c.incumbent;
-  points = λ x b. c.points x (better_by_less p gap more best x h b);
-}

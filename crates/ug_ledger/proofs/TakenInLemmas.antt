@@ -5,6 +5,7 @@ use Rattle.ug_rows.specs.declared.area.Interval.{Interval}
 use Rattle.ug_rows.specs.Boxes.{IsInside}
 use Rattle.ug_rows.proofs.AreaLemmas.{inside_below}
 use Rattle.ug_problem.specs.Instances.{Instance, root_of}
+use Rattle.ug_problem.specs.Incumbents.{Incumbent}
 use Rattle.ug_nodes.specs.declared.node.Node.{Node}
 use Rattle.ug_nodes.specs.Lines.{IsAncestor}
 use Rattle.ug_nodes.specs.Nodes.{box_of}
@@ -66,7 +67,7 @@ module _ (root : List Interval) (old new : Ledger) (r : ℕ) (c : Current)
         ]
       ]
 
-module _ (p : Instance) (gap : ℤ) (best : Option (List ℤ)) (old new : Ledger) (r : ℕ) (c : Current)
+module _ (p : Instance) (gap : ℤ) (best : Incumbent) (old new : Ledger) (r : ℕ) (c : Current)
     (l : IsLedger (root_of p) old) (m : HasTakenIn old new r c) where
   -- no point is lost by it
   pub taken_in_lossless : LosesNone p gap best old → LosesNone p gap best new

@@ -2,6 +2,7 @@
 use Rattle.std.specs.Prelude.{◌≡◌, ◌≢◌, ℕ, ℤ, ◌<◌, ◌↔◌, List, length, Contains, Option}
 use Rattle.ug_rows.specs.declared.area.Interval.{Interval}
 use Rattle.ug_problem.specs.Instances.{Instance, root_of}
+use Rattle.ug_problem.specs.Incumbents.{Incumbent}
 use Rattle.ug_nodes.specs.declared.node.Node.{Node}
 use Rattle.ug_nodes.specs.Lines.{IsAncestor, line_name_at}
 use Rattle.ug_nodes.specs.Names.{own_name}
@@ -11,7 +12,7 @@ use Rattle.ug_ledger.specs.Sound.{IsLedger, LosesNone, Sound}
 -- the six parts are two halves: what every ledger is, and that no better point is lost
 abbrev pub SoundIsBoth : Type 0
 SoundIsBoth =
-    (p : Instance) (gap : ℤ) (best : Option (List ℤ)) (l : Ledger)
+    (p : Instance) (gap : ℤ) (best : Incumbent) (l : Ledger)
     → Sound p gap best l ↔ (IsLedger (root_of p) l × LosesNone p gap best l)
 
 -- two held nodes of one name are one node

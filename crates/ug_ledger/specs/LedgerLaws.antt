@@ -2,6 +2,7 @@
 use Rattle.std.specs.Prelude.{◌≡◌, ℕ, ℤ, List, Contains, Option}
 use Rattle.ug_rows.specs.declared.area.Interval.{Interval}
 use Rattle.ug_problem.specs.Instances.{Instance}
+use Rattle.ug_problem.specs.Incumbents.{Incumbent}
 use Rattle.ug_nodes.specs.declared.change.Change.{Change}
 use Rattle.ug_nodes.specs.declared.node.Node.{Node}
 use Rattle.ug_ledger.specs.Ledgers.{Current, Ledger}
@@ -28,7 +29,7 @@ EndedIsLedger = (root : List Interval) → KeepsLedger root HasEnded
 
 abbrev pub DroppedIsLedger : Type 0
 DroppedIsLedger =
-    (root : List Interval) (p : Instance) (gap : ℤ) (best : Option (List ℤ))
+    (root : List Interval) (p : Instance) (gap : ℤ) (best : Incumbent)
     → KeepsLedger root (HasDropped p gap best)
 
 abbrev pub DoneIsLedger : Type 0

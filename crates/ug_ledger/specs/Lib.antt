@@ -4,7 +4,6 @@ pub mod Sound
 pub mod Moves
 pub mod Dones
 pub mod Starts
-pub mod Answers
 pub mod FactLaws
 pub mod LedgerLaws
 pub mod SoundLaws

@@ -1,10 +1,10 @@
 -- What events do to a ledger: each says what changed, and what stayed.
-use Rattle.std.specs.Prelude.{◌≡◌, ◌≢◌, ℕ, ℤ, ◌+◌, ◌<◌, ◌≤◌, ◌≤ℤ◌, ◌⊎◌, List, [], ◌∷◌, ◌++◌, length}
-use Rattle.std.specs.Prelude.{set, Contains, Option, Some, None, IfSome, slice_index_or}
+use Rattle.std.specs.Prelude.{◌≡◌, ◌≢◌, ℕ, ℤ, ◌+◌, ◌<◌, ◌≤◌, ◌⊎◌, List, [], ◌∷◌, ◌++◌, length}
+use Rattle.std.specs.Prelude.{set, All, Contains, Option, Some, None, slice_index_or}
 use Rattle.ug_rows.specs.declared.area.Interval.{Interval}
 use Rattle.ug_rows.specs.Boxes.{IsBelow, IsInside}
-use Rattle.ug_rows.specs.Rows.{value_of}
 use Rattle.ug_problem.specs.Instances.{Instance, root_of}
+use Rattle.ug_problem.specs.Incumbents.{Incumbent}
 use Rattle.ug_problem.specs.Better.{Better}
 use Rattle.ug_problem.specs.Feasible.{Feasible}
 use Rattle.ug_nodes.specs.declared.change.Change.{Change}
@@ -40,12 +40,12 @@ pub record HasEnded (old new : Ledger) : Type 0 where
   pub work : KeepsWork old new
 
 -- no point of the node is better
-abbrev pub HasNoBetter : Instance → ℤ → Option (List ℤ) → Node → Type 0
+abbrev pub HasNoBetter : Instance → ℤ → Incumbent → Node → Type 0
 HasNoBetter p gap best n =
     (x : List ℤ) → Better p gap best x → ¬ IsInside (box_of (root_of p) n) x
 
 -- nodes without a better point were dropped, and no ticket ended
-pub record HasDropped (p : Instance) (gap : ℤ) (best : Option (List ℤ)) (old new : Ledger)
+pub record HasDropped (p : Instance) (gap : ℤ) (best : Incumbent) (old new : Ledger)
     : Type 0 where
   pub less : IsLess old new
   pub dropped : (n : Node) → Contains old.held n → HasNoBetter p gap best n ⊎ Contains new.held n
@@ -115,7 +115,7 @@ pub record HasHanded (root : List Interval) (old new : Ledger) (r : ℕ) (c : Cu
       ≡ set old.ranks r (Some (with_taken c (box_of root (handed_node c changes))))
   pub last : new.last ≡ old.last
 
--- a feasible point took the incumbent's place, if there was one of no lesser value
-pub record HasImproved (p : Instance) (best : Option (List ℤ)) (x : List ℤ) : Type 0 where
-  pub feasible : Feasible p x
-  pub least : IfSome best (λ y. value_of p.objective x ≤ℤ value_of p.objective y)
+-- other points are kept, feasible ones, and none is better than they are that was not before
+pub record HasImproved (p : Instance) (gap : ℤ) (old new : Incumbent) : Type 0 where
+  pub feasible : All (Feasible p) new.points
+  pub falls : (x : List ℤ) → Better p gap new x → Better p gap old x

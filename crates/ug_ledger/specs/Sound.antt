@@ -3,6 +3,7 @@ use Rattle.std.specs.Prelude.{◌≡◌, ℕ, ℤ, ◌<◌, List, length, Contai
 use Rattle.ug_rows.specs.declared.area.Interval.{Interval}
 use Rattle.ug_rows.specs.Boxes.{IsBelow, IsInside, box_at}
 use Rattle.ug_problem.specs.Instances.{Instance, root_of}
+use Rattle.ug_problem.specs.Incumbents.{Incumbent}
 use Rattle.ug_problem.specs.Better.{Better, Covered}
 use Rattle.ug_nodes.specs.declared.name.Ticket.{Ticket}
 use Rattle.ug_nodes.specs.declared.name.Name.{Name}
@@ -47,7 +48,7 @@ AreHanded l =
     → (i : ℕ) → Contains n.line (hand_name c.ticket i) → GoesThrough n.line c i
 
 -- each better point in the box of a hand kept under a current ticket is in a held node below it
-abbrev pub AreBacked : Instance → ℤ → Option (List ℤ) → Ledger → Type 0
+abbrev pub AreBacked : Instance → ℤ → Incumbent → Ledger → Type 0
 AreBacked p gap best l =
     (r : ℕ) (c : Current) → IsCurrent l r c → (i : ℕ) → i < length c.taken
     → (x : List ℤ) → Better p gap best x → IsInside (box_at c.taken i) x
@@ -69,7 +70,7 @@ AreWorkedOn l =
     → GoesOn b.line a.line name → IsWorkedOn l a name.ticket
 
 -- a sound ledger, for a problem, a gap and an incumbent: its six parts
-pub record Sound (p : Instance) (gap : ℤ) (best : Option (List ℤ)) (l : Ledger) : Type 0 where
+pub record Sound (p : Instance) (gap : ℤ) (best : Incumbent) (l : Ledger) : Type 0 where
   pub covered : Covered p gap best (boxes_of (root_of p) l.held)
   pub ticketed : AreTicketed l
   pub nested : AreNested (root_of p) l
@@ -85,7 +86,7 @@ pub record IsLedger (root : List Interval) (l : Ledger) : Type 0 where
   pub worked : AreWorkedOn l
 
 -- and what a sound one is besides: no better point is lost
-pub record LosesNone (p : Instance) (gap : ℤ) (best : Option (List ℤ)) (l : Ledger)
+pub record LosesNone (p : Instance) (gap : ℤ) (best : Incumbent) (l : Ledger)
     : Type 0 where
   pub covered : Covered p gap best (boxes_of (root_of p) l.held)
   pub backed : AreBacked p gap best l

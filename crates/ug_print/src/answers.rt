@@ -1,5 +1,5 @@
 ghost use Rattle.std.specs.Prelude.{◌≡◌, [], ◌++◌, length, IfOk, OnOk};
-ghost use Rattle.ug_ledger.specs.Answers.{answer_of};
+ghost use Rattle.ug_problem.specs.Right.{answer_of};
 ghost use Rattle.ug_rules.specs.State.{held_nodes};
 ghost use Rattle.ug_print.specs.Answers.{AreAnswerLines, ArePointLines, IsAnswerLine, IsValueLine, claim_line, claim_under, value_lines, value_part};
 

@@ -9,6 +9,7 @@ use Rattle.ug_rows.specs.Sums.{box_floor}
 use Rattle.ug_rows.proofs.AreaLemmas.{below_itself}
 use Rattle.ug_problem.specs.Instances.{Instance, bounds_of, root_of}
 use Rattle.ug_problem.specs.Limits.{IsProblem}
+use Rattle.ug_problem.specs.Incumbents.{Incumbent, cutoff_point}
 use Rattle.ug_problem.specs.Better.{Better, BetterIsBelowCutoff, IsGap, IsGood, best_cutoff, cutoff_of}
 use Rattle.ug_problem.proofs.Floors.{floor_bound, floor_within}
 use Rattle.ug_problem.proofs.Values.{value_within}
@@ -82,21 +83,27 @@ above_best p gap None x h less = tt
 above_best p gap (Some y) x h less =
     less_of_max (value_of p.objective x) (value_of p.objective y) gap (box_floor p.objective (root_of p)) h less
 
--- a better point is a feasible one with a value below the incumbent's cutoff
-pub better_is_good : (p : Instance) (gap : ℤ) (best : Option (List ℤ)) (x : List ℤ) → Better p gap best x
-    → IsGood p (best_cutoff p gap best) x
+-- a better point is a feasible one with a value below the cutoff of the point that it has to beat
+pub better_is_good : (p : Instance) (gap : ℤ) (best : Incumbent) (x : List ℤ) → Better p gap best x
+    → IsGood p (best_cutoff p gap (cutoff_point best)) x
 better_is_good p gap best x better = record {
   feasible = better.feasible;
-  less = below_best p gap best x better.less;
+  less = below_best p gap (cutoff_point best) x better.less;
 }
 
--- and the other way round
-pub good_is_better : (p : Instance) (gap : ℤ) (best : Option (List ℤ)) (x : List ℤ) → IsProblem p
-    → IsGood p (best_cutoff p gap best) x → Better p gap best x
-good_is_better p gap best x problem good = record {
-  feasible = good.feasible;
-  less = above_best p gap best x (root_bound p x problem good.feasible.inside) good.less;
-}
+-- a good point's value is less by more than the gap
+pub good_is_less : (p : Instance) (gap : ℤ) (point : Option (List ℤ)) (x : List ℤ) → IsProblem p
+    → IsGood p (best_cutoff p gap point) x
+    → IfSome point (λ y. (value_of p.objective x +ℤ gap) <ℤ value_of p.objective y)
+good_is_less p gap point x problem good =
+    above_best p gap point x (root_bound p x problem good.feasible.inside) good.less
 
 pub better_below_cutoff : BetterIsBelowCutoff
-better_below_cutoff p gap best x problem = (better_is_good p gap best x, good_is_better p gap best x problem)
+better_below_cutoff p gap best x problem = (
+  λ better. (better_is_good p gap best x better, better.other),
+  λ (good, other). record {
+    feasible = good.feasible;
+    other = other;
+    less = good_is_less p gap (cutoff_point best) x problem good;
+  },
+)

@@ -3,6 +3,7 @@ pub mod Cutoffs
 pub mod Floors
 pub mod Fractions
 pub mod Gathered
+pub mod Incumbents
 pub mod Kept
 pub mod Linear
 pub mod Numerals

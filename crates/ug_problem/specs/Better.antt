@@ -1,6 +1,6 @@
 -- Which points are better than an incumbent by more than a gap, and where these have to lie.
-use Rattle.std.specs.Prelude.{ℤ, pos, ◌+ℤ◌, ◌-ℤ◌, ◌≤ℤ◌, ◌<ℤ◌, ◌*◌, ◌^◌, ◌≤◌, ◌↔◌, List, Option}
-use Rattle.std.specs.Prelude.{IfSome, unsigned_abs}
+use Rattle.std.specs.Prelude.{ℤ, pos, ◌+ℤ◌, ◌-ℤ◌, ◌≤ℤ◌, ◌<ℤ◌, ◌*◌, ◌^◌, ◌≤◌, ◌↔◌, List, All, Contains}
+use Rattle.std.specs.Prelude.{Option, IfSome, unsigned_abs}
 use Rattle.std.specs.Option.{option_map}
 use Rattle.std.specs.Int.{int_max}
 use Rattle.ug_rows.specs.declared.area.Interval.{Interval}
@@ -9,6 +9,7 @@ use Rattle.ug_rows.specs.Rows.{value_of}
 use Rattle.ug_rows.specs.Sums.{box_floor}
 use Rattle.ug_problem.specs.Instances.{Instance, root_of}
 use Rattle.ug_problem.specs.Feasible.{Feasible}
+use Rattle.ug_problem.specs.Incumbents.{Incumbent, cutoff_point}
 use Rattle.ug_problem.specs.Limits.{IsProblem}
 
 -- a gap, multiplied by ten to the objective's scale: from 0 to the most by which two values differ
@@ -16,9 +17,18 @@ pub record IsGap (gap : ℤ) : Type 0 where
   pub low : pos 0 ≤ℤ gap
   pub high : gap ≤ℤ pos (4 * 10 ^ 37)
 
--- x is feasible, and there is no incumbent, or the value of x is less than the incumbent's by more
--- than the gap
-pub record Better (p : Instance) (gap : ℤ) (best : Option (List ℤ)) (x : List ℤ) : Type 0 where
+-- x is feasible and not kept, and where as many points are kept as may be, the value of x is less
+-- than that of the last of them by more than the gap
+pub record Better (p : Instance) (gap : ℤ) (best : Incumbent) (x : List ℤ) : Type 0 where
+  pub feasible : Feasible p x
+  pub other : ¬ Contains best.points x
+  pub less : IfSome (cutoff_point best)
+      (λ y. (value_of p.objective x +ℤ gap) <ℤ value_of p.objective y)
+
+-- where one point is kept at most: x is feasible, and there is no such point, or the value of x is
+-- less than that of it by more than the gap
+pub record BetterThanOne (p : Instance) (gap : ℤ) (best : Option (List ℤ)) (x : List ℤ)
+    : Type 0 where
   pub feasible : Feasible p x
   pub less : IfSome best (λ y. (value_of p.objective x +ℤ gap) <ℤ value_of p.objective y)
 
@@ -26,7 +36,7 @@ pub record Better (p : Instance) (gap : ℤ) (best : Option (List ℤ)) (x : Lis
 abbrev pub cutoff_of : Instance → ℤ → List ℤ → ℤ
 cutoff_of p gap x = int_max (value_of p.objective x -ℤ gap) (box_floor p.objective (root_of p))
 
--- the incumbent's cutoff, if there is an incumbent
+-- the cutoff of a point, if there is one
 abbrev pub best_cutoff : Instance → ℤ → Option (List ℤ) → Option ℤ
 best_cutoff p gap best = option_map (cutoff_of p gap) best
 
@@ -48,13 +58,21 @@ abbrev pub AreAllHanded : Instance → Option ℤ → List Interval → List (Li
 AreAllHanded p cutoff whole handed =
     (x : List ℤ) → IsInside whole x → IsGood p cutoff x → IsInOne handed x
 
--- the incumbent is feasible, if there is one, and each better point lies in one of the boxes
-pub record Covered (p : Instance) (gap : ℤ) (best : Option (List ℤ))
+-- the points kept are feasible, and each better point lies in one of the boxes
+pub record Covered (p : Instance) (gap : ℤ) (best : Incumbent)
     (boxes : List (List Interval)) : Type 0 where
-  pub incumbent : IfSome best (Feasible p)
+  pub incumbent : All (Feasible p) best.points
   pub points : (x : List ℤ) → Better p gap best x → IsInOne boxes x
 
--- a better point is exactly a feasible one with a value below the incumbent's cutoff
+-- a better point is exactly a feasible one that is not kept, with a value below the cutoff of the
+-- point that it has to beat
 abbrev pub BetterIsBelowCutoff : Type 0
-BetterIsBelowCutoff = (p : Instance) (gap : ℤ) (best : Option (List ℤ)) (x : List ℤ) → IsProblem p
-    → Better p gap best x ↔ IsGood p (best_cutoff p gap best) x
+BetterIsBelowCutoff = (p : Instance) (gap : ℤ) (best : Incumbent) (x : List ℤ) → IsProblem p
+    → Better p gap best x
+    ↔ (IsGood p (best_cutoff p gap (cutoff_point best)) x × ¬ Contains best.points x)
+
+-- what is Covered under a gap is so under a greater one
+abbrev pub CoveredUnderMore : Type 0
+CoveredUnderMore =
+    (p : Instance) (gap more : ℤ) (best : Incumbent) (boxes : List (List Interval)) → gap ≤ℤ more
+    → Covered p gap best boxes → Covered p more best boxes

@@ -4,6 +4,7 @@ pub mod Fractions
 pub mod Instances
 pub mod Feasible
 pub mod Limits
+pub mod Incumbents
 pub mod Better
 pub mod Printed
 pub mod Right

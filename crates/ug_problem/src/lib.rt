@@ -26,7 +26,7 @@ pub use decimal::{
     starts_with_minus, without_sign,
 };
 pub use error::ProblemError;
-pub use laws::better_is_below_the_cutoff;
+pub use laws::{better_is_below_the_cutoff, gaps_may_grow, one_point_is_kept};
 pub use limits::{MOST_COLUMNS, MOST_FACTOR, MOST_ROWS, MOST_SIDE, MOST_TERMS};
 pub use offered::Offered;
 pub use print::prints_one_text;

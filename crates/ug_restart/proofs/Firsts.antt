@@ -5,6 +5,9 @@ use Rattle.std.proofs.Math.Nat.{lt_of_not-le}
 use Rattle.std.specs.Option.{option_copied}
 use Rattle.ug_disk.specs.Histories.{History}
 use Rattle.ug_problem.specs.Instances.{Instance, root_of}
+use Rattle.ug_problem.specs.Incumbents.{one_kept}
+use Rattle.ug_problem.specs.Feasible.{Feasible}
+use Rattle.ug_problem.proofs.Incumbents.{all_of_one}
 use Rattle.ug_problem.specs.Better.{Covered}
 use Rattle.ug_nodes.specs.declared.change.Change.{Change}
 use Rattle.ug_nodes.specs.Changes.{area_by}
@@ -17,10 +20,12 @@ use Rattle.ug_restart.specs.Books.{IsSaverOf}
 
 -- each point lies in the root
 pub root_covers : (p : Instance) (gap : ℤ) (boxes : List (List Change)) → boxes ≡ [] ∷ []
-    → Covered p gap None (map (area_by (root_of p)) boxes)
+    → Covered p gap (one_kept None) (map (area_by (root_of p)) boxes)
 root_covers p gap boxes root =
-    subst (λ b. Covered p gap None (map (area_by (root_of p)) b)) (sym root)
-    (record { incumbent = tt; points = λ x better. inl better.feasible.inside })
+    subst (λ b. Covered p gap (one_kept None) (map (area_by (root_of p)) b)) (sym root) (record {
+      incumbent = all_of_one (Feasible p) None tt;
+      points = λ x better. inl better.feasible.inside;
+    })
 
 -- the saver that is made of what was found
 pub saver_of : (lent : Option (Bor Found)) (saver : Saver)

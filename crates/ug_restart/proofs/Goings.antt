@@ -6,6 +6,8 @@ use Rattle.ug_disk.specs.Histories.{History}
 use Rattle.ug_rows.specs.declared.area.Interval.{Interval}
 use Rattle.ug_rows.specs.Rows.{value_of}
 use Rattle.ug_problem.specs.Instances.{Instance, root_of}
+use Rattle.ug_problem.specs.Incumbents.{one_kept}
+use Rattle.ug_problem.proofs.Incumbents.{covered_under_more}
 use Rattle.ug_problem.specs.Better.{Covered}
 use Rattle.ug_problem.specs.Feasible.{Feasible}
 use Rattle.ug_nodes.specs.declared.change.Change.{Change}
@@ -88,46 +90,25 @@ boxes_are : (root : List Interval) (nodes : List SavedNode)
 boxes_are root [] = refl
 boxes_are root (node ∷ nodes) = ap (λ bs. area_by root node.changes ∷ bs) (boxes_are root nodes)
 
-less_by : (a b c d : ℤ) → a ≤ℤ b → (c +ℤ b) <ℤ d → (c +ℤ a) <ℤ d
-less_by a b c d low less = omega (arith, ints, low, less)
-
--- a point that is better by more than a gap is so by more than a smaller one
-less_than_best : (p : Instance) (gap more : ℤ) (best : Option (List ℤ)) (x : List ℤ) → gap ≤ℤ more
-    → IfSome best (λ y. (value_of p.objective x +ℤ more) <ℤ value_of p.objective y)
-    → IfSome best (λ y. (value_of p.objective x +ℤ gap) <ℤ value_of p.objective y)
-less_than_best p gap more None x low less = tt
-less_than_best p gap more (Some y) x low less =
-    less_by gap more (value_of p.objective x) (value_of p.objective y) low less
-
-covered_by_more : (p : Instance) (gap more : ℤ) (best : Option (List ℤ))
-    (boxes : List (List Interval)) → gap ≤ℤ more → Covered p gap best boxes
-    → Covered p more best boxes
-covered_by_more p gap more best boxes low covered = record {
-  incumbent = covered.incumbent;
-  points = λ x better. covered.points x (record {
-    feasible = better.feasible;
-    less = less_than_best p gap more best x low better.less;
-  });
-}
-
 pub covered_on : (p : Instance) (gap : ℤ) (found : Found) → found.image.problem ≡ p
     → found.image.gap ≤ℤ gap → IsCovered found.image
-    → Covered p gap found.image.best (map (area_by (root_of p)) (boxes_saved found.image.nodes))
+    → Covered p gap (one_kept found.image.best)
+    (map (area_by (root_of p)) (boxes_saved found.image.nodes))
 covered_on p gap found problem low covered =
-    subst (Covered p gap found.image.best) (boxes_are (root_of p) found.image.nodes)
-    (covered_by_more p found.image.gap gap found.image.best
+    subst (Covered p gap (one_kept found.image.best)) (boxes_are (root_of p) found.image.nodes)
+    (covered_under_more p found.image.gap gap (one_kept found.image.best)
     (boxes_in (root_of p) found.image.nodes) low
-    (subst (λ q. Covered q found.image.gap found.image.best (boxes_in (root_of q)
+    (subst (λ q. Covered q found.image.gap (one_kept found.image.best) (boxes_in (root_of q)
     found.image.nodes)) problem covered))
 
 -- what goes on from an image that is Covered is Covered
 pub covered_kept : (p : Instance) (gap : ℤ) (found : Found) (best : Option (List ℤ))
     (boxes : List (List Change)) → found.image.problem ≡ p → found.image.gap ≤ℤ gap
     → best ≡ found.image.best → boxes ≡ boxes_saved found.image.nodes → IsCovered found.image
-    → Covered p gap best (map (area_by (root_of p)) boxes)
+    → Covered p gap (one_kept best) (map (area_by (root_of p)) boxes)
 covered_kept p gap found best boxes problem low same kept covered =
-    subst (λ b. Covered p gap b (map (area_by (root_of p)) boxes)) (sym same)
-    (subst (λ b. Covered p gap found.image.best (map (area_by (root_of p)) b)) (sym kept)
+    subst (λ b. Covered p gap (one_kept b) (map (area_by (root_of p)) boxes)) (sym same)
+    (subst (λ b. Covered p gap (one_kept found.image.best) (map (area_by (root_of p)) b)) (sym kept)
     (covered_on p gap found problem low covered))
 
 -- what was loaded is Covered where all that recovery could find is
@@ -185,7 +166,8 @@ kept_makes p q found run best boxes settings saver same number point left is fit
         settings = fit;
       };
       covered = λ covered. subst
-          (λ (k : Instance). Covered k settings.gap best (map (area_by (root_of k)) boxes)) (sym same)
+          (λ (k : Instance). Covered k settings.gap (one_kept best)
+          (map (area_by (root_of k)) boxes)) (sym same)
           (covered_kept p settings.gap found best boxes problem low point left covered);
       saver = kept;
     }

@@ -5,6 +5,7 @@ use Rattle.std.proofs.lemmas.Bool.{eqb-true, false≢true, ltb-true}
 use Rattle.std.proofs.lemmas.List.{length-append}
 use Rattle.std.proofs.lemmas.List.Elements.{All-get_or}
 use Rattle.ug_problem.specs.Instances.{root_of}
+use Rattle.ug_problem.specs.Incumbents.{one_kept}
 use Rattle.ug_nodes.specs.declared.name.Name.{Name}
 use Rattle.ug_nodes.specs.declared.node.Node.{Node}
 use Rattle.ug_pool.specs.declared.entry.Entry.{Entry}
@@ -163,7 +164,7 @@ module _ (b : BookState) (entry : Entry) (h : IsBook b) (a : IsAlone b entry) wh
   }
 
   moved_sound : IsSoundBook b → IsSoundBook moved
-  moved_sound s = ended_sound b.problem b.settings.gap b.best (ledger_of b)
+  moved_sound s = ended_sound b.problem b.settings.gap (one_kept b.best) (ledger_of b)
       (ledger_of moved) has_ended s
 
   module _ (begin : IsBegin b) where

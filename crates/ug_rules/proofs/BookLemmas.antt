@@ -7,6 +7,7 @@ use Rattle.std.proofs.lemmas.List.{length-set}
 use Rattle.std.proofs.lemmas.List.Elements.{All-get_or, All-map, All-set, All-tail, All-weaker}
 use Rattle.ug_problem.specs.Feasible.{Feasible}
 use Rattle.ug_problem.specs.Instances.{Instance, root_of}
+use Rattle.ug_problem.specs.Incumbents.{one_kept}
 use Rattle.ug_nodes.specs.declared.node.Node.{Node}
 use Rattle.ug_pool.specs.declared.entry.Entry.{Entry}
 use Rattle.ug_pool.specs.Pools.{IsInOrder}
@@ -233,4 +234,5 @@ book_written b r s l a h =
 pub sound_written : (b : BookState) (r : ℕ) (s : State) → IsAlike (state_at b.ranks r) s
     → IsSoundBook b → IsSoundBook (written r s b)
 sound_written b r s a h =
-    subst (λ (k : Ledger). Sound b.problem b.settings.gap b.best k) (sym (same_ledger b r s a)) h
+    subst (λ (k : Ledger). Sound b.problem b.settings.gap (one_kept b.best) k)
+    (sym (same_ledger b r s a)) h

@@ -6,6 +6,7 @@ use Rattle.std.proofs.lemmas.List.{length-map, length-set}
 use Rattle.std.proofs.lemmas.List.Elements.{All-filter, All-set}
 use Rattle.std.proofs.lemmas.Option.{none-some, same_Some}
 use Rattle.ug_problem.specs.Instances.{root_of}
+use Rattle.ug_problem.specs.Incumbents.{one_kept}
 use Rattle.ug_nodes.specs.declared.name.Name.{Name}
 use Rattle.ug_nodes.specs.declared.node.Node.{Node}
 use Rattle.ug_nodes.specs.Lines.{IsAncestor, is_ancestor}
@@ -220,5 +221,5 @@ module _ (b : BookState) (r : ℕ) (work : Work) (there : r < length b.ranks)
   death_at_work_sound h s =
       let raced = nothing_raced b r work h.race is in
       let moved = death_takes_in raced h.ledger.ticketed.named in
-      taken_in_sound b.problem b.settings.gap b.best r (current_for work) (ledger_of b)
+      taken_in_sound b.problem b.settings.gap (one_kept b.best) r (current_for work) (ledger_of b)
       (ledger_of new) moved s

@@ -2,6 +2,7 @@
 use Rattle.std.proofs.Common.{◌≡◌, inl, inr, ℕ, zero, suc, ◌≤◌, true, false, sym, subst, arith}
 use Rattle.std.specs.Prelude.{if◌then◌else◌}
 use Rattle.std.proofs.lemmas.Bool.{cases_Bool}
+use Rattle.ug_problem.specs.Incumbents.{one_kept}
 use Rattle.ug_ledger.proofs.EndLemmas.{answer_right}
 use Rattle.ug_rules.specs.State.{BookState, ledger_of}
 use Rattle.ug_rules.specs.Books.{IsBook, Keeps}
@@ -97,4 +98,5 @@ collected_keeps old new t = record {
 
 -- the answer of a sound book that holds nothing
 pub right_answer : AnswerIsRight
-right_answer b none s = answer_right b.problem b.settings.gap b.best (ledger_of b) none s
+right_answer b none s =
+    answer_right b.problem b.settings.gap (one_kept b.best) (ledger_of b) none s

@@ -5,6 +5,7 @@ use Rattle.std.proofs.lemmas.Bool.{cases_eq}
 use Rattle.std.proofs.lemmas.List.{length-set}
 use Rattle.std.proofs.lemmas.List.Elements.{All-set}
 use Rattle.ug_problem.specs.Instances.{root_of}
+use Rattle.ug_problem.specs.Incumbents.{one_kept}
 use Rattle.ug_nodes.specs.declared.name.Name.{Name}
 use Rattle.ug_nodes.specs.declared.node.Node.{Node}
 use Rattle.ug_ranks.specs.declared.state.Work.{Work}
@@ -106,8 +107,8 @@ module _ (b : BookState) (r : ℕ) (work : Work) (there : r < length b.ranks)
       (nothing_raced b r work h.race is))
 
   pub done_at_work_sound : IsBook b
-      → IsSearched b.problem b.settings.gap b.best (current_for work)
+      → IsSearched b.problem b.settings.gap (one_kept b.best) (current_for work)
       → IsSoundBook b → IsSoundBook new
   done_at_work_sound h searched s =
-      done_sound b.problem b.settings.gap b.best r (current_for work) searched
+      done_sound b.problem b.settings.gap (one_kept b.best) r (current_for work) searched
       (ledger_of b) (ledger_of new) (done_works_off h.ledger.ticketed.named) s

@@ -9,6 +9,8 @@ use Rattle.std.proofs.lemmas.List.Elements.{All-contains, All-filter}
 use Rattle.ug_rows.specs.Sums.{box_floor}
 use Rattle.ug_rows.specs.Rows.{value_of}
 use Rattle.ug_problem.specs.Instances.{Instance, bounds_of, root_of}
+use Rattle.ug_problem.specs.Incumbents.{one_kept}
+use Rattle.ug_problem.proofs.Incumbents.{one_point}
 use Rattle.ug_problem.specs.Limits.{IsProblem}
 use Rattle.ug_problem.specs.Better.{best_cutoff}
 use Rattle.ug_problem.proofs.Cutoffs.{better_is_good}
@@ -94,11 +96,12 @@ left_or p (Some c) es n floors h =
 
 -- so it has no better point
 no_better : (p : Instance) (gap : ℤ) (best : Option (List ℤ)) (n : Node) → IsProblem p
-    → IsAtLeast p (best_cutoff p gap best) n → HasNoBetter p gap best n
+    → IsAtLeast p (best_cutoff p gap best) n → HasNoBetter p gap (one_kept best) n
 no_better p gap best n problem t x better inside =
-    let good = better_is_good p gap best x better in
+    let good = better_is_good p gap (one_kept best) x better in
+    let given = ap (best_cutoff p gap) (one_point best) ∙ t.given in
     let less : value_of p.objective x <ℤ t.value =
-    subst (λ o. IfSome o (λ c. value_of p.objective x <ℤ c)) t.given good.less in
+    subst (λ o. IfSome o (λ c. value_of p.objective x <ℤ c)) given good.less in
     let width : length (box_of (root_of p) n) ≡ length p.columns =
     area_by_width (root_of p) n.changes ∙ length-map p.columns bounds_of in
     let bound = floor_bound p (box_of (root_of p) n) x problem width inside in
@@ -106,7 +109,7 @@ no_better p gap best n problem t x better inside =
 
 -- what the ledger lost
 has_dropped : (b : BookState) → IsBook b
-    → HasDropped b.problem b.settings.gap b.best (ledger_of b) (ledger_of (dropped b))
+    → HasDropped b.problem b.settings.gap (one_kept b.best) (ledger_of b) (ledger_of (dropped b))
 has_dropped b h = record {
   less = record {
     held = old;
@@ -130,9 +133,11 @@ has_dropped b h = record {
         (λ work. in_work b n work) (λ race. in_race b n race) k
 
     kept : (n : Node) → Contains (held_nodes b) n
-        → HasNoBetter b.problem b.settings.gap b.best n ⊎ Contains (held_nodes (dropped b)) n
+        → HasNoBetter b.problem b.settings.gap (one_kept b.best) n
+        ⊎ Contains (held_nodes (dropped b)) n
     kept n k = held_cases b
-        (HasNoBetter b.problem b.settings.gap b.best n ⊎ Contains (held_nodes (dropped b)) n) n
+        (HasNoBetter b.problem b.settings.gap (one_kept b.best) n
+        ⊎ Contains (held_nodes (dropped b)) n) n
         (λ pool. elim (left_or b.problem (cutoff_of_best b) b.pool n h.floors.pool pool) [
           | inl least ↦ inl (no_better b.problem b.settings.gap b.best n h.problem least)
           | inr stays ↦ inr (in_pool (dropped b) n stays)
@@ -148,7 +153,7 @@ dropped_book b h = book_changed b
       ranks = h.floors.ranks;
       raced = h.floors.raced;
     })
-    (dropped_ledger (root_of b.problem) b.problem b.settings.gap b.best (ledger_of b)
+    (dropped_ledger (root_of b.problem) b.problem b.settings.gap (one_kept b.best) (ledger_of b)
     (ledger_of (dropped b))
     (has_dropped b h) h.ledger)
     (record {
@@ -159,5 +164,5 @@ dropped_book b h = book_changed b
     })
 
 pub dropped_stays_sound : (b : BookState) → IsBook b → IsSoundBook b → IsSoundBook (dropped b)
-dropped_stays_sound b h sound = dropped_sound b.problem b.settings.gap b.best (ledger_of b)
+dropped_stays_sound b h sound = dropped_sound b.problem b.settings.gap (one_kept b.best) (ledger_of b)
     (ledger_of (dropped b)) (has_dropped b h) sound

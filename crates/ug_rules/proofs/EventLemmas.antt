@@ -5,7 +5,10 @@ use Rattle.std.specs.Option.{option_map}
 use Rattle.std.proofs.lemmas.Int.{ints}
 use Rattle.std.proofs.lemmas.Option.{none-some, same_Some}
 use Rattle.ug_rows.specs.Rows.{value_of}
-use Rattle.ug_problem.specs.Instances.{Instance, root_of}
+use Rattle.ug_problem.specs.Instances.{root_of}
+use Rattle.ug_problem.specs.Feasible.{Feasible}
+use Rattle.ug_problem.specs.Incumbents.{one_kept}
+use Rattle.ug_problem.proofs.Incumbents.{all_of_one, better_still, no_greater}
 use Rattle.ug_pool.specs.declared.entry.Entry.{Entry}
 use Rattle.ug_ranks.specs.declared.state.Off.TheVariants.{Died}
 use Rattle.ug_ranks.specs.declared.state.State.{State}
@@ -65,27 +68,18 @@ reported_none b r ticket count floor =
     let s = state_at b.ranks r in
     same_ledger b r (noted count floor s) (noted_alike count floor s)
 
--- a point of a lesser value is of no greater one
-no_greater : (p : Instance) (best : Option (List ℤ)) (x : List ℤ)
-    → IfSome (option_map (value_of p.objective) best) (λ value. value_of p.objective x <ℤ value)
-    → IfSome best (λ y. value_of p.objective x ≤ℤ value_of p.objective y)
-no_greater p None x h = tt
-no_greater p (Some y) x h = at_most (value_of p.objective x) (value_of p.objective y) h
-  where
-    at_most : (v w : ℤ) → v <ℤ w → v ≤ℤ w
-    at_most v w less = omega (arith, ints, less)
-
 pub solution_improves : SolutionHasImproved
-solution_improves b x better = record {
-  feasible = better.feasible;
-  least = no_greater b.problem b.best x better.less;
+solution_improves b x gap better = record {
+  feasible = all_of_one (Feasible b.problem) (Some x) better.feasible;
+  falls = λ y. better_still b.problem b.settings.gap b.best x y gap
+      (no_greater b.problem b.best x better.less);
 }
 
 pub solution_keeps : SolutionKeeps
 solution_keeps b r ticket x better = record {
   book = λ h. book_told b (Some x) b.orders b.heard b.announced better.feasible h.orders h;
-  sound = λ h s. improved_sound b.problem b.settings.gap b.best x (ledger_of b)
-      (solution_improves b x better) s;
+  sound = λ h s. improved_sound b.problem b.settings.gap (one_kept b.best) (one_kept (Some x))
+      (ledger_of b) (solution_improves b x h.settings.gap better) s;
 }
 
 -- the death of a rank, by its state
@@ -159,7 +153,8 @@ pub done_keeps_book : DoneKeepsBook
 done_keeps_book b r ticket told count ending l h = done_book_by b r l (state_at b.ranks r) refl h
 
 done_sound_by : (b : BookState) (r : ℕ) → r < length b.ranks → (s : State) → state_at b.ranks r ≡ s
-    → ((c : Current) → IsCurrent (ledger_of b) r c → IsSearched b.problem b.settings.gap b.best c)
+    → ((c : Current) → IsCurrent (ledger_of b) r c
+    → IsSearched b.problem b.settings.gap (one_kept b.best) c)
     → IsBook b → IsSoundBook b → IsSoundBook (done_at s r b)
 done_sound_by b r l Absent e searched h s = s
 done_sound_by b r l Idle e searched h s = s

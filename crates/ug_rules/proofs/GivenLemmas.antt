@@ -5,6 +5,7 @@ use Rattle.std.proofs.lemmas.Bool.{cases_eq}
 use Rattle.std.proofs.lemmas.List.{length-map, length-set, map-set}
 use Rattle.std.proofs.lemmas.List.Elements.{All-get_or, All-set, All-tail, Contains-append_right}
 use Rattle.ug_problem.specs.Instances.{root_of}
+use Rattle.ug_problem.specs.Incumbents.{one_kept}
 use Rattle.ug_nodes.specs.declared.name.Name.{Name}
 use Rattle.ug_nodes.specs.declared.node.Node.{Node}
 use Rattle.ug_pool.specs.declared.entry.Entry.{Entry}
@@ -177,5 +178,5 @@ module _ (b : BookState) (r : ℕ) (entry : Entry) (rest : List Entry)
       pool_floors = subst (λ es. All (HasItsFloor b.problem) es) can.pool h.floors.pool
 
   pub given_stays_sound : IsSoundBook b → IsSoundBook after
-  given_stays_sound s = given_sound b.problem b.settings.gap b.best r its_current (ledger_of b)
+  given_stays_sound s = given_sound b.problem b.settings.gap (one_kept b.best) r its_current (ledger_of b)
       (ledger_of after) has_given s

@@ -6,6 +6,7 @@ use Rattle.std.proofs.lemmas.List.Elements.{All-set}
 use Rattle.ug_rows.specs.declared.area.Interval.{Interval}
 use Rattle.ug_rows.specs.Sums.{box_floor}
 use Rattle.ug_problem.specs.Instances.{root_of}
+use Rattle.ug_problem.specs.Incumbents.{one_kept}
 use Rattle.ug_nodes.specs.declared.change.Change.{Change}
 use Rattle.ug_nodes.specs.declared.name.Name.{Name}
 use Rattle.ug_nodes.specs.declared.node.Node.{Node}
@@ -130,5 +131,5 @@ module _ (b : BookState) (r : ℕ) (work : Work) (there : r < length b.ranks)
 
   pub hand_sound : IsSoundBook b → IsSoundBook (handed_at (Active work) r changes b)
   hand_sound s = subst IsSoundBook (sym is_new)
-      (handed_sound b.problem b.settings.gap b.best r (current_for work) changes
+      (handed_sound b.problem b.settings.gap (one_kept b.best) r (current_for work) changes
       (ledger_of b) (ledger_of new) moved s)

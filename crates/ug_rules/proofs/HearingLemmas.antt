@@ -11,12 +11,14 @@ use Rattle.ug_frames.specs.declared.report.Ending.{Ending}
 use Rattle.ug_frames.specs.declared.report.Report.{Report}
 use Rattle.ug_frames.specs.declared.report.Report.TheVariants.{Ready, Solution, Hand, State as Reported, Done, Ended}
 use Rattle.ug_problem.specs.Offers.{IsBetter}
+use Rattle.ug_problem.specs.Incumbents.{one_kept}
+use Rattle.ug_problem.proofs.Incumbents.{one_point}
 use Rattle.ug_ranks.specs.declared.state.Work.{Work}
 use Rattle.ug_ranks.specs.declared.state.State.{State}
 use Rattle.ug_ranks.specs.declared.state.State.TheVariants.{Absent, Idle, Racing, Active, Dead}
 use Rattle.ug_ranks.specs.States.{state_at}
 use Rattle.ug_ledger.specs.Ledgers.{Current, IsCurrent}
-use Rattle.ug_ledger.specs.Dones.{IsSearched}
+use Rattle.ug_ledger.specs.Dones.{IsBackedBy, IsSearched}
 use Rattle.ug_ledger.proofs.DoneLemmas.{done_searched}
 use Rattle.ug_rules.specs.declared.heard.Heard.TheVariants.{Kept, Stale, InRace}
 use Rattle.ug_rules.specs.State.{BookState, current_for, current_of, ledger_of}
@@ -104,12 +106,15 @@ done_due b raced (Dead how) ticket told count ending c e at due = absurd due
 searched_by : (b : BookState) (r : ℕ) (ticket : Ticket) (told : Option ℤ) (count : ℕ)
     (ending : Ending) → IsDue b r (Done ticket told count ending) Kept
     → IsTrueReport b r (Done ticket told count ending)
-    → (c : Current) → IsCurrent (ledger_of b) r c → IsSearched b.problem b.settings.gap b.best c
+    → (c : Current) → IsCurrent (ledger_of b) r c
+    → IsSearched b.problem b.settings.gap (one_kept b.best) c
 searched_by b r ticket told count ending due is_true c h =
     let s = state_at b.ranks r in
     let k = kept_due b s ticket (Done ticket told count ending) due in
     let d = done_due b b.raced s ticket told count ending c (current_is b r c h) k.0 k.1 in
-    done_searched b.problem b.settings.gap b.best told c d.1.backed (is_true c h d.0 d.1.all)
+    done_searched b.problem b.settings.gap (one_kept b.best) told c
+    (subst (λ o. IsBackedBy b.problem b.settings.gap o told) (sym (one_point b.best)) d.1.backed)
+    (is_true c h d.0 d.1.all)
 
 -- what a report that is kept does
 kept_book : (b : BookState) (r : ℕ) (report : Report) → r < length b.ranks

@@ -5,6 +5,7 @@ use Rattle.std.proofs.lemmas.Bool.{cases_Bool}
 use Rattle.std.proofs.lemmas.List.{length-map, length-set, map-set}
 use Rattle.std.proofs.lemmas.List.Elements.{All-set}
 use Rattle.ug_problem.specs.Instances.{root_of}
+use Rattle.ug_problem.specs.Incumbents.{one_kept}
 use Rattle.ug_problem.specs.Limits.{IsProblem}
 use Rattle.ug_problem.specs.Feasible.{Feasible}
 use Rattle.ug_pool.specs.declared.entry.Entry.{Entry}
@@ -157,7 +158,7 @@ module _ (b : BookState) (r : ℕ) (entry : Entry) (h : IsInRace b entry) (i : I
   }
 
   after_sound : IsSoundBook b → IsSoundBook after
-  after_sound s = given_sound b.problem b.settings.gap b.best r its_current (ledger_of b)
+  after_sound s = given_sound b.problem b.settings.gap (one_kept b.best) r its_current (ledger_of b)
       (ledger_of after) has_given s
 
   races_after : SomeRaces after.ranks

@@ -6,6 +6,7 @@ use Rattle.std.proofs.lemmas.List.{length-map, length-set}
 use Rattle.std.proofs.lemmas.List.Elements.{All-cons, All-nil, All-set}
 use Rattle.std.proofs.lemmas.Option.{none-some}
 use Rattle.ug_problem.specs.Instances.{root_of}
+use Rattle.ug_problem.specs.Incumbents.{one_kept}
 use Rattle.ug_nodes.specs.declared.name.Name.{Name}
 use Rattle.ug_nodes.specs.declared.node.Node.{Node}
 use Rattle.ug_pool.specs.declared.entry.Entry.{Entry}
@@ -196,9 +197,9 @@ module _ (b : BookState) (r : ℕ) (racer : Racer) (there : r < length b.ranks)
   pub death_in_race_sound : IsSoundBook b → IsSoundBook (killed_at (Racing racer) r b)
   death_in_race_sound s =
       racer_lost (ranks_that is_racing fewer.ranks) b.raced refl refl IsSoundBook
-      (λ some. ended_sound b.problem b.settings.gap b.best (ledger_of b) (ledger_of fewer)
+      (λ some. ended_sound b.problem b.settings.gap (one_kept b.best) (ledger_of b) (ledger_of fewer)
       fewer_ended s)
-      (λ entry e none. ended_sound b.problem b.settings.gap b.best (ledger_of b)
+      (λ entry e none. ended_sound b.problem b.settings.gap (one_kept b.best) (ledger_of b)
       (ledger_of (put_back entry (record fewer { raced = None }))) (lost_ended entry e) s)
 
   -- 3: a racer is done
@@ -272,8 +273,8 @@ module _ (b : BookState) (r : ℕ) (racer : Racer) (there : r < length b.ranks)
       refl)
 
   pub done_in_race_sound : (entry : Entry) → b.raced ≡ Some entry
-      → IsSearched b.problem b.settings.gap b.best (raced_work entry)
+      → IsSearched b.problem b.settings.gap (one_kept b.best) (raced_work entry)
       → IsSoundBook b → IsSoundBook over
   done_in_race_sound entry raced searched s =
-      done_sound b.problem b.settings.gap b.best r (raced_work entry) searched
+      done_sound b.problem b.settings.gap (one_kept b.best) r (raced_work entry) searched
       (ledger_of b) (ledger_of over) (done_ends_race entry raced) s

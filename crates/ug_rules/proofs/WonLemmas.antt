@@ -5,6 +5,7 @@ use Rattle.std.proofs.lemmas.Bool.{cases_eq, false≢true}
 use Rattle.std.proofs.lemmas.List.{length-map, length-set}
 use Rattle.std.proofs.lemmas.List.Elements.{All-set, Contains-append_cases}
 use Rattle.ug_problem.specs.Instances.{root_of}
+use Rattle.ug_problem.specs.Incumbents.{one_kept}
 use Rattle.ug_nodes.specs.declared.name.Name.{Name}
 use Rattle.ug_nodes.specs.declared.node.Node.{Node}
 use Rattle.ug_pool.specs.declared.entry.Entry.{Entry}
@@ -250,7 +251,7 @@ module _ (b : BookState) (rank : ℕ) (its : Racer) (entry : Entry)
   after_keeps : Keeps b after
   after_keeps = record {
     book = after_book;
-    sound = λ h s. ended_sound b.problem b.settings.gap b.best (ledger_of b)
+    sound = λ h s. ended_sound b.problem b.settings.gap (one_kept b.best) (ledger_of b)
         (ledger_of after) has_ended s;
   }
 

@@ -2,6 +2,7 @@
 use Rattle.std.specs.Prelude.{◌≡◌, ◌≢◌, ◌<◌, ◌≤◌, ◌^◌, List, [], length, All, IfSome, IsSome}
 use Rattle.ug_rows.specs.Sums.{box_floor}
 use Rattle.ug_problem.specs.Instances.{Instance, root_of}
+use Rattle.ug_problem.specs.Incumbents.{one_kept}
 use Rattle.ug_problem.specs.Limits.{IsProblem}
 use Rattle.ug_problem.specs.Feasible.{Feasible}
 use Rattle.ug_problem.specs.Better.{IsGap}
@@ -74,7 +75,7 @@ pub record IsBook (b : BookState) : Type 0 where
 
 -- a sound book: each better point lies in a held node, and in one below its hand
 abbrev pub IsSoundBook : BookState → Type 0
-IsSoundBook b = Sound b.problem b.settings.gap b.best (ledger_of b)
+IsSoundBook b = Sound b.problem b.settings.gap (one_kept b.best) (ledger_of b)
 
 -- the new book is one where the old was, and sound where that was
 pub record Keeps (old new : BookState) : Type 0 where

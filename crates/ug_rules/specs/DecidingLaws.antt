@@ -1,8 +1,8 @@
 -- What a decision keeps, also where memory ended it, and what is so after it.
 use Rattle.std.specs.Prelude.{◌≡◌, ℕ, ℤ, ◌-◌, ◌^◌, ◌≤◌, ◌<ℤ◌, ◌⊎◌, true, [], All, Option, IfSome}
+use Rattle.ug_problem.specs.Incumbents.{one_kept}
 use Rattle.ug_problem.specs.Right.{Right}
 use Rattle.ug_pool.specs.declared.entry.Entry.{Entry}
-use Rattle.ug_ledger.specs.Answers.{answer_of}
 use Rattle.ug_rules.specs.State.{BookState, cutoff_of_best, held_nodes}
 use Rattle.ug_rules.specs.Ranks.{ranks_that}
 use Rattle.ug_ranks.specs.Looks.{is_idle}
@@ -61,4 +61,4 @@ DecidedIsSettled = (old new : BookState) → IsDecided old new → IsSettled new
 abbrev pub AnswerIsRight : Type 0
 AnswerIsRight =
     (b : BookState) → held_nodes b ≡ [] → IsSoundBook b
-    → Right b.problem b.settings.gap (answer_of b.best)
+    → Right b.problem b.settings.gap (one_kept b.best)

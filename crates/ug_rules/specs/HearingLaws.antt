@@ -1,7 +1,9 @@
 -- What is kept whatever is heard: what every book is, and, where each Done is true, that it is
 -- sound.
-use Rattle.std.specs.Prelude.{◌≡◌, ℕ, ℤ, ◌<◌, List, length, Option, None}
+use Rattle.std.specs.Prelude.{◌≡◌, ℕ, ℤ, ◌<◌, List, length, Option, Some, None}
 use Rattle.ug_problem.specs.Instances.{root_of}
+use Rattle.ug_problem.specs.Incumbents.{one_kept}
+use Rattle.ug_problem.specs.Better.{IsGap}
 use Rattle.ug_nodes.specs.declared.name.Ticket.{Ticket}
 use Rattle.ug_nodes.specs.declared.change.Change.{Change}
 use Rattle.ug_nodes.specs.Changes.{IsRising}
@@ -42,7 +44,7 @@ IsTrueReport b r (Hand ticket number changes) = Unit {0}
 IsTrueReport b r (Reported ticket count floor) = Unit {0}
 IsTrueReport b r (Done ticket told count ending) =
     (c : Current) → IsCurrent (ledger_of b) r c → c.ticket ≡ ticket → count ≡ length c.taken
-    → IsTrueDone b.problem b.settings.gap b.best told c
+    → IsTrueDone b.problem b.settings.gap (one_kept b.best) told c
 IsTrueReport b r Ended = Unit {0}
 
 -- event by event: a delivery counted
@@ -85,7 +87,8 @@ abbrev pub DoneKeepsSound : Type 0
 DoneKeepsSound =
     (b : BookState) (r : ℕ) (ticket : Ticket) (told : Option ℤ) (count : ℕ) (ending : Ending)
     → r < length b.ranks
-    → ((c : Current) → IsCurrent (ledger_of b) r c → IsSearched b.problem b.settings.gap b.best c)
+    → ((c : Current) → IsCurrent (ledger_of b) r c
+    → IsSearched b.problem b.settings.gap (one_kept b.best) c)
     → IsBook b → IsSoundBook b → IsSoundBook (kept r (Done ticket told count ending) b)
 
 -- what the events are to the ledger: it is the same
@@ -110,7 +113,8 @@ IdleDeathIsNone =
 -- or it took a move
 abbrev pub SolutionHasImproved : Type 0
 SolutionHasImproved =
-    (b : BookState) (x : List ℤ) → IsBetter b.problem b.best x → HasImproved b.problem b.best x
+    (b : BookState) (x : List ℤ) → IsGap b.settings.gap → IsBetter b.problem b.best x
+    → HasImproved b.problem b.settings.gap (one_kept b.best) (one_kept (Some x))
 
 abbrev pub DeathHasTakenIn : Type 0
 DeathHasTakenIn =

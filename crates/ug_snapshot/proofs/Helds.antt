@@ -6,6 +6,7 @@ use Rattle.std.proofs.lemmas.List.Elements.{Contains-append_cases}
 use Rattle.ug_rows.specs.declared.area.Interval.{Interval}
 use Rattle.std.specs.declared.alloc.AllocError.{AllocError}
 use Rattle.ug_problem.specs.Instances.{Instance, root_of}
+use Rattle.ug_problem.specs.Incumbents.{one_kept}
 use Rattle.ug_problem.specs.Better.{Covered}
 use Rattle.ug_nodes.specs.declared.name.Name.{Name}
 use Rattle.ug_nodes.specs.declared.node.Node.{Node}
@@ -168,11 +169,12 @@ same_boxes root (n ∷ nodes) = ap (λ l. box_of root n ∷ l) (same_boxes root 
 
 pub covered_image : (b : BookState) (nodes : List Node) (sequence : ℕ) (image : Image)
     → image ≡ image_with b nodes sequence
-    → Covered b.problem b.settings.gap b.best (boxes_of (root_of b.problem) nodes)
+    → Covered b.problem b.settings.gap (one_kept b.best) (boxes_of (root_of b.problem) nodes)
     → IsCovered image
 covered_image b nodes sequence image same covered =
     subst IsCovered (sym same)
-    (subst (Covered b.problem b.settings.gap b.best) (same_boxes (root_of b.problem) nodes) covered)
+    (subst (Covered b.problem b.settings.gap (one_kept b.best))
+    (same_boxes (root_of b.problem) nodes) covered)
 
 -- what holds of an image that is passed on
 pub passed_on : (r : Result Image AllocError) (image : Image) (P : Image → Type 0)

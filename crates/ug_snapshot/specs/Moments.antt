@@ -3,6 +3,7 @@ use Rattle.std.specs.Prelude.{◌≡◌, ◌↔◌, ℕ, ◌<◌, ◌^◌, List,
 use Rattle.std.specs.List.{AllPairs}
 use Rattle.ug_rows.specs.declared.area.Interval.{Interval}
 use Rattle.ug_problem.specs.Instances.{root_of}
+use Rattle.ug_problem.specs.Incumbents.{one_kept}
 use Rattle.ug_problem.specs.Better.{Covered}
 use Rattle.ug_nodes.specs.declared.node.Node.{Node}
 use Rattle.ug_nodes.specs.Names.{own_name}
@@ -47,7 +48,7 @@ boxes_in root nodes = map (λ (node : SavedNode). area_by root node.changes) nod
 
 -- the image is Covered: under its gap each point better than its incumbent lies in one of its nodes
 abbrev pub IsCovered : Image → Type 0
-IsCovered image = Covered image.problem image.gap image.best
+IsCovered image = Covered image.problem image.gap (one_kept image.best)
     (boxes_in (root_of image.problem) image.nodes)
 
 -- the hand numbers are numbers of 64 bits

@@ -1,8 +1,8 @@
 -- The book with which a run ends, and how it ended.
 use Rattle.std.specs.Prelude.{◌≡◌, ◌≢◌, ◌≤◌, [], IfSome}
 use Rattle.ug_problem.specs.Feasible.{Feasible}
+use Rattle.ug_problem.specs.Incumbents.{one_kept}
 use Rattle.ug_problem.specs.Right.{Right}
-use Rattle.ug_ledger.specs.Answers.{answer_of}
 use Rattle.ug_rules.specs.State.{BookState, held_nodes}
 use Rattle.ug_book.specs.declared.opening.Opening.{Opening}
 use Rattle.ug_book.specs.Openings.{opening_book}
@@ -56,7 +56,7 @@ HasFeasible b = IfSome b.best (Feasible b.problem)
 -- its answer is right: the incumbent is optimal within the gap, or there is none, and no point is
 -- feasible
 abbrev pub IsRight : BookState → Type 0
-IsRight b = Right b.problem b.settings.gap (answer_of b.best)
+IsRight b = Right b.problem b.settings.gap (one_kept b.best)
 
 -- a node is held, and as many deliveries were heard as may be
 pub record IsLimited (b : BookState) : Type 0 where

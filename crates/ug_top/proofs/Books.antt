@@ -1,11 +1,12 @@
 -- What the ending book of a run is, by what the run began with.
 use Rattle.std.proofs.Common.{ℕ, [], ◌∷◌, map, None, IfSome, ◌∙◌, subst, inl}
 use Rattle.ug_problem.specs.Instances.{Instance, root_of}
+use Rattle.ug_problem.specs.Incumbents.{one_kept}
+use Rattle.ug_problem.proofs.Incumbents.{all_of_one}
 use Rattle.ug_problem.specs.Better.{Covered}
 use Rattle.ug_problem.specs.Feasible.{Feasible}
 use Rattle.ug_problem.specs.Right.{Right}
 use Rattle.ug_nodes.specs.Changes.{area_by}
-use Rattle.ug_ledger.specs.Answers.{answer_of}
 use Rattle.ug_rules.specs.declared.settings.Settings.{Settings}
 use Rattle.ug_rules.specs.State.{BookState}
 use Rattle.ug_rules.specs.Books.{IsSoundBook}
@@ -21,9 +22,11 @@ use Rattle.ug_top.specs.Runs.{IsOf, IsRightFor, IsRun}
 
 -- each point lies in the root
 root_covers : (p : Instance) (settings : Settings)
-    → Covered p settings.gap None (map (area_by (root_of p)) ([] ∷ []))
-root_covers p settings =
-    record { incumbent = tt; points = λ x better. inl better.feasible.inside }
+    → Covered p settings.gap (one_kept None) (map (area_by (root_of p)) ([] ∷ []))
+root_covers p settings = record {
+  incumbent = all_of_one (Feasible p) None tt;
+  points = λ x better. inl better.feasible.inside;
+}
 
 -- a book that begins with the root is sound
 pub root_is_sound : (p : Instance) (run : ℕ) (settings : Settings)
@@ -57,8 +60,8 @@ pub ends_right : (given : BookState) (end : End) (p : Instance) (settings : Sett
     → IfAnswered end (IsRightFor p settings)
 ends_right given (Answered b) p settings of sound t =
     let own = is_of given b p settings of t.replayed in
-    subst (λ (q : Instance). Right q settings.gap (answer_of b.best)) own.its_problem
-    (subst (λ (s : Settings). Right b.problem s.gap (answer_of b.best)) own.its_settings
+    subst (λ (q : Instance). Right q settings.gap (one_kept b.best)) own.its_problem
+    (subst (λ (s : Settings). Right b.problem s.gap (one_kept b.best)) own.its_settings
     (t.right sound))
 ends_right given (Limited b) p settings of sound t = tt
 ends_right given (Stranded b) p settings of sound t = tt

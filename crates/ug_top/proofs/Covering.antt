@@ -5,6 +5,7 @@ use Rattle.ug_disk.specs.Histories.{History}
 use Rattle.ug_disk.specs.Crashes.{Leaves, MayLeaveBoth}
 use Rattle.ug_disk.proofs.Moments.{joins, weakens}
 use Rattle.ug_problem.specs.Instances.{Instance}
+use Rattle.ug_problem.specs.Incumbents.{one_kept}
 use Rattle.ug_ledger.proofs.PrimitiveLemmas.{primitive_covered}
 use Rattle.ug_rules.specs.declared.settings.Settings.{Settings}
 use Rattle.ug_rules.specs.State.{BookState, ledger_of}
@@ -50,7 +51,7 @@ moment_covered : (b : BookState) (sequence : ℕ) (image : Image) → IsSoundBoo
     → IsImageOf b sequence image → IsCovered image
 moment_covered b sequence image sound m =
     covered_image b m.nodes sequence image m.is
-    (primitive_covered b.problem b.settings.gap b.best (ledger_of b) m.nodes sound
+    (primitive_covered b.problem b.settings.gap (one_kept b.best) (ledger_of b) m.nodes sound
     (λ n primitive. (m.primitive.each n).1 primitive))
 
 -- ---- while it begins

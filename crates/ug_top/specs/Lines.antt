@@ -1,7 +1,7 @@
 -- What a run comes to, as it is printed.
 use Rattle.std.specs.Prelude.{◌≡◌, ℕ, List, ◌++◌, Option, IfSome}
 use Rattle.ug_problem.specs.Instances.{Instance}
-use Rattle.ug_ledger.specs.Answers.{answer_of}
+use Rattle.ug_problem.specs.Right.{answer_of}
 use Rattle.ug_drafts.specs.declared.fault.MpsFault.{MpsFault}
 use Rattle.ug_mps.specs.Reads.{Reads, FirstFault}
 use Rattle.ug_restart.specs.declared.fault.StartFault.{StartFault}

@@ -3,8 +3,8 @@ use Rattle.std.specs.Prelude.{◌≡◌, [], ◌∷◌, None, Option, IfSome}
 use Rattle.ug_disk.specs.Histories.{DiskSeen, History}
 use Rattle.ug_problem.specs.Instances.{Instance}
 use Rattle.ug_problem.specs.Feasible.{Feasible}
+use Rattle.ug_problem.specs.Incumbents.{one_kept}
 use Rattle.ug_problem.specs.Right.{Right}
-use Rattle.ug_ledger.specs.Answers.{answer_of}
 use Rattle.ug_rules.specs.declared.settings.Settings.{Settings}
 use Rattle.ug_rules.specs.State.{BookState}
 use Rattle.ug_book.specs.Starts.{started}
@@ -26,7 +26,7 @@ pub record IsOf (p : Instance) (settings : Settings) (b : BookState) : Type 0 wh
 -- its answer is right for the problem: its point is feasible and beaten by no more than the gap, or
 -- there is none, and no point is feasible
 abbrev pub IsRightFor : Instance → Settings → BookState → Type 0
-IsRightFor p settings b = Right p settings.gap (answer_of b.best)
+IsRightFor p settings b = Right p settings.gap (one_kept b.best)
 
 -- The run began with such a book, and threads at a desk led from it to the one with which it ended.
 -- Whatever it began with, the incumbent then is feasible; where that can be trusted, an answer is

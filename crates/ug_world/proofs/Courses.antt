@@ -4,6 +4,7 @@ use Rattle.std.specs.Prelude.{All, Contains, Option, Some, None, slice_get, take
 use Rattle.std.proofs.lemmas.List.Elements.{All-cons, All-head, All-nil, All-tail, All-take, All-weaker}
 use Rattle.std.proofs.lemmas.Option.{get_or_from_slice_get, slice_get_within}
 use Rattle.ug_problem.specs.Instances.{root_of}
+use Rattle.ug_problem.specs.Incumbents.{one_kept}
 use Rattle.ug_ledger.proofs.FactLemmas.{none_current}
 use Rattle.ug_ledger.proofs.PrimitiveLemmas.{primitive_covered}
 use Rattle.ug_frames.specs.declared.report.Report.{Report}
@@ -169,7 +170,7 @@ course_holds n old (event ∷ events) [] are t honest true_ h = absurd t
 pub loses_nothing : (b : BookState) → IsSoundBook b → LosesNothing b
 loses_nothing b sound = record {
   sound = sound;
-  covered = λ nodes all. primitive_covered b.problem b.settings.gap b.best (ledger_of b) nodes
+  covered = λ nodes all. primitive_covered b.problem b.settings.gap (one_kept b.best) (ledger_of b) nodes
       sound all;
 }
 

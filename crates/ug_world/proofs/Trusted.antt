@@ -4,6 +4,7 @@ use Rattle.std.specs.Prelude.{Contains, Option}
 use Rattle.ug_rows.specs.declared.area.Interval.{Interval}
 use Rattle.ug_rows.specs.Boxes.{IsInOne, IsInside, box_at}
 use Rattle.ug_problem.specs.Instances.{root_of}
+use Rattle.ug_problem.specs.Incumbents.{one_kept}
 use Rattle.ug_nodes.specs.declared.name.Ticket.{Ticket}
 use Rattle.ug_nodes.specs.Nodes.{box_of}
 use Rattle.ug_frames.specs.declared.report.Ending.{Ending}
@@ -33,7 +34,7 @@ done_true : (past : List Told) (b : BookState) (sent : List Report) (c : Current
     → AreHonest b.problem (IsGivenWith b.problem (past ++ b.orders)) sent
     → IsKnown (root_of b.problem) sent (past ++ b.orders) c
     → Contains sent (Done c.ticket told count ending) → count ≡ length c.taken
-    → IsTrueDone b.problem b.settings.gap b.best told c
+    → IsTrueDone b.problem b.settings.gap (one_kept b.best) told c
 done_true past b sent c told count ending honest known among all x better good inside =
     let area = box_of (root_of b.problem) c.node in
     let given : IsGivenWith b.problem (past ++ b.orders) c.ticket area = record {

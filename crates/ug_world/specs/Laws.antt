@@ -1,6 +1,7 @@
 -- The law of schedules: whatever happens, no better point is lost.
 use Rattle.std.specs.Prelude.{◌≡◌, List, length, All, Contains}
 use Rattle.ug_problem.specs.Instances.{root_of}
+use Rattle.ug_problem.specs.Incumbents.{one_kept}
 use Rattle.ug_problem.specs.Better.{Covered}
 use Rattle.ug_nodes.specs.declared.node.Node.{Node}
 use Rattle.ug_nodes.specs.Primitive.{IsPrimitive}
@@ -17,7 +18,7 @@ use Rattle.ug_world.specs.Honest.{IsHonest}
 abbrev pub IsCoveredByPrimitive : BookState → Type 0
 IsCoveredByPrimitive b =
     (nodes : List Node) → ((n : Node) → IsPrimitive (held_nodes b) n → Contains nodes n)
-    → Covered b.problem b.settings.gap b.best (boxes_of (root_of b.problem) nodes)
+    → Covered b.problem b.settings.gap (one_kept b.best) (boxes_of (root_of b.problem) nodes)
 
 -- no better point is lost: the book is sound, and its primitive nodes are Covered
 pub record LosesNothing (b : BookState) : Type 0 where

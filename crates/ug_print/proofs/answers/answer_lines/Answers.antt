@@ -2,7 +2,7 @@ use Rattle.std.proofs.Common.{IfOk, ◌≡◌, ◌∙◌, ap, sym, subst}
 use Rattle.ug_problem.specs.Instances.{Instance}
 use Rattle.ug_problem.specs.declared.answer.Answer.{Answer}
 use Rattle.ug_problem.specs.declared.answer.Answer.TheVariants.{Optimal}
-use Rattle.ug_ledger.specs.Answers.{answer_of}
+use Rattle.ug_problem.specs.Right.{answer_of}
 use Rattle.ug_book.specs.Reads.{answered}
 use Rattle.ug_print.specs.Answers.{AreAnswerLines, ArePointLines}
 use Rattle.ug_print.proofs.answers.answer_lines.Goals as goal

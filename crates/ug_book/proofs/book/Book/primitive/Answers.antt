@@ -6,6 +6,7 @@ use Rattle.ug_ledger.proofs.PrimitiveLemmas.{primitive_covered}
 use Rattle.ug_rules.specs.State.{ledger_of}
 use Rattle.ug_rules.specs.Books.{IsBook}
 use Rattle.std.proofs.lemmas.Result.{IfOk-weaker}
+use Rattle.ug_problem.specs.Incumbents.{one_kept}
 use Rattle.ug_book.proofs.book.Book.primitive.Goals as goal
 
 pub returns-clause-each : goal.returns-clause-each
@@ -26,6 +27,6 @@ returns-clause-covered c = λ s.
     let b = c.args.self.now in
     let is = ap lent c.as_slice.ensures.value ∙ c.in_ok-nodes.ensures in
     IfOk-weaker c.primitive.result _ _
-    (λ nodes each. primitive_covered b.problem b.settings.gap b.best (ledger_of b)
+    (λ nodes each. primitive_covered b.problem b.settings.gap (one_kept b.best) (ledger_of b)
     (lent nodes.items) s (λ n first. (each n).1 (subst (λ held. IsPrimitive held n) (sym is) first)))
     c.primitive.ensures.each
