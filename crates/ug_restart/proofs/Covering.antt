@@ -102,7 +102,7 @@ has_same : (slot : List ℕ) (a b : Image) → Has slot a → Has slot b → a �
 has_same slot a b first second =
     one_image (stored slot) a b (image_is_told (stored slot) a first.spells) second.spells
 
-last_one : (last : Option Slot) (history : History) (a b : Option Found)
+pub last_one : (last : Option Slot) (history : History) (a b : Option Found)
     → IsLast last (Some history) a → IsLast last (Some history) b → a ≡ b
 last_one None history a b first second = first ∙ sym second
 last_one (Some slot) history a b first second =

@@ -1,13 +1,19 @@
 -- Saves go on, one after another.
-use Rattle.std.proofs.Common.{◌≡◌, ◌⊎◌, inl, inr, ℕ, ◌+◌, ◌-◌, ◌^◌, ◌≤◌, ◌<◌, refl, ◌∙◌, arith}
+use Rattle.std.proofs.Common.{◌≡◌, ◌⊎◌, inl, inr, ℕ, ◌+◌, ◌-◌, ◌^◌, ◌≤◌, ◌<◌, refl, ap, sym, subst, ◌∙◌, arith}
 use Rattle.std.proofs.lemmas.Bool.{cases_lt}
 use Rattle.ug_io.specs.Outside.{Rose}
 use Rattle.ug_disk.specs.Histories.{DiskSeen}
 use Rattle.ug_checkpoint.specs.declared.saver.Saver.{Saver}
+use Rattle.ug_image.specs.declared.image.Image.{Image}
+use Rattle.ug_restart.specs.declared.outcome.Attempt.{Attempt}
+use Rattle.ug_restart.specs.declared.outcome.Attempt.TheVariants.{Saved, Missed, Unsaved}
 use Rattle.ug_restart.specs.declared.saves.Saves.{Saves}
-use Rattle.ug_restart.specs.Moments.{IsCoveredNow}
-use Rattle.ug_restart.specs.Going.{GoesOn, IsEachAFault, StaysCovered, Time, time}
-use Rattle.ug_restart.proofs.Covering.{covered_joined, covered_same}
+use Rattle.ug_book.specs.Openings.{opening_book}
+use Rattle.ug_restart.specs.Saves.{book_of}
+use Rattle.ug_restart.specs.Moments.{IsCoveredNow, IsFoundNow, IsOfRun}
+use Rattle.ug_restart.specs.Going.{GoesOn, IsAttempted, IsEachAFault, StaysCovered, StaysFound, Time, time}
+use Rattle.ug_restart.proofs.Covering.{covered_joined, covered_same, finds_more}
+use Rattle.ug_restart.proofs.Finds.{Stands, found_joined, found_same}
 
 -- ---- counts of faults
 
@@ -46,10 +52,10 @@ each_joined a b c first more (inr full) = inr full
 -- ---- from one time to another
 
 -- nothing was done, but perhaps counted as unsaved
-pub not_made : (Covers : Type 0) (saves : Saves) (unsaved : ℕ) (old new : DiskSeen)
+pub not_made : (Covers Ours : Type 0) (saves : Saves) (unsaved : ℕ) (old new : DiskSeen)
     → saves.unsaved ≤ unsaved → new.told ≡ old.told → new.faults ≡ old.faults
-    → GoesOn Covers (time saves old) (time (record saves { unsaved = unsaved }) new)
-not_made Covers saves unsaved old new more same calm = record {
+    → GoesOn Covers Ours (time saves old) (time (record saves { unsaved = unsaved }) new)
+not_made Covers Ours saves unsaved old new more same calm = record {
   opening = refl;
   calls = omega arith;
   missed = omega arith;
@@ -59,15 +65,19 @@ not_made Covers saves unsaved old new more same calm = record {
   each = inl (omega (arith, calm));
   calm = λ none room. calm;
   covered = λ covers now. covered_same saves.saver saves.saver old.told new.told same refl now;
+  found = λ ours now. found_same (IsOfRun (book_of saves)) saves.saver saves.saver old.told new.told
+      same refl now;
 }
 
 -- memory was wanting
-pub unmade : (Covers : Type 0) (saves : Saves) (saver : Saver) (unsaved : ℕ) (old new : DiskSeen)
+pub unmade : (Covers Ours : Type 0) (saves : Saves) (saver : Saver) (unsaved : ℕ) (old new : DiskSeen)
     → saves.unsaved ≤ unsaved → new.faults ≡ old.faults
     → (Covers → IsCoveredNow saves.saver old.told
     → StaysCovered (time saves old) (time (record saves { saver = saver; unsaved = unsaved }) new))
-    → GoesOn Covers (time saves old) (time (record saves { saver = saver; unsaved = unsaved }) new)
-unmade Covers saves saver unsaved old new more calm covered = record {
+    → (Ours → IsFoundNow (IsOfRun (book_of saves)) saves.saver old.told
+    → StaysFound (book_of saves) (time saves old) (time (record saves { saver = saver; unsaved = unsaved }) new))
+    → GoesOn Covers Ours (time saves old) (time (record saves { saver = saver; unsaved = unsaved }) new)
+unmade Covers Ours saves saver unsaved old new more calm covered found = record {
   opening = refl;
   calls = omega arith;
   missed = omega arith;
@@ -77,15 +87,18 @@ unmade Covers saves saver unsaved old new more calm covered = record {
   each = inl (omega (arith, calm));
   calm = λ none room. calm;
   covered = covered;
+  found = found;
 }
 
 -- an image was saved
-pub made : (Covers : Type 0) (saves : Saves) (saver : Saver) (old new : DiskSeen)
+pub made : (Covers Ours : Type 0) (saves : Saves) (saver : Saver) (old new : DiskSeen)
     → new.faults ≡ old.faults
     → (Covers → IsCoveredNow saves.saver old.told
     → StaysCovered (time saves old) (time (record saves { saver = saver }) new))
-    → GoesOn Covers (time saves old) (time (record saves { saver = saver }) new)
-made Covers saves saver old new calm covered = record {
+    → (Ours → IsFoundNow (IsOfRun (book_of saves)) saves.saver old.told
+    → StaysFound (book_of saves) (time saves old) (time (record saves { saver = saver }) new))
+    → GoesOn Covers Ours (time saves old) (time (record saves { saver = saver }) new)
+made Covers Ours saves saver old new calm covered found = record {
   opening = refl;
   calls = omega arith;
   missed = omega arith;
@@ -95,16 +108,19 @@ made Covers saves saver old new calm covered = record {
   each = inl (omega (arith, calm));
   calm = λ none room. calm;
   covered = covered;
+  found = found;
 }
 
 -- the disk failed
-pub failed : (Covers : Type 0) (saves : Saves) (saver : Saver) (missed : ℕ) (old new : DiskSeen)
+pub failed : (Covers Ours : Type 0) (saves : Saves) (saver : Saver) (missed : ℕ) (old new : DiskSeen)
     → saves.missed ≤ missed → missed ≤ saves.missed + 1
     → (saves.missed < 2 ^ 64 - 1 → saves.missed < missed) → Rose old.faults new.faults
     → (Covers → IsCoveredNow saves.saver old.told
     → StaysCovered (time saves old) (time (record saves { saver = saver; missed = missed }) new))
-    → GoesOn Covers (time saves old) (time (record saves { saver = saver; missed = missed }) new)
-failed Covers saves saver missed old new more most rises rose covered = record {
+    → (Ours → IsFoundNow (IsOfRun (book_of saves)) saves.saver old.told
+    → StaysFound (book_of saves) (time saves old) (time (record saves { saver = saver; missed = missed }) new))
+    → GoesOn Covers Ours (time saves old) (time (record saves { saver = saver; missed = missed }) new)
+failed Covers Ours saves saver missed old new more most rises rose covered found = record {
   opening = refl;
   calls = omega arith;
   missed = more;
@@ -114,13 +130,14 @@ failed Covers saves saver missed old new more most rises rose covered = record {
   each = one_fault saves.missed missed old.faults new.faults most rose;
   calm = λ none room. absurd (omega (arith, none, rises room));
   covered = covered;
+  found = found;
 }
 
 -- the last snapshot that was saved is a newer one
-pub with_calls : (Covers : Type 0) (old new : Time) (calls : ℕ) → old.saves.calls ≤ calls
-    → GoesOn Covers old new
-    → GoesOn Covers old (time (record new.saves { calls = calls }) new.disk)
-with_calls Covers old new calls more goes = record {
+pub with_calls : (Covers Ours : Type 0) (old new : Time) (calls : ℕ) → old.saves.calls ≤ calls
+    → GoesOn Covers Ours old new
+    → GoesOn Covers Ours old (time (record new.saves { calls = calls }) new.disk)
+with_calls Covers Ours old new calls more goes = record {
   opening = goes.opening;
   calls = more;
   missed = goes.missed;
@@ -130,11 +147,22 @@ with_calls Covers old new calls more goes = record {
   each = goes.each;
   calm = goes.calm;
   covered = goes.covered;
+  found = goes.found;
 }
 
+-- what became of a save, where more is known of the image
+pub attempted_more : (P Q : Image → Type 0) → ((image : Image) → P image → Q image)
+    → (attempt : Attempt) (old new : Time) → IsAttempted P attempt old new
+    → IsAttempted Q attempt old new
+attempted_more P Q more Saved old new is =
+    (finds_more new.disk.told P Q more is.0, is.1, is.2)
+attempted_more P Q more Missed old new is = is
+attempted_more P Q more Unsaved old new is = is
+
 -- where more is known of what is saved
-pub goes_where : (P Q : Type 0) (old new : Time) → (Q → P) → GoesOn P old new → GoesOn Q old new
-goes_where P Q old new is goes = record {
+pub goes_where : (P Q R S : Type 0) (old new : Time) → (Q → P) → (S → R) → GoesOn P R old new
+    → GoesOn Q S old new
+goes_where P Q R S old new is ours goes = record {
   opening = goes.opening;
   calls = goes.calls;
   missed = goes.missed;
@@ -144,12 +172,13 @@ goes_where P Q old new is goes = record {
   each = goes.each;
   calm = goes.calm;
   covered = λ q now. goes.covered (is q) now;
+  found = λ s now. goes.found (ours s) now;
 }
 
 -- one run after another
-pub goes_on : (Covers : Type 0) (a b c : Time) → GoesOn Covers a b → GoesOn Covers b c
-    → GoesOn Covers a c
-goes_on Covers a b c first second = record {
+pub goes_on : (Covers Ours : Type 0) (a b c : Time) → GoesOn Covers Ours a b → GoesOn Covers Ours b c
+    → GoesOn Covers Ours a c
+goes_on Covers Ours a b c first second = record {
   opening = second.opening ∙ first.opening;
   calls = omega (arith, first.calls, second.calls);
   missed = omega (arith, first.missed, second.missed);
@@ -169,11 +198,18 @@ goes_on Covers a b c first second = record {
   covered = λ covers now.
       covered_joined a.disk.told b.disk.told c.disk.told b.saves.saver c.saves.saver
       (first.covered covers now) (λ mid. second.covered covers mid);
+  found = λ ours now.
+      let same = ap opening_book first.opening in
+      found_joined (IsOfRun (book_of a.saves)) a.disk.told b.disk.told c.disk.told b.saves.saver
+      c.saves.saver (first.found ours now)
+      (λ mid. subst (λ k. Stands (IsOfRun k) b.disk.told c.saves.saver c.disk.told) same
+      (second.found ours (subst (λ k. IsFoundNow (IsOfRun k) b.saves.saver b.disk.told) (sym same)
+      mid)));
 }
 
 -- nothing at all
-pub goes_nowhere : (Covers : Type 0) (a : Time) → GoesOn Covers a a
-goes_nowhere Covers a = record {
+pub goes_nowhere : (Covers Ours : Type 0) (a : Time) → GoesOn Covers Ours a a
+goes_nowhere Covers Ours a = record {
   opening = refl;
   calls = omega arith;
   missed = omega arith;
@@ -184,4 +220,6 @@ goes_nowhere Covers a = record {
   calm = λ none room. refl;
   covered = λ covers now.
       covered_same a.saves.saver a.saves.saver a.disk.told a.disk.told refl refl now;
+  found = λ ours now. found_same (IsOfRun (book_of a.saves)) a.saves.saver a.saves.saver
+      a.disk.told a.disk.told refl refl now;
 }

@@ -4,6 +4,7 @@ pub mod Firsts
 pub mod Composes
 pub mod Goings
 pub mod Covering
+pub mod Finds
 pub mod Going
 mod Lasts
 pub mod Making

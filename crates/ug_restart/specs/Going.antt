@@ -1,10 +1,17 @@
 -- How saves go on: what holds from one time to a later one, over any number of them.
 use Rattle.std.specs.Prelude.{◌≡◌, ◌⊎◌, ℕ, ◌+◌, ◌-◌, ◌^◌, ◌≤◌, ◌<◌, Some, IfSome}
 use Rattle.ug_io.specs.Outside.{Rose}
+use Rattle.ug_disk.specs.Crashes.{Leaves}
 use Rattle.ug_disk.specs.Histories.{DiskSeen}
+use Rattle.ug_rules.specs.State.{BookState}
+use Rattle.ug_image.specs.declared.image.Image.{Image}
 use Rattle.ug_restart.specs.declared.saves.Saves.{Saves}
-use Rattle.ug_restart.specs.Saves.{saver_of, opening_of, calls_of, missed_of, unsaved_of}
-use Rattle.ug_restart.specs.Moments.{AllCovered, IsCoveredNow, LastIsCovered}
+use Rattle.ug_restart.specs.declared.outcome.Attempt.{Attempt}
+use Rattle.ug_restart.specs.declared.outcome.Attempt.TheVariants.{Saved, Missed, Unsaved}
+use Rattle.ug_restart.specs.Saves.{book_of, saver_of, opening_of, calls_of, missed_of, one_more}
+use Rattle.ug_restart.specs.Saves.{unsaved_of}
+use Rattle.ug_restart.specs.Moments.{AllCovered, FindsIn, FindsOne, IsCoveredNow, IsFoundNow, IsOfRun}
+use Rattle.ug_restart.specs.Moments.{LastIs, LastIsCovered}
 
 -- what was saved and counted at a time, and what was then seen of the disk
 pub record Time : Type 0 where
@@ -20,6 +27,13 @@ abbrev pub StaysCovered : Time → Time → Type 0
 StaysCovered old new = IfSome old.disk.told (λ history.
     AllCovered (Some history) new.disk.told × LastIsCovered (saver_of new.saves) new.disk.told)
 
+-- where it is told, recovery finds an image of this book's run at each moment between, and the last
+-- acknowledged one at the end is such
+abbrev pub StaysFound : BookState → Time → Time → Type 0
+StaysFound b old new = IfSome old.disk.told (λ history.
+    Leaves (FindsIn (IsOfRun b)) (Some history) new.disk.told
+    × LastIs (IsOfRun b) (saver_of new.saves) new.disk.told)
+
 -- no more saves were missed than the disk failed; or its count of faults stands at its greatest value
 abbrev pub IsEachAFault : Time → Time → Type 0
 IsEachAFault old new =
@@ -28,8 +42,8 @@ IsEachAFault old new =
 
 -- The run is the same and no count falls. Saves are missed only where the disk failed, no more than
 -- it did, and it did not fail where none was missed. Where what is saved is Covered, and so was all
--- before, all is.
-pub record GoesOn (Covers : Type 0) (old new : Time) : Type 0 where
+-- before, all is. Where what is saved is of the run, and recovery found such before, it goes on to.
+pub record GoesOn (Covers Ours : Type 0) (old new : Time) : Type 0 where
   pub opening : opening_of new.saves ≡ opening_of old.saves
   pub calls : calls_of old.saves ≤ calls_of new.saves
   pub missed : missed_of old.saves ≤ missed_of new.saves
@@ -40,6 +54,23 @@ pub record GoesOn (Covers : Type 0) (old new : Time) : Type 0 where
   pub calm : missed_of new.saves ≡ missed_of old.saves → missed_of old.saves < 2 ^ 64 - 1
       → new.disk.faults ≡ old.disk.faults
   pub covered : Covers → IsCoveredNow (saver_of old.saves) old.disk.told → StaysCovered old new
+  pub found : Ours
+      → IsFoundNow (IsOfRun (book_of old.saves)) (saver_of old.saves) old.disk.told
+      → StaysFound (book_of old.saves) old new
+
+-- A save became this: an image that has P is found, whatever a crash leaves, and no count rose; or
+-- the disk failed, and one more is missed; or memory was wanting, and one more is unsaved.
+abbrev pub IsAttempted : (Image → Type 0) → Attempt → Time → Time → Type 0
+IsAttempted P Saved old new =
+    FindsOne P new.disk.told × (missed_of new.saves ≡ missed_of old.saves)
+    × (unsaved_of new.saves ≡ unsaved_of old.saves)
+IsAttempted P Missed old new =
+    Rose old.disk.faults new.disk.faults
+    × (missed_of new.saves ≡ one_more (missed_of old.saves))
+    × (unsaved_of new.saves ≡ unsaved_of old.saves)
+IsAttempted P Unsaved old new =
+    (new.disk.faults ≡ old.disk.faults) × (missed_of new.saves ≡ missed_of old.saves)
+    × (unsaved_of new.saves ≡ one_more (unsaved_of old.saves))
 
 -- nothing has changed
 abbrev pub IsUntouched : Time → Time → Type 0

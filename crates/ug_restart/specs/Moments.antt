@@ -9,6 +9,7 @@ use Rattle.ug_checkpoint.specs.declared.saver.Saver.{Saver}
 use Rattle.ug_checkpoint.specs.Recovery.{Recovered}
 use Rattle.ug_checkpoint.specs.Savers.{CouldFind, Finds, IsLast, last_slot}
 use Rattle.ug_snapshot.specs.Moments.{IsCovered}
+use Rattle.ug_rules.specs.State.{BookState}
 
 -- whatever a crash leaves, recovery finds an image that has P
 pub record FindsOne (P : Image → Type 0) (told : Option History) : Type 0 where
@@ -53,3 +54,26 @@ pub record IsCoveredNow (saver : Saver) (told : Option History) : Type 0 where
   pub could : IfSome told (λ history. (zero one : List ℕ)
       → MayLeaveBoth history.now zero one → IsCoveredFind zero one)
   pub last : LastIsCovered saver told
+
+-- the image is of the problem and the run of this book
+pub record IsOfRun (b : BookState) (image : Image) : Type 0 where
+  pub problem : image.problem ≡ b.problem
+  pub run : image.run ≡ b.run
+
+-- recovery finds an image that has P in these two slots, so neither is bad
+pub record FindsIn (P : Image → Type 0) (zero one : List ℕ) : Type 0 where
+  pub found : Found
+  pub recovered : Recovered zero one (Some found)
+  pub is : P found.image
+
+-- there is a last acknowledged image, and it has P
+pub record LastIs (P : Image → Type 0) (saver : Saver) (told : Option History) : Type 0 where
+  pub found : Found
+  pub last : IsLast (last_slot saver) told (Some found)
+  pub is : P found.image
+
+-- whatever a crash leaves now, recovery finds an image that has P; so does the last acknowledged one
+pub record IsFoundNow (P : Image → Type 0) (saver : Saver) (told : Option History) : Type 0 where
+  pub could : IfSome told (λ history. (zero one : List ℕ)
+      → MayLeaveBoth history.now zero one → FindsIn P zero one)
+  pub last : LastIs P saver told

@@ -7,6 +7,7 @@ use Rattle.ug_checkpoint.specs.Savers.{sequence_of}
 use Rattle.ug_rules.specs.State.{BookState}
 use Rattle.ug_snapshot.specs.Moments.{IsImageOf}
 use Rattle.ug_book.specs.declared.opening.Opening.{Opening}
+use Rattle.ug_book.specs.Openings.{opening_book}
 use Rattle.ug_snapshot.specs.Snapshots.{SnapshotState}
 use Rattle.ug_restart.specs.declared.saves.Saves.{Saves}
 
@@ -16,6 +17,10 @@ saver_of saves = saves.saver
 
 abbrev pub opening_of : Saves → Opening
 opening_of saves = saves.opening
+
+-- the book with which the run began
+abbrev pub book_of : Saves → BookState
+book_of saves = opening_book saves.opening
 
 -- how many calls the history of the last snapshot had that was saved
 abbrev pub calls_of : Saves → ℕ

@@ -15,6 +15,6 @@ mod saves;
 mod start;
 
 pub use fault::StartFault;
-pub use outcome::{End, Outcome};
+pub use outcome::{Attempt, End, Outcome};
 pub use saves::Saves;
 pub use start::{Start, begin, restart};

@@ -6,7 +6,8 @@ ghost use Rattle.ug_image.specs.Spelling.{spelled};
 ghost use Rattle.ug_rules.specs.Books.{IsSoundBook};
 ghost use Rattle.ug_checkpoint.specs.Savers.{sequence_of};
 ghost use Rattle.ug_snapshot.specs.Moments.{IsCovered};
-ghost use Rattle.ug_book.specs.Openings.{IsCoveredOpening};
+ghost use Rattle.ug_book.specs.Openings.{IsCoveredOpening, opening_book};
+ghost use Rattle.ug_restart.specs.Moments.{IsOfRun};
 ghost use Rattle.ug_restart.specs.Saves.{IsNext, IsOfBook, IsOfSnapshot, under};
 
 use std::alloc::Global;
@@ -17,10 +18,12 @@ use ug_snapshot::{Snapshot, image_of};
 
 /// The image of a snapshot under the sequence that is next. There is none at the end of the
 /// numbers.
+#[tactic(auto, using(crate::proofs::Making::of_run_under))]
 pub fn of_snapshot(saver: &Saver, snapshot: Snapshot) -> Option<Image>
     ensures next { IfSome result (IsNext saver.now) }
     ensures of { IfSome result (IsOfSnapshot snapshot) }
     ensures covered { IsCoveredOpening snapshot.opening → IfSome result IsCovered }
+    ensures run { IfSome result (IsOfRun (opening_book snapshot.opening)) }
 {
     let Some(sequence) = next_sequence(saver) else {
         drop(snapshot);

@@ -8,6 +8,31 @@ pub struct Outcome {
     pub missed: u64,
     /// Later saves that were refused for memory.
     pub unsaved: u64,
+    /// What became of the save of the ending book, where there was one and a saver.
+    pub last: Option<Attempt>,
+}
+
+/// What became of a save.
+#[derive(Clone, Copy, Debug, PartialEq, Eq)]
+pub enum Attempt {
+    /// The image is acknowledged.
+    Saved,
+    /// The disk failed.
+    Missed,
+    /// Memory was wanting, or the numbers of images were at their end.
+    Unsaved,
+}
+
+impl Attempt {
+    ghost use Rattle.std.specs.Prelude.{◌≡◌, ◌↔◌, IsTrue};
+    ghost use Rattle.ug_restart.specs.declared.outcome.Attempt.TheVariants.{Saved};
+
+    /// Whether the image is acknowledged.
+    pub fn is_saved(self) -> bool
+        ensures { IsTrue result ↔ (self ≡ Saved) }
+    {
+        matches!(self, Attempt::Saved)
+    }
 }
 
 /// How a run ended.

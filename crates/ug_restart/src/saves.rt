@@ -4,11 +4,13 @@ ghost use Rattle.ug_rules.specs.Books.{IsSoundBook};
 ghost use Rattle.ug_checkpoint.specs.Savers.{IsKept};
 ghost use Rattle.ug_snapshot.specs.Moments.{IsCovered};
 ghost use Rattle.ug_book.specs.Openings.{IsCoveredOpening};
-ghost use Rattle.ug_restart.specs.Saves.{IsDue, IsNext, IsOfBook, IsOfSnapshot, IsPassedOver, NoneIsCounted, StepsByOne, begun, calls_of, missed_of, one_more, opening_of, saver_of, unsaved_of};
-ghost use Rattle.ug_restart.specs.Moments.{FindsOne, IsSafeSave};
-ghost use Rattle.ug_restart.specs.Going.{GoesOn, IsUntouched, time};
+ghost use Rattle.ug_book.specs.Views.{IsSameRun};
+ghost use Rattle.ug_restart.specs.Saves.{IsDue, IsNext, IsOfBook, IsOfSnapshot, IsPassedOver, NoneIsCounted, StepsByOne, begun, book_of, calls_of, missed_of, one_more, opening_of, saver_of, unsaved_of};
+ghost use Rattle.ug_restart.specs.Moments.{FindsOne, IsOfRun, IsSafeSave};
+ghost use Rattle.ug_restart.specs.Going.{GoesOn, IsAttempted, IsUntouched, time};
 
 use crate::next::{is_short, of_book, of_snapshot};
+use crate::outcome::Attempt;
 use std::alloc::Global;
 use ug_book::{Book, Opening};
 use ug_checkpoint::{SaveError, Saver};
@@ -68,7 +70,7 @@ impl Saves {
         ensures any_moment { Leaves
             (IsSafeSave (saver_of self.old) (D.seen disk.old).told (IsOfSnapshot snapshot))
             (D.seen disk.old).told (D.seen disk.new).told }
-        ensures goes_on { GoesOn (IsCoveredOpening (opening_of self.old))
+        ensures goes_on { GoesOn (IsCoveredOpening (opening_of self.old)) (Unit {0})
             (time self.old (D.seen disk.old)) (time self.new (D.seen disk.new)) }
         ensures by_one { StepsByOne self.old self.new }
     {
@@ -78,26 +80,26 @@ impl Saves {
         }
         let calls = snapshot.count();
         let image = of_snapshot(&self.saver, snapshot);
-        if self.save(alloc, disk, image) {
+        if self.save(alloc, disk, image).is_saved() {
             self.calls = calls;
         }
     }
 
-    /// Saves the image of the ending book.
-    pub fn finish<D: Disk>(&mut self, alloc: Global, disk: &mut D, book: &Book)
+    /// Saves the image of the ending book, and tells what became of it.
+    pub fn finish<D: Disk>(&mut self, alloc: Global, disk: &mut D, book: &Book) -> Attempt
         requires { IsKept (saver_of self.old) (D.seen disk.old).told }
         ensures kept { IsKept (saver_of self.new) (D.seen disk.new).told }
-        ensures acknowledged { NoneIsCounted self.old self.new
-            → FindsOne (IsOfBook book.now) (D.seen disk.new).told }
+        ensures became { IsAttempted (IsOfBook book.now) result
+            (time self.old (D.seen disk.old)) (time self.new (D.seen disk.new)) }
         ensures any_moment { Leaves
             (IsSafeSave (saver_of self.old) (D.seen disk.old).told (IsOfBook book.now))
             (D.seen disk.old).told (D.seen disk.new).told }
-        ensures goes_on { GoesOn (IsSoundBook book.now)
+        ensures goes_on { GoesOn (IsSoundBook book.now) (IsSameRun (book_of self.old) book.now)
             (time self.old (D.seen disk.old)) (time self.new (D.seen disk.new)) }
         ensures by_one { StepsByOne self.old self.new }
     {
         let image = of_book(alloc, &self.saver, book);
-        self.save(alloc, disk, image);
+        self.save(alloc, disk, image)
     }
 
     // Whether a snapshot is of another opening, or no newer than the last one that was saved.
@@ -110,45 +112,44 @@ impl Saves {
         snapshot.count() <= self.calls || !snapshot.opening().is(&self.opening)
     }
 
-    // Saves the image, and counts it where there is none or it is not saved. Whether it was.
-    fn save<D: Disk>(&mut self, alloc: Global, disk: &mut D, image: Option<Image>) -> bool
+    // Saves the image, and counts it where there is none or it is not saved.
+    fn save<D: Disk>(&mut self, alloc: Global, disk: &mut D, image: Option<Image>) -> Attempt
         requires kept { IsKept self.old.saver (D.seen disk.old).told }
         requires image { IfSome image (IsNext self.old.saver) }
         ensures kept { IsKept self.new.saver (D.seen disk.new).told }
         ensures calls { self.new.calls ≡ self.old.calls }
-        ensures saved { IsTrue result
-            → FindsOne (λ made. image ≡ Some made) (D.seen disk.new).told }
-        ensures counted { NoneIsCounted self.old self.new → IsTrue result }
+        ensures became { IsAttempted (λ made. image ≡ Some made) result
+            (time self.old (D.seen disk.old)) (time self.new (D.seen disk.new)) }
         ensures any_moment { Leaves
             (IsSafeSave self.old.saver (D.seen disk.old).told (λ made. image ≡ Some made))
             (D.seen disk.old).told (D.seen disk.new).told }
-        ensures goes_on { GoesOn (IfSome image IsCovered)
+        ensures goes_on { GoesOn (IfSome image IsCovered) (IfSome image (IsOfRun (book_of self.old)))
             (time self.old (D.seen disk.old)) (time self.new (D.seen disk.new)) }
         ensures by_one { StepsByOne self.old self.new }
     {
         let Some(image) = image else {
             self.unsaved = one_more(self.unsaved);
-            return false;
+            return Attempt::Unsaved;
         };
         if !is_short(&image) {
             drop(image);
             self.unsaved = one_more(self.unsaved);
-            return false;
+            return Attempt::Unsaved;
         }
         match self.saver.save(alloc, disk, &image) {
             Ok(()) => {
                 drop(image);
-                true
+                Attempt::Saved
             }
             Err(SaveError::Memory) => {
                 drop(image);
                 self.unsaved = one_more(self.unsaved);
-                false
+                Attempt::Unsaved
             }
             Err(SaveError::Fault) => {
                 drop(image);
                 self.missed = one_more(self.missed);
-                false
+                Attempt::Missed
             }
         }
     }

@@ -1,2 +1,2 @@
 pub mod Endings
-mod Outcomes
+pub mod Outcomes

@@ -1,9 +1,11 @@
 -- What a solve promises.
-use Rattle.std.specs.Prelude.{◌≡◌, ◌≤◌, ◌<◌, ◌⊎◌, ◌+◌, ◌-◌, ◌^◌, [], Option}
+use Rattle.std.specs.Prelude.{◌≡◌, ◌≤◌, ◌<◌, ◌⊎◌, ◌+◌, ◌-◌, ◌^◌, [], Option, IsSomeAnd}
 use Rattle.ug_io.specs.Outside.{Rose}
 use Rattle.ug_disk.specs.Histories.{DiskSeen, History}
 use Rattle.ug_rules.specs.State.{BookState, held_nodes}
 use Rattle.ug_rules.specs.Books.{IsSoundBook}
+use Rattle.ug_restart.specs.declared.outcome.Attempt.{Attempt}
+use Rattle.ug_restart.specs.declared.outcome.Attempt.TheVariants.{Saved, Missed, Unsaved}
 use Rattle.ug_restart.specs.declared.outcome.End.{End}
 use Rattle.ug_restart.specs.declared.outcome.Outcome.{Outcome}
 use Rattle.ug_restart.specs.Saves.{IsOfBook}
@@ -35,8 +37,14 @@ pub record IsMissedByFaults (outcome : Outcome) (old new : DiskSeen) : Type 0 wh
   pub each : (outcome.missed + old.faults ≤ new.faults) ⊎ (2 ^ 64 - 1 ≤ new.faults)
   pub calm : outcome.missed ≡ 0 → new.faults ≡ old.faults
 
--- where the run ended with a book, recovery finds an image of it, whatever a crash leaves; or a
--- save is counted
+-- what is told of the last save is so: recovery finds an image of this book, whatever a crash
+-- leaves; or it is one of the saves that are counted
+abbrev pub IsLastSave : Outcome → Option History → BookState → Attempt → Type 0
+IsLastSave outcome told b Saved = FindsOne (IsOfBook b) told
+IsLastSave outcome told b Missed = 1 ≤ outcome.missed
+IsLastSave outcome told b Unsaved = 1 ≤ outcome.unsaved
+
+-- where the run ended with a book, it was to be saved, and what became of that is told
 abbrev pub IsSavedOrCounted : Outcome → Option History → Type 0
 IsSavedOrCounted outcome told = IfBook outcome.end (λ b.
-    (1 ≤ outcome.missed + outcome.unsaved) ⊎ FindsOne (IsOfBook b) told)
+    IsSomeAnd outcome.last (IsLastSave outcome told b))

@@ -79,7 +79,7 @@ impl<'a, D: Disk> Listener for Saving<'a, D> {
     ghost ready = { λ x. IsKept (saver_of x.saves) (D.seen x.disk.now).told };
 
     ghost moves = { λ x y. (y.disk.ghost_name ≡ x.disk.ghost_name)
-        × GoesOn (IsCoveredOpening (opening_of x.saves))
+        × GoesOn (IsCoveredOpening (opening_of x.saves)) (Unit {0})
         (time x.saves (D.seen x.disk.now))
         (time y.saves (D.seen y.disk.now)) };
 

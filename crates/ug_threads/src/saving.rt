@@ -1,30 +1,37 @@
 //! The end of a solve that saves.
 
-ghost use Rattle.std.specs.Prelude.{◌≡◌};
+ghost use Rattle.std.specs.Prelude.{◌≡◌, IsSomeAnd};
 ghost use Rattle.ug_checkpoint.specs.Savers.{IsKept};
 ghost use Rattle.ug_rules.specs.Books.{IsSoundBook};
-ghost use Rattle.ug_restart.specs.Saves.{IsOfBook, NoneIsCounted, saver_of};
-ghost use Rattle.ug_restart.specs.Moments.{FindsOne};
-ghost use Rattle.ug_restart.specs.Going.{GoesOn, time};
+ghost use Rattle.ug_book.specs.Views.{IsSameRun};
+ghost use Rattle.ug_restart.specs.Saves.{IsOfBook, book_of, saver_of};
+ghost use Rattle.ug_restart.specs.Going.{GoesOn, IsAttempted, time};
 ghost use Rattle.ug_threads.specs.Ends.{IfBook};
 
 use std::alloc::Global;
 use ug_disk::Disk;
-use ug_restart::{End, Saves};
+use ug_restart::{Attempt, End, Saves};
 
-/// Saves the ending book, if there is one.
-pub fn save_end<D: Disk>(alloc: Global, disk: &mut D, saves: &mut Saves, end: &End)
+/// Saves the ending book, if there is one, and tells what became of it.
+pub fn save_end<D: Disk>(
+    alloc: Global,
+    disk: &mut D,
+    saves: &mut Saves,
+    end: &End,
+) -> Option<Attempt>
     requires { IsKept (saver_of saves.old) (D.seen disk.old).told }
-    ensures saved { IfBook end.now (λ book. NoneIsCounted saves.old saves.new
-        → FindsOne (IsOfBook book) (D.seen disk.new).told) }
+    ensures became { IfBook end.now (λ book. IsSomeAnd result (λ attempt.
+        IsAttempted (IsOfBook book) attempt (time saves.old (D.seen disk.old))
+        (time saves.new (D.seen disk.new)))) }
     ensures goes_on { GoesOn (IfBook end.now IsSoundBook)
+        (IfBook end.now (IsSameRun (book_of saves.old)))
         (time saves.old (D.seen disk.old))
         (time saves.new (D.seen disk.new)) }
 {
     match end {
-        End::Answered(book) => saves.finish(alloc, disk, book),
-        End::Limited(book) => saves.finish(alloc, disk, book),
-        End::Stranded(book) => saves.finish(alloc, disk, book),
-        End::Memory => {}
+        End::Answered(book) => Some(saves.finish(alloc, disk, book)),
+        End::Limited(book) => Some(saves.finish(alloc, disk, book)),
+        End::Stranded(book) => Some(saves.finish(alloc, disk, book)),
+        End::Memory => None,
     }
 }

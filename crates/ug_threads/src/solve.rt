@@ -3,8 +3,9 @@ ghost use Rattle.ug_checkpoint.specs.Savers.{IsKept};
 ghost use Rattle.ug_rules.specs.State.{BookState};
 ghost use Rattle.ug_rules.specs.Books.{IsSoundBook};
 ghost use Rattle.ug_book.specs.Openings.{IsOpening, opening_book};
+ghost use Rattle.ug_disk.specs.Crashes.{Leaves};
 ghost use Rattle.ug_restart.specs.Saves.{missed_of, opening_of, saver_of, unsaved_of};
-ghost use Rattle.ug_restart.specs.Moments.{AllCovered, IsCoveredNow};
+ghost use Rattle.ug_restart.specs.Moments.{AllCovered, FindsIn, IsCoveredNow, IsFoundNow, IsOfRun};
 ghost use Rattle.ug_restart.specs.Going.{GoesOn, time};
 ghost use Rattle.ug_threads.specs.Outcomes.{HasEnded, IsMissedByFaults, IsSavedOrCounted, IsUntouched};
 
@@ -44,6 +45,10 @@ pub fn solve_threads<R: Threads + Wait + Sync, D: Disk, O: Observer>(
     ensures any_moment { IfSome saver (λ s. IsSoundBook (opening_book opening.now)
         → IsCoveredNow s (D.seen disk.old).told
         → AllCovered (D.seen disk.old).told (D.seen disk.new).told) }
+    ensures found { IfSome saver (λ s.
+        IsFoundNow (IsOfRun (opening_book opening.now)) s (D.seen disk.old).told
+        → Leaves (FindsIn (IsOfRun (opening_book opening.now)))
+        (D.seen disk.old).told (D.seen disk.new).told) }
     ensures missed { IsMissedByFaults result (D.seen disk.old) (D.seen disk.new) }
 {
     tell_begin(host.observer, opening);
@@ -65,6 +70,7 @@ fn wanting() -> Outcome
         end: End::Memory,
         missed: 0,
         unsaved: 0,
+        last: None,
     }
 }
 
@@ -83,11 +89,12 @@ fn silently<R: Threads + Wait + Sync, O: Observer>(
         end: end_of(solved.book),
         missed: 0,
         unsaved: 0,
+        last: None,
     }
 }
 
 // With a saver.
-#[tactic(auto, using(crate::proofs::Outcomes::still_covered, crate::proofs::Outcomes::covered_begun, crate::proofs::Outcomes::none_missed))]
+#[tactic(auto, using(crate::proofs::Outcomes::still_covered, crate::proofs::Outcomes::still_found, crate::proofs::Outcomes::covered_begun, crate::proofs::Outcomes::found_begun, crate::proofs::Outcomes::none_missed))]
 fn with_saver<R: Threads + Wait + Sync, D: Disk, O: Observer>(
     host: &Host<'_, R, O>,
     opening: &Opening,
@@ -101,6 +108,9 @@ fn with_saver<R: Threads + Wait + Sync, D: Disk, O: Observer>(
     ensures any_moment { IsSoundBook (opening_book opening.now)
         → IsCoveredNow saver (D.seen disk.old).told
         → AllCovered (D.seen disk.old).told (D.seen disk.new).told }
+    ensures found { IsFoundNow (IsOfRun (opening_book opening.now)) saver (D.seen disk.old).told
+        → Leaves (FindsIn (IsOfRun (opening_book opening.now)))
+        (D.seen disk.old).told (D.seen disk.new).told }
     ensures missed { IsMissedByFaults result (D.seen disk.old) (D.seen disk.new) }
 {
     let Ok(own) = opening.copy() else {
@@ -127,6 +137,10 @@ fn saving<R: Threads + Wait + Sync, D: Disk, O: Observer>(
     ensures any_moment { IsSoundBook (opening_book opening.now)
         → IsCoveredNow (saver_of saves) (D.seen disk.old).told
         → AllCovered (D.seen disk.old).told (D.seen disk.new).told }
+    ensures found { IsFoundNow (IsOfRun (opening_book opening.now)) (saver_of saves)
+        (D.seen disk.old).told
+        → Leaves (FindsIn (IsOfRun (opening_book opening.now)))
+        (D.seen disk.old).told (D.seen disk.new).told }
     ensures missed { IsMissedByFaults result (D.seen disk.old) (D.seen disk.new) }
 {
     let alloc = host.alloc;
@@ -173,7 +187,7 @@ fn conclude<'a, R: Threads + Wait + Sync, D: Disk, O: Observer>(
     ensures ended { HasEnded (opening_book opening.now) result.outcome.end }
     ensures saved { IsSavedOrCounted result.outcome (D.seen result.kept.disk.now).told }
     ensures missed { result.outcome.missed ≡ missed_of result.kept.saves }
-    ensures goes_on { GoesOn (IsSoundBook (opening_book opening.now))
+    ensures goes_on { GoesOn (IsSoundBook (opening_book opening.now)) (Unit {0})
         (time listener.entry.saves (D.seen listener.entry.disk.now))
         (time result.kept.saves (D.seen result.kept.disk.now)) }
 {
@@ -186,7 +200,7 @@ fn conclude<'a, R: Threads + Wait + Sync, D: Disk, O: Observer>(
         disk,
         ..
     } = solved.listener;
-    save_end(alloc, disk, &mut saves, &end);
+    let last = save_end(alloc, disk, &mut saves, &end);
     let missed = saves.missed();
     let unsaved = saves.unsaved();
     Concluded {
@@ -194,6 +208,7 @@ fn conclude<'a, R: Threads + Wait + Sync, D: Disk, O: Observer>(
             end,
             missed,
             unsaved,
+            last,
         },
         kept: Saving { alloc, saves, disk },
     }

@@ -18,6 +18,7 @@ use Rattle.ug_restart.specs.declared.outcome.Outcome.{Outcome}
 use Rattle.ug_restart.specs.declared.outcome.End.TheVariants.{Answered, Limited, Stranded, Memory}
 use Rattle.ug_threads.specs.Ends.{IfAnswered, IfBook, IsReplayOf}
 use Rattle.ug_threads.specs.Outcomes.{HasEnded}
+use Rattle.ug_threads.proofs.Outcomes.{same_run}
 use Rattle.ug_top.specs.Runs.{IsOf, IsRightFor, IsRun}
 
 -- each point lies in the root
@@ -33,11 +34,6 @@ pub root_is_sound : (p : Instance) (run : ℕ) (settings : Settings)
     → IsSoundBook (started p run None ([] ∷ []) settings)
 root_is_sound p run settings =
     (start_is_sound p run None ([] ∷ []) settings).1 (root_covers p settings)
-
-same_run : (given b : BookState) → IsReplayOf given b → IsSameRun given b
-same_run given b t =
-    subst (λ (k : BookState). IsSameRun given k) t.is
-    (subst (λ (k : BookState). IsSameRun k t.state.now.book) t.began t.locked.same)
 
 is_of : (given b : BookState) (p : Instance) (settings : Settings) → IsOf p settings given
     → IsReplayOf given b → IsOf p settings b

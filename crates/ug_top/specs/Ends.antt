@@ -85,7 +85,7 @@ BeginsAlways p fault = ⊥
 pub record HasRunSaved (asked : Asked) (old new : DiskSeen) (p : Instance) (outcome : Outcome)
     : Type 0 where
   pub ran : IsSavedRun p (settings_for asked p) old.told outcome
-  pub kept : IsKeptOn outcome old new
+  pub kept : IsKeptOn (IsBegun p (settings_for asked p) old.told) outcome old new
 
 -- It does not begin: at each moment a crash leaves what a beginning may leave, so nothing was saved
 -- but, perhaps, its first image.
@@ -99,7 +99,7 @@ pub record HasNotBegun (asked : Asked) (old new : DiskSeen) (p : Instance) (faul
 pub record HasRunOn (asked : Asked) (old new : DiskSeen) (p : Instance) (outcome : Outcome)
     : Type 0 where
   pub ran : IsRunOn p (settings_for asked p) old.told outcome
-  pub kept : IsKeptOn outcome old new
+  pub kept : IsKeptOn (IsGoneOn p (settings_for asked p) old.told) outcome old new
 
 -- it does not go on, and likewise nothing was saved but, perhaps, its first image
 pub record HasNotGoneOn (asked : Asked) (old new : DiskSeen) (p : Instance) (fault : StartFault)

@@ -1,5 +1,6 @@
 -- A run, from a problem to the book with which it ends, and what it leaves on the disk.
 use Rattle.std.specs.Prelude.{◌≡◌, [], ◌∷◌, None, Option, IfSome}
+use Rattle.ug_disk.specs.Crashes.{Leaves}
 use Rattle.ug_disk.specs.Histories.{DiskSeen, History}
 use Rattle.ug_problem.specs.Instances.{Instance}
 use Rattle.ug_problem.specs.Feasible.{Feasible}
@@ -10,7 +11,8 @@ use Rattle.ug_rules.specs.State.{BookState}
 use Rattle.ug_book.specs.Starts.{started}
 use Rattle.ug_snapshot.specs.Moments.{IsCovered}
 use Rattle.ug_restart.specs.declared.outcome.Outcome.{Outcome}
-use Rattle.ug_restart.specs.Starts.{IsBegun, IsGoneOn}
+use Rattle.ug_restart.specs.Starts.{IsBegun, IsGoneOn, IsSafeStart}
+use Rattle.ug_restart.specs.Moments.{FindsIn, IsOfRun}
 use Rattle.ug_threads.specs.Ends.{IfAnswered, IfBook}
 use Rattle.ug_threads.specs.Outcomes.{HasEnded, IsMissedByFaults, IsSavedOrCounted}
 
@@ -56,8 +58,20 @@ abbrev pub IsRunOn : Instance → Settings → Option History → Outcome → Ty
 IsRunOn p settings told outcome =
     IsRun (IsGoneOn p settings told) (λ b t. IsCovered t.found.image) p settings outcome
 
--- Recovery finds an image of the ending book, or a save is counted; saves are missed only where the
--- disk failed, and no more than it did, and it did not fail where none was.
-pub record IsKeptOn (outcome : Outcome) (old new : DiskSeen) : Type 0 where
+-- Up to some moment a crash leaves what the beginning of such a book may leave. From that moment on
+-- recovery finds an image of this book's problem and run, whatever a crash leaves.
+pub record IsFoundSince (Is : BookState → Type 0) (old new : Option History) : Type 0 where
+  pub book : BookState
+  pub is : Is book
+  pub begun : Option History
+  pub before : Leaves (IsSafeStart old Is) old begun
+  pub since : Leaves (FindsIn (IsOfRun book)) begun new
+
+-- Since it had begun an image of the run is found. Recovery finds an image of the ending book, or its
+-- save is one of those counted; saves are missed only where the disk failed, and no more than it did,
+-- and it did not fail where none was.
+pub record IsKeptOn (Is : BookState → Type 0) (outcome : Outcome) (old new : DiskSeen)
+    : Type 0 where
+  pub found : IsFoundSince Is old.told new.told
   pub saved : IsSavedOrCounted outcome new.told
   pub missed : IsMissedByFaults outcome old new

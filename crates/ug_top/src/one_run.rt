@@ -4,11 +4,11 @@ ghost use Rattle.ug_rules.specs.Books.{AreSettings};
 ghost use Rattle.ug_restart.specs.Openings.{CoversWhatIsFound};
 ghost use Rattle.ug_restart.specs.Faults.{start_cause};
 ghost use Rattle.ug_restart.specs.Starts.{IsBegun, IsGoneOn, IsNotBegun, IsNotGoneOn, IsSafeStart};
-ghost use Rattle.ug_restart.specs.Moments.{AllCovered, IsCoveredNow};
+ghost use Rattle.ug_restart.specs.Moments.{AllCovered, FindsIn, IsCoveredNow, IsFoundNow, IsOfRun};
 ghost use Rattle.ug_checkpoint.specs.Savers.{IsKept};
 ghost use Rattle.ug_rules.specs.Books.{IsSoundBook};
 ghost use Rattle.ug_book.specs.Openings.{IsOpening, opening_book};
-ghost use Rattle.ug_threads.specs.Outcomes.{HasEnded, IsUntouched};
+ghost use Rattle.ug_threads.specs.Outcomes.{HasEnded, IsMissedByFaults, IsSavedOrCounted, IsUntouched};
 ghost use Rattle.ug_top.specs.Runs.{IsKeptOn, IsNewRun, IsRunOn, IsSavedRun};
 
 use std::sync::Wait;
@@ -37,6 +37,7 @@ pub fn solve_new<R: Threads + Wait + Sync, D: Disk, O: Observer>(
             end: End::Memory,
             missed: 0,
             unsaved: 0,
+            last: None,
         };
     };
     let outcome = solve_threads(host, &opening, None, disk);
@@ -55,7 +56,8 @@ pub fn solve_saved<R: Threads + Wait + Sync, D: Disk, O: Observer>(
 ) -> Result<Outcome, StartFault>
     requires { AreSettings settings }
     ensures ran { IfOk result (IsSavedRun problem settings (D.seen disk.old).told) }
-    ensures kept { IfOk result (λ o. IsKeptOn o (D.seen disk.old) (D.seen disk.new)) }
+    ensures kept { IfOk result (λ o. IsKeptOn
+        (IsBegun problem settings (D.seen disk.old).told) o (D.seen disk.old) (D.seen disk.new)) }
     ensures refused { IfErr result (IsNotBegun (D.seen disk.old).told (D.seen disk.new).told) }
     ensures safe { OnErr result (Leaves
         (IsSafeStart (D.seen disk.old).told (IsBegun problem settings (D.seen disk.old).told))
@@ -81,7 +83,8 @@ pub fn go_on<R: Threads + Wait + Sync, D: Disk, O: Observer>(
 ) -> Result<Outcome, StartFault>
     requires { AreSettings settings }
     ensures ran { IfOk result (IsRunOn problem settings (D.seen disk.old).told) }
-    ensures kept { IfOk result (λ o. IsKeptOn o (D.seen disk.old) (D.seen disk.new)) }
+    ensures kept { IfOk result (λ o. IsKeptOn
+        (IsGoneOn problem settings (D.seen disk.old).told) o (D.seen disk.old) (D.seen disk.new)) }
     ensures refused { IfErr result (IsNotGoneOn problem settings
         (D.seen disk.old).told (D.seen disk.new).told) }
     ensures safe { OnErr result (Leaves
@@ -107,7 +110,12 @@ fn solve_from<R: Threads + Wait + Sync, D: Disk, O: Observer>(
     requires opening { IsOpening start.opening }
     requires kept { IsKept start.saver (D.seen disk.old).told }
     ensures ended { HasEnded (opening_book start.opening) result.end }
-    ensures kept { IsKeptOn result (D.seen disk.old) (D.seen disk.new) }
+    ensures saved { IsSavedOrCounted result (D.seen disk.new).told }
+    ensures missed { IsMissedByFaults result (D.seen disk.old) (D.seen disk.new) }
+    ensures found { IsFoundNow (IsOfRun (opening_book start.opening)) start.saver
+        (D.seen disk.old).told
+        → Leaves (FindsIn (IsOfRun (opening_book start.opening)))
+        (D.seen disk.old).told (D.seen disk.new).told }
     ensures any_moment { IsSoundBook (opening_book start.opening)
         → IsCoveredNow start.saver (D.seen disk.old).told
         → AllCovered (D.seen disk.old).told (D.seen disk.new).told }

@@ -29,7 +29,7 @@ returns-in-Ok-clause-run g c =
 
 pub returns-in-Ok-clause-stored : goal.returns-in-Ok-clause-stored
 returns-in-Ok-clause-stored g c =
-    kept_stored c.args.asked.now.bounds.gap c.in-Ok.outcome c.tell_outcome-ended.result _ _
+    kept_stored c.args.asked.now.bounds.gap _ c.in-Ok.outcome c.tell_outcome-ended.result _ _
     c.tell_outcome-ended.ensures c.in-Ok.ensures.kept c.go_on.ensures.any_moment
 
 pub returns-in-Err-clause-run : goal.returns-in-Err-clause-run

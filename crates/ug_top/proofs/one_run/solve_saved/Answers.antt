@@ -2,8 +2,10 @@ use Rattle.std.proofs.Common.{ap}
 use Rattle.ug_rules.specs.State.{BookState}
 use Rattle.ug_book.specs.Openings.{opening_book}
 use Rattle.ug_restart.specs.Starts.{IsBegun}
+use Rattle.ug_restart.proofs.Finds.{start_found}
 use Rattle.ug_top.proofs.Books.{is_run}
 use Rattle.ug_top.proofs.Covering.{begun_sound, refused_covered, run_covered}
+use Rattle.ug_top.proofs.Stored.{missed_from}
 use Rattle.ug_top.proofs.one_run.solve_saved.Goals as goal
 
 pub returns-in-Err-clause-any_moment : goal.returns-in-Err-clause-any_moment
@@ -33,3 +35,18 @@ returns-in-Ok-clause-any_moment g c = λ covers.
     (IsBegun c.args.problem c.args.settings told) (begun_sound c.args.problem c.args.settings told)
     c.in-Ok.ensures.started.book covers c.begin.ensures.any_moment
     c.in-Ok.ensures.started.acknowledged c.solve_from.ensures.any_moment
+
+pub returns-in-Ok-clause-kept : goal.returns-in-Ok-clause-kept
+returns-in-Ok-clause-kept g c = record {
+  found = record {
+    book = opening_book c.in-Ok.start.opening;
+    is = c.in-Ok.ensures.started.book;
+    begun = (g.D.Disk.seen c.begin.new.disk).told;
+    before = c.begin.ensures.any_moment;
+    since = c.solve_from.ensures.found
+        (start_found (opening_book c.in-Ok.start.opening) c.in-Ok.start.saver _
+        c.in-Ok.ensures.started.acknowledged);
+  };
+  saved = c.solve_from.ensures.saved;
+  missed = missed_from _ _ _ _ c.in-Ok.ensures.cause c.solve_from.ensures.missed;
+}

@@ -3,8 +3,10 @@ use Rattle.ug_checkpoint.specs.Causes.{save_cause}
 use Rattle.ug_checkpoint.specs.declared.error.SaveError.{SaveError}
 use Rattle.ug_checkpoint.specs.Savers.{last_slot, next_slot}
 use Rattle.ug_snapshot.specs.Moments.{IsCovered}
-use Rattle.ug_restart.specs.Saves.{IsNext}
+use Rattle.ug_restart.specs.Moments.{IsOfRun}
+use Rattle.ug_restart.specs.Saves.{IsNext, book_of}
 use Rattle.ug_restart.proofs.Covering.{covered_failed, covered_saved, nothing_done, saving}
+use Rattle.ug_restart.proofs.Finds.{found_failed, found_saved}
 use Rattle.ug_restart.proofs.Lasts.{last_now, last_still}
 use Rattle.ug_restart.proofs.Going.{failed, made, not_made, unmade}
 use Rattle.ug_restart.proofs.Making.{of_some}
@@ -33,7 +35,8 @@ returns-in_default-clause-any_moment g c =
 
 pub returns-in_default-clause-goes_on : goal.returns-in_default-clause-goes_on
 returns-in_default-clause-goes_on g c =
-    not_made (IfSome c.args.image IsCovered) c.args.self.now c.one_more-self.result _ _
+    not_made (IfSome c.args.image IsCovered)
+    (IfSome c.args.image (IsOfRun (book_of c.args.self.now))) c.args.self.now c.one_more-self.result _ _
     c.one_more-self.ensures.least refl refl
 
 pub returns-then-not-is_short-clause-any_moment : goal.returns-then-not-is_short-clause-any_moment
@@ -42,7 +45,8 @@ returns-then-not-is_short-clause-any_moment g c =
 
 pub returns-then-not-is_short-clause-goes_on : goal.returns-then-not-is_short-clause-goes_on
 returns-then-not-is_short-clause-goes_on g c =
-    not_made (IfSome c.args.image IsCovered) c.args.self.now
+    not_made (IfSome c.args.image IsCovered)
+    (IfSome c.args.image (IsOfRun (book_of c.args.self.now))) c.args.self.now
     c.one_more-self-then-not-is_short.result _ _
     c.one_more-self-then-not-is_short.ensures.least refl refl
 
@@ -53,9 +57,17 @@ returns-in-Ok-clause-any_moment g c =
 
 pub returns-in-Ok-clause-goes_on : goal.returns-in-Ok-clause-goes_on
 returns-in-Ok-clause-goes_on g c =
-    made (IfSome c.args.image IsCovered) c.args.self.now c.save.new.self _ _ c.in-Ok.ensures.cause
+    made (IfSome c.args.image IsCovered)
+    (IfSome c.args.image (IsOfRun (book_of c.args.self.now))) c.args.self.now c.save.new.self _ _ c.in-Ok.ensures.cause
     (λ covers now. covered_saved c.args.self.now.saver c.save.new.self _ _ c.in-Some.image
     (of_some c.args.image IsCovered c.in-Some.image covers c.in-Some.is)
+    c.save.ensures.any_moment
+    (last_now (last_slot c.save.new.self) (next_slot c.args.self.now.saver)
+    (g.D.Disk.seen c.save.new.disk).told c.in-Some.image c.in-Ok.ensures.last
+    c.in-Ok.ensures.written) now)
+    (λ ours now. found_saved (IsOfRun (book_of c.args.self.now)) c.args.self.now.saver
+    c.save.new.self _ _ c.in-Some.image
+    (of_some c.args.image (IsOfRun (book_of c.args.self.now)) c.in-Some.image ours c.in-Some.is)
     c.save.ensures.any_moment
     (last_now (last_slot c.save.new.self) (next_slot c.args.self.now.saver)
     (g.D.Disk.seen c.save.new.disk).told c.in-Some.image c.in-Ok.ensures.last
@@ -68,7 +80,8 @@ returns-in-Err-Memory-clause-any_moment g c =
 
 pub returns-in-Err-Memory-clause-goes_on : goal.returns-in-Err-Memory-clause-goes_on
 returns-in-Err-Memory-clause-goes_on g c =
-    unmade (IfSome c.args.image IsCovered) c.args.self.now c.save.new.self
+    unmade (IfSome c.args.image IsCovered)
+    (IfSome c.args.image (IsOfRun (book_of c.args.self.now))) c.args.self.now c.save.new.self
     c.one_more-self-in-Err-Memory.result _ _
     c.one_more-self-in-Err-Memory.ensures.least
     (subst (λ (e : SaveError). save_cause e (g.D.Disk.seen c.args.disk.now).faults
@@ -76,6 +89,13 @@ returns-in-Err-Memory-clause-goes_on g c =
     c.in-Err-Memory.ensures.cause)
     (λ covers now. covered_failed c.args.self.now.saver c.save.new.self _ _ c.in-Some.image
     (of_some c.args.image IsCovered c.in-Some.image covers c.in-Some.is)
+    c.save.ensures.any_moment
+    (last_still (last_slot c.args.self.now.saver) (last_slot c.save.new.self)
+    (g.D.Disk.seen c.args.disk.now).told (g.D.Disk.seen c.save.new.disk).told
+    c.in-Err-Memory.ensures.err_last c.save.ensures.alone) now)
+    (λ ours now. found_failed (IsOfRun (book_of c.args.self.now)) c.args.self.now.saver
+    c.save.new.self _ _ c.in-Some.image
+    (of_some c.args.image (IsOfRun (book_of c.args.self.now)) c.in-Some.image ours c.in-Some.is)
     c.save.ensures.any_moment
     (last_still (last_slot c.args.self.now.saver) (last_slot c.save.new.self)
     (g.D.Disk.seen c.args.disk.now).told (g.D.Disk.seen c.save.new.disk).told
@@ -88,7 +108,8 @@ returns-in-Err-Fault-clause-any_moment g c =
 
 pub returns-in-Err-Fault-clause-goes_on : goal.returns-in-Err-Fault-clause-goes_on
 returns-in-Err-Fault-clause-goes_on g c =
-    failed (IfSome c.args.image IsCovered) c.args.self.now c.save.new.self
+    failed (IfSome c.args.image IsCovered)
+    (IfSome c.args.image (IsOfRun (book_of c.args.self.now))) c.args.self.now c.save.new.self
     c.one_more-self-in-Err-Fault.result _ _
     c.one_more-self-in-Err-Fault.ensures.least c.one_more-self-in-Err-Fault.ensures.most
     c.one_more-self-in-Err-Fault.ensures.rises
@@ -97,6 +118,13 @@ returns-in-Err-Fault-clause-goes_on g c =
     c.in-Err-Fault.ensures.cause)
     (λ covers now. covered_failed c.args.self.now.saver c.save.new.self _ _ c.in-Some.image
     (of_some c.args.image IsCovered c.in-Some.image covers c.in-Some.is)
+    c.save.ensures.any_moment
+    (last_still (last_slot c.args.self.now.saver) (last_slot c.save.new.self)
+    (g.D.Disk.seen c.args.disk.now).told (g.D.Disk.seen c.save.new.disk).told
+    c.in-Err-Fault.ensures.err_last c.save.ensures.alone) now)
+    (λ ours now. found_failed (IsOfRun (book_of c.args.self.now)) c.args.self.now.saver
+    c.save.new.self _ _ c.in-Some.image
+    (of_some c.args.image (IsOfRun (book_of c.args.self.now)) c.in-Some.image ours c.in-Some.is)
     c.save.ensures.any_moment
     (last_still (last_slot c.args.self.now.saver) (last_slot c.save.new.self)
     (g.D.Disk.seen c.args.disk.now).told (g.D.Disk.seen c.save.new.disk).told
