@@ -22,7 +22,7 @@ use Rattle.ug_checkpoint.specs.Bodies.{Has, Stores}
 use Rattle.ug_checkpoint.proofs.Finding.{has_one}
 use Rattle.ug_checkpoint.specs.Recovery.{HasFound, Recovered, chosen}
 use Rattle.ug_checkpoint.specs.Savers.{CouldFind, IsLast, last_slot, sequence_of}
-use Rattle.ug_restart.specs.Openings.{IsNotSaved, IsSafeFirst}
+use Rattle.ug_restart.specs.Openings.{IsNotSaved, IsSafeFirst, WasFound}
 use Rattle.ug_restart.specs.Starts.{IsBegun, IsNotBegun, IsSafeStart, IsSpent, begun, sequence_in}
 use Rattle.ug_restart.specs.Books.{HasNoFirst, IsSaverOf}
 use Rattle.ug_restart.specs.declared.fault.StartFault.{StartFault}
@@ -210,3 +210,14 @@ not_saved old new NoCheckpoint not = absurd not
 not_saved old new (OtherProblem at kept read) not = absurd not
 not_saved old new (SmallerGap kept asked) not = absurd not
 not_saved old new Spent not = absurd not
+
+-- what was loaded was found by the whole call
+pub was_found : (P : List ℕ → List ℕ → Type 0) (old mid new : Option History)
+    (found : Option Found) → HasFound old mid found → Leaves (CouldLeave old) old mid
+    → Leaves P mid new → WasFound old new found
+was_found P old mid new found has before after = record {
+  mid = mid;
+  has = has;
+  before = before;
+  after = weakens P (λ zero one. Unit {0}) mid new (λ zero one is. tt) after;
+}

@@ -111,11 +111,6 @@ covered_kept p gap found best boxes problem low same kept covered =
     (subst (λ b. Covered p gap (one_kept found.image.best) (map (area_by (root_of p)) b)) (sym kept)
     (covered_on p gap found problem low covered))
 
--- what was loaded is Covered where all that recovery could find is
-pub covered_loaded : (old mid : Option History) (found : Found) → HasFound old mid (Some found)
-    → CoversWhatIsFound old → IsCovered found.image
-covered_loaded old mid found has covers = covers found (loaded_could old mid (Some found) has)
-
 -- why no book goes on from what was loaded is why the run does not
 pub not_next : (p : Instance) (settings : Settings) (old mid : Option History) (found : Found)
     (fault : StartFault) → HasFound old mid (Some found) → HasNoNext p settings found fault

@@ -1,10 +1,11 @@
 -- What stands on the disk when a run has begun.
-use Rattle.std.specs.Prelude.{◌≡◌, ◌⊎◌, ℕ, ◌+◌, List, Option, Some}
+use Rattle.std.specs.Prelude.{◌≡◌, ◌⊎◌, ℕ, ◌+◌, List, Option, Some, IfSome}
+use Rattle.ug_disk.specs.Crashes.{Leaves}
 use Rattle.ug_disk.specs.Histories.{History}
 use Rattle.ug_rules.specs.State.{BookState}
 use Rattle.ug_checkpoint.specs.declared.found.Found.{Found}
 use Rattle.ug_checkpoint.specs.declared.saver.Saver.{Saver}
-use Rattle.ug_checkpoint.specs.Recovery.{Recovered}
+use Rattle.ug_checkpoint.specs.Recovery.{HasFound, Recovered}
 use Rattle.ug_checkpoint.specs.Savers.{CouldFind, Finds, IsKept, IsLast, IsWritten}
 use Rattle.ug_checkpoint.specs.Savers.{last_slot, sequence_of}
 use Rattle.ug_checkpoint.specs.Runs.{CouldLeave}
@@ -25,13 +26,11 @@ pub record IsAcknowledgedStart (told : Option History) (book : BookState) (saver
   pub last : last_slot saver ≡ Some found.slot
   pub written : IsWritten found.slot found.image told
 
--- How a run starts: its book is one of these, and can be made of what it begins with; where it can be
--- trusted that is Covered; and an image of it is acknowledged, which the saver knows.
-pub record IsStart (Is : BookState → Type 0) (Trusted : Type 0) (told : Option History) (s : Start)
-    : Type 0 where
+-- How a run starts: its book is one of these, and can be made of what it begins with; and an image of
+-- it is acknowledged, which the saver knows.
+pub record IsStart (Is : BookState → Type 0) (told : Option History) (s : Start) : Type 0 where
   pub book : Is (opening_book s.opening)
   pub opening : IsOpening s.opening
-  pub covered : Trusted → IsCoveredOpening s.opening
   pub acknowledged : IsAcknowledgedStart told (opening_book s.opening) s.saver
   pub kept : IsKept s.saver told
 
@@ -53,8 +52,21 @@ IsNotSaved Memory = Unit {0}
 IsNotSaved DiskFault = Unit {0}
 IsNotSaved fault = ⊥
 
--- the image of a start has the sequence after that of an image that was found, or the first
-pub record IsOneAbove (told : Option History) (s : Start) : Type 0 where
+-- This was found, if anything was: at some moment between the two times the slots had bytes that a
+-- crash could have left at the first, a crash would have left just them, and recovery finds it there.
+pub record WasFound (old new : Option History) (found : Option Found) : Type 0 where
+  pub mid : Option History
+  pub has : HasFound old mid found
+  pub before : Leaves (CouldLeave old) old mid
+  pub after : Leaves (λ zero one. Unit {0}) mid new
+
+-- The start is made of the very image that was found: its book is such as begins there, and is
+-- Covered where that image was, or there is none; its own image has the sequence after that one, or
+-- the first.
+pub record IsFromFound (Is : Option Found → BookState → Type 0) (old new : Option History)
+    (s : Start) : Type 0 where
   pub found : Option Found
-  pub could : CouldFind told found
+  pub was : WasFound old new found
+  pub book : Is found (opening_book s.opening)
+  pub covered : IfSome found (λ f. IsCovered f.image) → IsCoveredOpening s.opening
   pub one : sequence_of s.saver ≡ sequence_in found + 1

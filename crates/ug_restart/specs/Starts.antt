@@ -1,6 +1,6 @@
 -- How a run begins on a disk, by what recovery finds there.
 use Rattle.std.specs.Prelude.{◌≡◌, ◌≢◌, ◌⊎◌, ℕ, ◌+◌, ◌≤◌, ◌<ℤ◌, ◌≤ℤ◌, ◌^◌, List, [], ◌∷◌, map, take}
-use Rattle.std.specs.Prelude.{slice_get, Option, None, Some}
+use Rattle.std.specs.Prelude.{slice_get, Option, None, Some, IsSomeAnd}
 use Rattle.ug_disk.specs.Histories.{History}
 use Rattle.ug_problem.specs.Instances.{Instance}
 use Rattle.ug_nodes.specs.declared.change.Change.{Change}
@@ -47,6 +47,13 @@ begun p settings found = started p (next_run found) None ([] ∷ []) settings
 abbrev pub gone_on : Instance → Settings → Found → BookState
 gone_on p settings found = started p (next_run (Some found)) found.image.best
     (boxes_saved found.image.nodes) settings
+
+-- the book begins where this was found, whatever it is, or goes on from it, where it is there
+abbrev pub BeginsAt : Instance → Settings → Option Found → BookState → Type 0
+BeginsAt p settings found book = book ≡ begun p settings found
+
+abbrev pub GoesOnFrom : Instance → Settings → Option Found → BookState → Type 0
+GoesOnFrom p settings found book = IsSomeAnd found (λ f. book ≡ gone_on p settings f)
 
 -- Two lists of bytes are the same up to this place, where they have these, of which one is past
 -- the end or which differ.

@@ -3,8 +3,8 @@ ghost use Rattle.ug_io.specs.Outside.{IsCountedBy};
 ghost use Rattle.ug_disk.specs.Crashes.{Leaves};
 ghost use Rattle.ug_rules.specs.Books.{AreSettings};
 ghost use Rattle.ug_restart.specs.Faults.{start_cause};
-ghost use Rattle.ug_restart.specs.Starts.{IsBegun, IsGoneOn, IsNotBegun, IsNotGoneOn, IsSafeStart};
-ghost use Rattle.ug_restart.specs.Openings.{CoversWhatIsFound, IsOneAbove, IsStart};
+ghost use Rattle.ug_restart.specs.Starts.{BeginsAt, GoesOnFrom, IsBegun, IsGoneOn, IsNotBegun, IsNotGoneOn, IsSafeStart};
+ghost use Rattle.ug_restart.specs.Openings.{IsFromFound, IsStart};
 
 use crate::books::{first_start, next_start};
 use crate::fault::StartFault;
@@ -34,8 +34,9 @@ pub fn begin<D: Disk>(
 ) -> Result<Start, StartFault>
     requires { AreSettings settings }
     ensures started { IfOk result (IsStart
-        (IsBegun problem settings (D.seen disk.old).told) (Unit {0}) (D.seen disk.new).told) }
-    ensures sequence { IfOk result (IsOneAbove (D.seen disk.old).told) }
+        (IsBegun problem settings (D.seen disk.old).told) (D.seen disk.new).told) }
+    ensures found { IfOk result (IsFromFound (BeginsAt problem settings)
+        (D.seen disk.old).told (D.seen disk.new).told) }
     ensures refused { IfErr result (IsNotBegun (D.seen disk.old).told (D.seen disk.new).told) }
     ensures any_moment { Leaves
         (IsSafeStart (D.seen disk.old).told (IsBegun problem settings (D.seen disk.old).told))
@@ -75,9 +76,10 @@ pub fn restart<D: Disk>(
     settings: Settings,
 ) -> Result<Start, StartFault>
     requires { AreSettings settings }
-    ensures started { IfOk result (IsStart (IsGoneOn problem settings (D.seen disk.old).told)
-        (CoversWhatIsFound (D.seen disk.old).told) (D.seen disk.new).told) }
-    ensures sequence { IfOk result (IsOneAbove (D.seen disk.old).told) }
+    ensures started { IfOk result (IsStart
+        (IsGoneOn problem settings (D.seen disk.old).told) (D.seen disk.new).told) }
+    ensures found { IfOk result (IsFromFound (GoesOnFrom problem settings)
+        (D.seen disk.old).told (D.seen disk.new).told) }
     ensures refused { IfErr result (IsNotGoneOn problem settings
         (D.seen disk.old).told (D.seen disk.new).told) }
     ensures any_moment { Leaves

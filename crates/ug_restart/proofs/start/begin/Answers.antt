@@ -2,8 +2,8 @@ use Rattle.std.proofs.Common.{ℕ, ◌+◌, IfErr, Result, ap, ◌∙◌, subst}
 use Rattle.ug_book.specs.Openings.{opening_book}
 use Rattle.ug_restart.specs.Openings.{IsNotSaved}
 use Rattle.ug_restart.specs.declared.fault.StartFault.{StartFault}
-use Rattle.ug_restart.specs.Starts.{IsBegun}
-use Rattle.ug_restart.proofs.Composes.{alone, beginning, both, loaded_could, not_saved, saver_last, saver_sequence}
+use Rattle.ug_restart.specs.Starts.{IsBegun, begun}
+use Rattle.ug_restart.proofs.Composes.{alone, beginning, both, not_saved, saver_last, saver_sequence, was_found}
 use Rattle.ug_restart.proofs.start.begin.Goals as goal
 
 pub returns-in-Err-clause-any_moment : goal.returns-in-Err-clause-any_moment
@@ -46,15 +46,18 @@ returns-in-Ok-save_first-clause-started g c = record {
       c.in-Ok.ensures.found c.as_ref.ensures.value c.in-Ok-started.ensures.room
       c.in-Ok-started.ensures.made.book;
   opening = c.in-Ok-started.ensures.made.opening;
-  covered = λ trusted. c.in-Ok-started.ensures.made.covered;
   acknowledged = c.in-Ok-save_first.ensures.acknowledged;
   kept = c.save_first.ensures.kept;
 }
 
-pub returns-in-Ok-save_first-clause-sequence : goal.returns-in-Ok-save_first-clause-sequence
-returns-in-Ok-save_first-clause-sequence g c = record {
+pub returns-in-Ok-save_first-clause-found : goal.returns-in-Ok-save_first-clause-found
+returns-in-Ok-save_first-clause-found g c = record {
   found = c.in-Ok.found;
-  could = loaded_could _ _ c.in-Ok.found c.in-Ok.ensures.found;
+  was = was_found _ _ _ _ c.in-Ok.found c.in-Ok.ensures.found c.load.ensures.any_moment
+      c.save_first.ensures.any_moment;
+  book = c.in-Ok-started.ensures.made.book
+      ∙ ap (begun c.args.problem c.args.settings) c.as_ref.ensures.value;
+  covered = λ trusted. c.in-Ok-started.ensures.made.covered;
   one = c.in-Ok-save_first.ensures.sequence
       ∙ ap (λ (n : ℕ). n + 1) (saver_sequence c.in-Ok.found _ c.in-Ok-started.start.saver
       c.as_ref.ensures.value c.in-Ok-started.ensures.made.saver);

@@ -2,8 +2,8 @@ use Rattle.std.proofs.Common.{ℕ, ◌+◌, Some, ap, ◌∙◌, subst}
 use Rattle.ug_checkpoint.specs.Recovery.{HasFound}
 use Rattle.ug_book.specs.Openings.{opening_book}
 use Rattle.ug_restart.specs.Starts.{IsGoneOn}
-use Rattle.ug_restart.proofs.Composes.{alone, both, loaded_could}
-use Rattle.ug_restart.proofs.Goings.{covered_loaded, going_on, image_of_loaded}
+use Rattle.ug_restart.proofs.Composes.{alone, both, was_found}
+use Rattle.ug_restart.proofs.Goings.{going_on, image_of_loaded}
 use Rattle.ug_restart.proofs.start.restart.Goals as goal
 
 pub returns-in-Err-clause-any_moment : goal.returns-in-Err-clause-any_moment
@@ -27,8 +27,6 @@ returns-in-Ok-save_first-clause-started g c =
       book = going_on c.args.problem c.args.settings _ _ c.in-Ok-Some.found
           (opening_book c.in-Ok.start.opening) has c.in-Ok.ensures.may c.in-Ok.ensures.made.book;
       opening = c.in-Ok.ensures.made.opening;
-      covered = λ covers.
-          c.in-Ok.ensures.made.covered (covered_loaded _ _ c.in-Ok-Some.found has covers);
       acknowledged = c.in-Ok-save_first.ensures.acknowledged;
       kept = c.save_first.ensures.kept;
     }
@@ -51,12 +49,15 @@ returns-in-Err-save_first-clause-any_moment g c =
     c.in-Ok.ensures.may c.in-Ok.ensures.made.book)
     c.load.ensures.any_moment c.save_first.ensures.any_moment
 
-pub returns-in-Ok-save_first-clause-sequence : goal.returns-in-Ok-save_first-clause-sequence
-returns-in-Ok-save_first-clause-sequence g c =
+pub returns-in-Ok-save_first-clause-found : goal.returns-in-Ok-save_first-clause-found
+returns-in-Ok-save_first-clause-found g c =
     let has = subst (HasFound _ _) c.in-Ok-Some.field-0-is c.in-Ok-Some.ensures.found in
     record {
       found = Some c.in-Ok-Some.found;
-      could = loaded_could _ _ (Some c.in-Ok-Some.found) has;
+      was = was_found _ _ _ _ (Some c.in-Ok-Some.found) has c.load.ensures.any_moment
+          c.save_first.ensures.any_moment;
+      book = c.in-Ok.ensures.made.book;
+      covered = c.in-Ok.ensures.made.covered;
       one = c.in-Ok-save_first.ensures.sequence
           ∙ ap (λ (n : ℕ). n + 1) c.in-Ok.ensures.made.saver.sequence;
     }
