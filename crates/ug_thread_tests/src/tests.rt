@@ -13,7 +13,7 @@ use std::sync::Wait;
 use std::thread::Threads;
 use ug_checkpoint::load;
 use ug_disk::MemoryDisk;
-use ug_restart::{End, Outcome};
+use ug_restart::{Attempt, End, Outcome};
 use ug_threads::Unobserved;
 
 // When rank 0 asks again, it has the root.
@@ -116,15 +116,16 @@ fn run_ends_at_its_limit(rt: HostRuntime) {
     }
 }
 
-// Whether a run on the disk finds the value, and misses no save.
+// Whether a run on the disk finds the value, misses no save, and tells that the last one was made.
 fn is_solved_on<R: Threads + Wait + Sync>(rt: &R, alloc: Global, disk: &mut MemoryDisk) -> bool {
     let Some(outcome) = solved_on(rt, alloc, &KNAPSACK, disk) else {
         return false;
     };
     let answer = answer_of(&outcome);
     let missed = (outcome.missed, outcome.unsaved);
+    let last = outcome.last;
     drop(outcome);
-    answer == Answer::Value(-13) && missed == (0, 0)
+    answer == Answer::Value(-13) && missed == (0, 0) && last == Some(Attempt::Saved)
 }
 
 // Whether recovery finds the book of a first run that has ended with a best point.
