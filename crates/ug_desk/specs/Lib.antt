@@ -9,3 +9,4 @@ pub mod Entries
 pub mod Passes
 pub mod Views
 pub mod DeskStates
+pub mod Widths

@@ -1,4 +1,4 @@
-ghost use Rattle.std.specs.Prelude.{◌≡◌, ℕ, ◌<◌, [], length, slice_index, IfOk};
+ghost use Rattle.std.specs.Prelude.{◌≡◌, ◌↔◌, ℕ, ◌<◌, [], length, slice_index, IsOk, IfOk};
 ghost use Rattle.ug_book.specs.Openings.{IsOpening};
 
 use crate::locked::Locked;
@@ -25,10 +25,13 @@ pub struct Desk {
 }
 
 impl Desk {
+    ghost use Rattle.ug_desk.specs.Widths.{width_of};
+
     /// A desk over the book that starts with the opening, and a pass for each of its ranks.
     pub fn new(alloc: Global, opening: Opening) -> Result<(Desk, Vec<Pass>), AllocError>
         requires { IsOpening opening }
         ensures count { IfOk result (λ made. length made.1.items ≡ opening.settings.solvers) }
+        ensures width { IfOk result (λ made. width_of made.0 ≡ opening.settings.solvers) }
         ensures each { IfOk result (λ made. (r : ℕ) → r < length made.1.items
             → slice_index made.1.items r ≡ r) }
     {
@@ -50,7 +53,9 @@ impl Desk {
     }
 
     // The desk of what is to be behind its lock, with so many passes.
-    fn over(locked: Locked, passes: u32) -> Desk {
+    fn over(locked: Locked, passes: u32) -> Desk
+        ensures { width_of result ≡ passes }
+    {
         Desk {
             lock: Mutex::new(locked),
             stirred: Mutex::new(0),
@@ -138,7 +143,9 @@ impl Desk {
     }
 
     /// What is behind the lock, where all passes are handed in. Else all is handed back.
-    pub fn close(self, passes: Vec<Pass>) -> Result<Locked, (Desk, Vec<Pass>)> {
+    pub fn close(self, passes: Vec<Pass>) -> Result<Locked, (Desk, Vec<Pass>)>
+        ensures { IsOk result ↔ (length passes.items ≡ width_of self) }
+    {
         if passes.len() != self.passes as usize {
             return Err((self, passes));
         }

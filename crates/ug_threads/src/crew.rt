@@ -1,5 +1,7 @@
 //! The threads of a solve, one for each pass.
 
+ghost use Rattle.std.specs.Prelude.{◌≡◌, length, IfOk};
+
 use crate::desk_seat::DeskSeat;
 use crate::host::Host;
 use crate::observer::Observer;
@@ -12,7 +14,9 @@ use ug_snapshot::Snapshot;
 use ug_worker::work;
 
 /// The passes, each where its thread finds it.
-pub fn places(alloc: Global, passes: Vec<Pass>) -> Result<Vec<Mutex<Pass>>, AllocError> {
+pub fn places(alloc: Global, passes: Vec<Pass>) -> Result<Vec<Mutex<Pass>>, AllocError>
+    ensures { IfOk result (λ places. length places.items ≡ length passes.items) }
+{
     let mut places = Vec::with_capacity(alloc, passes.len())?;
     for pass in passes {
         places.push(Mutex::new(pass))?;
@@ -21,7 +25,9 @@ pub fn places(alloc: Global, passes: Vec<Pass>) -> Result<Vec<Mutex<Pass>>, Allo
 }
 
 /// The passes again.
-pub fn passes(alloc: Global, places: Vec<Mutex<Pass>>) -> Result<Vec<Pass>, AllocError> {
+pub fn passes(alloc: Global, places: Vec<Mutex<Pass>>) -> Result<Vec<Pass>, AllocError>
+    ensures { IfOk result (λ passes. length passes.items ≡ length places.items) }
+{
     let mut passes = Vec::with_capacity(alloc, places.len())?;
     for place in places {
         passes.push(place.into_inner())?;

@@ -1,6 +1,6 @@
 //! How a run has ended, by its book.
 
-ghost use Rattle.std.specs.Prelude.{◌≡◌, ◌↔◌, [], Some, IfSome, IsTrue};
+ghost use Rattle.std.specs.Prelude.{◌≡◌, ◌≢◌, ◌↔◌, [], Some, IsTrue, MatchOption};
 ghost use Rattle.ug_rules.specs.State.{held_nodes};
 ghost use Rattle.ug_rules.specs.Books.{IsSoundBook};
 ghost use Rattle.ug_threads.specs.Ends.{HasFeasible, IfAnswered, IfBook, IfLimited, IsEnding, IsLimited, IsRight, IsStranded};
@@ -11,7 +11,7 @@ use ug_restart::End;
 
 /// The book of what was behind a lock, if it began with this opening.
 pub fn of_opening(locked: Locked, opening: &Opening) -> Option<Book>
-    ensures { IfSome result (IsEnding opening.now) }
+    ensures { MatchOption result (locked.opening ≢ opening.now) (IsEnding opening.now) }
 {
     if !locked.opening().is(opening) {
         drop(locked);

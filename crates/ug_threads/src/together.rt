@@ -1,7 +1,8 @@
 //! A solve by threads that share a desk.
 
-ghost use Rattle.std.specs.Prelude.{IfSome};
+ghost use Rattle.std.specs.Prelude.{◌≡◌, length, IfOk, IfSome};
 ghost use Rattle.ug_book.specs.Openings.{IsOpening};
+ghost use Rattle.ug_desk.specs.Widths.{width_of};
 ghost use Rattle.ug_threads.specs.Ends.{IsEnding};
 
 use crate::alone::alone;
@@ -29,30 +30,10 @@ pub struct Solved<T> {
     pub listener: T,
 }
 
-/// Solves by threads. Where there is no desk, or what was behind its lock began with another
-/// opening, which the lock's type does not rule out, the caller solves alone, from the opening.
+/// Solves by threads. There is no book where memory is wanting for the desk, for its threads or to
+/// close it. Where what was behind its lock began with another opening, which the lock's type does not
+/// rule out, the caller solves alone, from the opening.
 pub fn solve<R: Threads + Wait + Sync, O: Observer, T: Listener + Drop>(
-    host: &Host<'_, R, O>,
-    opening: &Opening,
-    every: Option<u64>,
-    listener: T,
-) -> Solved<T>
-    requires opening { IsOpening opening.now }
-    requires ready { T.ready listener }
-    ensures ended { IfSome result.book (IsEnding opening.now) }
-    ensures ready { T.ready result.listener }
-    ensures moves { T.moves listener result.listener }
-{
-    let Solved { book, listener } = at_desk(host, opening, every, listener);
-    let book = match book {
-        Some(book) => Some(book),
-        None => alone(host.rt, host.alloc, opening),
-    };
-    Solved { book, listener }
-}
-
-// Solves by threads at a desk. There is no book where memory is wanting for desk or threads.
-fn at_desk<R: Threads + Wait + Sync, O: Observer, T: Listener + Drop>(
     host: &Host<'_, R, O>,
     opening: &Opening,
     every: Option<u64>,
@@ -82,10 +63,12 @@ fn at_desk<R: Threads + Wait + Sync, O: Observer, T: Listener + Drop>(
         every,
     };
     let listener = run(host, table, sender, &receiver, listener);
-    Solved {
-        book: closed(host.alloc, desk, places, opening),
-        listener,
-    }
+    let book = match closed(host.alloc, desk, places, opening) {
+        Ok(Some(book)) => Some(book),
+        Ok(None) => alone(host.rt, host.alloc, opening),
+        Err(_) => None,
+    };
+    Solved { book, listener }
 }
 
 // What threads share.
@@ -103,8 +86,10 @@ struct Seating {
     receiver: Receiver<Snapshot>,
 }
 
+// The desk has a place for each of its passes.
 fn make_room(alloc: Global, opening: &Opening) -> Result<Room, AllocError>
     requires { IsOpening opening.now }
+    ensures { IfOk result (λ room. length room.seating.places.items ≡ width_of room.desk) }
 {
     let (desk, passes) = Desk::new(alloc, opening.copy()?)?;
     match make_seating(alloc, passes) {
@@ -116,7 +101,9 @@ fn make_room(alloc: Global, opening: &Opening) -> Result<Room, AllocError>
     }
 }
 
-fn make_seating(alloc: Global, passes: Vec<Pass>) -> Result<Seating, AllocError> {
+fn make_seating(alloc: Global, passes: Vec<Pass>) -> Result<Seating, AllocError>
+    ensures { IfOk result (λ seating. length seating.places.items ≡ length passes.items) }
+{
     let places = places(alloc, passes)?;
     match bounded(alloc, WAITING) {
         Ok((sender, receiver)) => Ok(Seating {
@@ -157,19 +144,26 @@ fn run<R: Threads + Wait + Sync, O: Observer, T: Listener + Drop>(
     )
 }
 
-// The book of a desk that is closed, if it began with this opening.
-fn closed(alloc: Global, desk: Desk, places: Vec<Mutex<Pass>>, opening: &Opening) -> Option<Book>
-    ensures { IfSome result (IsEnding opening.now) }
+// The book of a desk that is closed, with a place for each of its passes, if it began with this
+// opening.
+fn closed(
+    alloc: Global,
+    desk: Desk,
+    places: Vec<Mutex<Pass>>,
+    opening: &Opening,
+) -> Result<Option<Book>, AllocError>
+    requires { length places.items ≡ width_of desk }
+    ensures { IfOk result (λ book. IfSome book (IsEnding opening.now)) }
 {
-    let Ok(passes) = passes(alloc, places) else {
-        drop(desk);
-        return None;
+    let passes = match passes(alloc, places) {
+        Ok(passes) => passes,
+        Err(error) => {
+            drop(desk);
+            return Err(error);
+        }
     };
     match desk.close(passes) {
-        Ok(locked) => of_opening(locked, opening),
-        Err(all) => {
-            drop(all);
-            None
-        }
+        Ok(locked) => Ok(of_opening(locked, opening)),
+        Err(_) => unreachable!(),
     }
 }
