@@ -30,8 +30,10 @@ pub fn state(
     ensures sound { IsSoundBook book.old → IsSoundBook book.new }
 {
     note(book, rank, ticket, left, floor);
-    move_on(book, rank)?;
-    Ok(reply(book, rank, ticket))
+    match move_on(book, rank) {
+        Ok(()) => Ok(reply(book, rank, ticket)),
+        Err(unfinished) => Err(unfinished),
+    }
 }
 
 // The book hears what is left.
