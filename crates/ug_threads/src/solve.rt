@@ -158,7 +158,8 @@ fn parted<'a, D>(concluded: Concluded<'a, D>) -> (Outcome, &'a mut D)
     ensures disk { result.1.now ≡ concluded.entry.kept.disk.now }
 {
     let Concluded { outcome, kept } = concluded;
-    let Saving { disk, .. } = kept;
+    let Saving { saves, disk, .. } = kept;
+    drop(saves);
     (outcome, disk)
 }
 
