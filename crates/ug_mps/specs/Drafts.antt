@@ -1,5 +1,5 @@
 -- What the reader keeps of the lines so far.
-use Rattle.std.specs.Prelude.{◌≡◌, ℕ, ◌≤◌, ◌||◌, not, Bool, true, false, if◌then◌else◌, List, []}
+use Rattle.std.specs.Prelude.{◌≡◌, ℕ, ◌+◌, ◌≤◌, ◌||◌, not, Bool, true, false, if◌then◌else◌, List, []}
 use Rattle.std.specs.Prelude.{◌∷◌, ◌++◌, length, Option, Some, None, Result, IfSome, MatchResult, ⊤}
 use Rattle.std.specs.List.{list_any}
 use Rattle.std.specs.Option.{option_map}
@@ -15,7 +15,9 @@ use Rattle.ug_drafts.specs.declared.row.RowPart.TheVariants as parts
 use Rattle.ug_drafts.specs.FirstFaults.{fault_at}
 use Rattle.ug_mps.specs.declared.draft.Draft.{Draft}
 use Rattle.ug_mps.specs.BoundWords.{amount_of}
-use Rattle.ug_mps.specs.Entries.{Entry}
+use Rattle.ug_mps.specs.declared.draft.columns.ColumnPlace.{ColumnPlace}
+use Rattle.ug_mps.specs.declared.draft.rows.RowPlaces.{RowPlaces}
+use Rattle.ug_mps.specs.Entries.{Entry, Pair}
 use Rattle.ug_mps.specs.Faults.{Complaint, or_fault, fault_where, may_stand, is_other, is_ranges}
 use Rattle.ug_lines.specs.Kinds.{sense_of_word}
 use Rattle.ug_lines.specs.declared.section.Section.TheVariants as sections
@@ -25,7 +27,8 @@ use Rattle.ug_mps.specs.Good.{Good}
 use Rattle.ug_mps.specs.History.{section_of, is_section, has_section, has_sense, is_maximised}
 use Rattle.ug_mps.specs.History.{rows_of, have_objective, is_integer_on, coefficients, set_of}
 use Rattle.ug_mps.specs.Rows.{lists_of, AreRows}
-use Rattle.ug_mps.specs.Columns.{AreColumns}
+use Rattle.ug_mps.specs.RowSteps.{PutsPairs, places_in}
+use Rattle.ug_mps.specs.Columns.{AreColumns, OpensColumn}
 
 -- the draft keeps what the good history h says
 pub record Drafts (h : List Entry) (d : Draft) : Type 0 where
@@ -96,6 +99,18 @@ IsWorded (column name pairs) = IsName name × AreShortNumbers pairs
 IsWorded (sides set pairs) = AreShortNumbers pairs
 IsWorded (bound kind set name number) = IfSome number (λ word. length word ≤ 255)
 IsWorded shape = Unit {0}
+
+-- the pairs of a column's line were put into the rows at these places, and a column was opened
+-- where one begins
+pub record PutsColumn (n : ℕ) (name : List ℕ) (place : ColumnPlace) (places : RowPlaces)
+    (pairs : List Pair) (old new : Draft) : Type 0 where
+  pub opened : OpensColumn n name old.integer place.new old.columns new.columns
+  pub put : PutsPairs (parts.Coefficient place.at) pairs (places_in places) old.rows new.rows
+  pub rest : new ≡ record old {
+    columns = new.columns;
+    rows = new.rows;
+    count = old.count + length pairs;
+  }
 
 -- a section has begun: it is the latest, and uses no set yet
 pub record Begins (s : Section) (old new : Draft) : Type 0 where

@@ -1,13 +1,18 @@
-ghost use Rattle.std.specs.Prelude.{◌≡◌, ◌≤◌, ◌+◌, ◌||◌, nat_le, nat_lt, true};
+ghost use Rattle.std.specs.Prelude.{◌≡◌, ◌≤◌, ◌<◌, ◌+◌, ◌||◌, length, nat_le, nat_lt, true, IsTrue, OnOk};
 ghost use Rattle.ug_lines.specs.Shapes.{column};
 ghost use Rattle.ug_lines.specs.Shaped.{pairs_shaped};
 ghost use Rattle.ug_problem.specs.Instances.{IsName};
-ghost use Rattle.ug_mps.specs.Drafts.{TakesShape, belongs};
-ghost use Rattle.ug_mps.specs.Numbered.{AreShortNumbers};
+ghost use Rattle.ug_mps.specs.Drafts.{PutsColumn, TakesShape, belongs};
+ghost use Rattle.ug_mps.specs.Columns.{IsNew};
+ghost use Rattle.ug_mps.specs.Numbered.{AreShortNumbers, pairs_said};
+ghost use Rattle.ug_mps.specs.RowSteps.{AreAt, places_in, rows_named};
 
 use crate::draft::Draft;
+use crate::draft::columns::ColumnPlace;
+use crate::draft::rows::RowPlaces;
 use crate::error::{bare_fault, fault_of};
-use crate::pairs::numbers_of;
+use crate::pairs::{NamedNumbers, numbers_of};
+use std::alloc::AllocError;
 use ug_drafts::{Kind, MpsError, RowPart};
 use ug_lines::NamedWords;
 use ug_problem::{MOST_COLUMNS, MOST_TERMS};
@@ -18,6 +23,13 @@ fn is_full(at: u32, count: u32, more: u32) -> bool
     ensures { result ≡ (nat_le 10000 at || nat_lt 1000000 (count + more)) }
 {
     at as usize >= MOST_COLUMNS || count as usize > MOST_TERMS - more as usize
+}
+
+// The pairs of a column with their numbers, and where their rows are.
+#[derive(Clone, Copy)]
+struct Placed<'a> {
+    places: RowPlaces,
+    numbers: NamedNumbers<'a>,
 }
 
 impl Draft {
@@ -49,10 +61,31 @@ impl Draft {
         if is_full(place.at, self.count, count) {
             return Err(bare_fault(line, Kind::TooMany));
         }
+        self.put_column(line, name, place, Placed { places, numbers })?;
+        Ok(())
+    }
+
+    // Takes the pairs of a column whose place this is, each at the place of its row.
+    fn put_column(
+        &mut self,
+        line: u64,
+        name: &[u8],
+        place: ColumnPlace,
+        pairs: Placed<'_>,
+    ) -> Result<(), AllocError>
+        requires new { IsTrue place.new → IsNew self.old.columns.names name.now place.at }
+        requires room { place.at < 10000 }
+        requires few { self.old.count + length (pairs_said pairs.numbers) ≤ 1000000 }
+        requires stand { AreAt self.old.rows.names (rows_named (pairs_said pairs.numbers))
+            (places_in pairs.places) }
+        ensures put { OnOk result (PutsColumn line name.now place pairs.entry.places
+            (pairs_said pairs.entry.numbers) self.old self.new) }
+    {
         self.columns
             .open(self.alloc, place, name, line, self.integer)?;
-        self.rows.put_pairs(part, places, &numbers)?;
-        self.count += count;
+        let part = RowPart::Coefficient(place.at);
+        self.rows.put_pairs(part, pairs.places, &pairs.numbers)?;
+        self.count += pairs.numbers.count();
         Ok(())
     }
 }

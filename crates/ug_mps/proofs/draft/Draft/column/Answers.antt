@@ -1,4 +1,4 @@
-use Rattle.std.proofs.Common.{◌∙◌, sym, refl, subst}
+use Rattle.std.proofs.Common.{◌∙◌, sym, subst}
 use Rattle.ug_lines.specs.declared.section.Section.TheVariants as sections
 use Rattle.ug_lines.specs.Shaped.{pairs_shaped}
 use Rattle.ug_mps.specs.RowSteps.{AreAt, places_in}
@@ -39,8 +39,8 @@ returns-then-is_full c = λ h d.
     (sym (column_full h c.args.self.now d c.args.name.now (pairs_shaped c.args.pairs.now) c.in-Some.place.at (places_in c.in-Ok.places) c.in-Ok.ensures.value.0 place.0 place.1 c.in-Ok.ensures.value.1
     c.in_default-repeated.ensures c.count-count.result read.0 (c.count-count.ensures.value ∙ read_count (pairs_shaped c.args.pairs.now) _ read.1.0) (sym c.if-is_full.true ∙ c.is_full.ensures))) c.bare_fault.ensures
 
-pub put_pairs-requires : goal.put_pairs-requires
-put_pairs-requires c =
+pub put_column-requires-clause-stand : goal.put_column-requires-clause-stand
+put_column-requires-clause-stand c =
     subst (λ rs. AreAt c.args.self.now.rows.names rs (places_in c.in-Ok.places)) (sym (read_rows (pairs_shaped c.args.pairs.now) _ c.in-Ok-numbers_of.ensures.value.1.0)) c.in-Ok.ensures.value.1
 
 pub returns : goal.returns
@@ -52,6 +52,7 @@ returns c = λ h d.
       column_good h c.args.self.now d c.args.name.now (pairs_shaped c.args.pairs.now) c.in-Some.place.at (places_in c.in-Ok.places) c.in-Ok.ensures.value.0 place.0 place.1 c.in-Ok.ensures.value.1
           c.in_default-repeated.ensures c.count-count.result read.0 count room,
       drafts_and_column h c.args.self.now d c.args.name.now (pairs_shaped c.args.pairs.now) c.in-Some.place.at (places_in c.in-Ok.places) c.in-Ok.ensures.value.0 place.0 place.1 c.in-Ok.ensures.value.1
-          c.in_default-repeated.ensures c.args.line _ c.count-count.result c.in-Some.place.new c.open.new.self c.put_pairs.new.self _ read.1.0 count room c.requires.name read.1.1
-          (in_section sections.Columns c.args.self.now.section c.requires.section) place.2 c.in_ok-open.ensures c.in_ok-put_pairs.ensures refl,
+          c.in_default-repeated.ensures c.args.line _ c.count-count.result c.in-Some.place.new c.put_column.new.self.columns c.put_column.new.self.rows _ read.1.0 count room c.requires.name read.1.1
+          (in_section sections.Columns c.args.self.now.section c.requires.section) place.2 c.in_ok-put_column.ensures.put.opened c.in_ok-put_column.ensures.put.put
+          (rw (sym c.count-count.ensures.value) at c.in_ok-put_column.ensures.put.rest),
     )
