@@ -6,7 +6,7 @@
 //! `UG_PROGRESS` set, how it gets on.
 #![tactic(auto)]
 
-ghost use Rattle.std.specs.Prelude.{◌⊎◌};
+ghost use Rattle.std.specs.Prelude.{◌≡◌, ◌⊎◌};
 ghost use Rattle.ug_cli.specs.Taken.{texts};
 ghost use Rattle.ug_top.specs.Outside.{outside};
 ghost use Rattle.ug_main.specs.Files.{HasRunOnFiles, IsUnbegun};
@@ -90,6 +90,19 @@ struct Job<'a> {
     paths: Paths<'a>,
 }
 
+// The folder of checkpoints, which is read alone where its checkpoint is shown.
+fn disk_of<'a, R>(rt: &'a R, paths: Paths<'a>) -> FileDisk<'a, R>
+where
+    R: Files<File = File> + AllocGlobal,
+    ensures { result.faults.count ≡ 0 }
+{
+    if paths.is_shown {
+        FileDisk::reading(rt, rt.alloc(), paths.folder)
+    } else {
+        FileDisk::new(rt, rt.alloc(), paths.folder)
+    }
+}
+
 // Does what the words ask for, with these files.
 fn work<R>(rt: &R, words: &[String], paths: Paths<'_>, is_told: bool) -> Status
 where
@@ -98,11 +111,7 @@ where
 {
     let mut input = Reader::new(rt, paths.file);
     let mut out = Writer::new(io::writer(rt));
-    let mut disk = if paths.is_shown {
-        FileDisk::reading(rt, rt.alloc(), paths.folder)
-    } else {
-        FileDisk::new(rt, rt.alloc(), paths.folder)
-    };
+    let mut disk = disk_of(rt, paths);
     let observer = Teller::new(rt, is_told);
     let host = Host {
         rt,
