@@ -7,3 +7,4 @@ mod numbers;
 mod orders;
 mod reports;
 mod sides;
+mod streams;
