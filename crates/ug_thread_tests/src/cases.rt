@@ -47,6 +47,17 @@ pub const ODD: Small<'static> = Small {
     objective: &[],
 };
 
+/// Twice the sum of twenty columns is not 21, which takes a long search to find.
+pub const LONG: Small<'static> = Small {
+    columns: &[(0, 1); 20],
+    rows: &[SmallRow {
+        low: Some(21),
+        high: Some(21),
+        factors: &[2; 20],
+    }],
+    objective: &[],
+};
+
 /// Four things that are taken or not: the best is the last alone, with 93.
 pub const CHOICE: Small<'static> = Small {
     columns: &[(0, 1), (0, 1), (0, 1), (0, 1)],

@@ -1,5 +1,5 @@
 use crate::answer::{Answer, answer_of};
-use crate::cases::{CHOICE, KNAPSACK, ODD, RAMP, SQUARE};
+use crate::cases::{CHOICE, KNAPSACK, LONG, ODD, RAMP, SQUARE};
 use crate::expect::{holds, holds_at, same};
 use crate::family::Member;
 use crate::holding::HoldingObserver;
@@ -37,6 +37,31 @@ fn two_threads_overlap(rt: HostRuntime) {
     holds(&rt, outcome.as_ref().is_some_and(two_have_found_it));
     drop(outcome);
     same(&rt, &observer.missed(), &0);
+    drop(observer);
+}
+
+// Whether a run that was cut short holds the root and a node below it.
+fn two_are_held(outcome: &Outcome) -> bool {
+    let End::Limited(book) = &outcome.end else {
+        return false;
+    };
+    match book.held() {
+        Ok(nodes) => {
+            let count = nodes.len();
+            drop(nodes);
+            count > 1
+        }
+        Err(_) => false,
+    }
+}
+
+// Rank 0 has the root, and is asked for a node once rank 1 waits for one.
+#[test]
+fn node_is_handed_to_a_rank_that_waits(rt: HostRuntime) {
+    let observer = HoldingObserver::new(rt.alloc(), 2, &each_waits()).expect(&rt, "memory");
+    let outcome = solved_without(&rt, rt.alloc(), &LONG, settings(2, false, 60), &observer);
+    holds(&rt, outcome.as_ref().is_some_and(two_are_held));
+    drop(outcome);
     drop(observer);
 }
 
