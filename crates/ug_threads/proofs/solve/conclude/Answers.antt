@@ -1,12 +1,19 @@
 use Rattle.std.proofs.Common.{refl}
 use Rattle.ug_book.specs.Openings.{opening_book}
+use Rattle.ug_restart.specs.declared.outcome.Outcome.{Outcome}
 use Rattle.ug_threads.proofs.Endings.{has_ended}
 use Rattle.ug_threads.proofs.Outcomes.{both_go, saved_or_counted}
 use Rattle.ug_threads.proofs.solve.conclude.Goals as goal
 
 pub returns-clause-saved : goal.returns-clause-saved
 returns-clause-saved g c =
-    saved_or_counted c.result.outcome c.end_of-end.result c.save_end-last.result _ _
+    let outcome : Outcome = record {
+      end = c.end_of-end.result;
+      missed = c.missed-missed.result;
+      unsaved = c.unsaved-unsaved.result;
+      last = c.save_end-last.result;
+    } in
+    saved_or_counted outcome c.end_of-end.result c.save_end-last.result _ _
     c.missed-missed.ensures c.unsaved-unsaved.ensures c.save_end-last.ensures.became
 
 pub returns-clause-ended : goal.returns-clause-ended
