@@ -4,11 +4,14 @@ use Rattle.std.proofs.lemmas.Bool.{cases_lt}
 use Rattle.ug_disk.specs.Histories.{DiskSeen, History}
 use Rattle.ug_disk.specs.Crashes.{Leaves, MayLeaveBoth}
 use Rattle.ug_disk.proofs.Moments.{starts, weakens}
+use Rattle.ug_checkpoint.specs.Causes.{load_cause}
 use Rattle.ug_checkpoint.specs.Runs.{CouldLeave}
+use Rattle.ug_checkpoint.specs.declared.error.LoadError.{LoadError}
+use Rattle.ug_restart.proofs.Causes.{not_loaded}
 use Rattle.ug_io.specs.Outside.{Rose}
 use Rattle.ug_rules.specs.State.{BookState}
 use Rattle.ug_restart.proofs.Going.{rose_rises}
-use Rattle.ug_restart.specs.Faults.{start_cause}
+use Rattle.ug_restart.specs.Faults.{fault_of_load, start_cause}
 use Rattle.ug_restart.specs.declared.fault.StartFault.{StartFault}
 use Rattle.ug_restart.specs.declared.fault.StartFault.TheVariants as faults
 use Rattle.ug_restart.specs.declared.outcome.Outcome.{Outcome}
@@ -200,3 +203,12 @@ image_stored image (Refused refusal text) old new t calm leaves = absurd t
 image_stored image ReadFault old new t calm leaves = absurd t
 image_stored image Memory old new t calm leaves =
     memory old new (omega (arith, calm)) (load_covered old.told new.told leaves)
+
+-- where nothing is loaded, the same is said of the start that stands for it
+pub load_stored : (error : LoadError) (e : Ended) (old new : DiskSeen)
+    → TellsFault (fault_of_load error) e → load_cause error old.faults new.faults
+    → Leaves (CouldLeave old.told) old.told new.told → IsStored old new (status_of e)
+load_stored error e old new t cause leaves =
+    fault_stored (fault_of_load error) e old new t
+    (not_loaded error (fault_of_load error) old.faults new.faults refl cause)
+    (load_covered old.told new.told leaves)

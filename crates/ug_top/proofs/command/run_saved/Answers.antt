@@ -3,7 +3,7 @@ use Rattle.ug_problem.specs.Instances.{Instance}
 use Rattle.ug_rules.specs.declared.settings.Settings.{Settings}
 use Rattle.ug_disk.specs.Crashes.{Leaves}
 use Rattle.ug_restart.specs.Starts.{IsBegun, IsSafeStart}
-use Rattle.ug_top.specs.Runs.{IsSavedRun}
+use Rattle.ug_top.specs.Runs.{IsKeptOn, IsSavedRun}
 use Rattle.ug_top.specs.Plans.{settings_for}
 use Rattle.ug_top.specs.Ends.{HasNotBegun, HasRunSaved}
 use Rattle.ug_top.proofs.Stored.{fault_stored, kept_stored}
@@ -23,7 +23,8 @@ returns-in-Ok-clause-run g c =
     (record {
       ran = subst (λ (s : Settings). IsSavedRun c.args.problem s old.told c.in-Ok.outcome) is
           c.in-Ok.ensures.ran;
-      kept = c.in-Ok.ensures.kept;
+      kept = subst (λ (s : Settings). IsKeptOn (IsBegun c.args.problem s old.told) c.in-Ok.outcome
+          old new) is c.in-Ok.ensures.kept;
     })
     c.tell_outcome-ended.ensures
 
