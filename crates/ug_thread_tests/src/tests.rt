@@ -3,7 +3,7 @@ use crate::cases::{CHOICE, KNAPSACK, LONG, ODD, RAMP, SQUARE};
 use crate::expect::{holds, holds_at, same};
 use crate::family::Member;
 use crate::holding::HoldingObserver;
-use crate::observers::each_waits;
+use crate::observers::{each_waits, one_asks_again};
 use crate::problems::Small;
 use crate::solving::{settings, solved, solved_on, solved_without, sound_disk};
 use crate::trying::least_by_trying;
@@ -58,9 +58,10 @@ fn two_are_held(outcome: &Outcome) -> bool {
 // Rank 0 has the root, and is asked for a node once rank 1 waits for one.
 #[test]
 fn node_is_handed_to_a_rank_that_waits(rt: HostRuntime) {
-    let observer = HoldingObserver::new(rt.alloc(), 2, &each_waits()).expect(&rt, "memory");
+    let observer = HoldingObserver::new(rt.alloc(), 2, &one_asks_again()).expect(&rt, "memory");
     let outcome = solved_without(&rt, rt.alloc(), &LONG, settings(2, false, 60), &observer);
     holds(&rt, outcome.as_ref().is_some_and(two_are_held));
+    same(&rt, &observer.missed(), &0);
     drop(outcome);
     drop(observer);
 }
