@@ -1,2 +1,4 @@
 pub mod Outside
 pub mod Scripted
+pub mod Links
+pub mod LinkMemories

@@ -1,6 +1,6 @@
 -- What a scripted form shows: its faults, and the bytes that a sink has.
 use Rattle.std.specs.Prelude.{ℕ, List}
-use Rattle.ug_io.specs.declared.memory.Script.{Script}
+use Rattle.ug_io.specs.declared.script.Script.{Script}
 use Rattle.ug_io.specs.declared.memory.MemorySink.{MemorySink}
 
 -- how many calls failed

@@ -1,0 +1,182 @@
+//! A link in memory: for tests, and for whoever has the bytes already.
+
+ghost use Rattle.std.specs.Prelude.{◌≡◌, ◌<◌, ◌++◌, [], true, false, length, IsTrue, IfOk, OnOk, OnErr};
+ghost use Rattle.ug_io.specs.Outside.{IsCounted};
+ghost use Rattle.ug_io.specs.Links.{HasRead, IsSilent, heard, told};
+
+use crate::link::{Got, Link, Said};
+use crate::outside::Failed;
+use crate::script::Script;
+use std::alloc::{AllocError, Global};
+
+/// Pieces in memory as a link, which keeps what was heard and told. It fails where its script says,
+/// or memory is wanting.
+#[derive(Drop)]
+pub struct MemoryLink<'a> {
+    alloc: Global,
+    // What is left of the piece that comes.
+    piece: &'a [u8],
+    // The pieces behind it.
+    rest: &'a [&'a [u8]],
+    said: Vec<Said>,
+    ended: bool,
+    script: Script,
+}
+
+impl<'a> MemoryLink<'a> {
+    ghost use Rattle.ug_io.specs.Scripted.{faults_of};
+    ghost use Rattle.ug_io.specs.LinkMemories.{left_of, said_of, seen_of};
+
+    /// A link over which these pieces come, and then the end. An empty piece is a gap: a read that
+    /// does not wait finds nothing there, once. Nothing was said yet.
+    pub fn new(alloc: Global, pieces: &'a [&'a [u8]], script: Script) -> MemoryLink<'a>
+        ensures { said_of result ≡ [] }
+    {
+        MemoryLink {
+            alloc,
+            piece: &[],
+            rest: pieces,
+            said: Vec::new(alloc),
+            ended: false,
+            script,
+        }
+    }
+
+    /// What was heard and told.
+    pub fn said(&self) -> &[Said]
+        ensures { result.now ≡ said_of self.now }
+    {
+        self.said.as_slice()
+    }
+
+    // Passes over a gap, if one comes next.
+    fn pass_gap(&mut self) -> bool
+        ensures { seen_of self.new ≡ seen_of self.old }
+    {
+        if !self.piece.is_empty() || self.rest.is_empty() || !self.rest[0].is_empty() {
+            return false;
+        }
+        self.rest = &self.rest[1..];
+        true
+    }
+
+    // Goes on to a piece of which something is left, if there is one.
+    fn go_on(&mut self) -> bool
+        ensures seen { seen_of self.new ≡ seen_of self.old }
+        ensures some { IsTrue result → 0 < left_of self.new }
+    {
+        if !self.piece.is_empty() {
+            return true;
+        }
+        let Some(at) = self.rest.iter().position(|piece| !piece.is_empty()) else {
+            return false;
+        };
+        self.piece = self.rest[at];
+        self.rest = &self.rest[at + 1..];
+        true
+    }
+
+    // Hears the front of the piece that comes.
+    fn hear(&mut self, buffer: &mut [u8]) -> Result<Got, Failed>
+        requires some { 0 < left_of self.old }
+        requires room { 0 < length buffer.old }
+        ensures got { IfOk result (HasRead true (seen_of self.old) (seen_of self.new) buffer.new) }
+        ensures kept { OnErr result (IsSilent (seen_of self.old) (seen_of self.new)) }
+        ensures cause { IsCounted result (seen_of self.old).faults (seen_of self.new).faults }
+    {
+        let n = self.script.portion(buffer.len().min(self.piece.len()));
+        let (front, after) = self.piece.split_at(n);
+        if keep_heard(self.alloc, &mut self.said, front).is_err() {
+            self.script.fail();
+            return Err(Failed);
+        }
+        buffer[..n].copy_from_slice(front);
+        self.piece = after;
+        Ok(Got::Bytes(n))
+    }
+
+    // Hears some bytes of what is still to come, or that nothing is.
+    fn wait(&mut self, buffer: &mut [u8]) -> Result<Got, Failed>
+        requires room { 0 < length buffer.old }
+        ensures got { IfOk result (HasRead true (seen_of self.old) (seen_of self.new) buffer.new) }
+        ensures kept { OnErr result (IsSilent (seen_of self.old) (seen_of self.new)) }
+        ensures cause { IsCounted result (seen_of self.old).faults (seen_of self.new).faults }
+    {
+        if self.go_on() {
+            return self.hear(buffer);
+        }
+        self.ended = true;
+        Ok(Got::End)
+    }
+
+    // The same, but nothing at a gap.
+    fn look(&mut self, buffer: &mut [u8]) -> Result<Got, Failed>
+        requires room { 0 < length buffer.old }
+        ensures got { IfOk result (HasRead false (seen_of self.old) (seen_of self.new) buffer.new) }
+        ensures kept { OnErr result (IsSilent (seen_of self.old) (seen_of self.new)) }
+        ensures cause { IsCounted result (seen_of self.old).faults (seen_of self.new).faults }
+    {
+        if self.pass_gap() {
+            return Ok(Got::Nothing);
+        }
+        self.wait(buffer)
+    }
+}
+
+// These bytes as heard.
+fn as_heard(alloc: Global, bytes: &[u8]) -> Result<Vec<Said>, AllocError>
+    ensures { IfOk result (λ said. said.items ≡ heard bytes.now) }
+{
+    bytes.iter().map(|byte| Said::Heard(*byte)).collect(alloc)
+}
+
+// These bytes as told.
+fn as_told(alloc: Global, bytes: &[u8]) -> Result<Vec<Said>, AllocError>
+    ensures { IfOk result (λ said. said.items ≡ told bytes.now) }
+{
+    bytes.iter().map(|byte| Said::Told(*byte)).collect(alloc)
+}
+
+// Keeps these bytes as heard.
+fn keep_heard(alloc: Global, said: &mut Vec<Said>, bytes: &[u8]) -> Result<(), AllocError>
+    ensures ok { OnOk result (said.new.items ≡ said.old.items ++ heard bytes.now) }
+    ensures err { OnErr result (said.new.items ≡ said.old.items) }
+{
+    let more = as_heard(alloc, bytes)?;
+    said.extend_from_slice(&more)
+}
+
+// Keeps these bytes as told.
+fn keep_told(alloc: Global, said: &mut Vec<Said>, bytes: &[u8]) -> Result<(), AllocError>
+    ensures ok { OnOk result (said.new.items ≡ said.old.items ++ told bytes.now) }
+    ensures err { OnErr result (said.new.items ≡ said.old.items) }
+{
+    let more = as_told(alloc, bytes)?;
+    said.extend_from_slice(&more)
+}
+
+impl Link for MemoryLink<'_> {
+    ghost use Rattle.ug_io.specs.LinkMemories.{seen_of};
+
+    ghost seen = { seen_of };
+
+    fn read(&mut self, buffer: &mut [u8], wait: bool) -> Result<Got, Failed> {
+        self.script.step()?;
+        if wait {
+            self.wait(buffer)
+        } else {
+            self.look(buffer)
+        }
+    }
+
+    fn write(&mut self, bytes: &[u8]) -> Result<usize, Failed> {
+        self.script.step()?;
+        let n = self.script.portion(bytes.len());
+        let (front, _) = bytes.split_at(n);
+        if keep_told(self.alloc, &mut self.said, front).is_err() {
+            self.script.fail();
+            return Err(Failed);
+        }
+        Ok(n)
+    }
+}

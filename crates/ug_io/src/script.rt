@@ -1,0 +1,58 @@
+ghost use Rattle.std.specs.Prelude.{◌≡◌, ◌<◌, ◌≤◌};
+ghost use Rattle.ug_io.specs.Outside.{IsCounted, Rose};
+
+use crate::outside::Failed;
+
+/// Which calls of a scripted form fail, and how many bytes a call moves at most.
+#[derive(Drop)]
+pub struct Script {
+    /// The calls that fail, counted from 1.
+    failing: Vec<u64>,
+    /// What a call moves at most; 0 counts as 1.
+    most: usize,
+    calls: u64,
+    faults: u64,
+}
+
+impl Script {
+    ghost use Rattle.ug_io.specs.Scripted.{faults_of};
+
+    /// A script under which these calls fail.
+    pub fn new(failing: Vec<u64>, most: usize) -> Script
+        ensures { faults_of result ≡ 0 }
+    {
+        Script {
+            failing,
+            most,
+            calls: 0,
+            faults: 0,
+        }
+    }
+
+    // The next call, and whether it fails.
+    pub(crate) fn step(&mut self) -> Result<(), Failed>
+        ensures { IsCounted result (faults_of self.old) (faults_of self.new) }
+    {
+        self.calls = self.calls.saturating_add(1);
+        if self.failing.contains(&self.calls) {
+            self.fail();
+            return Err(Failed);
+        }
+        Ok(())
+    }
+
+    // One fault more.
+    pub(crate) fn fail(&mut self)
+        ensures { Rose (faults_of self.old) (faults_of self.new) }
+    {
+        self.faults = self.faults.saturating_add(1);
+    }
+
+    // How many of these many bytes a call moves.
+    pub(crate) fn portion(&self, len: usize) -> usize
+        ensures within { result ≤ len }
+        ensures some { 0 < len → 0 < result }
+    {
+        len.min(self.most.max(1))
+    }
+}
