@@ -5,13 +5,13 @@ ghost use Rattle.ug_book.specs.Openings.{IsOpening};
 ghost use Rattle.ug_threads.specs.Ends.{IsEnding};
 
 use crate::ending::of_opening;
-use std::alloc::Global;
+use crate::told::{answered, told};
+use std::alloc::{AllocError, Global};
 use std::sync::Wait;
 use ug_base::Task;
-use ug_book::{Book, Opening, Unfinished};
+use ug_book::{Book, Opening};
 use ug_desk::Locked;
 use ug_rows::{IntBox, Point};
-use ug_rules::Heard;
 use ug_worker::{Reply, Seat, Took, Untaken, work};
 
 /// The ending book of a run that begins with the opening, in which rank 0 alone works.
@@ -44,26 +44,34 @@ impl OwnSeat {
 }
 
 impl Seat for OwnSeat {
+    // Of a book that nobody shares the book's own contracts say more.
+    ghost at = { λ seat some. Unit {0} };
+
+    ghost over = { λ seat. Unit {0} };
+
     fn take(&mut self) -> Result<Took, Untaken> {
         self.locked.take(0)
     }
 
-    fn solution(&mut self, point: Point) -> Heard {
-        self.locked.solution(0, point)
+    fn look(&mut self) -> Reply {
+        Reply::nothing()
     }
 
-    fn hand(&mut self, number: u64, area: &IntBox) -> Heard {
-        self.locked.hand(0, number, area)
+    fn solution(&mut self, point: Point) {
+        self.locked.solution(0, point);
     }
 
-    fn state(&mut self, left: u64, floor: i128) -> Result<Reply, Unfinished> {
-        self.locked.state(0, left, floor)
+    fn hand(&mut self, number: u64, area: &IntBox) -> Result<(), AllocError> {
+        told(self.locked.hand(0, number, area))
     }
 
-    fn done(&mut self, task: Task) -> Heard {
-        let heard = self.locked.done(0, &task);
+    fn state(&mut self, left: u64, floor: i128) -> Result<Reply, AllocError> {
+        answered(self.locked.state(0, left, floor))
+    }
+
+    fn done(&mut self, task: Task) {
+        self.locked.done(0, &task);
         drop(task);
-        heard
     }
 
     fn give_up(&mut self, task: Task) {

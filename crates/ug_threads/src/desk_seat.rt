@@ -2,11 +2,11 @@ ghost use Rattle.std.specs.Prelude.{◌≡◌, ◌<◌, []};
 
 use crate::observer::{Moment, Observer, Progress};
 use crate::progress::progress_of;
+use crate::told::{answered, told};
 use crossbeam_channel::Sender;
-use std::alloc::Global;
+use std::alloc::{AllocError, Global};
 use std::sync::Wait;
 use ug_base::Task;
-use ug_book::Unfinished;
 use ug_desk::{Desk, Pass};
 use ug_rows::{IntBox, Point};
 use ug_rules::Heard;
@@ -58,6 +58,11 @@ fn progress<R: Wait>(rt: &R, alloc: Global, desk: &Desk, pass: &mut Pass) -> Opt
 }
 
 impl<'a, R: Wait, O: Observer> Seat for DeskSeat<'a, R, O> {
+    // A lock keeps no history, so a desk says nothing of where its workers stand.
+    ghost at = { λ seat some. Unit {0} };
+
+    ghost over = { λ seat. Unit {0} };
+
     fn take(&mut self) -> Result<Took, Untaken> {
         self.seen = self.desk.stirred(self.rt);
         self.observer.pass(self.pass.rank(), Moment::Asking);
@@ -66,7 +71,11 @@ impl<'a, R: Wait, O: Observer> Seat for DeskSeat<'a, R, O> {
         took
     }
 
-    fn solution(&mut self, point: Point) -> Heard {
+    fn look(&mut self) -> Reply {
+        Reply::nothing()
+    }
+
+    fn solution(&mut self, point: Point) {
         self.observer.pass(self.pass.rank(), Moment::Asking);
         let heard = self.desk.solution(self.rt, self.pass, point);
         self.observer.pass(self.pass.rank(), Moment::Answered);
@@ -77,18 +86,17 @@ impl<'a, R: Wait, O: Observer> Seat for DeskSeat<'a, R, O> {
                 drop(progress);
             }
         }
-        heard
     }
 
-    fn hand(&mut self, number: u64, area: &IntBox) -> Heard {
+    fn hand(&mut self, number: u64, area: &IntBox) -> Result<(), AllocError> {
         self.observer.pass(self.pass.rank(), Moment::Asking);
         let heard = self.desk.hand(self.rt, self.pass, number, area);
         self.observer.pass(self.pass.rank(), Moment::Answered);
         send_if_due(self.rt, self.desk, self.pass, &self.sender, self.every);
-        heard
+        told(heard)
     }
 
-    fn state(&mut self, left: u64, floor: i128) -> Result<Reply, Unfinished> {
+    fn state(&mut self, left: u64, floor: i128) -> Result<Reply, AllocError> {
         self.observer.pass(self.pass.rank(), Moment::Asking);
         let reply = self.desk.state(self.rt, self.pass, left, floor);
         self.observer.pass(self.pass.rank(), Moment::Answered);
@@ -99,15 +107,14 @@ impl<'a, R: Wait, O: Observer> Seat for DeskSeat<'a, R, O> {
                 drop(progress);
             }
         }
-        reply
+        answered(reply)
     }
 
-    fn done(&mut self, task: Task) -> Heard {
+    fn done(&mut self, task: Task) {
         self.observer.pass(self.pass.rank(), Moment::Asking);
-        let heard = self.desk.done(self.rt, self.pass, task);
+        self.desk.done(self.rt, self.pass, task);
         self.observer.pass(self.pass.rank(), Moment::Answered);
         send_if_due(self.rt, self.desk, self.pass, &self.sender, self.every);
-        heard
     }
 
     fn give_up(&mut self, task: Task) {

@@ -16,6 +16,7 @@ mod progress;
 mod saving;
 mod solve;
 mod together;
+mod told;
 
 pub use host::Host;
 pub use observer::{Moment, Observer, Progress, Unobserved};

@@ -1,1 +1,2 @@
+pub mod Engagements
 pub mod Workers

@@ -1,10 +1,13 @@
 //! A worker, wherever it sits: it takes a task, makes its steps, and tells what it finds and leaves.
 //! It stands on ug_base for tasks.
-//! `Seat` is where a worker takes its work from, and tells of it; `work` goes on until its seat says
-//! that nothing is held, or memory is wanting. A task is told as done only where no box is left.
+//! `Seat` is where a worker takes its work from, and tells of it; its calls ask for what the worker has
+//! to have done: rounds of 64 steps, each point told that is found, boxes handed as long as they are
+//! asked for, and Done only where no box is left. `work` goes on until its seat says that nothing is
+//! held, or memory is wanting.
 #![tactic(auto)]
 
 mod reply;
+mod search;
 mod seat;
 mod took;
 mod worker;

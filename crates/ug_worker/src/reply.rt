@@ -1,3 +1,9 @@
+ghost use Rattle.std.specs.Prelude.{◌≡◌, None, false};
+ghost use Rattle.ug_problem.specs.Better.{IsSmallCutoff};
+
+/// No value of a point of a problem, and so no cutoff, is greater.
+const MOST: u128 = 20_000_000_000_000_000_000_000_000_000_000_000_000;
+
 /// What a pass is told that says what is left.
 #[derive(Clone, Copy, PartialEq, Eq)]
 pub struct Reply {
@@ -7,4 +13,28 @@ pub struct Reply {
     pub collect: u32,
     /// Whether the task is to be dropped.
     pub stop: bool,
+}
+
+impl Reply {
+    /// The task goes on as it is.
+    pub fn nothing() -> Reply
+        ensures { result ≡ record { cutoff = None; collect = 0; stop = false } }
+    {
+        Reply {
+            cutoff: None,
+            collect: 0,
+            stop: false,
+        }
+    }
+
+    /// The same, but for a cutoff that is none of a point. What came through a lock is not known to be
+    /// small, though it is.
+    pub fn bounded(self) -> Reply
+        ensures { IsSmallCutoff result.cutoff }
+    {
+        Reply {
+            cutoff: self.cutoff.filter(|cutoff| cutoff.unsigned_abs() <= MOST),
+            ..self
+        }
+    }
 }

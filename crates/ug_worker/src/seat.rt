@@ -1,38 +1,83 @@
-ghost use Rattle.std.specs.Prelude.{◌≡◌, ◌<◌, []};
+ghost use Rattle.std.specs.Prelude.{◌≡◌, ◌*◌, ◌^◌, ◌≤◌, ◌<◌, [], Some, None, IfOk, OnOk, OnErr, MatchBool, unsigned_abs};
+ghost use Rattle.ug_problem.specs.Better.{IsSmallCutoff};
+ghost use Rattle.ug_base.specs.Tasks.{TaskState};
+ghost use Rattle.ug_rows.specs.declared.area.Interval.{Interval};
+ghost use Rattle.ug_worker.specs.Engagements.{Engaged, HasTaken, IsDoneBy, IsFoundBy, IsHandedBy, IsReplied, IsStatedBy, Stands};
 
 use crate::reply::Reply;
 use crate::took::{Took, Untaken};
+use std::alloc::AllocError;
 use ug_base::Task;
-use ug_book::Unfinished;
 use ug_rows::{IntBox, Point};
-use ug_rules::Heard;
 
-/// Where a worker sits: what it takes its work from, and tells of it.
+/// Where a worker sits: what it takes its work from, and tells of it. What the worker has to have done
+/// before a call is the call's condition, over the task as it was at the call before.
 pub trait Seat {
-    /// The work that there is, which the book decides.
-    fn take(&mut self) -> Result<Took, Untaken>;
+    ghost use Rattle.std.specs.Prelude.{Option};
+    ghost use Rattle.ug_worker.specs.Engagements.{Engaged};
+
+    /// The worker's task is this, or it has none.
+    ghost at: { Self → Option Engaged → Type 0 };
+
+    /// No work comes any more.
+    ghost over: { Self → Type 0 };
+
+    /// The work that there is.
+    fn take(&mut self) -> Result<Took, Untaken>
+        requires { at self.old None }
+        ensures took { IfOk result (HasTaken (at self.new) (over self.new)) }
+        ensures err { OnErr result (at self.new None) };
+
+    /// What is ordered before the first round of a task.
+    fn look(&mut self) -> Reply
+        requires at { (e : Engaged) × at self.old (Some e) × (e.made ≡ 0) }
+        ensures small { IsSmallCutoff result.cutoff }
+        ensures replied { (e : Engaged) → at self.old (Some e) → e.made ≡ 0
+            → IsReplied (at self.new) e.task result };
 
     /// A point that was found.
-    fn solution(&mut self, point: Point) -> Heard;
+    fn solution(&mut self, point: Point)
+        requires at { (e f : Engaged) × at self.old (Some e) × IsFoundBy e point f }
+        ensures { (e f : Engaged) → at self.old (Some e) → IsFoundBy e point f
+            → at self.new (Some f) };
 
     /// A box that is handed.
-    fn hand(&mut self, number: u64, area: &IntBox) -> Heard;
+    fn hand(&mut self, number: u64, area: &IntBox) -> Result<(), AllocError>
+        requires at { (e f : Engaged) × at self.old (Some e) × IsHandedBy e number area.now f }
+        ensures ok { (e f : Engaged) → at self.old (Some e) → IsHandedBy e number area.now f
+            → OnOk result (at self.new (Some f)) }
+        ensures err { OnErr result (Stands (at self.new)) };
 
-    /// How many boxes are left, and the least of their floors.
-    fn state(&mut self, left: u64, floor: i128) -> Result<Reply, Unfinished>
-        requires { 0 < left };
+    /// How many boxes are left, and the least of their floors; and what is ordered before the next
+    /// round.
+    fn state(&mut self, left: u64, floor: i128) -> Result<Reply, AllocError>
+        requires some { 0 < left }
+        requires value { unsigned_abs floor ≤ 2 * 10 ^ 37 }
+        requires at { (e f : Engaged) × at self.old (Some e) × IsStatedBy e left floor f }
+        ensures small { IfOk result (λ reply. IsSmallCutoff reply.cutoff) }
+        ensures replied { (e f : Engaged) → at self.old (Some e) → IsStatedBy e left floor f
+            → IfOk result (IsReplied (at self.new) f.task) }
+        ensures err { OnErr result (Stands (at self.new)) };
 
     /// A task of which no box is left.
-    fn done(&mut self, task: Task) -> Heard
-        requires { task.boxes ≡ [] };
+    fn done(&mut self, task: Task)
+        requires none { task.boxes ≡ [] }
+        requires at { (e : Engaged) × at self.old (Some e) × IsDoneBy e task }
+        ensures { at self.new None };
 
     /// The worker ends in the middle of a task.
-    fn give_up(&mut self, task: Task);
+    fn give_up(&mut self, task: Task)
+        requires { Stands (at self.old) }
+        ensures { over self.new };
 
     /// The worker ends.
-    fn leave(&mut self);
+    fn leave(&mut self)
+        requires { Stands (at self.old) }
+        ensures { over self.new };
 
     /// Waits until there may be work, after a `take` that was answered Wait. False where no work
     /// can come.
-    fn rest(&mut self) -> bool;
+    fn rest(&mut self) -> bool
+        requires { at self.old None }
+        ensures { MatchBool result (at self.new None) (over self.new) };
 }

@@ -1,0 +1,39 @@
+-- A seat that says nothing of where its worker stands meets all that is asked of its answers.
+use Rattle.std.proofs.Common.{refl, Bool, true, false, Option, Some, None, Result, Ok, Err, IfOk}
+use Rattle.ug_base.specs.Tasks.{TaskState}
+use Rattle.ug_worker.specs.declared.reply.Reply.{Reply}
+use Rattle.ug_worker.specs.declared.took.Took.{Took}
+use Rattle.ug_worker.specs.declared.took.Took.TheVariants as took
+use Rattle.ug_worker.specs.Engagements.{Engaged, HasTaken, is_replied, lowered}
+
+-- what is so of each value is so of the one that came
+pub if_ok : {T E : Type 0} (result : Result T E) (P : T → Type 0) → ((x : T) → P x) → IfOk result P
+if_ok (Ok x) P all = all x
+if_ok (Err e) P all = tt
+
+module _ (At : Option Engaged → Type 0) (at : (some : Option Engaged) → At some) where
+  abbrev begun : TaskState → Engaged
+  begun task = record { task = task; made = 0; asked = 0; racing = false }
+
+  pub took_any : (Over : Type 0) → Over → (taken : Took) → HasTaken At Over taken
+  took_any Over over (took.Work task) = record {
+    now = begun task;
+    at = at (Some (begun task));
+    begun = record { its = refl; made = refl };
+  }
+  took_any Over over took.Wait = at None
+  took_any Over over took.Over = over
+
+  abbrev goes : TaskState → Reply → Engaged
+  goes task reply =
+      record { task = lowered reply.cutoff task; made = 0; asked = reply.collect; racing = false }
+
+  pub replied_any : (stop : Bool) (task : TaskState) (reply : Reply) → is_replied At stop task reply
+  replied_any true task reply = at None
+  replied_any false task reply = record {
+    now = goes task reply;
+    at = at (Some (goes task reply));
+    made = refl;
+    due = refl;
+    its = refl;
+  }

@@ -1,0 +1,38 @@
+use Rattle.std.proofs.Common.{rules, ◌≡◌, ◌<◌, ◌≤◌, ◌+◌, ◌-◌, [], Some, None, length, refl, sym, ap, subst, inl, inr, arith, ◌++◌, ◌∷◌, ◌∙◌}
+use Rattle.ug_base.specs.Tasks.{IsLeastFloor, IsTask, TaskState}
+use Rattle.ug_base.specs.Steps.{IsFound}
+use Rattle.ug_base.specs.Hands.{IsHanded}
+use Rattle.ug_worker.specs.Engagements.{IsReplied, Stands}
+use Rattle.ug_worker.specs.Workers.{HasGiven, HasHanded, HasStepped, StandsAt}
+use Rattle.ug_worker.proofs.Rounds.{found_by, found_now, handed_by, handed_now, stands_found, stands_handed, stated_by, stated_now}
+use Rattle.ug_worker.proofs.Rounds.{some_left}
+use Rattle.ug_worker.proofs.search.Search.hand.Goals as goal
+
+pub hand-told-requires : goal.hand-told-requires
+hand-told-requires g c =
+    let s = c.requires.stands in
+    let At = g.S.Seat.at c.args.seat.now in
+    let handed : IsHanded c.args.self.now.task c.hand.new.self c.in-Some.handed = search rules in
+    record {
+      at = (
+        s.now,
+        handed_now At s.now c.hand.new.self,
+        s.at,
+        handed_by At c.args.self.now.task c.hand.new.self c.args.self.now.collect c.in-Some.handed c.requires.some handed
+            c.is_one.ensures s,
+      );
+    }
+
+pub returns-clause-given : goal.returns-clause-given
+returns-clause-given g c =
+    let s = c.requires.stands in
+    let At = g.S.Seat.at c.args.seat.now in
+    let handed : IsHanded c.args.self.now.task c.hand.new.self c.in-Some.handed = search rules in
+    let at = c.in_ok-told.ensures.ok s.now (handed_now At s.now c.hand.new.self) s.at
+    (handed_by At c.args.self.now.task c.hand.new.self c.args.self.now.collect c.in-Some.handed c.requires.some
+    handed c.is_one.ensures s) in (
+      stands_handed (g.S.Seat.at c.hand-told.new.self) c.hand.new.self s.now c.args.self.now.collect c.requires.some
+          s.asked at,
+      omega (arith, c.requires.some),
+      some_left c.args.self.now.task c.hand.new.self c.in-Some.handed handed,
+    )

@@ -1,0 +1,47 @@
+use Rattle.std.proofs.Common.{rules, ◌≡◌, ◌<◌, ◌≤◌, ◌+◌, ◌-◌, [], Some, None, length, refl, sym, ap, subst, inl, inr, arith, ◌++◌, ◌∷◌, ◌∙◌}
+use Rattle.ug_base.specs.Tasks.{IsLeastFloor, IsTask, TaskState}
+use Rattle.ug_base.specs.Steps.{IsFound}
+use Rattle.ug_base.specs.Hands.{IsHanded}
+use Rattle.ug_worker.specs.Engagements.{IsReplied, Stands}
+use Rattle.ug_worker.specs.Workers.{HasGiven, HasHanded, HasStepped, StandsAt}
+use Rattle.ug_worker.proofs.Rounds.{found_by, found_now, handed_by, handed_now, stands_found, stands_handed, stated_by, stated_now}
+use Rattle.ug_base.specs.Steps.{IsPruned, IsSplit}
+use Rattle.ug_worker.proofs.Rounds.{made_quiet}
+use Rattle.ug_worker.proofs.search.Search.step.Goals as goal
+
+pub solution-requires : goal.solution-requires
+solution-requires g c =
+    let s = c.requires.stands in
+    let found : IsFound c.args.self.now.task c.step.new.self c.in-Found.point = search rules in
+    record {
+      at = (
+        s.now,
+        found_now (g.S.Seat.at c.args.seat.now) s.now c.step.new.self c.args.made,
+        s.at,
+        found_by (g.S.Seat.at c.args.seat.now) c.args.self.now.task c.step.new.self c.args.made
+            c.args.self.now.collect c.in-Found.point c.requires.room found c.is_one.ensures s,
+      );
+    }
+
+pub returns-in-Found-clause-stands : goal.returns-in-Found-clause-stands
+returns-in-Found-clause-stands g c =
+    let s = c.requires.stands in
+    let found : IsFound c.args.self.now.task c.step.new.self c.in-Found.point = search rules in
+    let now = found_now (g.S.Seat.at c.args.seat.now) s.now c.step.new.self c.args.made in
+    stands_found (g.S.Seat.at c.solution.new.self) c.step.new.self s.now c.args.made c.args.self.now.collect
+    c.requires.room s.asked
+    (c.solution.ensures s.now now s.at
+    (found_by (g.S.Seat.at c.args.seat.now) c.args.self.now.task c.step.new.self c.args.made
+    c.args.self.now.collect c.in-Found.point c.requires.room found c.is_one.ensures s))
+
+pub returns-in-Pruned-clause-stands : goal.returns-in-Pruned-clause-stands
+returns-in-Pruned-clause-stands g c =
+    let pruned : IsPruned c.args.self.now.task c.step.new.self = search rules in
+    made_quiet (g.S.Seat.at c.args.seat.now) c.args.self.now.task c.step.new.self c.args.made
+    c.args.self.now.collect c.requires.room (inl pruned) c.requires.stands
+
+pub returns-in-Split-clause-stands : goal.returns-in-Split-clause-stands
+returns-in-Split-clause-stands g c =
+    let split : IsSplit c.args.self.now.task c.step.new.self = search rules in
+    made_quiet (g.S.Seat.at c.args.seat.now) c.args.self.now.task c.step.new.self c.args.made
+    c.args.self.now.collect c.requires.room (inr split) c.requires.stands

@@ -1,0 +1,124 @@
+-- A task in a worker's hands, and what the worker does between two looks at its orders: a round of so
+-- many steps, then the boxes that are asked for, then what is left.
+use Rattle.std.specs.Prelude.{◌≡◌, ◌⊎◌, ℕ, ℤ, zero, suc, ◌+◌, ◌-◌, ◌<◌, ◌≤◌, Bool, true, false, List, [], length}
+use Rattle.std.specs.Prelude.{Option, Some, None, if◌then◌else◌}
+use Rattle.ug_rows.specs.declared.area.Interval.{Interval}
+use Rattle.ug_base.specs.Hands.{IsHanded}
+use Rattle.ug_base.specs.Steps.{IsFound, IsPruned, IsSplit}
+use Rattle.ug_base.specs.Tasks.{IsLeastFloor, IsTask, TaskState, lesser_of}
+use Rattle.ug_worker.specs.declared.reply.Reply.{Reply}
+use Rattle.ug_worker.specs.declared.took.Took.{Took}
+use Rattle.ug_worker.specs.declared.took.Took.TheVariants as took
+
+-- how many steps a round has
+abbrev pub steps_of_round : ℕ
+steps_of_round = 64
+
+-- the task as it was when the worker last called its seat, how many steps of the round were made
+-- then, how many boxes are asked for, and whether others have the same box
+pub record Engaged : Type 0 where
+  pub task : TaskState
+  pub made : ℕ
+  pub asked : ℕ
+  pub racing : Bool
+
+-- how many boxes are to be handed: none as long as others have the same box
+abbrev pub due_of : Engaged → ℕ
+due_of e = (if e.racing then 0 else e.asked)
+
+-- a step that finds no point
+abbrev pub IsQuiet : TaskState → TaskState → Type 0
+IsQuiet old new = IsPruned old new ⊎ IsSplit old new
+
+-- so many steps that find no point
+abbrev pub AreQuiet : ℕ → TaskState → TaskState → Type 0
+AreQuiet zero old new = new ≡ old
+AreQuiet (suc n) old new = (mid : TaskState) × AreQuiet n old mid × IsQuiet mid new
+
+-- since then steps that found no point led to this task, and so many of the round are made, at most
+-- all
+pub record IsSince (e : Engaged) (task : TaskState) (count : ℕ) : Type 0 where
+  pub more : ℕ
+  pub quiet : AreQuiet more e.task task
+  pub made : count ≡ e.made + more
+  pub within : count ≤ steps_of_round
+
+-- a step of the round found the point
+pub record IsFoundBy (e : Engaged) (x : List ℤ) (f : Engaged) : Type 0 where
+  pub task : TaskState
+  pub count : ℕ
+  pub since : IsSince e task count
+  pub room : count < steps_of_round
+  pub found : IsFound task f.task x
+  pub own : IsTask f.task
+  pub same : f ≡ record e { task = f.task; made = count + 1 }
+
+-- the round is over, and a box that is asked for was handed
+pub record IsHandedBy (e : Engaged) (number : ℕ) (area : List Interval) (f : Engaged)
+    : Type 0 where
+  pub task : TaskState
+  pub since : IsSince e task steps_of_round
+  pub due : 0 < due_of e
+  pub handed : IsHanded task f.task (record { number = number; area = area })
+  pub own : IsTask f.task
+  pub same : f ≡ record e { task = f.task; made = steps_of_round; asked = e.asked - 1 }
+
+-- the round is over, all boxes that are asked for were handed, unless fewer than two are left, and so
+-- many are left, of which the least floor is this
+pub record IsStatedBy (e : Engaged) (left : ℕ) (floor : ℤ) (f : Engaged) : Type 0 where
+  pub task : TaskState
+  pub since : IsSince e task steps_of_round
+  pub given : (due_of e ≡ 0) ⊎ (length task.boxes < 2)
+  pub count : left ≡ length task.boxes
+  pub least : IsLeastFloor task.problem task.boxes floor
+  pub same : f ≡ record e { task = task; made = 0 }
+
+-- no box of the task is left, after a round or within it
+pub record IsDoneBy (e : Engaged) (task : TaskState) : Type 0 where
+  pub count : ℕ
+  pub since : IsSince e task count
+  pub own : IsTask task
+  pub none : task.boxes ≡ []
+
+-- the task under the lower cutoff
+abbrev pub lowered : Option ℤ → TaskState → TaskState
+lowered None task = task
+lowered (Some cutoff) task = record task { cutoff = Some (lesser_of task.cutoff cutoff) }
+
+-- a task was begun, and no step was made
+pub record IsBegun (e : Engaged) (task : TaskState) : Type 0 where
+  pub its : e.task ≡ task
+  pub made : e.made ≡ 0
+
+module _ (At : Option Engaged → Type 0) where
+  -- with a task or without one
+  abbrev pub Stands : Type 0
+  Stands = (some : Option Engaged) × At some
+
+  -- a task was begun
+  pub record HasBegun (task : TaskState) : Type 0 where
+    pub now : Engaged
+    pub at : At (Some now)
+    pub begun : IsBegun now task
+
+  -- what a worker took: a task, nothing for now, or word that no work comes any more
+  abbrev pub HasTaken : Type 0 → Took → Type 0
+  HasTaken Over (took.Work task) = HasBegun task
+  HasTaken Over took.Wait = At None
+  HasTaken Over took.Over = Over
+
+  -- the task goes on, under the cutoff told, and so many boxes are to be handed
+  pub record GoesOn (task : TaskState) (reply : Reply) : Type 0 where
+    pub now : Engaged
+    pub at : At (Some now)
+    pub made : now.made ≡ 0
+    pub due : due_of now ≡ reply.collect
+    pub its : now.task ≡ lowered reply.cutoff task
+
+  -- the task is to be dropped, or goes on
+  abbrev pub is_replied : Bool → TaskState → Reply → Type 0
+  is_replied true task reply = At None
+  is_replied false task reply = GoesOn task reply
+
+  abbrev pub IsReplied : TaskState → Reply → Type 0
+  IsReplied task reply = is_replied reply.stop task reply

@@ -1,0 +1,217 @@
+//! The search of a task in rounds of steps.
+
+ghost use Rattle.std.specs.Prelude.{◌≡◌, ◌<◌, ◌≤◌, ◌+◌, ◌*◌, ◌^◌, [], true, false, length, unsigned_abs, IfErr, IfOk, OnErr, OnOk};
+ghost use Rattle.ug_problem.specs.Better.{IsSmallCutoff};
+ghost use Rattle.ug_base.specs.Tasks.{IsLeastFloor, IsTask};
+ghost use Rattle.ug_worker.specs.Engagements.{HasBegun, IsReplied, Stands, lowered};
+ghost use Rattle.ug_worker.specs.Workers.{EndsAs, HasHanded, HasStepped, HasGiven, HasMade, IsLeft, StandsAt};
+
+use crate::reply::Reply;
+use crate::seat::Seat;
+use std::alloc::AllocError;
+use std::sync::Wait;
+use ug_base::{Step, Task};
+
+/// How many steps a worker makes between two looks at its orders.
+const STEPS: u32 = 64;
+
+/// How a worker stands to its task.
+#[derive(Clone, Copy)]
+pub enum Left {
+    /// No box is left.
+    Nothing,
+    /// It was told to drop the task.
+    Dropped,
+    /// Memory is wanting.
+    Wanting,
+}
+
+/// A task that is searched.
+#[derive(Drop)]
+pub struct Search {
+    pub task: Task,
+    /// How many boxes are to be handed.
+    pub collect: u32,
+}
+
+impl Search {
+    /// Searches the task, which was begun, until no box is left or it is dropped.
+    pub fn run<R: Wait, S: Seat>(&mut self, rt: &R, seat: &mut S) -> Left
+        requires { HasBegun (S.at seat.old) self.old.task }
+        ensures { IsLeft (S.at seat.new) result self.new.task }
+    {
+        let reply = seat.look();
+        if let Err(left) = self.obey(seat, reply) {
+            return left;
+        }
+        self.rounds(rt, seat)
+    }
+
+    // Rounds of steps, until no box is left or the task is dropped.
+    fn rounds<R: Wait, S: Seat>(&mut self, rt: &R, seat: &mut S) -> Left
+        requires { StandsAt (S.at seat.old) self.old.task 0 self.old.collect }
+        ensures { EndsAs (S.at seat.new) result self.new.task }
+    {
+        for _ in rt.forever() {
+            if let Err(left) = self.round(seat) {
+                return left;
+            }
+        }
+        unreachable!()
+    }
+
+    // Some steps, and what is then to be handed and told; how the worker stands to a task that ends
+    // here.
+    fn round<S: Seat>(&mut self, seat: &mut S) -> Result<(), Left>
+        requires { StandsAt (S.at seat.old) self.old.task 0 self.old.collect }
+        ensures ok { OnOk result (StandsAt (S.at seat.new) self.new.task 0 self.new.collect) }
+        ensures err { IfErr result (λ left. EndsAs (S.at seat.new) left self.new.task) }
+    {
+        if self.steps(seat).is_err() {
+            return Err(Left::Wanting);
+        }
+        if self.task.left() == 0 {
+            is_one(&self.task);
+            return Err(Left::Nothing);
+        }
+        if self.hands(seat).is_err() {
+            return Err(Left::Wanting);
+        }
+        self.tell(seat)
+    }
+
+    // Makes the steps of a round, or fewer where no box is left.
+    fn steps<S: Seat>(&mut self, seat: &mut S) -> Result<(), AllocError>
+        requires { StandsAt (S.at seat.old) self.old.task 0 self.old.collect }
+        ensures ok { OnOk result (HasStepped (S.at seat.new) self.new.task self.new.collect) }
+        ensures err { OnErr result (Stands (S.at seat.new)) }
+    {
+        for made in 0..STEPS {
+            if !self.step(seat, made)? {
+                return Ok(());
+            }
+        }
+        Ok(())
+    }
+
+    // Makes a step, and tells the point that it finds. False where no box is left.
+    fn step<S: Seat>(&mut self, seat: &mut S, made: u32) -> Result<bool, AllocError>
+        requires stands { StandsAt (S.at seat.old) self.old.task made self.old.collect }
+        requires room { made < 64 }
+        ensures stands { IfOk result (λ more. HasMade (S.at seat.new) more made self.new.task
+            self.new.collect) }
+        ensures err { OnErr result (Stands (S.at seat.new)) }
+    {
+        match self.task.step()? {
+            Step::Found(point) => {
+                is_one(&self.task);
+                seat.solution(point);
+                Ok(true)
+            }
+            Step::Empty => Ok(false),
+            Step::Pruned => Ok(true),
+            Step::Split => Ok(true),
+        }
+    }
+
+    // Hands as many boxes as are asked for, or fewer where not two are left.
+    fn hands<S: Seat>(&mut self, seat: &mut S) -> Result<(), AllocError>
+        requires stands { StandsAt (S.at seat.old) self.old.task 64 self.old.collect }
+        requires left { 0 < length self.old.task.boxes }
+        ensures ok { OnOk result (HasHanded (S.at seat.new) self.new.task self.new.collect) }
+        ensures err { OnErr result (Stands (S.at seat.new)) }
+    {
+        for _ in 0..self.collect {
+            if !self.hand(seat)? {
+                return Ok(());
+            }
+        }
+        Ok(())
+    }
+
+    // Hands a box. False where not two are left.
+    fn hand<S: Seat>(&mut self, seat: &mut S) -> Result<bool, AllocError>
+        requires stands { StandsAt (S.at seat.old) self.old.task 64 self.old.collect }
+        requires some { 0 < self.old.collect }
+        requires left { 0 < length self.old.task.boxes }
+        ensures given { IfOk result (λ more. HasGiven (S.at seat.new) more self.old.collect
+            self.new.task self.new.collect) }
+        ensures err { OnErr result (Stands (S.at seat.new)) }
+    {
+        let Some(handed) = self.task.hand()? else {
+            return Ok(false);
+        };
+        is_one(&self.task);
+        let told = seat.hand(handed.number, &handed.area);
+        drop(handed);
+        told?;
+        self.collect -= 1;
+        Ok(true)
+    }
+
+    // Tells what is left, and does as is answered.
+    fn tell<S: Seat>(&mut self, seat: &mut S) -> Result<(), Left>
+        requires { HasHanded (S.at seat.old) self.old.task self.old.collect }
+        ensures ok { OnOk result (StandsAt (S.at seat.new) self.new.task 0 self.new.collect) }
+        ensures err { IfErr result (λ left. EndsAs (S.at seat.new) left self.new.task) }
+    {
+        let left = self.task.left();
+        match self.task.lowest() {
+            Some(floor) => self.state(seat, left, floor),
+            None => Err(Left::Dropped),
+        }
+    }
+
+    // Tells that so many boxes are left, and the least of their floors.
+    fn state<S: Seat>(&mut self, seat: &mut S, left: u64, floor: i128) -> Result<(), Left>
+        requires handed { HasHanded (S.at seat.old) self.old.task self.old.collect }
+        requires count { left ≡ length self.old.task.boxes }
+        requires least { IsLeastFloor self.old.task.problem self.old.task.boxes floor }
+        requires value { unsigned_abs floor ≤ 2 * 10 ^ 37 }
+        ensures ok { OnOk result (StandsAt (S.at seat.new) self.new.task 0 self.new.collect) }
+        ensures err { IfErr result (λ left. EndsAs (S.at seat.new) left self.new.task) }
+    {
+        match seat.state(left, floor) {
+            Ok(reply) => self.obey(seat, reply),
+            Err(_) => Err(Left::Wanting),
+        }
+    }
+
+    // Goes on as is ordered.
+    fn obey<S: Seat>(&mut self, seat: &S, reply: Reply) -> Result<(), Left>
+        requires replied { IsReplied (S.at seat.now) self.old.task reply }
+        requires small { IsSmallCutoff reply.cutoff }
+        ensures ok { OnOk result (StandsAt (S.at seat.now) self.new.task 0 self.new.collect) }
+        ensures err { IfErr result (λ left. EndsAs (S.at seat.now) left self.new.task) }
+    {
+        let _seat = seat;
+        if reply.stop {
+            return Err(Left::Dropped);
+        }
+        lower(&mut self.task, reply.cutoff);
+        self.collect = reply.collect;
+        Ok(())
+    }
+}
+
+// Lowers the cutoff, where one is told.
+fn lower(task: &mut Task, cutoff: Option<i128>)
+    requires { IsSmallCutoff cutoff }
+    ensures { task.new ≡ lowered cutoff task.old }
+{
+    if let Some(cutoff) = cutoff {
+        task.lower(cutoff);
+    }
+}
+
+// A task keeps each good point of its box in one left or in one handed.
+fn is_one(task: &Task)
+    ensures { IsTask task.now }
+{
+    let _problem = task.problem();
+    let _whole = task.whole();
+    let _cutoff = task.cutoff();
+    let _gap = task.gap();
+    let _left = task.left();
+    let _handed = task.handed();
+}
