@@ -1,8 +1,14 @@
 -- A gate stands before the body that a slot holds, and what is known of it.
-use Rattle.std.specs.Prelude.{◌≡◌, ◌≢◌, ◌⊎◌, ℕ, ◌<◌, ◌≤◌, List, length, take, drop, slice_index}
+use Rattle.std.specs.Prelude.{◌≡◌, ◌≢◌, ◌⊎◌, ℕ, ◌<◌, ◌≤◌, Bool, true, false, List, length, take, drop}
+use Rattle.std.specs.Prelude.{slice_index}
 use Rattle.ug_disk.specs.Slots.{SlotState, IsLoose, MayLeave, synced, loosened}
 use Rattle.ug_checkpoint.specs.declared.slots.gate.Gate.{Gate}
 use Rattle.ug_checkpoint.specs.declared.slots.gate.Gate.TheVariants.{Unread, Shut, Open, Torn}
+
+-- the byte that opens a gate, and the one that shuts it; when it is read any other shuts it too
+abbrev pub gate_byte : Bool → ℕ
+gate_byte true = 1
+gate_byte false = 0
 
 -- the gate of the image is open: it is 1, and something stands behind it
 abbrev pub IsOpen : List ℕ → Type 0

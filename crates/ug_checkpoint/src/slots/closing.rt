@@ -22,7 +22,7 @@ pub fn close_gate<D: Disk>(disk: &mut D, slot: Slot, gate: &mut Gate) -> Result<
 {
     if !look(disk, slot, *gate)? {
         *gate = Gate::Open;
-        write_gate(disk, slot, 0)?;
+        write_gate(disk, slot, false)?;
     }
     *gate = Gate::Shut;
     Ok(())

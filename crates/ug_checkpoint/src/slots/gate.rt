@@ -2,7 +2,7 @@ ghost use Rattle.std.specs.Prelude.{◌≡◌, ◌∷◌, [], IfOk, OnOk, OnErr,
 ghost use Rattle.ug_io.specs.Outside.{IsCounted};
 ghost use Rattle.ug_disk.specs.Slots.{synced, put_at};
 ghost use Rattle.ug_disk.specs.Crashes.{Leaves, MayLeaveWriting};
-ghost use Rattle.ug_checkpoint.specs.Gates.{IsSynced, IsShut, MayBeShut, MayBeLoose};
+ghost use Rattle.ug_checkpoint.specs.Gates.{IsSynced, IsShut, MayBeShut, MayBeLoose, gate_byte};
 ghost use Rattle.ug_checkpoint.specs.Runs.{Stands, Becomes};
 
 use ug_disk::{Disk, Slot};
@@ -34,18 +34,25 @@ pub fn is_shut<D: Disk>(disk: &mut D, slot: Slot) -> Result<bool, Failed>
     Ok(n > 0 && first[0] != 1)
 }
 
-/// Writes the gate, and syncs the slot. Where it fails, nothing was done, or a crash may leave any
-/// byte in its place.
-pub fn write_gate<D: Disk>(disk: &mut D, slot: Slot, byte: u8) -> Result<(), Failed>
+// The byte that opens a gate, or shuts it.
+fn byte_of(is_open: bool) -> u8
+    ensures { result ≡ gate_byte is_open }
+{
+    if is_open { 1 } else { 0 }
+}
+
+/// Opens the gate or shuts it, and syncs the slot. Where it fails, nothing was done, or a crash may
+/// leave any byte in its place.
+pub fn write_gate<D: Disk>(disk: &mut D, slot: Slot, is_open: bool) -> Result<(), Failed>
     ensures ok { OnOk result (Becomes (D.seen disk.old).told (D.seen disk.new).told slot
-        (λ before after. after ≡ synced (put_at 0 (byte ∷ []) before.bytes))) }
+        (λ before after. after ≡ synced (put_at 0 (gate_byte is_open ∷ []) before.bytes))) }
     ensures err { OnErr result
         (Becomes (D.seen disk.old).told (D.seen disk.new).told slot MayBeLoose) }
     ensures any_moment { Leaves (MayLeaveWriting (D.seen disk.old).told slot 0 1)
         (D.seen disk.old).told (D.seen disk.new).told }
     ensures cause { IsCounted result (D.seen disk.old).faults (D.seen disk.new).faults }
 {
-    disk.write_at(slot, 0, &[byte])?;
+    disk.write_at(slot, 0, &[byte_of(is_open)])?;
     disk.sync(slot)?;
     Ok(())
 }

@@ -48,7 +48,7 @@ fn open_gate<D: Disk>(disk: &mut D, slot: Slot, gate: &mut Gate) -> Result<(), F
     ensures cause { IsCounted result (D.seen disk.old).faults (D.seen disk.new).faults }
 {
     *gate = Gate::Torn;
-    write_gate(disk, slot, 1)?;
+    write_gate(disk, slot, true)?;
     *gate = Gate::Open;
     Ok(())
 }

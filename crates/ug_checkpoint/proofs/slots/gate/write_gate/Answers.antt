@@ -33,7 +33,7 @@ returns-in_err-sync-clause-err g c =
     let old = (g.D.Disk.seen c.args.disk.now).told in
     let mid = (g.D.Disk.seen c.write_at.new.self).told in
     let new = (g.D.Disk.seen c.sync.new.self).told in
-    let byte = c.args.byte in
+    let byte = c.byte_of.result in
     let same : Becoming = λ a b. b ≡ a in
     let wrote = becomes_steps same (WasWritten byte) old old mid c.args.slot
     (λ s. written 0 (byte ∷ []) s) (becomes_none old c.args.slot) c.write_at.ensures.real
@@ -51,10 +51,10 @@ returns-in_err-sync-clause-any_moment g c =
     let P = MayLeaveWriting old c.args.slot 0 1 in
     let wrote = c.in_ok-write_at.ensures.ok in
     let here = any_place old c.args.slot in
-    let now = after_write old mid c.args.slot 0 (c.args.byte ∷ []) c.write_at.ensures.real here
+    let now = after_write old mid c.args.slot 0 (c.byte_of.result ∷ []) c.write_at.ensures.real here
     wrote in
     fails_on P old mid new c.args.slot (λ s. s) (write_leaves old mid c.args.slot 0
-    (c.args.byte ∷ []) c.write_at.ensures.real here wrote)
+    (c.byte_of.result ∷ []) c.write_at.ensures.real here wrote)
     c.in_err-sync.ensures.err (after_failed_sync P mid new c.args.slot c.in_err-sync.ensures.err
     now)
 
@@ -66,9 +66,9 @@ returns-clause-any_moment g c =
     let P = MayLeaveWriting old c.args.slot 0 1 in
     let wrote = c.in_ok-write_at.ensures.ok in
     let here = any_place old c.args.slot in
-    let now = after_write old mid c.args.slot 0 (c.args.byte ∷ []) c.write_at.ensures.real here
+    let now = after_write old mid c.args.slot 0 (c.byte_of.result ∷ []) c.write_at.ensures.real here
     wrote in
     steps_on P old mid new c.args.slot (λ state. synced state.bytes) (write_leaves old mid
-    c.args.slot 0 (c.args.byte ∷ []) c.write_at.ensures.real here wrote)
+    c.args.slot 0 (c.byte_of.result ∷ []) c.write_at.ensures.real here wrote)
     c.in_ok-sync.ensures.ok (after_sync P mid new c.args.slot c.sync.ensures.real
     c.in_ok-sync.ensures.ok now)
