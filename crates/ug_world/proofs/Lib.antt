@@ -5,6 +5,8 @@ pub mod Decided
 pub mod Trusted
 pub mod Courses
 pub mod Plays
-pub mod All
+pub mod Finds
+pub mod Begins
 pub mod DiskLaws
+pub mod DiskFinds
 pub mod DiskPlays

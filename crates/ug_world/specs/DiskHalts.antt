@@ -1,6 +1,5 @@
 -- Why an event did not happen, and what stands then.
 use Rattle.std.specs.Prelude.{◌≡◌, ℕ, ◌≤◌, List, length, Some}
-use Rattle.ug_disk.specs.declared.slot.Slot.{Slot}
 use Rattle.ug_disk.specs.Memories.{begun, IsFirstForbidden}
 use Rattle.ug_disk.specs.Crashes.{MayLeaveBoth}
 use Rattle.ug_restart.specs.declared.fault.StartFault.{StartFault}

@@ -1,50 +1,88 @@
--- The laws of crashes: no better point is lost, and no run number is taken twice.
-use Rattle.std.specs.Prelude.{◌≡◌, ℕ, ◌<◌, List, [], ◌∷◌, All, None, Some}
-use Rattle.ug_disk.specs.Histories.{History, moments}
-use Rattle.ug_disk.specs.Crashes.{MightHaveLeft}
+-- The laws of crashes: no better point is lost, an image is always found, and no run number is taken
+-- twice.
+use Rattle.std.specs.Prelude.{◌≡◌, ℕ, ◌<◌, List, [], ◌∷◌, All, None, Some, IfSome}
+use Rattle.ug_disk.specs.Histories.{History}
+use Rattle.ug_disk.specs.Crashes.{Leaves}
+use Rattle.ug_problem.specs.Instances.{Instance}
+use Rattle.ug_rules.specs.declared.settings.Settings.{Settings}
+use Rattle.ug_rules.specs.State.{BookState}
 use Rattle.ug_rules.specs.Books.{IsBook, IsSoundBook}
-use Rattle.ug_checkpoint.specs.Savers.{FindsOnly}
+use Rattle.ug_book.specs.Openings.{opening_book}
 use Rattle.ug_snapshot.specs.Moments.{IsCovered}
-use Rattle.ug_restart.specs.Openings.{IsAcknowledgedStart}
+use Rattle.ug_restart.specs.declared.start.Start.{Start}
+use Rattle.ug_restart.specs.Moments.{FindsIn}
+use Rattle.ug_restart.specs.Openings.{IsAcknowledgedStart, IsFromFound, IsStart}
+use Rattle.ug_restart.specs.Starts.{GoesOnFrom, IsBegun, IsGoneOn}
 use Rattle.ug_world.specs.Honest.{IsHonest}
 use Rattle.ug_world.specs.Laws.{LosesNothing}
 use Rattle.ug_world.specs.declared.disk_event.DiskEvent.{DiskEvent}
 use Rattle.ug_world.specs.declared.disk_event.DiskEvent.TheVariants.{World as InWorld, Note, Save}
 use Rattle.ug_world.specs.declared.disk_event.DiskEvent.TheVariants.{Crash, Stop}
 use Rattle.ug_world.specs.DiskEvents.{IsDiskEvent}
-use Rattle.ug_world.specs.Machines.{DiskWorld, IsDiskCourse}
+use Rattle.ug_world.specs.DiskFinds.{AreFound}
+use Rattle.ug_world.specs.Machines.{DiskWorld, IsDiskCourse, beginning, left_by}
 
--- whatever a crash might have left, at any moment so far, each image that recovery finds is
--- Covered: each point that is better than its incumbent lies in one of its nodes
-abbrev pub CoversAllAlong : History → Type 0
-CoversAllAlong told =
-    (zero one : List ℕ) → MightHaveLeft (moments told) zero one → FindsOnly IsCovered zero one
-
--- no better point is lost, neither by the book of a run that goes on nor by the disk
-pub record LosesNothingOnDisk (w : DiskWorld) : Type 0 where
-  pub book : w.refused ≡ None → LosesNothing w.world.book
-  pub disk : CoversAllAlong w.told
-
--- so far all that solvers sent to the run that goes on is honest
-abbrev pub IsHonestOnDisk : DiskWorld → Type 0
-IsHonestOnDisk w = w.refused ≡ None → IsHonest w.world
-
--- A run has begun: its book is sound and has given no ticket, its first image is acknowledged, and
--- what recovery could find so far is Covered. Earlier runs may have sent what they will.
+-- A run has begun: its book is sound and has given no ticket, and its first image is acknowledged:
+-- whatever a crash now leaves, recovery finds it. What the disk had before does not matter, nor what
+-- earlier runs have sent.
 pub record HasBegun (w : DiskWorld) : Type 0 where
   pub book : IsBook w.world.book
   pub sound : IsSoundBook w.world.book
   pub unused : w.world.book.last ≡ 0
   pub acknowledged : IsAcknowledgedStart (Some w.told) w.world.book w.saver
-  pub covers : CoversAllAlong w.told
   pub noted : w.noted ≡ None
+
+-- a new solve that has begun on a disk has, whatever the disk had
+abbrev pub NewRunsBegin : Type 0
+NewRunsBegin =
+    (p : Instance) (settings : Settings) (old new : History) (faults : ℕ) (start : Start)
+    (book : BookState) → IsStart (IsBegun p settings (Some old)) (Some new) start
+    → IsBook book → book ≡ opening_book start.opening
+    → HasBegun (beginning book (record { saver = start.saver; told = new; faults = faults }))
+
+-- and so has a run that goes on, where the very image from which it does was Covered
+abbrev pub NextRunsBegin : Type 0
+NextRunsBegin =
+    (p : Instance) (settings : Settings) (old new : History) (faults : ℕ) (start : Start)
+    (book : BookState) → IsStart (IsGoneOn p settings (Some old)) (Some new) start
+    → (from : IsFromFound (GoesOnFrom p settings) (Some old) (Some new) start)
+    → IfSome from.found (λ found. IsCovered found.image)
+    → IsBook book → book ≡ opening_book start.opening
+    → HasBegun (beginning book (record { saver = start.saver; told = new; faults = faults }))
+
+-- No better point is lost, neither by the book of a run that goes on nor by the disk: whatever a
+-- crash might have left, at any moment since then, recovery finds an image that is Covered, so each
+-- point that is better than its incumbent lies in one of its nodes.
+pub record LosesNothingSince (since : History) (w : DiskWorld) : Type 0 where
+  pub book : w.refused ≡ None → LosesNothing w.world.book
+  pub disk : Leaves (FindsIn IsCovered) (Some since) (Some w.told)
+
+-- so it is after each of the events, at any moment since the run has begun, or since the last crash
+abbrev pub LoseNothing : History → List DiskEvent → List DiskWorld → Type 0
+LoseNothing since [] [] = Unit {0}
+LoseNothing since (event ∷ events) (new ∷ course) =
+    LosesNothingSince (left_by event since) new × LoseNothing (left_by event since) events course
+LoseNothing since [] (new ∷ course) = ⊥
+LoseNothing since (event ∷ events) [] = ⊥
+
+-- so far all that solvers sent to the run that goes on is honest
+abbrev pub IsHonestOnDisk : DiskWorld → Type 0
+IsHonestOnDisk w = w.refused ≡ None → IsHonest w.world
 
 -- after each event of each list, as long as solvers are honest, no better point is lost
 abbrev pub CrashesLoseNothing : Type 0
 CrashesLoseNothing =
     (start : DiskWorld) (events : List DiskEvent) (course : List DiskWorld)
     → HasBegun start → All IsDiskEvent events → IsDiskCourse start events course
-    → All IsHonestOnDisk course → All LosesNothingOnDisk course
+    → All IsHonestOnDisk course → LoseNothing start.told events course
+
+-- whatever happens, honest or not, at each moment an image is found that is of a moment so far and
+-- no older than the last acknowledged one
+abbrev pub ImagesAreFound : Type 0
+ImagesAreFound =
+    (start : DiskWorld) (events : List DiskEvent) (course : List DiskWorld)
+    → HasBegun start → IsDiskCourse start events course
+    → AreFound (start ∷ []) start events course
 
 -- a restart that is not refused takes a greater run number, and no other event takes another
 abbrev pub IsNumbered : DiskWorld → DiskEvent → DiskWorld → Type 0

@@ -1,23 +1,28 @@
 -- What a schedule that was played leaves.
 use Rattle.std.specs.Prelude.{◌≡◌, ℕ, List, length, take, All, Option, None, Some, Result, Ok, Err}
 use Rattle.std.specs.Prelude.{slice_get}
-use Rattle.ug_disk.specs.Memories.{history_of}
+use Rattle.ug_disk.specs.Histories.{History}
+use Rattle.ug_disk.specs.Crashes.{Leaves}
+use Rattle.ug_disk.specs.Memories.{faults_of, history_of}
+use Rattle.ug_snapshot.specs.Moments.{IsCovered}
+use Rattle.ug_restart.specs.Moments.{FindsIn}
 use Rattle.ug_world.specs.declared.disk_event.DiskEvent.{DiskEvent}
 use Rattle.ug_world.specs.declared.halt.Halted.{Halted}
-use Rattle.ug_world.specs.declared.halt.Halted.TheVariants.{Refused}
 use Rattle.ug_world.specs.declared.disk_schedule.PlayedDisk.{PlayedDisk}
 use Rattle.ug_world.specs.declared.disk_schedule.PlayDiskFault.{PlayDiskFault}
-use Rattle.ug_world.specs.Machines.{DiskWorld, IsDiskCourse, disk_end_of}
+use Rattle.ug_world.specs.Machines.{DiskWorld, IsDiskCourse, disk_end_of, last_left}
 use Rattle.ug_world.specs.DiskHalts.{IsHalted, IsRefused}
 use Rattle.ug_world.specs.Laws.{LosesNothing}
-use Rattle.ug_world.specs.DiskLaws.{CoversAllAlong, IsHonestOnDisk}
+use Rattle.ug_world.specs.DiskLaws.{IsHonestOnDisk}
 
 -- this is left of what stands
 pub record IsLeftOf (w : DiskWorld) (left : PlayedDisk) : Type 0 where
   pub book : left.book ≡ w.world.book
   pub saver : left.saver ≡ w.saver
   pub disk : history_of left.disk ≡ w.told
+  pub faults : faults_of left.disk ≡ w.faults
   pub replies : left.replies ≡ w.world.replies
+  pub attempts : left.attempts ≡ w.attempts
 
 -- so many of the events happened, one after another, and led to what stands
 pub record HasCome (start : DiskWorld) (events : List DiskEvent) (done : ℕ) (w : DiskWorld)
@@ -49,18 +54,20 @@ pub record IsStoppedOnDisk (start : DiskWorld) (events : List DiskEvent) (fault 
   pub halted : IsHaltedAt (slice_get events fault.done) w new fault.why
   pub is_left : IsLeftOf new fault.left
 
--- no better point is lost by what is left, if a run went on
-pub record NothingIsLost (w : DiskWorld) (left : PlayedDisk) : Type 0 where
+-- no better point is lost by what is left, if a run went on, nor since then by its disk
+pub record NothingIsLost (since : History) (w : DiskWorld) (left : PlayedDisk) : Type 0 where
   pub book : w.refused ≡ None → LosesNothing left.book
-  pub disk : CoversAllAlong (history_of left.disk)
+  pub disk : Leaves (FindsIn IsCovered) (Some since) (Some (history_of left.disk))
 
 -- so it is, as long as solvers are honest, wherever the schedule stopped
 abbrev pub HonestLeaveOnDisk : DiskWorld → List DiskEvent → Result PlayedDisk PlayDiskFault → Type 0
 HonestLeaveOnDisk start events (Ok left) =
     (w : DiskWorld) (come : HasCome start events (length events) w)
-    → All IsHonestOnDisk come.course → IsLeftOf w left → NothingIsLost w left
+    → All IsHonestOnDisk come.course → IsLeftOf w left
+    → NothingIsLost (last_left start.told (take (length events) events)) w left
 HonestLeaveOnDisk start events (Err fault) =
     (w new : DiskWorld) (come : HasCome start events fault.done w)
     → All IsHonestOnDisk come.course
     → IsHaltedAt (slice_get events fault.done) w new fault.why
-    → IsLeftOf new fault.left → NothingIsLost w fault.left
+    → IsLeftOf new fault.left
+    → NothingIsLost (last_left start.told (take fault.done events)) w fault.left

@@ -5,6 +5,7 @@ pub mod Laws
 pub mod Plays
 pub mod Halts
 pub mod DiskEvents
+pub mod DiskFinds
 pub mod DiskHalts
 pub mod DiskLaws
 pub mod DiskPlays

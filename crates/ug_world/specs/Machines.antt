@@ -1,8 +1,8 @@
 -- A coordinator and the disk of its images, and what an event does to them.
-use Rattle.std.specs.Prelude.{◌≡◌, ◌⊎◌, List, [], ◌∷◌, length, Option, None, Some, IfSome}
+use Rattle.std.specs.Prelude.{◌≡◌, ◌⊎◌, ℕ, List, [], ◌∷◌, ◌++◌, length, Option, None, Some, IfSome}
 use Rattle.ug_disk.specs.Histories.{History}
 use Rattle.ug_disk.specs.Crashes.{Leaves, MayLeaveBoth}
-use Rattle.ug_disk.specs.Memories.{begun, history_of}
+use Rattle.ug_disk.specs.Memories.{begun, faults_of, history_of}
 use Rattle.ug_rules.specs.declared.settings.Settings.{Settings}
 use Rattle.ug_rules.specs.State.{BookState}
 use Rattle.ug_rules.specs.Books.{IsBook}
@@ -12,6 +12,8 @@ use Rattle.ug_image.specs.Images.{IsImage}
 use Rattle.ug_checkpoint.specs.declared.saver.Saver.{Saver}
 use Rattle.ug_checkpoint.specs.Savers.{IsKept}
 use Rattle.ug_restart.specs.declared.fault.StartFault.{StartFault}
+use Rattle.ug_restart.specs.declared.outcome.Attempt.{Attempt}
+use Rattle.ug_restart.specs.Faults.{start_cause}
 use Rattle.ug_snapshot.specs.Moments.{IsImageOf}
 use Rattle.ug_restart.specs.Openings.{IsAcknowledgedStart}
 use Rattle.ug_restart.specs.Starts.{IsGoneOn, IsNotGoneOn, IsSafeStart}
@@ -22,17 +24,20 @@ use Rattle.ug_world.specs.declared.disk_event.DiskEvent.{DiskEvent}
 use Rattle.ug_world.specs.declared.disk_event.DiskEvent.TheVariants.{World as InWorld, Note, Save}
 use Rattle.ug_world.specs.declared.disk_event.DiskEvent.TheVariants.{Crash, Stop}
 use Rattle.ug_world.specs.declared.machine.Machine.{Machine}
-use Rattle.ug_world.specs.Saves.{IsSaved}
+use Rattle.ug_world.specs.Saves.{IsAttempt, Store}
 
 -- The book with what was sent and answered, the saver, the image that is noted to be saved, why the
--- last restart was refused if it was, and what became of the disk. After a restart that was refused
--- the book and the saver are those of the run before.
+-- last restart was refused if it was, what became of the disk, how often it has failed, and what
+-- became of each save. After a restart that was refused the book and the saver are those of the run
+-- before.
 pub record DiskWorld : Type 0 where
   pub world : World
   pub saver : Saver
   pub noted : Option Image
   pub refused : Option StartFault
   pub told : History
+  pub faults : ℕ
+  pub attempts : List Attempt
 
 -- what the fields of a machine say
 abbrev pub world_of : Machine → DiskWorld
@@ -42,16 +47,24 @@ world_of m = record {
   noted = m.noted;
   refused = m.refused;
   told = history_of m.disk;
+  faults = faults_of m.disk;
+  attempts = m.attempts.items;
 }
 
+-- the saver and the disk
+abbrev pub store_of : DiskWorld → Store
+store_of w = record { saver = w.saver; told = w.told; faults = w.faults }
+
 -- before the first event
-abbrev pub beginning : BookState → Saver → History → DiskWorld
-beginning b saver told = record {
+abbrev pub beginning : BookState → Store → DiskWorld
+beginning b s = record {
   world = opening b [];
-  saver = saver;
+  saver = s.saver;
   noted = None;
   refused = None;
-  told = told;
+  told = s.told;
+  faults = s.faults;
+  attempts = [];
 }
 
 -- while a run goes on, the saver knows how the slots stand, and what is noted is an image
@@ -73,19 +86,31 @@ pub record HasNoted (old new : DiskWorld) : Type 0 where
   pub moment : IsImageOf old.world.book 1 image
   pub rest : new ≡ record old { noted = Some image }
 
+-- the image was saved under another sequence, or an attempt was made, and what became of it is told
+pub record HasAttempted (image : Image) (old new : DiskWorld) : Type 0 where
+  pub attempt : Attempt
+  pub next : Image
+  pub same : next ≡ record image { sequence = next.sequence }
+  pub is : IsAttempt attempt (store_of old) next (store_of new)
+  pub rest : new ≡ record old {
+    saver = new.saver;
+    noted = Some next;
+    told = new.told;
+    faults = new.faults;
+    attempts = old.attempts ++ attempt ∷ [];
+  }
+
 -- what is noted, if something is, is saved or an attempt is made
 abbrev pub SavesWhat : Option Image → DiskWorld → DiskWorld → Type 0
 SavesWhat None old new = new ≡ old
-SavesWhat (Some image) old new = (next : Image)
-    × IsSaved old.saver image old.told new.saver next new.told
-    × (new ≡ record old { saver = new.saver; noted = Some next; told = new.told })
+SavesWhat (Some image) old new = HasAttempted image old new
 
 pub record IsSavedOrNot (old new : DiskWorld) : Type 0 where
   pub goes_on : old.refused ≡ None
   pub saves : SavesWhat old.noted old new
 
--- a run goes on from an image that recovery finds, once an image of its book is acknowledged; no
--- order of it was told yet
+-- a run goes on from an image that recovery finds, once an image of its book is acknowledged, and no
+-- call of the disk failed; no order of it was told yet
 pub record HasGoneOn (settings : Settings) (old new : DiskWorld) : Type 0 where
   pub book : IsGoneOn old.world.book.problem settings (Some old.told) new.world.book
   pub is : IsBook new.world.book
@@ -96,13 +121,22 @@ pub record HasGoneOn (settings : Settings) (old new : DiskWorld) : Type 0 where
     noted = None;
     refused = None;
     told = new.told;
+    faults = old.faults;
+    attempts = old.attempts;
   }
 
--- the restart is refused, for the first cause that is so or for want of memory
+-- the restart is refused, for the first cause that is so or for want of memory; for a fault of the
+-- disk where its count of faults rose, and for no other cause where it did
 pub record IsNotRestarted (settings : Settings) (old new : DiskWorld) : Type 0 where
   pub fault : StartFault
   pub why : IsNotGoneOn old.world.book.problem settings (Some old.told) (Some new.told) fault
-  pub rest : new ≡ record old { noted = None; refused = Some fault; told = new.told }
+  pub cause : start_cause fault old.faults new.faults
+  pub rest : new ≡ record old {
+    noted = None;
+    refused = Some fault;
+    told = new.told;
+    faults = new.faults;
+  }
 
 -- The coordinator restarts. At each moment of that recovery finds what it could find before, or the
 -- first image of a book that goes on from such an image.
@@ -110,6 +144,14 @@ pub record HasRestarted (settings : Settings) (old new : DiskWorld) : Type 0 whe
   pub leaves : Leaves (IsSafeStart (Some old.told)
       (IsGoneOn old.world.book.problem settings (Some old.told))) (Some old.told) (Some new.told)
   pub ends : HasGoneOn settings old new ⊎ IsNotRestarted settings old new
+
+-- how the disk stands when an event begins to call it: as a crash leaves it, or as it was
+abbrev pub left_by : DiskEvent → History → History
+left_by (InWorld event) told = told
+left_by Note told = told
+left_by Save told = told
+left_by (Crash zero one settings) told = begun zero.items one.items
+left_by (Stop settings) told = told
 
 -- what an event does
 abbrev pub HappensOnDisk : DiskWorld → DiskEvent → DiskWorld → Type 0
@@ -128,6 +170,11 @@ IsDiskCourse old (event ∷ events) (new ∷ course) =
     HappensOnDisk old event new × IsDiskCourse new events course
 IsDiskCourse old [] (new ∷ course) = ⊥
 IsDiskCourse old (event ∷ events) [] = ⊥
+
+-- the disk as the last crash of these events left it, or as it was where there is none
+abbrev pub last_left : History → List DiskEvent → History
+last_left told [] = told
+last_left told (event ∷ events) = last_left (left_by event told) events
 
 -- what stands at the end of a course
 abbrev pub disk_end_of : DiskWorld → List DiskWorld → DiskWorld

@@ -2,6 +2,7 @@ ghost use Rattle.std.specs.Prelude.{◌≡◌, Some, All, IfErr, IfOk};
 ghost use Rattle.ug_disk.specs.Memories.{history_of};
 ghost use Rattle.ug_checkpoint.specs.Savers.{IsKept};
 ghost use Rattle.ug_world.specs.DiskEvents.{IsDiskEvent};
+ghost use Rattle.ug_world.specs.Saves.{store};
 ghost use Rattle.ug_world.specs.Machines.{beginning, world_of};
 ghost use Rattle.ug_world.specs.DiskLaws.{HasBegun};
 ghost use Rattle.ug_world.specs.DiskPlays.{HonestLeaveOnDisk, IsLeftOf, IsPlayedOnDisk, IsStoppedOnDisk};
@@ -15,15 +16,20 @@ use ug_book::Book;
 use ug_checkpoint::Saver;
 use ug_disk::MemoryDisk;
 use ug_lists::Items;
+use ug_restart::Attempt;
 
-/// What a schedule leaves: the book and the saver of the last run, the disk, and what the reports
-/// that were heard were answered.
+/// What became of each save, the earliest first.
+pub type Attempts = Items<Attempt>;
+
+/// What a schedule leaves: the book and the saver of the last run, the disk, what the reports that
+/// were heard were answered, and what became of each save.
 #[derive(Drop)]
 pub struct PlayedDisk {
     pub book: Book,
     pub saver: Saver,
     pub disk: MemoryDisk,
     pub replies: Replies,
+    pub attempts: Attempts,
 }
 
 /// Why a schedule was not played to its end, after so many events that are done, and what stands
@@ -39,8 +45,9 @@ pub struct PlayDiskFault {
 /// restarts. A restart that is refused leaves no run, and the schedule stops there where another
 /// restart does not follow.
 ///
-/// As long as solvers are honest each better point lies in a primitive node of the book, and in a
-/// node of whatever image recovery could find, at each moment of a save too.
+/// What became of each save is told, and a save or a restart fails for the disk only where the disk
+/// failed. As long as solvers are honest each better point lies in a primitive node of the book, and
+/// in a node of an image that recovery finds whatever a crash leaves, at each moment of a save too.
 pub fn play_disk(
     alloc: Global,
     book: Book,
@@ -51,11 +58,11 @@ pub fn play_disk(
     requires kept { IsKept saver (Some (history_of disk)) }
     requires events { All IsDiskEvent events.now }
     ensures played { IfOk result
-        (IsPlayedOnDisk (beginning book saver (history_of disk)) events.now) }
+        (IsPlayedOnDisk (beginning book (store saver disk)) events.now) }
     ensures stopped { IfErr result
-        (IsStoppedOnDisk (beginning book saver (history_of disk)) events.now) }
-    ensures honest { HasBegun (beginning book saver (history_of disk))
-        → HonestLeaveOnDisk (beginning book saver (history_of disk)) events.now result }
+        (IsStoppedOnDisk (beginning book (store saver disk)) events.now) }
+    ensures honest { HasBegun (beginning book (store saver disk))
+        → HonestLeaveOnDisk (beginning book (store saver disk)) events.now result }
 {
     let mut machine = Machine::new(alloc, book, saver, disk);
     for (done, event) in events.iter().enumerate() {
@@ -65,21 +72,8 @@ pub fn play_disk(
         }
     }
     match machine.refused() {
-        None => Ok(leave(machine)),
+        None => Ok(machine.end()),
         Some(fault) => Err(stop(machine, Halted::Refused(fault), events.len())),
-    }
-}
-
-// What a machine leaves.
-fn leave(machine: Machine) -> PlayedDisk
-    ensures { IsLeftOf (world_of machine) result }
-{
-    let (book, saver, disk, replies) = machine.end();
-    PlayedDisk {
-        book,
-        saver,
-        disk,
-        replies: Items::from_vec(replies),
     }
 }
 
@@ -92,6 +86,6 @@ fn stop(machine: Machine, why: Halted, done: usize) -> PlayDiskFault
     PlayDiskFault {
         why,
         done,
-        left: leave(machine),
+        left: machine.end(),
     }
 }

@@ -19,8 +19,8 @@ mod schedule;
 mod starting;
 
 pub use disk_event::DiskEvent;
-pub use disk_law::crashes_lose_nothing;
-pub use disk_schedule::{PlayDiskFault, PlayedDisk, play_disk};
+pub use disk_law::{crashes_lose_nothing, runs_begin};
+pub use disk_schedule::{Attempts, PlayDiskFault, PlayedDisk, play_disk};
 pub use event::Event;
 pub use halt::Halted;
 pub use law::honest_solvers_lose_nothing;

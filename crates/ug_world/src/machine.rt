@@ -1,11 +1,13 @@
 ghost use Rattle.std.specs.Prelude.{◌≡◌, None, IfErr, OnErr, OnOk};
-ghost use Rattle.ug_disk.specs.Memories.{history_of};
 ghost use Rattle.ug_rules.specs.Books.{AreSettings};
 ghost use Rattle.ug_world.specs.DiskEvents.{IsDiskEvent, IsSendable};
+ghost use Rattle.ug_world.specs.Saves.{store};
 ghost use Rattle.ug_world.specs.Machines.{HappensOnDisk, HasNoted, HasRestarted, IsAble, IsSavedOrNot, OfWorld, beginning, world_of};
 ghost use Rattle.ug_world.specs.DiskHalts.{IsHalted, IsLeft, IsNotLeft, IsOutOfWorld, IsRefused, IsStill};
+ghost use Rattle.ug_world.specs.DiskPlays.{IsLeftOf};
 
 use crate::disk_event::DiskEvent;
+use crate::disk_schedule::PlayedDisk;
 use crate::event::Event;
 use crate::halt::Halted;
 use crate::playing::Playing;
@@ -18,8 +20,9 @@ use ug_book::Book;
 use ug_checkpoint::Saver;
 use ug_disk::MemoryDisk;
 use ug_image::Image;
-use ug_restart::StartFault;
-use ug_rules::{Heard, Settings};
+use ug_lists::Items;
+use ug_restart::{Attempt, StartFault};
+use ug_rules::Settings;
 use ug_snapshot::image_of;
 
 /// A coordinator, its solvers and the disk of its images.
@@ -32,12 +35,14 @@ pub struct Machine {
     noted: Option<Image>,
     // Why the last restart was refused; the book and the saver are then those of the run before.
     refused: Option<StartFault>,
+    // What became of each save, the earliest first.
+    attempts: Vec<Attempt>,
 }
 
 impl Machine {
     /// A run whose first image is on the disk, before its first event.
     pub fn new(alloc: Global, book: Book, saver: Saver, disk: MemoryDisk) -> Machine
-        ensures value { world_of result ≡ beginning book saver (history_of disk) }
+        ensures value { world_of result ≡ beginning book (store saver disk) }
     {
         Machine {
             alloc,
@@ -46,6 +51,7 @@ impl Machine {
             saver,
             noted: None,
             refused: None,
+            attempts: Vec::new(alloc),
         }
     }
 
@@ -56,23 +62,27 @@ impl Machine {
         self.refused
     }
 
-    /// The book, the saver, the disk and what those that were heard were answered.
-    pub fn end(self) -> (Book, Saver, MemoryDisk, Vec<Heard>)
-        ensures book { result.0 ≡ (world_of self).world.book }
-        ensures saver { result.1 ≡ (world_of self).saver }
-        ensures disk { history_of result.2 ≡ (world_of self).told }
-        ensures replies { result.3.items ≡ (world_of self).world.replies }
+    /// What it leaves.
+    pub fn end(self) -> PlayedDisk
+        ensures { IsLeftOf (world_of self) result }
     {
         let Machine {
             playing,
             saver,
             disk,
             noted,
+            attempts,
             ..
         } = self;
         drop(noted);
         let (book, replies) = playing.end();
-        (book, saver, disk, replies)
+        PlayedDisk {
+            book,
+            saver,
+            disk,
+            replies: Items::from_vec(replies),
+            attempts: Items::from_vec(attempts),
+        }
     }
 
     /// An event happens. After an error nothing has changed.
@@ -137,7 +147,7 @@ impl Machine {
         Ok(())
     }
 
-    // What was noted is saved, or an attempt is made.
+    // What was noted is saved, or an attempt is made, and what became of it is told.
     fn save(&mut self) -> Result<(), Halted>
         requires { IsAble (world_of self.old) }
         ensures saved { OnOk result (IsSavedOrNot (world_of self.old) (world_of self.new)) }
@@ -145,8 +155,10 @@ impl Machine {
         ensures able { IsAble (world_of self.new) }
     {
         self.goes_on()?;
+        self.attempts.reserve(1)?;
         if let Some(image) = &mut self.noted {
-            save(self.alloc, &mut self.disk, &mut self.saver, image);
+            let attempt = save(self.alloc, &mut self.disk, &mut self.saver, image);
+            drop(self.attempts.push(attempt));
         }
         Ok(())
     }

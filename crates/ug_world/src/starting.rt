@@ -1,8 +1,10 @@
 ghost use Rattle.std.specs.Prelude.{◌≡◌, Some, IfOk, IfErr};
-ghost use Rattle.ug_disk.specs.Memories.{history_of};
+ghost use Rattle.ug_io.specs.Outside.{IsCountedBy};
+ghost use Rattle.ug_disk.specs.Memories.{faults_of, history_of};
 ghost use Rattle.ug_disk.specs.Crashes.{Leaves};
 ghost use Rattle.ug_rules.specs.Books.{AreSettings};
 ghost use Rattle.ug_checkpoint.specs.Savers.{IsKept};
+ghost use Rattle.ug_restart.specs.Faults.{start_cause};
 ghost use Rattle.ug_restart.specs.Openings.{IsAcknowledgedStart};
 ghost use Rattle.ug_restart.specs.Starts.{IsGoneOn, IsNotGoneOn, IsSafeStart};
 
@@ -31,6 +33,7 @@ pub fn begin_again(
     ensures any_moment { Leaves (IsSafeStart (Some (history_of disk.old))
         (IsGoneOn book.now.problem settings (Some (history_of disk.old))))
         (Some (history_of disk.old)) (Some (history_of disk.new)) }
+    ensures cause { IsCountedBy start_cause result (faults_of disk.old) (faults_of disk.new) }
 {
     let problem = book.problem().share()?;
     let start = restart(alloc, disk, problem, settings)?;

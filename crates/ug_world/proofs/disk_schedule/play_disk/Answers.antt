@@ -1,8 +1,8 @@
 use Rattle.std.proofs.Common.{◌≡◌, ◌∙◌, ◌∷◌, [], ◌++◌, length, take, ap, refl, subst, sym, arith}
-use Rattle.std.specs.Prelude.{None, Some, slice_get}
+use Rattle.std.specs.Prelude.{None, slice_get}
 use Rattle.std.proofs.lemmas.List.{take_more}
-use Rattle.std.proofs.lemmas.Option.{slice_get-get_or, slice_get_past}
-use Rattle.ug_disk.specs.Memories.{history_of}
+use Rattle.std.proofs.lemmas.Option.{slice_get_past}
+use Rattle.ug_world.specs.Saves.{store}
 use Rattle.ug_world.specs.Machines.{beginning, world_of}
 use Rattle.ug_world.specs.DiskPlays.{HasCome, IsHaltedAt}
 use Rattle.ug_world.proofs.DiskPlays.{one_more, played_lost, stopped_lost}
@@ -14,18 +14,18 @@ loop-done-preserved c =
     let event = c.index-events-done.result in
     let more = take_more events c.loop-done.done event c.loop-done-test.true
     ∙ ap (λ e. take c.loop-done.done events ++ e ∷ []) (sym c.index-events-done.is) in
-    one_more (beginning c.args.book c.args.saver (history_of c.args.disk))
+    one_more (beginning c.args.book (store c.args.saver c.args.disk))
     (world_of c.loop-done.machine) (world_of c.happen.new.self) events c.loop-done.done event
     c.loop-done.invariant c.in-Ok.ensures.happened c.happen.ensures.able more
 
 pub returns-in-Err-clause-honest : goal.returns-in-Err-clause-honest
 returns-in-Err-clause-honest c begins w new come honest halted is =
-    stopped_lost (beginning c.args.book c.args.saver (history_of c.args.disk)) w new
+    stopped_lost (beginning c.args.book (store c.args.saver c.args.disk)) w new
     c.args.events.now _ _ _ begins come honest halted is
 
 pub returns-in-None-clause-played : goal.returns-in-None-clause-played
 returns-in-None-clause-played c =
-    let start = beginning c.args.book c.args.saver (history_of c.args.disk) in
+    let start = beginning c.args.book (store c.args.saver c.args.disk) in
     let events = c.args.events.now in
     let t = c.loop-done.auto.done-end in
     let u = c.loop-done-test.false in
@@ -35,17 +35,17 @@ returns-in-None-clause-played c =
       w = w;
       come = subst (λ n. HasCome start events n w) all c.loop-done.invariant.come;
       goes_on = sym c.refused.ensures ∙ c.in-None.is;
-      is_left = c.leave.ensures;
+      is_left = c.end.ensures;
     }
 
 pub returns-in-None-clause-honest : goal.returns-in-None-clause-honest
 returns-in-None-clause-honest c begins w come honest is =
-    played_lost (beginning c.args.book c.args.saver (history_of c.args.disk)) w
+    played_lost (beginning c.args.book (store c.args.saver c.args.disk)) w
     c.args.events.now _ begins come honest is
 
 pub returns-in-Some-clause-stopped : goal.returns-in-Some-clause-stopped
 returns-in-Some-clause-stopped c =
-    let start = beginning c.args.book c.args.saver (history_of c.args.disk) in
+    let start = beginning c.args.book (store c.args.saver c.args.disk) in
     let events = c.args.events.now in
     let t = c.loop-done.auto.done-end in
     let u = c.loop-done-test.false in
@@ -72,5 +72,5 @@ returns-in-Some-clause-stopped c =
 
 pub returns-in-Some-clause-honest : goal.returns-in-Some-clause-honest
 returns-in-Some-clause-honest c begins w new come honest halted is =
-    stopped_lost (beginning c.args.book c.args.saver (history_of c.args.disk)) w new
+    stopped_lost (beginning c.args.book (store c.args.saver c.args.disk)) w new
     c.args.events.now _ _ _ begins come honest halted is
