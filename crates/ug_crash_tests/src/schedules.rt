@@ -12,7 +12,7 @@ use ug_disk::{MemoryDisk, Slot};
 use ug_frames::{Ending, Report};
 use ug_nodes::Ticket;
 use ug_problem::Shared;
-use ug_restart::{Start, StartFault, begin};
+use ug_restart::{Attempt, Start, StartFault, begin};
 use ug_rows::Point;
 use ug_rules::Heard;
 use ug_world::{DiskEvent, Event, Halted, PlayDiskFault, PlayedDisk, play_disk};
@@ -274,5 +274,36 @@ fn run_goes_on_wherever_the_disk_stops(rt: HostRuntime) {
     holds_at(&rt, first < all, &(first, all));
     for stop in first.saturating_add(1)..all.saturating_add(1) {
         holds_at(&rt, goes_on(alloc, stop), &stop);
+    }
+}
+
+// What becomes of the saves of a schedule, where the disk stops in the first of them or does not.
+const SAVES: &[(&str, bool, &[Attempt])] = &[
+    ("s", false, &[]),
+    ("ns", false, &[Attempt::Saved]),
+    ("nsjdns", false, &[Attempt::Saved, Attempt::Saved]),
+    ("nss", true, &[Attempt::Missed, Attempt::Missed]),
+    ("nsxsns", true, &[Attempt::Missed, Attempt::Saved]),
+];
+
+// Whether this becomes of the saves of a schedule whose disk stops after a call.
+fn are_told(alloc: Global, text: &str, stop: u64, wanted: &[Attempt]) -> bool {
+    let played = play(alloc, text, 0, stop);
+    let is_so = matches!(&played, Some(Ok(played)) if played.attempts.as_slice() == wanted);
+    drop(played);
+    is_so
+}
+
+#[test]
+fn what_becomes_of_saves_is_told(rt: HostRuntime) {
+    let alloc = rt.alloc();
+    let first = calls_at_first(alloc).unwrap_or(0);
+    for (text, stops, wanted) in SAVES {
+        let stop = if *stops {
+            first.saturating_add(1)
+        } else {
+            u64::MAX
+        };
+        holds_at(&rt, are_told(alloc, text, stop, wanted), text);
     }
 }
