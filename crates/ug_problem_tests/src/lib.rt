@@ -1,8 +1,8 @@
 //! Tests of problems and of what is worked out of one problem alone: numbers and their scales,
-//! limits, records, images and frames byte for byte, changes and boxes, the steps of a task, alone
-//! and beside a slow search over whole boxes, made instances. They stand apart from the crates that
-//! they test, from ug_problem to ug_base, ug_frames and ug_gen. Nothing here is proved but that the
-//! tests are safe and end.
+//! limits, records, images and frames byte for byte, links in memory, changes and boxes, the steps
+//! of a task, alone and beside a slow search over whole boxes, made instances. They stand apart from
+//! the crates that they test, from ug_problem to ug_base, ug_frames and ug_gen. Nothing here is
+//! proved but that the tests are safe and end.
 #![tactic(auto)]
 
 #[cfg(test)]
@@ -13,6 +13,8 @@ mod expect;
 mod frames;
 #[cfg(test)]
 mod images;
+#[cfg(test)]
+mod links;
 #[cfg(test)]
 mod made;
 #[cfg(test)]
