@@ -32,7 +32,7 @@ pub record HasBegun (w : DiskWorld) : Type 0 where
   pub acknowledged : IsAcknowledgedStart (Some w.told) w.world.book w.saver
   pub noted : w.noted ≡ None
 
--- a new solve that has begun on a disk has, whatever the disk had
+-- what `begin` answers is such a run, whatever the disk had
 abbrev pub NewRunsBegin : Type 0
 NewRunsBegin =
     (p : Instance) (settings : Settings) (old new : History) (faults : ℕ) (start : Start)
@@ -40,7 +40,7 @@ NewRunsBegin =
     → IsBook book → book ≡ opening_book start.opening
     → HasBegun (beginning book (record { saver = start.saver; told = new; faults = faults }))
 
--- and so has a run that goes on, where the very image from which it does was Covered
+-- and what `restart` answers, where the very image from which it goes on was Covered
 abbrev pub NextRunsBegin : Type 0
 NextRunsBegin =
     (p : Instance) (settings : Settings) (old new : History) (faults : ℕ) (start : Start)
