@@ -3,7 +3,7 @@ use std::alloc::Global;
 use std::fs::{File, Files};
 use std::io;
 use ug_disk::{Disk, Slot, read_all};
-use ug_real::FileDisk;
+use ug_real::{FileDisk, RealFolder};
 
 // Whether the last call that failed did so for this cause.
 fn failed_for(error: Option<&io::Error>, kind: io::ErrorKind) -> bool {
@@ -20,16 +20,16 @@ fn has<D: Disk>(alloc: Global, disk: &mut D, slot: Slot, wanted: &[u8]) -> bool 
     has
 }
 
-fn syncs<R: Files<File = File>>(disk: &mut FileDisk<'_, R>) -> bool {
+fn syncs<R: Files<File = File>>(disk: &mut FileDisk<RealFolder<'_, R>>) -> bool {
     disk.sync(Slot::Zero).is_ok() && disk.sync(Slot::One).is_ok()
 }
 
-fn writes_twice<R: Files<File = File>>(disk: &mut FileDisk<'_, R>) -> bool {
+fn writes_twice<R: Files<File = File>>(disk: &mut FileDisk<RealFolder<'_, R>>) -> bool {
     disk.write_at(Slot::Zero, 0, b"abcdef").is_ok() && disk.write_at(Slot::Zero, 2, b"XY").is_ok()
 }
 
 // Whether both slots are written and synced, and slot 0 is read.
-fn writes<R: Files<File = File>>(disk: &mut FileDisk<'_, R>) -> bool {
+fn writes<R: Files<File = File>>(disk: &mut FileDisk<RealFolder<'_, R>>) -> bool {
     writes_twice(disk)
         && disk.write_at(Slot::One, 0, b"z").is_ok()
         && syncs(disk)
@@ -37,7 +37,7 @@ fn writes<R: Files<File = File>>(disk: &mut FileDisk<'_, R>) -> bool {
 }
 
 // Whether a read from place 4 on of the slot's six bytes gives the last two.
-fn reads_two<R: Files<File = File>>(disk: &mut FileDisk<'_, R>) -> bool {
+fn reads_two<R: Files<File = File>>(disk: &mut FileDisk<RealFolder<'_, R>>) -> bool {
     let mut piece = [0u8; 3];
     disk.len(Slot::Zero).ok() == Some(6)
         && disk.read_at(Slot::Zero, 4, &mut piece).ok() == Some(2)
@@ -45,18 +45,18 @@ fn reads_two<R: Files<File = File>>(disk: &mut FileDisk<'_, R>) -> bool {
 }
 
 // Whether a disk may not write a folder that another one writes.
-fn is_busy<R: Files<File = File>>(disk: &mut FileDisk<'_, R>) -> bool {
+fn is_busy<R: Files<File = File>>(disk: &mut FileDisk<RealFolder<'_, R>>) -> bool {
     disk.len(Slot::One).is_err() && failed_for(disk.error(), io::ErrorKind::ResourceBusy)
 }
 
 // Whether a disk does not write, and has nothing to sync.
-fn writes_nothing<R: Files<File = File>>(disk: &mut FileDisk<'_, R>) -> bool {
+fn writes_nothing<R: Files<File = File>>(disk: &mut FileDisk<RealFolder<'_, R>>) -> bool {
     disk.write_at(Slot::One, 0, b"y").is_err() && disk.sync(Slot::One).is_ok()
 }
 
 // Whether a disk for reading alone reads what another one wrote.
 fn is_read<R: Files<File = File>>(rt: &R, alloc: Global) -> bool {
-    let mut disk = FileDisk::reading(rt, alloc, "saved/here");
+    let mut disk = FileDisk::new(RealFolder::reading(rt, alloc, "saved/here"));
     let is_read = has(alloc, &mut disk, Slot::Zero, b"abXYef")
         && disk.len(Slot::One).ok() == Some(1)
         && writes_nothing(&mut disk);
@@ -67,10 +67,10 @@ fn is_read<R: Files<File = File>>(rt: &R, alloc: Global) -> bool {
 #[test]
 fn one_disk_writes_a_folder_and_others_read_it(rt: HostRuntime) {
     let alloc = rt.alloc();
-    let mut disk = FileDisk::new(&rt, alloc, "saved/here");
+    let mut disk = FileDisk::new(RealFolder::writing(&rt, alloc, "saved/here"));
     holds(&rt, writes(&mut disk));
 
-    let mut second = FileDisk::new(&rt, alloc, "saved/here");
+    let mut second = FileDisk::new(RealFolder::writing(&rt, alloc, "saved/here"));
     holds(&rt, is_busy(&mut second));
     holds(&rt, is_read(&rt, alloc));
     drop(disk);
@@ -79,21 +79,24 @@ fn one_disk_writes_a_folder_and_others_read_it(rt: HostRuntime) {
 }
 
 // Whether slot 0 is empty.
-fn is_empty<R: Files<File = File>>(mut disk: FileDisk<'_, R>) -> bool {
+fn is_empty<R: Files<File = File>>(folder: RealFolder<'_, R>) -> bool {
+    let mut disk = FileDisk::new(folder);
     let len = disk.len(Slot::Zero);
     drop(disk);
     len.ok() == Some(0)
 }
 
 // Whether a call is a fault, for which there is a cause.
-fn is_fault<R: Files<File = File>>(mut disk: FileDisk<'_, R>) -> bool {
+fn is_fault<R: Files<File = File>>(folder: RealFolder<'_, R>) -> bool {
+    let mut disk = FileDisk::new(folder);
     let is_fault = disk.len(Slot::Zero).is_err() && disk.error().is_some();
     drop(disk);
     is_fault
 }
 
 // Whether a call is a fault, since what the folder stands in is none.
-fn is_below_a_file<R: Files<File = File>>(mut disk: FileDisk<'_, R>) -> bool {
+fn is_below_a_file<R: Files<File = File>>(folder: RealFolder<'_, R>) -> bool {
+    let mut disk = FileDisk::new(folder);
     let is_fault = disk.len(Slot::Zero).is_err()
         && failed_for(disk.error(), io::ErrorKind::NotADirectory);
     drop(disk);
@@ -103,9 +106,9 @@ fn is_below_a_file<R: Files<File = File>>(mut disk: FileDisk<'_, R>) -> bool {
 #[test]
 fn a_folder_that_is_not_there_is_empty_and_one_below_a_file_is_a_fault(rt: HostRuntime) {
     let alloc = rt.alloc();
-    holds(&rt, is_empty(FileDisk::reading(&rt, alloc, "nowhere")));
-    holds(&rt, is_empty(FileDisk::new(&rt, alloc, "made")));
+    holds(&rt, is_empty(RealFolder::reading(&rt, alloc, "nowhere")));
+    holds(&rt, is_empty(RealFolder::writing(&rt, alloc, "made")));
     let below = "made/slot0/below";
-    holds(&rt, is_fault(FileDisk::new(&rt, alloc, below)));
-    holds(&rt, is_below_a_file(FileDisk::reading(&rt, alloc, below)));
+    holds(&rt, is_fault(RealFolder::writing(&rt, alloc, below)));
+    holds(&rt, is_below_a_file(RealFolder::reading(&rt, alloc, below)));
 }

@@ -1,18 +1,17 @@
 //! Savers for tests.
 
-ghost use Rattle.std.specs.Prelude.{Some, IfOk};
-ghost use Rattle.ug_disk.specs.Memories.{history_of};
+ghost use Rattle.std.specs.Prelude.{IfOk};
 ghost use Rattle.ug_image.specs.Images.{IsImage};
 ghost use Rattle.ug_checkpoint.specs.Savers.{IsKept};
 
 use std::alloc::Global;
 use ug_checkpoint::{LoadError, SaveError, Saver, load};
-use ug_disk::MemoryDisk;
+use ug_disk::Disk;
 use ug_image::{Image, decode, length};
 
 /// A saver of the slots as a load leaves them.
-pub fn opened(alloc: Global, disk: &mut MemoryDisk) -> Result<Saver, LoadError>
-    ensures { IfOk result (λ saver. IsKept saver (Some (history_of disk.new))) }
+pub fn opened<D: Disk>(alloc: Global, disk: &mut D) -> Result<Saver, LoadError>
+    ensures { IfOk result (λ saver. IsKept saver (D.seen disk.new).told) }
 {
     let found = load(alloc, disk)?;
     let saver = Saver::new(found.as_ref());
@@ -21,15 +20,15 @@ pub fn opened(alloc: Global, disk: &mut MemoryDisk) -> Result<Saver, LoadError>
 }
 
 /// How a save of an image ends, if its sequence is above the last one.
-pub fn save(
+pub fn save<D: Disk>(
     alloc: Global,
-    disk: &mut MemoryDisk,
+    disk: &mut D,
     saver: &mut Saver,
     image: &Image,
 ) -> Result<(), SaveError>
-    requires kept { IsKept saver.old (Some (history_of disk.old)) }
+    requires kept { IsKept saver.old (D.seen disk.old).told }
     requires image { IsImage image.now }
-    ensures { IsKept saver.new (Some (history_of disk.new)) }
+    ensures { IsKept saver.new (D.seen disk.new).told }
 {
     if saver.sequence() < image.sequence && length(image) < 1 << 63 {
         return saver.save(alloc, disk, image);
@@ -38,14 +37,14 @@ pub fn save(
 }
 
 /// The same of bytes, if they spell an image.
-pub fn save_bytes(
+pub fn save_bytes<D: Disk>(
     alloc: Global,
-    disk: &mut MemoryDisk,
+    disk: &mut D,
     saver: &mut Saver,
     bytes: &[u8],
 ) -> Result<(), SaveError>
-    requires { IsKept saver.old (Some (history_of disk.old)) }
-    ensures { IsKept saver.new (Some (history_of disk.new)) }
+    requires { IsKept saver.old (D.seen disk.old).told }
+    ensures { IsKept saver.new (D.seen disk.new).told }
 {
     let Ok(image) = decode(alloc, bytes) else {
         return Err(SaveError::Memory);

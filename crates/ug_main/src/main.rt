@@ -34,7 +34,7 @@ use ug_cli::{Usage, read_words};
 use ug_disk::Disk;
 use ug_io::{Sink, Source};
 use ug_print::reason;
-use ug_real::{FileDisk, Reader, Writer};
+use ug_real::{FileDisk, Reader, RealFolder, Writer};
 use ug_threads::{Host, Observer};
 use ug_top::{Refusal, Status, run};
 
@@ -91,16 +91,16 @@ struct Job<'a> {
 }
 
 // The folder of checkpoints, which is read alone where its checkpoint is shown.
-fn disk_of<'a, R>(rt: &'a R, paths: Paths<'a>) -> FileDisk<'a, R>
+fn disk_of<'a, R>(rt: &'a R, paths: Paths<'a>) -> FileDisk<RealFolder<'a, R>>
 where
     R: Files<File = File> + AllocGlobal,
     ensures { result.faults.count ≡ 0 }
 {
-    if paths.is_shown {
-        FileDisk::reading(rt, rt.alloc(), paths.folder)
+    FileDisk::new(if paths.is_shown {
+        RealFolder::reading(rt, rt.alloc(), paths.folder)
     } else {
-        FileDisk::new(rt, rt.alloc(), paths.folder)
-    }
+        RealFolder::writing(rt, rt.alloc(), paths.folder)
+    })
 }
 
 // Does what the words ask for, with these files.

@@ -2,7 +2,7 @@ use std::fs::File;
 use std::io;
 use std::io::Write;
 use std::rt::Files;
-use ug_real::{FileDisk, Reader, Writer};
+use ug_real::{FileDisk, Reader, RealFolder, Writer};
 
 /// What keeps why a call on it failed.
 pub trait Reasons {
@@ -22,7 +22,7 @@ impl<W: Write + Drop> Reasons for Writer<W> {
     }
 }
 
-impl<R: Files<File = File>> Reasons for FileDisk<'_, R> {
+impl<R: Files<File = File>> Reasons for FileDisk<RealFolder<'_, R>> {
     fn reason(&self) -> Option<&io::Error> {
         self.error()
     }

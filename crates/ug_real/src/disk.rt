@@ -1,62 +1,38 @@
-ghost use Rattle.std.specs.Prelude.{◌≡◌, ◌≤◌, None, length, IfOk};
+ghost use Rattle.std.specs.Prelude.{◌≡◌, OnOk, OnErr};
+ghost use Rattle.ug_disk.specs.Slots.{synced};
+ghost use Rattle.ug_disk.specs.Histories.{AreReal, Fails, Steps};
 
 use crate::faults::Faults;
-use crate::slot_copies::SlotCopies;
-use crate::slot_files::SlotFiles;
-use std::alloc::Global;
-use std::fs::File;
+use crate::folder::Folder;
 use std::io;
-use std::io::ErrorKind;
-use std::rt::Files;
 use ug_disk::{Disk, Slot};
 use ug_io::Failed;
 
-/// The files `slot0` and `slot1` of a folder as a disk. Want of memory is a fault like any other.
+/// The files of a folder as a disk, which tells what the folder tells. Want of memory is a fault
+/// like any other.
 #[derive(Drop)]
-pub struct FileDisk<'a, R: Files<File = File>> {
-    access: Access<'a, R>,
+pub struct FileDisk<F: Folder + Drop> {
+    folder: F,
     faults: Faults,
 }
 
-// What may be done with the folder.
-#[derive(Drop)]
-enum Access<'a, R: Files<File = File>> {
-    Writing(SlotFiles<'a, R>),
-    Reading(SlotCopies<'a, R>),
-}
-
-// Why a disk for reading alone does not write.
-fn reads_alone() -> io::Error {
-    io::Error::new(
-        ErrorKind::Unsupported,
-        "the folder is open for reading alone",
-    )
-}
-
-impl<'a, R: Files<File = File>> FileDisk<'a, R> {
-    /// The slots of a folder for writing. The folder and the files are made where they are not
-    /// there, at the first call; from then on no other `FileDisk` writes the folder until this one
-    /// is dropped: a call on one that would is a fault.
-    pub fn new(rt: &'a R, alloc: Global, folder: &'a str) -> FileDisk<'a, R>
-        ensures { result.faults.count ≡ 0 }
+impl<F: Folder + Drop> FileDisk<F> {
+    /// The slots of this folder. No call has failed yet.
+    pub fn new(folder: F) -> FileDisk<F>
+        ensures folder { result.folder ≡ folder }
+        ensures faults { result.faults.count ≡ 0 }
     {
         FileDisk {
-            access: Access::Writing(SlotFiles::new(rt, alloc, folder)),
+            folder,
             faults: Faults::new(),
         }
     }
 
-    /// The slots of a folder for reading alone, also while another program writes them. Nothing is
-    /// made, and a file that is not there is an empty slot. Both slots are copied when one is first
-    /// looked at, as two readings of both in a row gave them. A write is a fault, and a sync has
-    /// nothing to do: what a crash would leave is for the program that writes.
-    pub fn reading(rt: &'a R, alloc: Global, folder: &'a str) -> FileDisk<'a, R>
-        ensures { result.faults.count ≡ 0 }
+    /// The folder.
+    pub fn folder(&self) -> &F
+        ensures { result.now ≡ self.now.folder }
     {
-        FileDisk {
-            access: Access::Reading(SlotCopies::new(rt, alloc, folder)),
-            faults: Faults::new(),
-        }
+        &self.folder
     }
 
     /// Why the last call failed that did, in the system's words.
@@ -65,39 +41,40 @@ impl<'a, R: Files<File = File>> FileDisk<'a, R> {
     }
 }
 
-impl<R: Files<File = File>> Disk for FileDisk<'_, R> {
-    ghost seen = { λ d. record { told = None; faults = d.faults.count } };
+// Waits until the slot's bytes, and then its name in the folder, are on the disk.
+fn sync_both<F: Folder>(folder: &mut F, slot: Slot) -> io::Result<()>
+    ensures ok { OnOk result (Steps (F.seen folder.old).told (F.seen folder.new).told slot
+        (λ state. synced state.bytes)) }
+    ensures err { OnErr result (Fails (F.seen folder.old).told (F.seen folder.new).told slot
+        (λ state. state)) }
+    ensures real { AreReal (F.seen folder.old).told }
+{
+    match folder.sync_file(slot) {
+        Ok(()) => folder.sync_folder(),
+        Err(error) => Err(error),
+    }
+}
+
+impl<F: Folder + Drop> Disk for FileDisk<F> {
+    ghost seen = { λ d. record { told = (F.seen d.folder).told; faults = d.faults.count } };
 
     fn len(&mut self, slot: Slot) -> Result<u64, Failed> {
-        let got = match &mut self.access {
-            Access::Writing(files) => files.len(slot),
-            Access::Reading(copies) => copies.len(slot),
-        };
+        let got = self.folder.len(slot);
         self.faults.counted(got)
     }
 
     fn read_at(&mut self, slot: Slot, at: u64, buffer: &mut [u8]) -> Result<usize, Failed> {
-        let got = match &mut self.access {
-            Access::Writing(files) => files.read(slot, at, buffer),
-            Access::Reading(copies) => copies.read(slot, at, buffer),
-        };
+        let got = self.folder.read_at(slot, at, buffer);
         self.faults.counted(got)
     }
 
     fn write_at(&mut self, slot: Slot, at: u64, bytes: &[u8]) -> Result<(), Failed> {
-        let got = match &mut self.access {
-            Access::Writing(files) => files.write(slot, at, bytes),
-            Access::Reading(_) => Err(reads_alone()),
-        };
+        let got = self.folder.write_at(slot, at, bytes);
         self.faults.counted(got)
     }
 
     fn sync(&mut self, slot: Slot) -> Result<(), Failed> {
-        let got = match &mut self.access {
-            Access::Writing(files) => files.sync(slot),
-            // Nothing was written here that could wait to reach the disk.
-            Access::Reading(_) => Ok(()),
-        };
+        let got = sync_both(&mut self.folder, slot);
         self.faults.counted(got)
     }
 }

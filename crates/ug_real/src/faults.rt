@@ -1,4 +1,4 @@
-ghost use Rattle.std.specs.Prelude.{◌≡◌, Ok, IfOk};
+ghost use Rattle.std.specs.Prelude.{◌≡◌, Ok, IfOk, IsErr, OnErr};
 ghost use Rattle.ug_io.specs.Outside.{IsCounted, Rose};
 
 use std::io;
@@ -33,6 +33,7 @@ impl Faults {
     /// What a call gave, its error counted.
     pub fn counted<T: Drop>(&mut self, got: io::Result<T>) -> Result<T, Failed>
         ensures given { IfOk result (λ x. got ≡ Ok x) }
+        ensures failed { OnErr result (IsErr got) }
         ensures cause { IsCounted result self.old.count self.new.count }
     {
         match got {

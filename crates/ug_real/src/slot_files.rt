@@ -145,11 +145,13 @@ impl<'a, R: Files<File = File>> SlotFiles<'a, R> {
         }
     }
 
-    /// Waits until the slot's bytes, and then its name in the folder, are on the disk.
+    /// Waits until the bytes of the slot's file are on the disk.
     pub fn sync(&mut self, slot: Slot) -> io::Result<()> {
-        match self.file(slot).and_then(File::sync_all) {
-            Ok(()) => self.lock().and_then(File::sync_all),
-            Err(error) => Err(error),
-        }
+        self.file(slot).and_then(File::sync_all)
+    }
+
+    /// Waits until the names in the folder are on the disk.
+    pub fn sync_names(&mut self) -> io::Result<()> {
+        self.lock().and_then(File::sync_all)
     }
 }
