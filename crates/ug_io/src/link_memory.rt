@@ -1,6 +1,6 @@
 //! A link in memory: for tests, and for whoever has the bytes already.
 
-ghost use Rattle.std.specs.Prelude.{◌≡◌, ◌<◌, ◌++◌, [], true, false, length, IsTrue, IfOk, OnOk, OnErr};
+ghost use Rattle.std.specs.Prelude.{◌≡◌, ◌<◌, ◌++◌, [], Some, true, false, length, IsTrue, IfOk, OnOk, OnErr};
 ghost use Rattle.ug_io.specs.Outside.{IsCounted};
 ghost use Rattle.ug_io.specs.Links.{HasRead, IsSilent, heard, told};
 
@@ -30,7 +30,8 @@ impl<'a> MemoryLink<'a> {
     /// A link over which these pieces come, and then the end. An empty piece is a gap: a read that
     /// does not wait finds nothing there, once. Nothing was said yet.
     pub fn new(alloc: Global, pieces: &'a [&'a [u8]], script: Script) -> MemoryLink<'a>
-        ensures { said_of result ≡ [] }
+        ensures { seen_of result
+            ≡ record { said = Some []; ended = false; faults = faults_of script } }
     {
         MemoryLink {
             alloc,
@@ -53,7 +54,10 @@ impl<'a> MemoryLink<'a> {
     fn pass_gap(&mut self) -> bool
         ensures { seen_of self.new ≡ seen_of self.old }
     {
-        if !self.piece.is_empty() || self.rest.is_empty() || !self.rest[0].is_empty() {
+        if self.ended || !self.piece.is_empty() {
+            return false;
+        }
+        if self.rest.is_empty() || !self.rest[0].is_empty() {
             return false;
         }
         self.rest = &self.rest[1..];

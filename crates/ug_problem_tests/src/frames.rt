@@ -1,6 +1,6 @@
 //! Frames of orders and reports, byte for byte.
 
-mod bytes;
+pub mod bytes;
 mod lengths;
 mod limits;
 mod numbers;

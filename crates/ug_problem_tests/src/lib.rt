@@ -28,6 +28,8 @@ mod rounds;
 #[cfg(test)]
 mod searches;
 #[cfg(test)]
+mod served;
+#[cfg(test)]
 mod tasks;
 #[cfg(test)]
 mod whole;

@@ -20,7 +20,7 @@ enum Call {
 }
 
 // What comes over the link.
-const PIECES: &[&[u8]] = &[b"ab", b"", b"cde", b""];
+const PIECES: &[&[u8]] = &[b"ab", b"", b"cde", b"", b""];
 
 // With calls of three bytes at most.
 const CALLS: &[Call] = &[

@@ -58,6 +58,13 @@ impl Assembler {
         self.bytes.extend_from_slice(piece)
     }
 
+    /// Where in the stream the first byte stands that waits. The count stops at its greatest value.
+    pub fn place(&self) -> u64
+        ensures { result ≡ self.now.at }
+    {
+        self.at
+    }
+
     /// What comes next. A message leaves with its bytes, and bad bytes leave for good. Memory is taken
     /// for a message alone.
     #[tactic(auto, using(crate::proofs::Reading::given_is, crate::proofs::Reading::used_fits))]

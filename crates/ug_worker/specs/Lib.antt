@@ -1,2 +1,9 @@
 pub mod Engagements
 pub mod Workers
+pub mod Deeds
+pub mod Courses
+pub mod Tellings
+pub mod Serving
+pub mod Keeping
+pub mod Seats
+pub mod SeatViews

@@ -30,11 +30,14 @@ impl Reply {
     /// The same, but for a cutoff that is none of a point. What came through a lock is not known to be
     /// small, though it is.
     pub fn bounded(self) -> Reply
-        ensures { IsSmallCutoff result.cutoff }
+        ensures small { IsSmallCutoff result.cutoff }
+        ensures same { IsSmallCutoff self.cutoff → result ≡ self }
+        ensures rest { result ≡ record self { cutoff = result.cutoff } }
     {
-        Reply {
-            cutoff: self.cutoff.filter(|cutoff| cutoff.unsigned_abs() <= MOST),
-            ..self
-        }
+        let cutoff = match self.cutoff {
+            Some(cutoff) if cutoff.unsigned_abs() <= MOST => Some(cutoff),
+            _ => None,
+        };
+        Reply { cutoff, ..self }
     }
 }

@@ -1,0 +1,30 @@
+use Rattle.std.proofs.Common.{rules, ◌≡◌, ◌≢◌, inl, inr, true, false, Bool, Option, Some, None, refl, sym, ap, subst, ◌∙◌}
+use Rattle.std.proofs.lemmas.Int.{to_z-of_z}
+use mir.Syntax.{w128}
+use Rattle.ug_frames.specs.declared.order.Order.TheVariants.{End, Setup, Work}
+use Rattle.ug_worker.specs.Seats.{IsGoing}
+use Rattle.ug_worker.specs.Deeds.{Busy, Ending, Free}
+use Rattle.ug_worker.specs.SeatViews.{seat_seen}
+use Rattle.ug_worker.specs.Seats.{IsObeyed, IsOrdered, IsSeated, basis_of}
+use Rattle.ug_problem.specs.Instances.{root_of}
+use Rattle.ug_nodes.specs.Changes.{IsAreaRefused}
+use Rattle.ug_worker.proofs.Seating.{begun_seated}
+use Rattle.ug_worker.proofs.link_seat.LinkSeat.begin.Goals as goal
+
+pub returns-in-Ok : goal.returns-in-Ok
+returns-in-Ok g c =
+    begun_seated (seat_seen g.L.Link.seen c.args.self.now.wire c.args.self.now.kept) c.args.ticket c.args.params c.args.race c.args.cutoff c.args.changes.now c.in-Ok.task c.requires
+    c.in-Ok.ensures
+
+pub returns-in-Err-Outside : goal.returns-in-Err-Outside
+returns-in-Err-Outside g c =
+    let bad = subst (λ why. IsAreaRefused (root_of c.args.self.now.kept.problem) c.args.changes.now why)
+    c.in-Err-Outside.field-0-is c.in-Err-Outside.ensures in
+    c.refuse.ensures (Free (basis_of c.args.self.now.kept))
+    (Work c.args.ticket c.args.params c.args.race c.args.cutoff c.args.changes.now) tt c.requires.next
+    (λ new taken. bad.bad (taken.valid bad.at bad.there))
+
+pub returns-in-Err-Memory : goal.returns-in-Err-Memory
+returns-in-Err-Memory g c =
+    c.want.ensures.next (Free (basis_of c.args.self.now.kept))
+    (Work c.args.ticket c.args.params c.args.race c.args.cutoff c.args.changes.now) c.requires.on c.requires.next

@@ -1,0 +1,46 @@
+use Rattle.std.proofs.Common.{rules, ◌≡◌, ◌≢◌, inl, inr, true, false, Bool, Option, Some, None, refl, sym, ap, subst, ◌∙◌}
+use Rattle.std.proofs.lemmas.Int.{to_z-of_z}
+use mir.Syntax.{w128}
+use Rattle.ug_frames.specs.declared.order.Order.TheVariants.{End, Setup, Work}
+use Rattle.ug_worker.specs.Seats.{IsGoing}
+use Rattle.ug_worker.specs.Deeds.{Busy, Ending, Free}
+use Rattle.ug_worker.specs.SeatViews.{seat_seen}
+use Rattle.ug_worker.specs.Seats.{IsObeyed, IsOrdered, IsSeated, basis_of}
+use Rattle.ug_worker.proofs.Seating.{seated_next}
+use Rattle.ug_worker.proofs.link_seat.LinkSeat.receive.Goals as goal
+
+pub returns-in-Setup : goal.returns-in-Setup
+returns-in-Setup g c =
+    let own = subst (λ order. IsOrdered (seat_seen g.L.Link.seen c.args.self.now.wire c.args.self.now.kept) None order) c.in-Setup.is c.requires in
+    c.refuse.ensures (Free (basis_of c.args.self.now.kept)) (Setup c.in-Setup.gap c.in-Setup.record) tt own.next
+    (λ new taken. taken)
+
+pub returns-in-End : goal.returns-in-End
+returns-in-End g c =
+    let own = subst (λ order. IsOrdered (seat_seen g.L.Link.seen c.args.self.now.wire c.args.self.now.kept) None order) c.in-End.is c.requires in
+    c.finish.ensures (Free (basis_of c.args.self.now.kept)) refl own.on own.next
+
+pub returns-in-Incumbent : goal.returns-in-Incumbent
+returns-in-Incumbent g c =
+    let own = subst (λ order. IsOrdered (seat_seen g.L.Link.seen c.args.self.now.wire c.args.self.now.kept) None order) c.in-Incumbent.is c.requires in
+    seated_next (seat_seen g.L.Link.seen c.args.self.now.wire c.args.self.now.kept) c.args.self.now.kept None None _ own.gap tt own refl
+
+pub returns-in-CollectIn : goal.returns-in-CollectIn
+returns-in-CollectIn g c =
+    let own = subst (λ order. IsOrdered (seat_seen g.L.Link.seen c.args.self.now.wire c.args.self.now.kept) None order) c.in-CollectIn.is c.requires in
+    seated_next (seat_seen g.L.Link.seen c.args.self.now.wire c.args.self.now.kept) c.args.self.now.kept None None _ own.gap tt own refl
+
+pub returns-in-CollectOut : goal.returns-in-CollectOut
+returns-in-CollectOut g c =
+    let own = subst (λ order. IsOrdered (seat_seen g.L.Link.seen c.args.self.now.wire c.args.self.now.kept) None order) c.in-CollectOut.is c.requires in
+    seated_next (seat_seen g.L.Link.seen c.args.self.now.wire c.args.self.now.kept) c.args.self.now.kept None None _ own.gap tt own refl
+
+pub returns-in-Winner : goal.returns-in-Winner
+returns-in-Winner g c =
+    let own = subst (λ order. IsOrdered (seat_seen g.L.Link.seen c.args.self.now.wire c.args.self.now.kept) None order) c.in-Winner.is c.requires in
+    seated_next (seat_seen g.L.Link.seen c.args.self.now.wire c.args.self.now.kept) c.args.self.now.kept None None _ own.gap tt own refl
+
+pub returns : goal.returns
+returns g c =
+    let own = subst (λ order. IsOrdered (seat_seen g.L.Link.seen c.args.self.now.wire c.args.self.now.kept) None order) c.in-Stop.is c.requires in
+    seated_next (seat_seen g.L.Link.seen c.args.self.now.wire c.args.self.now.kept) c.args.self.now.kept None None _ own.gap tt own refl

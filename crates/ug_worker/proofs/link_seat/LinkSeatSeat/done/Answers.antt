@@ -1,0 +1,24 @@
+use Rattle.std.proofs.Common.{rules, ◌≡◌, Some, None, refl, sym, ap, subst, ◌∙◌}
+use Rattle.std.proofs.Common.{List, length}
+use Rattle.ug_rows.specs.declared.area.Interval.{Interval}
+use Rattle.ug_worker.specs.Deeds.{Busy, Free}
+use Rattle.ug_worker.specs.Seats.{basis_of}
+use Rattle.ug_worker.proofs.link_seat.LinkSeatSeat.done.Goals as goal
+
+pub returns : goal.returns
+returns g c =
+    let (e, seated, done) = c.requires.at in
+    record {
+      gap = seated.gap;
+      agrees = tt;
+      stands = c.tell.ensures (Busy (basis_of c.args.self.now.kept) e) (Free (basis_of c.args.self.now.kept)) (
+        record {
+          task = c.args.task;
+          its = sym seated.agrees.ticket;
+          done = done;
+          under = c.cutoff-cutoff.ensures.value;
+          counted = ap (λ (boxes : List (List Interval)). length boxes) c.handed.ensures.value;
+        },
+        refl,
+      ) seated.stands;
+    }

@@ -1,0 +1,19 @@
+use Rattle.std.proofs.Common.{rules, ◌≡◌, Some, None, refl, sym, ap, subst, ◌∙◌}
+use Rattle.ug_worker.specs.Deeds.{Busy}
+use Rattle.ug_worker.specs.Seats.{basis_of}
+use Rattle.ug_worker.proofs.Seating.{found_agrees}
+use Rattle.ug_worker.proofs.Carried.{solution_carried}
+use Rattle.ug_worker.proofs.link_seat.LinkSeatSeat.solution.Goals as goal
+
+pub tell-requires : goal.tell-requires
+tell-requires g c =
+    let (e, f, seated, found) = c.requires.at in
+    solution_carried c.args.self.now.kept e f c.args.point seated.agrees found
+
+pub returns : goal.returns
+returns g c e f seated found = record {
+  gap = seated.gap;
+  agrees = found_agrees c.args.self.now.kept e f c.args.point seated.agrees found;
+  stands = c.tell.ensures (Busy (basis_of c.args.self.now.kept) e) (Busy (basis_of c.args.self.now.kept) f)
+      (f, sym seated.agrees.ticket, found, refl) seated.stands;
+}

@@ -1,0 +1,46 @@
+use Rattle.std.proofs.Common.{rules, ◌≡◌, ◌≢◌, inl, inr, true, false, Bool, Option, Some, None, refl, sym, ap, subst, ◌∙◌}
+use Rattle.std.proofs.lemmas.Int.{to_z-of_z}
+use mir.Syntax.{w128}
+use Rattle.ug_frames.specs.declared.order.Order.TheVariants.{End, Setup, Work}
+use Rattle.ug_worker.specs.Seats.{IsGoing}
+use Rattle.ug_worker.specs.Deeds.{Busy, Ending, Free}
+use Rattle.ug_worker.specs.SeatViews.{seat_seen}
+use Rattle.ug_worker.specs.Seats.{IsObeyed, IsOrdered, IsSeated, basis_of}
+use Rattle.ug_worker.specs.Engagements.{Engaged}
+use Rattle.ug_worker.proofs.Seating.{stated_agrees, stated_told}
+use Rattle.ug_worker.proofs.link_seat.LinkSeatSeat.state.Goals as goal
+
+pub look-requires : goal.look-requires
+look-requires g c =
+    let (e, f, seated, stated) = c.requires.at in
+    record {
+      at = (
+        f,
+        record {
+          gap = seated.gap;
+          agrees = stated_agrees c.args.self.now.kept e f c.args.left c.args.floor seated.agrees stated;
+          stands = c.tell.ensures (Busy (basis_of c.args.self.now.kept) e) (Busy (basis_of c.args.self.now.kept) f) (
+            f,
+            sym seated.agrees.ticket,
+            stated_told e f c.args.left c.args.floor _
+                (to_z-of_z w128 c.args.floor c.ranges.floor) stated,
+            refl,
+          ) seated.stands;
+        },
+        ap (λ (now : Engaged). now.made) stated.same,
+      );
+    }
+
+pub returns-clause-replied : goal.returns-clause-replied
+returns-clause-replied g c e f seated stated =
+    c.look.ensures.replied f (record {
+      gap = seated.gap;
+      agrees = stated_agrees c.args.self.now.kept e f c.args.left c.args.floor seated.agrees stated;
+      stands = c.tell.ensures (Busy (basis_of c.args.self.now.kept) e) (Busy (basis_of c.args.self.now.kept) f) (
+        f,
+        sym seated.agrees.ticket,
+        stated_told e f c.args.left c.args.floor _
+            (to_z-of_z w128 c.args.floor c.ranges.floor) stated,
+        refl,
+      ) seated.stands;
+    }) (ap (λ (now : Engaged). now.made) stated.same)

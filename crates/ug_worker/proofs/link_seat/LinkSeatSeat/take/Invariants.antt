@@ -1,0 +1,12 @@
+use Rattle.std.proofs.Common.{◌≡◌, Some, None}
+use Rattle.ug_problem.specs.Better.{IsSmallCutoff}
+use Rattle.ug_worker.specs.Engagements.{Engaged}
+use Rattle.ug_worker.specs.Seats.{IsGoing, IsSeated}
+use Rattle.ug_worker.specs.SeatViews.{seat_seen}
+use Rattle.ug_worker.proofs.link_seat.LinkSeatSeat.take.Given as goal
+
+abbrev pub invariant-loop : goal.invariant-loop
+invariant-loop g l = record {
+  next : (goal.iterator-loop g).can_next l.iterator' × (goal.iterator-loop g).is_finite l.iterator';
+  at : IsSeated (seat_seen g.L.Link.seen l.self.wire l.self.kept) None;
+}

@@ -1,0 +1,36 @@
+use Rattle.std.proofs.Common.{rules, ◌≡◌, ◌≢◌, inl, inr, true, false, Bool, Option, Some, None, refl, sym, ap, subst, ◌∙◌}
+use Rattle.std.proofs.lemmas.Int.{to_z-of_z}
+use mir.Syntax.{w128}
+use mir.Val.{of_z, to_z}
+use Rattle.ug_frames.specs.declared.order.Order.TheVariants.{End, Setup, Work}
+use Rattle.ug_worker.specs.Seats.{IsGoing}
+use Rattle.ug_worker.specs.Deeds.{Busy, Ending, Free}
+use Rattle.ug_worker.specs.SeatViews.{seat_seen}
+use Rattle.ug_worker.specs.Seats.{IsObeyed, IsOrdered, IsSeated, basis_of}
+use Rattle.ug_worker.specs.Deeds.{Basis, SetUp}
+use Rattle.ug_worker.proofs.serving.sit.Goals as goal
+
+pub work-requires : goal.work-requires
+work-requires g c =
+    let problem : c.in-Ok.problem ≡ c.args.problem = search rules in
+    let basis : Basis = record { problem = c.args.problem; gap = c.args.gap } in
+    subst (λ p. IsSeated (seat_seen g.L.Link.seen c.tell.new.self (record {
+      problem = p;
+      gap = to_z w128 (of_z w128 c.args.gap);
+      ticket = record { run = 1; number = 1 };
+      racing = false;
+      asked = 0;
+    })) None) (sym problem)
+    (subst (λ gap. IsSeated (seat_seen g.L.Link.seen c.tell.new.self (record {
+      problem = c.args.problem;
+      gap = gap;
+      ticket = record { run = 1; number = 1 };
+      racing = false;
+      asked = 0;
+    })) None)
+    (sym (to_z-of_z w128 c.args.gap c.ranges.gap))
+    (record {
+      gap = c.requires.gap;
+      agrees = tt;
+      stands = c.tell.ensures (SetUp basis) (Free basis) refl c.requires.on;
+    }))

@@ -1,0 +1,24 @@
+use Rattle.std.proofs.Common.{rules, ◌≡◌, ◌<◌, ◌++◌, true, false, None, Some, length, take, refl, sym, ap, subst, ◌∙◌}
+use Rattle.ug_io.specs.Links.{LinkSeen}
+use Rattle.ug_frames.specs.OrderFrames as orders
+use Rattle.ug_stream.specs.Streams.{IsBadAt}
+use Rattle.ug_worker.specs.Serving.{HasNext, IsOpen, StandsOn, comes_next, has_ended, stands_as}
+use Rattle.ug_worker.proofs.Wires.{bad_on, failed_told, on_came, on_told, wanted_came}
+use Rattle.ug_frames.specs.ReportFrames.{spelled}
+use Rattle.ug_worker.specs.Tellings.{HasToldAll, HasToldFront}
+use Rattle.ug_worker.proofs.wire.Wire.send.Goals as goal
+
+pub returns-in-Ok : goal.returns-in-Ok
+returns-in-Ok g c old new report due carried same on =
+    let all : HasToldAll (g.L.Link.seen c.args.self.now.link) (g.L.Link.seen c.tell_all.new.link) (spelled report) =
+    search rules in
+    subst (λ end. stands_as end (g.L.Link.seen c.tell_all.new.link) c.args.self.now.orders new) (sym c.requires)
+    (on_told (g.L.Link.seen c.args.self.now.link) (g.L.Link.seen c.tell_all.new.link) c.args.self.now.orders
+    old new report due carried all c.in-Ok.ensures.cause on)
+
+pub returns-in-Err : goal.returns-in-Err
+returns-in-Err g c old new report due carried same on =
+    let front : HasToldFront (g.L.Link.seen c.args.self.now.link) (g.L.Link.seen c.tell_all.new.link) (spelled report) =
+    search rules in
+    failed_told (g.L.Link.seen c.args.self.now.link) (g.L.Link.seen c.tell_all.new.link) c.args.self.now.orders
+    old new report due front c.in-Err.ensures.cause on

@@ -1,0 +1,24 @@
+use Rattle.std.proofs.Common.{rules, ℕ, List, ◌≡◌, ◌<◌, ◌++◌, true, false, None, Some, length, take, refl, sym, ap, subst, ◌∙◌}
+use Rattle.ug_io.specs.Links.{LinkSeen}
+use Rattle.ug_frames.specs.OrderFrames as orders
+use Rattle.ug_stream.specs.Streams.{IsBadAt}
+use Rattle.ug_worker.specs.Serving.{HasNext, IsOpen, StandsOn, comes_next, has_ended, stands_as}
+use Rattle.ug_worker.proofs.Wires.{bad_on, failed_told, on_came, on_told, wanted_came}
+use Rattle.ug_worker.proofs.Wires.{read_bytes}
+use Rattle.ug_stream.specs.Streams.{fed}
+use Rattle.ug_worker.proofs.wire.hear.Goals as goal
+
+pub returns-in-Err-clause-heard : goal.returns-in-Err-clause-heard
+returns-in-Err-clause-heard g c stage running on =
+    let h = read_bytes c.args.wait (g.L.Link.seen c.args.link.now) (g.L.Link.seen c.read.new.self) c.read.new.buffer
+    c.in-Ok-Bytes.n _ c.in-Ok-Bytes.field-0-is c.in-Ok-Bytes.ensures.got in
+    wanted_came (g.L.Link.seen c.args.link.now) (g.L.Link.seen c.read.new.self) c.args.orders.now stage
+    (take c.in-Ok-Bytes.n c.read.new.buffer) h.said on
+
+pub returns-in-Ok-clause-heard : goal.returns-in-Ok-clause-heard
+returns-in-Ok-clause-heard g c stage running on =
+    let h = read_bytes c.args.wait (g.L.Link.seen c.args.link.now) (g.L.Link.seen c.read.new.self) c.read.new.buffer
+    c.in-Ok-Bytes.n _ c.in-Ok-Bytes.field-0-is c.in-Ok-Bytes.ensures.got in
+    subst (λ w. StandsOn (g.L.Link.seen c.read.new.self) w stage) (sym c.in-Ok.ensures.ok)
+    (on_came (g.L.Link.seen c.args.link.now) (g.L.Link.seen c.read.new.self) c.args.orders.now stage
+    (take c.in-Ok-Bytes.n c.read.new.buffer) h.said h.ended c.in-Ok-Bytes.ensures.cause on)

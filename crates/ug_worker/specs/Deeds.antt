@@ -1,0 +1,169 @@
+-- What goes between a coordinator and a worker over a link, and what the worker does at each piece of
+-- it.
+use Rattle.std.specs.Prelude.{◌≡◌, ◌≢◌, ◌⊎◌, ℕ, ℤ, Bool, true, false, List, [], ◌∷◌, ◌++◌, length}
+use Rattle.std.specs.Prelude.{Option, Some, None}
+use Rattle.ug_rows.specs.declared.area.Interval.{Interval}
+use Rattle.ug_problem.specs.Instances.{Instance, root_of}
+use Rattle.ug_branch.specs.declared.params.Params.{Params}
+use Rattle.ug_nodes.specs.declared.name.Ticket.{Ticket}
+use Rattle.ug_nodes.specs.declared.change.Change.{Change}
+use Rattle.ug_nodes.specs.Changes.{AreChangesOf, Spells, area_by}
+use Rattle.ug_records.specs.Answers.{IsRecordOf}
+use Rattle.ug_frames.specs.declared.order.Order.{Order}
+use Rattle.ug_frames.specs.declared.order.Order.TheVariants.{Setup, Work, Incumbent, CollectIn}
+use Rattle.ug_frames.specs.declared.order.Order.TheVariants.{CollectOut, Winner, Stop, End}
+use Rattle.ug_frames.specs.declared.report.Report.{Report}
+use Rattle.ug_frames.specs.declared.report.Report.TheVariants.{Ready, Solution, Hand, State, Done}
+use Rattle.ug_frames.specs.declared.report.Report.TheVariants.{Ended}
+use Rattle.ug_base.specs.Tasks.{TaskState}
+use Rattle.ug_worker.specs.Engagements.{Engaged, IsDoneBy, IsFoundBy, IsHandedBy, IsStatedBy, lowered}
+
+-- bytes came; an order was taken, whose frame had come; or a report was told
+pub data Deed : Type 0 where
+  Came : List ℕ → Deed
+  Took : Order → Deed
+  Told : Report → Deed
+
+-- the problem, and how far from the best an answer may be
+pub record Basis : Type 0 where
+  pub problem : Instance
+  pub gap : ℤ
+
+-- where a worker stands: nothing was ordered yet; the problem came, and Ready is to be told; it has no
+-- task; it has one; the end was ordered, and Ended is to be told; nothing comes after
+pub data Stage : Type 0 where
+  Blank : Stage
+  SetUp : Basis → Stage
+  Free : Basis → Stage
+  Busy : Basis → Engaged → Stage
+  Ending : Stage
+  Over : Stage
+
+-- the search of a box that was just ordered, in which nothing was done yet
+abbrev pub task_of : Basis → Ticket → Params → Option ℤ → List Interval → TaskState
+task_of basis ticket params cutoff whole = record {
+  problem = basis.problem;
+  ticket = ticket;
+  params = params;
+  whole = whole;
+  cutoff = cutoff;
+  gap = basis.gap;
+  boxes = whole ∷ [];
+  handed = [];
+}
+
+-- ---- orders
+
+-- a first order, with the record of a problem
+pub record IsSetUp (old : Stage) (gap : ℤ) (bytes : List ℕ) (new : Stage) : Type 0 where
+  pub problem : Instance
+  pub blank : old ≡ Blank
+  pub its : IsRecordOf bytes problem
+  pub set : new ≡ SetUp (record { problem = problem; gap = gap })
+
+-- an order of work where there is none, of a box below the root
+pub record IsBegun (basis : Basis) (ticket : Ticket) (params : Params) (race : Bool)
+    (cutoff : Option ℤ) (changes : List Change) (new : Stage) : Type 0 where
+  pub valid : AreChangesOf (root_of basis.problem) changes
+  pub begun : new ≡ Busy basis (record {
+    task = task_of basis ticket params cutoff (area_by (root_of basis.problem) changes);
+    made = 0;
+    asked = 0;
+    racing = race;
+  })
+
+-- an order under this ticket changes the task that has it, and is passed over at any other
+pub record IsForTask (e : Engaged) (ticket : Ticket) (changed old new : Stage) : Type 0 where
+  pub between : e.made ≡ 0
+  pub done : ((ticket ≡ e.task.ticket) × (new ≡ changed))
+      ⊎ ((ticket ≢ e.task.ticket) × (new ≡ old))
+
+-- what the order does to a task, between two rounds
+abbrev pub IsTakenBusy : Basis → Engaged → Order → Stage → Type 0
+IsTakenBusy basis e (Setup gap bytes) new = ⊥
+IsTakenBusy basis e (Work ticket params race cutoff changes) new = ⊥
+IsTakenBusy basis e (Incumbent cutoff) new = (e.made ≡ 0)
+    × (new ≡ Busy basis (record e { task = lowered (Some cutoff) e.task }))
+IsTakenBusy basis e (CollectIn ticket count) new =
+    IsForTask e ticket (Busy basis (record e { asked = count })) (Busy basis e) new
+IsTakenBusy basis e (CollectOut ticket) new =
+    IsForTask e ticket (Busy basis (record e { asked = 0 })) (Busy basis e) new
+IsTakenBusy basis e (Winner ticket) new =
+    IsForTask e ticket (Busy basis (record e { racing = false })) (Busy basis e) new
+IsTakenBusy basis e (Stop ticket) new = IsForTask e ticket (Free basis) (Busy basis e) new
+IsTakenBusy basis e End new = (e.made ≡ 0) × (new ≡ Ending)
+
+-- what it does where there is no task
+abbrev pub IsTakenFree : Basis → Order → Stage → Type 0
+IsTakenFree basis (Setup gap bytes) new = ⊥
+IsTakenFree basis (Work ticket params race cutoff changes) new =
+    IsBegun basis ticket params race cutoff changes new
+IsTakenFree basis (Incumbent cutoff) new = new ≡ Free basis
+IsTakenFree basis (CollectIn ticket count) new = new ≡ Free basis
+IsTakenFree basis (CollectOut ticket) new = new ≡ Free basis
+IsTakenFree basis (Winner ticket) new = new ≡ Free basis
+IsTakenFree basis (Stop ticket) new = new ≡ Free basis
+IsTakenFree basis End new = new ≡ Ending
+
+-- what it does as the first one
+abbrev pub IsTakenFirst : Order → Stage → Type 0
+IsTakenFirst (Setup gap bytes) new = IsSetUp Blank gap bytes new
+IsTakenFirst order new = ⊥
+
+-- an order that is due was taken, and this is what it does: a Setup comes first and alone first, and
+-- Work where there is no task
+abbrev pub IsTaken : Stage → Order → Stage → Type 0
+IsTaken Blank order new = IsTakenFirst order new
+IsTaken (SetUp basis) order new = ⊥
+IsTaken (Free basis) order new = IsTakenFree basis order new
+IsTaken (Busy basis e) order new = IsTakenBusy basis e order new
+IsTaken Ending order new = ⊥
+IsTaken Over order new = ⊥
+
+-- ---- reports
+
+-- a box that is handed, as its changes
+pub record IsHandTold (basis : Basis) (e : Engaged) (ticket : Ticket) (number : ℕ)
+    (changes : List Change) (f : Engaged) : Type 0 where
+  pub area : List Interval
+  pub its : ticket ≡ e.task.ticket
+  pub handed : IsHandedBy e number area f
+  pub spells : Spells (root_of basis.problem) changes area
+
+-- the end of a task, its cutoff, and how many boxes were handed
+pub record IsDoneTold (e : Engaged) (ticket : Ticket) (cutoff : Option ℤ) (count : ℕ) : Type 0 where
+  pub task : TaskState
+  pub its : ticket ≡ e.task.ticket
+  pub done : IsDoneBy e task
+  pub under : cutoff ≡ task.cutoff
+  pub counted : count ≡ length task.handed
+
+-- what is told of a task
+abbrev pub IsToldBusy : Basis → Engaged → Report → Stage → Type 0
+IsToldBusy basis e Ready new = ⊥
+IsToldBusy basis e (Solution ticket x) new =
+    (f : Engaged) × (ticket ≡ e.task.ticket) × IsFoundBy e x f × (new ≡ Busy basis f)
+IsToldBusy basis e (Hand ticket number changes) new =
+    (f : Engaged) × IsHandTold basis e ticket number changes f × (new ≡ Busy basis f)
+IsToldBusy basis e (State ticket nodes floor) new =
+    (f : Engaged) × (ticket ≡ e.task.ticket) × IsStatedBy e nodes floor f × (new ≡ Busy basis f)
+IsToldBusy basis e (Done ticket cutoff count ending) new =
+    IsDoneTold e ticket cutoff count × (new ≡ Free basis)
+IsToldBusy basis e Ended new = ⊥
+
+abbrev pub IsReadyTold : Basis → Report → Stage → Type 0
+IsReadyTold basis Ready new = new ≡ Free basis
+IsReadyTold basis report new = ⊥
+
+abbrev pub IsEndTold : Report → Stage → Type 0
+IsEndTold Ended new = new ≡ Over
+IsEndTold report new = ⊥
+
+-- a report that is due was told, and what is so then
+abbrev pub IsTold : Stage → Report → Stage → Type 0
+IsTold Blank report new = ⊥
+IsTold (SetUp basis) report new = IsReadyTold basis report new
+IsTold (Free basis) report new = ⊥
+IsTold (Busy basis e) report new = IsToldBusy basis e report new
+IsTold Ending report new = IsEndTold report new
+IsTold Over report new = ⊥
