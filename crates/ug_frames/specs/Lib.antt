@@ -11,3 +11,4 @@ pub mod Reading
 pub mod OrderReading
 pub mod ReportReading
 pub mod Laws
+pub mod Honest

@@ -34,7 +34,7 @@ use Rattle.ug_rules.proofs.EventLemmas.{death_has_taken_in, idle_death_none, rac
 use Rattle.ug_rules.proofs.DoneLemmas.{done_works_off}
 use Rattle.ug_rules.proofs.RaceLemmas.{done_ends_race, racing_entry}
 use Rattle.ug_rules.proofs.AnswerLemmas.{under_answer}
-use Rattle.ug_world.specs.Honest.{IsBoxOfHand}
+use Rattle.ug_frames.specs.Honest.{IsBoxOfHand}
 use Rattle.ug_world.proofs.Known.{AreAmong, AreFewer, AreKnown, Carries, IsKnown, among_more, carries_itself, fewer_carried, less_is_fewer, same_is_fewer, written_current}
 
 -- ---- a death

@@ -20,7 +20,7 @@ use Rattle.ug_rules.specs.declared.told.Told.{Told}
 use Rattle.ug_rules.specs.State.{BookState, current_of, ledger_of}
 use Rattle.ug_rules.proofs.HeldLemmas.{current_is, is_current}
 use Rattle.ug_rules.proofs.WorkLemmas.{state_here, state_there}
-use Rattle.ug_world.specs.Honest.{IsBoxOfHand}
+use Rattle.ug_frames.specs.Honest.{IsBoxOfHand}
 
 -- an order to work on the ticket's node is among these
 pub record IsTold (orders : List Told) (c : Current) : Type 0 where

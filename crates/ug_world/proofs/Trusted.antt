@@ -18,7 +18,8 @@ use Rattle.ug_rules.specs.State.{BookState, ledger_of}
 use Rattle.ug_rules.specs.Books.{IsBook}
 use Rattle.ug_rules.specs.HearingLaws.{IsTrueReport}
 use Rattle.ug_rules.proofs.HeldLemmas.{current_is}
-use Rattle.ug_world.specs.Honest.{AreHonest, IsGivenWith}
+use Rattle.ug_frames.specs.Honest.{AreHonest}
+use Rattle.ug_world.specs.Honest.{IsGivenWith}
 use Rattle.ug_world.proofs.Known.{AreKnown, IsKnown}
 
 -- what lies in one of the boxes
