@@ -1,0 +1,248 @@
+//! A crew in memory: for tests.
+
+ghost use Rattle.std.specs.Prelude.{◌≡◌, ◌<◌, ◌++◌, [], ℕ, List, Some, true, false, length, replicate, IfOk, IfSome, OnOk, OnErr};
+ghost use Rattle.ug_io.specs.Outside.{Rose};
+ghost use Rattle.ug_io.specs.Crews.{HasTurned, IsAlive, IsSilent, heard_from, told_to};
+
+use crate::crew::{Came, Crew, Exchange};
+use crate::outside::Failed;
+use crate::script::Script;
+use std::alloc::{AllocError, Global};
+
+/// What comes from a rank of a crew in memory: these bytes, or, where there are none, that it is gone.
+#[derive(Clone, Copy)]
+pub struct Piece<'a> {
+    pub rank: u32,
+    pub bytes: &'a [u8],
+}
+
+/// Pieces in memory as a crew, which keeps what was heard and told. What comes of a rank that does
+/// not live is passed over; where nothing comes any more a turn fails. It fails too where its script
+/// says, or memory is wanting.
+#[derive(Drop)]
+pub struct MemoryCrew<'a> {
+    alloc: Global,
+    // What is left of the piece that comes.
+    piece: Piece<'a>,
+    // The pieces behind it.
+    rest: &'a [Piece<'a>],
+    exchanged: Vec<Exchange>,
+    lives: Vec<bool>,
+    script: Script,
+}
+
+impl<'a> MemoryCrew<'a> {
+    ghost use Rattle.ug_io.specs.Scripted.{faults_of};
+    ghost use Rattle.ug_io.specs.CrewMemories.{IsNext, crew_seen, exchanged_of, left_in, next_rank};
+
+    /// A crew of so many ranks, none of which lives yet, from which these pieces come.
+    pub fn new(
+        alloc: Global,
+        ranks: u32,
+        pieces: &'a [Piece<'a>],
+        script: Script,
+    ) -> Result<MemoryCrew<'a>, AllocError>
+        ensures { IfOk result (λ crew. crew_seen crew
+            ≡ record { said = Some []; lives = replicate ranks false; faults = faults_of script }) }
+    {
+        let lives = match vec![in alloc; false; ranks as usize] {
+            Ok(lives) => lives,
+            Err(error) => {
+                drop(script);
+                return Err(error);
+            }
+        };
+        Ok(MemoryCrew {
+            alloc,
+            piece: Piece {
+                rank: 0,
+                bytes: &[],
+            },
+            rest: pieces,
+            exchanged: Vec::new(alloc),
+            lives,
+            script,
+        })
+    }
+
+    /// What was heard and told, and who is gone.
+    pub fn exchanged(&self) -> &[Exchange]
+        ensures { result.now ≡ exchanged_of self.now }
+    {
+        self.exchanged.as_slice()
+    }
+
+    // Where the first piece of a rank that lives stands, if one is still to come.
+    fn first(&self) -> Option<usize>
+        ensures { IfSome result (λ at. IsNext self.now at) }
+    {
+        let rest = self.rest;
+        for at in 0..rest.len() {
+            if self.is_alive(rest[at].rank) {
+                return Some(at);
+            }
+        }
+        None
+    }
+
+    // Goes on to that piece.
+    fn go_on(&mut self) -> bool
+        ensures seen { crew_seen self.new ≡ crew_seen self.old }
+        ensures next { result ≡ true → IsAlive (crew_seen self.new) (next_rank self.new) }
+    {
+        match self.first() {
+            Some(at) => {
+                self.piece = self.rest[at];
+                self.rest = &self.rest[at + 1..];
+                true
+            }
+            None => false,
+        }
+    }
+
+    // Hears the front of the piece that comes.
+    fn hear(&mut self, buffer: &mut [u8]) -> Result<Came, Failed>
+        requires alive { IsAlive (crew_seen self.old) (next_rank self.old) }
+        requires some { 0 < left_in self.old }
+        requires room { 0 < length buffer.old }
+        ensures came { IfOk result (HasTurned (crew_seen self.old) (crew_seen self.new) buffer.new) }
+        ensures kept { OnErr result (IsSilent (crew_seen self.old) (crew_seen self.new)) }
+        ensures cause { OnErr result (Rose (crew_seen self.old).faults (crew_seen self.new).faults) }
+    {
+        let rank = self.piece.rank;
+        let count = self
+            .script
+            .portion(buffer.len().min(self.piece.bytes.len()));
+        let (front, after) = self.piece.bytes.split_at(count);
+        if keep_heard(self.alloc, &mut self.exchanged, rank, front).is_err() {
+            self.script.fail();
+            return Err(Failed);
+        }
+        buffer[..count].copy_from_slice(front);
+        self.piece = Piece { rank, bytes: after };
+        Ok(Came::Bytes { rank, count })
+    }
+
+    // Loses the rank of the piece that comes.
+    fn lose(&mut self) -> Result<Came, Failed>
+        requires { IsAlive (crew_seen self.old) (next_rank self.old) }
+        ensures came { IfOk result (λ came. (buffer : List ℕ)
+            → HasTurned (crew_seen self.old) (crew_seen self.new) buffer came) }
+        ensures kept { OnErr result (IsSilent (crew_seen self.old) (crew_seen self.new)) }
+        ensures cause { OnErr result (Rose (crew_seen self.old).faults (crew_seen self.new).faults) }
+    {
+        let rank = self.piece.rank;
+        self.script.fail();
+        if self.exchanged.push(Exchange::Gone { rank }).is_err() {
+            return Err(Failed);
+        }
+        self.lives[rank as usize] = false;
+        Ok(Came::Gone { rank })
+    }
+
+    // What comes next, behind what was heard of the piece that came.
+    fn next(&mut self, buffer: &mut [u8]) -> Result<Came, Failed>
+        requires room { 0 < length buffer.old }
+        ensures came { IfOk result (HasTurned (crew_seen self.old) (crew_seen self.new) buffer.new) }
+        ensures kept { OnErr result (IsSilent (crew_seen self.old) (crew_seen self.new)) }
+        ensures cause { OnErr result (Rose (crew_seen self.old).faults (crew_seen self.new).faults) }
+    {
+        if !self.go_on() {
+            self.script.fail();
+            return Err(Failed);
+        }
+        if self.piece.bytes.is_empty() {
+            return self.lose();
+        }
+        self.hear(buffer)
+    }
+}
+
+// These bytes as heard from the rank.
+fn as_heard(alloc: Global, rank: u32, bytes: &[u8]) -> Result<Vec<Exchange>, AllocError>
+    ensures { IfOk result (λ said. said.items ≡ heard_from rank bytes.now) }
+{
+    bytes
+        .iter()
+        .map(|byte| Exchange::Heard { rank, byte: *byte })
+        .collect(alloc)
+}
+
+// These bytes as told to it.
+fn as_told(alloc: Global, rank: u32, bytes: &[u8]) -> Result<Vec<Exchange>, AllocError>
+    ensures { IfOk result (λ said. said.items ≡ told_to rank bytes.now) }
+{
+    bytes
+        .iter()
+        .map(|byte| Exchange::Told { rank, byte: *byte })
+        .collect(alloc)
+}
+
+// Keeps these bytes as heard from the rank.
+fn keep_heard(
+    alloc: Global,
+    exchanged: &mut Vec<Exchange>,
+    rank: u32,
+    bytes: &[u8],
+) -> Result<(), AllocError>
+    ensures ok { OnOk result (exchanged.new.items ≡ exchanged.old.items ++ heard_from rank bytes.now) }
+    ensures err { OnErr result (exchanged.new.items ≡ exchanged.old.items) }
+{
+    let more = as_heard(alloc, rank, bytes)?;
+    exchanged.extend_from_slice(&more)
+}
+
+// Keeps these bytes as told to it.
+fn keep_told(
+    alloc: Global,
+    exchanged: &mut Vec<Exchange>,
+    rank: u32,
+    bytes: &[u8],
+) -> Result<(), AllocError>
+    ensures ok { OnOk result (exchanged.new.items ≡ exchanged.old.items ++ told_to rank bytes.now) }
+    ensures err { OnErr result (exchanged.new.items ≡ exchanged.old.items) }
+{
+    let more = as_told(alloc, rank, bytes)?;
+    exchanged.extend_from_slice(&more)
+}
+
+impl Crew for MemoryCrew<'_> {
+    ghost use Rattle.ug_io.specs.CrewMemories.{crew_seen};
+
+    ghost seen = { crew_seen };
+
+    fn is_alive(&self, rank: u32) -> bool {
+        let at = rank as usize;
+        at < self.lives.len() && self.lives[at]
+    }
+
+    fn launch(&mut self, rank: u32) -> Result<(), Failed> {
+        self.script.step()?;
+        self.lives[rank as usize] = true;
+        Ok(())
+    }
+
+    fn turn(&mut self, buffer: &mut [u8]) -> Result<Came, Failed> {
+        self.script.step()?;
+        let rank = self.piece.rank;
+        if !self.piece.bytes.is_empty() && self.is_alive(rank) {
+            return self.hear(buffer);
+        }
+        self.next(buffer)
+    }
+
+    fn send(&mut self, rank: u32, bytes: &[u8]) -> Result<(), Failed> {
+        self.script.step()?;
+        if keep_told(self.alloc, &mut self.exchanged, rank, bytes).is_err() {
+            self.script.fail();
+            return Err(Failed);
+        }
+        Ok(())
+    }
+
+    fn shut(&mut self, rank: u32) {
+        self.lives[rank as usize] = false;
+    }
+
+    fn finish(&mut self) {}
+}
