@@ -6,3 +6,4 @@ pub mod Wholes
 pub mod Fronts
 pub mod OrderReaders
 pub mod ReportReaders
+pub mod OfProblem

@@ -6,5 +6,5 @@ pub mod Goings
 pub mod Covering
 pub mod Finds
 pub mod Going
-mod Lasts
+pub mod Lasts
 pub mod Making

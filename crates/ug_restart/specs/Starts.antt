@@ -113,7 +113,7 @@ pub record IsGoneOn (p : Instance) (settings : Settings) (old : Option History) 
   pub room : ¬ IsSpent (Some found)
   pub is : book ≡ gone_on p settings found
 
--- recovery finds the image of a book, under the sequence after the one that was found
+-- an image of the book is found, under some sequence
 pub record IsFirstImage (book : BookState) (found : Found) : Type 0 where
   pub sequence : ℕ
   pub image : IsImageOf book sequence found.image

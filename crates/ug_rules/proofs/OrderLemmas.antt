@@ -1,16 +1,12 @@
 -- A frame can carry each order that a book queues: its ticket was given, and its numbers are within
 -- their ranges.
-use Rattle.std.proofs.Common.{◌≡◌, ◌≢◌, inl, inr, ℕ, ℤ, ◌≤ℤ◌, zero, suc, ◌+◌, ◌<◌, ◌≤◌, ◌^◌, Bool, true, false, List, [], ◌∷◌, ◌++◌, length, map, refl, sym, ap, ◌∙◌, subst, arith}
-use Rattle.std.specs.Prelude.{All, Contains, IfSome, IsSome, Option, Some, None, ◌==◌, slice_set, unsigned_abs}
+use Rattle.std.proofs.Common.{◌≡◌, ◌≢◌, inl, inr, ℕ, ℤ, suc, ◌+◌, ◌<◌, ◌≤◌, Bool, true, false, List, [], ◌∷◌, ◌++◌, length, refl, sym, ap, ◌∙◌, subst, arith}
+use Rattle.std.specs.Prelude.{Contains, IfSome, IsSome, Option, Some, None, ◌==◌, slice_set}
 use Rattle.std.proofs.lemmas.Bool.{cases_Bool, cases_eq, cases_lt, false≢true}
-use Rattle.std.proofs.lemmas.Int.{ints}
 use Rattle.std.proofs.lemmas.Option.{none-some, same_Some}
-use Rattle.std.proofs.lemmas.List.{length-map, set_past}
-use Rattle.std.proofs.lemmas.List.Elements.{All-append, All-cons, All-from_get_or, All-nil, All-tail}
-use Rattle.ug_rows.specs.declared.area.Interval.{Interval}
-use Rattle.ug_rows.specs.Boxes.{IsClosedWithin, interval_at}
-use Rattle.ug_problem.specs.declared.column.Column.{Column}
-use Rattle.ug_problem.specs.Instances.{Instance, IsColumn, bounds_of, root_of}
+use Rattle.std.proofs.lemmas.List.{set_past}
+use Rattle.std.proofs.lemmas.List.Elements.{All-append, All-cons, All-nil}
+use Rattle.ug_problem.specs.Instances.{Instance}
 use Rattle.ug_problem.specs.Limits.{IsProblem}
 use Rattle.ug_problem.specs.Feasible.{Feasible}
 use Rattle.ug_problem.specs.Better.{IsGap, best_cutoff, cutoff_of}
@@ -18,14 +14,13 @@ use Rattle.ug_problem.proofs.Cutoffs.{cutoff_small}
 use Rattle.ug_branch.specs.declared.params.Params.{Params}
 use Rattle.ug_nodes.specs.declared.name.Name.{Name}
 use Rattle.ug_nodes.specs.declared.name.Ticket.{Ticket}
-use Rattle.ug_nodes.specs.declared.change.Change.{Change}
-use Rattle.ug_nodes.specs.Changes.{AreChangesOf, IsChangeOf, change_at, change_bounds, no_change}
 use Rattle.ug_nodes.specs.Lines.{is_ancestor, line_name_at}
 use Rattle.ug_nodes.specs.Names.{IsTicketBefore}
 use Rattle.ug_pool.specs.declared.entry.Entry.{Entry}
 use Rattle.ug_frames.specs.declared.order.Order.TheVariants.{Stop}
 use Rattle.ug_frames.specs.Orders.{IsOrder}
-use Rattle.ug_frames.specs.Ranges.{AreChanges, IsColumnValue, IsGiven, IsSmallChange, IsValue}
+use Rattle.ug_frames.specs.Ranges.{IsGiven, IsValue}
+use Rattle.ug_frames.proofs.OfProblem.{changes_fit}
 use Rattle.ug_ranks.specs.declared.state.Off.TheVariants.{Died}
 use Rattle.ug_ranks.specs.declared.state.State.{State}
 use Rattle.ug_ranks.specs.declared.state.State.TheVariants.{Absent, Idle, Racing, Active, Dead}
@@ -34,7 +29,7 @@ use Rattle.ug_ranks.specs.Looks.{is_joined, is_racing, ticket_at}
 use Rattle.ug_ledger.specs.Ledgers.{Current, IsCurrent}
 use Rattle.ug_ledger.specs.Sound.{AreTicketed}
 use Rattle.ug_rules.specs.declared.told.Told.{Told}
-use Rattle.ug_rules.specs.State.{BookState, cutoff_of_best, current_for, current_of, ledger_of}
+use Rattle.ug_rules.specs.State.{BookState, current_for, current_of, ledger_of}
 use Rattle.ug_rules.specs.Ranks.{of_ranks}
 use Rattle.ug_rules.specs.Books.{AreOrders, HasItsFloor, IsBook}
 use Rattle.ug_rules.specs.Deaths.{stop_at, stops_below}
@@ -202,43 +197,6 @@ told_carried b h cutoff small = All-append Carried b.orders (announcements cutof
       | inr not ↦ rw not none_told
     ]
 
-root_ends : (cs : List Column) (j : ℕ) → j < length cs → All IsColumn cs
-    → IsColumnValue (interval_at (map bounds_of cs) j).low
-    × IsColumnValue (interval_at (map bounds_of cs) j).high
-root_ends [] j lt all = absurd (omega (arith, lt))
-root_ends (c ∷ cs) zero lt all = let own = all 0 c (omega arith) in (own.low, own.high)
-root_ends (c ∷ cs) (suc j) lt all =
-    root_ends cs j (omega (arith, lt)) (All-tail IsColumn c cs all)
-
-ends_within : (low high a c : ℤ) → low ≤ℤ a → a ≤ℤ c → c ≤ℤ high → unsigned_abs low ≤ 10 ^ 9
-    → unsigned_abs high ≤ 10 ^ 9 → IsColumnValue a × IsColumnValue c
-ends_within low high a c f g h s t =
-    (omega (arith, ints, f, g, h, s, t), omega (arith, ints, f, g, h, s, t))
-
-small_change : (p : Instance) (change : Change) → IsProblem p → IsChangeOf (root_of p) change
-    → IsSmallChange change
-small_change p change problem own =
-    let there : change.column < length p.columns =
-    omega (arith, own.differs.there, length-map p.columns bounds_of) in
-    let ends = root_ends p.columns change.column there problem.formed.columns in
-    let root = interval_at (root_of p) change.column in
-    let both = ends_within root.low root.high change.low change.high own.within.low own.within.some
-    own.within.high ends.0 ends.1 in
-    record {
-      column = omega (arith, there, problem.counts.columns);
-      closed = own.within.some;
-      low = both.0;
-      high = both.1;
-    }
-
-changes_fit : (p : Instance) (entry : Entry) → IsProblem p → HasItsFloor p entry
-    → AreChanges entry.node.changes
-changes_fit p entry problem floor = record {
-  rising = floor.rising;
-  each = All-from_get_or IsSmallChange entry.node.changes no_change
-      (λ k lt. small_change p (change_at entry.node.changes k) problem (floor.changes k lt));
-}
-
 -- where a node is given
 pub given_carried : (b : BookState) → 0 < b.run → IsProblem b.problem → IsGap b.settings.gap
     → IfSome b.best (Feasible b.problem) → (r number : ℕ) (params : Params) (race : Bool)
@@ -250,7 +208,7 @@ given_carried b some problem gap feasible r number params race entry first floor
       given = record { run = some; number = first };
       fields = (
         cutoff_value b.problem b.settings.gap b.best problem gap feasible,
-        changes_fit b.problem entry problem floor,
+        changes_fit b.problem entry.node.changes problem floor.rising floor.changes,
       );
     }))
 

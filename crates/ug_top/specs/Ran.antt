@@ -38,7 +38,8 @@ IsCompleteOf (plans.Gen gen) left status = Unit {0}
 
 -- reading stopped with the line ENDATA, unless the source failed or memory was wanting
 abbrev pub IsReadTo : Outside → Outside → Status → Type 0
-IsReadTo old new status = (status ≡ ReadFault) ⊎ ((status ≡ Memory) ⊎ StopsAtEnd old.source.left new.source.left)
+IsReadTo old new status = (status ≡ ReadFault)
+    ⊎ ((status ≡ Memory) ⊎ StopsAtEnd old.source.left new.source.left)
 
 -- the words ask for a plan, and what is due is what it comes to; without a checkpoint the disk is
 -- left alone

@@ -2,7 +2,7 @@
 -- are new have P.
 use Rattle.std.proofs.Common.{◌≡◌, inl, inr, List, ℕ, Option, None, Some, refl, sym, ◌∙◌, ap, subst}
 use Rattle.ug_disk.specs.declared.slot.Slot.{Slot}
-use Rattle.ug_disk.specs.Histories.{History, slot_of}
+use Rattle.ug_disk.specs.Histories.{History}
 use Rattle.ug_disk.specs.Crashes.{Leaves, MayLeaveBoth}
 use Rattle.ug_disk.specs.Memories.{begun}
 use Rattle.ug_disk.proofs.Images.{only_bytes}
@@ -12,12 +12,9 @@ use Rattle.ug_rules.specs.declared.settings.Settings.{Settings}
 use Rattle.ug_rules.specs.State.{BookState}
 use Rattle.ug_image.specs.declared.image.Image.{Image}
 use Rattle.ug_checkpoint.specs.declared.found.Found.{Found}
-use Rattle.ug_checkpoint.specs.Bodies.{Has}
-use Rattle.ug_checkpoint.specs.Keepers.{next_after}
 use Rattle.ug_checkpoint.specs.Recovery.{Recovered}
-use Rattle.ug_checkpoint.specs.Savers.{CouldFind, Finds, IsLast, IsLeftAlone, IsWritten, last_slot}
+use Rattle.ug_checkpoint.specs.Savers.{CouldFind, Finds, IsLast, IsWritten, last_slot}
 use Rattle.ug_checkpoint.proofs.Finding.{recovered_one}
-use Rattle.ug_checkpoint.proofs.Keeping.{twice}
 use Rattle.ug_snapshot.specs.Moments.{IsImageOf}
 use Rattle.ug_restart.specs.declared.outcome.Attempt.{Attempt}
 use Rattle.ug_restart.specs.declared.outcome.Attempt.TheVariants.{Saved, Missed, Unsaved}
@@ -25,6 +22,7 @@ use Rattle.ug_restart.specs.Moments.{FindsIn, LastIs}
 use Rattle.ug_restart.specs.Starts.{IsGoneOn, IsSafeStart}
 use Rattle.ug_restart.proofs.Covering.{leaves_now}
 use Rattle.ug_restart.proofs.Finds.{Stands, found_failed, found_saved}
+use Rattle.ug_restart.proofs.Lasts.{last_still}
 use Rattle.ug_world.specs.Saves.{IsAttempt, next_found}
 use Rattle.ug_world.specs.Machines.{DiskWorld, HasRestarted, IsNotRestarted, store_of}
 
@@ -117,18 +115,6 @@ all_found P w found finds last written is = record {
 
 -- ---- a save
 
--- the last acknowledged image stays, since its slot is left alone
-last_still : (last after : Option Slot) (old new : History) → after ≡ last
-    → IsLeftAlone (next_after last) (Some old) (Some new) → (found : Option Found)
-    → IsLast last (Some old) found → IsLast after (Some new) found
-last_still None after old new same alone found is =
-    subst (λ l. IsLast l (Some new) found) (sym same) is
-last_still (Some slot) after old new same alone found is =
-    let stood : slot_of slot new.now ≡ slot_of slot old.now =
-    subst (λ (s : Slot). slot_of s new.now ≡ slot_of s old.now) (twice slot) alone.0 in
-    subst (λ l. IsLast l (Some new) found) (sym same)
-    (is.0, subst (λ s. Has s.bytes is.0) (sym stood) is.1, is.2)
-
 -- at each moment of it, and the last acknowledged image then
 save_stands : (P : OfImage) (attempt : Attempt) (old new : DiskWorld) (next : Image)
     → old.refused ≡ None → HasAll P old → P next
@@ -140,7 +126,7 @@ save_stands P Saved old new next goes_on all is t =
     (next, t.1.written, refl)) (record { could = all.could; last = all.last goes_on })
 save_stands P Missed old new next goes_on all is t =
     found_failed P old.saver new.saver (Some old.told) (Some new.told) next is t.0.leaves
-    (last_still (last_slot old.saver) (last_slot new.saver) old.told new.told t.1.last t.0.alone)
+    (last_still (last_slot old.saver) (last_slot new.saver) (Some old.told) (Some new.told) t.1.last t.0.alone)
     (record { could = all.could; last = all.last goes_on })
 save_stands P Unsaved old new next goes_on all is t = (
   each_alike P old.told new.told t.1 all.could,
