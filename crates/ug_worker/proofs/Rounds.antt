@@ -1,13 +1,13 @@
 -- What the steps of a round, hands and reports make of where a worker stands.
-use Rattle.std.proofs.Common.{◌≡◌, inl, inr, ℕ, suc, ◌+◌, ◌-◌, ◌<◌, ◌≤◌, List, [], ◌∷◌, ◌++◌, length, Option, Some, None, Bool, true, false, ℤ, ◌⊎◌, refl, sym, ap, subst, ◌∙◌, arith, if◌then◌else◌}
+use Rattle.std.proofs.Common.{◌≡◌, ℕ, suc, ◌+◌, ◌-◌, ◌<◌, ◌≤◌, List, length, Option, Some, Bool, true, false, ℤ, ◌⊎◌, refl, sym, ap, subst, ◌∙◌, arith, if◌then◌else◌}
 use Rattle.ug_rows.specs.declared.area.Interval.{Interval}
 use Rattle.ug_base.specs.declared.handed.Handed.{Handed}
 use Rattle.ug_base.specs.Hands.{IsHanded}
-use Rattle.ug_base.specs.Steps.{IsFound, IsPruned, IsSplit}
+use Rattle.ug_base.specs.Steps.{IsFound}
 use Rattle.ug_base.specs.Tasks.{IsLeastFloor, IsTask, TaskState}
 use Rattle.ug_worker.specs.declared.reply.Reply.{Reply}
-use Rattle.ug_worker.specs.Engagements.{AreQuiet, Engaged, GoesOn, HasBegun, IsFoundBy, IsHandedBy, IsQuiet, IsSince, IsStatedBy, due_of, lowered, steps_of_round}
-use Rattle.ug_worker.specs.Workers.{HasHanded, HasStepped, IsSearched, StandsAt}
+use Rattle.ug_worker.specs.Engagements.{Engaged, GoesOn, HasBegun, IsFoundBy, IsHandedBy, IsQuiet, IsSince, IsStatedBy, due_of, lowered, steps_of_round}
+use Rattle.ug_worker.specs.Workers.{HasHanded, StandsAt}
 
 -- a box asked for was handed, where one was due
 due_less : (racing : Bool) (asked due : ℕ) → (if racing then 0 else asked) ≡ due → 0 < due

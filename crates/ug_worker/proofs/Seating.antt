@@ -1,5 +1,5 @@
 -- What a seat at a link makes of orders and reports.
-use Rattle.std.proofs.Common.{◌≡◌, ◌≢◌, ◌⊎◌, inl, inr, ℕ, ℤ, zero, suc, ◌+◌, ◌-◌, ◌<◌, ◌≤◌, ◌≤ℤ◌, Bool, true, false, List, [], ◌∷◌, ◌++◌, length, Option, Some, None, MatchBool, not, Result, Err, IfErr, refl, sym, ap, subst, ◌∙◌, arith}
+use Rattle.std.proofs.Common.{◌≡◌, ◌≢◌, inl, inr, ℕ, ℤ, zero, suc, ◌-◌, ◌≤ℤ◌, Bool, true, false, List, Option, Some, None, MatchBool, not, Result, Err, IfErr, refl, sym, ap, subst, ◌∙◌, arith}
 use Rattle.ug_io.specs.Links.{LinkSeen}
 use Rattle.ug_rows.specs.declared.area.Interval.{Interval}
 use Rattle.ug_problem.specs.Better.{IsGap}
@@ -12,20 +12,18 @@ use Rattle.ug_nodes.specs.declared.change.Change.{Change}
 use Rattle.ug_nodes.specs.declared.name.Ticket.{Ticket}
 use Rattle.ug_frames.specs.declared.order.Order.{Order}
 use Rattle.ug_frames.specs.declared.order.Order.TheVariants.{Incumbent, Stop, Winner, Work}
-use Rattle.ug_frames.specs.declared.report.Report.{Report}
-use Rattle.ug_base.specs.Steps.{IsPruned, IsSplit}
 use Rattle.ug_base.specs.Tasks.{TaskState, lesser_of}
 use Rattle.ug_stream.specs.Streams.{Waiting}
 use Rattle.ug_worker.specs.declared.served.Served.{Served}
 use Rattle.ug_worker.specs.declared.kept.Kept.{Kept}
 use Rattle.ug_worker.specs.Engagements.{AreQuiet, Engaged, HasBegun, IsFoundBy, IsHandedBy, IsStatedBy, lowered}
-use Rattle.ug_worker.specs.Deeds.{Basis, Busy, Free, IsForTask, IsTaken, Over, Stage}
+use Rattle.ug_worker.specs.Deeds.{Busy, Free, IsForTask, IsTaken, Over, Stage}
 use Rattle.ug_worker.specs.Serving.{HasNext, HasEnded, StandsOn, has_ended, stands_as}
 use Rattle.ug_worker.specs.Keeping.{IsAsked, IsWon}
 use Rattle.ug_worker.specs.Seats.{Agrees, IsGoing, IsObeyed, IsTaskOf, IsOrdered, IsSeated, SeatSeen, agrees, basis_of, stage_of}
 use Rattle.std.proofs.lemmas.Int.{ints}
 use Rattle.ug_base.proofs.Floors.{lesser_is}
-use Rattle.ug_worker.proofs.Wires.{next_taken, wanted_on}
+use Rattle.ug_worker.proofs.Wires.{next_taken}
 
 -- ---- what no quiet step changes
 
@@ -33,12 +31,18 @@ pub record IsSameTask (old new : TaskState) : Type 0 where
   pub problem : new.problem ≡ old.problem
   pub ticket : new.ticket ≡ old.ticket
   pub gap : new.gap ≡ old.gap
+  pub whole : new.whole ≡ old.whole
+  pub cutoff : new.cutoff ≡ old.cutoff
+  pub handed : new.handed ≡ old.handed
 
 same_itself : (old new : TaskState) → new ≡ old → IsSameTask old new
 same_itself old new e = record {
   problem = ap (λ (t : TaskState). t.problem) e;
   ticket = ap (λ (t : TaskState). t.ticket) e;
   gap = ap (λ (t : TaskState). t.gap) e;
+  whole = ap (λ (t : TaskState). t.whole) e;
+  cutoff = ap (λ (t : TaskState). t.cutoff) e;
+  handed = ap (λ (t : TaskState). t.handed) e;
 }
 
 same_on : (a b c : TaskState) → IsSameTask a b → IsSameTask b c → IsSameTask a c
@@ -46,21 +50,30 @@ same_on a b c f g = record {
   problem = g.problem ∙ f.problem;
   ticket = g.ticket ∙ f.ticket;
   gap = g.gap ∙ f.gap;
+  whole = g.whole ∙ f.whole;
+  cutoff = g.cutoff ∙ f.cutoff;
+  handed = g.handed ∙ f.handed;
 }
 
-quiet_same : (n : ℕ) (old new : TaskState) → AreQuiet n old new → IsSameTask old new
+pub quiet_same : (n : ℕ) (old new : TaskState) → AreQuiet n old new → IsSameTask old new
 quiet_same zero old new e = same_itself old new e
 quiet_same (suc n) old new (mid, more, inl pruned) =
     same_on old mid new (quiet_same n old mid more) (record {
       problem = ap (λ (t : TaskState). t.problem) pruned.same;
       ticket = ap (λ (t : TaskState). t.ticket) pruned.same;
       gap = ap (λ (t : TaskState). t.gap) pruned.same;
+      whole = ap (λ (t : TaskState). t.whole) pruned.same;
+      cutoff = ap (λ (t : TaskState). t.cutoff) pruned.same;
+      handed = ap (λ (t : TaskState). t.handed) pruned.same;
     })
 quiet_same (suc n) old new (mid, more, inr split) =
     same_on old mid new (quiet_same n old mid more) (record {
       problem = ap (λ (t : TaskState). t.problem) split.same;
       ticket = ap (λ (t : TaskState). t.ticket) split.same;
       gap = ap (λ (t : TaskState). t.gap) split.same;
+      whole = ap (λ (t : TaskState). t.whole) split.same;
+      cutoff = ap (λ (t : TaskState). t.cutoff) split.same;
+      handed = ap (λ (t : TaskState). t.handed) split.same;
     })
 
 -- ---- what a call leaves of what is kept

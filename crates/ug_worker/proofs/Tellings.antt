@@ -1,11 +1,11 @@
 -- Bytes that went over a link in two calls.
-use Rattle.std.proofs.Common.{◌≡◌, ℕ, List, [], ◌++◌, Option, Some, None, take, drop, map, refl, ap, sym, subst, ◌∙◌, append_assoc, append-nil, take-append-drop}
+use Rattle.std.proofs.Common.{◌≡◌, ℕ, List, [], ◌++◌, Option, Some, None, take, drop, refl, ap, sym, subst, ◌∙◌, append_assoc, append-nil, take-append-drop}
 use Rattle.std.specs.Option.{option_map}
 use Rattle.std.proofs.lemmas.List.{map-append}
 use Rattle.ug_io.specs.declared.link.Said.{Said}
 use Rattle.ug_io.specs.declared.link.Said.TheVariants.{Told}
 use Rattle.ug_io.specs.Links.{Adds, HasTold, LinkSeen, told}
-use Rattle.ug_worker.specs.Tellings.{HasToldAll, HasToldFront}
+use Rattle.ug_worker.specs.Tellings.{HasToldAll}
 
 -- a front of the bytes went, and these are left
 pub record Went (old new : LinkSeen) (bytes rest : List ℕ) : Type 0 where

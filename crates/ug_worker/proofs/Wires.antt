@@ -1,5 +1,5 @@
 -- What goes over a link makes of a worker's standing.
-use Rattle.std.proofs.Common.{◌≡◌, ◌⊎◌, inl, inr, ℕ, ◌+◌, ◌-◌, ◌^◌, ◌<◌, ◌≤◌, Bool, true, false, List, [], ◌∷◌, ◌++◌, Option, Some, None, IfSome, refl, sym, ap, subst, ◌∙◌, arith}
+use Rattle.std.proofs.Common.{◌≡◌, ◌⊎◌, inl, inr, ℕ, ◌<◌, Bool, false, List, [], ◌∷◌, ◌++◌, Option, Some, None, IfSome, refl, sym, ap, subst, ◌∙◌, arith}
 use Rattle.std.proofs.lemmas.Bool.{false≢true}
 use Rattle.ug_io.specs.declared.link.Said.{Said}
 use Rattle.ug_io.specs.declared.link.Got.{Got}
@@ -10,11 +10,11 @@ use Rattle.ug_frames.specs.declared.order.Order.{Order}
 use Rattle.ug_frames.specs.declared.report.Report.{Report}
 use Rattle.ug_frames.specs.OrderFrames as orders
 use Rattle.ug_frames.specs.ReportFrames as reports
-use Rattle.ug_stream.specs.Streams.{IsBadAt, IsGiven, Waiting, fed}
+use Rattle.ug_stream.specs.Streams.{IsBadAt, Waiting, fed}
 use Rattle.ug_worker.specs.Tellings.{HasToldAll, HasToldFront}
 use Rattle.ug_worker.specs.Deeds.{Deed, Came, Took, Told, Stage, IsTaken, IsTold}
 use Rattle.ug_worker.specs.Courses.{Does, HasCome, IsCourse, IsFresh, Standing, beginning}
-use Rattle.ug_worker.specs.Serving.{HasFailed, HasMetBad, HasNext, HasWanted, IsFront, IsOn, IsOpen, IsPartTold, IsUndue, StandsOn}
+use Rattle.ug_worker.specs.Serving.{HasFailed, HasMetBad, HasNext, HasWanted, IsOn, IsOpen, IsPartTold, StandsOn}
 
 -- ---- one deed more
 

@@ -1,5 +1,5 @@
 -- How a worker's deeds follow from each other, and which bytes they are on its link.
-use Rattle.std.specs.Prelude.{◌≡◌, ℕ, false, List, [], ◌∷◌, ◌++◌, Option, IfSome}
+use Rattle.std.specs.Prelude.{◌≡◌, false, List, [], ◌∷◌, ◌++◌, IfSome}
 use Rattle.ug_io.specs.declared.link.Said.{Said}
 use Rattle.ug_io.specs.Links.{LinkSeen, heard, told}
 use Rattle.ug_frames.specs.declared.order.Order.{Order}

@@ -7,3 +7,5 @@ pub mod Serving
 pub mod Keeping
 pub mod Seats
 pub mod SeatViews
+pub mod Transcripts
+pub mod Laws

@@ -1,5 +1,5 @@
 -- How a worker's seat at a link stands.
-use Rattle.std.specs.Prelude.{◌≡◌, ◌⊎◌, ℕ, ℤ, Bool, true, false, List, Option, Some, None}
+use Rattle.std.specs.Prelude.{◌≡◌, ℕ, ℤ, Bool, true, false, List, Option, Some, None}
 use Rattle.ug_io.specs.Links.{LinkSeen}
 use Rattle.ug_problem.specs.Better.{IsGap}
 use Rattle.ug_nodes.specs.declared.name.Ticket.{Ticket}

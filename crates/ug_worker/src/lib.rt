@@ -8,6 +8,7 @@
 #![tactic(auto)]
 
 mod kept;
+mod laws;
 mod link_seat;
 mod reply;
 mod search;
@@ -19,6 +20,7 @@ mod took;
 mod wire;
 mod worker;
 
+pub use laws::{courses_are_transcripts, workers_are_honest};
 pub use reply::Reply;
 pub use seat::Seat;
 pub use served::Served;

@@ -1,12 +1,10 @@
-use Rattle.std.proofs.Common.{rules, ◌≡◌, ◌≢◌, inl, inr, true, false, Bool, Option, Some, None, refl, sym, ap, subst, ◌∙◌}
+use Rattle.std.proofs.Common.{rules, ◌≡◌, false, None, refl, sym, subst}
 use Rattle.std.proofs.lemmas.Int.{to_z-of_z}
 use mir.Syntax.{w128}
 use mir.Val.{of_z, to_z}
-use Rattle.ug_frames.specs.declared.order.Order.TheVariants.{End, Setup, Work}
-use Rattle.ug_worker.specs.Seats.{IsGoing}
-use Rattle.ug_worker.specs.Deeds.{Busy, Ending, Free}
+use Rattle.ug_worker.specs.Deeds.{Free}
 use Rattle.ug_worker.specs.SeatViews.{seat_seen}
-use Rattle.ug_worker.specs.Seats.{IsObeyed, IsOrdered, IsSeated, basis_of}
+use Rattle.ug_worker.specs.Seats.{IsSeated}
 use Rattle.ug_worker.specs.Deeds.{Basis, SetUp}
 use Rattle.ug_worker.proofs.serving.sit.Goals as goal
 

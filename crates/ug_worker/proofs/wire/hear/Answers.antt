@@ -1,11 +1,7 @@
-use Rattle.std.proofs.Common.{rules, ℕ, List, ◌≡◌, ◌<◌, ◌++◌, true, false, None, Some, length, take, refl, sym, ap, subst, ◌∙◌}
-use Rattle.ug_io.specs.Links.{LinkSeen}
-use Rattle.ug_frames.specs.OrderFrames as orders
-use Rattle.ug_stream.specs.Streams.{IsBadAt}
-use Rattle.ug_worker.specs.Serving.{HasNext, IsOpen, StandsOn, comes_next, has_ended, stands_as}
-use Rattle.ug_worker.proofs.Wires.{bad_on, failed_told, on_came, on_told, wanted_came}
+use Rattle.std.proofs.Common.{take, sym, subst}
+use Rattle.ug_worker.specs.Serving.{StandsOn}
+use Rattle.ug_worker.proofs.Wires.{on_came, wanted_came}
 use Rattle.ug_worker.proofs.Wires.{read_bytes}
-use Rattle.ug_stream.specs.Streams.{fed}
 use Rattle.ug_worker.proofs.wire.hear.Goals as goal
 
 pub returns-in-Err-clause-heard : goal.returns-in-Err-clause-heard

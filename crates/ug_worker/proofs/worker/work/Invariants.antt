@@ -1,4 +1,4 @@
-use Rattle.std.proofs.Common.{◌≡◌, None}
+use Rattle.std.proofs.Common.{None}
 use Rattle.ug_worker.proofs.worker.work.Given as goal
 
 abbrev pub invariant-loop : goal.invariant-loop

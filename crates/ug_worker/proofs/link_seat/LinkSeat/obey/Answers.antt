@@ -1,14 +1,14 @@
-use Rattle.std.proofs.Common.{rules, ◌≡◌, ◌≢◌, inl, inr, true, false, Bool, Option, Some, None, refl, sym, ap, subst, ◌∙◌}
+use Rattle.std.proofs.Common.{rules, Some, refl, sym, ap, subst, ◌∙◌}
 use Rattle.std.proofs.Common.{arith}
 use Rattle.ug_base.specs.Tasks.{lesser_of}
 use Rattle.std.proofs.lemmas.Int.{fits_signed_from_abs, to_z-of_z}
 use mir.Syntax.{w128}
-use Rattle.ug_frames.specs.declared.order.Order.TheVariants.{End, Setup, Work}
+use Rattle.ug_frames.specs.declared.order.Order.TheVariants.{Setup, Work}
 use Rattle.ug_worker.specs.Seats.{IsGoing}
-use Rattle.ug_worker.specs.Deeds.{Busy, Ending, Free}
+use Rattle.ug_worker.specs.Deeds.{Busy}
 use Rattle.ug_worker.specs.SeatViews.{seat_seen}
-use Rattle.ug_worker.specs.Seats.{IsObeyed, IsOrdered, IsSeated, basis_of}
-use Rattle.ug_worker.proofs.Seating.{stop_obeyed, asked_going, going_on, lowered_going, not_stopped, seated_ended, stopped, won_going}
+use Rattle.ug_worker.specs.Seats.{IsOrdered, basis_of}
+use Rattle.ug_worker.proofs.Seating.{stop_obeyed, asked_going, lowered_going, seated_ended, won_going}
 use Rattle.ug_worker.proofs.link_seat.LinkSeat.obey.Goals as goal
 
 pub returns-in-Incumbent-clause-obeyed : goal.returns-in-Incumbent-clause-obeyed

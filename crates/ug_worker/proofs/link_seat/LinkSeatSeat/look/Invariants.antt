@@ -1,4 +1,4 @@
-use Rattle.std.proofs.Common.{◌≡◌, Some, None}
+use Rattle.std.proofs.Common.{◌≡◌, Some}
 use Rattle.ug_problem.specs.Better.{IsSmallCutoff}
 use Rattle.ug_worker.specs.Engagements.{Engaged}
 use Rattle.ug_worker.specs.Seats.{IsGoing, IsSeated}

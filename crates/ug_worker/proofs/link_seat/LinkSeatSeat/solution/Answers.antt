@@ -1,4 +1,4 @@
-use Rattle.std.proofs.Common.{rules, ◌≡◌, Some, None, refl, sym, ap, subst, ◌∙◌}
+use Rattle.std.proofs.Common.{refl, sym}
 use Rattle.ug_worker.specs.Deeds.{Busy}
 use Rattle.ug_worker.specs.Seats.{basis_of}
 use Rattle.ug_worker.proofs.Seating.{found_agrees}

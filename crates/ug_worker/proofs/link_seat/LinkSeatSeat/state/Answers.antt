@@ -1,11 +1,8 @@
-use Rattle.std.proofs.Common.{rules, ◌≡◌, ◌≢◌, inl, inr, true, false, Bool, Option, Some, None, refl, sym, ap, subst, ◌∙◌}
+use Rattle.std.proofs.Common.{refl, sym, ap}
 use Rattle.std.proofs.lemmas.Int.{to_z-of_z}
 use mir.Syntax.{w128}
-use Rattle.ug_frames.specs.declared.order.Order.TheVariants.{End, Setup, Work}
-use Rattle.ug_worker.specs.Seats.{IsGoing}
-use Rattle.ug_worker.specs.Deeds.{Busy, Ending, Free}
-use Rattle.ug_worker.specs.SeatViews.{seat_seen}
-use Rattle.ug_worker.specs.Seats.{IsObeyed, IsOrdered, IsSeated, basis_of}
+use Rattle.ug_worker.specs.Deeds.{Busy}
+use Rattle.ug_worker.specs.Seats.{basis_of}
 use Rattle.ug_worker.specs.Engagements.{Engaged}
 use Rattle.ug_worker.proofs.Seating.{stated_agrees, stated_told}
 use Rattle.ug_worker.proofs.link_seat.LinkSeatSeat.state.Goals as goal

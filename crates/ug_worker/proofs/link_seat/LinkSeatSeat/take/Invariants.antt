@@ -1,7 +1,5 @@
-use Rattle.std.proofs.Common.{◌≡◌, Some, None}
-use Rattle.ug_problem.specs.Better.{IsSmallCutoff}
-use Rattle.ug_worker.specs.Engagements.{Engaged}
-use Rattle.ug_worker.specs.Seats.{IsGoing, IsSeated}
+use Rattle.std.proofs.Common.{None}
+use Rattle.ug_worker.specs.Seats.{IsSeated}
 use Rattle.ug_worker.specs.SeatViews.{seat_seen}
 use Rattle.ug_worker.proofs.link_seat.LinkSeatSeat.take.Given as goal
 

@@ -1,10 +1,6 @@
-use Rattle.std.proofs.Common.{rules, ◌≡◌, ◌<◌, ◌≤◌, ◌+◌, ◌-◌, [], Some, None, length, refl, sym, ap, subst, inl, inr, arith, ◌++◌, ◌∷◌, ◌∙◌}
-use Rattle.ug_base.specs.Tasks.{IsLeastFloor, IsTask, TaskState}
-use Rattle.ug_base.specs.Steps.{IsFound}
+use Rattle.std.proofs.Common.{rules, arith}
 use Rattle.ug_base.specs.Hands.{IsHanded}
-use Rattle.ug_worker.specs.Engagements.{IsReplied, Stands}
-use Rattle.ug_worker.specs.Workers.{HasGiven, HasHanded, HasStepped, StandsAt}
-use Rattle.ug_worker.proofs.Rounds.{found_by, found_now, handed_by, handed_now, stands_found, stands_handed, stated_by, stated_now}
+use Rattle.ug_worker.proofs.Rounds.{handed_by, handed_now, stands_handed}
 use Rattle.ug_worker.proofs.Rounds.{some_left}
 use Rattle.ug_worker.proofs.search.Search.hand.Goals as goal
 

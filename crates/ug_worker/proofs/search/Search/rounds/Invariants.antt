@@ -1,4 +1,3 @@
-use Rattle.std.proofs.Common.{◌≡◌}
 use Rattle.ug_worker.specs.Workers.{StandsAt}
 use Rattle.ug_worker.proofs.search.Search.rounds.Given as goal
 

@@ -1,12 +1,6 @@
-use Rattle.std.proofs.Common.{rules, ◌≡◌, ◌<◌, ◌≤◌, ◌+◌, ◌-◌, [], Some, None, length, refl, sym, ap, subst, inl, inr, arith, ◌++◌, ◌∷◌, ◌∙◌}
-use Rattle.ug_base.specs.Tasks.{IsLeastFloor, IsTask, TaskState}
-use Rattle.ug_base.specs.Steps.{IsFound}
-use Rattle.ug_base.specs.Hands.{IsHanded}
-use Rattle.ug_worker.specs.Engagements.{IsReplied, Stands}
-use Rattle.ug_worker.specs.Workers.{HasGiven, HasHanded, HasStepped, StandsAt}
 use Rattle.std.proofs.lemmas.Int.{to_z-of_z}
 use mir.Syntax.{w128}
-use Rattle.ug_worker.proofs.Rounds.{stated_at, found_by, found_now, handed_by, handed_now, stands_found, stands_handed, stated_by, stated_now}
+use Rattle.ug_worker.proofs.Rounds.{stated_at, stated_now}
 use Rattle.ug_worker.proofs.search.Search.state.Goals as goal
 
 pub state-requires-clause-at : goal.state-requires-clause-at

@@ -1,4 +1,4 @@
-use Rattle.std.proofs.Common.{rules, ◌≡◌, Some, None, refl, sym, ap, subst, ◌∙◌}
+use Rattle.std.proofs.Common.{refl}
 use Rattle.ug_frames.specs.declared.order.Order.TheVariants.{End}
 use Rattle.ug_worker.specs.Deeds.{Ending, Over}
 use Rattle.ug_worker.proofs.Seating.{ended_by, ended_over, taken_on}

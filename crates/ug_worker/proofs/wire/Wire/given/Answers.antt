@@ -1,9 +1,7 @@
-use Rattle.std.proofs.Common.{rules, ◌≡◌, ◌<◌, ◌++◌, true, false, None, Some, length, take, refl, sym, ap, subst, ◌∙◌}
-use Rattle.ug_io.specs.Links.{LinkSeen}
+use Rattle.std.proofs.Common.{rules}
 use Rattle.ug_frames.specs.OrderFrames as orders
 use Rattle.ug_stream.specs.Streams.{IsBadAt}
-use Rattle.ug_worker.specs.Serving.{HasNext, IsOpen, StandsOn, comes_next, has_ended, stands_as}
-use Rattle.ug_worker.proofs.Wires.{bad_on, failed_told, on_came, on_told, wanted_came}
+use Rattle.ug_worker.proofs.Wires.{bad_on}
 use Rattle.ug_worker.proofs.wire.Wire.given.Goals as goal
 
 pub returns-in-Ok-BadFrame : goal.returns-in-Ok-BadFrame

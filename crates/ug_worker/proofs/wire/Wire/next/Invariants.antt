@@ -1,10 +1,5 @@
-use Rattle.std.proofs.Common.{rules, ◌≡◌, ◌<◌, ◌++◌, true, false, None, Some, length, take, refl, sym, ap, subst, ◌∙◌}
-use Rattle.ug_io.specs.Links.{LinkSeen}
-use Rattle.ug_frames.specs.OrderFrames as orders
-use Rattle.ug_stream.specs.Streams.{IsBadAt}
 use Rattle.ug_worker.specs.Deeds.{Stage}
-use Rattle.ug_worker.specs.Serving.{HasNext, IsOpen, StandsOn, comes_next, has_ended, stands_as}
-use Rattle.ug_worker.proofs.Wires.{bad_on, failed_told, on_came, on_told, wanted_came}
+use Rattle.ug_worker.specs.Serving.{IsOpen, stands_as}
 use Rattle.ug_worker.proofs.wire.Wire.next.Given as goal
 
 abbrev pub invariant-loop : goal.invariant-loop

@@ -1,9 +1,6 @@
-use Rattle.std.proofs.Common.{rules, ◌≡◌, ◌<◌, ◌++◌, true, false, None, Some, length, take, refl, sym, ap, subst, ◌∙◌}
-use Rattle.ug_io.specs.Links.{LinkSeen}
-use Rattle.ug_frames.specs.OrderFrames as orders
-use Rattle.ug_stream.specs.Streams.{IsBadAt}
-use Rattle.ug_worker.specs.Serving.{HasNext, IsOpen, StandsOn, comes_next, has_ended, stands_as}
-use Rattle.ug_worker.proofs.Wires.{bad_on, failed_told, on_came, on_told, wanted_came}
+use Rattle.std.proofs.Common.{rules, sym, subst}
+use Rattle.ug_worker.specs.Serving.{stands_as}
+use Rattle.ug_worker.proofs.Wires.{failed_told, on_told}
 use Rattle.ug_frames.specs.ReportFrames.{spelled}
 use Rattle.ug_worker.specs.Tellings.{HasToldAll, HasToldFront}
 use Rattle.ug_worker.proofs.wire.Wire.send.Goals as goal

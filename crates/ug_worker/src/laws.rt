@@ -1,0 +1,12 @@
+ghost use Rattle.ug_worker.specs.Laws.{CoursesAreTranscripts, WorkersAreHonest};
+
+/// What a worker at a link tells is true by what it heard and told before, whatever comes: it is in
+/// order, and an end of a task is told only where the whole box was searched but for what was handed.
+pub fn courses_are_transcripts()
+    ensures { CoursesAreTranscripts }
+{}
+
+/// What such workers tell is honest, where no ticket was ordered twice.
+pub fn workers_are_honest()
+    ensures { WorkersAreHonest }
+{}
