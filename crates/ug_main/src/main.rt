@@ -6,7 +6,7 @@
 //! `UG_PROGRESS` set, how it gets on.
 #![tactic(auto)]
 
-ghost use Rattle.std.specs.Prelude.{◌≡◌, ◌⊎◌};
+ghost use Rattle.std.specs.Prelude.{◌≡◌};
 ghost use Rattle.ug_cli.specs.Taken.{texts};
 ghost use Rattle.ug_top.specs.Outside.{outside};
 ghost use Rattle.ug_main.specs.Files.{HasRunOnFiles, IsUnbegun};
@@ -24,7 +24,7 @@ use crate::reasons::Reasons;
 use crate::teller::Teller;
 use crate::words::Behind;
 use std::fs::File;
-use std::io::{Eprint, IsTerminal, Print};
+use std::io::{Eprint, IsTerminal, Print, Printer};
 use std::process::ExitCode;
 use std::rt::{Env, Files};
 use std::sync::Wait;
@@ -36,7 +36,7 @@ use ug_io::{Sink, Source};
 use ug_print::reason;
 use ug_real::{FileDisk, Reader, RealFolder, Writer};
 use ug_threads::{Host, Observer};
-use ug_top::{Refusal, Status, run};
+use ug_top::{Refusal, Status, run, tell_unread};
 
 // The words behind the program's own name. A word that is not UTF-8 is no command.
 fn words_of<R: Env + AllocGlobal>(rt: &R) -> Result<Vec<String>, Status> {
@@ -56,28 +56,19 @@ fn status_of(error: &io::Error) -> Status {
     }
 }
 
-// Tells want of memory before a run has begun, as a run tells it.
-fn unbegun<R: Print + Eprint>(rt: &R) -> Status
-    ensures { IsUnbegun result }
-{
-    match println!(rt; "memory") {
-        Ok(()) => Status::Memory,
-        Err(error) => {
-            explain(rt, "standard output", Some(&error));
-            drop(error);
-            Status::WriteFault
-        }
-    }
-}
-
 // Finds the files that the words name, and does what the words ask for.
-fn obey<R>(rt: &R, words: &[String], is_told: bool) -> Status
+#[tactic(auto, using(crate::proofs::Files::unbegun_is_run))]
+fn obey<'a, R>(rt: &'a R, words: &'a [String], is_told: bool) -> Worked<'a, R>
 where
     R: Files<File = File> + Print + Eprint + AllocGlobal + Threads + Wait + Sync,
-    ensures { HasRunOnFiles (texts words.now) result ⊎ IsUnbegun result }
+    ensures { HasRunOnFiles (texts words.now) (record {
+      reads = result.input.faults.count;
+      stores = result.disk.faults.count;
+      writes = result.out.faults.count;
+    }) result.status }
 {
     match read_words(rt.alloc(), words) {
-        Ok(plan) => work(rt, words, paths_of(Some(&plan)), is_told),
+        Ok(plan) => work(rt, words, paths_of(Some(plan)), is_told),
         Err(Usage::Memory) => unbegun(rt),
         Err(_) => work(rt, words, paths_of(None), is_told),
     }
@@ -88,6 +79,26 @@ where
 struct Job<'a> {
     words: &'a [String],
     paths: Paths<'a>,
+}
+
+// The status with which it ended, and the file, standard output and folder as they are then.
+#[derive(Drop)]
+struct Worked<'a, R: Files<File = File> + Print> {
+    status: Status,
+    input: Reader<'a, R>,
+    out: Writer<Printer<'a, R>>,
+    disk: FileDisk<RealFolder<'a, R>>,
+}
+
+// The status alone.
+fn ended<R>(worked: Worked<'_, R>) -> Status
+where
+    R: Files<File = File> + Print,
+    ensures { result ≡ worked.entry.status }
+{
+    let status = worked.status;
+    drop(worked);
+    status
 }
 
 // The folder of checkpoints, which is read alone where its checkpoint is shown.
@@ -103,11 +114,38 @@ where
     })
 }
 
+// Tells want of memory before anything was done, as a run tells it.
+fn unbegun<R>(rt: &R) -> Worked<'_, R>
+where
+    R: Files<File = File> + Print + Eprint + AllocGlobal,
+    ensures { IsUnbegun (record {
+      reads = result.input.faults.count;
+      stores = result.disk.faults.count;
+      writes = result.out.faults.count;
+    }) result.status }
+{
+    let mut out = Writer::new(io::writer(rt));
+    let status = tell_unread(&mut out);
+    if status == Status::WriteFault {
+        explain(rt, "standard output", out.reason());
+    }
+    Worked {
+        status,
+        input: Reader::new(rt, ""),
+        out,
+        disk: disk_of(rt, paths_of(None)),
+    }
+}
+
 // Does what the words ask for, with these files.
-fn work<R>(rt: &R, words: &[String], paths: Paths<'_>, is_told: bool) -> Status
+fn work<'a, R>(rt: &'a R, words: &[String], paths: Paths<'a>, is_told: bool) -> Worked<'a, R>
 where
     R: Files<File = File> + Print + Eprint + AllocGlobal + Threads + Wait + Sync,
-    ensures { HasRunOnFiles (texts words.now) result }
+    ensures { HasRunOnFiles (texts words.now) (record {
+      reads = result.input.faults.count;
+      stores = result.disk.faults.count;
+      writes = result.out.faults.count;
+    }) result.status }
 {
     let mut input = Reader::new(rt, paths.file);
     let mut out = Writer::new(io::writer(rt));
@@ -120,10 +158,12 @@ where
     };
     let job = Job { words, paths };
     let status = carry_out(&host, job, &mut input, &mut out, &mut disk);
-    drop(disk);
-    drop(out);
-    drop(input);
-    status
+    Worked {
+        status,
+        input,
+        out,
+        disk,
+    }
 }
 
 // Does the job with these objects. Why it failed goes to standard error: the system's words where a
@@ -193,8 +233,8 @@ fn explain<R: Eprint>(rt: &R, file: &str, error: Option<&io::Error>) {
 fn main(rt: HostRuntime) -> ExitCode {
     let standard = take_standard(&rt);
     let status = match words_of(&rt) {
-        Ok(words) => obey(&rt, &words, wants_progress(&rt)),
-        Err(Status::Memory) => unbegun(&rt),
+        Ok(words) => ended(obey(&rt, &words, wants_progress(&rt))),
+        Err(Status::Memory) => ended(unbegun(&rt)),
         Err(status) => status,
     };
     if status == Status::Usage {

@@ -1,3 +1,5 @@
+ghost use Rattle.ug_main.specs.Paths.{ArePathsOf};
+
 use ug_cli::Plan;
 
 /// The file and the folder that a plan names, and whether the folder is only shown.
@@ -9,7 +11,9 @@ pub struct Paths<'a> {
 }
 
 /// The paths of a plan. What it does not name is empty.
-pub fn paths_of<'a>(plan: Option<&Plan<'a>>) -> Paths<'a> {
+pub fn paths_of<'a>(plan: Option<Plan<'a>>) -> Paths<'a>
+    ensures { ArePathsOf plan.entry result }
+{
     let (file, folder, is_shown) = match plan {
         Some(Plan::Solve(solve)) => (solve.file, solve.checkpoint.unwrap_or(""), false),
         Some(Plan::Restart(restart)) => (restart.file, restart.checkpoint, false),

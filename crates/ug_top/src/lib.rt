@@ -20,5 +20,5 @@ mod status;
 mod write;
 
 pub use ran::{Ran, Refusal};
-pub use running::run;
+pub use running::{run, tell_unread};
 pub use status::Status;

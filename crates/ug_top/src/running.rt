@@ -1,3 +1,4 @@
+ghost use Rattle.ug_print.specs.Lines.{memory_line};
 ghost use Rattle.ug_cli.specs.Taken.{texts};
 ghost use Rattle.ug_top.specs.Outside.{outside};
 ghost use Rattle.ug_top.specs.Ends.{status_of, text_of};
@@ -42,6 +43,16 @@ pub fn run<R: Threads + Wait + Sync, S: Source, K: Sink, D: Disk, O: Observer>(
     let refusal = ended.refusal();
     drop(ended);
     Ran { status, refusal }
+}
+
+/// Tells want of memory where the words could not be read, so that nothing is read or saved.
+pub fn tell_unread<K: Sink>(out: &mut K) -> Status
+    ensures { HasTold Status.Memory memory_line (K.seen out.old) (K.seen out.new) result }
+{
+    let ended = Ended::Memory;
+    let status = tell(out, &ended);
+    drop(ended);
+    status
 }
 
 // Writes the lines with which it ended. The status is then the one due, unless the sink failed.
