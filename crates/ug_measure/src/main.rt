@@ -1,29 +1,36 @@
 //! A program for measuring and comparing: `ug_measure book N` drives a book of 256 ranks through N
 //! made messages; `image N` makes the image of a book of N nodes, `save N` saves it to a disk in
-//! memory, `load N` loads it again; `desk N` tells a desk N times what is left; with no words it
-//! replays the schedules of its input, of which some were worked by hand and others by a model that
-//! was written apart from this code. It is proved to be safe and to end, and no more.
+//! memory, `load N` loads it again; `desk N` tells a desk N times what is left; `encode N TIMES`
+//! writes the frame of an order with N changes so often, and `decode N TIMES` reads it; `serve
+//! FILE` serves a worker at a link with the whole problem of a file; with no words it replays the
+//! schedules of its input, of which some were worked by hand and others by a model that was written
+//! apart from this code. It is proved to be safe and to end, and no more.
 #![tactic(auto)]
 
 mod answers;
 mod calls;
 mod driver;
+mod frames;
+mod link;
 mod random;
 mod ranks;
 mod replay;
 mod saving;
+mod serving;
 mod start;
 
 use crate::answers::Answers;
 use crate::calls::{Replies, call_desk};
 use crate::driver::drive;
+use crate::frames::{Way, frame_often};
 use crate::replay::replay;
 use crate::saving::{Size, Stage, save_nodes};
+use crate::serving::{Telling, serve_file};
 use std::alloc::AllocError;
 use std::env;
-use std::io::Print;
+use std::io::{Eprint, Input, Print};
 use std::process::ExitCode;
-use std::rt::Env;
+use std::rt::{Env, Files};
 use std::sync::Wait;
 
 // What is measured.
@@ -32,13 +39,15 @@ enum Task {
     Book { messages: u64 },
     Save { nodes: u32, stage: Stage },
     Desk { calls: u64 },
+    Frames { way: Way, changes: u16, times: u64 },
 }
 
 // What the words ask for.
 #[derive(Clone, Copy)]
-enum Wanted {
+enum Wanted<'a> {
     Replay,
     Measure(Task),
+    Serve(&'a str),
 }
 
 fn stage_of(word: &str) -> Option<Stage> {
@@ -50,17 +59,34 @@ fn stage_of(word: &str) -> Option<Stage> {
     }
 }
 
-fn asked_for<R: Env + AllocGlobal>(rt: &R) -> Option<Wanted> {
-    let words: Vec<String> = env::args(rt).ok()?.skip(1).collect(rt.alloc()).ok()?;
-    let wanted = asked_by(&words);
-    drop(words);
-    wanted
+fn way_of(word: &str) -> Option<Way> {
+    match word {
+        "encode" => Some(Way::Encode),
+        "decode" => Some(Way::Decode),
+        _ => None,
+    }
 }
 
-fn asked_by(words: &[String]) -> Option<Wanted> {
+// The words behind the program's own name.
+fn words_of<R: Env + AllocGlobal>(rt: &R) -> Option<Vec<String>> {
+    env::args(rt).ok()?.skip(1).collect(rt.alloc()).ok()
+}
+
+fn asked_by<'a>(words: &'a [String]) -> Option<Wanted<'a>> {
     match words {
         [] => Some(Wanted::Replay),
+        [what, file] if what.as_str() == "serve" => Some(Wanted::Serve(file.as_str())),
         [what, count] => Some(Wanted::Measure(task_of(what.as_str(), count.as_str())?)),
+        [what, changes, times] => {
+            let way = way_of(what.as_str())?;
+            let changes = changes.parse::<u16>().ok()?;
+            let times = times.parse::<u64>().ok()?;
+            Some(Wanted::Measure(Task::Frames {
+                way,
+                changes,
+                times,
+            }))
+        }
         _ => None,
     }
 }
@@ -121,12 +147,39 @@ fn print_replies<R: Print>(rt: &R, replies: &Replies) {
     let _ = println!(rt; "snapshots {snapshots}");
 }
 
+// What a worker told of a whole problem; first the answer, as the program prints it.
+fn print_telling<R: Print>(rt: &R, telling: &Telling) {
+    let value = telling
+        .value
+        .as_ref()
+        .and_then(|value| str::from_utf8(value.as_slice()).ok());
+    let _ = match value {
+        Some(value) => println!(rt; "optimal {value}"),
+        None => println!(rt; "infeasible"),
+    };
+    let reports = telling.reports;
+    let _ = println!(rt; "reports {reports}");
+}
+
+// How much was written or read of frames.
+fn print_frames<R: Print>(rt: &R, way: Way, much: u64) {
+    let _ = match way {
+        Way::Encode => println!(rt; "bytes {much}"),
+        Way::Decode => println!(rt; "changes {much}"),
+    };
+}
+
 // Measures what is wanted. Want of memory is the one error.
 fn measure<R: Print + AllocGlobal + Wait>(rt: &R, task: Task) -> Result<(), AllocError> {
     match task {
         Task::Book { messages } => print_answers(rt, &drive(rt.alloc(), messages)?),
         Task::Save { nodes, stage } => print_size(rt, &save_nodes(rt.alloc(), nodes, stage)?),
         Task::Desk { calls } => print_replies(rt, &call_desk(rt, rt.alloc(), calls)?),
+        Task::Frames {
+            way,
+            changes,
+            times,
+        } => print_frames(rt, way, frame_often(rt.alloc(), changes, way, times)?),
     }
     Ok(())
 }
@@ -142,13 +195,49 @@ fn measured<R: Print + AllocGlobal + Wait>(rt: &R, task: Task) -> ExitCode {
     }
 }
 
-fn main(rt: HostRuntime) -> ExitCode {
-    match asked_for(&rt) {
-        Some(Wanted::Replay) => ExitCode::from(u8::from(replay(&rt).is_err())),
-        Some(Wanted::Measure(task)) => measured(&rt, task),
-        None => {
-            let _ = eprintln!(rt; "usage: ug_measure [book|image|save|load|desk N]");
-            ExitCode::from(2)
+// Serves a worker, and how that ended.
+fn served<R: Print + AllocGlobal + Files + Wait>(rt: &R, file: &str) -> ExitCode {
+    match serve_file(rt, rt.alloc(), file) {
+        Some(telling) => {
+            print_telling(rt, &telling);
+            drop(telling);
+            ExitCode::from(0)
         }
+        None => {
+            let _ = println!(rt; "not served");
+            ExitCode::from(1)
+        }
+    }
+}
+
+// Does what the words ask for.
+fn obey<R>(rt: &R, words: &[String]) -> ExitCode
+where
+    R: Input + Print + Eprint + AllocGlobal + Files + Wait,
+{
+    match asked_by(words) {
+        Some(Wanted::Replay) => ExitCode::from(u8::from(replay(rt).is_err())),
+        Some(Wanted::Measure(task)) => measured(rt, task),
+        Some(Wanted::Serve(file)) => served(rt, file),
+        None => misused(rt),
+    }
+}
+
+// Says how the program is called.
+fn misused<R: Eprint>(rt: &R) -> ExitCode {
+    let _ = eprintln!(rt; "usage: ug_measure [book|image|save|load|desk N]");
+    let _ = eprintln!(rt; "       ug_measure encode|decode N TIMES");
+    let _ = eprintln!(rt; "       ug_measure serve FILE");
+    ExitCode::from(2)
+}
+
+fn main(rt: HostRuntime) -> ExitCode {
+    match words_of(&rt) {
+        Some(words) => {
+            let code = obey(&rt, &words);
+            drop(words);
+            code
+        }
+        None => misused(&rt),
     }
 }

@@ -51,8 +51,8 @@ const PIECES: &[Piece<'static>] = &[
     },
 ];
 
-// Two ranks are launched, by calls 1 and 2; a turn brings two bytes at most. The third rank is none of
-// the crew.
+// Two ranks are launched, by calls 1 and 2; a turn brings two bytes at most. The third rank is none
+// of the crew.
 const CALLS: &[Call] = &[
     Call::Turn {
         came: Some(Came::Bytes { rank: 1, count: 2 }),
@@ -109,8 +109,8 @@ const EXCHANGED: &[Exchange] = &[
     },
 ];
 
-// The fourth call and the fifth fail; the rank in whose piece a turn stood is shut, and the rest of it
-// is passed over.
+// The fourth call and the fifth fail; the rank in whose piece a turn stood is shut, and the rest of
+// it is passed over.
 const FAILING: &[Call] = &[
     Call::Turn {
         came: Some(Came::Bytes { rank: 1, count: 2 }),

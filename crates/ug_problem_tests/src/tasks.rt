@@ -12,8 +12,8 @@ use ug_nodes::Ticket;
 use ug_problem::{Problem, Shared};
 use ug_rows::{IntBox, Interval, below};
 
-// Two columns from 0 to 7, whose sum is at least 5 and minimised.
-const SQUARE: &[u8] = b"ROWS
+/// Two columns from 0 to 7, whose sum is at least 5 and minimised.
+pub const SQUARE: &[u8] = b"ROWS
  N Z
  G r
 COLUMNS
