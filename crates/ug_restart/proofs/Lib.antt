@@ -6,5 +6,6 @@ pub mod Goings
 pub mod Covering
 pub mod Finds
 pub mod Going
+pub mod Keeps
 pub mod Lasts
 pub mod Making

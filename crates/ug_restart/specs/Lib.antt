@@ -1,5 +1,6 @@
 pub mod Faults
 pub mod Starts
+pub mod Keeps
 pub mod Compares
 pub mod Openings
 pub mod Books

@@ -8,6 +8,7 @@
 mod books;
 mod compare;
 mod fault;
+mod laws;
 mod next;
 mod opening;
 mod outcome;
@@ -15,6 +16,7 @@ mod saves;
 mod start;
 
 pub use fault::StartFault;
+pub use laws::starts_keep_an_image;
 pub use outcome::{Attempt, End, Outcome};
 pub use saves::Saves;
 pub use start::{Start, begin, restart};

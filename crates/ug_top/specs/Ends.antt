@@ -10,6 +10,7 @@ use Rattle.ug_restart.specs.declared.fault.StartFault.TheVariants as faults
 use Rattle.ug_restart.specs.declared.outcome.Outcome.{Outcome}
 use Rattle.ug_restart.specs.Starts.{IsBegun, IsGoneOn, IsNotBegun, IsNotGoneOn, IsSafeStart}
 use Rattle.ug_restart.specs.Openings.{CoversWhatIsFound}
+use Rattle.ug_restart.specs.Keeps.{KeepsImage}
 use Rattle.ug_restart.specs.Moments.{AllCovered}
 use Rattle.ug_checkpoint.specs.declared.found.Found.{Found}
 use Rattle.ug_checkpoint.specs.Recovery.{HasFound, IsFirstBadSlot, Loaded}
@@ -88,12 +89,14 @@ pub record HasRunSaved (asked : Asked) (old new : DiskSeen) (p : Instance) (outc
   pub kept : IsKeptOn (IsBegun p (settings_for asked p) old.told) outcome old new
 
 -- It does not begin: at each moment a crash leaves what a beginning may leave, so nothing was saved
--- but, perhaps, its first image.
+-- but, perhaps, its first image. Where an image was found before, whatever a crash left, one is
+-- found still: one that could be found before, or that first one.
 pub record HasNotBegun (asked : Asked) (old new : DiskSeen) (p : Instance) (fault : StartFault)
     : Type 0 where
   pub why : IsNotBegun old.told new.told fault
   pub safe : Leaves (IsSafeStart old.told (IsBegun p (settings_for asked p) old.told))
       old.told new.told
+  pub kept : KeepsImage (IsBegun p (settings_for asked p) old.told) old.told new.told
 
 -- a run that goes on from the checkpoint
 pub record HasRunOn (asked : Asked) (old new : DiskSeen) (p : Instance) (outcome : Outcome)
@@ -101,12 +104,14 @@ pub record HasRunOn (asked : Asked) (old new : DiskSeen) (p : Instance) (outcome
   pub ran : IsRunOn p (settings_for asked p) old.told outcome
   pub kept : IsKeptOn (IsGoneOn p (settings_for asked p) old.told) outcome old new
 
--- it does not go on, and likewise nothing was saved but, perhaps, its first image
+-- it does not go on, and likewise nothing was saved but, perhaps, its first image, and an image is
+-- found still
 pub record HasNotGoneOn (asked : Asked) (old new : DiskSeen) (p : Instance) (fault : StartFault)
     : Type 0 where
   pub why : IsNotGoneOn p (settings_for asked p) old.told new.told fault
   pub safe : Leaves (IsSafeStart old.told (IsGoneOn p (settings_for asked p) old.told))
       old.told new.told
+  pub kept : KeepsImage (IsGoneOn p (settings_for asked p) old.told) old.told new.told
 
 -- how a solve ends, where a checkpoint is kept and where none is
 abbrev pub AreSolveLines : {A : Type 0} → Option A → Asked → Outside → Outside → Status → List ℕ

@@ -3,6 +3,7 @@ use Rattle.ug_problem.specs.Instances.{Instance}
 use Rattle.ug_rules.specs.declared.settings.Settings.{Settings}
 use Rattle.ug_disk.specs.Crashes.{Leaves}
 use Rattle.ug_restart.specs.Starts.{IsGoneOn, IsNotGoneOn, IsSafeStart}
+use Rattle.ug_restart.proofs.Keeps.{keeps_image}
 use Rattle.ug_top.specs.Runs.{IsKeptOn, IsRunOn}
 use Rattle.ug_top.specs.Plans.{settings_for}
 use Rattle.ug_top.specs.Ends.{HasNotGoneOn, HasRunOn}
@@ -39,6 +40,12 @@ returns-in-Err-clause-run g c =
     let new = g.D.Disk.seen c.go_on.new.disk in
     let is = c.settings_for-settings.ensures.value
     ∙ ap (λ (p : Instance). settings_for c.args.asked.now p) c.problem.ensures.value in
+    let settings = settings_for c.args.asked.now c.args.problem in
+    let safe : Leaves (IsSafeStart old.told (IsGoneOn c.args.problem settings old.told)) old.told
+        new.told =
+    subst (λ (s : Settings).
+        Leaves (IsSafeStart old.told (IsGoneOn c.args.problem s old.told)) old.told new.told) is
+        c.in-Err.ensures.safe in
     tells_fault
     (HasRunOn c.args.asked.now old new c.args.problem)
     (HasNotGoneOn c.args.asked.now old new c.args.problem)
@@ -46,9 +53,8 @@ returns-in-Err-clause-run g c =
     (record {
       why = subst (λ (s : Settings). IsNotGoneOn c.args.problem s old.told new.told c.in-Err.fault) is
           c.in-Err.ensures.refused;
-      safe = subst (λ (s : Settings).
-          Leaves (IsSafeStart old.told (IsGoneOn c.args.problem s old.told)) old.told new.told) is
-          c.in-Err.ensures.safe;
+      safe = safe;
+      kept = keeps_image (IsGoneOn c.args.problem settings old.told) old.told new.told safe;
     })
     c.tell_fault.ensures
 

@@ -3,6 +3,7 @@ use Rattle.ug_problem.specs.Instances.{Instance}
 use Rattle.ug_rules.specs.declared.settings.Settings.{Settings}
 use Rattle.ug_disk.specs.Crashes.{Leaves}
 use Rattle.ug_restart.specs.Starts.{IsBegun, IsSafeStart}
+use Rattle.ug_restart.proofs.Keeps.{keeps_image}
 use Rattle.ug_top.specs.Runs.{IsKeptOn, IsSavedRun}
 use Rattle.ug_top.specs.Plans.{settings_for}
 use Rattle.ug_top.specs.Ends.{HasNotBegun, HasRunSaved}
@@ -39,15 +40,20 @@ returns-in-Err-clause-run g c =
     let new = g.D.Disk.seen c.solve_saved.new.disk in
     let is = c.settings_for-settings.ensures.value
     ∙ ap (λ (p : Instance). settings_for c.args.asked.now p) c.problem.ensures.value in
+    let settings = settings_for c.args.asked.now c.args.problem in
+    let safe : Leaves (IsSafeStart old.told (IsBegun c.args.problem settings old.told)) old.told
+        new.told =
+    subst (λ (s : Settings).
+        Leaves (IsSafeStart old.told (IsBegun c.args.problem s old.told)) old.told new.told) is
+        c.in-Err.ensures.safe in
     tells_fault
     (HasRunSaved c.args.asked.now old new c.args.problem)
     (HasNotBegun c.args.asked.now old new c.args.problem)
     c.args.asked.now.bounds.gap c.in-Err.fault c.tell_fault.result
     (record {
       why = c.in-Err.ensures.refused;
-      safe = subst (λ (s : Settings).
-          Leaves (IsSafeStart old.told (IsBegun c.args.problem s old.told)) old.told new.told) is
-          c.in-Err.ensures.safe;
+      safe = safe;
+      kept = keeps_image (IsBegun c.args.problem settings old.told) old.told new.told safe;
     })
     c.tell_fault.ensures
 
