@@ -8,6 +8,8 @@
 #[cfg(test)]
 mod collecting;
 #[cfg(test)]
+mod coordinated;
+#[cfg(test)]
 mod desks;
 #[cfg(test)]
 mod expect;

@@ -10,3 +10,4 @@ pub mod Begins
 pub mod DiskLaws
 pub mod DiskFinds
 pub mod DiskPlays
+pub mod Coordinated

@@ -11,3 +11,4 @@ pub mod DiskLaws
 pub mod DiskPlays
 pub mod Machines
 pub mod Saves
+pub mod Coordinators

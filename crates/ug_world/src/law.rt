@@ -1,3 +1,4 @@
+ghost use Rattle.ug_world.specs.Coordinators.{CoordinatorsLoseNothing};
 ghost use Rattle.ug_world.specs.Laws.{HonestLoseNothing};
 
 /// Whatever solvers send, in whatever order it is heard, again or not at all, whoever joins and
@@ -5,4 +6,10 @@ ghost use Rattle.ug_world.specs.Laws.{HonestLoseNothing};
 /// held, as long as what was sent is honest. What was sent in earlier runs may be heard too.
 pub fn honest_solvers_lose_nothing()
     ensures { HonestLoseNothing }
+{}
+
+/// Whatever comes of a coordinator's crew, whichever ranks are gone and whichever calls fail: at every
+/// moment each better point lies in a primitive node held, as long as what is heard is honest.
+pub fn coordinators_lose_nothing()
+    ensures { CoordinatorsLoseNothing }
 {}

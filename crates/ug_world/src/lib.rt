@@ -2,7 +2,8 @@
 //! It stands on ug_book for `play`, and on ug_restart for `play_disk`, with saves, crashes and
 //! restarts on a disk in memory: they make the calls that the events are, and say what each does.
 //! The laws: whatever happens, in whatever order, no better point is lost, by the book nor by what
-//! recovery finds, as long as the solvers are honest.
+//! recovery finds, as long as the solvers are honest; and what a coordinator of ug_coord does is such
+//! a schedule.
 #![tactic(auto)]
 
 mod disk_event;
@@ -23,6 +24,6 @@ pub use disk_law::{crashes_lose_nothing, runs_begin};
 pub use disk_schedule::{Attempts, PlayDiskFault, PlayedDisk, play_disk};
 pub use event::Event;
 pub use halt::Halted;
-pub use law::honest_solvers_lose_nothing;
+pub use law::{coordinators_lose_nothing, honest_solvers_lose_nothing};
 pub use playing::{Halt, Playing};
 pub use schedule::{PlayFault, Played, Replies, play};

@@ -1,0 +1,3 @@
+pub mod Coursing
+pub mod Room
+pub mod Whole

@@ -1,0 +1,160 @@
+-- What happens between a coordinator and its crew, and what the coordinator does at each piece of
+-- it.
+use Rattle.std.specs.Prelude.{◌≡◌, ◌⊎◌, ℕ, ◌<◌, Bool, true, false, List, [], ◌∷◌, ◌++◌, length}
+use Rattle.std.specs.Prelude.{slice_index_or, slice_set}
+use Rattle.ug_io.specs.declared.crew.Exchange.{Exchange}
+use Rattle.ug_io.specs.declared.crew.Exchange.TheVariants.{Gone}
+use Rattle.ug_io.specs.Crews.{heard_from, told_to}
+use Rattle.ug_io.specs.Outside.{Rose}
+use Rattle.ug_records.specs.Answers.{IsRecordOf}
+use Rattle.ug_frames.specs.declared.order.Order.{Order}
+use Rattle.ug_frames.specs.declared.order.Order.TheVariants.{Setup, End}
+use Rattle.ug_frames.specs.declared.report.Report.{Report}
+use Rattle.ug_frames.specs.OrderFrames as orders
+use Rattle.ug_frames.specs.ReportFrames as reports
+use Rattle.ug_stream.specs.Streams.{IsBadAt, IsGiven, Waiting, fed, first}
+use Rattle.ug_rules.specs.declared.heard.Heard.{Heard}
+use Rattle.ug_rules.specs.State.{BookState}
+use Rattle.ug_rules.specs.Deaths.{killed}
+use Rattle.ug_rules.specs.Deciding.{IsDecided}
+use Rattle.ug_rules.specs.Hearing.{IsDue, after_hearing}
+use Rattle.ug_book.specs.Reads.{IsOrderTold}
+
+-- what was heard and told and who is gone; who lives; how often the crew failed, and whether a turn
+-- did; the bytes of each rank of which no report was taken yet; and the book
+pub record Standing : Type 0 where
+  pub said : List Exchange
+  pub lives : List Bool
+  pub faults : ℕ
+  pub broken : Bool
+  pub streams : List Waiting
+  pub book : BookState
+
+-- why a rank is taken for gone: the crew says so; a call of the crew failed; or what came from it
+-- is no report
+pub data Cause : Type 0 where
+  Ended : Cause
+  Failed : Cause
+  Nonsense : Cause
+
+-- A rank was started; an order that is none of the book's was told to it: the problem, or the end;
+-- bytes came from it; a report of it was heard, and so answered; it is gone; it was decided; an
+-- order of the book was told to its rank, or could not be, or was passed over; a turn failed; and
+-- the end could not be told.
+pub data Deed : Type 0 where
+  Launched : ℕ → Deed
+  SetUp : ℕ → List ℕ → Deed
+  Closed : ℕ → Deed
+  Came : ℕ → List ℕ → Deed
+  Took : ℕ → Report → Heard → Deed
+  Lost : ℕ → Cause → Deed
+  Decided : Deed
+  Sent : ℕ → Order → Deed
+  Unsent : ℕ → Order → Deed
+  Passed : ℕ → Order → Deed
+  Broke : Deed
+  Unclosed : Deed
+
+abbrev pub lives_at : Standing → ℕ → Bool
+lives_at s rank = slice_index_or s.lives rank false
+
+abbrev pub stream_at : Standing → ℕ → Waiting
+stream_at s rank = slice_index_or s.streams rank first
+
+-- the problem's order, with the book's gap
+pub record IsSetUp (old new : Standing) (rank : ℕ) (bytes : List ℕ) : Type 0 where
+  pub its : IsRecordOf bytes old.book.problem
+  pub alive : lives_at old rank ≡ true
+  pub rest : new ≡ record old {
+    said = old.said ++ told_to rank (orders.spelled (Setup old.book.settings.gap bytes));
+  }
+
+-- a report was given by the bytes of its rank, and heard
+pub record IsTaken (old new : Standing) (rank : ℕ) (report : Report) (answer : Heard)
+    : Type 0 where
+  pub there : rank < length old.book.ranks
+  pub stream : Waiting
+  pub given : IsGiven reports.IsCarried reports.spelled (stream_at old rank) stream report
+  pub due : IsDue old.book rank report answer
+  pub rest : new ≡ record old {
+    streams = slice_set old.streams rank stream;
+    book = after_hearing answer rank report old.book;
+  }
+
+-- the bytes of the rank that wait are bad, or bad ones came before
+pub record IsNonsense (old new : Standing) (rank : ℕ) : Type 0 where
+  pub said : new.said ≡ old.said
+  pub stream : Waiting
+  pub at : ℕ
+  pub bad : IsBadAt reports.IsCarried reports.spelled (stream_at old rank) stream at
+  pub streams : new.streams ≡ slice_set old.streams rank stream
+
+-- why it is gone, and what the crew says of it then
+abbrev pub IsCause : Standing → Standing → ℕ → Cause → Type 0
+IsCause old new rank Ended = (lives_at old rank ≡ true) × (new.said ≡ old.said ++ Gone rank ∷ [])
+    × (new.streams ≡ old.streams)
+IsCause old new rank Failed = (new.said ≡ old.said)
+    × ((old.broken ≡ true) ⊎ Rose old.faults new.faults) × (new.streams ≡ old.streams)
+IsCause old new rank Nonsense = IsNonsense old new rank
+
+-- the rank is gone, to the book too, and does not live any more
+pub record IsLost (old new : Standing) (rank : ℕ) (cause : Cause) : Type 0 where
+  pub there : rank < length old.book.ranks
+  pub why : IsCause old new rank cause
+  pub lives : new.lives ≡ slice_set old.lives rank false
+  pub broken : new.broken ≡ old.broken
+  pub book : new.book ≡ killed rank old.book
+
+-- the earliest order of the book was told to its rank
+pub record IsSent (old new : Standing) (rank : ℕ) (order : Order) : Type 0 where
+  pub alive : lives_at old rank ≡ true
+  pub told : IsOrderTold old.book new.book (record { rank = rank; order = order })
+  pub rest : new ≡ record old {
+    said = old.said ++ told_to rank (orders.spelled order);
+    book = new.book;
+  }
+
+-- it was passed over, since its rank does not live
+pub record IsPassed (old new : Standing) (rank : ℕ) (order : Order) : Type 0 where
+  pub away : lives_at old rank ≡ false
+  pub told : IsOrderTold old.book new.book (record { rank = rank; order = order })
+  pub rest : new ≡ record old { book = new.book }
+
+-- it could not be told, so its rank is gone
+pub record IsUnsent (old new : Standing) (rank : ℕ) (order : Order) : Type 0 where
+  pub there : rank < length old.book.ranks
+  pub alive : lives_at old rank ≡ true
+  pub without : BookState
+  pub told : IsOrderTold old.book without (record { rank = rank; order = order })
+  pub faults : Rose old.faults new.faults
+  pub rest : new ≡ record old {
+    lives = slice_set old.lives rank false;
+    faults = new.faults;
+    book = killed rank without;
+  }
+
+-- what a deed does
+abbrev pub Does : Standing → Deed → Standing → Type 0
+Does old (Launched rank) new = (lives_at old rank ≡ false)
+    × (new ≡ record old { lives = slice_set old.lives rank true })
+Does old (SetUp rank bytes) new = IsSetUp old new rank bytes
+Does old (Closed rank) new = (lives_at old rank ≡ true)
+    × (new ≡ record old { said = old.said ++ told_to rank (orders.spelled End) })
+Does old (Came rank bytes) new = (lives_at old rank ≡ true) × (new ≡ record old {
+  said = old.said ++ heard_from rank bytes;
+  streams = slice_set old.streams rank (fed (stream_at old rank) bytes);
+})
+Does old (Took rank report answer) new = IsTaken old new rank report answer
+Does old (Lost rank cause) new = IsLost old new rank cause
+Does old Decided new = IsDecided old.book new.book × (new ≡ record old { book = new.book })
+Does old (Sent rank order) new = IsSent old new rank order
+Does old (Unsent rank order) new = IsUnsent old new rank order
+Does old (Passed rank order) new = IsPassed old new rank order
+Does old Broke new = Rose old.faults new.faults
+    × (new ≡ record old { faults = new.faults; broken = true })
+Does old Unclosed new = Rose old.faults new.faults × (new ≡ record old { faults = new.faults })
+
+-- the deeds lead from one standing to the other
+abbrev pub IsCourse : Standing → List Deed → Standing → Type 0
+IsCourse old [] new = new ≡ old
+IsCourse old (deed ∷ deeds) new = (mid : Standing) × Does old deed mid × IsCourse mid deeds new

@@ -1,0 +1,4 @@
+pub mod Deeds
+pub mod Hubs
+pub mod HubViews
+pub mod Reading

@@ -1,0 +1,43 @@
+-- What is read of the stream of a rank.
+use Rattle.std.specs.Prelude.{◌≡◌, ℕ, List, slice_index_or, slice_set}
+use Rattle.ug_io.specs.Crews.{Adds, CrewSeen, HasLost, IsAlive, IsSilent, heard_from}
+use Rattle.ug_io.specs.Outside.{Rose}
+use Rattle.ug_frames.specs.declared.report.Report.{Report}
+use Rattle.ug_frames.specs.ReportFrames as reports
+use Rattle.ug_stream.specs.declared.next.Next.{Next}
+use Rattle.ug_stream.specs.Streams.{IsNext, Waiting, fed, first}
+use Rattle.ug_coord.specs.declared.streams.Turn.{Turn}
+use Rattle.ug_coord.specs.declared.streams.Turn.TheVariants.{Fed, Gone, Failed, Wanting}
+
+-- this came next of the rank
+pub record HasRead (old new : List Waiting) (rank : ℕ) (next : Next Report) : Type 0 where
+  pub stream : Waiting
+  pub is : IsNext reports.IsCarried reports.spelled (slice_index_or old rank first) stream next
+  pub set : new ≡ slice_set old rank stream
+
+-- bytes came from a rank that lives, and were fed to its stream
+pub record HasFed (old new : CrewSeen) (before after : List Waiting) (rank : ℕ) : Type 0 where
+  pub bytes : List ℕ
+  pub alive : IsAlive old rank
+  pub said : Adds old.said new.said (heard_from rank bytes)
+  pub lives : new.lives ≡ old.lives
+  pub faults : new.faults ≡ old.faults
+  pub streams : after ≡ slice_set before rank (fed (slice_index_or before rank first) bytes)
+
+-- a rank that lived is gone
+pub record HasGone (old new : CrewSeen) (before after : List Waiting) (rank : ℕ) : Type 0 where
+  pub lost : HasLost old new rank
+  pub streams : after ≡ before
+
+-- the turn failed
+pub record HasBroken (old new : CrewSeen) (before after : List Waiting) : Type 0 where
+  pub silent : IsSilent old new
+  pub faults : Rose old.faults new.faults
+  pub streams : after ≡ before
+
+-- what a turn came to
+abbrev pub HasTaken : CrewSeen → CrewSeen → List Waiting → List Waiting → Turn → Type 0
+HasTaken old new before after (Fed rank) = HasFed old new before after rank
+HasTaken old new before after (Gone rank) = HasGone old new before after rank
+HasTaken old new before after Failed = HasBroken old new before after
+HasTaken old new before after Wanting = Unit {0}

@@ -1,0 +1,186 @@
+-- What a coordinator at a crew does is a schedule.
+use Rattle.std.proofs.Common.{◌≡◌, inl, inr, ℕ, ◌<◌, List, [], ◌∷◌, ◌++◌, append_assoc, length, Some, refl, sym, ap, subst, ◌∙◌, arith}
+use Rattle.std.specs.Prelude.{slice_get, slice_set}
+use Rattle.ug_frames.specs.declared.order.Order.{Order}
+use Rattle.ug_frames.specs.declared.report.Report.{Report}
+use Rattle.ug_frames.specs.declared.report.Report.TheVariants.{Ready, Solution, Hand, State, Done}
+use Rattle.ug_frames.specs.declared.report.Report.TheVariants.{Ended}
+use Rattle.ug_frames.specs.Reports.{IsReport}
+use Rattle.ug_frames.specs.Honest.{AreHonest}
+use Rattle.ug_rules.specs.declared.heard.Heard.{Heard}
+use Rattle.ug_rules.specs.declared.told.Told.{Told}
+use Rattle.ug_rules.specs.State.{BookState}
+use Rattle.ug_rules.specs.Hearing.{IsHearable, after_hearing}
+use Rattle.ug_rules.specs.HearingLaws.{HasRisingChanges}
+use Rattle.ug_rules.specs.Deaths.{killed}
+use Rattle.ug_book.specs.Reads.{IsOrderTold}
+use Rattle.ug_coord.specs.Deeds.{Broke, Came, Closed, Decided, Deed, Does, IsCourse, Launched, Lost, Passed}
+use Rattle.ug_coord.specs.Deeds.{Sent, SetUp, Standing, Took, Unclosed, Unsent, IsTaken, IsUnsent}
+use Rattle.ug_coord.specs.Hubs.{beginning}
+use Rattle.ug_world.specs.declared.event.Event.TheVariants.{Send, Hear, Gone, Decide, Tell}
+use Rattle.ug_world.specs.Worlds.{World, opening, told_first}
+use Rattle.ug_world.specs.Honest.{IsGivenWith}
+use Rattle.ug_world.specs.Laws.{LosesNothing}
+use Rattle.ug_world.specs.Coordinators.{CoordinatorsLoseNothing, IsHonestSo, Past, StaysHonest, after, honest_at, nothing, with_order, with_report}
+use Rattle.ug_world.proofs.Courses.{Holds, event_holds, loses_nothing, unused_holds}
+use Rattle.ug_world.proofs.Trusted.{AreTrue, honest_true, unused_true}
+
+-- the world that this is
+abbrev world_of : BookState → Past → World
+world_of b past = record { book = b; told = past.told; sent = past.heard; replies = past.replies }
+
+-- what is so at each standing
+pub record Keeps (n : ℕ) (b : BookState) (past : Past) : Type 0 where
+  pub holds : Holds n (world_of b past)
+  pub true_ : AreTrue b past.heard
+
+same_book : (n : ℕ) (old new : BookState) (past : Past) → new ≡ old → Keeps n old past → Keeps n new past
+same_book n old new past same k = subst (λ (b : BookState). Keeps n b past) (sym same) k
+
+-- ---- reports
+
+hearable : (report : Report) → IsReport report → IsHearable report
+hearable Ready is = tt
+hearable (Solution ticket x) is = tt
+hearable (Hand ticket number changes) is = tt
+hearable (State ticket nodes floor) is = omega (arith, is.fields.0)
+hearable (Done ticket cutoff count ending) is = tt
+hearable Ended is = tt
+
+rising : (report : Report) → IsReport report → HasRisingChanges report
+rising Ready is = tt
+rising (Solution ticket x) is = tt
+rising (Hand ticket number changes) is = is.fields.rising
+rising (State ticket nodes floor) is = tt
+rising (Done ticket cutoff count ending) is = tt
+rising Ended is = tt
+
+last_there : (sent : List Report) (report : Report)
+    → slice_get (sent ++ report ∷ []) (length sent) ≡ Some report
+last_there [] report = refl
+last_there (first ∷ sent) report = last_there sent report
+
+-- it comes, and is heard
+took : (n : ℕ) (old mid : Standing) (past : Past) (rank : ℕ) (report : Report) (answer : Heard)
+    → IsTaken old mid rank report answer → IsHonestSo old.book past.told (past.heard ++ report ∷ [])
+    → Keeps n old.book past → Holds n (world_of mid.book (with_report past report answer))
+took n old mid past rank report answer t honest k =
+    let w = world_of old.book past in
+    let came : World = record w { sent = past.heard ++ report ∷ [] } in
+    let first = event_holds n w came (Send report) (hearable report t.given.carried.can) refl k.true_ k.holds in
+    let true_ = honest_true past.told old.book (past.heard ++ report ∷ []) honest first.known in
+    event_holds n came (world_of mid.book (with_report past report answer)) (Hear (length past.heard) rank)
+    (omega (arith, t.there, k.holds.wide))
+    (record {
+      report = report;
+      answer = answer;
+      there = last_there past.heard report;
+      rising = rising report t.given.carried.can;
+      due = t.due;
+      done = ap (λ (s : Standing). world_of s.book (with_report past report answer)) t.rest;
+    }) true_ first
+
+-- ---- orders
+
+-- one left the queue
+left : (n : ℕ) (old without : BookState) (past : Past) (told : Told) → IsOrderTold old without told
+    → Keeps n old past → Holds n (world_of without (with_order past told))
+left n old without past told t k =
+    event_holds n (world_of old past) (world_of without (with_order past told)) Tell tt
+    (ap (λ (b : BookState). world_of b (with_order past told)) t.rest
+    ∙ ap (λ (orders : List Told). told_first orders (world_of old past)) (sym t.first)) k.true_ k.holds
+
+-- and with it what was heard stays honest
+left_honest : (old without : BookState) (past : Past) (told : Told) → IsOrderTold old without told
+    → IsHonestSo old past.told past.heard
+    → IsHonestSo without (past.told ++ told ∷ []) past.heard
+left_honest old without past told t honest =
+    let all : past.told ++ old.orders ≡ (past.told ++ told ∷ []) ++ without.orders =
+    ap (λ (orders : List Told). past.told ++ orders) t.first
+    ∙ sym (append_assoc past.told (told ∷ []) without.orders) in
+    let problem : without.problem ≡ old.problem = ap (λ (b : BookState). b.problem) t.rest in
+    subst (λ p. AreHonest p (IsGivenWith p ((past.told ++ told ∷ []) ++ without.orders)) past.heard) (sym problem)
+    (subst (λ (orders : List Told). AreHonest old.problem (IsGivenWith old.problem orders) past.heard) all honest)
+
+-- a rank is gone
+gone : (n : ℕ) (old new : BookState) (past : Past) (rank : ℕ) → rank < length old.ranks
+    → new ≡ killed rank old → AreTrue old past.heard → Holds n (world_of old past)
+    → Holds n (world_of new past)
+gone n old new past rank there dead true_ holds =
+    event_holds n (world_of old past) (world_of new past) (Gone rank) (omega (arith, there, holds.wide))
+    (ap (λ (b : BookState). world_of b past) dead) true_ holds
+
+-- the rank of an order that could not be told
+unsent : (n : ℕ) (old mid : Standing) (past : Past) (rank : ℕ) (order : Order) → IsUnsent old mid rank order
+    → IsHonestSo old.book past.told past.heard → Keeps n old.book past
+    → Holds n (world_of mid.book (with_order past (record { rank = rank; order = order })))
+unsent n old mid past rank order t honest k =
+    let told : Told = record { rank = rank; order = order } in
+    let first = left n old.book t.without past told t.told k in
+    let true_ = honest_true (past.told ++ told ∷ []) t.without past.heard
+    (left_honest old.book t.without past told t.told honest) first.known in
+    gone n t.without mid.book (with_order past told) rank
+    (omega (arith, t.there, ap (λ (b : BookState). length b.ranks) t.told.rest))
+    (ap (λ (s : Standing). s.book) t.rest) true_ first
+
+-- ---- each deed
+
+same_holds : (n : ℕ) (old new : BookState) (past : Past) → new ≡ old → Keeps n old past
+    → Holds n (world_of new past)
+same_holds n old new past same k = (same_book n old new past same k).holds
+
+deed_holds : (n : ℕ) (old mid : Standing) (past : Past) (deed : Deed) → Does old deed mid
+    → honest_at old past deed → IsHonestSo old.book past.told past.heard → Keeps n old.book past
+    → Holds n (world_of mid.book (after deed past))
+deed_holds n old mid past (Launched rank) (away, rest) now honest k =
+    same_holds n old.book mid.book past (ap (λ (s : Standing). s.book) rest) k
+deed_holds n old mid past (SetUp rank bytes) does now honest k =
+    same_holds n old.book mid.book past (ap (λ (s : Standing). s.book) does.rest) k
+deed_holds n old mid past (Closed rank) (alive, rest) now honest k =
+    same_holds n old.book mid.book past (ap (λ (s : Standing). s.book) rest) k
+deed_holds n old mid past (Came rank bytes) (alive, rest) now honest k =
+    same_holds n old.book mid.book past (ap (λ (s : Standing). s.book) rest) k
+deed_holds n old mid past (Took rank report answer) does now honest k =
+    took n old mid past rank report answer does now k
+deed_holds n old mid past (Lost rank cause) does now honest k =
+    gone n old.book mid.book past rank does.there does.book k.true_ k.holds
+deed_holds n old mid past Decided (decided, rest) now honest k =
+    event_holds n (world_of old.book past) (world_of mid.book past) Decide tt
+    (record { decided = inl decided; rest = refl }) k.true_ k.holds
+deed_holds n old mid past (Sent rank order) does now honest k =
+    left n old.book mid.book past (record { rank = rank; order = order }) does.told k
+deed_holds n old mid past (Unsent rank order) does now honest k =
+    unsent n old mid past rank order does honest k
+deed_holds n old mid past (Passed rank order) does now honest k =
+    left n old.book mid.book past (record { rank = rank; order = order }) does.told k
+deed_holds n old mid past Broke (faults, rest) now honest k =
+    same_holds n old.book mid.book past (ap (λ (s : Standing). s.book) rest) k
+deed_holds n old mid past Unclosed (faults, rest) now honest k =
+    same_holds n old.book mid.book past (ap (λ (s : Standing). s.book) rest) k
+
+course_keeps : (n : ℕ) (old : Standing) (past : Past) (deeds : List Deed) (new : Standing)
+    → (course : IsCourse old deeds new) → StaysHonest old past deeds new course
+    → IsHonestSo old.book past.told past.heard → Keeps n old.book past → LosesNothing new.book
+course_keeps n old past [] new same stays honest k =
+    subst (λ (s : Standing). LosesNothing s.book) (sym same) (loses_nothing old.book k.holds.sound)
+course_keeps n old past (deed ∷ deeds) new (mid, does, more) (now, rest) honest k =
+    let holds = deed_holds n old mid past deed does now honest k in
+    course_keeps n mid (after deed past) deeds new more rest.1 rest.0
+    (record {
+      holds = holds;
+      true_ = honest_true (after deed past).told mid.book (after deed past).heard rest.0 holds.known;
+    })
+
+none_heard : (b : BookState) → IsHonestSo b [] []
+none_heard b = record {
+  hands = λ ticket hand a c one two. absurd (omega (arith, one.among.1));
+  dones = λ ticket cutoff count ending among area given x inside good. absurd (omega (arith, among.1));
+}
+
+pub coordinators_lose_nothing : CoordinatorsLoseNothing
+coordinators_lose_nothing b faults deeds now book sound unused course stays =
+    course_keeps (length b.ranks) (beginning b faults) nothing deeds now course stays (none_heard b)
+    (record {
+      holds = unused_holds (opening b []) book sound unused;
+      true_ = unused_true b [] book unused;
+    })

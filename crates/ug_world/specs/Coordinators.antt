@@ -1,0 +1,84 @@
+-- The law of coordinators at a crew: whatever comes of it, no better point is lost.
+use Rattle.std.specs.Prelude.{◌≡◌, ℕ, List, [], ◌∷◌, ◌++◌}
+use Rattle.ug_frames.specs.declared.report.Report.{Report}
+use Rattle.ug_frames.specs.Honest.{AreHonest}
+use Rattle.ug_rules.specs.declared.heard.Heard.{Heard}
+use Rattle.ug_rules.specs.declared.told.Told.{Told}
+use Rattle.ug_rules.specs.State.{BookState}
+use Rattle.ug_rules.specs.Books.{IsBook, IsSoundBook}
+use Rattle.ug_coord.specs.Deeds.{Broke, Came, Closed, Decided, Deed, IsCourse, Launched, Lost}
+use Rattle.ug_coord.specs.Deeds.{Passed}
+use Rattle.ug_coord.specs.Deeds.{Sent, SetUp, Standing, Took, Unclosed, Unsent}
+use Rattle.ug_coord.specs.Hubs.{beginning}
+use Rattle.ug_world.specs.Honest.{IsGivenWith}
+use Rattle.ug_world.specs.Laws.{LosesNothing}
+
+-- the orders that left the queue so far, the reports that were heard, and what they were answered
+pub record Past : Type 0 where
+  pub told : List Told
+  pub heard : List Report
+  pub replies : List Heard
+
+-- before the first deed
+abbrev pub nothing : Past
+nothing = record { told = []; heard = []; replies = [] }
+
+-- an order more
+abbrev pub with_order : Past → Told → Past
+with_order past told = record past { told = past.told ++ told ∷ [] }
+
+-- a report more
+abbrev pub with_report : Past → Report → Heard → Past
+with_report past report answer =
+    record past { heard = past.heard ++ report ∷ []; replies = past.replies ++ answer ∷ [] }
+
+-- behind a deed
+abbrev pub after : Deed → Past → Past
+after (Launched rank) past = past
+after (SetUp rank bytes) past = past
+after (Closed rank) past = past
+after (Came rank bytes) past = past
+after (Took rank report answer) past = with_report past report answer
+after (Lost rank cause) past = past
+after Decided past = past
+after (Sent rank order) past = with_order past (record { rank = rank; order = order })
+after (Unsent rank order) past = with_order past (record { rank = rank; order = order })
+after (Passed rank order) past = with_order past (record { rank = rank; order = order })
+after Broke past = past
+after Unclosed past = past
+
+-- what was heard is honest, of the tickets in orders that left the queue or wait
+abbrev pub IsHonestSo : BookState → List Told → List Report → Type 0
+IsHonestSo b told heard = AreHonest b.problem (IsGivenWith b.problem (told ++ b.orders)) heard
+
+-- also at the moment between that a report comes and that it is answered
+abbrev pub honest_at : Standing → Past → Deed → Type 0
+honest_at old past (Launched rank) = Unit {0}
+honest_at old past (SetUp rank bytes) = Unit {0}
+honest_at old past (Closed rank) = Unit {0}
+honest_at old past (Came rank bytes) = Unit {0}
+honest_at old past (Took rank report answer) =
+    IsHonestSo old.book past.told (past.heard ++ report ∷ [])
+honest_at old past (Lost rank cause) = Unit {0}
+honest_at old past Decided = Unit {0}
+honest_at old past (Sent rank order) = Unit {0}
+honest_at old past (Unsent rank order) = Unit {0}
+honest_at old past (Passed rank order) = Unit {0}
+honest_at old past Broke = Unit {0}
+honest_at old past Unclosed = Unit {0}
+
+-- so it is through all of the deeds
+abbrev pub StaysHonest : (old : Standing) → Past → (deeds : List Deed) → (new : Standing)
+    → IsCourse old deeds new → Type 0
+StaysHonest old past [] new course = Unit {0}
+StaysHonest old past (deed ∷ deeds) new (mid, does, more) = honest_at old past deed
+    × (IsHonestSo mid.book (after deed past).told (after deed past).heard
+    × StaysHonest mid (after deed past) deeds new more)
+
+-- From a sound book that has given no ticket: whatever comes of the crew, whichever ranks are gone
+-- and whichever calls fail, no better point is lost, as long as what is heard is honest. Each front
+-- of the deeds is a course too, so this holds at each moment.
+abbrev pub CoordinatorsLoseNothing : Type 0
+CoordinatorsLoseNothing = (b : BookState) (faults : ℕ) (deeds : List Deed) (now : Standing)
+    → IsBook b → IsSoundBook b → b.last ≡ 0 → (course : IsCourse (beginning b faults) deeds now)
+    → StaysHonest (beginning b faults) nothing deeds now course → LosesNothing now.book
