@@ -42,10 +42,10 @@ returns-in-Err-clause-run g c =
     ∙ ap (λ (p : Instance). settings_for c.args.asked.now p) c.problem.ensures.value in
     let settings = settings_for c.args.asked.now c.args.problem in
     let safe : Leaves (IsSafeStart old.told (IsBegun c.args.problem settings old.told)) old.told
-        new.told =
+    new.told =
     subst (λ (s : Settings).
-        Leaves (IsSafeStart old.told (IsBegun c.args.problem s old.told)) old.told new.told) is
-        c.in-Err.ensures.safe in
+    Leaves (IsSafeStart old.told (IsBegun c.args.problem s old.told)) old.told new.told) is
+    c.in-Err.ensures.safe in
     tells_fault
     (HasRunSaved c.args.asked.now old new c.args.problem)
     (HasNotBegun c.args.asked.now old new c.args.problem)
