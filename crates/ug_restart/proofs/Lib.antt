@@ -9,3 +9,4 @@ pub mod Going
 pub mod Keeps
 pub mod Lasts
 pub mod Making
+pub mod Outcomes

@@ -7,3 +7,4 @@ pub mod Books
 pub mod Going
 pub mod Moments
 pub mod Saves
+pub mod Outcomes

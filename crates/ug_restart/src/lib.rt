@@ -13,10 +13,12 @@ mod next;
 mod opening;
 mod outcome;
 mod saves;
+mod saving;
 mod start;
 
 pub use fault::StartFault;
 pub use laws::starts_keep_an_image;
 pub use outcome::{Attempt, End, Outcome};
 pub use saves::Saves;
+pub use saving::save_end;
 pub use start::{Start, begin, restart};

@@ -7,7 +7,8 @@ use Rattle.ug_restart.specs.declared.outcome.End.{End}
 use Rattle.ug_restart.specs.declared.outcome.End.TheVariants.{Answered, Limited, Stranded, Memory}
 use Rattle.ug_book.specs.declared.opening.Opening.{Opening}
 use Rattle.ug_book.specs.Openings.{IsCoveredOpening, opening_book}
-use Rattle.ug_threads.specs.Ends.{HasFeasible, IfAnswered, IfBook, IfLimited, IsEnding, IsLimited, IsReplayOf}
+use Rattle.ug_restart.specs.Outcomes.{IfBook}
+use Rattle.ug_threads.specs.Ends.{HasFeasible, IfAnswered, IfLimited, IsEnding, IsLimited, IsReplayOf}
 use Rattle.ug_threads.specs.Ends.{IsRight, IsStranded}
 use Rattle.ug_threads.specs.Outcomes.{HasEnded}
 

@@ -24,13 +24,6 @@ pub record IsReplayOf (given b : BookState) : Type 0 where
   pub began : opening_book state.opening ≡ given
   pub is : state.now.book ≡ b
 
--- the book with which it ended, if it did with one, has P
-abbrev pub IfBook : End → (BookState → Type 0) → Type 0
-IfBook (Answered b) P = P b
-IfBook (Limited b) P = P b
-IfBook (Stranded b) P = P b
-IfBook Memory P = Unit {0}
-
 -- where it ended with an answer, its book has P
 abbrev pub IfAnswered : End → (BookState → Type 0) → Type 0
 IfAnswered (Answered b) P = P b

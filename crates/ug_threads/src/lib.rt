@@ -13,7 +13,6 @@ mod host;
 mod listener;
 mod observer;
 mod progress;
-mod saving;
 mod solve;
 mod together;
 mod told;

@@ -7,26 +7,26 @@ ghost use Rattle.ug_disk.specs.Crashes.{Leaves};
 ghost use Rattle.ug_restart.specs.Saves.{missed_of, opening_of, saver_of, unsaved_of};
 ghost use Rattle.ug_restart.specs.Moments.{AllCovered, FindsIn, IsCoveredNow, IsFoundNow, IsOfRun};
 ghost use Rattle.ug_restart.specs.Going.{GoesOn, time};
-ghost use Rattle.ug_threads.specs.Outcomes.{HasEnded, IsMissedByFaults, IsSavedOrCounted, IsUntouched};
+ghost use Rattle.ug_restart.specs.Outcomes.{IsMissedByFaults, IsSavedOrCounted, IsUntouched};
+ghost use Rattle.ug_threads.specs.Outcomes.{HasEnded};
 
 use crate::ending::end_of;
 use crate::host::Host;
 use crate::listener::{Saving, Silent};
 use crate::observer::Observer;
 use crate::progress::tell_begin;
-use crate::saving::save_end;
 use crate::together::solve;
 use std::sync::Wait;
 use std::thread::Threads;
 use ug_book::Opening;
 use ug_checkpoint::Saver;
 use ug_disk::Disk;
-use ug_restart::{End, Outcome, Saves};
+use ug_restart::{End, Outcome, Saves, save_end};
 
 /// Solves what the opening has left, by as many threads as its settings have solvers, all of which
 /// have ended when it returns. With a saver the snapshots that the workers send are saved, and at
 /// last the ending book.
-#[tactic(auto, using(crate::proofs::Outcomes::none_missed))]
+#[tactic(auto, using(ug_restart::proofs::Outcomes::none_missed))]
 pub fn solve_threads<R: Threads + Wait + Sync, D: Disk, O: Observer>(
     host: &Host<'_, R, O>,
     opening: &Opening,
@@ -94,7 +94,7 @@ fn silently<R: Threads + Wait + Sync, O: Observer>(
 }
 
 // With a saver.
-#[tactic(auto, using(crate::proofs::Outcomes::still_covered, crate::proofs::Outcomes::still_found, crate::proofs::Outcomes::covered_begun, crate::proofs::Outcomes::found_begun, crate::proofs::Outcomes::none_missed))]
+#[tactic(auto, using(ug_restart::proofs::Outcomes::still_covered, ug_restart::proofs::Outcomes::still_found, ug_restart::proofs::Outcomes::covered_begun, ug_restart::proofs::Outcomes::found_begun, ug_restart::proofs::Outcomes::none_missed))]
 fn with_saver<R: Threads + Wait + Sync, D: Disk, O: Observer>(
     host: &Host<'_, R, O>,
     opening: &Opening,
@@ -121,7 +121,7 @@ fn with_saver<R: Threads + Wait + Sync, D: Disk, O: Observer>(
 }
 
 // With what is saved.
-#[tactic(auto, using(crate::proofs::Outcomes::time_covered, crate::proofs::Outcomes::time_missed))]
+#[tactic(auto, using(ug_restart::proofs::Outcomes::time_covered, ug_restart::proofs::Outcomes::time_missed))]
 fn saving<R: Threads + Wait + Sync, D: Disk, O: Observer>(
     host: &Host<'_, R, O>,
     opening: &Opening,

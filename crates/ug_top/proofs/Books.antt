@@ -16,7 +16,8 @@ use Rattle.ug_book.proofs.Starts.{start_is_sound}
 use Rattle.ug_restart.specs.declared.outcome.End.{End}
 use Rattle.ug_restart.specs.declared.outcome.Outcome.{Outcome}
 use Rattle.ug_restart.specs.declared.outcome.End.TheVariants.{Answered, Limited, Stranded, Memory}
-use Rattle.ug_threads.specs.Ends.{IfAnswered, IfBook, IsReplayOf}
+use Rattle.ug_restart.specs.Outcomes.{IfBook}
+use Rattle.ug_threads.specs.Ends.{IfAnswered, IsReplayOf}
 use Rattle.ug_threads.specs.Outcomes.{HasEnded}
 use Rattle.ug_threads.proofs.Outcomes.{same_run}
 use Rattle.ug_top.specs.Runs.{IsOf, IsRightFor, IsRun}

@@ -17,7 +17,7 @@ use Rattle.ug_restart.specs.declared.fault.StartFault.TheVariants as faults
 use Rattle.ug_restart.specs.declared.outcome.Outcome.{Outcome}
 use Rattle.ug_restart.specs.Openings.{CoversWhatIsFound}
 use Rattle.ug_restart.specs.Moments.{AllCovered, IsCoveredFind}
-use Rattle.ug_threads.specs.Outcomes.{IsMissedByFaults, IsUntouched}
+use Rattle.ug_restart.specs.Outcomes.{IsMissedByFaults, IsUntouched}
 use Rattle.ug_top.specs.Runs.{IsKeptOn}
 use Rattle.ug_top.specs.declared.ended.Ended.{Ended}
 use Rattle.ug_top.specs.declared.ended.Ended.TheVariants.{Lines, Refused, ReadFault, Memory}

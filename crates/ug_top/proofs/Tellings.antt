@@ -16,7 +16,7 @@ use Rattle.ug_top.specs.Ends.{AreFileLines, AreGenLines, AreRestartLines, AreSol
 use Rattle.ug_top.specs.Outside.{Outside}
 use Rattle.ug_top.specs.Plans.{settings_made}
 use Rattle.ug_disk.specs.Histories.{DiskSeen}
-use Rattle.ug_threads.specs.Outcomes.{IsUntouched}
+use Rattle.ug_restart.specs.Outcomes.{IsUntouched}
 use Rattle.ug_top.specs.Runs.{IsNewRun}
 use Rattle.ug_gen.specs.Stated.{instance}
 use Rattle.ug_cli.specs.declared.plan.Gen.{Gen}

@@ -14,7 +14,7 @@ use Rattle.ug_restart.specs.Keeps.{KeepsImage}
 use Rattle.ug_restart.specs.Moments.{AllCovered}
 use Rattle.ug_checkpoint.specs.declared.found.Found.{Found}
 use Rattle.ug_checkpoint.specs.Recovery.{HasFound, IsFirstBadSlot, Loaded}
-use Rattle.ug_threads.specs.Outcomes.{IsUntouched}
+use Rattle.ug_restart.specs.Outcomes.{IsUntouched}
 use Rattle.ug_top.specs.Runs.{IsKeptOn, IsNewRun, IsRunOn, IsSavedRun}
 use Rattle.ug_print.specs.Lines.{memory_line, read_fault_line}
 use Rattle.ug_print.specs.Faults.{fault_line}

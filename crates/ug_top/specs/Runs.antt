@@ -13,8 +13,10 @@ use Rattle.ug_snapshot.specs.Moments.{IsCovered}
 use Rattle.ug_restart.specs.declared.outcome.Outcome.{Outcome}
 use Rattle.ug_restart.specs.Starts.{IsBegun, IsGoneOn, IsSafeStart}
 use Rattle.ug_restart.specs.Moments.{FindsIn, IsOfRun}
-use Rattle.ug_threads.specs.Ends.{IfAnswered, IfBook}
-use Rattle.ug_threads.specs.Outcomes.{HasEnded, IsMissedByFaults, IsSavedOrCounted}
+use Rattle.ug_restart.specs.Outcomes.{IfBook}
+use Rattle.ug_threads.specs.Ends.{IfAnswered}
+use Rattle.ug_restart.specs.Outcomes.{IsMissedByFaults, IsSavedOrCounted}
+use Rattle.ug_threads.specs.Outcomes.{HasEnded}
 
 -- the book with which a new solve without checkpoints begins: it is run 1, and the root is left
 abbrev pub first_book : Instance → Settings → BookState

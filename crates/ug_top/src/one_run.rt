@@ -8,7 +8,8 @@ ghost use Rattle.ug_restart.specs.Moments.{AllCovered, FindsIn, IsCoveredNow, Is
 ghost use Rattle.ug_checkpoint.specs.Savers.{IsKept};
 ghost use Rattle.ug_rules.specs.Books.{IsSoundBook};
 ghost use Rattle.ug_book.specs.Openings.{IsOpening, opening_book};
-ghost use Rattle.ug_threads.specs.Outcomes.{HasEnded, IsMissedByFaults, IsSavedOrCounted, IsUntouched};
+ghost use Rattle.ug_restart.specs.Outcomes.{IsMissedByFaults, IsSavedOrCounted, IsUntouched};
+ghost use Rattle.ug_threads.specs.Outcomes.{HasEnded};
 ghost use Rattle.ug_top.specs.Runs.{IsKeptOn, IsNewRun, IsRunOn, IsSavedRun};
 
 use std::sync::Wait;

@@ -2,7 +2,8 @@ use Rattle.std.proofs.Common.{refl}
 use Rattle.ug_book.specs.Openings.{opening_book}
 use Rattle.ug_restart.specs.declared.outcome.Outcome.{Outcome}
 use Rattle.ug_threads.proofs.Endings.{has_ended}
-use Rattle.ug_threads.proofs.Outcomes.{both_go, saved_or_counted}
+use Rattle.ug_restart.proofs.Outcomes.{saved_or_counted}
+use Rattle.ug_threads.proofs.Outcomes.{both_go}
 use Rattle.ug_threads.proofs.solve.conclude.Goals as goal
 
 pub returns-clause-saved : goal.returns-clause-saved

@@ -1,4 +1,4 @@
-use Rattle.ug_threads.proofs.Outcomes.{for_saver}
+use Rattle.ug_restart.proofs.Outcomes.{for_saver}
 use Rattle.ug_threads.proofs.solve.solve_threads.Goals as goal
 
 pub returns-in-Some-clause-any_moment : goal.returns-in-Some-clause-any_moment

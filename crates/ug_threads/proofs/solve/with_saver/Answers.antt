@@ -1,7 +1,7 @@
 use Rattle.std.proofs.Common.{refl}
 use Rattle.ug_book.specs.Openings.{opening_book}
 use Rattle.ug_restart.specs.Moments.{IsOfRun}
-use Rattle.ug_threads.proofs.Outcomes.{covered_begun, found_begun, still_covered, still_found}
+use Rattle.ug_restart.proofs.Outcomes.{covered_begun, found_begun, still_covered, still_found}
 use Rattle.ug_threads.proofs.solve.with_saver.Goals as goal
 
 pub returns-in_default-clause-any_moment : goal.returns-in_default-clause-any_moment

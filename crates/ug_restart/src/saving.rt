@@ -1,16 +1,15 @@
-//! The end of a solve that saves.
-
 ghost use Rattle.std.specs.Prelude.{◌≡◌, IsSomeAnd};
 ghost use Rattle.ug_checkpoint.specs.Savers.{IsKept};
 ghost use Rattle.ug_rules.specs.Books.{IsSoundBook};
 ghost use Rattle.ug_book.specs.Views.{IsSameRun};
 ghost use Rattle.ug_restart.specs.Saves.{IsOfBook, book_of, saver_of};
 ghost use Rattle.ug_restart.specs.Going.{GoesOn, IsAttempted, time};
-ghost use Rattle.ug_threads.specs.Ends.{IfBook};
+ghost use Rattle.ug_restart.specs.Outcomes.{IfBook};
 
+use crate::outcome::{Attempt, End};
+use crate::saves::Saves;
 use std::alloc::Global;
 use ug_disk::Disk;
-use ug_restart::{Attempt, End, Saves};
 
 /// Saves the ending book, if there is one, and tells what became of it.
 pub fn save_end<D: Disk>(

@@ -1,0 +1,45 @@
+-- What stands on the disk when a run has ended, and what its outcome tells of that.
+use Rattle.std.specs.Prelude.{◌≡◌, ◌≤◌, ◌<◌, ◌⊎◌, ◌+◌, ◌-◌, ◌^◌, Option, IsSomeAnd}
+use Rattle.ug_io.specs.Outside.{Rose}
+use Rattle.ug_disk.specs.Histories.{DiskSeen, History}
+use Rattle.ug_rules.specs.State.{BookState}
+use Rattle.ug_restart.specs.declared.outcome.Attempt.{Attempt}
+use Rattle.ug_restart.specs.declared.outcome.Attempt.TheVariants.{Saved, Missed, Unsaved}
+use Rattle.ug_restart.specs.declared.outcome.End.{End}
+use Rattle.ug_restart.specs.declared.outcome.End.TheVariants.{Answered, Limited, Stranded, Memory}
+use Rattle.ug_restart.specs.declared.outcome.Outcome.{Outcome}
+use Rattle.ug_restart.specs.Saves.{IsOfBook}
+use Rattle.ug_restart.specs.Moments.{FindsOne}
+
+-- the book with which it ended, if it did with one, has P
+abbrev pub IfBook : End → (BookState → Type 0) → Type 0
+IfBook (Answered b) P = P b
+IfBook (Limited b) P = P b
+IfBook (Stranded b) P = P b
+IfBook Memory P = Unit {0}
+
+-- the disk was not touched, and no save is counted
+pub record IsUntouched (outcome : Outcome) (old new : DiskSeen) : Type 0 where
+  pub told : new.told ≡ old.told
+  pub calm : new.faults ≡ old.faults
+  pub missed : outcome.missed ≡ 0
+  pub unsaved : outcome.unsaved ≡ 0
+
+-- Saves are missed only where the disk failed, and no more than it did, unless its count of faults
+-- stands at its greatest value. It did not fail where none was missed.
+pub record IsMissedByFaults (outcome : Outcome) (old new : DiskSeen) : Type 0 where
+  pub rose : 0 < outcome.missed → Rose old.faults new.faults
+  pub each : (outcome.missed + old.faults ≤ new.faults) ⊎ (2 ^ 64 - 1 ≤ new.faults)
+  pub calm : outcome.missed ≡ 0 → new.faults ≡ old.faults
+
+-- what is told of the last save is so: recovery finds an image of this book, whatever a crash
+-- leaves; or it is one of the saves that are counted
+abbrev pub IsLastSave : Outcome → Option History → BookState → Attempt → Type 0
+IsLastSave outcome told b Saved = FindsOne (IsOfBook b) told
+IsLastSave outcome told b Missed = 1 ≤ outcome.missed
+IsLastSave outcome told b Unsaved = 1 ≤ outcome.unsaved
+
+-- where the run ended with a book, it was to be saved, and what became of that is told
+abbrev pub IsSavedOrCounted : Outcome → Option History → Type 0
+IsSavedOrCounted outcome told = IfBook outcome.end (λ b.
+    IsSomeAnd outcome.last (IsLastSave outcome told b))
