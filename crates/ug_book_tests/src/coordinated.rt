@@ -1,17 +1,20 @@
-//! A coordinator over a crew in memory, byte for byte: what it tells each rank, and how it ends.
+//! A coordinator over a crew in memory, byte for byte: what it tells each rank, how it ends, and what
+//! it saves.
 
-ghost use Rattle.std.specs.Prelude.{◌≡◌, ◌<◌, length, IfSome};
+ghost use Rattle.std.specs.Prelude.{◌≡◌, ◌<◌, ◌≤◌};
 ghost use Rattle.ug_rules.specs.Books.{AreSettings};
 
 use crate::expect::holds;
 use crate::problems::line;
 use std::alloc::{AllocError, Global};
 use std::sync::Wait;
-use ug_book::{Book, Opening};
-use ug_coord::{Coordinated, coordinate};
+use ug_book::Opening;
+use ug_checkpoint::load;
+use ug_coord::{Coordinated, Host, coordinate};
+use ug_disk::{MemoryDisk, Script as DiskScript};
 use ug_io::{Exchange, MemoryCrew, Piece, Script};
 use ug_problem::Shared;
-use ug_restart::End;
+use ug_restart::{Attempt, End, Outcome, Start, begin};
 use ug_rules::Settings;
 
 /// How a run ends.
@@ -193,8 +196,10 @@ const CASES: &[Case] = &[
     },
 ];
 
-fn settings(solvers: u32, limit: u64) -> Settings
-    requires { 0 < solvers }
+// Of so many ranks, with a save after so many reports, and with so many reports at most.
+fn settings(solvers: u32, every: u64, limit: u64) -> Settings
+    requires some { 0 < solvers }
+    requires few { solvers ≤ 256 }
     ensures are { AreSettings result }
     ensures solvers { result.solvers ≡ solvers }
 {
@@ -203,48 +208,19 @@ fn settings(solvers: u32, limit: u64) -> Settings
         racing: false,
         low: 2,
         high: 3,
-        every: 1,
+        every,
         limit,
         winner: 20,
         gap: 0,
     }
 }
 
-fn way_of(end: End) -> Way {
+fn way_of(end: &End) -> Way {
     match end {
-        End::Answered(book) => {
-            drop(book);
-            Way::Answered
-        }
-        End::Limited(book) => {
-            drop(book);
-            Way::Limited
-        }
-        End::Stranded(book) => {
-            drop(book);
-            Way::Stranded
-        }
+        End::Answered(_) => Way::Answered,
+        End::Limited(_) => Way::Limited,
+        End::Stranded(_) => Way::Stranded,
         End::Memory => Way::Memory,
-    }
-}
-
-// A book over the column.
-fn book_of(alloc: Global, solvers: u32, limit: u64) -> Option<Book>
-    requires { 0 < solvers }
-    ensures { IfSome result (λ book. length book.ranks ≡ solvers) }
-{
-    let problem = Shared::own(line(alloc).ok()?);
-    let Ok(opening) = Opening::new(alloc, problem, 1, settings(solvers, limit)) else {
-        return None;
-    };
-    let made = Book::new(alloc, &opening);
-    drop(opening);
-    match made {
-        Ok(book) => {
-            let _settings = book.settings();
-            Some(book)
-        }
-        Err(_) => None,
     }
 }
 
@@ -277,6 +253,15 @@ fn is_told_so(
     Ok(so)
 }
 
+// An empty disk, of which these calls fail.
+fn disk_of(alloc: Global, failing: &[u64]) -> Result<MemoryDisk, AllocError> {
+    let script = DiskScript {
+        failing: failing.to_vec(alloc)?,
+        stopping: Vec::new(alloc),
+    };
+    Ok(MemoryDisk::new(alloc, Vec::new(alloc), Vec::new(alloc), script))
+}
+
 // Whether the run ends so, and tells that.
 fn comes_so<R: Wait>(rt: &R, alloc: Global, case: &Case) -> Result<bool, AllocError> {
     let count = case.told.len();
@@ -284,14 +269,21 @@ fn comes_so<R: Wait>(rt: &R, alloc: Global, case: &Case) -> Result<bool, AllocEr
         return Ok(false);
     }
     let solvers = count as u32;
-    let script = Script::new(case.failing.to_vec(alloc)?, case.most);
-    let crew = MemoryCrew::new(alloc, solvers, case.pieces, script)?;
-    let Some(book) = book_of(alloc, solvers, case.limit) else {
-        drop(crew);
+    let settings = settings(solvers, 1, case.limit);
+    let Ok(problem) = line(alloc) else {
         return Err(AllocError);
     };
-    let Coordinated { crew, end } = coordinate(rt, alloc, book, crew);
-    let mut so = way_of(end) == case.way;
+    let problem = Shared::own(problem);
+    let opening = Opening::new(alloc, problem, 1, settings)?;
+    let mut disk = disk_of(alloc, &[])?;
+    let script = Script::new(case.failing.to_vec(alloc)?, case.most);
+    let crew = MemoryCrew::new(alloc, solvers, case.pieces, script)?;
+    let host = Host { rt, alloc };
+    let Coordinated { crew, outcome } = coordinate(&host, &opening, None, &mut disk, crew);
+    drop(opening);
+    drop(disk);
+    let mut so = way_of(&outcome.end) == case.way;
+    drop(outcome);
     for (rank, wanted) in case.told.iter().enumerate() {
         so = is_told_so(alloc, crew.exchanged(), rank as u32, *wanted)? && so;
     }
@@ -303,5 +295,94 @@ fn comes_so<R: Wait>(rt: &R, alloc: Global, case: &Case) -> Result<bool, AllocEr
 fn crews_are_told_byte_for_byte(rt: HostRuntime) {
     for case in CASES {
         holds(&rt, comes_so(&rt, rt.alloc(), case).is_ok_and(|so| so));
+    }
+}
+
+// How a run of the rank that does it all ended with this disk, from its first image on, and the
+// sequence of the image that is found then, if the disk can be read. None where it did not begin.
+fn saved<R: Wait>(
+    rt: &R,
+    alloc: Global,
+    every: u64,
+    disk: &mut MemoryDisk,
+) -> Result<Option<(Outcome, Option<u64>)>, AllocError> {
+    let Ok(problem) = line(alloc) else {
+        return Err(AllocError);
+    };
+    let problem = Shared::own(problem);
+    let Ok(Start { opening, saver }) = begin(alloc, disk, problem, settings(1, every, 100)) else {
+        return Ok(None);
+    };
+    let script = Script::new(Vec::new(alloc), 1000);
+    let crew = MemoryCrew::new(alloc, 1, BY_ITSELF, script)?;
+    let host = Host { rt, alloc };
+    let Coordinated { crew, outcome } = coordinate(&host, &opening, Some(saver), disk, crew);
+    drop(crew);
+    drop(opening);
+    match load(alloc, disk) {
+        Ok(Some(found)) => {
+            let sequence = found.image.sequence;
+            drop(found);
+            Ok(Some((outcome, Some(sequence))))
+        }
+        Ok(None) => {
+            drop(outcome);
+            Err(AllocError)
+        }
+        Err(_) => Ok(Some((outcome, None))),
+    }
+}
+
+// Three reports come. The first image has sequence 1, and the ending book is saved after all.
+const EVERY: &[(u64, u64)] = &[(1, 5), (2, 3), (3, 3), (4, 2), (0, 2)];
+
+#[test]
+fn books_are_saved_as_often_as_is_asked(rt: HostRuntime) {
+    for (every, last) in EVERY {
+        let mut so = false;
+        if let Ok(mut disk) = disk_of(rt.alloc(), &[])
+            && let Ok(Some((outcome, sequence))) = saved(&rt, rt.alloc(), *every, &mut disk)
+        {
+            so = outcome.last == Some(Attempt::Saved)
+                && outcome.missed == 0
+                && sequence == Some(*last);
+            drop(outcome);
+            drop(disk);
+        }
+        holds(&rt, so);
+    }
+}
+
+// Whether the answer is there, and each save was made but for one that is counted as missed, where
+// this call of the disk fails; or the run did not begin. The last save may be found though it was
+// missed.
+fn misses_one<R: Wait>(rt: &R, alloc: Global, call: u64) -> Result<bool, AllocError> {
+    let mut disk = disk_of(alloc, &[call])?;
+    let so = match saved(rt, alloc, 1, &mut disk)? {
+        Some((outcome, sequence)) => {
+            let missed = outcome.missed;
+            let last = outcome.last;
+            let is_answered = way_of(&outcome.end) == Way::Answered;
+            drop(outcome);
+            let most = if last == Some(Attempt::Missed) { 6 } else { 5 };
+            let all = match sequence {
+                Some(found) => {
+                    let images = found.saturating_add(missed);
+                    5 <= images && images <= most
+                }
+                None => true,
+            };
+            is_answered && all && missed <= 1 && (missed == 1 || last == Some(Attempt::Saved))
+        }
+        None => call < 20,
+    };
+    drop(disk);
+    Ok(so)
+}
+
+#[test]
+fn each_call_of_the_disk_fails_in_turn(rt: HostRuntime) {
+    for call in 1..60 {
+        holds(&rt, misses_one(&rt, rt.alloc(), call).is_ok_and(|so| so));
     }
 }

@@ -1,5 +1,5 @@
 -- What each thing that a coordinator does makes of its standing.
-use Rattle.std.proofs.Common.{◌≡◌, ◌⊎◌, inl, inr, ℕ, ◌<◌, ◌≤◌, Bool, true, false, List, [], ◌∷◌, ◌++◌, length, take, Option, Some, None, IfSome, set, refl, sym, ap, subst, ◌∙◌, arith}
+use Rattle.std.proofs.Common.{◌≡◌, ◌≢◌, inl, inr, ℕ, ◌<◌, Bool, true, false, List, [], ◌∷◌, ◌++◌, length, Option, Some, None, IfSome, refl, sym, ap, subst, ◌∙◌, arith}
 use Rattle.std.proofs.lemmas.Bool.{cases_Bool, cases_lt, false≢true}
 use Rattle.std.proofs.lemmas.List.{get_or-set_same, get_or_past, length-replicate, length-set, set-get_or}
 use Rattle.std.specs.Prelude.{replicate, slice_index_or, slice_set}
@@ -7,7 +7,6 @@ use Rattle.ug_io.specs.declared.crew.Exchange.{Exchange}
 use Rattle.ug_io.specs.declared.crew.Exchange.TheVariants.{Gone}
 use Rattle.ug_io.specs.Crews.{Adds, CrewSeen, IsAlive, IsSilent, heard_from, told_to}
 use Rattle.ug_io.specs.Outside.{Rose}
-use Rattle.ug_frames.specs.declared.order.Order.{Order}
 use Rattle.ug_frames.specs.declared.order.Order.TheVariants.{End, Setup}
 use Rattle.ug_frames.specs.declared.report.Report.{Report}
 use Rattle.ug_fields.specs.Spelling.{count_field}
@@ -23,34 +22,31 @@ use Rattle.ug_rules.specs.declared.settings.Settings.{Settings}
 use Rattle.ug_rules.specs.declared.told.Told.{Told}
 use Rattle.ug_rules.specs.State.{BookState}
 use Rattle.ug_rules.specs.Deaths.{killed}
-use Rattle.ug_rules.specs.Deciding.{IsDecided}
+use Rattle.ug_rules.specs.Deciding.{IsDecided, Stands}
 use Rattle.ug_rules.specs.Hearing.{IsDue, after_hearing}
 use Rattle.ug_book.specs.Reads.{IsOrderTold}
-use Rattle.ug_coord.specs.Deeds.{Broke, Came, Closed, Decided, Deed, Does, Ended, Failed, IsCourse, Launched, Lost, Nonsense, Passed, Sent, SetUp, Standing, Took, Unclosed, Unsent}
+use Rattle.ug_coord.specs.Deeds.{Broke, Came, Decided, Deciding, Deed, Does, Ended, Failed, Halted, Hearing, IsCourse, IsHearing, IsReading, Launched, Lost, Nonsense, Pace, Passed, Reading, Sent, SetUp, Standing, Took, Unfed, Unread, Unsent, Unwritten}
+use Rattle.ug_coord.specs.Ends.{IsOver, ranks_of}
 use Rattle.ug_stream.specs.declared.next.Next.TheVariants.{BadFrame, Message, NeedMore}
-use Rattle.ug_restart.specs.declared.outcome.End.{End as HowItEnded}
-use Rattle.ug_restart.specs.declared.outcome.End.TheVariants.{Answered, Limited, Memory, Stranded}
-use Rattle.ug_coord.specs.Reading.{HasBroken, HasFed, HasGone, HasRead}
-use Rattle.ug_coord.specs.Hubs.{EndsWith, HasCome, HasCoordinated, HasFailed, HasHeardReport, HasSentTo, HubSeen, IsAnswered, IsFit, IsFresh, IsLimited, IsOn, IsOnAs, IsSetUpFrame, IsStranded, beginning, is_ended, ranks_of, sent_or_failed, standing, without}
+use Rattle.ug_coord.specs.Reading.{HasBroken, HasFed, HasGone, HasLacked, HasRead}
+use Rattle.ug_coord.specs.Hubs.{AnyPhase, HasCome, HasFailed, HasHeardReport, HasSentTo, HubSeen, IsBrokenOff, IsFit, IsFresh, IsOnAs, IsOnIn, IsRested, IsSetUpFrame, MayRead, Phase, beginning, is_next, sent_or_failed, standing, without}
 
 -- ---- one deed more
 
-course_more : (a : Standing) (deeds : List Deed) (b c : Standing) (deed : Deed) → IsCourse a deeds b
+abbrev pub course_more : (a : Standing) (deeds : List Deed) (b c : Standing) (deed : Deed) → IsCourse a deeds b
     → Does b deed c → IsCourse a (deeds ++ deed ∷ []) c
 course_more a [] b c deed same does =
     (c, subst (λ (old : Standing). Does old deed c) same does, refl)
-course_more a (first ∷ deeds) b c deed (mid, done, more) does =
+course_more a (one ∷ deeds) b c deed (mid, done, more) does =
     (mid, done, course_more mid deeds b c deed more does)
 
-pub come_more : (b : BookState) (old new : Standing) (deed : Deed) → HasCome b old → Does old deed new
-    → HasCome b new
+pub come_more : (b old new : Standing) (deed : Deed) → HasCome b old → Does old deed new → HasCome b new
 come_more b old new deed h does = record {
-  faults = h.faults;
   deeds = h.deeds ++ deed ∷ [];
-  course = course_more (beginning b h.faults) h.deeds old new deed h.course does;
+  course = course_more b h.deeds old new deed h.course does;
 }
 
-said_more : (a b : Option (List Exchange)) (said more : List Exchange) → Adds a b more
+pub said_more : (a b : Option (List Exchange)) (said more : List Exchange) → Adds a b more
     → IfSome a (λ s. s ≡ said) → IfSome b (λ s. s ≡ said ++ more)
 said_more None b said more adds same =
     subst (λ (b : Option (List Exchange)). IfSome b (λ s. s ≡ said ++ more)) (sym adds) tt
@@ -59,29 +55,41 @@ said_more (Some s) b said more adds same =
     (ap (λ (t : List Exchange). t ++ more) same)
 
 -- in which something was said
-pub on_more : (broken after : Bool) (b : BookState) (old new : HubSeen) (deed : Deed) (more : List Exchange)
+pub on_more : (phase after : Phase) (b : Standing) (old new : HubSeen) (deed : Deed) (more : List Exchange)
     → Adds old.crew.said new.crew.said more
-    → ((said : List Exchange) → Does (standing said broken old) deed (standing (said ++ more) after new))
-    → IsFit new → IsOnAs broken b old → IsOnAs after b new
-on_more broken after b old new deed more adds does fit on = record {
+    → ((said : List Exchange) → Does (standing said phase old) deed (standing (said ++ more) after new))
+    → IsFit new → IsOnAs phase b old → IsOnAs after b new
+on_more phase after b old new deed more adds does fit on = record {
   said = on.said ++ more;
-  come = come_more b (standing on.said broken old) (standing (on.said ++ more) after new) deed on.come
+  come = come_more b (standing on.said phase old) (standing (on.said ++ more) after new) deed on.come
       (does on.said);
   shown = said_more old.crew.said new.crew.said on.said more adds on.shown;
   fit = fit;
 }
 
 -- in which nothing was
-pub on_still : (broken after : Bool) (b : BookState) (old new : HubSeen) (deed : Deed)
+pub on_still : (phase after : Phase) (b : Standing) (old new : HubSeen) (deed : Deed)
     → new.crew.said ≡ old.crew.said
-    → ((said : List Exchange) → Does (standing said broken old) deed (standing said after new))
-    → IsFit new → IsOnAs broken b old → IsOnAs after b new
-on_still broken after b old new deed still does fit on = record {
+    → ((said : List Exchange) → Does (standing said phase old) deed (standing said after new))
+    → IsFit new → IsOnAs phase b old → IsOnAs after b new
+on_still phase after b old new deed still does fit on = record {
   said = on.said;
-  come = come_more b (standing on.said broken old) (standing on.said after new) deed on.come (does on.said);
+  come = come_more b (standing on.said phase old) (standing on.said after new) deed on.come (does on.said);
   shown = subst (λ (told : Option (List Exchange)). IfSome told (λ t. t ≡ on.said)) (sym still) on.shown;
   fit = fit;
 }
+
+-- ---- when something is heard
+
+hearing : (said : List Exchange) (phase : Phase) (h : HubSeen) → ¬ IsOver h.book → h.book.orders ≡ []
+    → phase.pace ≡ Hearing → IsHearing (standing said phase h)
+hearing said phase h more told decided =
+    record { settled = record { more = more; told = told }; decided = decided }
+
+reading : (said : List Exchange) (phase : Phase) (h : HubSeen) → ¬ IsOver h.book → h.book.orders ≡ []
+    → phase.pace ≢ Deciding → IsReading (standing said phase h)
+reading said phase h more told decided =
+    record { settled = record { more = more; told = told }; decided = decided }
 
 -- ---- who lives
 
@@ -110,28 +118,35 @@ fit_without old new rank lives streams ranks fit = record {
 
 -- ---- a call failed
 
-pub failed_on : (broken : Bool) (b : BookState) (old new : HubSeen) (rank : ℕ) → HasFailed old new rank
-    → IsOnAs broken b old → IsOnAs broken b new
-failed_on broken b old new rank h on =
+pub failed_on : (phase : Phase) (b : Standing) (old new : HubSeen) (rank : ℕ) → HasFailed old new rank
+    → IsOnAs phase b old → IsOnAs phase b new
+failed_on phase b old new rank h on =
     let lives = ap (λ (h : HubSeen). h.crew.lives) h.rest in
     let streams = ap (λ (h : HubSeen). h.streams) h.rest in
-    on_still broken broken b old new (Lost rank Failed) (ap (λ (h : HubSeen). h.crew.said) h.rest)
+    on_still phase phase b old new (Lost rank Failed) (ap (λ (h : HubSeen). h.crew.said) h.rest)
     (λ said. record {
       there = h.there;
       why = (refl, inr h.faults, streams);
       lives = lives;
       broken = refl;
+      pace = refl;
       book = ap (λ (h : HubSeen). h.book) h.rest;
     })
     (fit_without old new rank lives streams h.ranks on.fit) on
 
 -- a turn failed
-pub broke_on : (broken : Bool) (b : BookState) (old new : HubSeen) → Rose old.crew.faults new.crew.faults
-    → new ≡ record old { crew = record old.crew { faults = new.crew.faults } } → IsOnAs broken b old
-    → IsOnAs true b new
-broke_on broken b old new faults rest on =
-    on_still broken true b old new Broke (ap (λ (h : HubSeen). h.crew.said) rest)
-    (λ said. (faults, ap (λ (h : HubSeen). standing said true h) rest))
+pub broke_on : (phase : Phase) (b : Standing) (old new : HubSeen) → ¬ IsOver old.book → old.book.orders ≡ []
+    → phase.pace ≡ Hearing → Rose old.crew.faults new.crew.faults
+    → new ≡ record old { crew = record old.crew { faults = new.crew.faults } } → IsOnAs phase b old
+    → IsOnAs (record { broken = true; pace = Deciding }) b new
+broke_on phase b old new more told decided faults rest on =
+    let after : Phase = record { broken = true; pace = Deciding } in
+    on_still phase after b old new Broke (ap (λ (h : HubSeen). h.crew.said) rest)
+    (λ said. record {
+      hearing = hearing said phase old more told decided;
+      faults = faults;
+      rest = ap (λ (h : HubSeen). standing said after h) rest;
+    })
     (record {
       lives = ap (λ (h : HubSeen). length h.crew.lives) rest ∙ on.fit.lives
           ∙ sym (ap (λ (h : HubSeen). ranks_of h.book) rest);
@@ -140,18 +155,19 @@ broke_on broken b old new faults rest on =
     }) on
 
 -- and so each rank is gone
-pub lost_on : (b : BookState) (old new : HubSeen) (rank : ℕ) → rank < ranks_of old.book
-    → new ≡ without rank old
-    → ranks_of new.book ≡ ranks_of old.book → IsOnAs true b old → IsOnAs true b new
-lost_on b old new rank there rest ranks on =
+pub lost_on : (phase : Phase) (b : Standing) (old new : HubSeen) (rank : ℕ) → phase.broken ≡ true
+    → rank < ranks_of old.book → new ≡ without rank old
+    → ranks_of new.book ≡ ranks_of old.book → IsOnAs phase b old → IsOnAs phase b new
+lost_on phase b old new rank broken there rest ranks on =
     let lives = ap (λ (h : HubSeen). h.crew.lives) rest in
     let streams = ap (λ (h : HubSeen). h.streams) rest in
-    on_still true true b old new (Lost rank Failed) (ap (λ (h : HubSeen). h.crew.said) rest)
+    on_still phase phase b old new (Lost rank Failed) (ap (λ (h : HubSeen). h.crew.said) rest)
     (λ said. record {
       there = there;
-      why = (refl, inl refl, streams);
+      why = (refl, inl broken, streams);
       lives = lives;
       broken = refl;
+      pace = refl;
       book = ap (λ (h : HubSeen). h.book) rest;
     })
     (fit_without old new rank lives streams ranks on.fit) on
@@ -166,27 +182,27 @@ fit_book h before ranks fit = record { lives = fit.lives ∙ sym ranks; streams 
 told_ranks : (old new : BookState) (told : Told) → IsOrderTold old new told → ranks_of new ≡ ranks_of old
 told_ranks old new told h = ap (λ (b : BookState). ranks_of b) h.rest
 
-pub passed_on : (broken : Bool) (b before : BookState) (h : HubSeen) (told : Told)
+pub passed_on : (phase : Phase) (b : Standing) (before : BookState) (h : HubSeen) (told : Told)
     → ¬ IsAlive h.crew told.rank → IsOrderTold before h.book told
-    → IsOnAs broken b (record h { book = before }) → IsOnAs broken b h
-passed_on broken b before h told away left on =
-    on_still broken broken b (record h { book = before }) h (Passed told.rank told.order) refl
+    → IsOnAs phase b (record h { book = before }) → IsOnAs phase b h
+passed_on phase b before h told away left on =
+    on_still phase phase b (record h { book = before }) h (Passed told.rank told.order) refl
     (λ said. record { away = away_is h.crew told.rank away; told = left; rest = refl })
     (fit_book h before (told_ranks before h.book told left) on.fit) on
 
-pub sent_on : (broken : Bool) (b before : BookState) (h new : HubSeen) (told : Told)
+pub sent_on : (phase : Phase) (b : Standing) (before : BookState) (h new : HubSeen) (told : Told)
     → IsAlive h.crew told.rank → IsOrderTold before h.book told
     → HasSentTo h new told.rank (orders.spelled told.order)
-    → IsOnAs broken b (record h { book = before }) → IsOnAs broken b new
-sent_on broken b before h new told alive left sent on =
+    → IsOnAs phase b (record h { book = before }) → IsOnAs phase b new
+sent_on phase b before h new told alive left sent on =
     let book = ap (λ (h : HubSeen). h.book) sent.rest in
     let left_new = subst (λ (book : BookState). IsOrderTold before book told) (sym book) left in
-    on_more broken broken b (record h { book = before }) new (Sent told.rank told.order)
+    on_more phase phase b (record h { book = before }) new (Sent told.rank told.order)
     (told_to told.rank (orders.spelled told.order)) sent.said
     (λ said. record {
       alive = alive.lives;
       told = left_new;
-      rest = ap (λ (n : HubSeen). standing (said ++ told_to told.rank (orders.spelled told.order)) broken
+      rest = ap (λ (n : HubSeen). standing (said ++ told_to told.rank (orders.spelled told.order)) phase
           (record n { book = new.book })) sent.rest;
     })
     (record {
@@ -196,14 +212,14 @@ sent_on broken b before h new told alive left sent on =
           ∙ sym (told_ranks before new.book told left_new);
     }) on
 
-pub unsent_on : (broken : Bool) (b before : BookState) (h new : HubSeen) (told : Told)
+pub unsent_on : (phase : Phase) (b : Standing) (before : BookState) (h new : HubSeen) (told : Told)
     → IsAlive h.crew told.rank → IsOrderTold before h.book told → HasFailed h new told.rank
-    → IsOnAs broken b (record h { book = before }) → IsOnAs broken b new
-unsent_on broken b before h new told alive left failed on =
+    → IsOnAs phase b (record h { book = before }) → IsOnAs phase b new
+unsent_on phase b before h new told alive left failed on =
     let lives = ap (λ (h : HubSeen). h.crew.lives) failed.rest in
     let streams = ap (λ (h : HubSeen). h.streams) failed.rest in
     let ranks = failed.ranks ∙ told_ranks before h.book told left in
-    on_still broken broken b (record h { book = before }) new (Unsent told.rank told.order)
+    on_still phase phase b (record h { book = before }) new (Unsent told.rank told.order)
     (ap (λ (h : HubSeen). h.crew.said) failed.rest)
     (λ said. record {
       there = omega (arith, failed.there, told_ranks before h.book told left);
@@ -211,29 +227,29 @@ unsent_on broken b before h new told alive left failed on =
       without = h.book;
       told = left;
       faults = failed.faults;
-      rest = ap (λ (n : HubSeen). standing said broken n) failed.rest;
+      rest = ap (λ (n : HubSeen). standing said phase n) failed.rest;
     })
     (fit_without (record h { book = before }) new told.rank lives streams ranks on.fit) on
 
 -- by what a call that tells came to
-pub told_on : (sent broken : Bool) (b before : BookState) (h new : HubSeen) (told : Told)
+pub told_on : (sent : Bool) (phase : Phase) (b : Standing) (before : BookState) (h new : HubSeen) (told : Told)
     → IsAlive h.crew told.rank → IsOrderTold before h.book told
     → sent_or_failed sent h new told.rank (orders.spelled told.order)
-    → IsOnAs broken b (record h { book = before }) → IsOnAs broken b new
-told_on true broken b before h new told alive left came on = sent_on broken b before h new told alive left came on
-told_on false broken b before h new told alive left came on =
-    unsent_on broken b before h new told alive left came on
+    → IsOnAs phase b (record h { book = before }) → IsOnAs phase b new
+told_on true phase b before h new told alive left came on = sent_on phase b before h new told alive left came on
+told_on false phase b before h new told alive left came on =
+    unsent_on phase b before h new told alive left came on
 
 -- ---- the start of a rank
 
 -- the rank was started
-pub launched_on : (broken : Bool) (b : BookState) (old new : HubSeen) (rank : ℕ)
+pub launched_on : (phase : Phase) (b : Standing) (old new : HubSeen) (rank : ℕ)
     → slice_index_or old.crew.lives rank false ≡ false
     → new ≡ record old { crew = record old.crew { lives = slice_set old.crew.lives rank true } }
-    → IsOnAs broken b old → IsOnAs broken b new
-launched_on broken b old new rank away rest on =
-    on_still broken broken b old new (Launched rank) (ap (λ (h : HubSeen). h.crew.said) rest)
-    (λ said. (away, ap (λ (h : HubSeen). standing said broken h) rest))
+    → IsOnAs phase b old → IsOnAs phase b new
+launched_on phase b old new rank away rest on =
+    on_still phase phase b old new (Launched rank) (ap (λ (h : HubSeen). h.crew.said) rest)
+    (λ said. (away, ap (λ (h : HubSeen). standing said phase h) rest))
     (record {
       lives = ap (λ (h : HubSeen). length h.crew.lives) rest ∙ length-set old.crew.lives rank true ∙ on.fit.lives
           ∙ sym (ap (λ (h : HubSeen). ranks_of h.book) rest);
@@ -242,20 +258,20 @@ launched_on broken b old new rank away rest on =
     }) on
 
 -- and told the problem
-pub set_up_on : (sent broken : Bool) (b : BookState) (old new : HubSeen) (rank : ℕ) (frame : List ℕ)
+pub set_up_on : (sent : Bool) (phase : Phase) (b : Standing) (old new : HubSeen) (rank : ℕ) (frame : List ℕ)
     → IsAlive old.crew rank → IsSetUpFrame old.book frame → sent_or_failed sent old new rank frame
-    → IsOnAs broken b old → IsOnAs broken b new
-set_up_on true broken b old new rank frame alive setup came on =
+    → IsOnAs phase b old → IsOnAs phase b new
+set_up_on true phase b old new rank frame alive setup came on =
     let told : told_to rank frame ≡ told_to rank (orders.spelled (Setup old.book.settings.gap setup.bytes)) =
     ap (told_to rank) setup.frame in
-    on_more broken broken b old new (SetUp rank setup.bytes)
+    on_more phase phase b old new (SetUp rank setup.bytes)
     (told_to rank (orders.spelled (Setup old.book.settings.gap setup.bytes)))
     (subst (Adds old.crew.said new.crew.said) told came.said)
     (λ said. record {
       its = setup.its;
       alive = alive.lives;
       rest = ap (λ (h : HubSeen). standing
-          (said ++ told_to rank (orders.spelled (Setup old.book.settings.gap setup.bytes))) broken h) came.rest;
+          (said ++ told_to rank (orders.spelled (Setup old.book.settings.gap setup.bytes))) phase h) came.rest;
     })
     (record {
       lives = ap (λ (h : HubSeen). length h.crew.lives) came.rest ∙ on.fit.lives
@@ -263,16 +279,39 @@ set_up_on true broken b old new rank frame alive setup came on =
       streams = ap (λ (h : HubSeen). length h.streams) came.rest ∙ on.fit.streams
           ∙ sym (ap (λ (h : HubSeen). ranks_of h.book) came.rest);
     }) on
-set_up_on false broken b old new rank frame alive setup came on = failed_on broken b old new rank came on
+set_up_on false phase b old new rank frame alive setup came on = failed_on phase b old new rank came on
 
 -- ---- decisions
 
-pub decided_on : (broken : Bool) (b : BookState) (old new : HubSeen) → IsDecided old.book new.book
-    → ranks_of new.book ≡ ranks_of old.book → new ≡ record old { book = new.book } → IsOnAs broken b old
-    → IsOnAs broken b new
-decided_on broken b old new decided ranks rest on =
-    on_still broken broken b old new Decided (ap (λ (h : HubSeen). h.crew.said) rest)
-    (λ said. (decided, ap (λ (h : HubSeen). standing said broken h) rest))
+pub decided_on : (phase : Phase) (b : Standing) (old new : HubSeen) → ¬ IsOver old.book → phase.pace ≢ Hearing
+    → IsDecided old.book new.book → ranks_of new.book ≡ ranks_of old.book → new ≡ record old { book = new.book }
+    → IsOnAs phase b old → IsOnAs (record { broken = phase.broken; pace = Hearing }) b new
+decided_on phase b old new more due is ranks rest on =
+    let after : Phase = record { broken = phase.broken; pace = Hearing } in
+    on_still phase after b old new Decided (ap (λ (h : HubSeen). h.crew.said) rest)
+    (λ said. record {
+      deciding = record { more = more; due = due };
+      is = is;
+      rest = ap (λ (h : HubSeen). standing said after h) rest;
+    })
+    (record {
+      lives = ap (λ (h : HubSeen). length h.crew.lives) rest ∙ on.fit.lives ∙ sym ranks;
+      streams = ap (λ (h : HubSeen). length h.streams) rest ∙ on.fit.streams ∙ sym ranks;
+    }) on
+
+-- a decision was cut short
+pub halted_on : (phase : Phase) (b : Standing) (old new : HubSeen) (steps : ℕ) → ¬ IsOver old.book
+    → phase.pace ≢ Hearing → Stands steps old.book new.book → ranks_of new.book ≡ ranks_of old.book
+    → new ≡ record old { book = new.book } → IsOnAs phase b old
+    → IsOnAs (record { broken = phase.broken; pace = Hearing }) b new
+halted_on phase b old new steps more due is ranks rest on =
+    let after : Phase = record { broken = phase.broken; pace = Hearing } in
+    on_still phase after b old new (Halted steps) (ap (λ (h : HubSeen). h.crew.said) rest)
+    (λ said. record {
+      deciding = record { more = more; due = due };
+      is = is;
+      rest = ap (λ (h : HubSeen). standing said after h) rest;
+    })
     (record {
       lives = ap (λ (h : HubSeen). length h.crew.lives) rest ∙ on.fit.lives ∙ sym ranks;
       streams = ap (λ (h : HubSeen). length h.streams) rest ∙ on.fit.streams ∙ sym ranks;
@@ -281,48 +320,82 @@ decided_on broken b old new decided ranks rest on =
 -- ---- what comes
 
 -- bytes, which were fed to the stream of their rank
-pub fed_on : (broken : Bool) (b : BookState) (old new : HubSeen) (rank : ℕ)
-    → HasFed old.crew new.crew old.streams new.streams rank → new.book ≡ old.book → IsOnAs broken b old
-    → IsOnAs broken b new
-fed_on broken b old new rank h book on =
+pub fed_on : (phase : Phase) (b : Standing) (old new : HubSeen) (rank : ℕ) → ¬ IsOver old.book
+    → old.book.orders ≡ [] → phase.pace ≡ Hearing
+    → HasFed old.crew new.crew old.streams new.streams rank → new.book ≡ old.book → IsOnAs phase b old
+    → IsOnAs (record { broken = phase.broken; pace = Reading }) b new
+fed_on phase b old new rank more told decided h book on =
+    let after : Phase = record { broken = phase.broken; pace = Reading } in
     let ranks = ap (λ (b : BookState). ranks_of b) book in
-    on_more broken broken b old new (Came rank h.bytes) (heard_from rank h.bytes) h.said
-    (λ said. (
-      h.alive.lives,
-      ap (λ (l : List Bool). record (standing (said ++ heard_from rank h.bytes) broken new) { lives = l }) h.lives
-          ∙ ap (λ (n : ℕ). record (standing (said ++ heard_from rank h.bytes) broken new) { lives = old.crew.lives; faults = n })
+    on_more phase after b old new (Came rank h.bytes) (heard_from rank h.bytes) h.said
+    (λ said. record {
+      hearing = hearing said phase old more told decided;
+      alive = h.alive.lives;
+      rest =
+          ap (λ (l : List Bool). record (standing (said ++ heard_from rank h.bytes) after new) { lives = l }) h.lives
+          ∙ ap (λ (n : ℕ). record (standing (said ++ heard_from rank h.bytes) after new) { lives = old.crew.lives; faults = n })
           h.faults
-          ∙ ap (λ (l : List Waiting). record (standing (said ++ heard_from rank h.bytes) broken old) { streams = l; book = new.book })
+          ∙ ap (λ (l : List Waiting). record (standing (said ++ heard_from rank h.bytes) after old) { streams = l; book = new.book })
           h.streams
-          ∙ ap (λ (book : BookState). record (standing (said ++ heard_from rank h.bytes) broken old) {
+          ∙ ap (λ (book : BookState). record (standing (said ++ heard_from rank h.bytes) after old) {
             streams = slice_set old.streams rank (fed (slice_index_or old.streams rank first) h.bytes);
             book = book;
-          }) book,
-    ))
+          }) book;
+    })
     (record {
       lives = ap (λ (l : List Bool). length l) h.lives ∙ on.fit.lives ∙ sym ranks;
       streams = ap (λ (l : List Waiting). length l) h.streams
-          ∙ length-set old.streams rank (fed (slice_index_or old.streams rank first) h.bytes) ∙ on.fit.streams
-          ∙ sym ranks;
+          ∙ length-set old.streams rank (fed (slice_index_or old.streams rank first) h.bytes) ∙ on.fit.streams ∙ sym ranks;
+    }) on
+
+-- and could not be kept
+pub lacked_on : (phase : Phase) (b : Standing) (old new : HubSeen) (rank : ℕ) → ¬ IsOver old.book
+    → old.book.orders ≡ [] → phase.pace ≡ Hearing
+    → HasLacked old.crew new.crew old.streams new.streams rank → new.book ≡ old.book → IsOnAs phase b old
+    → IsOnAs (record { broken = phase.broken; pace = Reading }) b new
+lacked_on phase b old new rank more told decided h book on =
+    let after : Phase = record { broken = phase.broken; pace = Reading } in
+    let ranks = ap (λ (b : BookState). ranks_of b) book in
+    on_more phase after b old new (Unfed rank h.bytes) (heard_from rank h.bytes) h.said
+    (λ said. record {
+      hearing = hearing said phase old more told decided;
+      alive = h.alive.lives;
+      rest =
+          ap (λ (l : List Bool). record (standing (said ++ heard_from rank h.bytes) after new) { lives = l }) h.lives
+          ∙ ap (λ (n : ℕ). record (standing (said ++ heard_from rank h.bytes) after new) { lives = old.crew.lives; faults = n })
+          h.faults
+          ∙ ap (λ (l : List Waiting). record (standing (said ++ heard_from rank h.bytes) after old) { streams = l; book = new.book })
+          h.streams
+          ∙ ap (λ (book : BookState). record (standing (said ++ heard_from rank h.bytes) after old) {
+            book = book;
+          }) book;
+    })
+    (record {
+      lives = ap (λ (l : List Bool). length l) h.lives ∙ on.fit.lives ∙ sym ranks;
+      streams = ap (λ (l : List Waiting). length l) h.streams
+          ∙ on.fit.streams ∙ sym ranks;
     }) on
 
 -- a report, which is heard
-pub took_on : (broken : Bool) (b : BookState) (old mid new : HubSeen) (rank : ℕ) (stream : Waiting) (report : Report)
+pub took_on : (phase : Phase) (b : Standing) (old mid new : HubSeen) (rank : ℕ) (stream : Waiting) (report : Report)
     → IsGiven reports.IsCarried reports.spelled (slice_index_or old.streams rank first) stream report
     → mid ≡ record old { streams = slice_set old.streams rank stream } → HasHeardReport mid new rank report
-    → IsOnAs broken b old → IsOnAs broken b new
-took_on broken b old mid new rank stream report given step heard on =
+    → ¬ IsOver old.book → old.book.orders ≡ [] → phase.pace ≢ Deciding
+    → IsOnAs phase b old → IsOnAs (record { broken = phase.broken; pace = Deciding }) b new
+took_on phase b old mid new rank stream report given step heard more told may on =
+    let after : Phase = record { broken = phase.broken; pace = Deciding } in
     let both = heard.rest ∙ ap (λ (h : HubSeen). record h {
       book = after_hearing heard.answer rank report h.book;
     }) step in
-    on_still broken broken b old new (Took rank report heard.answer) (ap (λ (h : HubSeen). h.crew.said) both)
+    on_still phase after b old new (Took rank report heard.answer) (ap (λ (h : HubSeen). h.crew.said) both)
     (λ said. record {
       there = omega (arith, heard.there, ap (λ (h : HubSeen). ranks_of h.book) step);
+      reading = reading said phase old more told may;
       stream = stream;
       given = given;
       due = subst (λ (book : BookState). IsDue book rank report heard.answer)
           (ap (λ (h : HubSeen). h.book) step) heard.due;
-      rest = ap (λ (h : HubSeen). standing said broken h) both;
+      rest = ap (λ (h : HubSeen). standing said after h) both;
     })
     (record {
       lives = ap (λ (h : HubSeen). length h.crew.lives) both ∙ on.fit.lives
@@ -332,18 +405,21 @@ took_on broken b old mid new rank stream report given step heard on =
     }) on
 
 -- bytes that are no report
-pub nonsense_on : (broken : Bool) (b : BookState) (old mid new : HubSeen) (rank : ℕ) (stream : Waiting) (at : ℕ)
+pub nonsense_on : (phase : Phase) (b : Standing) (old mid new : HubSeen) (rank : ℕ) (stream : Waiting) (at : ℕ)
     → IsBadAt reports.IsCarried reports.spelled (slice_index_or old.streams rank first) stream at
     → mid ≡ record old { streams = slice_set old.streams rank stream } → new ≡ without rank mid
-    → ranks_of new.book ≡ ranks_of mid.book → rank < ranks_of old.book → IsOnAs broken b old
-    → IsOnAs broken b new
-nonsense_on broken b old mid new rank stream at bad step lost ranks there on =
+    → ranks_of new.book ≡ ranks_of mid.book → rank < ranks_of old.book
+    → ¬ IsOver old.book → old.book.orders ≡ [] → phase.pace ≢ Deciding → IsOnAs phase b old
+    → IsOnAs (record { broken = phase.broken; pace = Deciding }) b new
+nonsense_on phase b old mid new rank stream at bad step lost ranks there more told may on =
+    let after : Phase = record { broken = phase.broken; pace = Deciding } in
     let both = lost ∙ ap (without rank) step in
     let wide = ranks ∙ ap (λ (h : HubSeen). ranks_of h.book) step in
-    on_still broken broken b old new (Lost rank Nonsense) (ap (λ (h : HubSeen). h.crew.said) both)
+    on_still phase after b old new (Lost rank Nonsense) (ap (λ (h : HubSeen). h.crew.said) both)
     (λ said. record {
       there = there;
       why = record {
+        reading = reading said phase old more told may;
         said = refl;
         stream = stream;
         at = at;
@@ -352,6 +428,7 @@ nonsense_on broken b old mid new rank stream at bad step lost ranks there on =
       };
       lives = ap (λ (h : HubSeen). h.crew.lives) both;
       broken = refl;
+      pace = refl;
       book = ap (λ (h : HubSeen). h.book) both;
     })
     (record {
@@ -362,42 +439,31 @@ nonsense_on broken b old mid new rank stream at bad step lost ranks there on =
     }) on
 
 -- word that a rank is gone
-pub gone_on : (broken : Bool) (b : BookState) (old new : HubSeen) (rank : ℕ)
+pub gone_on : (phase : Phase) (b : Standing) (old new : HubSeen) (rank : ℕ)
     → rank < ranks_of old.book → slice_index_or old.crew.lives rank false ≡ true
     → Adds old.crew.said new.crew.said (Gone rank ∷ [])
     → new.crew.lives ≡ slice_set old.crew.lives rank false → new.streams ≡ old.streams
-    → new.book ≡ killed rank old.book → ranks_of new.book ≡ ranks_of old.book → IsOnAs broken b old
-    → IsOnAs broken b new
-gone_on broken b old new rank there alive adds lives streams book ranks on =
-    on_more broken broken b old new (Lost rank Ended) (Gone rank ∷ []) adds
+    → new.book ≡ killed rank old.book → ranks_of new.book ≡ ranks_of old.book
+    → ¬ IsOver old.book → old.book.orders ≡ [] → phase.pace ≡ Hearing → IsOnAs phase b old
+    → IsOnAs (record { broken = phase.broken; pace = Deciding }) b new
+gone_on phase b old new rank there alive adds lives streams book ranks more told decided on =
+    on_more phase (record { broken = phase.broken; pace = Deciding }) b old new (Lost rank Ended) (Gone rank ∷ []) adds
     (λ said. record {
       there = there;
-      why = (alive, refl, streams);
+      why = record {
+        hearing = hearing said phase old more told decided;
+        alive = alive;
+        said = refl;
+        streams = streams;
+      };
       lives = lives;
       broken = refl;
+      pace = refl;
       book = book;
     })
     (fit_without old new rank lives streams ranks on.fit) on
 
--- ---- with or without a turn that failed
-
-pub told_at : (sent : Bool) (b before : BookState) (h new : HubSeen) (told : Told)
-    → IsAlive h.crew told.rank → IsOrderTold before h.book told
-    → sent_or_failed sent h new told.rank (orders.spelled told.order)
-    → IsOn b (record h { book = before }) → IsOn b new
-told_at sent b before h new told alive left came (broken, on) =
-    (broken, told_on sent broken b before h new told alive left came on)
-
-pub passed_at : (b before : BookState) (h : HubSeen) (told : Told) → ¬ IsAlive h.crew told.rank
-    → IsOrderTold before h.book told → IsOn b (record h { book = before }) → IsOn b h
-passed_at b before h told away left (broken, on) = (broken, passed_on broken b before h told away left on)
-
--- ---- by what is at hand
-
-pub decided_at : (b : BookState) (old new : HubSeen) → IsDecided old.book new.book
-    → ranks_of new.book ≡ ranks_of old.book → new ≡ record old { book = new.book } → IsOn b old → IsOn b new
-decided_at b old new decided ranks rest (broken, on) =
-    (broken, decided_on broken b old new decided ranks rest on)
+-- ---- the start
 
 -- a frame that is the order which comes first stays so
 pub setup_still : (old new : BookState) (before after : List ℕ) → new.problem ≡ old.problem
@@ -409,152 +475,163 @@ setup_still old new before after problem settings frame h = record {
 }
 
 -- a rank was started, and told the problem or not
-pub started_at : (sent : Bool) (b : BookState) (old mid new : HubSeen) (rank : ℕ) (frame : List ℕ)
+pub started_on : (sent : Bool) (phase : Phase) (b : Standing) (old mid new : HubSeen) (rank : ℕ) (frame : List ℕ)
     → slice_index_or old.crew.lives rank false ≡ false → rank < length old.crew.lives
     → mid ≡ record old { crew = record old.crew { lives = slice_set old.crew.lives rank true } }
-    → IsSetUpFrame mid.book frame → sent_or_failed sent mid new rank frame → IsOn b old → IsOn b new
-started_at sent b old mid new rank frame away there rest setup came (broken, on) =
-    let lives = ap (λ (h : HubSeen). h.crew.lives) rest in (
-      broken,
-      set_up_on sent broken b mid new rank frame
-          (record {
-            there = omega (arith, ap (λ (l : List Bool). length l) lives, length-set old.crew.lives rank true, there);
-            lives = ap (λ (l : List Bool). slice_index_or l rank false) lives
-                ∙ get_or-set_same old.crew.lives rank true false there;
-          })
-          setup came (launched_on broken b old mid rank away rest on),
-    )
+    → IsSetUpFrame mid.book frame → sent_or_failed sent mid new rank frame → IsOnAs phase b old
+    → IsOnAs phase b new
+started_on sent phase b old mid new rank frame away there rest setup came on =
+    let lives = ap (λ (h : HubSeen). h.crew.lives) rest in
+    set_up_on sent phase b mid new rank frame
+    (record {
+      there = omega (arith, ap (λ (l : List Bool). length l) lives, length-set old.crew.lives rank true, there);
+      lives = ap (λ (l : List Bool). slice_index_or l rank false) lives
+          ∙ get_or-set_same old.crew.lives rank true false there;
+    })
+    setup came (launched_on phase b old mid rank away rest on)
 
-pub not_started_at : (b : BookState) (old new : HubSeen) (rank : ℕ) → HasFailed old new rank → IsOn b old
-    → IsOn b new
-not_started_at b old new rank failed (broken, on) = (broken, failed_on broken b old new rank failed on)
+-- ---- what is read of a stream
 
-pub took_at : (b : BookState) (old mid new : HubSeen) (rank : ℕ) (stream : Waiting) (report : Report)
-    → IsGiven reports.IsCarried reports.spelled (slice_index_or old.streams rank first) stream report
-    → mid ≡ record old { streams = slice_set old.streams rank stream } → HasHeardReport mid new rank report
-    → IsOn b old → IsOn b new
-took_at b old mid new rank stream report given step heard (broken, on) =
-    (broken, took_on broken b old mid new rank stream report given step heard on)
-
-pub nonsense_at : (b : BookState) (old mid new : HubSeen) (rank : ℕ) (stream : Waiting) (at : ℕ)
-    → IsBadAt reports.IsCarried reports.spelled (slice_index_or old.streams rank first) stream at
-    → mid ≡ record old { streams = slice_set old.streams rank stream } → new ≡ without rank mid
-    → ranks_of new.book ≡ ranks_of mid.book → rank < ranks_of old.book → IsOn b old → IsOn b new
-nonsense_at b old mid new rank stream at bad step lost ranks there (broken, on) =
-    (broken, nonsense_on broken b old mid new rank stream at bad step lost ranks there on)
-
-pub fed_at : (b : BookState) (old new : HubSeen) (rank : ℕ)
-    → HasFed old.crew new.crew old.streams new.streams rank → new.book ≡ old.book → IsOn b old → IsOn b new
-fed_at b old new rank h book (broken, on) = (broken, fed_on broken b old new rank h book on)
+pub took_by : (b : Standing) (old mid new : HubSeen) (rank : ℕ) (report : Report) → ¬ IsOver old.book
+    → old.book.orders ≡ []
+    → HasRead old.streams mid.streams rank (Message report) → mid ≡ record old { streams = mid.streams }
+    → HasHeardReport mid new rank report → IsOnIn MayRead b old → IsOnIn (is_next Deciding) b new
+took_by b old mid new rank report more told read rest heard (phase, may, on) = (
+  record { broken = phase.broken; pace = Deciding },
+  refl,
+  took_on phase b old mid new rank read.stream report read.is
+      (rest ∙ ap (λ (l : List Waiting). record old { streams = l }) read.set) heard more told may on,
+)
 
 -- a frame that is cut short stays
-pub still_at : (b : BookState) (old new : HubSeen) (rank : ℕ) (stream : Waiting)
-    → stream ≡ slice_index_or old.streams rank first
-    → new ≡ record old { streams = slice_set old.streams rank stream } → IsOn b old → IsOn b new
-still_at b old new rank stream same rest on =
-    subst (IsOn b) (sym (rest
-    ∙ ap (λ (w : Waiting). record old { streams = slice_set old.streams rank w }) same
+pub still_by : (phase : Phase) (b : Standing) (old new : HubSeen) (rank : ℕ)
+    → HasRead old.streams new.streams rank NeedMore
+    → new ≡ record old { streams = new.streams } → IsOnAs phase b old → IsOnAs phase b new
+still_by phase b old new rank read rest on =
+    subst (IsOnAs phase b) (sym (rest ∙ ap (λ (l : List Waiting). record old { streams = l }) read.set
+    ∙ ap (λ (w : Waiting). record old { streams = slice_set old.streams rank w }) read.is.same
     ∙ ap (λ (l : List Waiting). record old { streams = l }) (set-get_or old.streams rank first))) on
+
+pub nonsense_by : (b : Standing) (old mid new : HubSeen) (rank at : ℕ) → ¬ IsOver old.book
+    → old.book.orders ≡ []
+    → HasRead old.streams mid.streams rank (BadFrame at) → mid ≡ record old { streams = mid.streams }
+    → new ≡ without rank mid → ranks_of new.book ≡ ranks_of mid.book → rank < ranks_of old.book
+    → IsOnIn MayRead b old → IsOnIn (is_next Deciding) b new
+nonsense_by b old mid new rank at more told read rest lost ranks there (phase, may, on) = (
+  record { broken = phase.broken; pace = Deciding },
+  refl,
+  nonsense_on phase b old mid new rank read.stream at read.is
+      (rest ∙ ap (λ (l : List Waiting). record old { streams = l }) read.set) lost ranks there more told may on,
+)
+
+-- a report could not be read
+pub unread_by : (b : Standing) (old new : HubSeen) → ¬ IsOver old.book → old.book.orders ≡ []
+    → new ≡ record old { streams = new.streams } → new.streams ≡ old.streams → IsOnIn MayRead b old
+    → IsOnIn (is_next Deciding) b new
+unread_by b old new more told rest streams (phase, may, on) =
+    let after : Phase = record { broken = phase.broken; pace = Deciding } in
+    let same : new ≡ old = rest ∙ ap (λ (l : List Waiting). record old { streams = l }) streams in (
+      after,
+      refl,
+      on_still phase after b old new Unread (ap (λ (h : HubSeen). h.crew.said) same)
+          (λ said. (reading said phase old more told may, ap (λ (h : HubSeen). standing said after h) same))
+          (subst IsFit (sym same) on.fit) on,
+    )
 
 -- ---- a turn
 
--- word that a rank is gone
-pub gone_at : (b : BookState) (old new : HubSeen) (rank : ℕ)
-    → HasGone old.crew new.crew old.streams new.streams rank → new.book ≡ killed rank old.book
-    → ranks_of new.book ≡ ranks_of old.book → IsOn b old → IsOn b new
-gone_at b old new rank h book ranks (broken, on) =
-    (broken, gone_on broken b old new rank (omega (arith, h.lost.alive.there, on.fit.lives)) h.lost.alive.lives h.lost.said h.lost.lives h.streams book ranks on)
+-- bytes came
+pub fed_by : (b : Standing) (old new : HubSeen) (rank : ℕ) → ¬ IsOver old.book → old.book.orders ≡ []
+    → HasFed old.crew new.crew old.streams new.streams rank → new.book ≡ old.book
+    → IsOnIn (is_next Hearing) b old → IsOnIn (is_next Reading) b new
+fed_by b old new rank more told h book (phase, decided, on) = (
+  record { broken = phase.broken; pace = Reading },
+  refl,
+  fed_on phase b old new rank more told decided h book on,
+)
 
-only_faults : (a c : CrewSeen) → IsSilent a c → c ≡ record a { faults = c.faults }
+-- and memory was wanting to keep them
+pub lacked_by : (b : Standing) (old new : HubSeen) (rank : ℕ) → ¬ IsOver old.book → old.book.orders ≡ []
+    → HasLacked old.crew new.crew old.streams new.streams rank → new.book ≡ old.book
+    → IsOnIn (is_next Hearing) b old → IsOnIn (is_next Reading) b new
+lacked_by b old new rank more told h book (phase, decided, on) = (
+  record { broken = phase.broken; pace = Reading },
+  refl,
+  lacked_on phase b old new rank more told decided h book on,
+)
+
+-- word that a rank is gone
+pub gone_by : (b : Standing) (old new : HubSeen) (rank : ℕ) → ¬ IsOver old.book → old.book.orders ≡ []
+    → HasGone old.crew new.crew old.streams new.streams rank → new.book ≡ killed rank old.book
+    → ranks_of new.book ≡ ranks_of old.book → IsOnIn (is_next Hearing) b old → IsOnIn (is_next Deciding) b new
+gone_by b old new rank more told h book ranks (phase, decided, on) = (
+  record { broken = phase.broken; pace = Deciding },
+  refl,
+  gone_on phase b old new rank (omega (arith, h.lost.alive.there, on.fit.lives)) h.lost.alive.lives h.lost.said
+      h.lost.lives h.streams book ranks more told decided on,
+)
+
+pub only_faults : (a c : CrewSeen) → IsSilent a c → c ≡ record a { faults = c.faults }
 only_faults a c silent =
     ap (λ (s : Option (List Exchange)). record { said = s; lives = c.lives; faults = c.faults }) silent.said
     ∙ ap (λ (l : List Bool). record { said = a.said; lives = l; faults = c.faults }) silent.lives
 
 -- it failed
-pub broke_at : (b : BookState) (old new : HubSeen) → HasBroken old.crew new.crew old.streams new.streams
-    → new.book ≡ old.book → IsOn b old → IsOnAs true b new
-broke_at b old new h book (broken, on) =
-    broke_on broken b old new h.faults
-    (ap (λ (l : List Waiting). record { crew = new.crew; streams = l; book = new.book }) h.streams
-    ∙ ap (λ (book : BookState). record { crew = new.crew; streams = old.streams; book = book }) book
-    ∙ ap (λ (crew : CrewSeen). record old { crew = crew }) (only_faults old.crew new.crew h.silent)) on
+pub broke_by : (b : Standing) (old new : HubSeen) → ¬ IsOver old.book → old.book.orders ≡ []
+    → HasBroken old.crew new.crew old.streams new.streams
+    → new.book ≡ old.book → IsOnIn (is_next Hearing) b old → IsOnIn IsBrokenOff b new
+broke_by b old new more told h book (phase, decided, on) = (
+  record { broken = true; pace = Deciding },
+  record { broken = refl; due = refl },
+  broke_on phase b old new more told decided h.faults
+      (ap (λ (l : List Waiting). record { crew = new.crew; streams = l; book = new.book }) h.streams
+      ∙ ap (λ (book : BookState). record { crew = new.crew; streams = old.streams; book = book }) book
+      ∙ ap (λ (crew : CrewSeen). record old { crew = crew }) (only_faults old.crew new.crew h.silent)) on,
+)
 
--- ---- what is read of a stream
+pub lost_in : (b : Standing) (old new : HubSeen) (rank : ℕ) → rank < ranks_of old.book
+    → new ≡ without rank old → ranks_of new.book ≡ ranks_of old.book → IsOnIn IsBrokenOff b old
+    → IsOnIn IsBrokenOff b new
+lost_in b old new rank there rest ranks (phase, is, on) =
+    (phase, is, lost_on phase b old new rank is.broken there rest ranks on)
 
-pub took_by : (b : BookState) (old mid new : HubSeen) (rank : ℕ) (report : Report)
-    → HasRead old.streams mid.streams rank (Message report) → mid ≡ record old { streams = mid.streams }
-    → HasHeardReport mid new rank report → IsOn b old → IsOn b new
-took_by b old mid new rank report read rest heard on =
-    took_at b old mid new rank read.stream report read.is
-    (rest ∙ ap (λ (l : List Waiting). record old { streams = l }) read.set) heard on
+-- ---- decisions
 
-pub still_by : (b : BookState) (old new : HubSeen) (rank : ℕ) → HasRead old.streams new.streams rank NeedMore
-    → new ≡ record old { streams = new.streams } → IsOn b old → IsOn b new
-still_by b old new rank read rest on =
-    still_at b old new rank read.stream read.is.same
-    (rest ∙ ap (λ (l : List Waiting). record old { streams = l }) read.set) on
+pub decided_by : (b : Standing) (old new : HubSeen) → ¬ IsOver old.book → IsDecided old.book new.book
+    → ranks_of new.book ≡ ranks_of old.book → new ≡ record old { book = new.book } → IsOnIn IsRested b old
+    → IsOnIn (is_next Hearing) b new
+decided_by b old new more is ranks rest (phase, due, on) = (
+  record { broken = phase.broken; pace = Hearing },
+  refl,
+  decided_on phase b old new more due is ranks rest on,
+)
 
-pub nonsense_by : (b : BookState) (old mid new : HubSeen) (rank at : ℕ)
-    → HasRead old.streams mid.streams rank (BadFrame at) → mid ≡ record old { streams = mid.streams }
-    → new ≡ without rank mid → ranks_of new.book ≡ ranks_of mid.book → rank < ranks_of old.book
-    → IsOn b old → IsOn b new
-nonsense_by b old mid new rank at read rest lost ranks there on =
-    nonsense_at b old mid new rank read.stream at read.is
-    (rest ∙ ap (λ (l : List Waiting). record old { streams = l }) read.set) lost ranks there on
+pub halted_by : (b : Standing) (old new : HubSeen) (steps : ℕ) → ¬ IsOver old.book
+    → Stands steps old.book new.book
+    → ranks_of new.book ≡ ranks_of old.book → new ≡ record old { book = new.book } → IsOnIn IsRested b old
+    → IsOnIn (is_next Hearing) b new
+halted_by b old new steps more is ranks rest (phase, due, on) = (
+  record { broken = phase.broken; pace = Hearing },
+  refl,
+  halted_on phase b old new steps more due is ranks rest on,
+)
+
+-- an order could not be put into bytes
+pub unwritten_on : (phase : Phase) (b : Standing) (before : BookState) (h : HubSeen) (told : Told)
+    → IsAlive h.crew told.rank
+    → IsOrderTold before h.book told → IsOnAs phase b (record h { book = before }) → IsOnAs phase b h
+unwritten_on phase b before h told alive left on =
+    on_still phase phase b (record h { book = before }) h (Unwritten told.rank told.order) refl
+    (λ said. record { alive = alive.lives; told = left; rest = refl })
+    (fit_book h before (told_ranks before h.book told left) on.fit) on
 
 -- ---- the end
 
-frame_of_end : orders.spelled End ≡ 0 ∷ 0 ∷ 0 ∷ 1 ∷ 8 ∷ []
+pub frame_of_end : orders.spelled End ≡ 0 ∷ 0 ∷ 0 ∷ 1 ∷ 8 ∷ []
 unfolding orders.fields_of framed count_field
 frame_of_end = refl
 
-pub closed_at : (b : BookState) (old new : HubSeen) (rank : ℕ) (bytes : List ℕ)
-    → bytes ≡ 0 ∷ 0 ∷ 0 ∷ 1 ∷ 8 ∷ [] → IsAlive old.crew rank → HasSentTo old new rank bytes → IsOn b old
-    → IsOn b new
-closed_at b old new rank bytes is alive sent (broken, on) =
-    let told : told_to rank bytes ≡ told_to rank (orders.spelled End) =
-    ap (told_to rank) (is ∙ sym frame_of_end) in (
-      broken,
-      on_more broken broken b old new (Closed rank) (told_to rank (orders.spelled End))
-          (subst (Adds old.crew.said new.crew.said) told sent.said)
-          (λ said. (alive.lives, ap (λ (h : HubSeen). standing (said ++ told_to rank (orders.spelled End)) broken h) sent.rest))
-          (record {
-            lives = ap (λ (h : HubSeen). length h.crew.lives) sent.rest ∙ on.fit.lives
-                ∙ sym (ap (λ (h : HubSeen). ranks_of h.book) sent.rest);
-            streams = ap (λ (h : HubSeen). length h.streams) sent.rest ∙ on.fit.streams
-                ∙ sym (ap (λ (h : HubSeen). ranks_of h.book) sent.rest);
-          }) on,
-    )
-
-pub unclosed_at : (b : BookState) (old new : HubSeen) → Rose old.crew.faults new.crew.faults
-    → new ≡ record old { crew = record old.crew { faults = new.crew.faults } } → IsOn b old → IsOn b new
-unclosed_at b old new faults rest (broken, on) = (
-  broken,
-  on_still broken broken b old new Unclosed (ap (λ (h : HubSeen). h.crew.said) rest)
-      (λ said. (faults, ap (λ (h : HubSeen). standing said broken h) rest))
-      (record {
-        lives = ap (λ (h : HubSeen). length h.crew.lives) rest ∙ on.fit.lives
-            ∙ sym (ap (λ (h : HubSeen). ranks_of h.book) rest);
-        streams = ap (λ (h : HubSeen). length h.streams) rest ∙ on.fit.streams
-            ∙ sym (ap (λ (h : HubSeen). ranks_of h.book) rest);
-      }) on,
-)
-
--- nothing is said any more
-pub ends_with : (b : BookState) (h : HubSeen) (seen : CrewSeen) → seen.said ≡ h.crew.said → IsOn b h
-    → EndsWith b seen h.book
-ends_with b h seen still (broken, on) = record {
-  now = standing on.said broken h;
-  come = on.come;
-  shown = subst (λ (told : Option (List Exchange)). IfSome told (λ t. t ≡ on.said)) (sym still) on.shown;
-  its = refl;
-}
-
-pub unclosed_by : (b : BookState) (old new : HubSeen) → IsSilent old.crew new.crew
-    → Rose old.crew.faults new.crew.faults → new ≡ record old { crew = new.crew } → IsOn b old → IsOn b new
-unclosed_by b old new silent faults rest on =
-    unclosed_at b old new faults
-    (rest ∙ ap (λ (crew : CrewSeen). record old { crew = crew }) (only_faults old.crew new.crew silent)) on
+-- ---- orders of a book
 
 -- an order of a book has a frame
 pub first_order : (old new : BookState) (told : Told) → IsBook old → IsOrderTold old new told
@@ -562,25 +639,59 @@ pub first_order : (old new : BookState) (told : Told) → IsBook old → IsOrder
 first_order old new told is left =
     head_of (λ (t : Told). IsOrder t.order) told new.orders (subst AreOrders left.first is.orders)
 
--- none waits
-pub none_at : (b : BookState) (h : HubSeen) (book : BookState) → book ≡ h.book → IsOn b h
-    → IsOn b (record h { book = book })
-none_at b h book same on = subst (λ (own : BookState). IsOn b (record h { book = own })) (sym same) on
+-- ---- phases
+
+pub in_phase : (P : Phase → Type 0) (phase : Phase) (b : Standing) (h : HubSeen) → P phase → IsOnAs phase b h
+    → IsOnIn P b h
+in_phase P phase b h is on = (phase, is, on)
+
+-- what is done in any phase is done in this
+pub stays_in : (P : Phase → Type 0) (b : Standing) (old new : HubSeen)
+    → ((phase : Phase) → IsOnAs phase b old → IsOnAs phase b new) → IsOnIn P b old → IsOnIn P b new
+stays_in P b old new goes (phase, is, on) = (phase, is, goes phase on)
+
+pub any_in : (P : Phase → Type 0) (b : Standing) (h : HubSeen) → IsOnIn P b h → IsOnIn AnyPhase b h
+any_in P b h (phase, is, on) = (phase, tt, on)
+
+abbrev NotHearing : Pace → Type 0
+NotHearing Deciding = Unit {0}
+NotHearing Hearing = ⊥
+NotHearing Reading = Unit {0}
+
+abbrev NotDeciding : Pace → Type 0
+NotDeciding Deciding = ⊥
+NotDeciding Hearing = Unit {0}
+NotDeciding Reading = Unit {0}
+
+pub deciding_rests : (b : Standing) (h : HubSeen) → IsOnIn (is_next Deciding) b h → IsOnIn IsRested b h
+deciding_rests b h (phase, is, on) = (phase, λ hears. subst NotHearing (sym is ∙ hears) tt, on)
+
+pub reading_rests : (b : Standing) (h : HubSeen) → IsOnIn (is_next Reading) b h → IsOnIn IsRested b h
+reading_rests b h (phase, is, on) = (phase, λ hears. subst NotHearing (sym is ∙ hears) tt, on)
+
+pub broken_rests : (b : Standing) (h : HubSeen) → IsOnIn IsBrokenOff b h → IsOnIn IsRested b h
+broken_rests b h (phase, is, on) = (phase, λ hears. subst NotHearing (sym is.due ∙ hears) tt, on)
+
+pub hearing_reads : (b : Standing) (h : HubSeen) → IsOnIn (is_next Hearing) b h → IsOnIn MayRead b h
+hearing_reads b h (phase, is, on) = (phase, λ due. subst NotDeciding (sym is ∙ due) tt, on)
+
+pub reading_reads : (b : Standing) (h : HubSeen) → IsOnIn (is_next Reading) b h → IsOnIn MayRead b h
+reading_reads b h (phase, is, on) = (phase, λ due. subst NotDeciding (sym is ∙ due) tt, on)
 
 -- ---- the beginning
 
 pub begun_on : (b : BookState) (h : HubSeen) → IsFresh h.crew (ranks_of b) → h.book ≡ b
-    → h.streams ≡ replicate (ranks_of b) first → IsOn b h
+    → h.streams ≡ replicate (ranks_of b) first → IsOnIn IsRested (beginning b h.crew.faults) h
 begun_on b h fresh book streams = (
-  false,
+  record { broken = false; pace = Deciding },
+  λ hears. subst NotHearing hears tt,
   record {
     said = [];
     come = record {
-      faults = h.crew.faults;
       deeds = [];
       course =
-          ap (λ (l : List Bool). record (standing [] false h) { lives = l }) fresh.lives
-          ∙ ap (λ (l : List Waiting). record (standing [] false h) {
+          ap (λ (l : List Bool). record (standing [] (record { broken = false; pace = Deciding }) h) { lives = l }) fresh.lives
+          ∙ ap (λ (l : List Waiting). record (standing [] (record { broken = false; pace = Deciding }) h) {
             lives = replicate (ranks_of b) false;
             streams = l;
           }) streams
@@ -595,15 +706,3 @@ begun_on b h fresh book streams = (
     };
   },
 )
-
--- ---- the end of a run
-
-pub coordinated : (b : BookState) (seen : CrewSeen) (book : BookState) (end : HowItEnded)
-    → EndsWith b seen book → is_ended end book → HasCoordinated b seen end
-coordinated b seen book (Answered own) ends (same, answered) =
-    (subst (EndsWith b seen) (sym same) ends, subst IsAnswered (sym same) answered)
-coordinated b seen book (Limited own) ends (same, limited) =
-    (subst (EndsWith b seen) (sym same) ends, subst IsLimited (sym same) limited)
-coordinated b seen book (Stranded own) ends (same, stranded) =
-    (subst (EndsWith b seen) (sym same) ends, subst IsStranded (sym same) stranded)
-coordinated b seen book Memory ends none = absurd none

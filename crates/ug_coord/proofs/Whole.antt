@@ -1,12 +1,12 @@
 -- A slice of a vector that was lent whole.
-use Rattle.std.proofs.Common.{◌≡◌, ℕ, List, ◌++◌, length, take, drop, sym, ap, subst, ◌∙◌, arith}
+use Rattle.std.proofs.Common.{◌≡◌, ℕ, List, ◌++◌, length, take, drop, sym, ap, subst, ◌∙◌}
 use Rattle.std.proofs.lemmas.List.{length-set, take_at}
 use Rattle.std.specs.Prelude.{slice_index_or}
 use Rattle.ug_io.specs.Crews.{CrewSeen}
 use Rattle.ug_stream.specs.Streams.{Waiting, fed, first}
 use Rattle.ug_frames.specs.declared.report.Report.{Report}
 use Rattle.ug_stream.specs.declared.next.Next.{Next}
-use Rattle.ug_coord.specs.Reading.{HasBroken, HasFed, HasGone, HasRead}
+use Rattle.ug_coord.specs.Reading.{HasBroken, HasFed, HasGone, HasLacked, HasRead}
 
 abbrev pub lent : ℕ → List Waiting → List Waiting → List Waiting
 lent n old new = take n (new ++ drop (length new) old)
@@ -38,3 +38,13 @@ pub broken_whole : (n : ℕ) (a c : CrewSeen) (old new : List Waiting) → lengt
 broken_whole n a c old new long h =
     subst (λ (l : List Waiting). HasBroken a c old l)
     (sym (whole n old new long (ap (λ (l : List Waiting). length l) h.streams))) h
+
+pub lacked_whole : (n : ℕ) (a c : CrewSeen) (old new : List Waiting) (rank : ℕ) → length old ≡ n
+    → HasLacked a c old new rank → HasLacked a c old (lent n old new) rank
+lacked_whole n a c old new rank long h =
+    subst (λ (l : List Waiting). HasLacked a c old l rank)
+    (sym (whole n old new long (ap (λ (l : List Waiting). length l) h.streams))) h
+
+pub same_whole : (n : ℕ) (old new : List Waiting) → length old ≡ n → new ≡ old → lent n old new ≡ old
+same_whole n old new long same =
+    whole n old new long (ap (λ (l : List Waiting). length l) same) ∙ same

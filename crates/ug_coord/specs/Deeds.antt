@@ -1,7 +1,8 @@
 -- What happens between a coordinator and its crew, and what the coordinator does at each piece of
 -- it.
-use Rattle.std.specs.Prelude.{◌≡◌, ◌⊎◌, ℕ, ◌<◌, Bool, true, false, List, [], ◌∷◌, ◌++◌, length}
+use Rattle.std.specs.Prelude.{◌≡◌, ◌≢◌, ◌⊎◌, ℕ, ◌<◌, Bool, true, false, List, [], ◌∷◌, ◌++◌, length}
 use Rattle.std.specs.Prelude.{slice_index_or, slice_set}
+use Rattle.std.specs.List.{Contains}
 use Rattle.ug_io.specs.declared.crew.Exchange.{Exchange}
 use Rattle.ug_io.specs.declared.crew.Exchange.TheVariants.{Gone}
 use Rattle.ug_io.specs.Crews.{heard_from, told_to}
@@ -15,18 +16,28 @@ use Rattle.ug_frames.specs.ReportFrames as reports
 use Rattle.ug_stream.specs.Streams.{IsBadAt, IsGiven, Waiting, fed, first}
 use Rattle.ug_rules.specs.declared.heard.Heard.{Heard}
 use Rattle.ug_rules.specs.State.{BookState}
+use Rattle.ug_rules.specs.Books.{IsSoundBook}
 use Rattle.ug_rules.specs.Deaths.{killed}
-use Rattle.ug_rules.specs.Deciding.{IsDecided}
+use Rattle.ug_rules.specs.Deciding.{IsDecided, Stands}
 use Rattle.ug_rules.specs.Hearing.{IsDue, after_hearing}
 use Rattle.ug_book.specs.Reads.{IsOrderTold}
+use Rattle.ug_coord.specs.Ends.{IsOver}
+
+-- what a coordinator does next: it decides; or it was decided, and it hears what comes; or something
+-- came, and it reads what that is
+pub data Pace : Type 0 where
+  Deciding : Pace
+  Hearing : Pace
+  Reading : Pace
 
 -- what was heard and told and who is gone; who lives; how often the crew failed, and whether a turn
--- did; the bytes of each rank of which no report was taken yet; and the book
+-- did; what comes next; the bytes of each rank of which no report was taken yet; and the book
 pub record Standing : Type 0 where
   pub said : List Exchange
   pub lives : List Bool
   pub faults : ℕ
   pub broken : Bool
+  pub pace : Pace
   pub streams : List Waiting
   pub book : BookState
 
@@ -39,8 +50,10 @@ pub data Cause : Type 0 where
 
 -- A rank was started; an order that is none of the book's was told to it: the problem, or the end;
 -- bytes came from it; a report of it was heard, and so answered; it is gone; it was decided; an
--- order of the book was told to its rank, or could not be, or was passed over; a turn failed; and
--- the end could not be told.
+-- order of the book was told to its rank, or could not be, or was passed over; a turn failed; the
+-- end could not be told; and memory was wanting: so many steps of a decision stand, an order of the
+-- book could not be put into bytes, the bytes that came from a rank could not be kept, or a report
+-- could not be read.
 pub data Deed : Type 0 where
   Launched : ℕ → Deed
   SetUp : ℕ → List ℕ → Deed
@@ -53,13 +66,37 @@ pub data Deed : Type 0 where
   Unsent : ℕ → Order → Deed
   Passed : ℕ → Order → Deed
   Broke : Deed
-  Unclosed : Deed
+  Unclosed : ℕ → Deed
+  Halted : ℕ → Deed
+  Unwritten : ℕ → Order → Deed
+  Unfed : ℕ → List ℕ → Deed
+  Unread : Deed
 
 abbrev pub lives_at : Standing → ℕ → Bool
 lives_at s rank = slice_index_or s.lives rank false
 
 abbrev pub stream_at : Standing → ℕ → Waiting
 stream_at s rank = slice_index_or s.streams rank first
+
+-- No end is due, and no order waits: each was told to its rank, or that failed, or the rank is gone.
+pub record IsSettled (old : Standing) : Type 0 where
+  pub more : ¬ IsOver old.book
+  pub told : old.book.orders ≡ []
+
+-- and it was decided since the last report
+pub record IsHearing (old : Standing) : Type 0 where
+  pub settled : IsSettled old
+  pub decided : old.pace ≡ Hearing
+
+-- and it was decided, or something came
+pub record IsReading (old : Standing) : Type 0 where
+  pub settled : IsSettled old
+  pub decided : old.pace ≢ Deciding
+
+-- a decision is due, and no end
+pub record IsDeciding (old : Standing) : Type 0 where
+  pub more : ¬ IsOver old.book
+  pub due : old.pace ≢ Hearing
 
 -- the problem's order, with the book's gap
 pub record IsSetUp (old new : Standing) (rank : ℕ) (bytes : List ℕ) : Type 0 where
@@ -73,29 +110,44 @@ pub record IsSetUp (old new : Standing) (rank : ℕ) (bytes : List ℕ) : Type 0
 pub record IsTaken (old new : Standing) (rank : ℕ) (report : Report) (answer : Heard)
     : Type 0 where
   pub there : rank < length old.book.ranks
+  pub reading : IsReading old
   pub stream : Waiting
   pub given : IsGiven reports.IsCarried reports.spelled (stream_at old rank) stream report
   pub due : IsDue old.book rank report answer
   pub rest : new ≡ record old {
     streams = slice_set old.streams rank stream;
+    pace = Deciding;
     book = after_hearing answer rank report old.book;
   }
 
 -- the bytes of the rank that wait are bad, or bad ones came before
 pub record IsNonsense (old new : Standing) (rank : ℕ) : Type 0 where
+  pub reading : IsReading old
   pub said : new.said ≡ old.said
   pub stream : Waiting
   pub at : ℕ
   pub bad : IsBadAt reports.IsCarried reports.spelled (stream_at old rank) stream at
   pub streams : new.streams ≡ slice_set old.streams rank stream
 
+-- it ended, and the crew says so
+pub record HasEnded (old new : Standing) (rank : ℕ) : Type 0 where
+  pub hearing : IsHearing old
+  pub alive : lives_at old rank ≡ true
+  pub said : new.said ≡ old.said ++ Gone rank ∷ []
+  pub streams : new.streams ≡ old.streams
+
 -- why it is gone, and what the crew says of it then
 abbrev pub IsCause : Standing → Standing → ℕ → Cause → Type 0
-IsCause old new rank Ended = (lives_at old rank ≡ true) × (new.said ≡ old.said ++ Gone rank ∷ [])
-    × (new.streams ≡ old.streams)
+IsCause old new rank Ended = HasEnded old new rank
 IsCause old new rank Failed = (new.said ≡ old.said)
     × ((old.broken ≡ true) ⊎ Rose old.faults new.faults) × (new.streams ≡ old.streams)
 IsCause old new rank Nonsense = IsNonsense old new rank
+
+-- what comes next
+abbrev pub next_after : Cause → Pace → Pace
+next_after Ended pace = Deciding
+next_after Failed pace = pace
+next_after Nonsense pace = Deciding
 
 -- the rank is gone, to the book too, and does not live any more
 pub record IsLost (old new : Standing) (rank : ℕ) (cause : Cause) : Type 0 where
@@ -103,6 +155,7 @@ pub record IsLost (old new : Standing) (rank : ℕ) (cause : Cause) : Type 0 whe
   pub why : IsCause old new rank cause
   pub lives : new.lives ≡ slice_set old.lives rank false
   pub broken : new.broken ≡ old.broken
+  pub pace : new.pace ≡ next_after cause old.pace
   pub book : new.book ≡ killed rank old.book
 
 -- the earliest order of the book was told to its rank
@@ -133,6 +186,40 @@ pub record IsUnsent (old new : Standing) (rank : ℕ) (order : Order) : Type 0 w
     book = killed rank without;
   }
 
+-- it could not be put into bytes
+pub record IsUnwritten (old new : Standing) (rank : ℕ) (order : Order) : Type 0 where
+  pub alive : lives_at old rank ≡ true
+  pub told : IsOrderTold old.book new.book (record { rank = rank; order = order })
+  pub rest : new ≡ record old { book = new.book }
+
+-- bytes came, and stand in the stream of their rank
+pub record IsFed (old new : Standing) (rank : ℕ) (bytes : List ℕ) : Type 0 where
+  pub hearing : IsHearing old
+  pub alive : lives_at old rank ≡ true
+  pub rest : new ≡ record old {
+    said = old.said ++ heard_from rank bytes;
+    streams = slice_set old.streams rank (fed (stream_at old rank) bytes);
+    pace = Reading;
+  }
+
+-- bytes came, and memory was wanting to keep them
+pub record IsUnfed (old new : Standing) (rank : ℕ) (bytes : List ℕ) : Type 0 where
+  pub hearing : IsHearing old
+  pub alive : lives_at old rank ≡ true
+  pub rest : new ≡ record old { said = old.said ++ heard_from rank bytes; pace = Reading }
+
+-- it was decided, or so many steps of that stand
+pub record HasDecided (Is : BookState → BookState → Type 0) (old new : Standing) : Type 0 where
+  pub deciding : IsDeciding old
+  pub is : Is old.book new.book
+  pub rest : new ≡ record old { book = new.book; pace = Hearing }
+
+-- a turn failed
+pub record HasBroken (old new : Standing) : Type 0 where
+  pub hearing : IsHearing old
+  pub faults : Rose old.faults new.faults
+  pub rest : new ≡ record old { faults = new.faults; broken = true; pace = Deciding }
+
 -- what a deed does
 abbrev pub Does : Standing → Deed → Standing → Type 0
 Does old (Launched rank) new = (lives_at old rank ≡ false)
@@ -140,21 +227,30 @@ Does old (Launched rank) new = (lives_at old rank ≡ false)
 Does old (SetUp rank bytes) new = IsSetUp old new rank bytes
 Does old (Closed rank) new = (lives_at old rank ≡ true)
     × (new ≡ record old { said = old.said ++ told_to rank (orders.spelled End) })
-Does old (Came rank bytes) new = (lives_at old rank ≡ true) × (new ≡ record old {
-  said = old.said ++ heard_from rank bytes;
-  streams = slice_set old.streams rank (fed (stream_at old rank) bytes);
-})
+Does old (Came rank bytes) new = IsFed old new rank bytes
 Does old (Took rank report answer) new = IsTaken old new rank report answer
 Does old (Lost rank cause) new = IsLost old new rank cause
-Does old Decided new = IsDecided old.book new.book × (new ≡ record old { book = new.book })
+Does old Decided new = HasDecided IsDecided old new
 Does old (Sent rank order) new = IsSent old new rank order
 Does old (Unsent rank order) new = IsUnsent old new rank order
 Does old (Passed rank order) new = IsPassed old new rank order
-Does old Broke new = Rose old.faults new.faults
-    × (new ≡ record old { faults = new.faults; broken = true })
-Does old Unclosed new = Rose old.faults new.faults × (new ≡ record old { faults = new.faults })
+Does old Broke new = HasBroken old new
+Does old (Unclosed rank) new = Rose old.faults new.faults × (new ≡ record old { faults = new.faults })
+Does old (Halted steps) new = HasDecided (Stands steps) old new
+Does old (Unwritten rank order) new = IsUnwritten old new rank order
+Does old (Unfed rank bytes) new = IsUnfed old new rank bytes
+Does old Unread new = IsReading old × (new ≡ record old { pace = Deciding })
+
+-- the end was told to the rank in one of the deeds, or that failed
+abbrev pub IsToldEnd : ℕ → List Deed → Type 0
+IsToldEnd rank deeds = Contains deeds (Closed rank) ⊎ Contains deeds (Unclosed rank)
 
 -- the deeds lead from one standing to the other
 abbrev pub IsCourse : Standing → List Deed → Standing → Type 0
 IsCourse old [] new = new ≡ old
 IsCourse old (deed ∷ deeds) new = (mid : Standing) × Does old deed mid × IsCourse mid deeds new
+
+-- through all of them the book is sound
+abbrev pub AreSound : (old : Standing) (deeds : List Deed) (new : Standing) → IsCourse old deeds new → Type 0
+AreSound old [] new course = IsSoundBook old.book
+AreSound old (deed ∷ deeds) new (mid, does, more) = IsSoundBook old.book × AreSound mid deeds new more

@@ -1,7 +1,6 @@
 -- How a coordinator stands to its crew, and how its work ends.
-use Rattle.std.specs.Prelude.{◌≡◌, ◌≢◌, ◌⊎◌, ℕ, ◌<◌, ◌≤◌, Bool, true, false, List, [], length}
-use Rattle.std.specs.Prelude.{replicate, IfSome}
-use Rattle.std.specs.Prelude.{slice_set}
+use Rattle.std.specs.Prelude.{◌≡◌, ◌≢◌, ℕ, ◌<◌, Bool, true, false, List, [], length}
+use Rattle.std.specs.Prelude.{replicate, slice_index_or, slice_set, IfSome}
 use Rattle.ug_io.specs.declared.crew.Exchange.{Exchange}
 use Rattle.ug_io.specs.Crews.{Adds, CrewSeen, told_to}
 use Rattle.ug_io.specs.Outside.{Rose}
@@ -9,20 +8,16 @@ use Rattle.ug_records.specs.Answers.{IsRecordOf}
 use Rattle.ug_frames.specs.declared.order.Order.TheVariants.{Setup}
 use Rattle.ug_frames.specs.OrderFrames as orders
 use Rattle.ug_stream.specs.Streams.{Waiting, first}
-use Rattle.ug_ranks.specs.States.{state_at}
-use Rattle.ug_ranks.specs.Looks.{is_alive}
-use Rattle.ug_rules.specs.State.{BookState, held_nodes}
+use Rattle.ug_rules.specs.State.{BookState}
 use Rattle.ug_rules.specs.Deaths.{killed}
 use Rattle.ug_rules.specs.declared.heard.Heard.{Heard}
 use Rattle.ug_rules.specs.Hearing.{IsDue, after_hearing}
 use Rattle.ug_frames.specs.declared.report.Report.{Report}
 use Rattle.ug_restart.specs.declared.outcome.End.{End}
-use Rattle.ug_restart.specs.declared.outcome.End.TheVariants.{Answered, Limited, Stranded, Memory}
-use Rattle.ug_coord.specs.Deeds.{Deed, IsCourse, Standing}
-
--- how many ranks a book has
-abbrev pub ranks_of : BookState → ℕ
-ranks_of b = length b.ranks
+use Rattle.ug_coord.specs.Ends.{is_ended, ranks_of}
+use Rattle.ug_coord.specs.Deeds.{AreSound, Deciding, Deed, Hearing, IsCourse, IsToldEnd, Pace}
+use Rattle.ug_coord.specs.Deeds.{Standing, lives_at}
+use Rattle.ug_coord.specs.Keeping.{KeptSeen, Moves}
 
 -- with a crew of which nothing was said yet, no rank of which lives
 abbrev pub beginning : BookState → ℕ → Standing
@@ -31,15 +26,19 @@ beginning b faults = record {
   lives = replicate (ranks_of b) false;
   faults = faults;
   broken = false;
+  pace = Deciding;
   streams = replicate (ranks_of b) first;
   book = b;
 }
 
--- deeds lead here from the beginning with this book
-pub record HasCome (b : BookState) (now : Standing) : Type 0 where
-  pub faults : ℕ
+-- deeds lead from the one standing to the other
+pub record HasCome (from now : Standing) : Type 0 where
   pub deeds : List Deed
-  pub course : IsCourse (beginning b faults) deeds now
+  pub course : IsCourse from deeds now
+
+-- and through all of them the book is sound
+abbrev pub StaysSound : (from now : Standing) → HasCome from now → Type 0
+StaysSound from now come = AreSound from come.deeds now come.course
 
 -- what is seen of a coordinator: its crew, the bytes of each rank of which no report was taken yet,
 -- and its book
@@ -89,31 +88,67 @@ pub record IsFit (h : HubSeen) : Type 0 where
   pub lives : length h.crew.lives ≡ ranks_of h.book
   pub streams : length h.streams ≡ ranks_of h.book
 
--- what was said, and whether a turn failed, with what is seen
-abbrev pub standing : List Exchange → Bool → HubSeen → Standing
-standing said broken h = record {
+-- whether a turn failed, and what comes next
+pub record Phase : Type 0 where
+  pub broken : Bool
+  pub pace : Pace
+
+-- what was said, and the phase, with what is seen
+abbrev pub standing : List Exchange → Phase → HubSeen → Standing
+standing said phase h = record {
   said = said;
   lives = h.crew.lives;
   faults = h.crew.faults;
-  broken = broken;
+  broken = phase.broken;
+  pace = phase.pace;
   streams = h.streams;
   book = h.book;
 }
 
--- deeds led here from the beginning with this book, a turn failed or none did, and the crew, where
--- it tells what was said, tells the same
-pub record IsOnAs (broken : Bool) (b : BookState) (h : HubSeen) : Type 0 where
+-- deeds led here from that standing, and the crew, where it tells what was said, tells the same
+pub record IsOnAs (phase : Phase) (from : Standing) (h : HubSeen) : Type 0 where
   pub said : List Exchange
-  pub come : HasCome b (standing said broken h)
+  pub come : HasCome from (standing said phase h)
   pub shown : IfSome h.crew.said (λ told. told ≡ said)
   pub fit : IsFit h
 
-abbrev pub IsOn : BookState → HubSeen → Type 0
-IsOn b h = (broken : Bool) × IsOnAs broken b h
+-- in a phase that has P
+abbrev pub IsOnIn : (Phase → Type 0) → Standing → HubSeen → Type 0
+IsOnIn P from h = (phase : Phase) × P phase × IsOnAs phase from h
 
--- so it is, unless memory was wanting
-abbrev pub IsAt : BookState → Bool → HubSeen → Type 0
-IsAt b wants h = wants ≡ false → IsOn b h
+-- what comes next is this
+abbrev pub is_next : Pace → Phase → Type 0
+is_next pace phase = phase.pace ≡ pace
+
+-- a decision is not what was made last; one may be due
+abbrev pub IsRested : Phase → Type 0
+IsRested phase = phase.pace ≢ Hearing
+
+-- what is there may be read
+abbrev pub MayRead : Phase → Type 0
+MayRead phase = phase.pace ≢ Deciding
+
+-- a turn failed, and a decision is due
+pub record IsBrokenOff (phase : Phase) : Type 0 where
+  pub broken : phase.broken ≡ true
+  pub due : phase.pace ≡ Deciding
+
+abbrev pub AnyPhase : Phase → Type 0
+AnyPhase phase = Unit {0}
+
+-- and what is saved went on beside them: where each book of them was sound, all stays Covered
+pub record IsKeptIn (P : Phase → Type 0) (from : Standing) (h : HubSeen) (old new : KeptSeen)
+    : Type 0 where
+  pub phase : Phase
+  pub is : P phase
+  pub on : IsOnAs phase from h
+  pub moves : Moves (StaysSound from (standing on.said phase h) on.come) (Unit {0}) old new
+
+-- the end was told to each rank below n that lives, or that failed
+pub record IsClosedBelow (n : ℕ) (from : Standing) (h : HubSeen) (old new : KeptSeen) : Type 0 where
+  pub kept : IsKeptIn AnyPhase from h old new
+  pub closed : (rank : ℕ) → rank < n → slice_index_or h.crew.lives rank false ≡ true
+      → IsToldEnd rank kept.on.come.deeds
 
 -- the bytes are the order that comes first
 pub record IsSetUpFrame (b : BookState) (spelled : List ℕ) : Type 0 where
@@ -126,50 +161,29 @@ pub record IsFresh (seen : CrewSeen) (ranks : ℕ) : Type 0 where
   pub said : IfSome seen.said (λ said. said ≡ [])
   pub lives : seen.lives ≡ replicate ranks false
 
--- no rank is alive
-abbrev pub AllDead : BookState → Type 0
-AllDead b = (rank : ℕ) → rank < ranks_of b → is_alive (state_at b.ranks rank) ≡ false
-
--- no node is held
-abbrev pub IsAnswered : BookState → Type 0
-IsAnswered b = held_nodes b ≡ []
-
--- a node is held, and as many reports were heard as may be
-pub record IsLimited (b : BookState) : Type 0 where
-  pub held : held_nodes b ≢ []
-  pub spent : b.settings.limit ≤ b.heard
-
--- a node is held, fewer reports were heard than may be, and no rank is alive
-pub record IsStranded (b : BookState) : Type 0 where
-  pub held : held_nodes b ≢ []
-  pub more : b.heard < b.settings.limit
-  pub dead : AllDead b
-
--- deeds led to a standing with this book, and the crew, where it tells what was said, tells the
--- same
-pub record EndsWith (b : BookState) (seen : CrewSeen) (book : BookState) : Type 0 where
+-- Deeds led from that standing to one with this book, and the crew, where it tells what was said,
+-- tells the same. Each rank that lives was told the end, or that failed. What is saved went on beside
+-- them.
+pub record EndsFrom (from : Standing) (seen : CrewSeen) (book : BookState) (old new : KeptSeen)
+    : Type 0 where
   pub now : Standing
-  pub come : HasCome b now
+  pub come : HasCome from now
   pub shown : IfSome seen.said (λ told. told ≡ now.said)
   pub its : now.book ≡ book
+  pub closed : (rank : ℕ) → lives_at now rank ≡ true → IsToldEnd rank come.deeds
+  pub moves : Moves (StaysSound from now come) (Unit {0}) old new
 
--- an end is due: no node is held, as many reports were heard as may be, or no rank is alive
-abbrev pub IsOver : BookState → Type 0
-IsOver b = IsAnswered b ⊎ ((b.settings.limit ≤ b.heard) ⊎ AllDead b)
-
--- why a run ended, with this book
-abbrev pub is_ended : End → BookState → Type 0
-is_ended (Answered book) b = (book ≡ b) × IsAnswered b
-is_ended (Limited book) b = (book ≡ b) × IsLimited b
-is_ended (Stranded book) b = (book ≡ b) × IsStranded b
-is_ended Memory b = ⊥
-
--- how the work ended
-abbrev pub HasCoordinated : BookState → CrewSeen → End → Type 0
-HasCoordinated b seen (Answered book) = EndsWith b seen book × IsAnswered book
-HasCoordinated b seen (Limited book) = EndsWith b seen book × IsLimited book
-HasCoordinated b seen (Stranded book) = EndsWith b seen book × IsStranded book
-HasCoordinated b seen Memory = Unit {0}
+-- How the work ended: deeds led from the beginning with this book to the end, and the crew, where it
+-- tells what was said, tells the same. Each rank that lives was told the end, or that failed. Where
+-- each book of them was sound, it was safe.
+pub record HasCoordinated (b : BookState) (seen : CrewSeen) (end : End) (Safe : Type 0) : Type 0 where
+  pub faults : ℕ
+  pub now : Standing
+  pub come : HasCome (beginning b faults) now
+  pub shown : IfSome seen.said (λ told. told ≡ now.said)
+  pub closed : (rank : ℕ) → lives_at now rank ≡ true → IsToldEnd rank come.deeds
+  pub ended : is_ended end now.book
+  pub safe : StaysSound (beginning b faults) now come → Safe
 
 -- a report of the rank was heard, and so answered
 pub record HasHeardReport (old new : HubSeen) (rank : ℕ) (report : Report) : Type 0 where
@@ -178,8 +192,3 @@ pub record HasHeardReport (old new : HubSeen) (rank : ℕ) (report : Report) : T
   pub due : IsDue old.book rank report answer
   pub ranks : ranks_of new.book ≡ ranks_of old.book
   pub rest : new ≡ record old { book = after_hearing answer rank report old.book }
-
--- before the first deed: the frame is the order that comes first
-pub record IsBegun (b : BookState) (wants : Bool) (h : HubSeen) (frame : List ℕ) : Type 0 where
-  pub on : IsAt b wants h
-  pub first : IsSetUpFrame h.book frame

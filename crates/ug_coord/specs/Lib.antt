@@ -1,4 +1,7 @@
 pub mod Deeds
+pub mod Ends
 pub mod Hubs
 pub mod HubViews
+pub mod Keeping
+pub mod Keepers
 pub mod Reading

@@ -24,6 +24,15 @@ pub record HasFed (old new : CrewSeen) (before after : List Waiting) (rank : ℕ
   pub faults : new.faults ≡ old.faults
   pub streams : after ≡ slice_set before rank (fed (slice_index_or before rank first) bytes)
 
+-- bytes came from a rank that lives, and memory was wanting to keep them
+pub record HasLacked (old new : CrewSeen) (before after : List Waiting) (rank : ℕ) : Type 0 where
+  pub bytes : List ℕ
+  pub alive : IsAlive old rank
+  pub said : Adds old.said new.said (heard_from rank bytes)
+  pub lives : new.lives ≡ old.lives
+  pub faults : new.faults ≡ old.faults
+  pub streams : after ≡ before
+
 -- a rank that lived is gone
 pub record HasGone (old new : CrewSeen) (before after : List Waiting) (rank : ℕ) : Type 0 where
   pub lost : HasLost old new rank
@@ -40,4 +49,4 @@ abbrev pub HasTaken : CrewSeen → CrewSeen → List Waiting → List Waiting �
 HasTaken old new before after (Fed rank) = HasFed old new before after rank
 HasTaken old new before after (Gone rank) = HasGone old new before after rank
 HasTaken old new before after Failed = HasBroken old new before after
-HasTaken old new before after Wanting = Unit {0}
+HasTaken old new before after (Wanting rank) = HasLacked old new before after rank

@@ -1,20 +1,27 @@
 //! A coordinator at work.
 
-ghost use Rattle.std.specs.Prelude.{◌≡◌, ◌<◌, ℕ, List, true, false, length, MatchBool};
+ghost use Rattle.std.specs.Prelude.{◌≡◌, ◌<◌, ℕ, List, [], suc, true, false, length, MatchBool};
 ghost use Rattle.ug_io.specs.Crews.{IsAlive, IsAway};
 ghost use Rattle.ug_frames.specs.Orders.{IsOrder};
 ghost use Rattle.ug_rules.specs.Hearing.{IsHearable};
 ghost use Rattle.ug_rules.specs.State.{BookState};
 ghost use Rattle.ug_book.specs.Reads.{IsOrderTold};
 ghost use Rattle.ug_book.specs.Views.{IsSameRun};
-ghost use Rattle.ug_coord.specs.Hubs.{AllDead, EndsWith, HasHeardReport, IsAnswered, IsAt, IsBegun};
-ghost use Rattle.ug_coord.specs.Hubs.{IsOn, IsOnAs, IsOver, IsSetUpFrame, launched_or_failed};
-ghost use Rattle.ug_coord.specs.Hubs.{ranks_of, sent_or_failed, without};
+ghost use Rattle.ug_coord.specs.Deeds.{Deciding, Hearing, Standing};
+ghost use Rattle.ug_coord.specs.Ends.{AllDead, IsAnswered, IsOver, ranks_of};
+ghost use Rattle.ug_coord.specs.Hubs.{AnyPhase, EndsFrom, HasHeardReport, IsBrokenOff, IsClosedBelow};
+ghost use Rattle.ug_coord.specs.Hubs.{IsKeptIn};
+ghost use Rattle.ug_coord.specs.Hubs.{IsOnAs, IsOnIn, IsRested, IsSetUpFrame, MayRead, Phase};
+ghost use Rattle.ug_coord.specs.Hubs.{is_next, launched_or_failed, sent_or_failed, without};
+ghost use Rattle.ug_coord.specs.Keeping.{KeptSeen, IsKeptBy, IsOurs};
+ghost use Rattle.ug_coord.specs.Keepers.{kept_seen};
 
+use crate::keeper::Keeper;
 use crate::streams::{Turn, next_of, take_turn};
 use std::alloc::Global;
 use std::sync::Wait;
 use ug_book::Book;
+use ug_disk::Disk;
 use ug_frames::{Order, Report, encode_order};
 use ug_io::Crew;
 use ug_rules::{Heard, Told};
@@ -51,7 +58,7 @@ impl<'a, R: Wait, C: Crew + Drop> Hub<'a, R, C> {
         requires { rank < ranks_of self.old.book }
         ensures seen { hub_seen C.seen self.new ≡ without rank (hub_seen C.seen self.old) }
         ensures same { IsSameRun self.old.book self.new.book }
-        ensures rest { (self.new.wants ≡ self.old.wants) × (self.new.frame ≡ self.old.frame) }
+        ensures frame { self.new.frame ≡ self.old.frame }
     {
         if self.crew.is_alive(rank) {
             self.crew.shut(rank);
@@ -66,7 +73,7 @@ impl<'a, R: Wait, C: Crew + Drop> Hub<'a, R, C> {
         ensures sent { sent_or_failed result (hub_seen C.seen self.old) (hub_seen C.seen self.new)
             rank self.old.frame.items }
         ensures same { IsSameRun self.old.book self.new.book }
-        ensures rest { (self.new.wants ≡ self.old.wants) × (self.new.frame ≡ self.old.frame) }
+        ensures frame { self.new.frame ≡ self.old.frame }
     {
         if self.crew.send(rank, &self.frame).is_ok() {
             return true;
@@ -82,7 +89,7 @@ impl<'a, R: Wait, C: Crew + Drop> Hub<'a, R, C> {
         ensures launched { launched_or_failed result (hub_seen C.seen self.old)
             (hub_seen C.seen self.new) rank }
         ensures same { IsSameRun self.old.book self.new.book }
-        ensures rest { (self.new.wants ≡ self.old.wants) × (self.new.frame ≡ self.old.frame) }
+        ensures frame { self.new.frame ≡ self.old.frame }
     {
         if self.crew.launch(rank).is_ok() {
             return true;
@@ -93,15 +100,15 @@ impl<'a, R: Wait, C: Crew + Drop> Hub<'a, R, C> {
 
     // Starts the rank, and tells it the problem, which the frame is.
     fn start(&mut self, rank: u32)
-        requires on { (b : BookState) × IsAt b self.old.wants (hub_seen C.seen self.old) }
+        requires on { (from : Standing) × IsOnIn AnyPhase from (hub_seen C.seen self.old) }
         requires there { rank < ranks_of self.old.book }
         requires frame { IsSetUpFrame self.old.book self.old.frame.items }
-        ensures on { (b : BookState) → IsAt b self.old.wants (hub_seen C.seen self.old)
-            → IsAt b self.new.wants (hub_seen C.seen self.new) }
+        ensures on { (phase : Phase) (from : Standing) → IsOnAs phase from (hub_seen C.seen self.old)
+            → IsOnAs phase from (hub_seen C.seen self.new) }
         ensures frame { IsSetUpFrame self.new.book self.new.frame.items }
         ensures same { IsSameRun self.old.book self.new.book }
     {
-        if self.wants || self.crew.is_alive(rank) {
+        if self.crew.is_alive(rank) {
             return;
         }
         if self.launch(rank) {
@@ -109,26 +116,32 @@ impl<'a, R: Wait, C: Crew + Drop> Hub<'a, R, C> {
         }
     }
 
-    /// Starts the crew, goes on until an end is due, and tells it the end.
-    pub fn run(&mut self)
-        requires { (b : BookState)
-            × IsBegun b self.old.wants (hub_seen C.seen self.old) self.old.frame.items }
-        ensures ends { (b : BookState)
-            → IsBegun b self.old.wants (hub_seen C.seen self.old) self.old.frame.items
-            → self.new.wants ≡ false → EndsWith b (C.seen self.new.crew) self.new.book }
+    /// Starts the crew, goes on until an end is due, and tells it the end. The book is saved as
+    /// often as its settings say.
+    pub fn run<D: Disk>(&mut self, keeper: &mut Keeper, disk: &mut D)
+        requires on { (from : Standing) × IsOnIn IsRested from (hub_seen C.seen self.old) }
+        requires frame { IsSetUpFrame self.old.book self.old.frame.items }
+        requires kept { IsKeptBy (kept_seen keeper.old (D.seen disk.old)) }
+        requires ours { IsOurs (kept_seen keeper.old (D.seen disk.old)) self.old.book }
+        ensures ends { (from : Standing) → IsOnIn IsRested from (hub_seen C.seen self.old)
+            → EndsFrom from (C.seen self.new.crew) self.new.book
+            (kept_seen keeper.old (D.seen disk.old)) (kept_seen keeper.new (D.seen disk.new)) }
         ensures over { self.new.wants ≡ false → IsOver self.new.book }
+        ensures kept { IsKeptBy (kept_seen keeper.new (D.seen disk.new)) }
+        ensures same { IsSameRun self.old.book self.new.book }
     {
         self.start_all();
-        self.go_on();
+        self.go_on(keeper, disk);
         self.close();
     }
 
     // Starts each rank, and tells it the problem, which the frame is.
     fn start_all(&mut self)
-        requires on { (b : BookState) × IsAt b self.old.wants (hub_seen C.seen self.old) }
+        requires on { (from : Standing) × IsOnIn AnyPhase from (hub_seen C.seen self.old) }
         requires frame { IsSetUpFrame self.old.book self.old.frame.items }
-        ensures { (b : BookState) → IsAt b self.old.wants (hub_seen C.seen self.old)
-            → IsAt b self.new.wants (hub_seen C.seen self.new) }
+        ensures on { (phase : Phase) (from : Standing) → IsOnAs phase from (hub_seen C.seen self.old)
+            → IsOnAs phase from (hub_seen C.seen self.new) }
+        ensures same { IsSameRun self.old.book self.new.book }
     {
         for rank in 0..self.book.settings().solvers {
             self.start(rank);
@@ -138,13 +151,14 @@ impl<'a, R: Wait, C: Crew + Drop> Hub<'a, R, C> {
     // Tells an order that just left the book to its rank, if this lives.
     fn tell(&mut self, told: Told)
         requires order { IsOrder told.order }
-        requires on { (b : BookState) × (before : BookState)
-            × IsOn b (record (hub_seen C.seen self.old) { book = before })
+        requires on { (from : Standing) × (before : BookState)
+            × IsOnIn AnyPhase from (record (hub_seen C.seen self.old) { book = before })
             × IsOrderTold before self.old.book told }
-        ensures { (b before : BookState)
-            → IsOn b (record (hub_seen C.seen self.old) { book = before })
+        ensures on { (phase : Phase) (from : Standing) (before : BookState)
+            → IsOnAs phase from (record (hub_seen C.seen self.old) { book = before })
             → IsOrderTold before self.old.book told
-            → IsAt b self.new.wants (hub_seen C.seen self.new) }
+            → IsOnAs phase from (hub_seen C.seen self.new) }
+        ensures same { IsSameRun self.old.book self.new.book }
     {
         let rank = told.rank;
         if !self.crew.is_alive(rank) {
@@ -166,9 +180,11 @@ impl<'a, R: Wait, C: Crew + Drop> Hub<'a, R, C> {
 
     // Tells the earliest order that waits. False where none does.
     fn tell_next(&mut self) -> bool
-        requires { (b : BookState) × IsOn b (hub_seen C.seen self.old) }
-        ensures { (b : BookState) → IsOn b (hub_seen C.seen self.old)
-            → IsAt b self.new.wants (hub_seen C.seen self.new) }
+        requires on { (from : Standing) × IsOnIn AnyPhase from (hub_seen C.seen self.old) }
+        ensures on { (phase : Phase) (from : Standing) → IsOnAs phase from (hub_seen C.seen self.old)
+            → IsOnAs phase from (hub_seen C.seen self.new) }
+        ensures same { IsSameRun self.old.book self.new.book }
+        ensures none { result ≡ false → self.new.book.orders ≡ [] }
     {
         // Each order of a book has a frame.
         let _problem = self.book.problem();
@@ -183,9 +199,11 @@ impl<'a, R: Wait, C: Crew + Drop> Hub<'a, R, C> {
 
     // Tells all orders that wait.
     fn tell_all(&mut self)
-        requires { (b : BookState) × IsAt b self.old.wants (hub_seen C.seen self.old) }
-        ensures { (b : BookState) → IsAt b self.old.wants (hub_seen C.seen self.old)
-            → IsAt b self.new.wants (hub_seen C.seen self.new) }
+        requires on { (from : Standing) × IsOnIn AnyPhase from (hub_seen C.seen self.old) }
+        ensures on { (phase : Phase) (from : Standing) → IsOnAs phase from (hub_seen C.seen self.old)
+            → IsOnAs phase from (hub_seen C.seen self.new) }
+        ensures same { IsSameRun self.old.book self.new.book }
+        ensures all { self.new.wants ≡ false → self.new.book.orders ≡ [] }
     {
         for _ in self.rt.forever() {
             if self.wants {
@@ -200,8 +218,10 @@ impl<'a, R: Wait, C: Crew + Drop> Hub<'a, R, C> {
 
     // Decides.
     fn decide(&mut self)
-        ensures { (b : BookState) → IsAt b self.old.wants (hub_seen C.seen self.old)
-            → IsAt b self.new.wants (hub_seen C.seen self.new) }
+        requires more { ¬ IsOver self.old.book }
+        ensures on { (from : Standing) → IsOnIn IsRested from (hub_seen C.seen self.old)
+            → IsOnIn (is_next Hearing) from (hub_seen C.seen self.new) }
+        ensures same { IsSameRun self.old.book self.new.book }
     {
         match self.book.decide() {
             Ok(()) => {}
@@ -235,11 +255,17 @@ impl<'a, R: Wait, C: Crew + Drop> Hub<'a, R, C> {
     // Hears the next report of the rank, or that what came is none. False where all of it was
     // heard.
     fn hear_next(&mut self, rank: u32) -> bool
-        requires on { (b : BookState) × IsOn b (hub_seen C.seen self.old) }
+        requires on { (from : Standing) × IsOnIn AnyPhase from (hub_seen C.seen self.old) }
         requires there { rank < ranks_of self.old.book }
-        ensures on { (b : BookState) → IsOn b (hub_seen C.seen self.old)
-            → IsAt b self.new.wants (hub_seen C.seen self.new) }
-        ensures nothing { result ≡ false → self.new.wants ≡ self.old.wants }
+        requires more { ¬ IsOver self.old.book }
+        requires told { self.old.book.orders ≡ [] }
+        ensures on { MatchBool result
+            ((from : Standing) → IsOnIn MayRead from (hub_seen C.seen self.old)
+            → IsOnIn (is_next Deciding) from (hub_seen C.seen self.new))
+            ((phase : Phase) (from : Standing) → IsOnAs phase from (hub_seen C.seen self.old)
+            → IsOnAs phase from (hub_seen C.seen self.new)) }
+        ensures same { IsSameRun self.old.book self.new.book }
+        ensures nothing { result ≡ false → self.new.book ≡ self.old.book }
     {
         match next_of(self.alloc, &mut self.streams, rank) {
             Ok(Next::Message(report)) => {
@@ -268,7 +294,7 @@ impl<'a, R: Wait, C: Crew + Drop> Hub<'a, R, C> {
         requires hearable { IsHearable report }
         ensures heard { HasHeardReport (hub_seen C.seen self.old) (hub_seen C.seen self.new) rank
             report }
-        ensures rest { self.new.wants ≡ false → self.old.wants ≡ false }
+        ensures same { IsSameRun self.old.book self.new.book }
     {
         if self.book.hear(rank, report) == Heard::Memory {
             self.wants = true;
@@ -277,9 +303,12 @@ impl<'a, R: Wait, C: Crew + Drop> Hub<'a, R, C> {
 
     // Waits until something comes, and hears the first report of it.
     fn turn(&mut self)
-        requires on { (b : BookState) × IsOn b (hub_seen C.seen self.old) }
-        ensures { (b : BookState) → IsOn b (hub_seen C.seen self.old)
-            → IsAt b self.new.wants (hub_seen C.seen self.new) }
+        requires on { (from : Standing) × IsOnIn (is_next Hearing) from (hub_seen C.seen self.old) }
+        requires more { ¬ IsOver self.old.book }
+        requires told { self.old.book.orders ≡ [] }
+        ensures on { (from : Standing) → IsOnIn (is_next Hearing) from (hub_seen C.seen self.old)
+            → IsOnIn IsRested from (hub_seen C.seen self.new) }
+        ensures same { IsSameRun self.old.book self.new.book }
     {
         match take_turn(&mut self.crew, &mut self.streams, &mut self.input) {
             Turn::Fed { rank } => {
@@ -288,15 +317,16 @@ impl<'a, R: Wait, C: Crew + Drop> Hub<'a, R, C> {
             }
             Turn::Gone { rank } => self.book.gone(rank),
             Turn::Failed => self.lose_all(),
-            Turn::Wanting => self.wants = true,
+            Turn::Wanting { .. } => self.wants = true,
         }
     }
 
     // A turn failed, so all ranks are gone.
     fn lose_all(&mut self)
-        requires on { (b : BookState) × IsOnAs true b (hub_seen C.seen self.old) }
-        ensures { (b : BookState) → IsOnAs true b (hub_seen C.seen self.old)
-            → IsOn b (hub_seen C.seen self.new) }
+        requires on { (from : Standing) × IsOnIn IsBrokenOff from (hub_seen C.seen self.old) }
+        ensures on { (from : Standing) → IsOnIn IsBrokenOff from (hub_seen C.seen self.old)
+            → IsOnIn IsBrokenOff from (hub_seen C.seen self.new) }
+        ensures same { IsSameRun self.old.book self.new.book }
     {
         for rank in 0..self.book.settings().solvers {
             self.lose(rank);
@@ -305,13 +335,13 @@ impl<'a, R: Wait, C: Crew + Drop> Hub<'a, R, C> {
 
     // Hears a report that is there, or waits until something comes.
     fn listen(&mut self)
-        requires { (b : BookState) × IsAt b self.old.wants (hub_seen C.seen self.old) }
-        ensures { (b : BookState) → IsAt b self.old.wants (hub_seen C.seen self.old)
-            → IsAt b self.new.wants (hub_seen C.seen self.new) }
+        requires on { (from : Standing) × IsOnIn (is_next Hearing) from (hub_seen C.seen self.old) }
+        requires more { ¬ IsOver self.old.book }
+        requires told { self.old.book.orders ≡ [] }
+        ensures on { (from : Standing) → IsOnIn (is_next Hearing) from (hub_seen C.seen self.old)
+            → IsOnIn IsRested from (hub_seen C.seen self.new) }
+        ensures same { IsSameRun self.old.book self.new.book }
     {
-        if self.wants {
-            return;
-        }
         match self.last {
             Some(rank) if (rank as usize) < self.streams.len() => {
                 if !self.hear_next(rank) {
@@ -322,44 +352,103 @@ impl<'a, R: Wait, C: Crew + Drop> Hub<'a, R, C> {
         }
     }
 
+    // Whether memory was wanting, or an end is due.
+    fn has_stopped(&self) -> bool
+        ensures stopped { result ≡ true → self.now.wants ≡ false → IsOver self.now.book }
+        ensures on { result ≡ false → (self.now.wants ≡ false) × ¬ IsOver self.now.book }
+    {
+        if self.wants {
+            return true;
+        }
+        self.is_over()
+    }
+
     // Decides, tells the orders, and hears the next report, or waits until something comes. An end
-    // that is due comes before each of them.
-    fn step(&mut self)
-        requires { (b : BookState) × IsAt b self.old.wants (hub_seen C.seen self.old) }
-        ensures { (b : BookState) → IsAt b self.old.wants (hub_seen C.seen self.old)
-            → IsAt b self.new.wants (hub_seen C.seen self.new) }
+    // that is due comes before each of them, and then false is answered.
+    fn step(&mut self) -> bool
+        requires on { (from : Standing) × IsOnIn IsRested from (hub_seen C.seen self.old) }
+        requires more { ¬ IsOver self.old.book }
+        ensures on { MatchBool result
+            ((from : Standing) → IsOnIn IsRested from (hub_seen C.seen self.old)
+            → IsOnIn IsRested from (hub_seen C.seen self.new))
+            ((from : Standing) → IsOnIn IsRested from (hub_seen C.seen self.old)
+            → IsOnIn AnyPhase from (hub_seen C.seen self.new)) }
+        ensures same { IsSameRun self.old.book self.new.book }
+        ensures over { result ≡ false → self.new.wants ≡ false → IsOver self.new.book }
     {
         self.decide();
-        if self.is_over() {
-            return;
+        if self.has_stopped() {
+            return false;
         }
         self.tell_all();
-        if self.is_over() {
-            return;
+        if self.has_stopped() {
+            return false;
         }
         self.listen();
+        true
+    }
+
+    // A step, and a save where one is due for what was heard in it.
+    fn advance<D: Disk>(&mut self, keeper: &mut Keeper, disk: &mut D) -> bool
+        requires on { (from : Standing) × IsOnIn IsRested from (hub_seen C.seen self.old) }
+        requires more { ¬ IsOver self.old.book }
+        requires kept { IsKeptBy (kept_seen keeper.old (D.seen disk.old)) }
+        requires ours { IsOurs (kept_seen keeper.old (D.seen disk.old)) self.old.book }
+        ensures on { MatchBool result
+            ((from : Standing) (first : KeptSeen)
+            → IsKeptIn IsRested from (hub_seen C.seen self.old) first
+            (kept_seen keeper.old (D.seen disk.old))
+            → IsKeptIn IsRested from (hub_seen C.seen self.new) first
+            (kept_seen keeper.new (D.seen disk.new)))
+            ((from : Standing) (first : KeptSeen)
+            → IsKeptIn IsRested from (hub_seen C.seen self.old) first
+            (kept_seen keeper.old (D.seen disk.old))
+            → IsKeptIn AnyPhase from (hub_seen C.seen self.new) first
+            (kept_seen keeper.new (D.seen disk.new))) }
+        ensures kept { IsKeptBy (kept_seen keeper.new (D.seen disk.new)) }
+        ensures same { IsSameRun self.old.book self.new.book }
+        ensures over { result ≡ false → self.new.wants ≡ false → IsOver self.new.book }
+    {
+        let before = self.book.count();
+        if !self.step() {
+            return false;
+        }
+        if is_save_due(&self.book, before) {
+            keeper.keep(disk, &self.book);
+        }
+        true
     }
 
     // Goes on until an end is due, or memory is wanting.
-    fn go_on(&mut self)
-        requires { (b : BookState) × IsAt b self.old.wants (hub_seen C.seen self.old) }
-        ensures on { (b : BookState) → IsAt b self.old.wants (hub_seen C.seen self.old)
-            → IsAt b self.new.wants (hub_seen C.seen self.new) }
+    fn go_on<D: Disk>(&mut self, keeper: &mut Keeper, disk: &mut D)
+        requires on { (from : Standing) × IsOnIn IsRested from (hub_seen C.seen self.old) }
+        requires kept { IsKeptBy (kept_seen keeper.old (D.seen disk.old)) }
+        requires ours { IsOurs (kept_seen keeper.old (D.seen disk.old)) self.old.book }
+        ensures on { (from : Standing) (first : KeptSeen)
+            → IsKeptIn IsRested from (hub_seen C.seen self.old) first
+            (kept_seen keeper.old (D.seen disk.old))
+            → IsKeptIn AnyPhase from (hub_seen C.seen self.new) first
+            (kept_seen keeper.new (D.seen disk.new)) }
         ensures over { self.new.wants ≡ false → IsOver self.new.book }
+        ensures kept { IsKeptBy (kept_seen keeper.new (D.seen disk.new)) }
+        ensures same { IsSameRun self.old.book self.new.book }
     {
         for _ in self.rt.forever() {
-            if self.wants || self.is_over() {
+            if self.has_stopped() {
                 return;
             }
-            self.step();
+            if !self.advance(keeper, disk) {
+                return;
+            }
         }
         unreachable!()
     }
 
     // Tells the end to the rank, if it lives.
     fn end(&mut self, rank: u32)
-        ensures on { (b : BookState) → IsAt b self.old.wants (hub_seen C.seen self.old)
-            → IsAt b self.new.wants (hub_seen C.seen self.new) }
+        ensures closed { (from : Standing) (old new : KeptSeen)
+            → IsClosedBelow rank from (hub_seen C.seen self.old) old new
+            → IsClosedBelow (suc rank) from (hub_seen C.seen self.new) old new }
         ensures same { (self.new.book ≡ self.old.book) × (self.new.wants ≡ self.old.wants) }
     {
         if self.crew.is_alive(rank) {
@@ -372,8 +461,9 @@ impl<'a, R: Wait, C: Crew + Drop> Hub<'a, R, C> {
 
     // Tells the end to each rank that lives, and waits until all have ended.
     fn close(&mut self)
-        ensures on { (b : BookState) → IsAt b self.old.wants (hub_seen C.seen self.old)
-            → self.new.wants ≡ false → EndsWith b (C.seen self.new.crew) self.new.book }
+        ensures ends { (from : Standing) (old new : KeptSeen)
+            → IsKeptIn AnyPhase from (hub_seen C.seen self.old) old new
+            → EndsFrom from (C.seen self.new.crew) self.new.book old new }
         ensures same { (self.new.book ≡ self.old.book) × (self.new.wants ≡ self.old.wants) }
     {
         for rank in 0..self.book.settings().solvers {
@@ -393,4 +483,11 @@ fn is_any_alive(book: &Book) -> bool
         }
     }
     false
+}
+
+// Whether a report was heard since so many were, whose number asks for a save.
+fn is_save_due(book: &Book, before: u64) -> bool {
+    let count = book.count();
+    let every = book.settings().every;
+    count != before && every != 0 && count % every == 0
 }

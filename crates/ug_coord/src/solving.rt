@@ -1,20 +1,27 @@
 //! The coordinator's loop, from the start of the crew to its end.
 
-ghost use Rattle.std.specs.Prelude.{◌≡◌, ◌<◌, length, replicate, IfOk, MatchBool};
+ghost use Rattle.std.specs.Prelude.{◌≡◌, ◌<◌, false, length, replicate, IfOk, IfSome, MatchBool};
 ghost use Rattle.ug_stream.specs.Streams.{first};
-ghost use Rattle.ug_rules.specs.State.{BookState};
-ghost use Rattle.ug_coord.specs.Hubs.{HasCoordinated, IsAnswered, IsBegun, IsFresh, IsOver};
-ghost use Rattle.ug_coord.specs.Hubs.{IsSetUpFrame, is_ended, ranks_of};
-ghost use Rattle.ug_coord.specs.HubViews.{hub_seen};
+ghost use Rattle.ug_checkpoint.specs.Savers.{IsKept};
+ghost use Rattle.ug_book.specs.Openings.{IsOpening, opening_book};
+ghost use Rattle.ug_coord.specs.Ends.{IsAnswered, IsOver, is_ended, ranks_of};
+ghost use Rattle.ug_coord.specs.Hubs.{HasCoordinated, IsFresh, IsSetUpFrame};
+ghost use Rattle.ug_coord.specs.Keeping.{Begins, HasConcluded, HasKept, IsBegun, IsKeptBy};
+ghost use Rattle.ug_coord.specs.Keeping.{IsKeptSafe, IsNothing, savers};
+ghost use Rattle.ug_coord.specs.Keepers.{kept_seen};
 
+use crate::host::Host;
 use crate::hub::Hub;
+use crate::keeper::Keeper;
 use std::alloc::{AllocError, Global};
 use std::sync::Wait;
-use ug_book::Book;
+use ug_book::{Book, Opening};
+use ug_checkpoint::Saver;
+use ug_disk::Disk;
 use ug_frames::{Order, encode_order};
 use ug_io::{Crew, zeros};
 use ug_records::to_record;
-use ug_restart::End;
+use ug_restart::{End, Outcome, Saves};
 use ug_stream::Assembler;
 
 /// How many bytes are heard at once.
@@ -24,112 +31,184 @@ const READ: usize = 65_536;
 #[derive(Drop)]
 pub struct Coordinated<C> {
     pub crew: C,
-    pub end: End,
+    pub outcome: Outcome,
 }
 
-/// Solves with a crew of which nothing was heard yet and no rank lives: starts each rank, and goes
-/// on until an end is due. The book is one that was just made. At the end each rank that lives is
-/// told.
-pub fn coordinate<R: Wait, C: Crew + Drop>(
-    rt: &R,
-    alloc: Global,
-    book: Book,
+/// Solves what the opening has left, with a crew of which nothing was heard yet and no rank of which
+/// lives: starts each rank, and goes on until an end is due. At the end each rank that lives is
+/// told. With a saver the book is saved as often as its settings say, and at last the ending book.
+#[tactic(auto)]
+pub fn coordinate<R: Wait, D: Disk, C: Crew + Drop>(
+    host: &Host<'_, R>,
+    opening: &Opening,
+    saver: Option<Saver>,
+    disk: &mut D,
     crew: C,
 ) -> Coordinated<C>
-    requires { IsFresh (C.seen crew) (ranks_of book) }
-    ensures { HasCoordinated book (C.seen result.crew) result.end }
+    requires opening { IsOpening opening.now }
+    requires kept { IfSome saver (λ s. IsKept s (D.seen disk.old).told) }
+    requires fresh { IsFresh (C.seen crew) (ranks_of (opening_book opening.now)) }
+
+    // The book at the end comes from the opening's by the rules.
+    ensures coordinated { HasCoordinated (opening_book opening.now) (C.seen result.crew)
+        result.outcome.end (IsKeptSafe saver (D.seen disk.old) (D.seen disk.new)) }
+
+    // What stands on the disk.
+    ensures kept { HasKept (opening_book opening.now) saver result.outcome
+        (D.seen disk.old) (D.seen disk.new) }
 {
-    match hub_of(rt, alloc, book, crew) {
-        Ok(mut hub) => {
-            hub.run();
-            let Hub {
-                book,
-                crew,
-                wants,
-                ..
-            } = hub;
-            if wants {
-                drop(book);
-                return Coordinated {
-                    crew,
-                    end: End::Memory,
-                };
-            }
-            Coordinated {
-                crew,
-                end: end_of(book),
-            }
-        }
-        Err(crew) => Coordinated {
+    match keeper_of(host.alloc, opening, saver) {
+        Ok(keeper) => solve(host, opening, keeper, disk, crew),
+        Err(_) => Coordinated {
             crew,
-            end: End::Memory,
+            outcome: nothing(),
         },
     }
 }
 
-// The coordinator before its first deed. For want of memory the crew alone is left.
-fn hub_of<R: Wait, C: Crew + Drop>(
-    rt: &R,
-    alloc: Global,
-    book: Book,
-    crew: C,
-) -> Result<Hub<'_, R, C>, C>
-    requires { IsFresh (C.seen crew) (ranks_of book) }
-    ensures { IfOk result (λ hub. IsBegun book hub.wants (hub_seen C.seen hub) hub.frame.items) }
+// Memory is wanting before the first deed.
+fn nothing() -> Outcome
+    ensures { IsNothing result }
 {
-    let parts = parts_of(alloc, &book);
-    match parts {
-        Ok(parts) => {
-            let Parts {
-                streams,
-                input,
-                setup,
-            } = parts;
-            Ok(Hub {
-                rt,
-                alloc,
-                book,
-                crew,
-                streams,
-                input,
-                frame: setup,
-                last: None,
-                wants: false,
-            })
-        }
-        Err(_) => {
-            drop(book);
-            Err(crew)
-        }
+    Outcome {
+        end: End::Memory,
+        missed: 0,
+        unsaved: 0,
+        last: None,
     }
 }
 
-// What a coordinator keeps beside its book and its crew: a stream for each rank, a buffer, and the
-// frame of the order that comes first.
+// What saves the book of a run that began with the opening.
+fn keeper_of(alloc: Global, opening: &Opening, saver: Option<Saver>) -> Result<Keeper, AllocError>
+    ensures { IfOk result (λ keeper. Begins opening.now saver keeper.saves) }
+{
+    match saver {
+        None => Ok(Keeper { alloc, saves: None }),
+        Some(saver) => match opening.copy() {
+            Ok(own) => Ok(Keeper {
+                alloc,
+                saves: Some(Saves::new(saver, own)),
+            }),
+            Err(error) => {
+                drop(saver);
+                Err(error)
+            }
+        },
+    }
+}
+
+// With what saves the book.
+fn solve<R: Wait, D: Disk, C: Crew + Drop>(
+    host: &Host<'_, R>,
+    opening: &Opening,
+    mut keeper: Keeper,
+    disk: &mut D,
+    crew: C,
+) -> Coordinated<C>
+    requires opening { IsOpening opening.now }
+    requires kept { IsKeptBy (kept_seen keeper (D.seen disk.old)) }
+    requires begun { IfSome keeper.saves (IsBegun opening.now) }
+    requires fresh { IsFresh (C.seen crew) (ranks_of (opening_book opening.now)) }
+    ensures coordinated { HasCoordinated (opening_book opening.now) (C.seen result.crew)
+        result.outcome.end
+        (IsKeptSafe (savers keeper.saves) (D.seen disk.old) (D.seen disk.new)) }
+    ensures kept { HasKept (opening_book opening.now) (savers keeper.saves) result.outcome
+        (D.seen disk.old) (D.seen disk.new) }
+{
+    let parts = match parts_of(host.alloc, opening) {
+        Ok(parts) => parts,
+        Err(_) => {
+            drop(keeper);
+            return Coordinated {
+                crew,
+                outcome: nothing(),
+            };
+        }
+    };
+    let Parts {
+        book,
+        streams,
+        input,
+        setup,
+    } = parts;
+    let mut hub = Hub {
+        rt: host.rt,
+        alloc: host.alloc,
+        book,
+        crew,
+        streams,
+        input,
+        frame: setup,
+        last: None,
+        wants: false,
+    };
+    hub.run(&mut keeper, disk);
+    let Hub {
+        book,
+        crew,
+        wants,
+        ..
+    } = hub;
+    let end = end_of(book, wants);
+    let outcome = conclude(keeper, disk, end);
+    Coordinated { crew, outcome }
+}
+
+// Saves the ending book.
+fn conclude<D: Disk>(mut keeper: Keeper, disk: &mut D, end: End) -> Outcome
+    requires { IsKeptBy (kept_seen keeper (D.seen disk.old)) }
+    ensures end { result.end ≡ end }
+    ensures concluded { HasConcluded result (kept_seen keeper (D.seen disk.old))
+        (D.seen disk.new) }
+{
+    let last = keeper.keep_end(disk, &end);
+    let missed = keeper.missed();
+    let unsaved = keeper.unsaved();
+    drop(keeper);
+    Outcome {
+        end,
+        missed,
+        unsaved,
+        last,
+    }
+}
+
+// What a coordinator keeps beside its crew: the book with which the run starts, a stream for each
+// rank, a buffer, and the frame of the order that comes first.
 #[derive(Drop)]
 struct Parts {
+    book: Book,
     streams: Vec<Assembler>,
     input: Vec<u8>,
     setup: Vec<u8>,
 }
 
-fn parts_of(alloc: Global, book: &Book) -> Result<Parts, AllocError>
+fn parts_of(alloc: Global, opening: &Opening) -> Result<Parts, AllocError>
+    requires { IsOpening opening.now }
+    ensures book { IfOk result (λ parts. parts.book ≡ opening_book opening.now) }
     ensures streams { IfOk result (λ parts. parts.streams.items
-        ≡ replicate (ranks_of book.now) first) }
+        ≡ replicate (ranks_of parts.book) first) }
     ensures room { IfOk result (λ parts. 0 < length parts.input.items) }
-    ensures setup { IfOk result (λ parts. IsSetUpFrame book.now parts.setup.items) }
+    ensures setup { IfOk result (λ parts. IsSetUpFrame parts.book parts.setup.items) }
 {
-    let streams = streams_of(alloc, book.settings().solvers)?;
+    let book = Book::new(alloc, opening)?;
+    let Ok(streams) = streams_of(alloc, book.settings().solvers) else {
+        drop(book);
+        return Err(AllocError);
+    };
     let Ok(input) = zeros(alloc, READ) else {
+        drop(book);
         drop(streams);
         return Err(AllocError);
     };
-    let Ok(setup) = setup_of(alloc, book) else {
+    let Ok(setup) = setup_of(alloc, &book) else {
+        drop(book);
         drop(streams);
         drop(input);
         return Err(AllocError);
     };
     Ok(Parts {
+        book,
         streams,
         input,
         setup,
@@ -169,11 +248,15 @@ fn setup_of(alloc: Global, book: &Book) -> Result<Vec<u8>, AllocError>
     }
 }
 
-// How a run ends whose end is due.
-fn end_of(book: Book) -> End
-    requires { IsOver book }
+// How a run ends whose end is due, unless memory was wanting.
+fn end_of(book: Book, wants: bool) -> End
+    requires { wants ≡ false → IsOver book }
     ensures { is_ended result book }
 {
+    if wants {
+        drop(book);
+        return End::Memory;
+    }
     if is_answered(&book) {
         return End::Answered(book);
     }

@@ -18,8 +18,8 @@ pub enum Turn {
     Gone { rank: u32 },
     /// The turn failed.
     Failed,
-    /// Memory was wanting for what came.
-    Wanting,
+    /// Memory was wanting for what came from the rank.
+    Wanting { rank: u32 },
 }
 
 /// Waits until something comes from the crew, by way of the buffer.
@@ -31,7 +31,7 @@ pub fn take_turn<C: Crew>(crew: &mut C, streams: &mut [Assembler], buffer: &mut 
     match crew.turn(buffer) {
         Ok(Came::Bytes { rank, count }) => match feed(streams, rank, &buffer[..count]) {
             Ok(()) => Turn::Fed { rank },
-            Err(_) => Turn::Wanting,
+            Err(_) => Turn::Wanting { rank },
         },
         Ok(Came::Gone { rank }) => Turn::Gone { rank },
         Err(_) => Turn::Failed,

@@ -14,8 +14,8 @@ use Rattle.ug_rules.specs.Hearing.{IsHearable, after_hearing}
 use Rattle.ug_rules.specs.HearingLaws.{HasRisingChanges}
 use Rattle.ug_rules.specs.Deaths.{killed}
 use Rattle.ug_book.specs.Reads.{IsOrderTold}
-use Rattle.ug_coord.specs.Deeds.{Broke, Came, Closed, Decided, Deed, Does, IsCourse, Launched, Lost, Passed}
-use Rattle.ug_coord.specs.Deeds.{Sent, SetUp, Standing, Took, Unclosed, Unsent, IsTaken, IsUnsent}
+use Rattle.ug_coord.specs.Deeds.{AreSound, Broke, Came, Closed, Decided, Deed, Does, Halted, IsCourse, Launched, Lost, Passed}
+use Rattle.ug_coord.specs.Deeds.{Sent, SetUp, Standing, Took, Unclosed, Unfed, Unread, Unsent, Unwritten, IsTaken, IsUnsent}
 use Rattle.ug_coord.specs.Hubs.{beginning}
 use Rattle.ug_world.specs.declared.event.Event.TheVariants.{Send, Hear, Gone, Decide, Tell}
 use Rattle.ug_world.specs.Worlds.{World, opening, told_first}
@@ -138,38 +138,51 @@ deed_holds n old mid past (SetUp rank bytes) does now honest k =
     same_holds n old.book mid.book past (ap (λ (s : Standing). s.book) does.rest) k
 deed_holds n old mid past (Closed rank) (alive, rest) now honest k =
     same_holds n old.book mid.book past (ap (λ (s : Standing). s.book) rest) k
-deed_holds n old mid past (Came rank bytes) (alive, rest) now honest k =
-    same_holds n old.book mid.book past (ap (λ (s : Standing). s.book) rest) k
+deed_holds n old mid past (Came rank bytes) does now honest k =
+    same_holds n old.book mid.book past (ap (λ (s : Standing). s.book) does.rest) k
 deed_holds n old mid past (Took rank report answer) does now honest k =
     took n old mid past rank report answer does now k
 deed_holds n old mid past (Lost rank cause) does now honest k =
     gone n old.book mid.book past rank does.there does.book k.true_ k.holds
-deed_holds n old mid past Decided (decided, rest) now honest k =
+deed_holds n old mid past Decided does now honest k =
     event_holds n (world_of old.book past) (world_of mid.book past) Decide tt
-    (record { decided = inl decided; rest = refl }) k.true_ k.holds
+    (record { decided = inl does.is; rest = refl }) k.true_ k.holds
 deed_holds n old mid past (Sent rank order) does now honest k =
     left n old.book mid.book past (record { rank = rank; order = order }) does.told k
 deed_holds n old mid past (Unsent rank order) does now honest k =
     unsent n old mid past rank order does honest k
 deed_holds n old mid past (Passed rank order) does now honest k =
     left n old.book mid.book past (record { rank = rank; order = order }) does.told k
-deed_holds n old mid past Broke (faults, rest) now honest k =
+deed_holds n old mid past Broke does now honest k =
+    same_holds n old.book mid.book past (ap (λ (s : Standing). s.book) does.rest) k
+deed_holds n old mid past (Unclosed rank) (faults, rest) now honest k =
     same_holds n old.book mid.book past (ap (λ (s : Standing). s.book) rest) k
-deed_holds n old mid past Unclosed (faults, rest) now honest k =
+deed_holds n old mid past (Halted steps) does now honest k =
+    event_holds n (world_of old.book past) (world_of mid.book past) Decide tt
+    (record { decided = inr (record { steps = steps; stands = does.is }); rest = refl }) k.true_ k.holds
+deed_holds n old mid past (Unwritten rank order) does now honest k =
+    left n old.book mid.book past (record { rank = rank; order = order }) does.told k
+deed_holds n old mid past (Unfed rank bytes) does now honest k =
+    same_holds n old.book mid.book past (ap (λ (s : Standing). s.book) does.rest) k
+deed_holds n old mid past Unread (reading, rest) now honest k =
     same_holds n old.book mid.book past (ap (λ (s : Standing). s.book) rest) k
 
 course_keeps : (n : ℕ) (old : Standing) (past : Past) (deeds : List Deed) (new : Standing)
     → (course : IsCourse old deeds new) → StaysHonest old past deeds new course
-    → IsHonestSo old.book past.told past.heard → Keeps n old.book past → LosesNothing new.book
-course_keeps n old past [] new same stays honest k =
-    subst (λ (s : Standing). LosesNothing s.book) (sym same) (loses_nothing old.book k.holds.sound)
+    → IsHonestSo old.book past.told past.heard → Keeps n old.book past
+    → AreSound old deeds new course × LosesNothing new.book
+course_keeps n old past [] new same stays honest k = (
+  k.holds.sound,
+  subst (λ (s : Standing). LosesNothing s.book) (sym same) (loses_nothing old.book k.holds.sound),
+)
 course_keeps n old past (deed ∷ deeds) new (mid, does, more) (now, rest) honest k =
     let holds = deed_holds n old mid past deed does now honest k in
-    course_keeps n mid (after deed past) deeds new more rest.1 rest.0
+    let all = course_keeps n mid (after deed past) deeds new more rest.1 rest.0
     (record {
       holds = holds;
       true_ = honest_true (after deed past).told mid.book (after deed past).heard rest.0 holds.known;
-    })
+    }) in
+    ((k.holds.sound, all.0), all.1)
 
 none_heard : (b : BookState) → IsHonestSo b [] []
 none_heard b = record {

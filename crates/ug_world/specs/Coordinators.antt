@@ -6,9 +6,9 @@ use Rattle.ug_rules.specs.declared.heard.Heard.{Heard}
 use Rattle.ug_rules.specs.declared.told.Told.{Told}
 use Rattle.ug_rules.specs.State.{BookState}
 use Rattle.ug_rules.specs.Books.{IsBook, IsSoundBook}
-use Rattle.ug_coord.specs.Deeds.{Broke, Came, Closed, Decided, Deed, IsCourse, Launched, Lost}
-use Rattle.ug_coord.specs.Deeds.{Passed}
-use Rattle.ug_coord.specs.Deeds.{Sent, SetUp, Standing, Took, Unclosed, Unsent}
+use Rattle.ug_coord.specs.Deeds.{AreSound, Broke, Came, Closed, Decided, Deed, Halted, IsCourse}
+use Rattle.ug_coord.specs.Deeds.{Launched, Lost, Passed, Sent, SetUp, Standing, Took, Unclosed, Unfed}
+use Rattle.ug_coord.specs.Deeds.{Unread, Unsent, Unwritten}
 use Rattle.ug_coord.specs.Hubs.{beginning}
 use Rattle.ug_world.specs.Honest.{IsGivenWith}
 use Rattle.ug_world.specs.Laws.{LosesNothing}
@@ -45,7 +45,11 @@ after (Sent rank order) past = with_order past (record { rank = rank; order = or
 after (Unsent rank order) past = with_order past (record { rank = rank; order = order })
 after (Passed rank order) past = with_order past (record { rank = rank; order = order })
 after Broke past = past
-after Unclosed past = past
+after (Unclosed rank) past = past
+after (Halted steps) past = past
+after (Unwritten rank order) past = with_order past (record { rank = rank; order = order })
+after (Unfed rank bytes) past = past
+after Unread past = past
 
 -- what was heard is honest, of the tickets in orders that left the queue or wait
 abbrev pub IsHonestSo : BookState → List Told → List Report → Type 0
@@ -65,7 +69,11 @@ honest_at old past (Sent rank order) = Unit {0}
 honest_at old past (Unsent rank order) = Unit {0}
 honest_at old past (Passed rank order) = Unit {0}
 honest_at old past Broke = Unit {0}
-honest_at old past Unclosed = Unit {0}
+honest_at old past (Unclosed rank) = Unit {0}
+honest_at old past (Halted steps) = Unit {0}
+honest_at old past (Unwritten rank order) = Unit {0}
+honest_at old past (Unfed rank bytes) = Unit {0}
+honest_at old past Unread = Unit {0}
 
 -- so it is through all of the deeds
 abbrev pub StaysHonest : (old : Standing) → Past → (deeds : List Deed) → (new : Standing)
@@ -76,9 +84,10 @@ StaysHonest old past (deed ∷ deeds) new (mid, does, more) = honest_at old past
     × StaysHonest mid (after deed past) deeds new more)
 
 -- From a sound book that has given no ticket: whatever comes of the crew, whichever ranks are gone
--- and whichever calls fail, no better point is lost, as long as what is heard is honest. Each front
--- of the deeds is a course too, so this holds at each moment.
+-- and whichever calls fail, at each moment the book is sound, so no better point is lost, as long as
+-- what is heard is honest.
 abbrev pub CoordinatorsLoseNothing : Type 0
 CoordinatorsLoseNothing = (b : BookState) (faults : ℕ) (deeds : List Deed) (now : Standing)
     → IsBook b → IsSoundBook b → b.last ≡ 0 → (course : IsCourse (beginning b faults) deeds now)
-    → StaysHonest (beginning b faults) nothing deeds now course → LosesNothing now.book
+    → StaysHonest (beginning b faults) nothing deeds now course
+    → AreSound (beginning b faults) deeds now course × LosesNothing now.book

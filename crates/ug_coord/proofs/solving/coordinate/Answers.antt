@@ -1,10 +1,31 @@
-use Rattle.ug_coord.proofs.Coursing.{coordinated}
+use Rattle.std.proofs.Common.{sym, subst}
+use Rattle.ug_book.specs.Openings.{opening_book}
+use Rattle.ug_coord.specs.Hubs.{HasCoordinated}
+use Rattle.ug_coord.specs.Keeping.{HasKept, IsKeptSafe}
+use Rattle.ug_coord.proofs.Ends.{begun_so, its_saver, nothing_coordinated, nothing_kept}
 use Rattle.ug_coord.proofs.solving.coordinate.Goals as goal
 
-pub end_of-requires : goal.end_of-requires
-end_of-requires g c = c.run.ensures.over c.if-wants.false
+pub solve-requires-clause-begun : goal.solve-requires-clause-begun
+solve-requires-clause-begun g c = begun_so c.args.opening.now c.args.saver _ c.in-Ok.ensures
 
-pub returns-else-wants : goal.returns-else-wants
-returns-else-wants g c =
-    coordinated c.args.book (g.C.Crew.seen c.run.new.self.crew) c.run.new.self.book c.end_of.result
-    (c.run.ensures.ends c.args.book c.in-Ok.ensures c.if-wants.false) c.end_of.ensures
+pub returns-in-Ok-clause-coordinated : goal.returns-in-Ok-clause-coordinated
+returns-in-Ok-clause-coordinated g c =
+    subst (λ s. HasCoordinated (opening_book c.args.opening.now) (g.C.Crew.seen c.solve.result.crew)
+    c.solve.result.outcome.end (IsKeptSafe s (g.D.Disk.seen c.args.disk.now) (g.D.Disk.seen c.solve.new.disk)))
+    (sym (its_saver c.args.opening.now c.args.saver _ c.in-Ok.ensures)) c.solve.ensures.coordinated
+
+pub returns-in-Ok-clause-kept : goal.returns-in-Ok-clause-kept
+returns-in-Ok-clause-kept g c =
+    subst (λ s. HasKept (opening_book c.args.opening.now) s c.solve.result.outcome (g.D.Disk.seen c.args.disk.now)
+    (g.D.Disk.seen c.solve.new.disk))
+    (sym (its_saver c.args.opening.now c.args.saver _ c.in-Ok.ensures)) c.solve.ensures.kept
+
+pub returns-in-Err-clause-coordinated : goal.returns-in-Err-clause-coordinated
+returns-in-Err-clause-coordinated g c =
+    nothing_coordinated (opening_book c.args.opening.now) (g.C.Crew.seen c.args.crew) c.args.saver c.nothing.result
+    (g.D.Disk.seen c.args.disk.now) c.requires.fresh c.nothing.ensures
+
+pub returns-in-Err-clause-kept : goal.returns-in-Err-clause-kept
+returns-in-Err-clause-kept g c =
+    nothing_kept (opening_book c.args.opening.now) c.args.saver c.nothing.result
+    (g.D.Disk.seen c.args.disk.now) c.nothing.ensures

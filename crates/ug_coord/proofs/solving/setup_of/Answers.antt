@@ -1,7 +1,6 @@
 use Rattle.std.proofs.Common.{◌≡◌, sym, ap, subst, ◌∙◌, arith, rules}
 use Rattle.std.proofs.lemmas.Int.{fits_signed_from_abs, ints, to_z-of_z}
 use mir.Syntax.{w128}
-use mir.Val.{of_z, to_z}
 use Rattle.ug_problem.specs.Better.{IsGap}
 use Rattle.ug_records.specs.Spelling.{record_of}
 use Rattle.ug_frames.specs.Ranges.{HasRoom}

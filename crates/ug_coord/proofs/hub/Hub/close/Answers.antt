@@ -1,8 +1,26 @@
+use Rattle.std.proofs.Common.{ℕ, rules, subst, ◌∙◌, arith}
 use Rattle.ug_coord.specs.HubViews.{hub_seen}
-use Rattle.ug_coord.proofs.Coursing.{ends_with}
+use Rattle.ug_coord.specs.Hubs.{IsClosedBelow}
+use Rattle.ug_coord.proofs.Closing.{ends_kept, none_closed}
 use Rattle.ug_coord.proofs.hub.Hub.close.Goals as goal
 
-pub returns-clause-on : goal.returns-clause-on
-returns-clause-on g c b at wants =
-    ends_with b (hub_seen g.C.Crew.seen c.loop-rank.self) (g.C.Crew.seen c.finish.new.self) c.finish.ensures
-    (c.loop-rank.invariant.on b at wants)
+pub loop-rank-init : goal.loop-rank-init
+loop-rank-init g c = record {
+  closed = λ from old new k. none_closed from (hub_seen g.C.Crew.seen c.args.self.now) old new k;
+  book = search rules;
+  wants = search rules;
+}
+
+pub loop-rank-preserved : goal.loop-rank-preserved
+loop-rank-preserved g c = record {
+  closed = λ from old new k. subst
+      (λ (n : ℕ). IsClosedBelow n from (hub_seen g.C.Crew.seen c.end.new.self) old new) (omega arith)
+      (c.end.ensures.closed from old new (c.loop-rank.invariant.closed from old new k));
+  book = c.end.ensures.same.0 ∙ c.loop-rank.invariant.book;
+  wants = c.end.ensures.same.1 ∙ c.loop-rank.invariant.wants;
+}
+
+pub returns-clause-ends : goal.returns-clause-ends
+returns-clause-ends g c from old new k =
+    ends_kept from (hub_seen g.C.Crew.seen c.loop-rank.self) (g.C.Crew.seen c.finish.new.self) old new _
+    c.finish.ensures (search rules) (c.loop-rank.invariant.closed from old new k)

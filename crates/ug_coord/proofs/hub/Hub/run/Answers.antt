@@ -1,19 +1,30 @@
 use Rattle.std.proofs.Common.{sym, subst, ◌∙◌}
-use Rattle.ug_coord.specs.Hubs.{IsOver}
+use Rattle.ug_coord.specs.Ends.{IsOver}
+use Rattle.ug_coord.specs.HubViews.{hub_seen}
+use Rattle.ug_coord.specs.Hubs.{IsRested}
+use Rattle.ug_coord.proofs.Coursing.{stays_in}
+use Rattle.ug_coord.proofs.Kept.{kept_first, ours_same}
 use Rattle.ug_coord.proofs.hub.Hub.run.Goals as goal
 
-pub start_all-requires-clause-on : goal.start_all-requires-clause-on
-start_all-requires-clause-on g c = (c.requires.0, c.requires.1.on)
+pub go_on-requires-clause-on : goal.go_on-requires-clause-on
+go_on-requires-clause-on g c = (
+  c.requires.on.0,
+  stays_in IsRested c.requires.on.0 (hub_seen g.C.Crew.seen c.args.self.now)
+      (hub_seen g.C.Crew.seen c.start_all.new.self) (λ phase on. c.start_all.ensures.on phase c.requires.on.0 on)
+      c.requires.on.1,
+)
 
-pub start_all-requires-clause-frame : goal.start_all-requires-clause-frame
-start_all-requires-clause-frame g c = c.requires.1.first
-
-pub go_on-requires : goal.go_on-requires
-go_on-requires g c = (c.requires.0, c.start_all.ensures c.requires.0 c.requires.1.on)
+pub go_on-requires-clause-ours : goal.go_on-requires-clause-ours
+go_on-requires-clause-ours g c =
+    ours_same c.args.keeper.now.saves c.args.self.now.book c.start_all.new.self.book c.start_all.ensures.same
+    c.requires.ours
 
 pub returns-clause-ends : goal.returns-clause-ends
-returns-clause-ends g c b begun wants =
-    c.close.ensures.on b (c.go_on.ensures.on b (c.start_all.ensures b begun.on)) wants
+returns-clause-ends g c from on =
+    c.close.ensures.ends from _ _ (c.go_on.ensures.on from _ (kept_first IsRested from
+    (hub_seen g.C.Crew.seen c.start_all.new.self) _
+    (stays_in IsRested from (hub_seen g.C.Crew.seen c.args.self.now) (hub_seen g.C.Crew.seen c.start_all.new.self)
+    (λ phase on. c.start_all.ensures.on phase from on) on)))
 
 pub returns-clause-over : goal.returns-clause-over
 returns-clause-over g c wants =

@@ -1,13 +1,13 @@
-use Rattle.ug_rules.specs.State.{BookState}
 use Rattle.ug_book.specs.Views.{IsSameRun}
-use Rattle.ug_coord.specs.Hubs.{IsAt, IsSetUpFrame}
+use Rattle.ug_coord.specs.Deeds.{Standing}
+use Rattle.ug_coord.specs.Hubs.{IsOnAs, IsSetUpFrame, Phase}
 use Rattle.ug_coord.specs.HubViews.{hub_seen}
 use Rattle.ug_coord.proofs.hub.Hub.start_all.Given as goal
 
 abbrev pub invariant-loop-rank : goal.invariant-loop-rank
 invariant-loop-rank g l = record {
-  on : (b : BookState) → IsAt b l.initial.self.wants (hub_seen g.C.Crew.seen l.initial.self)
-      → IsAt b l.self.wants (hub_seen g.C.Crew.seen l.self);
+  on : (phase : Phase) (from : Standing) → IsOnAs phase from (hub_seen g.C.Crew.seen l.initial.self)
+      → IsOnAs phase from (hub_seen g.C.Crew.seen l.self);
   frame : IsSetUpFrame l.self.book l.self.frame.items;
   same : IsSameRun l.initial.self.book l.self.book;
 }

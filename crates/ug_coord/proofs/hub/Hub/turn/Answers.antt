@@ -1,9 +1,21 @@
-use Rattle.std.proofs.Common.{refl, rules}
+use Rattle.std.proofs.Common.{Bool, true, false, refl, rules}
+use Rattle.std.specs.Prelude.{MatchBool}
+use Rattle.ug_coord.specs.Deeds.{Deciding, Reading, Standing}
 use Rattle.ug_coord.specs.HubViews.{hub_seen}
-use Rattle.ug_coord.specs.Reading.{HasBroken, HasFed, HasGone}
-use Rattle.ug_coord.proofs.Coursing.{broke_at, fed_at, gone_at}
-use Rattle.ug_coord.proofs.Whole.{broken_whole, fed_whole, gone_whole}
+use Rattle.ug_coord.specs.Hubs.{HubSeen, IsOnAs, IsOnIn, IsRested, MayRead, Phase, is_next}
+use Rattle.ug_coord.specs.Reading.{HasBroken, HasFed, HasGone, HasLacked}
+use Rattle.ug_coord.proofs.Coursing.{any_in, broke_by, broken_rests, deciding_rests, fed_by, gone_by, lacked_by, reading_reads, reading_rests, stays_in}
+use Rattle.ug_coord.proofs.Whole.{broken_whole, fed_whole, gone_whole, lacked_whole}
 use Rattle.ug_coord.proofs.hub.Hub.turn.Goals as goal
+
+pub read_rests : (result : Bool) (from : Standing) (h new : HubSeen)
+    → MatchBool result
+    ((b : Standing) → IsOnIn MayRead b h → IsOnIn (is_next Deciding) b new)
+    ((phase : Phase) (b : Standing) → IsOnAs phase b h → IsOnAs phase b new)
+    → IsOnIn (is_next Reading) from h → IsOnIn IsRested from new
+read_rests true from h new goes on = deciding_rests from new (goes from (reading_reads from h on))
+read_rests false from h new goes on =
+    reading_rests from new (stays_in (is_next Reading) from h new (λ phase is. goes phase from is) on)
 
 pub lose_all-requires : goal.lose_all-requires
 lose_all-requires g c =
@@ -12,7 +24,7 @@ lose_all-requires g c =
     record {
       on = (
         c.requires.on.0,
-        broke_at c.requires.on.0 (hub_seen g.C.Crew.seen c.args.self.now) _
+        broke_by c.requires.on.0 (hub_seen g.C.Crew.seen c.args.self.now) _ c.requires.more c.requires.told
             (broken_whole c.args.self.now.streams.len (g.C.Crew.seen c.args.self.now.crew) (g.C.Crew.seen c.take_turn.new.crew)
             c.args.self.now.streams.items c.take_turn.new.streams (search rules) broken) refl c.requires.on.1,
       );
@@ -23,32 +35,45 @@ hear_next-requires-clause-on g c =
     let fed : HasFed (g.C.Crew.seen c.args.self.now.crew) (g.C.Crew.seen c.take_turn.new.crew)
     c.args.self.now.streams.items c.take_turn.new.streams c.in-Fed.rank = search rules in (
       c.requires.on.0,
-      fed_at c.requires.on.0 (hub_seen g.C.Crew.seen c.args.self.now) _ c.in-Fed.rank
+      any_in (is_next Reading) c.requires.on.0 _
+          (fed_by c.requires.on.0 (hub_seen g.C.Crew.seen c.args.self.now) _ c.in-Fed.rank c.requires.more c.requires.told
           (fed_whole c.args.self.now.streams.len (g.C.Crew.seen c.args.self.now.crew) (g.C.Crew.seen c.take_turn.new.crew)
-          c.args.self.now.streams.items c.take_turn.new.streams c.in-Fed.rank (search rules) fed) refl c.requires.on.1,
+          c.args.self.now.streams.items c.take_turn.new.streams c.in-Fed.rank (search rules) fed) refl c.requires.on.1),
     )
 
-pub returns-in-Fed : goal.returns-in-Fed
-returns-in-Fed g c b on wants =
+pub returns-in-Fed-clause-on : goal.returns-in-Fed-clause-on
+returns-in-Fed-clause-on g c from on =
     let fed : HasFed (g.C.Crew.seen c.args.self.now.crew) (g.C.Crew.seen c.take_turn.new.crew)
     c.args.self.now.streams.items c.take_turn.new.streams c.in-Fed.rank = search rules in
-    c.hear_next.ensures.on b (fed_at b (hub_seen g.C.Crew.seen c.args.self.now) _ c.in-Fed.rank
+    read_rests c.hear_next.result from _ (hub_seen g.C.Crew.seen c.hear_next.new.self) c.hear_next.ensures.on
+    (fed_by from (hub_seen g.C.Crew.seen c.args.self.now) _ c.in-Fed.rank c.requires.more c.requires.told
     (fed_whole c.args.self.now.streams.len (g.C.Crew.seen c.args.self.now.crew) (g.C.Crew.seen c.take_turn.new.crew)
-    c.args.self.now.streams.items c.take_turn.new.streams c.in-Fed.rank (search rules) fed) refl on) wants
+    c.args.self.now.streams.items c.take_turn.new.streams c.in-Fed.rank (search rules) fed) refl on)
 
-pub returns-in-Gone : goal.returns-in-Gone
-returns-in-Gone g c b on wants =
+pub returns-in-Gone-clause-on : goal.returns-in-Gone-clause-on
+returns-in-Gone-clause-on g c from on =
     let gone : HasGone (g.C.Crew.seen c.args.self.now.crew) (g.C.Crew.seen c.take_turn.new.crew)
     c.args.self.now.streams.items c.take_turn.new.streams c.in-Gone.rank = search rules in
-    gone_at b (hub_seen g.C.Crew.seen c.args.self.now) _ c.in-Gone.rank
+    deciding_rests from _ (gone_by from (hub_seen g.C.Crew.seen c.args.self.now) _ c.in-Gone.rank c.requires.more
+    c.requires.told
     (gone_whole c.args.self.now.streams.len (g.C.Crew.seen c.args.self.now.crew) (g.C.Crew.seen c.take_turn.new.crew)
     c.args.self.now.streams.items c.take_turn.new.streams c.in-Gone.rank (search rules) gone) c.gone.ensures.done
-    c.gone.ensures.same.wide on
+    c.gone.ensures.same.wide on)
 
-pub returns-in-Failed : goal.returns-in-Failed
-returns-in-Failed g c b on wants =
+pub returns-in-Failed-clause-on : goal.returns-in-Failed-clause-on
+returns-in-Failed-clause-on g c from on =
     let broken : HasBroken (g.C.Crew.seen c.args.self.now.crew) (g.C.Crew.seen c.take_turn.new.crew)
     c.args.self.now.streams.items c.take_turn.new.streams = search rules in
-    c.lose_all.ensures b (broke_at b (hub_seen g.C.Crew.seen c.args.self.now) _
+    broken_rests from (hub_seen g.C.Crew.seen c.lose_all.new.self) (c.lose_all.ensures.on from
+    (broke_by from (hub_seen g.C.Crew.seen c.args.self.now) _ c.requires.more c.requires.told
     (broken_whole c.args.self.now.streams.len (g.C.Crew.seen c.args.self.now.crew) (g.C.Crew.seen c.take_turn.new.crew)
-    c.args.self.now.streams.items c.take_turn.new.streams (search rules) broken) refl on)
+    c.args.self.now.streams.items c.take_turn.new.streams (search rules) broken) refl on))
+
+pub returns-in-Wanting-clause-on : goal.returns-in-Wanting-clause-on
+returns-in-Wanting-clause-on g c from on =
+    let lacked : HasLacked (g.C.Crew.seen c.args.self.now.crew) (g.C.Crew.seen c.take_turn.new.crew)
+    c.args.self.now.streams.items c.take_turn.new.streams c.in-Wanting.rank = search rules in
+    reading_rests from _ (lacked_by from (hub_seen g.C.Crew.seen c.args.self.now) _ c.in-Wanting.rank c.requires.more
+    c.requires.told
+    (lacked_whole c.args.self.now.streams.len (g.C.Crew.seen c.args.self.now.crew) (g.C.Crew.seen c.take_turn.new.crew)
+    c.args.self.now.streams.items c.take_turn.new.streams c.in-Wanting.rank (search rules) lacked) refl on)

@@ -1,0 +1,200 @@
+-- How a solve by a crew ends.
+use Rattle.std.proofs.Common.{◌≡◌, inl, inr, ℕ, false, [], arith, Option, None, Some, IfSome, refl, sym, ap, subst, ◌∙◌}
+use Rattle.std.proofs.lemmas.Bool.{cases_lt, false≢true}
+use Rattle.std.proofs.lemmas.List.{get_or-replicate, get_or_past, length-replicate}
+use Rattle.std.specs.Prelude.{IsSomeAnd, replicate, slice_index_or}
+use Rattle.ug_disk.specs.Histories.{DiskSeen}
+use Rattle.ug_disk.specs.Crashes.{Leaves}
+use Rattle.ug_io.specs.Crews.{CrewSeen}
+use Rattle.ug_checkpoint.specs.declared.saver.Saver.{Saver}
+use Rattle.ug_rules.specs.State.{BookState}
+use Rattle.ug_rules.specs.Books.{IsSoundBook}
+use Rattle.ug_book.specs.declared.opening.Opening.{Opening}
+use Rattle.ug_book.specs.Openings.{opening_book}
+use Rattle.ug_book.specs.Views.{IsSameRun}
+use Rattle.ug_restart.specs.declared.saves.Saves.{Saves}
+use Rattle.ug_restart.specs.declared.outcome.End.{End}
+use Rattle.ug_restart.specs.declared.outcome.End.TheVariants.{Answered, Limited, Memory, Stranded}
+use Rattle.ug_restart.specs.declared.outcome.Outcome.{Outcome}
+use Rattle.ug_restart.specs.Saves.{book_of, saver_of}
+use Rattle.ug_restart.specs.Moments.{FindsIn, IsFoundNow, IsOfRun}
+use Rattle.ug_restart.specs.Going.{time}
+use Rattle.ug_restart.specs.Outcomes.{IfBook, IsLastSave, IsSavedOrCounted}
+use Rattle.ug_restart.proofs.Outcomes.{none_missed, saved_or_counted, still_covered, still_found, time_covered, time_found, time_missed}
+use Rattle.ug_coord.specs.Deeds.{Standing}
+use Rattle.ug_coord.specs.Ends.{is_ended, ranks_of}
+use Rattle.ug_coord.specs.Hubs.{EndsFrom, HasCoordinated, IsFresh, StaysSound, beginning}
+use Rattle.ug_coord.specs.Keeping.{Begins, HasConcluded, HasKept, IsBegun, IsKeptSafe, IsNothing, IsOurs, KeptSeen, Moves, end_kept, missed_by, moves, savers, unsaved_by}
+use Rattle.ug_coord.proofs.Kept.{moves_on, sound_last}
+
+-- ---- memory was wanting at once
+
+safe_still : (saver : Option Saver) (disk : DiskSeen) → IsKeptSafe saver disk disk
+safe_still None disk = tt
+safe_still (Some saver) disk = λ now. still_covered saver disk.told disk.told refl now
+
+ended_nothing : (end : End) (b : BookState) → end ≡ Memory → is_ended end b
+ended_nothing end b is = subst (λ (e : End). is_ended e b) (sym is) tt
+
+none_lives : (n rank : ℕ) → slice_index_or (replicate n false) rank false ≡ false
+none_lives n rank = elim (cases_lt rank n) [
+  | inl below ↦ get_or-replicate n rank false false below
+  | inr past ↦ get_or_past (replicate n false) rank false (omega (arith, past, length-replicate n false))
+]
+
+pub nothing_coordinated : (b : BookState) (seen : CrewSeen) (saver : Option Saver) (outcome : Outcome)
+    (disk : DiskSeen) → IsFresh seen (ranks_of b) → IsNothing outcome
+    → HasCoordinated b seen outcome.end (IsKeptSafe saver disk disk)
+nothing_coordinated b seen saver outcome disk fresh none = record {
+  faults = seen.faults;
+  now = beginning b seen.faults;
+  come = record { deeds = []; course = refl };
+  shown = fresh.said;
+  closed = λ rank alive. absurd (false≢true (sym (none_lives (ranks_of b) rank) ∙ alive));
+  ended = ended_nothing outcome.end b none.ended;
+  safe = λ sound. safe_still saver disk;
+}
+
+saved_nothing : (saver : Option Saver) (outcome : Outcome) (disk : DiskSeen) → outcome.end ≡ Memory
+    → IfSome saver (λ s. IsSavedOrCounted outcome disk.told)
+saved_nothing None outcome disk is = tt
+saved_nothing (Some saver) outcome disk is =
+    subst (λ (e : End). IfBook e (λ b. IsSomeAnd outcome.last
+    (IsLastSave outcome disk.told b))) (sym is) tt
+
+found_nothing : (b : BookState) (saver : Option Saver) (disk : DiskSeen)
+    → IfSome saver (λ s. IsFoundNow (IsOfRun b) s disk.told → Leaves (FindsIn (IsOfRun b)) disk.told disk.told)
+found_nothing b None disk = tt
+found_nothing b (Some saver) disk = λ now. still_found (IsOfRun b) saver disk.told disk.told refl now
+
+pub nothing_kept : (b : BookState) (saver : Option Saver) (outcome : Outcome) (disk : DiskSeen)
+    → IsNothing outcome → HasKept b saver outcome disk disk
+nothing_kept b saver outcome disk none = record {
+  untouched = λ no. record { told = refl; calm = refl; missed = none.missed; unsaved = none.unsaved };
+  saved = saved_nothing saver outcome disk none.ended;
+  found = found_nothing b saver disk;
+  missed = none_missed outcome disk disk none.missed refl;
+}
+
+-- ---- the ending book
+
+book_has : (P : BookState → Type 0) (end : End) (b : BookState) → is_ended end b → P b → IfBook end P
+book_has P (Answered own) b is holds = subst P (sym is.0) holds
+book_has P (Limited own) b is holds = subst P (sym is.0) holds
+book_has P (Stranded own) b is holds = subst P (sym is.0) holds
+book_has P Memory b is holds = tt
+
+-- all that was saved
+pub all_moved : (from : Standing) (seen : CrewSeen) (book : BookState) (old mid : KeptSeen) (disk : DiskSeen)
+    (outcome : Outcome) (e : EndsFrom from seen book old mid) → is_ended outcome.end book → IsOurs mid book
+    → (c : HasConcluded outcome mid disk)
+    → Moves (StaysSound from e.now e.come) (Unit {0}) old (record { saves = c.saves; disk = disk })
+all_moved from seen book old mid disk outcome e is ours c =
+    moves_on (IfBook outcome.end IsSoundBook) (StaysSound from e.now e.come) (IfBook outcome.end (IsOurs mid))
+    (Unit {0}) old mid (record { saves = c.saves; disk = disk })
+    (λ sound. book_has IsSoundBook outcome.end book is
+    (subst IsSoundBook e.its (sound_last from e.come.deeds e.now e.come.course sound)))
+    (λ none. book_has (IsOurs mid) outcome.end book is ours) e.moves c.moves
+
+safe_moved : (Covers : Type 0) (a b : Option Saves) (x y : DiskSeen) → moves Covers (Unit {0}) a x b y → Covers
+    → IsKeptSafe (savers a) x y
+safe_moved Covers None b x y one covers = tt
+safe_moved Covers (Some a) None x y one covers = absurd one
+safe_moved Covers (Some a) (Some b) x y one covers = λ now.
+    time_covered Covers (Unit {0}) a b x y one covers now
+
+pub solved_coordinated : (b : BookState) (faults : ℕ) (seen : CrewSeen)
+    (book : BookState) (old mid : KeptSeen) (disk : DiskSeen) (outcome : Outcome)
+    → EndsFrom (beginning b faults) seen book old mid → is_ended outcome.end book → IsOurs mid book
+    → HasConcluded outcome mid disk
+    → HasCoordinated b seen outcome.end (IsKeptSafe (savers old.saves) old.disk disk)
+solved_coordinated b faults seen book old mid disk outcome e is ours c = record {
+  faults = faults;
+  now = e.now;
+  come = e.come;
+  shown = e.shown;
+  closed = e.closed;
+  ended = subst (is_ended outcome.end) (sym e.its) is;
+  safe = λ sound. safe_moved (StaysSound (beginning b faults) e.now e.come) old.saves c.saves old.disk disk
+      (all_moved (beginning b faults) seen book old mid disk outcome e is ours c) sound;
+}
+
+-- ---- what stands on the disk
+
+kept_moved : (o : Opening) (outcome : Outcome) (a b : Option Saves) (x y : DiskSeen) (Covers : Type 0)
+    → IfSome a (IsBegun o) → moves Covers (Unit {0}) a x b y → outcome.missed ≡ missed_by b
+    → outcome.unsaved ≡ unsaved_by b → IfSome (savers a) (λ s. IsSavedOrCounted outcome y.told)
+    → HasKept (opening_book o) (savers a) outcome x y
+kept_moved o outcome None None x y Covers own one missed unsaved saved = record {
+  untouched = λ none. record {
+    told = ap (λ (d : DiskSeen). d.told) one;
+    calm = ap (λ (d : DiskSeen). d.faults) one;
+    missed = missed;
+    unsaved = unsaved;
+  };
+  saved = tt;
+  found = tt;
+  missed = none_missed outcome x y missed (ap (λ (d : DiskSeen). d.faults) one);
+}
+kept_moved o outcome None (Some b) x y Covers own one missed unsaved saved = absurd one
+kept_moved o outcome (Some a) None x y Covers own one missed unsaved saved = absurd one
+kept_moved o outcome (Some a) (Some b) x y Covers own one missed unsaved saved = record {
+  untouched = λ none. absurd (false≢true (sym none));
+  saved = saved;
+  found = λ now. time_found Covers (Unit {0}) a b x y o own.own one tt now;
+  missed = time_missed Covers (Unit {0}) a b outcome x y own.missed missed one;
+}
+
+saved_end : (outcome : Outcome) (a b : Option Saves) (x y : DiskSeen) → end_kept outcome.end outcome.last a x b y
+    → outcome.missed ≡ missed_by b → outcome.unsaved ≡ unsaved_by b
+    → IfSome (savers a) (λ s. IsSavedOrCounted outcome y.told)
+saved_end outcome None b x y is missed unsaved = tt
+saved_end outcome (Some a) None x y is missed unsaved = absurd is
+saved_end outcome (Some a) (Some b) x y is missed unsaved =
+    saved_or_counted outcome outcome.end outcome.last (time a x) (time b y) missed unsaved is
+
+some_saver : (Covers Ours : Type 0) (a b : Option Saves) (x y : DiskSeen) (P : Type 0) → moves Covers Ours a x b y
+    → IfSome (savers b) (λ s. P) → IfSome (savers a) (λ s. P)
+some_saver Covers Ours None b x y P one holds = tt
+some_saver Covers Ours (Some a) None x y P one holds = absurd one
+some_saver Covers Ours (Some a) (Some b) x y P one holds = holds
+
+pub solved_kept : (o : Opening) (from : Standing) (seen : CrewSeen) (book : BookState) (old mid : KeptSeen)
+    (disk : DiskSeen) (outcome : Outcome) → EndsFrom from seen book old mid → is_ended outcome.end book
+    → IsOurs mid book → IfSome old.saves (IsBegun o) → HasConcluded outcome mid disk
+    → HasKept (opening_book o) (savers old.saves) outcome old.disk disk
+solved_kept o from seen book old mid disk outcome e is ours own c =
+    kept_moved o outcome old.saves c.saves old.disk disk (StaysSound from e.now e.come) own
+    (all_moved from seen book old mid disk outcome e is ours c) c.missed c.unsaved
+    (some_saver (StaysSound from e.now e.come) (Unit {0}) old.saves mid.saves old.disk mid.disk
+    (IsSavedOrCounted outcome disk.told) e.moves
+    (saved_end outcome mid.saves c.saves mid.disk disk c.became c.missed c.unsaved))
+
+-- ---- the saver that there was
+
+pub its_saver : (o : Opening) (saver : Option Saver) (saves : Option Saves) → Begins o saver saves
+    → saver ≡ savers saves
+its_saver o None None begins = refl
+its_saver o None (Some saves) begins = absurd begins
+its_saver o (Some saver) None begins = absurd begins
+its_saver o (Some saver) (Some saves) begins = ap (λ (s : Saves). Some (saver_of s)) (sym begins)
+
+pub begun_so : (o : Opening) (saver : Option Saver) (saves : Option Saves) → Begins o saver saves
+    → IfSome saves (IsBegun o)
+begun_so o saver None begins = tt
+begun_so o None (Some saves) begins = absurd begins
+begun_so o (Some saver) (Some saves) begins =
+    subst (IsBegun o) (sym begins) (record { own = refl; missed = refl; unsaved = refl })
+
+-- what is saved first is of the run
+pub begun_ours : (o : Opening) (saves : Option Saves) (b : BookState) → IfSome saves (IsBegun o)
+    → b ≡ opening_book o → IfSome saves (λ s. IsSameRun (book_of s) b)
+begun_ours o None b its same = tt
+begun_ours o (Some saves) b its same =
+    let own : b ≡ book_of saves = same ∙ ap opening_book (sym its.own) in
+    record {
+      problem = ap (λ (k : BookState). k.problem) own;
+      run = ap (λ (k : BookState). k.run) own;
+      settings = ap (λ (k : BookState). k.settings) own;
+      wide = ap (λ (k : BookState). ranks_of k) own;
+    }

@@ -1,0 +1,67 @@
+use Rattle.std.proofs.Common.{sym, ap, subst, ◌∙◌}
+use Rattle.std.specs.Prelude.{replicate}
+use Rattle.ug_stream.specs.Streams.{first}
+use Rattle.ug_rules.specs.State.{BookState}
+use Rattle.ug_book.specs.Openings.{opening_book}
+use Rattle.ug_coord.specs.Ends.{is_ended, ranks_of}
+use Rattle.ug_coord.specs.Hubs.{beginning}
+use Rattle.ug_coord.specs.Keeping.{savers}
+use Rattle.ug_coord.specs.Keepers.{kept_seen}
+use Rattle.ug_coord.proofs.Coursing.{begun_on}
+use Rattle.ug_coord.proofs.Ends.{begun_ours, nothing_coordinated, nothing_kept, solved_coordinated, solved_kept}
+use Rattle.ug_coord.proofs.Kept.{ends_ours}
+use Rattle.ug_coord.proofs.solving.solve.Goals as goal
+
+pub returns-in-Err-clause-coordinated : goal.returns-in-Err-clause-coordinated
+returns-in-Err-clause-coordinated g c =
+    nothing_coordinated (opening_book c.args.opening.now) (g.C.Crew.seen c.args.crew) (savers c.args.keeper.saves)
+    c.nothing.result (g.D.Disk.seen c.args.disk.now) c.requires.fresh c.nothing.ensures
+
+pub returns-in-Err-clause-kept : goal.returns-in-Err-clause-kept
+returns-in-Err-clause-kept g c =
+    nothing_kept (opening_book c.args.opening.now) (savers c.args.keeper.saves) c.nothing.result
+    (g.D.Disk.seen c.args.disk.now) c.nothing.ensures
+
+pub run-requires-clause-on : goal.run-requires-clause-on
+run-requires-clause-on g c = (
+  beginning (opening_book c.args.opening.now) (g.C.Crew.seen c.args.crew).faults,
+  begun_on (opening_book c.args.opening.now) _ c.requires.fresh c.in-Ok.ensures.book
+      (c.in-Ok.ensures.streams ∙ ap (λ (b : BookState). replicate (ranks_of b) first) c.in-Ok.ensures.book),
+)
+
+pub run-requires-clause-ours : goal.run-requires-clause-ours
+run-requires-clause-ours g c = begun_ours c.args.opening.now c.args.keeper.saves _ c.requires.begun c.in-Ok.ensures.book
+
+pub returns-clause-coordinated : goal.returns-clause-coordinated
+returns-clause-coordinated g c =
+    let b = opening_book c.args.opening.now in
+    let faults = (g.C.Crew.seen c.args.crew).faults in
+    let old = kept_seen c.args.keeper (g.D.Disk.seen c.args.disk.now) in
+    let mid = kept_seen c.run.new.keeper (g.D.Disk.seen c.run.new.disk) in
+    let ends = c.run.ensures.ends (beginning b faults)
+    (begun_on (opening_book c.args.opening.now) _ c.requires.fresh c.in-Ok.ensures.book
+    (c.in-Ok.ensures.streams ∙ ap (λ (b : BookState). replicate (ranks_of b) first) c.in-Ok.ensures.book)) in
+    solved_coordinated b faults (g.C.Crew.seen c.run.new.self.crew) c.run.new.self.book old mid
+    (g.D.Disk.seen c.conclude-outcome.new.disk) c.conclude-outcome.result ends
+    (subst (λ e. is_ended e c.run.new.self.book) (sym c.conclude-outcome.ensures.end) c.end_of-end.ensures)
+    (ends_ours (beginning b faults) (g.C.Crew.seen c.run.new.self.crew) c.run.new.self.book old mid _ _ ends
+    c.run.ensures.same
+    (begun_ours c.args.opening.now c.args.keeper.saves _ c.requires.begun c.in-Ok.ensures.book))
+    c.conclude-outcome.ensures.concluded
+
+pub returns-clause-kept : goal.returns-clause-kept
+returns-clause-kept g c =
+    let b = opening_book c.args.opening.now in
+    let faults = (g.C.Crew.seen c.args.crew).faults in
+    let old = kept_seen c.args.keeper (g.D.Disk.seen c.args.disk.now) in
+    let mid = kept_seen c.run.new.keeper (g.D.Disk.seen c.run.new.disk) in
+    let ends = c.run.ensures.ends (beginning b faults)
+    (begun_on (opening_book c.args.opening.now) _ c.requires.fresh c.in-Ok.ensures.book
+    (c.in-Ok.ensures.streams ∙ ap (λ (b : BookState). replicate (ranks_of b) first) c.in-Ok.ensures.book)) in
+    solved_kept c.args.opening.now (beginning b faults) (g.C.Crew.seen c.run.new.self.crew) c.run.new.self.book old mid
+    (g.D.Disk.seen c.conclude-outcome.new.disk) c.conclude-outcome.result ends
+    (subst (λ e. is_ended e c.run.new.self.book) (sym c.conclude-outcome.ensures.end) c.end_of-end.ensures)
+    (ends_ours (beginning b faults) (g.C.Crew.seen c.run.new.self.crew) c.run.new.self.book old mid _ _ ends
+    c.run.ensures.same
+    (begun_ours c.args.opening.now c.args.keeper.saves _ c.requires.begun c.in-Ok.ensures.book))
+    c.requires.begun c.conclude-outcome.ensures.concluded
