@@ -7,7 +7,7 @@ use Rattle.std.proofs.lemmas.Grind.{flat_map-append}
 use Rattle.std.proofs.Math.Seq.{drop-append_seam}
 use Rattle.ug_frames.specs.declared.decoded.Decoded.{Decoded}
 use Rattle.ug_frames.specs.declared.decoded.Decoded.TheVariants.{NeedMore, Bad, Whole}
-use Rattle.ug_frames.specs.Fronts.{BeginsWith, IsCutShort, IsDecoded}
+use Rattle.ug_frames.specs.Fronts.{BeginsWith, IsDecoded}
 use Rattle.ug_frames.specs.Laws.{FramesAreUnique}
 use Rattle.ug_stream.specs.Streams.{IsBadAt, IsGiven, Waiting, fed, further, passed, shut}
 use Rattle.ug_stream.specs.Laws.{AreGiven, GivesWhatCame, IsOneReading, IsReadInOneWay, ShortIsOver, joined, messages}

@@ -1,4 +1,4 @@
-ghost use Rattle.std.specs.Prelude.{◌≡◌, ◌≤◌, ◌+◌, [], false, drop, length, vec_len, IfOk, OnOk, OnErr};
+ghost use Rattle.std.specs.Prelude.{◌≡◌, ◌≤◌, ◌+◌, [], drop, length, vec_len, IfOk, OnOk, OnErr};
 ghost use Rattle.ug_stream.specs.Streams.{IsNext, fed, first, passed, shut};
 
 use crate::framed::Framed;
@@ -58,6 +58,14 @@ impl Assembler {
         self.bytes.extend_from_slice(piece)
     }
 
+    /// Lets the bytes that wait go for good, as behind bad ones.
+    pub fn shut(&mut self)
+        ensures { self.new ≡ shut self.old }
+    {
+        self.empty();
+        self.bad = true;
+    }
+
     /// Where in the stream the first byte stands that waits. The count stops at its greatest value.
     pub fn place(&self) -> u64
         ensures { result ≡ self.now.at }
@@ -95,15 +103,6 @@ impl Assembler {
         ensures { result.now ≡ self.now.bytes }
     {
         &self.bytes[self.given..]
-    }
-
-    // Lets the bytes that wait go for good.
-    fn shut(&mut self)
-        requires { self.old.bad ≡ false }
-        ensures { self.new ≡ shut self.old }
-    {
-        self.empty();
-        self.bad = true;
     }
 
     // Passes over so many of the bytes that wait.

@@ -1,5 +1,4 @@
-use Rattle.std.proofs.Common.{ap, sym, subst, ◌∙◌}
-use Rattle.ug_frames.specs.declared.decoded.Decoded.TheVariants.{Bad}
+use Rattle.std.proofs.Common.{ap, subst}
 use Rattle.ug_frames.specs.Fronts.{IsDecoded}
 use Rattle.ug_stream.specs.Streams.{Waiting}
 use Rattle.ug_stream.proofs.Reading.{bad_so}
