@@ -22,17 +22,17 @@ use Rattle.ug_worker.specs.Laws.{AreOnce, IsSetUpFor, WorkersAreHonest, tickets_
 use Rattle.ug_worker.proofs.Told.{behind, came_is_no_order, came_is_no_report, first_or, in_front, in_more, same_order, same_report, told_is_no_order, took_is_no_report}
 
 -- nothing stands in a list of nothing
-nothing_in : {X : Type 0} → (x : X) → Contains [] x → ⊥
+pub nothing_in : {X : Type 0} → (x : X) → Contains [] x → ⊥
 nothing_in x (k, lt, same) = omega (arith, lt)
 
 abbrev work_or : Ordered → Option Ordered → Ordered
 work_or other None = other
 work_or other (Some work) = work
 
-same_work : (a b : Ordered) → Some a ≡ Some b → a ≡ b
+pub same_work : (a b : Ordered) → Some a ≡ Some b → a ≡ b
 same_work a b same = ap (work_or a) same
 
-abbrev work_count : Option Ordered → ℕ
+abbrev pub work_count : Option Ordered → ℕ
 work_count None = 0
 work_count (Some work) = 1
 
@@ -53,11 +53,11 @@ changes_in report = []
 
 -- ---- tickets that stand once
 
-once_rest : (xs ys : List Ticket) → AreOnce (xs ++ ys) → AreOnce ys
+pub once_rest : (xs ys : List Ticket) → AreOnce (xs ++ ys) → AreOnce ys
 once_rest [] ys once = once
 once_rest (x ∷ xs) ys once = once_rest xs ys once.1
 
-once_front : (xs ys : List Ticket) → AreOnce (xs ++ ys) → AreOnce xs
+pub once_front : (xs ys : List Ticket) → AreOnce (xs ++ ys) → AreOnce xs
 once_front [] ys once = tt
 once_front (x ∷ xs) ys once = ((λ there. once.0 (Contains-append_left xs ys x there)), once_front xs ys once.1)
 
@@ -159,7 +159,7 @@ under_named basis past (Done own cutoff count ending) ticket named said =
 under_named basis past Ended ticket named said = absurd (none_is_some ticket named)
 
 -- so an order of work had the ticket
-told_ticket : (basis : Basis) (past : List Deed) (report : Report) (ticket : Ticket)
+pub told_ticket : (basis : Basis) (past : List Deed) (report : Report) (ticket : Ticket)
     → ticket_of report ≡ Some ticket → AreSaid basis past → Contains past (Told report)
     → Contains (tickets_in past) ticket
 told_ticket basis [] report ticket named said there = absurd (nothing_in _ there)
@@ -184,7 +184,7 @@ told_ticket basis (Told own ∷ past) report ticket named said there =
     ]
 
 -- what was told is among the reports, and the other way round
-told_there : (past : List Deed) (report : Report) → Contains (reports_in past) report
+pub told_there : (past : List Deed) (report : Report) → Contains (reports_in past) report
     → Contains past (Told report)
 told_there [] report there = absurd (nothing_in _ there)
 told_there (Came bytes ∷ past) report there = behind _ past _ (told_there past report there)
@@ -212,7 +212,7 @@ since_among (Told own ∷ past) report there = elim (first_or own (told_since pa
   | inr later ↦ behind own (reports_in past) report (since_among past report later)
 ]
 
-in_among : (root : List Interval) (reports more : List Report) (ticket : Ticket) (count : ℕ) (x : List ℤ)
+pub in_among : (root : List Interval) (reports more : List Report) (ticket : Ticket) (count : ℕ) (x : List ℤ)
     → ((report : Report) → Contains reports report → Contains more report)
     → IsInHands root reports ticket count x → IsInHands root more ticket count x
 in_among root reports more ticket count x among h = record {

@@ -18,7 +18,7 @@ use Rattle.ug_worker.specs.Serving.{HasFailed, HasMetBad, HasNext, HasWanted, Is
 
 -- ---- one deed more
 
-course_more : (a : Standing) (deeds : List Deed) (b c : Standing) (deed : Deed) → IsCourse a deeds b
+pub course_more : (a : Standing) (deeds : List Deed) (b c : Standing) (deed : Deed) → IsCourse a deeds b
     → Does b deed c → IsCourse a (deeds ++ deed ∷ []) c
 course_more a [] b c deed same does =
     (c, subst (λ (old : Standing). Does old deed c) same does, refl)
@@ -33,11 +33,11 @@ come_more b c deed h does = record {
 
 -- ---- no bad bytes so far
 
-fed_so : (w : Waiting) (bytes : List ℕ) → w.bad ≡ false
+pub fed_so : (w : Waiting) (bytes : List ℕ) → w.bad ≡ false
     → fed w bytes ≡ record w { bytes = w.bytes ++ bytes }
 fed_so w bytes fine = rw fine refl
 
-fed_fine : (w : Waiting) (bytes : List ℕ) → w.bad ≡ false → (fed w bytes).bad ≡ false
+pub fed_fine : (w : Waiting) (bytes : List ℕ) → w.bad ≡ false → (fed w bytes).bad ≡ false
 fed_fine w bytes fine = ap (λ (fed : Waiting). fed.bad) (fed_so w bytes fine) ∙ fine
 
 course_fine : (a : Standing) (deeds : List Deed) (b : Standing) → a.waiting.bad ≡ false
@@ -200,14 +200,16 @@ on_told old new w s t report due carried all faults h = record {
 }
 
 part_told : (now : Standing) (report : Report) (next : Stage) (front rest : List ℕ)
-    (b : Option (List Said)) → IsTold now.stage report next → reports.spelled report ≡ front ++ rest
+    (b : Option (List Said)) → IsTold now.stage report next → reports.IsCarried report
+    → reports.spelled report ≡ front ++ rest
     → IfSome b (λ s. s ≡ now.said ++ told front)
     → IfSome b (λ s. (s ≡ now.said) ⊎ IsPartTold now s)
-part_told now report next front rest None due parts same = tt
-part_told now report next front rest (Some s) due parts same = inr (record {
+part_told now report next front rest None due carried parts same = tt
+part_told now report next front rest (Some s) due carried parts same = inr (record {
   report = report;
   next = next;
   due = due;
+  carried = carried;
   front = front;
   rest = rest;
   parts = parts;
@@ -220,15 +222,15 @@ rose_some old new zero (inr (full, same)) = absurd (omega (arith, zero, full))
 
 -- a front of it, before a call failed
 pub failed_told : (old new : LinkSeen) (w : Waiting) (s t : Stage) (report : Report)
-    → IsTold s report t → HasToldFront old new (reports.spelled report)
+    → IsTold s report t → reports.IsCarried report → HasToldFront old new (reports.spelled report)
     → Rose old.faults new.faults → StandsOn old w s → HasFailed new
-failed_told old new w s t report due front rose h =
+failed_told old new w s t report due carried front rose h =
     let now : Standing = record { said = h.said; waiting = w; stage = s } in
     record {
       now = now;
       front = record {
         come = h.on.come;
-        said = part_told now report t front.front front.rest new.said due front.parts
+        said = part_told now report t front.front front.rest new.said due carried front.parts
             (said_more old.said new.said h.said (told front.front) front.told.said h.on.said);
       };
       cause = inl (rose_some old.faults new.faults h.on.faults rose);

@@ -5,7 +5,7 @@ use Rattle.ug_worker.specs.declared.kept.Kept.{Kept}
 use Rattle.ug_worker.specs.Seats.{SeatSeen}
 
 -- what the wire shows, and what is kept
-abbrev pub seat_seen : {R L : Type 0} → (L → LinkSeen) → Wire R L → Kept → SeatSeen
+abbrev pub seat_seen : {L : Type 0} → (L → LinkSeen) → Wire L → Kept → SeatSeen
 seat_seen seen wire kept = record {
   end = wire.end;
   link = seen wire.link;

@@ -1,5 +1,5 @@
 -- How a worker that serves a link stands, and how its service ends.
-use Rattle.std.specs.Prelude.{◌≡◌, ◌⊎◌, ℕ, ◌<◌, Bool, true, false, List, ◌++◌, Option, Some, None, IfSome}
+use Rattle.std.specs.Prelude.{◌≡◌, ◌⊎◌, ℕ, ◌<◌, true, false, List, ◌++◌, Option, Some, None, IfSome}
 use Rattle.ug_io.specs.declared.link.Said.{Said}
 use Rattle.ug_io.specs.Links.{LinkSeen, told}
 use Rattle.ug_frames.specs.declared.decoded.Decoded.TheVariants.{Bad}
@@ -41,6 +41,7 @@ pub record IsPartTold (now : Standing) (said : List Said) : Type 0 where
   pub report : Report
   pub next : Stage
   pub due : IsTold now.stage report next
+  pub carried : reports.IsCarried report
   pub front : List ℕ
   pub rest : List ℕ
   pub parts : reports.spelled report ≡ front ++ rest
@@ -117,8 +118,7 @@ pub record HasNext (seen : LinkSeen) (waiting : Waiting) (stage : Stage) (order 
   pub place : at ≡ before.at
 
 -- what came next: an order, or none, where none was there or the service has ended
-abbrev pub comes_next : Option Served → LinkSeen → Waiting → Stage → ℕ → Bool → Option Order → Type 0
-comes_next end seen waiting stage at wait (Some order) =
+abbrev pub comes_next : Option Served → LinkSeen → Waiting → Stage → ℕ → Option Order → Type 0
+comes_next end seen waiting stage at (Some order) =
     (end ≡ None) × HasNext seen waiting stage order at
-comes_next end seen waiting stage at true None = has_ended end seen
-comes_next end seen waiting stage at false None = stands_as end seen waiting stage
+comes_next end seen waiting stage at None = stands_as end seen waiting stage

@@ -2,6 +2,9 @@
 use Rattle.std.specs.Prelude.{◌≡◌, ◌⊎◌, ℕ, ◌+◌, ◌<◌, Bool, true, false, [], length, Option, Some, None}
 use Rattle.ug_base.specs.Tasks.{TaskState}
 use Rattle.ug_worker.specs.Engagements.{Engaged, IsDoneBy, IsSince, Stands, due_of, steps_of_round}
+use Rattle.ug_worker.specs.declared.pace.Pace.{Pace}
+use Rattle.ug_worker.specs.declared.pace.Pace.TheVariants as pace
+use Rattle.ug_worker.specs.declared.search.Search.{Search}
 use Rattle.ug_worker.specs.declared.search.Left.{Left}
 use Rattle.ug_worker.specs.declared.search.Left.TheVariants.{Nothing, Dropped, Wanting}
 
@@ -48,6 +51,13 @@ module _ (At : Option Engaged → Type 0) where
   EndsAs Dropped task = At None
   EndsAs Wanting task = Stands At
 
-  -- the same, said as one thing
-  pub record IsLeft (left : Left) (task : TaskState) : Type 0 where
-    pub so : EndsAs left task
+  -- it stands to the task that it searches, if it has one, before a round
+  abbrev pub IsAtWork : Option Search → Type 0
+  IsAtWork None = At None
+  IsAtWork (Some search) = StandsAt search.task 0 search.collect
+
+  -- so it is behind a step, or no work comes any more
+  abbrev pub HasPaced : Type 0 → Option Search → Pace → Type 0
+  HasPaced Over search pace.On = IsAtWork search
+  HasPaced Over search pace.Waits = (search ≡ None) × At None
+  HasPaced Over search pace.Over = Over

@@ -1,3 +1,4 @@
+ghost use Rattle.ug_worker.specs.CrewLaws.{WorkersAreHeard};
 ghost use Rattle.ug_worker.specs.Laws.{CoursesAreTranscripts, WorkersAreHonest};
 
 /// What a worker at a link tells is true by what it heard and told before, whatever comes: it is in
@@ -9,4 +10,10 @@ pub fn courses_are_transcripts()
 /// What such workers tell is honest, where no ticket was ordered twice.
 pub fn workers_are_honest()
     ensures { WorkersAreHonest }
+{}
+
+/// What is heard from a rank of a crew of workers, whatever the schedule, is what a worker tells that
+/// hears a front of what was told to the rank.
+pub fn workers_are_heard()
+    ensures { WorkersAreHeard }
 {}

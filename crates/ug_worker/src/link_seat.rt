@@ -17,7 +17,6 @@ use crate::seat::Seat;
 use crate::took::{Took, Untaken};
 use crate::wire::Wire;
 use std::alloc::{AllocError, Global};
-use std::sync::Wait;
 use ug_base::Task;
 use ug_branch::Params;
 use ug_frames::{Ending, Order, Report};
@@ -27,16 +26,28 @@ use ug_rows::{IntBox, Point};
 
 /// A seat at a worker's end of a link.
 #[derive(Drop)]
-pub struct LinkSeat<'a, R, L> {
-    pub rt: &'a R,
+pub struct LinkSeat<L> {
     pub alloc: Global,
-    pub wire: Wire<'a, R, L>,
+    pub wire: Wire<L>,
     pub kept: Kept,
 }
 
-impl<'a, R: Wait, L: Link + Drop> LinkSeat<'a, R, L> {
+impl<L: Link + Drop> LinkSeat<L> {
     ghost use Rattle.ug_frames.specs.declared.order.Order.{Order};
     ghost use Rattle.ug_worker.specs.SeatViews.{seat_seen};
+
+    // No order is there: more may come, or the service has ended.
+    fn idle(&self) -> Took
+        requires { IsSeated (seat_seen L.seen self.now.wire self.now.kept) None }
+        ensures { HasTaken
+            (IsSeated (seat_seen L.seen self.now.wire self.now.kept))
+            (IsOver (seat_seen L.seen self.now.wire self.now.kept)) result }
+    {
+        match self.wire.end {
+            None => Took::Wait,
+            Some(_) => Took::Over,
+        }
+    }
 
     // Does as is ordered where there is no task: takes a task, or ends, or goes on.
     fn receive(&mut self, order: Order) -> Option<Took>
@@ -225,7 +236,7 @@ impl<'a, R: Wait, L: Link + Drop> LinkSeat<'a, R, L> {
     }
 }
 
-impl<R: Wait, L: Link + Drop> Seat for LinkSeat<'_, R, L> {
+impl<L: Link + Drop> Seat for LinkSeat<L> {
     ghost use Rattle.ug_worker.specs.Seats.{IsOver, IsSeated};
     ghost use Rattle.ug_worker.specs.SeatViews.{seat_seen};
 
@@ -234,21 +245,21 @@ impl<R: Wait, L: Link + Drop> Seat for LinkSeat<'_, R, L> {
     ghost over = { λ seat. IsOver (seat_seen L.seen seat.wire seat.kept) };
 
     fn take(&mut self) -> Result<Took, Untaken> {
-        for _ in self.rt.forever() {
-            let Some(order) = self.wire.next(true) else {
-                return Ok(Took::Over);
+        for _ in 0..u64::MAX {
+            let Some(order) = self.wire.next() else {
+                return Ok(self.idle());
             };
             if let Some(took) = self.receive(order) {
                 return Ok(took);
             }
         }
-        unreachable!()
+        Ok(Took::Wait)
     }
 
     fn look(&mut self) -> Reply {
         let mut cutoff = None;
-        for _ in self.rt.forever() {
-            let Some(order) = self.wire.next(false) else {
+        for _ in 0..u64::MAX {
+            let Some(order) = self.wire.next() else {
                 return self.reply(cutoff);
             };
             if !self.obey(order, &mut cutoff) {
@@ -259,7 +270,7 @@ impl<R: Wait, L: Link + Drop> Seat for LinkSeat<'_, R, L> {
                 };
             }
         }
-        unreachable!()
+        self.reply(cutoff)
     }
 
     fn solution(&mut self, point: Point) {
@@ -314,8 +325,9 @@ impl<R: Wait, L: Link + Drop> Seat for LinkSeat<'_, R, L> {
         self.wire.want();
     }
 
-    // A `take` waits by itself.
+    // Whether the service has ended is found by the next `take`.
     fn rest(&mut self) -> bool {
+        self.wire.goes_on(true);
         true
     }
 }

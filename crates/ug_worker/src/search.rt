@@ -4,12 +4,11 @@ ghost use Rattle.std.specs.Prelude.{◌≡◌, ◌<◌, ◌≤◌, ◌+◌, ◌*
 ghost use Rattle.ug_problem.specs.Better.{IsSmallCutoff};
 ghost use Rattle.ug_base.specs.Tasks.{IsLeastFloor, IsTask};
 ghost use Rattle.ug_worker.specs.Engagements.{HasBegun, IsReplied, Stands, lowered};
-ghost use Rattle.ug_worker.specs.Workers.{EndsAs, HasHanded, HasStepped, HasGiven, HasMade, IsLeft, StandsAt};
+ghost use Rattle.ug_worker.specs.Workers.{EndsAs, HasHanded, HasStepped, HasGiven, HasMade, StandsAt};
 
 use crate::reply::Reply;
 use crate::seat::Seat;
 use std::alloc::AllocError;
-use std::sync::Wait;
 use ug_base::{Step, Task};
 
 /// How many steps a worker makes between two looks at its orders.
@@ -35,34 +34,20 @@ pub struct Search {
 }
 
 impl Search {
-    /// Searches the task, which was begun, until no box is left or it is dropped.
-    pub fn run<R: Wait, S: Seat>(&mut self, rt: &R, seat: &mut S) -> Left
+    /// Begins with a task: does as was ordered before its first round; how the worker stands to a
+    /// task that ends here.
+    pub fn begin<S: Seat>(&mut self, seat: &mut S) -> Result<(), Left>
         requires { HasBegun (S.at seat.old) self.old.task }
-        ensures { IsLeft (S.at seat.new) result self.new.task }
+        ensures ok { OnOk result (StandsAt (S.at seat.new) self.new.task 0 self.new.collect) }
+        ensures err { IfErr result (λ left. EndsAs (S.at seat.new) left self.new.task) }
     {
         let reply = seat.look();
-        if let Err(left) = self.obey(seat, reply) {
-            return left;
-        }
-        self.rounds(rt, seat)
+        self.obey(seat, reply)
     }
 
-    // Rounds of steps, until no box is left or the task is dropped.
-    fn rounds<R: Wait, S: Seat>(&mut self, rt: &R, seat: &mut S) -> Left
-        requires { StandsAt (S.at seat.old) self.old.task 0 self.old.collect }
-        ensures { EndsAs (S.at seat.new) result self.new.task }
-    {
-        for _ in rt.forever() {
-            if let Err(left) = self.round(seat) {
-                return left;
-            }
-        }
-        unreachable!()
-    }
-
-    // Some steps, and what is then to be handed and told; how the worker stands to a task that ends
-    // here.
-    fn round<S: Seat>(&mut self, seat: &mut S) -> Result<(), Left>
+    /// Some steps, and what is then to be handed and told; how the worker stands to a task that ends
+    /// here.
+    pub fn round<S: Seat>(&mut self, seat: &mut S) -> Result<(), Left>
         requires { StandsAt (S.at seat.old) self.old.task 0 self.old.collect }
         ensures ok { OnOk result (StandsAt (S.at seat.new) self.new.task 0 self.new.collect) }
         ensures err { IfErr result (λ left. EndsAs (S.at seat.new) left self.new.task) }

@@ -14,7 +14,6 @@ ghost use Rattle.ug_worker.specs.Serving.{HasNext, HasServed, IsOpen, StandsOn, 
 use crate::served::Served;
 use crate::telling::tell_all;
 use std::alloc::{AllocError, Global};
-use std::sync::Wait;
 use ug_frames::{Order, Report, encode_report};
 use ug_io::{Got, Link, zeros};
 use ug_stream::{Assembler, Next};
@@ -24,32 +23,31 @@ const READ: usize = 65_536;
 
 /// A worker's end of a link.
 #[derive(Drop)]
-pub struct Wire<'a, R, L> {
-    rt: &'a R,
-    alloc: Global,
+pub struct Wire<L> {
+    pub alloc: Global,
     /// The link.
     pub link: L,
     pub orders: Assembler,
     // What is read into.
-    input: Vec<u8>,
+    pub input: Vec<u8>,
     // The frame that is told.
-    frame: Vec<u8>,
+    pub frame: Vec<u8>,
     // Where among all bytes heard the last order began.
     pub at: u64,
     /// How the service ended, where it has.
     pub end: Option<Served>,
-    ghost room: { 0 < length input.items },
+    pub ghost room: { 0 < length input.items },
 }
 
-impl<'a, R: Wait, L: Link + Drop> Wire<'a, R, L> {
+impl<L: Link + Drop> Wire<L> {
     /// The end of a link over which nothing was said, which is read into this buffer.
-    pub fn new(rt: &'a R, alloc: Global, link: L, input: Vec<u8>) -> Wire<'a, R, L>
+    pub fn new(alloc: Global, link: L, input: Vec<u8>) -> Wire<L>
         requires fresh { IsFresh (L.seen link) }
         requires room { 0 < length input.items }
-        ensures { stands_as result.end (L.seen result.link) result.orders Blank }
+        ensures stands { stands_as result.end (L.seen result.link) result.orders Blank }
+        ensures link { result.link ≡ link }
     {
         Wire {
-            rt,
             alloc,
             link,
             orders: Assembler::new(alloc),
@@ -60,25 +58,24 @@ impl<'a, R: Wait, L: Link + Drop> Wire<'a, R, L> {
         }
     }
 
-    /// The next order, if one is there, or one comes where it is waited for. None comes once the
-    /// service has ended.
-    pub fn next(&mut self, wait: bool) -> Option<Order>
+    /// The next order, if one is there. None comes once the service has ended.
+    pub fn next(&mut self) -> Option<Order>
         ensures { (stage : Stage) → IsOpen stage
             → stands_as self.old.end (L.seen self.old.link) self.old.orders stage
-            → comes_next self.new.end (L.seen self.new.link) self.new.orders stage self.new.at wait result }
+            → comes_next self.new.end (L.seen self.new.link) self.new.orders stage self.new.at result }
     {
-        for _ in self.rt.forever() {
+        for _ in 0..u64::MAX {
             if self.end.is_some() {
                 return None;
             }
             if let Some(order) = self.given() {
                 return Some(order);
             }
-            if !self.goes_on(wait) {
+            if !self.goes_on(false) {
                 return None;
             }
         }
-        unreachable!()
+        None
     }
 
     // The next order of which all bytes came, if one is there.
@@ -86,8 +83,7 @@ impl<'a, R: Wait, L: Link + Drop> Wire<'a, R, L> {
         requires { self.old.end ≡ None }
         ensures { (stage : Stage) → IsOpen stage
             → StandsOn (L.seen self.old.link) self.old.orders stage
-            → comes_next self.new.end (L.seen self.new.link) self.new.orders stage self.new.at false
-            result }
+            → comes_next self.new.end (L.seen self.new.link) self.new.orders stage self.new.at result }
     {
         let at = self.orders.place();
         match self.orders.next::<Order>(self.alloc) {
@@ -107,8 +103,9 @@ impl<'a, R: Wait, L: Link + Drop> Wire<'a, R, L> {
         }
     }
 
-    // Hears more, unless the service has ended. False where nothing is there.
-    fn goes_on(&mut self, wait: bool) -> bool
+    /// Hears more, which it waits for or not, unless the service has ended. False where nothing is
+    /// there.
+    pub fn goes_on(&mut self, wait: bool) -> bool
         ensures heard { (stage : Stage) → IsOpen stage
             → stands_as self.old.end (L.seen self.old.link) self.old.orders stage
             → stands_as self.new.end (L.seen self.new.link) self.new.orders stage }

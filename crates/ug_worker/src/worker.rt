@@ -1,8 +1,10 @@
 //! A worker, wherever it sits.
 
-ghost use Rattle.std.specs.Prelude.{None, MatchBool};
+ghost use Rattle.std.specs.Prelude.{◌≡◌, None, IfErr, OnOk};
 ghost use Rattle.ug_worker.specs.Engagements.{HasBegun};
+ghost use Rattle.ug_worker.specs.Workers.{EndsAs, HasPaced, IsAtWork, StandsAt};
 
+use crate::pace::Pace;
 use crate::search::{Left, Search};
 use crate::seat::Seat;
 use crate::took::Took;
@@ -14,50 +16,119 @@ pub fn work<R: Wait, S: Seat>(rt: &R, seat: &mut S)
     requires { S.at seat.old None }
     ensures { S.over seat.new }
 {
+    let mut worker = Worker::new();
     for _ in rt.forever() {
-        if !turn(rt, seat) {
-            return;
+        match worker.step(seat) {
+            Pace::On => {}
+            Pace::Waits => {
+                if !seat.rest() {
+                    return;
+                }
+            }
+            Pace::Over => return,
         }
     }
     unreachable!()
 }
 
-// Takes what there is, and works on it. Whether the worker may go on.
-fn turn<R: Wait, S: Seat>(rt: &R, seat: &mut S) -> bool
-    requires { S.at seat.old None }
-    ensures { MatchBool result (S.at seat.new None) (S.over seat.new) }
-{
-    match seat.take() {
-        Ok(Took::Work(task)) => search(rt, seat, task),
-        Ok(Took::Wait) => seat.rest(),
-        Ok(Took::Over) => false,
-        Err(_) => {
-            seat.leave();
-            false
+/// A worker: the task that it searches, if it has one.
+#[derive(Drop)]
+pub struct Worker {
+    pub search: Option<Search>,
+}
+
+impl Worker {
+    /// One that has no task.
+    pub fn new() -> Worker
+        ensures { result.search ≡ None }
+    {
+        Worker { search: None }
+    }
+
+    /// Takes what there is where it has no task, and else makes a round of steps.
+    pub fn step<S: Seat>(&mut self, seat: &mut S) -> Pace
+        requires { IsAtWork (S.at seat.old) self.old.search }
+        ensures { HasPaced (S.at seat.new) (S.over seat.new) self.new.search result }
+    {
+        match self.search.take() {
+            Some(search) => self.go_on(seat, search),
+            None => self.take(seat),
+        }
+    }
+
+    // Makes a round of steps.
+    fn go_on<S: Seat>(&mut self, seat: &mut S, mut search: Search) -> Pace
+        requires { StandsAt (S.at seat.old) search.task 0 search.collect }
+        ensures { HasPaced (S.at seat.new) (S.over seat.new) self.new.search result }
+    {
+        let went = search.round(seat);
+        self.keep(seat, search, went)
+    }
+
+    // Takes what there is.
+    fn take<S: Seat>(&mut self, seat: &mut S) -> Pace
+        requires at { S.at seat.old None }
+        requires none { self.old.search ≡ None }
+        ensures { HasPaced (S.at seat.new) (S.over seat.new) self.new.search result }
+    {
+        match seat.take() {
+            Ok(Took::Work(task)) => self.begin(seat, task),
+            Ok(Took::Wait) => Pace::Waits,
+            Ok(Took::Over) => Pace::Over,
+            Err(_) => {
+                seat.leave();
+                Pace::Over
+            }
+        }
+    }
+
+    // Begins with a task.
+    fn begin<S: Seat>(&mut self, seat: &mut S, task: Task) -> Pace
+        requires { HasBegun (S.at seat.old) task }
+        ensures { HasPaced (S.at seat.new) (S.over seat.new) self.new.search result }
+    {
+        let mut search = Search { task, collect: 0 };
+        let begun = search.begin(seat);
+        self.keep(seat, search, begun)
+    }
+
+    // Keeps the task, or leaves one that ended.
+    fn keep<S: Seat>(&mut self, seat: &mut S, search: Search, went: Result<(), Left>) -> Pace
+        requires ok { OnOk went (StandsAt (S.at seat.old) search.task 0 search.collect) }
+        requires err { IfErr went (λ left. EndsAs (S.at seat.old) left search.task) }
+        ensures { HasPaced (S.at seat.new) (S.over seat.new) self.new.search result }
+    {
+        match went {
+            Ok(()) => {
+                self.search = Some(search);
+                Pace::On
+            }
+            Err(left) => {
+                let Search { task, .. } = search;
+                self.search = None;
+                leave(seat, task, left)
+            }
         }
     }
 }
 
-// Searches a task. Whether the worker may go on.
-fn search<R: Wait, S: Seat>(rt: &R, seat: &mut S, task: Task) -> bool
-    requires { HasBegun (S.at seat.old) task }
-    ensures { MatchBool result (S.at seat.new None) (S.over seat.new) }
+// Leaves a task.
+fn leave<S: Seat>(seat: &mut S, task: Task, left: Left) -> Pace
+    requires { EndsAs (S.at seat.old) left task }
+    ensures { HasPaced (S.at seat.new) (S.over seat.new) None result }
 {
-    let mut search = Search { task, collect: 0 };
-    let left = search.run(rt, seat);
-    let Search { task, .. } = search;
     match left {
         Left::Nothing => {
             seat.done(task);
-            true
+            Pace::On
         }
         Left::Dropped => {
             drop(task);
-            true
+            Pace::On
         }
         Left::Wanting => {
             seat.give_up(task);
-            false
+            Pace::Over
         }
     }
 }

@@ -1,8 +1,8 @@
-use Rattle.std.proofs.Common.{None}
+use Rattle.ug_worker.specs.Workers.{IsAtWork}
 use Rattle.ug_worker.proofs.worker.work.Given as goal
 
 abbrev pub invariant-loop : goal.invariant-loop
 invariant-loop g l = record {
   next : (goal.iterator-loop g).can_next l.iterator' × (goal.iterator-loop g).is_finite l.iterator';
-  at : g.S.Seat.at l.seat None;
+  at : IsAtWork (g.S.Seat.at l.seat) l.worker.search;
 }

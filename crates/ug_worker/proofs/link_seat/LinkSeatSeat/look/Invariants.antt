@@ -7,7 +7,6 @@ use Rattle.ug_worker.proofs.link_seat.LinkSeatSeat.look.Given as goal
 
 abbrev pub invariant-loop : goal.invariant-loop
 invariant-loop g l = record {
-  next : (goal.iterator-loop g).can_next l.iterator' × (goal.iterator-loop g).is_finite l.iterator';
   small : IsSmallCutoff l.cutoff;
   going : (e : Engaged) → IsSeated (seat_seen g.L.Link.seen l.initial.self.wire l.initial.self.kept) (Some e)
       → e.made ≡ 0 → IsGoing (seat_seen g.L.Link.seen l.self.wire l.self.kept) e.task l.cutoff;

@@ -5,6 +5,5 @@ use Rattle.ug_worker.proofs.link_seat.LinkSeatSeat.take.Given as goal
 
 abbrev pub invariant-loop : goal.invariant-loop
 invariant-loop g l = record {
-  next : (goal.iterator-loop g).can_next l.iterator' × (goal.iterator-loop g).is_finite l.iterator';
   at : IsSeated (seat_seen g.L.Link.seen l.self.wire l.self.kept) None;
 }

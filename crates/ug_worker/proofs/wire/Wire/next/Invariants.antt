@@ -4,7 +4,6 @@ use Rattle.ug_worker.proofs.wire.Wire.next.Given as goal
 
 abbrev pub invariant-loop : goal.invariant-loop
 invariant-loop g l = record {
-  next : (goal.iterator-loop g).can_next l.iterator' × (goal.iterator-loop g).is_finite l.iterator';
   stands : (stage : Stage) → IsOpen stage
       → stands_as l.initial.self.end (g.L.Link.seen l.initial.self.link) l.initial.self.orders stage
       → stands_as l.self.end (g.L.Link.seen l.self.link) l.self.orders stage;

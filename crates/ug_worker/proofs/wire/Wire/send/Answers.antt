@@ -18,4 +18,4 @@ returns-in-Err g c old new report due carried same on =
     let front : HasToldFront (g.L.Link.seen c.args.self.now.link) (g.L.Link.seen c.tell_all.new.link) (spelled report) =
     search rules in
     failed_told (g.L.Link.seen c.args.self.now.link) (g.L.Link.seen c.tell_all.new.link) c.args.self.now.orders
-    old new report due front c.in-Err.ensures.cause on
+    old new report due carried front c.in-Err.ensures.cause on

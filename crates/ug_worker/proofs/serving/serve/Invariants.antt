@@ -1,8 +1,8 @@
-use Rattle.ug_worker.specs.Workers.{StandsAt}
-use Rattle.ug_worker.proofs.search.Search.rounds.Given as goal
+use Rattle.ug_worker.specs.Servers.{IsServer}
+use Rattle.ug_worker.proofs.serving.serve.Given as goal
 
 abbrev pub invariant-loop : goal.invariant-loop
 invariant-loop g l = record {
   next : (goal.iterator-loop g).can_next l.iterator' × (goal.iterator-loop g).is_finite l.iterator';
-  stands : StandsAt (g.S.Seat.at l.seat) l.self.task 0 l.self.collect;
+  server : IsServer g.L.Link.seen l.server;
 }

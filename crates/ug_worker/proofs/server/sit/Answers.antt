@@ -6,10 +6,10 @@ use Rattle.ug_worker.specs.Deeds.{Free}
 use Rattle.ug_worker.specs.SeatViews.{seat_seen}
 use Rattle.ug_worker.specs.Seats.{IsSeated}
 use Rattle.ug_worker.specs.Deeds.{Basis, SetUp}
-use Rattle.ug_worker.proofs.serving.sit.Goals as goal
+use Rattle.ug_worker.proofs.server.sit.Goals as goal
 
-pub work-requires : goal.work-requires
-work-requires g c =
+pub seated-requires : goal.seated-requires
+seated-requires g c =
     let problem : c.in-Ok.problem ≡ c.args.problem = search rules in
     let basis : Basis = record { problem = c.args.problem; gap = c.args.gap } in
     subst (λ p. IsSeated (seat_seen g.L.Link.seen c.tell.new.self (record {

@@ -7,7 +7,7 @@ use Rattle.ug_records.specs.Answers.{IsRecordOf, IsRefused}
 use Rattle.ug_worker.specs.Deeds.{Basis, Blank, SetUp}
 use Rattle.ug_worker.specs.Serving.{stands_as}
 use Rattle.ug_worker.proofs.Seating.{taken_on}
-use Rattle.ug_worker.proofs.serving.set_up.Goals as goal
+use Rattle.ug_worker.proofs.server.set_up.Goals as goal
 
 pub sit-requires-clause-on : goal.sit-requires-clause-on
 sit-requires-clause-on g c =
@@ -19,14 +19,14 @@ sit-requires-clause-on g c =
     (Setup c.args.gap c.args.bytes) c.args.wire.at c.requires.on
     (record { problem = c.in-Ok.problem; blank = refl; its = its; set = refl }) c.requires.next)
 
-pub service_of-requires : goal.service_of-requires
-service_of-requires g c =
+pub ended-requires : goal.ended-requires
+ended-requires g c =
     let same : c.as_slice.result.now ≡ c.args.bytes = search rules in
     let refused = subst (IsRefused c.as_slice.result.now) c.in-BadRecord.is c.in-Err.ensures.refused in
     let none = subst (λ bytes. (p : Instance) → ¬ IsRecordOf bytes p) same refused.1 in
     c.refuse.ensures Blank (Setup c.args.gap c.args.bytes) tt c.requires.next
     (λ new taken. none taken.problem taken.its)
 
-pub service_of-requires-in-Memory : goal.service_of-requires-in-Memory
-service_of-requires-in-Memory g c =
+pub ended-requires-in-Memory : goal.ended-requires-in-Memory
+ended-requires-in-Memory g c =
     c.want.ensures.next Blank (Setup c.args.gap c.args.bytes) c.requires.on c.requires.next

@@ -1,0 +1,16 @@
+use Rattle.std.proofs.Common.{rules, ◌≡◌, Some, refl, ap, subst}
+use Rattle.ug_worker.specs.Queues.{queue_seen}
+use Rattle.ug_worker.specs.Staffs.{IsSteady}
+use Rattle.ug_worker.proofs.Servers.{same_server}
+use Rattle.ug_worker.proofs.places.step.Goals as goal
+
+pub step_queue-server-requires : goal.step_queue-server-requires
+step_queue-server-requires c =
+    let same : c.args.place.now ≡ Some c.in-Some.server = search rules in
+    same_server queue_seen queue_seen c.in-Some.server _ (record {
+      link = ap queue_seen c.give.ensures;
+      orders = refl;
+      at = refl;
+      end = refl;
+      post = refl;
+    }) (subst IsSteady same c.requires)
