@@ -16,7 +16,7 @@ use Rattle.ug_frames.specs.Orders.{IsOrder}
 use Rattle.ug_rules.specs.Books.{AreOrders, IsBook}
 use Rattle.ug_frames.specs.OrderFrames as orders
 use Rattle.ug_frames.specs.ReportFrames as reports
-use Rattle.ug_stream.specs.Streams.{IsBadAt, IsGiven, Waiting, fed, first}
+use Rattle.ug_stream.specs.Streams.{IsBadAt, IsGiven, Waiting, fed, first, shut}
 use Rattle.ug_records.specs.Answers.{IsRecordOf}
 use Rattle.ug_rules.specs.declared.settings.Settings.{Settings}
 use Rattle.ug_rules.specs.declared.told.Told.{Told}
@@ -191,16 +191,17 @@ passed_on phase b before h told away left on =
     (fit_book h before (told_ranks before h.book told left) on.fit) on
 
 pub sent_on : (phase : Phase) (b : Standing) (before : BookState) (h new : HubSeen) (told : Told)
-    → IsAlive h.crew told.rank → IsOrderTold before h.book told
+    → IsAlive h.crew told.rank → orders.IsCarried told.order → IsOrderTold before h.book told
     → HasSentTo h new told.rank (orders.spelled told.order)
     → IsOnAs phase b (record h { book = before }) → IsOnAs phase b new
-sent_on phase b before h new told alive left sent on =
+sent_on phase b before h new told alive carried left sent on =
     let book = ap (λ (h : HubSeen). h.book) sent.rest in
     let left_new = subst (λ (book : BookState). IsOrderTold before book told) (sym book) left in
     on_more phase phase b (record h { book = before }) new (Sent told.rank told.order)
     (told_to told.rank (orders.spelled told.order)) sent.said
     (λ said. record {
       alive = alive.lives;
+      carried = carried;
       told = left_new;
       rest = ap (λ (n : HubSeen). standing (said ++ told_to told.rank (orders.spelled told.order)) phase
           (record n { book = new.book })) sent.rest;
@@ -233,11 +234,12 @@ unsent_on phase b before h new told alive left failed on =
 
 -- by what a call that tells came to
 pub told_on : (sent : Bool) (phase : Phase) (b : Standing) (before : BookState) (h new : HubSeen) (told : Told)
-    → IsAlive h.crew told.rank → IsOrderTold before h.book told
+    → IsAlive h.crew told.rank → orders.IsCarried told.order → IsOrderTold before h.book told
     → sent_or_failed sent h new told.rank (orders.spelled told.order)
     → IsOnAs phase b (record h { book = before }) → IsOnAs phase b new
-told_on true phase b before h new told alive left came on = sent_on phase b before h new told alive left came on
-told_on false phase b before h new told alive left came on =
+told_on true phase b before h new told alive carried left came on =
+    sent_on phase b before h new told alive carried left came on
+told_on false phase b before h new told alive carried left came on =
     unsent_on phase b before h new told alive left came on
 
 -- ---- the start of a rank
@@ -269,6 +271,7 @@ set_up_on true phase b old new rank frame alive setup came on =
     (subst (Adds old.crew.said new.crew.said) told came.said)
     (λ said. record {
       its = setup.its;
+      carried = setup.carried;
       alive = alive.lives;
       rest = ap (λ (h : HubSeen). standing
           (said ++ told_to rank (orders.spelled (Setup old.book.settings.gap setup.bytes))) phase h) came.rest;
@@ -367,13 +370,14 @@ lacked_on phase b old new rank more told decided h book on =
           ∙ ap (λ (l : List Waiting). record (standing (said ++ heard_from rank h.bytes) after old) { streams = l; book = new.book })
           h.streams
           ∙ ap (λ (book : BookState). record (standing (said ++ heard_from rank h.bytes) after old) {
+            streams = slice_set old.streams rank (shut (slice_index_or old.streams rank first));
             book = book;
           }) book;
     })
     (record {
       lives = ap (λ (l : List Bool). length l) h.lives ∙ on.fit.lives ∙ sym ranks;
       streams = ap (λ (l : List Waiting). length l) h.streams
-          ∙ on.fit.streams ∙ sym ranks;
+          ∙ length-set old.streams rank (shut (slice_index_or old.streams rank first)) ∙ on.fit.streams ∙ sym ranks;
     }) on
 
 -- a report, which is heard
@@ -471,6 +475,7 @@ pub setup_still : (old new : BookState) (before after : List ℕ) → new.proble
 setup_still old new before after problem settings frame h = record {
   bytes = h.bytes;
   its = subst (IsRecordOf h.bytes) (sym problem) h.its;
+  carried = subst (λ (s : Settings). orders.IsCarried (Setup s.gap h.bytes)) (sym settings) h.carried;
   frame = frame ∙ h.frame ∙ ap (λ (s : Settings). orders.spelled (Setup s.gap h.bytes)) (sym settings);
 }
 

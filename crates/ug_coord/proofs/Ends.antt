@@ -8,7 +8,7 @@ use Rattle.ug_disk.specs.Crashes.{Leaves}
 use Rattle.ug_io.specs.Crews.{CrewSeen}
 use Rattle.ug_checkpoint.specs.declared.saver.Saver.{Saver}
 use Rattle.ug_rules.specs.State.{BookState}
-use Rattle.ug_rules.specs.Books.{IsSoundBook}
+use Rattle.ug_rules.specs.Books.{IsBook, IsSoundBook}
 use Rattle.ug_book.specs.declared.opening.Opening.{Opening}
 use Rattle.ug_book.specs.Openings.{opening_book}
 use Rattle.ug_book.specs.Views.{IsSameRun}
@@ -19,22 +19,38 @@ use Rattle.ug_restart.specs.declared.outcome.Outcome.{Outcome}
 use Rattle.ug_restart.specs.Saves.{book_of, saver_of}
 use Rattle.ug_restart.specs.Moments.{FindsIn, IsFoundNow, IsOfRun}
 use Rattle.ug_restart.specs.Going.{time}
-use Rattle.ug_restart.specs.Outcomes.{IfBook, IsLastSave, IsSavedOrCounted}
+use Rattle.ug_restart.specs.Outcomes.{HasFeasible, IfAnswered, IfBook, IfLimited, IsLastSave, IsRight, IsSavedOrCounted}
 use Rattle.ug_restart.proofs.Outcomes.{none_missed, saved_or_counted, still_covered, still_found, time_covered, time_found, time_missed}
 use Rattle.ug_coord.specs.Deeds.{Standing}
-use Rattle.ug_coord.specs.Ends.{is_ended, ranks_of}
+use Rattle.ug_coord.specs.Ends.{IsAtLimit, is_ended, ranks_of}
 use Rattle.ug_coord.specs.Hubs.{EndsFrom, HasCoordinated, IsFresh, StaysSound, beginning}
-use Rattle.ug_coord.specs.Keeping.{Begins, HasConcluded, HasKept, IsBegun, IsKeptSafe, IsNothing, IsOurs, KeptSeen, Moves, end_kept, missed_by, moves, savers, unsaved_by}
+use Rattle.ug_coord.specs.Keeping.{Begins, HasConcluded, HasKept, AreEachSaved, HasTriedEach, IsBegun, IsEachSaved, IsKeptSafe, IsNothing, IsOurs, KeptSeen, Moves, end_kept, missed_by, moves, savers, unsaved_by}
+use Rattle.ug_coord.proofs.Causes.{AreAlive, dead_has_cause}
+use Rattle.ug_coord.proofs.Counts.{IsWithin, course_within}
 use Rattle.ug_coord.proofs.Kept.{moves_on, sound_last}
+use Rattle.ug_coord.proofs.Tries.{each_saved}
+
+-- what each book's incumbent is
+pub book_feasible : (b : BookState) → IsBook b → HasFeasible b
+book_feasible b is = is.incumbent
 
 -- ---- memory was wanting at once
 
-safe_still : (saver : Option Saver) (disk : DiskSeen) → IsKeptSafe saver disk disk
+pub safe_still : (saver : Option Saver) (disk : DiskSeen) → IsKeptSafe saver disk disk
 safe_still None disk = tt
 safe_still (Some saver) disk = λ now. still_covered saver disk.told disk.told refl now
 
 ended_nothing : (end : End) (b : BookState) → end ≡ Memory → is_ended end b
 ended_nothing end b is = subst (λ (e : End). is_ended e b) (sym is) tt
+
+no_book : (P : BookState → Type 0) (end : End) → end ≡ Memory → IfBook end P
+no_book P end is = subst (λ (e : End). IfBook e P) (sym is) tt
+
+no_answer : (P : BookState → Type 0) (end : End) → end ≡ Memory → IfAnswered end P
+no_answer P end is = subst (λ (e : End). IfAnswered e P) (sym is) tt
+
+no_limit : (end : End) → end ≡ Memory → IfLimited end IsAtLimit
+no_limit end is = subst (λ (e : End). IfLimited e IsAtLimit) (sym is) tt
 
 none_lives : (n rank : ℕ) → slice_index_or (replicate n false) rank false ≡ false
 none_lives n rank = elim (cases_lt rank n) [
@@ -43,15 +59,21 @@ none_lives n rank = elim (cases_lt rank n) [
 ]
 
 pub nothing_coordinated : (b : BookState) (seen : CrewSeen) (saver : Option Saver) (outcome : Outcome)
-    (disk : DiskSeen) → IsFresh seen (ranks_of b) → IsNothing outcome
+    (disk : DiskSeen) → IsFresh seen (ranks_of b) → AreAlive b → IsNothing outcome
     → HasCoordinated b seen outcome.end (IsKeptSafe saver disk disk)
-nothing_coordinated b seen saver outcome disk fresh none = record {
+nothing_coordinated b seen saver outcome disk fresh alive none = record {
   faults = seen.faults;
   now = beginning b seen.faults;
   come = record { deeds = []; course = refl };
+  made = inr refl;
   shown = fresh.said;
   closed = λ rank alive. absurd (false≢true (sym (none_lives (ranks_of b) rank) ∙ alive));
   ended = ended_nothing outcome.end b none.ended;
+  same = no_book (IsSameRun b) outcome.end none.ended;
+  feasible = no_book HasFeasible outcome.end none.ended;
+  limited = no_limit outcome.end none.ended;
+  causes = λ rank there dead. absurd (false≢true (sym dead ∙ alive rank there));
+  right = no_answer (λ book. IsSoundBook book → IsRight book) outcome.end none.ended;
   safe = λ sound. safe_still saver disk;
 }
 
@@ -66,6 +88,11 @@ found_nothing : (b : BookState) (saver : Option Saver) (disk : DiskSeen)
     → IfSome saver (λ s. IsFoundNow (IsOfRun b) s disk.told → Leaves (FindsIn (IsOfRun b)) disk.told disk.told)
 found_nothing b None disk = tt
 found_nothing b (Some saver) disk = λ now. still_found (IsOfRun b) saver disk.told disk.told refl now
+
+pub each_nothing : (saver : Option Saver) (outcome : Outcome) (disk : DiskSeen) → IsNothing outcome
+    → AreEachSaved saver outcome disk
+each_nothing None outcome disk none = tt
+each_nothing (Some saver) outcome disk none = no_book (IsEachSaved saver outcome disk.told) outcome.end none.ended
 
 pub nothing_kept : (b : BookState) (saver : Option Saver) (outcome : Outcome) (disk : DiskSeen)
     → IsNothing outcome → HasKept b saver outcome disk disk
@@ -103,20 +130,45 @@ safe_moved Covers (Some a) None x y one covers = absurd one
 safe_moved Covers (Some a) (Some b) x y one covers = λ now.
     time_covered Covers (Unit {0}) a b x y one covers now
 
+-- no more were heard than may be
+at_limit : (end : End) (b : BookState) → is_ended end b → IsWithin b → IfLimited end IsAtLimit
+at_limit (Answered own) b is within = tt
+at_limit (Limited own) b is within = subst IsAtLimit (sym is.0) (omega (arith, is.1.spent, within))
+at_limit (Stranded own) b is within = tt
+at_limit Memory b is within = tt
+
+-- what is known of the ending book
+pub record IsEndingBook (b : BookState) (end : End) (book : BookState) : Type 0 where
+  pub made : IsBook b
+  pub ended : is_ended end book
+  pub same : IsSameRun b book
+  pub within : IsWithin b
+  pub alive : AreAlive b
+  pub feasible : IfBook end HasFeasible
+  pub right : IfAnswered end (λ own. IsSoundBook own → IsRight own)
+
 pub solved_coordinated : (b : BookState) (faults : ℕ) (seen : CrewSeen)
     (book : BookState) (old mid : KeptSeen) (disk : DiskSeen) (outcome : Outcome)
-    → EndsFrom (beginning b faults) seen book old mid → is_ended outcome.end book → IsOurs mid book
+    → EndsFrom (beginning b faults) seen book old mid → IsEndingBook b outcome.end book → IsOurs mid book
     → HasConcluded outcome mid disk
     → HasCoordinated b seen outcome.end (IsKeptSafe (savers old.saves) old.disk disk)
 solved_coordinated b faults seen book old mid disk outcome e is ours c = record {
   faults = faults;
   now = e.now;
   come = e.come;
+  made = inl is.made;
   shown = e.shown;
   closed = e.closed;
-  ended = subst (is_ended outcome.end) (sym e.its) is;
+  ended = subst (is_ended outcome.end) (sym e.its) is.ended;
+  same = book_has (IsSameRun b) outcome.end book is.ended is.same;
+  feasible = is.feasible;
+  limited = at_limit outcome.end book is.ended (subst IsWithin e.its
+      (course_within (beginning b faults) e.come.deeds e.now e.come.course is.within));
+  causes = λ rank there dead.
+      dead_has_cause (beginning b faults) e.come.deeds e.now rank e.come.course (is.alive rank there) dead;
+  right = is.right;
   safe = λ sound. safe_moved (StaysSound (beginning b faults) e.now e.come) old.saves c.saves old.disk disk
-      (all_moved (beginning b faults) seen book old mid disk outcome e is ours c) sound;
+      (all_moved (beginning b faults) seen book old mid disk outcome e is.ended ours c) sound;
 }
 
 -- ---- what stands on the disk
@@ -169,6 +221,13 @@ solved_kept o from seen book old mid disk outcome e is ours own c =
     (some_saver (StaysSound from e.now e.come) (Unit {0}) old.saves mid.saves old.disk mid.disk
     (IsSavedOrCounted outcome disk.told) e.moves
     (saved_end outcome mid.saves c.saves mid.disk disk c.became c.missed c.unsaved))
+
+pub solved_each : (o : Opening) (book : BookState) (old mid : KeptSeen) (disk : DiskSeen) (outcome : Outcome)
+    → is_ended outcome.end book → IfSome old.saves (IsBegun o) → HasTriedEach (opening_book o) book old mid
+    → HasConcluded outcome mid disk → AreEachSaved (savers old.saves) outcome disk
+solved_each o book old mid disk outcome is own each c =
+    each_saved (IfBook outcome.end IsSoundBook) (IfBook outcome.end (IsOurs mid)) o outcome book old.saves
+    mid.saves c.saves old.disk mid.disk disk own each is c.became c.moves c.missed c.unsaved
 
 -- ---- the saver that there was
 

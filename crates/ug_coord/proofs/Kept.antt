@@ -1,5 +1,5 @@
 -- How what is saved goes on beside the deeds.
-use Rattle.std.proofs.Common.{List, [], ◌∷◌, ◌++◌, Option, None, Some, IfSome, refl, sym, ap, subst, ◌∙◌}
+use Rattle.std.proofs.Common.{◌≡◌, List, [], ◌∷◌, ◌++◌, length, Option, None, Some, IfSome, refl, sym, ap, subst, ◌∙◌}
 use Rattle.ug_disk.specs.Histories.{DiskSeen}
 use Rattle.ug_rules.specs.State.{BookState}
 use Rattle.ug_rules.specs.Books.{IsSoundBook}
@@ -86,6 +86,14 @@ run_on a b c one two = record {
   run = two.run ∙ one.run;
   settings = two.settings ∙ one.settings;
   wide = two.wide ∙ one.wide;
+}
+
+pub same_of : (a b : BookState) → b ≡ a → IsSameRun a b
+same_of a b same = record {
+  problem = ap (λ (k : BookState). k.problem) same;
+  run = ap (λ (k : BookState). k.run) same;
+  settings = ap (λ (k : BookState). k.settings) same;
+  wide = ap (λ (k : BookState). length k.ranks) same;
 }
 
 pub ours_same : (saves : Option Saves) (b c : BookState) → IsSameRun b c

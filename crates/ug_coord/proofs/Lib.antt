@@ -1,6 +1,9 @@
+pub mod Causes
 pub mod Closing
+pub mod Counts
 pub mod Coursing
 pub mod Ends
 pub mod Kept
 pub mod Room
+pub mod Tries
 pub mod Whole

@@ -3,7 +3,7 @@ use Rattle.std.proofs.Common.{◌≡◌, ℕ, List, ◌++◌, length, take, drop
 use Rattle.std.proofs.lemmas.List.{length-set, take_at}
 use Rattle.std.specs.Prelude.{slice_index_or}
 use Rattle.ug_io.specs.Crews.{CrewSeen}
-use Rattle.ug_stream.specs.Streams.{Waiting, fed, first}
+use Rattle.ug_stream.specs.Streams.{Waiting, fed, first, shut}
 use Rattle.ug_frames.specs.declared.report.Report.{Report}
 use Rattle.ug_stream.specs.declared.next.Next.{Next}
 use Rattle.ug_coord.specs.Reading.{HasBroken, HasFed, HasGone, HasLacked, HasRead}
@@ -43,7 +43,8 @@ pub lacked_whole : (n : ℕ) (a c : CrewSeen) (old new : List Waiting) (rank : �
     → HasLacked a c old new rank → HasLacked a c old (lent n old new) rank
 lacked_whole n a c old new rank long h =
     subst (λ (l : List Waiting). HasLacked a c old l rank)
-    (sym (whole n old new long (ap (λ (l : List Waiting). length l) h.streams))) h
+    (sym (whole n old new long (ap (λ (l : List Waiting). length l) h.streams
+    ∙ length-set old rank (shut (slice_index_or old rank first))))) h
 
 pub same_whole : (n : ℕ) (old new : List Waiting) → length old ≡ n → new ≡ old → lent n old new ≡ old
 same_whole n old new long same =

@@ -13,7 +13,7 @@ use Rattle.ug_frames.specs.declared.order.Order.TheVariants.{Setup, End}
 use Rattle.ug_frames.specs.declared.report.Report.{Report}
 use Rattle.ug_frames.specs.OrderFrames as orders
 use Rattle.ug_frames.specs.ReportFrames as reports
-use Rattle.ug_stream.specs.Streams.{IsBadAt, IsGiven, Waiting, fed, first}
+use Rattle.ug_stream.specs.Streams.{IsBadAt, IsGiven, Waiting, fed, first, shut}
 use Rattle.ug_rules.specs.declared.heard.Heard.{Heard}
 use Rattle.ug_rules.specs.State.{BookState}
 use Rattle.ug_rules.specs.Books.{IsSoundBook}
@@ -101,6 +101,7 @@ pub record IsDeciding (old : Standing) : Type 0 where
 -- the problem's order, with the book's gap
 pub record IsSetUp (old new : Standing) (rank : ℕ) (bytes : List ℕ) : Type 0 where
   pub its : IsRecordOf bytes old.book.problem
+  pub carried : orders.IsCarried (Setup old.book.settings.gap bytes)
   pub alive : lives_at old rank ≡ true
   pub rest : new ≡ record old {
     said = old.said ++ told_to rank (orders.spelled (Setup old.book.settings.gap bytes));
@@ -161,6 +162,7 @@ pub record IsLost (old new : Standing) (rank : ℕ) (cause : Cause) : Type 0 whe
 -- the earliest order of the book was told to its rank
 pub record IsSent (old new : Standing) (rank : ℕ) (order : Order) : Type 0 where
   pub alive : lives_at old rank ≡ true
+  pub carried : orders.IsCarried order
   pub told : IsOrderTold old.book new.book (record { rank = rank; order = order })
   pub rest : new ≡ record old {
     said = old.said ++ told_to rank (orders.spelled order);
@@ -202,11 +204,15 @@ pub record IsFed (old new : Standing) (rank : ℕ) (bytes : List ℕ) : Type 0 w
     pace = Reading;
   }
 
--- bytes came, and memory was wanting to keep them
+-- bytes came, and memory was wanting to keep them, so no more is read of their rank
 pub record IsUnfed (old new : Standing) (rank : ℕ) (bytes : List ℕ) : Type 0 where
   pub hearing : IsHearing old
   pub alive : lives_at old rank ≡ true
-  pub rest : new ≡ record old { said = old.said ++ heard_from rank bytes; pace = Reading }
+  pub rest : new ≡ record old {
+    said = old.said ++ heard_from rank bytes;
+    streams = slice_set old.streams rank (shut (stream_at old rank));
+    pace = Reading;
+  }
 
 -- it was decided, or so many steps of that stand
 pub record HasDecided (Is : BookState → BookState → Type 0) (old new : Standing) : Type 0 where

@@ -3,6 +3,7 @@ use Rattle.std.specs.Prelude.{◌≡◌, ◌≢◌, ◌⊎◌, ℕ, ◌<◌, ◌
 use Rattle.ug_ranks.specs.States.{state_at}
 use Rattle.ug_ranks.specs.Looks.{is_alive}
 use Rattle.ug_rules.specs.State.{BookState, held_nodes}
+use Rattle.ug_restart.specs.Outcomes.{IsLimited}
 use Rattle.ug_restart.specs.declared.outcome.End.{End}
 use Rattle.ug_restart.specs.declared.outcome.End.TheVariants.{Answered, Limited, Stranded, Memory}
 
@@ -18,11 +19,6 @@ AllDead b = (rank : ℕ) → rank < ranks_of b → is_alive (state_at b.ranks ra
 abbrev pub IsAnswered : BookState → Type 0
 IsAnswered b = held_nodes b ≡ []
 
--- a node is held, and as many reports were heard as may be
-pub record IsLimited (b : BookState) : Type 0 where
-  pub held : held_nodes b ≢ []
-  pub spent : b.settings.limit ≤ b.heard
-
 -- a node is held, fewer reports were heard than may be, and no rank is alive
 pub record IsStranded (b : BookState) : Type 0 where
   pub held : held_nodes b ≢ []
@@ -32,6 +28,10 @@ pub record IsStranded (b : BookState) : Type 0 where
 -- an end is due: no node is held, as many reports were heard as may be, or no rank is alive
 abbrev pub IsOver : BookState → Type 0
 IsOver b = IsAnswered b ⊎ ((b.settings.limit ≤ b.heard) ⊎ AllDead b)
+
+-- just as many reports were heard as may be
+abbrev pub IsAtLimit : BookState → Type 0
+IsAtLimit b = b.heard ≡ b.settings.limit
 
 -- why a run ended, with this book
 abbrev pub is_ended : End → BookState → Type 0

@@ -4,7 +4,7 @@ use Rattle.ug_coord.specs.declared.hub.Hub.{Hub}
 use Rattle.ug_coord.specs.Hubs.{HubSeen}
 
 -- what its parts show
-abbrev pub hub_seen : {R C : Type 0} → (C → CrewSeen) → Hub R C → HubSeen
+abbrev pub hub_seen : {R O C : Type 0} → (C → CrewSeen) → Hub R O C → HubSeen
 hub_seen seen hub = record {
   crew = seen hub.crew;
   streams = hub.streams.items;

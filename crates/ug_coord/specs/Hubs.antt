@@ -1,5 +1,5 @@
 -- How a coordinator stands to its crew, and how its work ends.
-use Rattle.std.specs.Prelude.{◌≡◌, ◌≢◌, ℕ, ◌<◌, Bool, true, false, List, [], length}
+use Rattle.std.specs.Prelude.{◌≡◌, ◌≢◌, ◌⊎◌, ◌+◌, ℕ, ◌<◌, Bool, true, false, List, [], length}
 use Rattle.std.specs.Prelude.{replicate, slice_index_or, slice_set, IfSome}
 use Rattle.ug_io.specs.declared.crew.Exchange.{Exchange}
 use Rattle.ug_io.specs.Crews.{Adds, CrewSeen, told_to}
@@ -9,14 +9,20 @@ use Rattle.ug_frames.specs.declared.order.Order.TheVariants.{Setup}
 use Rattle.ug_frames.specs.OrderFrames as orders
 use Rattle.ug_stream.specs.Streams.{Waiting, first}
 use Rattle.ug_rules.specs.State.{BookState}
+use Rattle.ug_rules.specs.Books.{IsBook, IsSoundBook}
+use Rattle.ug_book.specs.Views.{IsSameRun}
 use Rattle.ug_rules.specs.Deaths.{killed}
 use Rattle.ug_rules.specs.declared.heard.Heard.{Heard}
 use Rattle.ug_rules.specs.Hearing.{IsDue, after_hearing}
 use Rattle.ug_frames.specs.declared.report.Report.{Report}
 use Rattle.ug_restart.specs.declared.outcome.End.{End}
-use Rattle.ug_coord.specs.Ends.{is_ended, ranks_of}
+use Rattle.ug_restart.specs.Outcomes.{HasFeasible, IfAnswered, IfBook, IfLimited, IsRight}
+use Rattle.ug_coord.specs.Ends.{IsAtLimit, is_ended, ranks_of}
 use Rattle.ug_coord.specs.Deeds.{AreSound, Deciding, Deed, Hearing, IsCourse, IsToldEnd, Pace}
 use Rattle.ug_coord.specs.Deeds.{Standing, lives_at}
+use Rattle.ug_ranks.specs.Looks.{is_alive}
+use Rattle.ug_ranks.specs.States.{state_at}
+use Rattle.ug_coord.specs.Causes.{HasCause}
 use Rattle.ug_coord.specs.Keeping.{KeptSeen, Moves}
 
 -- with a crew of which nothing was said yet, no rank of which lives
@@ -154,6 +160,7 @@ pub record IsClosedBelow (n : ℕ) (from : Standing) (h : HubSeen) (old new : Ke
 pub record IsSetUpFrame (b : BookState) (spelled : List ℕ) : Type 0 where
   pub bytes : List ℕ
   pub its : IsRecordOf bytes b.problem
+  pub carried : orders.IsCarried (Setup b.settings.gap bytes)
   pub frame : spelled ≡ orders.spelled (Setup b.settings.gap bytes)
 
 -- nothing was said yet, and no rank lives
@@ -173,17 +180,38 @@ pub record EndsFrom (from : Standing) (seen : CrewSeen) (book : BookState) (old 
   pub closed : (rank : ℕ) → lives_at now rank ≡ true → IsToldEnd rank come.deeds
   pub moves : Moves (StaysSound from now come) (Unit {0}) old new
 
--- How the work ended: deeds led from the beginning with this book to the end, and the crew, where it
--- tells what was said, tells the same. Each rank that lives was told the end, or that failed. Where
--- each book of them was sound, it was safe.
+-- How the work ended: deeds led from the beginning with this book to the end, none where memory was
+-- wanting for the book itself. The crew, where it tells what was said, tells the same. Each rank that
+-- lives was told the end, or that failed. Where each book of them was sound, it was safe.
 pub record HasCoordinated (b : BookState) (seen : CrewSeen) (end : End) (Safe : Type 0) : Type 0 where
   pub faults : ℕ
   pub now : Standing
   pub come : HasCome (beginning b faults) now
+  pub made : IsBook b ⊎ (come.deeds ≡ [])
   pub shown : IfSome seen.said (λ told. told ≡ now.said)
   pub closed : (rank : ℕ) → lives_at now rank ≡ true → IsToldEnd rank come.deeds
   pub ended : is_ended end now.book
+  pub same : IfBook end (IsSameRun b)
+  pub feasible : IfBook end HasFeasible
+  pub limited : IfLimited end IsAtLimit
+  pub causes : (rank : ℕ) → rank < ranks_of b → is_alive (state_at now.book.ranks rank) ≡ false
+      → HasCause rank come.deeds
+  pub right : IfAnswered end (λ book. IsSoundBook book → IsRight book)
   pub safe : StaysSound (beginning b faults) now come → Safe
+
+-- none, or one more
+abbrev pub IsOneMore : ℕ → ℕ → Type 0
+IsOneMore old new = (new ≡ old) ⊎ (new ≡ old + 1)
+
+-- the run is the same, and no report was heard
+pub record IsQuiet (old new : BookState) : Type 0 where
+  pub run : IsSameRun old new
+  pub heard : new.heard ≡ old.heard
+
+-- the run is the same, and one report was heard at most
+pub record HearsOne (old new : BookState) : Type 0 where
+  pub run : IsSameRun old new
+  pub heard : IsOneMore old.heard new.heard
 
 -- a report of the rank was heard, and so answered
 pub record HasHeardReport (old new : HubSeen) (rank : ℕ) (report : Report) : Type 0 where

@@ -1,21 +1,24 @@
 -- What is saved of a coordinator's book, if it is to be saved, and how that goes on.
-use Rattle.std.specs.Prelude.{◌≡◌, ℕ, Option, None, Some, IfSome, IsNone, IsSomeAnd}
+use Rattle.std.specs.Prelude.{◌≡◌, ◌⊎◌, ◌≤◌, ◌+◌, ◌-◌, ◌^◌, ◌%◌, ℕ, zero, suc, Bool, false, nat_eq}
+use Rattle.std.specs.Prelude.{if◌then◌else◌, Option, None, Some, IfSome, IsNone, IsSomeAnd}
 use Rattle.ug_disk.specs.Crashes.{Leaves}
-use Rattle.ug_disk.specs.Histories.{DiskSeen}
+use Rattle.ug_disk.specs.Histories.{DiskSeen, History}
 use Rattle.ug_rules.specs.State.{BookState}
 use Rattle.ug_rules.specs.Books.{IsSoundBook}
 use Rattle.ug_checkpoint.specs.declared.saver.Saver.{Saver}
-use Rattle.ug_checkpoint.specs.Savers.{IsKept}
+use Rattle.ug_checkpoint.specs.Savers.{IsKept, sequence_of}
 use Rattle.ug_book.specs.declared.opening.Opening.{Opening}
 use Rattle.ug_book.specs.Views.{IsSameRun}
+use Rattle.ug_snapshot.specs.Moments.{IsImageOf}
 use Rattle.ug_restart.specs.declared.outcome.Attempt.{Attempt}
+use Rattle.ug_restart.specs.declared.outcome.Attempt.TheVariants.{Saved}
 use Rattle.ug_restart.specs.declared.outcome.End.{End}
 use Rattle.ug_restart.specs.declared.outcome.End.TheVariants.{Memory}
 use Rattle.ug_restart.specs.declared.outcome.Outcome.{Outcome}
 use Rattle.ug_restart.specs.declared.saves.Saves.{Saves}
 use Rattle.ug_restart.specs.Saves.{IsOfBook, begun, book_of, missed_of, opening_of, saver_of}
-use Rattle.ug_restart.specs.Saves.{unsaved_of}
-use Rattle.ug_restart.specs.Moments.{AllCovered, FindsIn, IsCoveredNow, IsFoundNow, IsOfRun}
+use Rattle.ug_restart.specs.Saves.{sequence_at, unsaved_of}
+use Rattle.ug_restart.specs.Moments.{AllCovered, FindsIn, FindsOne, IsCoveredNow, IsFoundNow, IsOfRun}
 use Rattle.ug_restart.specs.Going.{GoesOn, IsAttempted, time}
 use Rattle.ug_restart.specs.Outcomes.{IfBook, IsMissedByFaults, IsSavedOrCounted, IsUntouched}
 
@@ -53,6 +56,48 @@ end_kept end last (Some before) old (Some after) new = IfBook end (λ b.
 abbrev pub IsEndKept : End → Option Attempt → KeptSeen → KeptSeen → Type 0
 IsEndKept end last old new = end_kept end last old.saves old.disk new.saves new.disk
 
+-- whether the report of this number asks for a save: it is a multiple of `every`, which is not 0
+abbrev pub is_due : ℕ → ℕ → Bool
+is_due every count = (if nat_eq every 0 then false else nat_eq (count % every) 0)
+
+-- how many of the first reports ask for one
+abbrev pub saves_due : ℕ → ℕ → ℕ
+saves_due every zero = 0
+saves_due every (suc count) =
+    (if is_due every (suc count) then saves_due every count + 1 else saves_due every count)
+
+-- how many saves were tried: those that were acknowledged, each under the next sequence, those
+-- missed, and those for which memory was wanting
+abbrev pub tried_of : Saves → ℕ
+tried_of saves = sequence_at saves + missed_of saves + unsaved_of saves
+
+-- a count of saves that failed stands at its greatest value
+abbrev pub IsFull : ℕ → ℕ → Type 0
+IsFull missed unsaved = (2 ^ 64 - 1 ≤ missed) ⊎ (2 ^ 64 - 1 ≤ unsaved)
+
+-- so many saves more were tried, and no count of those that failed fell
+pub record Tries (count : ℕ) (before after : Saves) : Type 0 where
+  pub more : (tried_of after ≡ tried_of before + count)
+      ⊎ IsFull (missed_of after) (unsaved_of after)
+  pub missed : missed_of before ≤ missed_of after
+  pub unsaved : unsaved_of before ≤ unsaved_of after
+
+-- so it was, where there is a saver
+abbrev pub has_tried : ℕ → Option Saves → Option Saves → Type 0
+has_tried count None None = Unit {0}
+has_tried count None (Some after) = ⊥
+has_tried count (Some before) None = ⊥
+has_tried count (Some before) (Some after) = Tries count before after
+
+abbrev pub HasTried : ℕ → KeptSeen → KeptSeen → Type 0
+HasTried count old new = has_tried count old.saves new.saves
+
+-- from one book to the other a save was tried for each report that asks for one
+pub record HasTriedEach (from to : BookState) (old new : KeptSeen) : Type 0 where
+  pub count : ℕ
+  pub due : saves_due to.settings.every to.heard ≡ saves_due from.settings.every from.heard + count
+  pub tried : HasTried count old new
+
 -- how many saves were missed, and how many were not made for want of memory
 abbrev pub missed_by : Option Saves → ℕ
 missed_by None = 0
@@ -84,6 +129,22 @@ savers (Some saves) = Some (saver_of saves)
 abbrev pub IsKeptSafe : Option Saver → DiskSeen → DiskSeen → Type 0
 IsKeptSafe saver old new =
     IfSome saver (λ s. IsCoveredNow s old.told → AllCovered old.told new.told)
+
+-- A save was tried on each delivery whose number is a multiple of `every`, and one of the ending
+-- book: each that succeeded has the next sequence, and the others are counted. Where the last one
+-- succeeded, recovery finds the ending book's image under that sequence.
+pub record IsEachSaved (saver : Saver) (outcome : Outcome) (told : Option History) (b : BookState)
+    : Type 0 where
+  pub sequence : ℕ
+  pub tried : (sequence + outcome.missed + outcome.unsaved
+      ≡ sequence_of saver + saves_due b.settings.every b.heard + 1)
+      ⊎ IsFull outcome.missed outcome.unsaved
+  pub found : outcome.last ≡ Some Saved → FindsOne (IsImageOf b sequence) told
+
+-- so it was, if there is a saver, and the run ended with a book
+abbrev pub AreEachSaved : Option Saver → Outcome → DiskSeen → Type 0
+AreEachSaved saver outcome new =
+    IfSome saver (λ s. IfBook outcome.end (IsEachSaved s outcome new.told))
 
 -- What stands on the disk at the end. Without a saver it was not touched. With one the ending book
 -- is saved, or that is counted; where recovery found an image of the run, it does so at each moment;

@@ -1,3 +1,4 @@
+pub mod Causes
 pub mod Deeds
 pub mod Ends
 pub mod Hubs

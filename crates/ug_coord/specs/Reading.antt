@@ -5,7 +5,7 @@ use Rattle.ug_io.specs.Outside.{Rose}
 use Rattle.ug_frames.specs.declared.report.Report.{Report}
 use Rattle.ug_frames.specs.ReportFrames as reports
 use Rattle.ug_stream.specs.declared.next.Next.{Next}
-use Rattle.ug_stream.specs.Streams.{IsNext, Waiting, fed, first}
+use Rattle.ug_stream.specs.Streams.{IsNext, Waiting, fed, first, shut}
 use Rattle.ug_coord.specs.declared.streams.Turn.{Turn}
 use Rattle.ug_coord.specs.declared.streams.Turn.TheVariants.{Fed, Gone, Failed, Wanting}
 
@@ -24,14 +24,14 @@ pub record HasFed (old new : CrewSeen) (before after : List Waiting) (rank : ℕ
   pub faults : new.faults ≡ old.faults
   pub streams : after ≡ slice_set before rank (fed (slice_index_or before rank first) bytes)
 
--- bytes came from a rank that lives, and memory was wanting to keep them
+-- bytes came from a rank that lives, and memory was wanting to keep them: its stream is shut
 pub record HasLacked (old new : CrewSeen) (before after : List Waiting) (rank : ℕ) : Type 0 where
   pub bytes : List ℕ
   pub alive : IsAlive old rank
   pub said : Adds old.said new.said (heard_from rank bytes)
   pub lives : new.lives ≡ old.lives
   pub faults : new.faults ≡ old.faults
-  pub streams : after ≡ before
+  pub streams : after ≡ slice_set before rank (shut (slice_index_or before rank first))
 
 -- a rank that lived is gone
 pub record HasGone (old new : CrewSeen) (before after : List Waiting) (rank : ℕ) : Type 0 where

@@ -9,22 +9,23 @@ ghost use Rattle.ug_book.specs.Reads.{IsOrderTold};
 ghost use Rattle.ug_book.specs.Views.{IsSameRun};
 ghost use Rattle.ug_coord.specs.Deeds.{Deciding, Hearing, Standing};
 ghost use Rattle.ug_coord.specs.Ends.{AllDead, IsAnswered, IsOver, ranks_of};
-ghost use Rattle.ug_coord.specs.Hubs.{AnyPhase, EndsFrom, HasHeardReport, IsBrokenOff, IsClosedBelow};
-ghost use Rattle.ug_coord.specs.Hubs.{IsKeptIn};
-ghost use Rattle.ug_coord.specs.Hubs.{IsOnAs, IsOnIn, IsRested, IsSetUpFrame, MayRead, Phase};
+ghost use Rattle.ug_coord.specs.Hubs.{AnyPhase, EndsFrom, HasHeardReport, HearsOne, IsBrokenOff};
+ghost use Rattle.ug_coord.specs.Hubs.{IsClosedBelow, IsKeptIn, IsOnAs, IsOnIn, IsQuiet, IsRested};
+ghost use Rattle.ug_coord.specs.Hubs.{IsSetUpFrame, MayRead, Phase};
 ghost use Rattle.ug_coord.specs.Hubs.{is_next, launched_or_failed, sent_or_failed, without};
-ghost use Rattle.ug_coord.specs.Keeping.{KeptSeen, IsKeptBy, IsOurs};
+ghost use Rattle.ug_coord.specs.Keeping.{HasTriedEach, KeptSeen, IsKeptBy, IsOurs, is_due};
 ghost use Rattle.ug_coord.specs.Keepers.{kept_seen};
 
 use crate::keeper::Keeper;
 use crate::streams::{Turn, next_of, take_turn};
-use std::alloc::Global;
 use std::sync::Wait;
 use ug_book::Book;
 use ug_disk::Disk;
 use ug_frames::{Order, Report, encode_order};
 use ug_io::Crew;
+use ug_restart::{Dropped, Host, Observer, progress_of};
 use ug_rules::{Heard, Told};
+use ug_snapshot::image_of;
 use ug_stream::{Assembler, Next};
 
 // The frame of the order to end.
@@ -32,9 +33,8 @@ const END: &[u8] = &[0, 0, 0, 1, 8];
 
 /// A coordinator at work, with its crew.
 #[derive(Drop)]
-pub struct Hub<'a, R, C> {
-    pub rt: &'a R,
-    pub alloc: Global,
+pub struct Hub<'a, R, O, C> {
+    pub host: &'a Host<'a, R, O>,
     pub book: Book,
     pub crew: C,
     /// What came from each rank and of which no report was taken yet.
@@ -50,14 +50,14 @@ pub struct Hub<'a, R, C> {
     ghost room: { 0 < length input.items },
 }
 
-impl<'a, R: Wait, C: Crew + Drop> Hub<'a, R, C> {
+impl<'a, R: Wait, O: Observer, C: Crew + Drop> Hub<'a, R, O, C> {
     ghost use Rattle.ug_coord.specs.HubViews.{hub_seen};
 
     // The rank is gone: it is heard no more, and the book takes it for dead.
     fn lose(&mut self, rank: u32)
         requires { rank < ranks_of self.old.book }
         ensures seen { hub_seen C.seen self.new ≡ without rank (hub_seen C.seen self.old) }
-        ensures same { IsSameRun self.old.book self.new.book }
+        ensures quiet { IsQuiet self.old.book self.new.book }
         ensures frame { self.new.frame ≡ self.old.frame }
     {
         if self.crew.is_alive(rank) {
@@ -72,7 +72,7 @@ impl<'a, R: Wait, C: Crew + Drop> Hub<'a, R, C> {
         requires alive { IsAlive (C.seen self.old.crew) rank }
         ensures sent { sent_or_failed result (hub_seen C.seen self.old) (hub_seen C.seen self.new)
             rank self.old.frame.items }
-        ensures same { IsSameRun self.old.book self.new.book }
+        ensures quiet { IsQuiet self.old.book self.new.book }
         ensures frame { self.new.frame ≡ self.old.frame }
     {
         if self.crew.send(rank, &self.frame).is_ok() {
@@ -88,7 +88,7 @@ impl<'a, R: Wait, C: Crew + Drop> Hub<'a, R, C> {
         requires there { rank < ranks_of self.old.book }
         ensures launched { launched_or_failed result (hub_seen C.seen self.old)
             (hub_seen C.seen self.new) rank }
-        ensures same { IsSameRun self.old.book self.new.book }
+        ensures quiet { IsQuiet self.old.book self.new.book }
         ensures frame { self.new.frame ≡ self.old.frame }
     {
         if self.crew.launch(rank).is_ok() {
@@ -106,7 +106,7 @@ impl<'a, R: Wait, C: Crew + Drop> Hub<'a, R, C> {
         ensures on { (phase : Phase) (from : Standing) → IsOnAs phase from (hub_seen C.seen self.old)
             → IsOnAs phase from (hub_seen C.seen self.new) }
         ensures frame { IsSetUpFrame self.new.book self.new.frame.items }
-        ensures same { IsSameRun self.old.book self.new.book }
+        ensures quiet { IsQuiet self.old.book self.new.book }
     {
         if self.crew.is_alive(rank) {
             return;
@@ -129,6 +129,8 @@ impl<'a, R: Wait, C: Crew + Drop> Hub<'a, R, C> {
         ensures over { self.new.wants ≡ false → IsOver self.new.book }
         ensures kept { IsKeptBy (kept_seen keeper.new (D.seen disk.new)) }
         ensures same { IsSameRun self.old.book self.new.book }
+        ensures tried { HasTriedEach self.old.book self.new.book
+            (kept_seen keeper.old (D.seen disk.old)) (kept_seen keeper.new (D.seen disk.new)) }
     {
         self.start_all();
         self.go_on(keeper, disk);
@@ -141,7 +143,7 @@ impl<'a, R: Wait, C: Crew + Drop> Hub<'a, R, C> {
         requires frame { IsSetUpFrame self.old.book self.old.frame.items }
         ensures on { (phase : Phase) (from : Standing) → IsOnAs phase from (hub_seen C.seen self.old)
             → IsOnAs phase from (hub_seen C.seen self.new) }
-        ensures same { IsSameRun self.old.book self.new.book }
+        ensures quiet { IsQuiet self.old.book self.new.book }
     {
         for rank in 0..self.book.settings().solvers {
             self.start(rank);
@@ -158,7 +160,7 @@ impl<'a, R: Wait, C: Crew + Drop> Hub<'a, R, C> {
             → IsOnAs phase from (record (hub_seen C.seen self.old) { book = before })
             → IsOrderTold before self.old.book told
             → IsOnAs phase from (hub_seen C.seen self.new) }
-        ensures same { IsSameRun self.old.book self.new.book }
+        ensures quiet { IsQuiet self.old.book self.new.book }
     {
         let rank = told.rank;
         if !self.crew.is_alive(rank) {
@@ -183,7 +185,7 @@ impl<'a, R: Wait, C: Crew + Drop> Hub<'a, R, C> {
         requires on { (from : Standing) × IsOnIn AnyPhase from (hub_seen C.seen self.old) }
         ensures on { (phase : Phase) (from : Standing) → IsOnAs phase from (hub_seen C.seen self.old)
             → IsOnAs phase from (hub_seen C.seen self.new) }
-        ensures same { IsSameRun self.old.book self.new.book }
+        ensures quiet { IsQuiet self.old.book self.new.book }
         ensures none { result ≡ false → self.new.book.orders ≡ [] }
     {
         // Each order of a book has a frame.
@@ -202,10 +204,10 @@ impl<'a, R: Wait, C: Crew + Drop> Hub<'a, R, C> {
         requires on { (from : Standing) × IsOnIn AnyPhase from (hub_seen C.seen self.old) }
         ensures on { (phase : Phase) (from : Standing) → IsOnAs phase from (hub_seen C.seen self.old)
             → IsOnAs phase from (hub_seen C.seen self.new) }
-        ensures same { IsSameRun self.old.book self.new.book }
+        ensures quiet { IsQuiet self.old.book self.new.book }
         ensures all { self.new.wants ≡ false → self.new.book.orders ≡ [] }
     {
-        for _ in self.rt.forever() {
+        for _ in self.host.rt.forever() {
             if self.wants {
                 return;
             }
@@ -221,7 +223,7 @@ impl<'a, R: Wait, C: Crew + Drop> Hub<'a, R, C> {
         requires more { ¬ IsOver self.old.book }
         ensures on { (from : Standing) → IsOnIn IsRested from (hub_seen C.seen self.old)
             → IsOnIn (is_next Hearing) from (hub_seen C.seen self.new) }
-        ensures same { IsSameRun self.old.book self.new.book }
+        ensures quiet { IsQuiet self.old.book self.new.book }
     {
         match self.book.decide() {
             Ok(()) => {}
@@ -264,10 +266,10 @@ impl<'a, R: Wait, C: Crew + Drop> Hub<'a, R, C> {
             → IsOnIn (is_next Deciding) from (hub_seen C.seen self.new))
             ((phase : Phase) (from : Standing) → IsOnAs phase from (hub_seen C.seen self.old)
             → IsOnAs phase from (hub_seen C.seen self.new)) }
-        ensures same { IsSameRun self.old.book self.new.book }
+        ensures hears { HearsOne self.old.book self.new.book }
         ensures nothing { result ≡ false → self.new.book ≡ self.old.book }
     {
-        match next_of(self.alloc, &mut self.streams, rank) {
+        match next_of(self.host.alloc, &mut self.streams, rank) {
             Ok(Next::Message(report)) => {
                 self.hear(rank, report);
                 true
@@ -279,6 +281,7 @@ impl<'a, R: Wait, C: Crew + Drop> Hub<'a, R, C> {
             Ok(Next::BadFrame { .. }) => {
                 self.last = None;
                 self.lose(rank);
+                self.host.observer.drops(rank, Dropped::Nonsense);
                 true
             }
             Err(_) => {
@@ -294,11 +297,31 @@ impl<'a, R: Wait, C: Crew + Drop> Hub<'a, R, C> {
         requires hearable { IsHearable report }
         ensures heard { HasHeardReport (hub_seen C.seen self.old) (hub_seen C.seen self.new) rank
             report }
-        ensures same { IsSameRun self.old.book self.new.book }
+        ensures hears { HearsOne self.old.book self.new.book }
     {
-        if self.book.hear(rank, report) == Heard::Memory {
-            self.wants = true;
+        let is_point = is_point(&report);
+        let was_alive = self.book.is_alive(rank);
+        let heard = self.book.hear(rank, report);
+        self.wants = self.wants || heard == Heard::Memory;
+        if was_alive && !self.book.is_alive(rank) {
+            self.host.observer.drops(rank, Dropped::Untrue);
         }
+        self.observe(is_point && heard == Heard::Kept);
+    }
+
+    // Tells how the run stands, if that is wanted now and memory suffices.
+    fn observe(&self, is_better: bool) {
+        if !self.host.observer.wants(self.book.count(), is_better) {
+            return;
+        }
+        let Ok(image) = image_of(self.host.alloc, &self.book, 1) else {
+            return;
+        };
+        if let Some(progress) = progress_of(self.host.alloc, &image) {
+            self.host.observer.tell(&progress);
+            drop(progress);
+        }
+        drop(image);
     }
 
     // Waits until something comes, and hears the first report of it.
@@ -308,7 +331,7 @@ impl<'a, R: Wait, C: Crew + Drop> Hub<'a, R, C> {
         requires told { self.old.book.orders ≡ [] }
         ensures on { (from : Standing) → IsOnIn (is_next Hearing) from (hub_seen C.seen self.old)
             → IsOnIn IsRested from (hub_seen C.seen self.new) }
-        ensures same { IsSameRun self.old.book self.new.book }
+        ensures hears { HearsOne self.old.book self.new.book }
     {
         match take_turn(&mut self.crew, &mut self.streams, &mut self.input) {
             Turn::Fed { rank } => {
@@ -326,7 +349,7 @@ impl<'a, R: Wait, C: Crew + Drop> Hub<'a, R, C> {
         requires on { (from : Standing) × IsOnIn IsBrokenOff from (hub_seen C.seen self.old) }
         ensures on { (from : Standing) → IsOnIn IsBrokenOff from (hub_seen C.seen self.old)
             → IsOnIn IsBrokenOff from (hub_seen C.seen self.new) }
-        ensures same { IsSameRun self.old.book self.new.book }
+        ensures quiet { IsQuiet self.old.book self.new.book }
     {
         for rank in 0..self.book.settings().solvers {
             self.lose(rank);
@@ -340,7 +363,7 @@ impl<'a, R: Wait, C: Crew + Drop> Hub<'a, R, C> {
         requires told { self.old.book.orders ≡ [] }
         ensures on { (from : Standing) → IsOnIn (is_next Hearing) from (hub_seen C.seen self.old)
             → IsOnIn IsRested from (hub_seen C.seen self.new) }
-        ensures same { IsSameRun self.old.book self.new.book }
+        ensures hears { HearsOne self.old.book self.new.book }
     {
         match self.last {
             Some(rank) if (rank as usize) < self.streams.len() => {
@@ -373,7 +396,8 @@ impl<'a, R: Wait, C: Crew + Drop> Hub<'a, R, C> {
             → IsOnIn IsRested from (hub_seen C.seen self.new))
             ((from : Standing) → IsOnIn IsRested from (hub_seen C.seen self.old)
             → IsOnIn AnyPhase from (hub_seen C.seen self.new)) }
-        ensures same { IsSameRun self.old.book self.new.book }
+        ensures hears { MatchBool result (HearsOne self.old.book self.new.book)
+            (IsQuiet self.old.book self.new.book) }
         ensures over { result ≡ false → self.new.wants ≡ false → IsOver self.new.book }
     {
         self.decide();
@@ -407,13 +431,19 @@ impl<'a, R: Wait, C: Crew + Drop> Hub<'a, R, C> {
             (kept_seen keeper.new (D.seen disk.new))) }
         ensures kept { IsKeptBy (kept_seen keeper.new (D.seen disk.new)) }
         ensures same { IsSameRun self.old.book self.new.book }
+        ensures tried { HasTriedEach self.old.book self.new.book
+            (kept_seen keeper.old (D.seen disk.old)) (kept_seen keeper.new (D.seen disk.new)) }
         ensures over { result ≡ false → self.new.wants ≡ false → IsOver self.new.book }
     {
         let before = self.book.count();
         if !self.step() {
             return false;
         }
-        if is_save_due(&self.book, before) {
+        let count = self.book.count();
+        if count == before {
+            return true;
+        }
+        if is_save_due(self.book.settings().every, count) {
             keeper.keep(disk, &self.book);
         }
         true
@@ -432,8 +462,10 @@ impl<'a, R: Wait, C: Crew + Drop> Hub<'a, R, C> {
         ensures over { self.new.wants ≡ false → IsOver self.new.book }
         ensures kept { IsKeptBy (kept_seen keeper.new (D.seen disk.new)) }
         ensures same { IsSameRun self.old.book self.new.book }
+        ensures tried { HasTriedEach self.old.book self.new.book
+            (kept_seen keeper.old (D.seen disk.old)) (kept_seen keeper.new (D.seen disk.new)) }
     {
-        for _ in self.rt.forever() {
+        for _ in self.host.rt.forever() {
             if self.has_stopped() {
                 return;
             }
@@ -473,6 +505,14 @@ impl<'a, R: Wait, C: Crew + Drop> Hub<'a, R, C> {
     }
 }
 
+// Whether it tells of a point.
+fn is_point(report: &Report) -> bool {
+    match report {
+        Report::Solution { .. } => true,
+        _ => false,
+    }
+}
+
 // Whether some rank is alive.
 fn is_any_alive(book: &Book) -> bool
     ensures { MatchBool result (¬ AllDead book.now) (AllDead book.now) }
@@ -485,9 +525,9 @@ fn is_any_alive(book: &Book) -> bool
     false
 }
 
-// Whether a report was heard since so many were, whose number asks for a save.
-fn is_save_due(book: &Book, before: u64) -> bool {
-    let count = book.count();
-    let every = book.settings().every;
-    count != before && every != 0 && count % every == 0
+// Whether the report of this number asks for a save.
+fn is_save_due(every: u64, count: u64) -> bool
+    ensures { result ≡ is_due every count }
+{
+    every != 0 && count % every == 0
 }

@@ -3,7 +3,8 @@
 ghost use Rattle.std.specs.Prelude.{◌≡◌};
 ghost use Rattle.ug_rules.specs.Books.{IsSoundBook};
 ghost use Rattle.ug_restart.specs.Outcomes.{IfBook};
-ghost use Rattle.ug_coord.specs.Keeping.{IsEndKept, IsKeptBy, IsOurs, Moves, missed_by, unsaved_by};
+ghost use Rattle.ug_coord.specs.Keeping.{HasTried, IsEndKept, IsKeptBy, IsOurs, Moves, missed_by};
+ghost use Rattle.ug_coord.specs.Keeping.{unsaved_by};
 ghost use Rattle.ug_coord.specs.Keepers.{kept_seen};
 
 use std::alloc::Global;
@@ -26,6 +27,8 @@ impl Keeper {
         ensures moves { Moves (IsSoundBook book.now)
             (IsOurs (kept_seen self.old (D.seen disk.old)) book.now)
             (kept_seen self.old (D.seen disk.old)) (kept_seen self.new (D.seen disk.new)) }
+        ensures tried { HasTried 1 (kept_seen self.old (D.seen disk.old))
+            (kept_seen self.new (D.seen disk.new)) }
     {
         match &mut self.saves {
             Some(saves) => {

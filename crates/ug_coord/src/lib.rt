@@ -5,11 +5,9 @@
 //! What it did is a course of deeds by the rules of the book, which the crew's bytes show.
 #![tactic(auto)]
 
-mod host;
 mod hub;
 mod keeper;
 mod solving;
 mod streams;
 
-pub use host::Host;
 pub use solving::{Coordinated, coordinate};

@@ -1,16 +1,17 @@
 //! The coordinator's loop, from the start of the crew to its end.
 
-ghost use Rattle.std.specs.Prelude.{◌≡◌, ◌<◌, false, length, replicate, IfOk, IfSome, MatchBool};
+ghost use Rattle.std.specs.Prelude.{◌≡◌, ◌<◌, false, true, length, replicate, IfOk, IfSome, MatchBool};
+ghost use Rattle.ug_rules.specs.Books.{IsBook, IsSoundBook};
+ghost use Rattle.ug_restart.specs.Outcomes.{HasFeasible, IfAnswered, IfBook, IsRight};
 ghost use Rattle.ug_stream.specs.Streams.{first};
 ghost use Rattle.ug_checkpoint.specs.Savers.{IsKept};
 ghost use Rattle.ug_book.specs.Openings.{IsOpening, opening_book};
 ghost use Rattle.ug_coord.specs.Ends.{IsAnswered, IsOver, is_ended, ranks_of};
 ghost use Rattle.ug_coord.specs.Hubs.{HasCoordinated, IsFresh, IsSetUpFrame};
-ghost use Rattle.ug_coord.specs.Keeping.{Begins, HasConcluded, HasKept, IsBegun, IsKeptBy};
-ghost use Rattle.ug_coord.specs.Keeping.{IsKeptSafe, IsNothing, savers};
+ghost use Rattle.ug_coord.specs.Keeping.{AreEachSaved, Begins, HasConcluded, HasKept, IsBegun};
+ghost use Rattle.ug_coord.specs.Keeping.{IsKeptBy, IsKeptSafe, IsNothing, savers};
 ghost use Rattle.ug_coord.specs.Keepers.{kept_seen};
 
-use crate::host::Host;
 use crate::hub::Hub;
 use crate::keeper::Keeper;
 use std::alloc::{AllocError, Global};
@@ -21,7 +22,7 @@ use ug_disk::Disk;
 use ug_frames::{Order, encode_order};
 use ug_io::{Crew, zeros};
 use ug_records::to_record;
-use ug_restart::{End, Outcome, Saves};
+use ug_restart::{End, Host, Observer, Outcome, Saves, tell_begin};
 use ug_stream::Assembler;
 
 /// How many bytes are heard at once.
@@ -38,8 +39,8 @@ pub struct Coordinated<C> {
 /// lives: starts each rank, and goes on until an end is due. At the end each rank that lives is
 /// told. With a saver the book is saved as often as its settings say, and at last the ending book.
 #[tactic(auto)]
-pub fn coordinate<R: Wait, D: Disk, C: Crew + Drop>(
-    host: &Host<'_, R>,
+pub fn coordinate<R: Wait, D: Disk, O: Observer, C: Crew + Drop>(
+    host: &Host<'_, R, O>,
     opening: &Opening,
     saver: Option<Saver>,
     disk: &mut D,
@@ -56,7 +57,11 @@ pub fn coordinate<R: Wait, D: Disk, C: Crew + Drop>(
     // What stands on the disk.
     ensures kept { HasKept (opening_book opening.now) saver result.outcome
         (D.seen disk.old) (D.seen disk.new) }
+
+    // A save was tried on each delivery whose number asks for one, and one at the end.
+    ensures each { AreEachSaved saver result.outcome (D.seen disk.new) }
 {
+    tell_begin(host.observer, opening);
     match keeper_of(host.alloc, opening, saver) {
         Ok(keeper) => solve(host, opening, keeper, disk, crew),
         Err(_) => Coordinated {
@@ -98,8 +103,8 @@ fn keeper_of(alloc: Global, opening: &Opening, saver: Option<Saver>) -> Result<K
 }
 
 // With what saves the book.
-fn solve<R: Wait, D: Disk, C: Crew + Drop>(
-    host: &Host<'_, R>,
+fn solve<R: Wait, D: Disk, O: Observer, C: Crew + Drop>(
+    host: &Host<'_, R, O>,
     opening: &Opening,
     mut keeper: Keeper,
     disk: &mut D,
@@ -114,6 +119,7 @@ fn solve<R: Wait, D: Disk, C: Crew + Drop>(
         (IsKeptSafe (savers keeper.saves) (D.seen disk.old) (D.seen disk.new)) }
     ensures kept { HasKept (opening_book opening.now) (savers keeper.saves) result.outcome
         (D.seen disk.old) (D.seen disk.new) }
+    ensures each { AreEachSaved (savers keeper.saves) result.outcome (D.seen disk.new) }
 {
     let parts = match parts_of(host.alloc, opening) {
         Ok(parts) => parts,
@@ -132,8 +138,7 @@ fn solve<R: Wait, D: Disk, C: Crew + Drop>(
         setup,
     } = parts;
     let mut hub = Hub {
-        rt: host.rt,
-        alloc: host.alloc,
+        host,
         book,
         crew,
         streams,
@@ -190,8 +195,10 @@ fn parts_of(alloc: Global, opening: &Opening) -> Result<Parts, AllocError>
         ≡ replicate (ranks_of parts.book) first) }
     ensures room { IfOk result (λ parts. 0 < length parts.input.items) }
     ensures setup { IfOk result (λ parts. IsSetUpFrame parts.book parts.setup.items) }
+    ensures made { IfOk result (λ parts. IsBook parts.book) }
 {
     let book = Book::new(alloc, opening)?;
+    let _problem = book.problem();
     let Ok(streams) = streams_of(alloc, book.settings().solvers) else {
         drop(book);
         return Err(AllocError);
@@ -249,10 +256,15 @@ fn setup_of(alloc: Global, book: &Book) -> Result<Vec<u8>, AllocError>
 }
 
 // How a run ends whose end is due, unless memory was wanting.
+#[tactic(auto, using(crate::proofs::Ends::book_feasible))]
 fn end_of(book: Book, wants: bool) -> End
     requires { wants ≡ false → IsOver book }
-    ensures { is_ended result book }
+    ensures ended { is_ended result book }
+    ensures feasible { IfBook result HasFeasible }
+    ensures right { IfAnswered result (λ b. IsSoundBook b → IsRight b) }
 {
+    // Whatever it began with, the incumbent of a book is feasible for its problem.
+    let _problem = book.problem();
     if wants {
         drop(book);
         return End::Memory;
@@ -266,9 +278,10 @@ fn end_of(book: Book, wants: bool) -> End
     End::Stranded(book)
 }
 
-// Whether no node is held.
+// Whether no node is held. The answer of a sound book is then right.
 fn is_answered(book: &Book) -> bool
-    ensures { MatchBool result (IsAnswered book.now) (¬ IsAnswered book.now) }
+    ensures none { MatchBool result (IsAnswered book.now) (¬ IsAnswered book.now) }
+    ensures right { result ≡ true → IsSoundBook book.now → IsRight book.now }
 {
     match book.answer() {
         Some(_) => true,

@@ -1,7 +1,7 @@
 //! What came from each rank, put together to reports.
 
 ghost use Rattle.std.specs.Prelude.{◌≡◌, ◌<◌, length, slice_index_or, slice_set, IfOk, OnOk, OnErr};
-ghost use Rattle.ug_stream.specs.Streams.{fed, first};
+ghost use Rattle.ug_stream.specs.Streams.{fed, first, shut};
 ghost use Rattle.ug_coord.specs.Reading.{HasRead, HasTaken};
 
 use std::alloc::{AllocError, Global};
@@ -38,14 +38,23 @@ pub fn take_turn<C: Crew>(crew: &mut C, streams: &mut [Assembler], buffer: &mut 
     }
 }
 
-// The next bytes of the rank.
+// The next bytes of the rank. Where there is no memory for them none is read any more: what came
+// behind them would not be what the rank told.
 fn feed(streams: &mut [Assembler], rank: u32, piece: &[u8]) -> Result<(), AllocError>
     requires { rank < length streams.old }
     ensures ok { OnOk result (streams.new
         ≡ slice_set streams.old rank (fed (slice_index_or streams.old rank first) piece.now)) }
-    ensures err { OnErr result (streams.new ≡ streams.old) }
+    ensures err { OnErr result (streams.new
+        ≡ slice_set streams.old rank (shut (slice_index_or streams.old rank first))) }
 {
-    streams[rank as usize].feed(piece)
+    let stream = &mut streams[rank as usize];
+    match stream.feed(piece) {
+        Ok(()) => Ok(()),
+        Err(error) => {
+            stream.shut();
+            Err(error)
+        }
+    }
 }
 
 /// What comes next of the rank.

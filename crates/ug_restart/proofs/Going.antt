@@ -9,7 +9,7 @@ use Rattle.ug_restart.specs.declared.outcome.Attempt.{Attempt}
 use Rattle.ug_restart.specs.declared.outcome.Attempt.TheVariants.{Saved, Missed, Unsaved}
 use Rattle.ug_restart.specs.declared.saves.Saves.{Saves}
 use Rattle.ug_book.specs.Openings.{opening_book}
-use Rattle.ug_restart.specs.Saves.{book_of}
+use Rattle.ug_restart.specs.Saves.{IsLastWith, book_of}
 use Rattle.ug_restart.specs.Moments.{IsCoveredNow, IsFoundNow, IsOfRun}
 use Rattle.ug_restart.specs.Going.{GoesOn, IsAttempted, IsEachAFault, StaysCovered, StaysFound, Time, time}
 use Rattle.ug_restart.proofs.Covering.{covered_joined, covered_same, finds_more}
@@ -154,8 +154,13 @@ with_calls Covers Ours old new calls more goes = record {
 pub attempted_more : (P Q : Image → Type 0) → ((image : Image) → P image → Q image)
     → (attempt : Attempt) (old new : Time) → IsAttempted P attempt old new
     → IsAttempted Q attempt old new
-attempted_more P Q more Saved old new is =
-    (finds_more new.disk.told P Q more is.0, is.1, is.2)
+attempted_more P Q more Saved old new is = (
+  finds_more new.disk.told (IsLastWith P new.saves) (IsLastWith Q new.saves)
+      (λ image last. record { is = more image last.is; sequence = last.sequence }) is.0,
+  is.1,
+  is.2,
+  is.3,
+)
 attempted_more P Q more Missed old new is = is
 attempted_more P Q more Unsaved old new is = is
 

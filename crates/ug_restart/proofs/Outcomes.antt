@@ -15,11 +15,11 @@ use Rattle.ug_restart.specs.declared.outcome.End.TheVariants.{Answered, Limited,
 use Rattle.ug_book.specs.declared.opening.Opening.{Opening}
 use Rattle.ug_book.specs.Openings.{opening_book}
 use Rattle.ug_restart.specs.declared.saves.Saves.{Saves}
-use Rattle.ug_restart.specs.Saves.{IsOfBook, begun, book_of, missed_of, one_more, opening_of, saver_of, unsaved_of}
+use Rattle.ug_restart.specs.Saves.{IsLastWith, IsOfBook, begun, book_of, missed_of, one_more, opening_of, saver_of, unsaved_of}
 use Rattle.ug_restart.specs.Moments.{AllCovered, FindsIn, IsCoveredFind, IsCoveredNow, IsFoundNow, IsOfRun}
 use Rattle.ug_restart.specs.Going.{GoesOn, IsAttempted, Time, time}
 use Rattle.ug_restart.specs.Outcomes.{IfBook, IsLastSave, IsMissedByFaults}
-use Rattle.ug_restart.proofs.Covering.{covered_each}
+use Rattle.ug_restart.proofs.Covering.{covered_each, finds_more}
 use Rattle.ug_restart.proofs.Finds.{found_each}
 
 -- one more save is one at least
@@ -30,11 +30,12 @@ counted count before more = omega (arith, more)
 last_save : (outcome : Outcome) (b : BookState) (attempt : Attempt) (mid new : Time)
     → outcome.missed ≡ missed_of new.saves → outcome.unsaved ≡ unsaved_of new.saves
     → IsAttempted (IsOfBook b) attempt mid new → IsLastSave outcome new.disk.told b attempt
-last_save outcome b Saved mid new missed unsaved is = is.0
+last_save outcome b Saved mid new missed unsaved is =
+    finds_more new.disk.told (IsLastWith (IsOfBook b) new.saves) (IsOfBook b) (λ image last. last.is) is.0
 last_save outcome b Missed mid new missed unsaved is =
-    counted outcome.missed (missed_of mid.saves) (missed ∙ is.1)
+    counted outcome.missed (missed_of mid.saves) (missed ∙ is.2)
 last_save outcome b Unsaved mid new missed unsaved is =
-    counted outcome.unsaved (unsaved_of mid.saves) (unsaved ∙ is.2)
+    counted outcome.unsaved (unsaved_of mid.saves) (unsaved ∙ is.3)
 
 some_last : (outcome : Outcome) (b : BookState) (last : Option Attempt) (mid new : Time)
     → outcome.missed ≡ missed_of new.saves → outcome.unsaved ≡ unsaved_of new.saves

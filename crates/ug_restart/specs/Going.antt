@@ -8,8 +8,8 @@ use Rattle.ug_image.specs.declared.image.Image.{Image}
 use Rattle.ug_restart.specs.declared.saves.Saves.{Saves}
 use Rattle.ug_restart.specs.declared.outcome.Attempt.{Attempt}
 use Rattle.ug_restart.specs.declared.outcome.Attempt.TheVariants.{Saved, Missed, Unsaved}
-use Rattle.ug_restart.specs.Saves.{book_of, saver_of, opening_of, calls_of, missed_of, one_more}
-use Rattle.ug_restart.specs.Saves.{unsaved_of}
+use Rattle.ug_restart.specs.Saves.{IsLastWith, book_of, saver_of, opening_of, calls_of, missed_of}
+use Rattle.ug_restart.specs.Saves.{one_more, sequence_at, unsaved_of}
 use Rattle.ug_restart.specs.Moments.{AllCovered, FindsIn, FindsOne, IsCoveredNow, IsFoundNow, IsOfRun}
 use Rattle.ug_restart.specs.Moments.{LastIs, LastIsCovered}
 
@@ -58,18 +58,21 @@ pub record GoesOn (Covers Ours : Type 0) (old new : Time) : Type 0 where
       → IsFoundNow (IsOfRun (book_of old.saves)) (saver_of old.saves) old.disk.told
       → StaysFound (book_of old.saves) old new
 
--- A save became this: an image that has P is found, whatever a crash leaves, and no count rose; or
--- the disk failed, and one more is missed; or memory was wanting, and one more is unsaved.
+-- A save became this: an image that has P is found, whatever a crash leaves, under the next sequence,
+-- and no count rose; or the disk failed, and one more is missed; or memory was wanting, and one more
+-- is unsaved.
 abbrev pub IsAttempted : (Image → Type 0) → Attempt → Time → Time → Type 0
 IsAttempted P Saved old new =
-    FindsOne P new.disk.told × (missed_of new.saves ≡ missed_of old.saves)
-    × (unsaved_of new.saves ≡ unsaved_of old.saves)
+    FindsOne (IsLastWith P new.saves) new.disk.told
+    × (sequence_at new.saves ≡ sequence_at old.saves + 1)
+    × (missed_of new.saves ≡ missed_of old.saves) × (unsaved_of new.saves ≡ unsaved_of old.saves)
 IsAttempted P Missed old new =
-    Rose old.disk.faults new.disk.faults
+    Rose old.disk.faults new.disk.faults × (sequence_at new.saves ≡ sequence_at old.saves)
     × (missed_of new.saves ≡ one_more (missed_of old.saves))
     × (unsaved_of new.saves ≡ unsaved_of old.saves)
 IsAttempted P Unsaved old new =
-    (new.disk.faults ≡ old.disk.faults) × (missed_of new.saves ≡ missed_of old.saves)
+    (new.disk.faults ≡ old.disk.faults) × (sequence_at new.saves ≡ sequence_at old.saves)
+    × (missed_of new.saves ≡ missed_of old.saves)
     × (unsaved_of new.saves ≡ one_more (unsaved_of old.saves))
 
 -- nothing has changed

@@ -1,8 +1,11 @@
--- What stands on the disk when a run has ended, and what its outcome tells of that.
-use Rattle.std.specs.Prelude.{◌≡◌, ◌≤◌, ◌<◌, ◌⊎◌, ◌+◌, ◌-◌, ◌^◌, Option, IsSomeAnd}
+-- How a run has ended, what stands on the disk then, and what its outcome tells of that.
+use Rattle.std.specs.Prelude.{◌≡◌, ◌≢◌, ◌≤◌, ◌<◌, ◌⊎◌, ◌+◌, ◌-◌, ◌^◌, [], Option, IfSome, IsSomeAnd}
 use Rattle.ug_io.specs.Outside.{Rose}
 use Rattle.ug_disk.specs.Histories.{DiskSeen, History}
-use Rattle.ug_rules.specs.State.{BookState}
+use Rattle.ug_problem.specs.Feasible.{Feasible}
+use Rattle.ug_problem.specs.Incumbents.{one_kept}
+use Rattle.ug_problem.specs.Right.{Right}
+use Rattle.ug_rules.specs.State.{BookState, held_nodes}
 use Rattle.ug_restart.specs.declared.outcome.Attempt.{Attempt}
 use Rattle.ug_restart.specs.declared.outcome.Attempt.TheVariants.{Saved, Missed, Unsaved}
 use Rattle.ug_restart.specs.declared.outcome.End.{End}
@@ -17,6 +20,38 @@ IfBook (Answered b) P = P b
 IfBook (Limited b) P = P b
 IfBook (Stranded b) P = P b
 IfBook Memory P = Unit {0}
+
+-- where it ended with an answer, its book has P
+abbrev pub IfAnswered : End → (BookState → Type 0) → Type 0
+IfAnswered (Answered b) P = P b
+IfAnswered (Limited b) P = Unit {0}
+IfAnswered (Stranded b) P = Unit {0}
+IfAnswered Memory P = Unit {0}
+
+-- where it ended at the limit, its book has P
+abbrev pub IfLimited : End → (BookState → Type 0) → Type 0
+IfLimited (Answered b) P = Unit {0}
+IfLimited (Limited b) P = P b
+IfLimited (Stranded b) P = Unit {0}
+IfLimited Memory P = Unit {0}
+
+abbrev pub IsStranded : End → Type 0
+IsStranded (Stranded b) = Unit {0}
+IsStranded end = ⊥
+
+-- its incumbent is feasible, if there is one
+abbrev pub HasFeasible : BookState → Type 0
+HasFeasible b = IfSome b.best (Feasible b.problem)
+
+-- its answer is right: the incumbent is optimal within the gap, or there is none, and no point is
+-- feasible
+abbrev pub IsRight : BookState → Type 0
+IsRight b = Right b.problem b.settings.gap (one_kept b.best)
+
+-- a node is held, and as many deliveries were heard as may be
+pub record IsLimited (b : BookState) : Type 0 where
+  pub held : held_nodes b ≢ []
+  pub spent : b.settings.limit ≤ b.heard
 
 -- the disk was not touched, and no save is counted
 pub record IsUntouched (outcome : Outcome) (old new : DiskSeen) : Type 0 where

@@ -22,6 +22,10 @@ opening_of saves = saves.opening
 abbrev pub book_of : Saves → BookState
 book_of saves = opening_book saves.opening
 
+-- the sequence of the last acknowledged image
+abbrev pub sequence_at : Saves → ℕ
+sequence_at saves = sequence_of saves.saver
+
 -- how many calls the history of the last snapshot had that was saved
 abbrev pub calls_of : Saves → ℕ
 calls_of saves = saves.calls
@@ -66,6 +70,11 @@ pub record IsOfSnapshot (s : SnapshotState) (made : Image) : Type 0 where
 pub record IsOfBook (b : BookState) (made : Image) : Type 0 where
   pub sequence : ℕ
   pub moment : IsImageOf b sequence made
+
+-- it has P, and the sequence of the last acknowledged image
+pub record IsLastWith (P : Image → Type 0) (saves : Saves) (made : Image) : Type 0 where
+  pub is : P made
+  pub sequence : made.sequence ≡ sequence_at saves
 
 -- it may be saved next
 pub record IsNext (saver : Saver) (made : Image) : Type 0 where

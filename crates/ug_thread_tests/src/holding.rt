@@ -1,7 +1,7 @@
 use std::alloc::{AllocError, Global};
 use std::sync::atomic::{AtomicU64, Ordering};
 use std::thread;
-use ug_threads::{Moment, Observer};
+use ug_restart::{Moment, Observer};
 
 /// That a rank comes to a moment for the time of this number, of which 1 is the first.
 #[derive(Clone, Copy, PartialEq, Eq)]

@@ -2,7 +2,7 @@ use crate::expect::same;
 use crate::holding::{Coming, Hold, HoldingObserver};
 use crate::yielding::YieldingObserver;
 use std::thread::join;
-use ug_threads::{Moment, Observer, Unobserved};
+use ug_restart::{Moment, Observer, Unobserved};
 
 // When a rank has come to a moment so many times.
 fn coming(rank: u32, moment: Moment, number: u64) -> Coming {

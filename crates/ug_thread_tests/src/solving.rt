@@ -10,9 +10,9 @@ use std::thread::Threads;
 use ug_book::Opening;
 use ug_disk::{MemoryDisk, Script};
 use ug_problem::Shared;
-use ug_restart::{Outcome, Start, begin};
+use ug_restart::{Host, Observer, Outcome, Start, Unobserved, begin};
 use ug_rules::Settings;
-use ug_threads::{Host, Observer, Unobserved, solve_threads};
+use ug_threads::solve_threads;
 
 /// One box in the pool is enough, each delivery is followed by a snapshot, and so many may be
 /// heard.

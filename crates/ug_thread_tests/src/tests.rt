@@ -13,8 +13,7 @@ use std::sync::Wait;
 use std::thread::Threads;
 use ug_checkpoint::load;
 use ug_disk::MemoryDisk;
-use ug_restart::{Attempt, End, Outcome};
-use ug_threads::Unobserved;
+use ug_restart::{Attempt, End, Outcome, Unobserved};
 
 // Whether two ranks have found the value of the knapsack, and both are alive then: a caller who solves
 // alone has sent all ranks but 0 away.

@@ -1,6 +1,6 @@
 use std::sync::atomic::{AtomicU64, Ordering};
 use std::thread;
-use ug_threads::{Moment, Observer};
+use ug_restart::{Moment, Observer};
 
 // An odd number without a pattern.
 const STRIDE: u64 = 0x9e37_79b9_7f4a_7c15;

@@ -8,8 +8,9 @@ use Rattle.ug_restart.specs.declared.outcome.End.TheVariants.{Answered, Limited,
 use Rattle.ug_book.specs.declared.opening.Opening.{Opening}
 use Rattle.ug_book.specs.Openings.{IsCoveredOpening, opening_book}
 use Rattle.ug_restart.specs.Outcomes.{IfBook}
-use Rattle.ug_threads.specs.Ends.{HasFeasible, IfAnswered, IfLimited, IsEnding, IsLimited, IsReplayOf}
-use Rattle.ug_threads.specs.Ends.{IsRight, IsStranded}
+use Rattle.ug_restart.specs.Outcomes.{HasFeasible, IfAnswered, IfLimited, IsLimited}
+use Rattle.ug_threads.specs.Ends.{IsEnding, IsReplayOf}
+use Rattle.ug_restart.specs.Outcomes.{IsRight, IsStranded}
 use Rattle.ug_threads.specs.Outcomes.{HasEnded}
 
 -- an opening is covered where its book is sound

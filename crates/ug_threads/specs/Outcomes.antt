@@ -4,8 +4,9 @@ use Rattle.ug_rules.specs.State.{BookState, held_nodes}
 use Rattle.ug_rules.specs.Books.{IsSoundBook}
 use Rattle.ug_restart.specs.declared.outcome.End.{End}
 use Rattle.ug_restart.specs.Outcomes.{IfBook}
-use Rattle.ug_threads.specs.Ends.{HasFeasible, IfAnswered, IfLimited, IsLimited, IsReplayOf, IsRight}
-use Rattle.ug_threads.specs.Ends.{IsStranded}
+use Rattle.ug_restart.specs.Outcomes.{HasFeasible, IfAnswered, IfLimited, IsLimited, IsRight}
+use Rattle.ug_threads.specs.Ends.{IsReplayOf}
+use Rattle.ug_restart.specs.Outcomes.{IsStranded}
 
 -- how it ended, by its book
 pub record HasEnded (given : BookState) (end : End) : Type 0 where

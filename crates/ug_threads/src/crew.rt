@@ -3,13 +3,12 @@
 ghost use Rattle.std.specs.Prelude.{◌≡◌, length, IfOk};
 
 use crate::desk_seat::DeskSeat;
-use crate::host::Host;
-use crate::observer::Observer;
 use crossbeam_channel::Sender;
 use std::alloc::{AllocError, Global};
 use std::sync::{Mutex, Wait};
 use std::thread::{Scope, Threads};
 use ug_desk::{Desk, Pass};
+use ug_restart::{Host, Observer};
 use ug_snapshot::Snapshot;
 use ug_worker::work;
 

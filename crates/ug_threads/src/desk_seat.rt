@@ -1,13 +1,12 @@
 ghost use Rattle.std.specs.Prelude.{◌≡◌, ◌<◌, []};
 
-use crate::observer::{Moment, Observer, Progress};
-use crate::progress::progress_of;
 use crate::told::{answered, told};
 use crossbeam_channel::Sender;
 use std::alloc::{AllocError, Global};
 use std::sync::Wait;
 use ug_base::Task;
 use ug_desk::{Desk, Pass};
+use ug_restart::{Moment, Observer, Progress, progress_of};
 use ug_rows::{IntBox, Point};
 use ug_rules::Heard;
 use ug_snapshot::Snapshot;

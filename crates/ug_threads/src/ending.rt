@@ -4,7 +4,8 @@ ghost use Rattle.std.specs.Prelude.{◌≡◌, ◌≢◌, ◌↔◌, [], Some, I
 ghost use Rattle.ug_rules.specs.State.{held_nodes};
 ghost use Rattle.ug_rules.specs.Books.{IsSoundBook};
 ghost use Rattle.ug_restart.specs.Outcomes.{IfBook};
-ghost use Rattle.ug_threads.specs.Ends.{HasFeasible, IfAnswered, IfLimited, IsEnding, IsLimited, IsRight, IsStranded};
+ghost use Rattle.ug_restart.specs.Outcomes.{HasFeasible, IfAnswered, IfLimited, IsLimited, IsRight, IsStranded};
+ghost use Rattle.ug_threads.specs.Ends.{IsEnding};
 
 use ug_book::{Book, Opening};
 use ug_desk::Locked;

@@ -9,14 +9,9 @@ mod alone;
 mod crew;
 mod desk_seat;
 mod ending;
-mod host;
 mod listener;
-mod observer;
-mod progress;
 mod solve;
 mod together;
 mod told;
 
-pub use host::Host;
-pub use observer::{Moment, Observer, Progress, Unobserved};
 pub use solve::solve_threads;

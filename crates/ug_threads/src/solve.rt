@@ -11,17 +11,14 @@ ghost use Rattle.ug_restart.specs.Outcomes.{IsMissedByFaults, IsSavedOrCounted, 
 ghost use Rattle.ug_threads.specs.Outcomes.{HasEnded};
 
 use crate::ending::end_of;
-use crate::host::Host;
 use crate::listener::{Saving, Silent};
-use crate::observer::Observer;
-use crate::progress::tell_begin;
 use crate::together::solve;
 use std::sync::Wait;
 use std::thread::Threads;
 use ug_book::Opening;
 use ug_checkpoint::Saver;
 use ug_disk::Disk;
-use ug_restart::{End, Outcome, Saves, save_end};
+use ug_restart::{End, Host, Observer, Outcome, Saves, save_end, tell_begin};
 
 /// Solves what the opening has left, by as many threads as its settings have solvers, all of which
 /// have ended when it returns. With a saver the snapshots that the workers send are saved, and at

@@ -8,9 +8,7 @@ ghost use Rattle.ug_threads.specs.Ends.{IsEnding};
 use crate::alone::alone;
 use crate::crew::{Table, passes, places, start};
 use crate::ending::of_opening;
-use crate::host::Host;
 use crate::listener::{Listener, listen};
-use crate::observer::Observer;
 use crossbeam_channel::{Receiver, Sender, bounded};
 use std::alloc::{AllocError, Global};
 use std::sync::{Mutex, Wait};
@@ -18,6 +16,7 @@ use std::thread;
 use std::thread::Threads;
 use ug_book::{Book, Opening};
 use ug_desk::{Desk, Pass};
+use ug_restart::{Host, Observer};
 use ug_snapshot::Snapshot;
 
 /// How many snapshots may wait to be saved. Where so many do, no other is made.

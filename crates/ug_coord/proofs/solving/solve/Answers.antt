@@ -1,21 +1,24 @@
-use Rattle.std.proofs.Common.{sym, ap, subst, ◌∙◌}
+use Rattle.std.proofs.Common.{sym, ap, subst, ◌∙◌, arith}
 use Rattle.std.specs.Prelude.{replicate}
 use Rattle.ug_stream.specs.Streams.{first}
 use Rattle.ug_rules.specs.State.{BookState}
+use Rattle.ug_rules.specs.Books.{IsBook, IsSoundBook}
 use Rattle.ug_book.specs.Openings.{opening_book}
+use Rattle.ug_restart.specs.Outcomes.{HasFeasible, IfAnswered, IfBook, IsRight}
 use Rattle.ug_coord.specs.Ends.{is_ended, ranks_of}
 use Rattle.ug_coord.specs.Hubs.{beginning}
-use Rattle.ug_coord.specs.Keeping.{savers}
+use Rattle.ug_coord.specs.Keeping.{HasTriedEach, savers}
 use Rattle.ug_coord.specs.Keepers.{kept_seen}
 use Rattle.ug_coord.proofs.Coursing.{begun_on}
-use Rattle.ug_coord.proofs.Ends.{begun_ours, nothing_coordinated, nothing_kept, solved_coordinated, solved_kept}
-use Rattle.ug_coord.proofs.Kept.{ends_ours}
+use Rattle.ug_coord.proofs.Causes.{opening_alive}
+use Rattle.ug_coord.proofs.Ends.{begun_ours, each_nothing, nothing_coordinated, nothing_kept, solved_coordinated, solved_each, solved_kept}
+use Rattle.ug_coord.proofs.Kept.{ends_ours, run_on, same_of}
 use Rattle.ug_coord.proofs.solving.solve.Goals as goal
 
 pub returns-in-Err-clause-coordinated : goal.returns-in-Err-clause-coordinated
 returns-in-Err-clause-coordinated g c =
     nothing_coordinated (opening_book c.args.opening.now) (g.C.Crew.seen c.args.crew) (savers c.args.keeper.saves)
-    c.nothing.result (g.D.Disk.seen c.args.disk.now) c.requires.fresh c.nothing.ensures
+    c.nothing.result (g.D.Disk.seen c.args.disk.now) c.requires.fresh (opening_alive c.args.opening.now) c.nothing.ensures
 
 pub returns-in-Err-clause-kept : goal.returns-in-Err-clause-kept
 returns-in-Err-clause-kept g c =
@@ -23,14 +26,14 @@ returns-in-Err-clause-kept g c =
     (g.D.Disk.seen c.args.disk.now) c.nothing.ensures
 
 pub run-requires-clause-on : goal.run-requires-clause-on
-run-requires-clause-on g c = (
+run-requires-clause-on g c κs within = (
   beginning (opening_book c.args.opening.now) (g.C.Crew.seen c.args.crew).faults,
   begun_on (opening_book c.args.opening.now) _ c.requires.fresh c.in-Ok.ensures.book
       (c.in-Ok.ensures.streams ∙ ap (λ (b : BookState). replicate (ranks_of b) first) c.in-Ok.ensures.book),
 )
 
 pub run-requires-clause-ours : goal.run-requires-clause-ours
-run-requires-clause-ours g c = begun_ours c.args.opening.now c.args.keeper.saves _ c.requires.begun c.in-Ok.ensures.book
+run-requires-clause-ours g c κs within = begun_ours c.args.opening.now c.args.keeper.saves _ c.requires.begun c.in-Ok.ensures.book
 
 pub returns-clause-coordinated : goal.returns-clause-coordinated
 returns-clause-coordinated g c =
@@ -43,7 +46,17 @@ returns-clause-coordinated g c =
     (c.in-Ok.ensures.streams ∙ ap (λ (b : BookState). replicate (ranks_of b) first) c.in-Ok.ensures.book)) in
     solved_coordinated b faults (g.C.Crew.seen c.run.new.self.crew) c.run.new.self.book old mid
     (g.D.Disk.seen c.conclude-outcome.new.disk) c.conclude-outcome.result ends
-    (subst (λ e. is_ended e c.run.new.self.book) (sym c.conclude-outcome.ensures.end) c.end_of-end.ensures)
+    (record {
+      made = subst IsBook c.in-Ok.ensures.book c.in-Ok.ensures.made;
+      ended = subst (λ e. is_ended e c.run.new.self.book) (sym c.conclude-outcome.ensures.end)
+          c.end_of-end.ensures.ended;
+      same = run_on b _ c.run.new.self.book (same_of b _ c.in-Ok.ensures.book) c.run.ensures.same;
+      within = omega arith;
+      alive = opening_alive c.args.opening.now;
+      feasible = subst (λ e. IfBook e HasFeasible) (sym c.conclude-outcome.ensures.end) c.end_of-end.ensures.feasible;
+      right = subst (λ e. IfAnswered e (λ own. IsSoundBook own → IsRight own)) (sym c.conclude-outcome.ensures.end)
+          c.end_of-end.ensures.right;
+    })
     (ends_ours (beginning b faults) (g.C.Crew.seen c.run.new.self.crew) c.run.new.self.book old mid _ _ ends
     c.run.ensures.same
     (begun_ours c.args.opening.now c.args.keeper.saves _ c.requires.begun c.in-Ok.ensures.book))
@@ -60,8 +73,23 @@ returns-clause-kept g c =
     (c.in-Ok.ensures.streams ∙ ap (λ (b : BookState). replicate (ranks_of b) first) c.in-Ok.ensures.book)) in
     solved_kept c.args.opening.now (beginning b faults) (g.C.Crew.seen c.run.new.self.crew) c.run.new.self.book old mid
     (g.D.Disk.seen c.conclude-outcome.new.disk) c.conclude-outcome.result ends
-    (subst (λ e. is_ended e c.run.new.self.book) (sym c.conclude-outcome.ensures.end) c.end_of-end.ensures)
+    (subst (λ e. is_ended e c.run.new.self.book) (sym c.conclude-outcome.ensures.end) c.end_of-end.ensures.ended)
     (ends_ours (beginning b faults) (g.C.Crew.seen c.run.new.self.crew) c.run.new.self.book old mid _ _ ends
     c.run.ensures.same
     (begun_ours c.args.opening.now c.args.keeper.saves _ c.requires.begun c.in-Ok.ensures.book))
     c.requires.begun c.conclude-outcome.ensures.concluded
+
+pub returns-in-Err-clause-each : goal.returns-in-Err-clause-each
+returns-in-Err-clause-each g c =
+    each_nothing (savers c.args.keeper.saves) c.nothing.result (g.D.Disk.seen c.args.disk.now) c.nothing.ensures
+
+pub returns-clause-each : goal.returns-clause-each
+returns-clause-each g c =
+    let old = kept_seen c.args.keeper (g.D.Disk.seen c.args.disk.now) in
+    let mid = kept_seen c.run.new.keeper (g.D.Disk.seen c.run.new.disk) in
+    solved_each c.args.opening.now c.run.new.self.book old mid (g.D.Disk.seen c.conclude-outcome.new.disk)
+    c.conclude-outcome.result
+    (subst (λ e. is_ended e c.run.new.self.book) (sym c.conclude-outcome.ensures.end) c.end_of-end.ensures.ended)
+    c.requires.begun
+    (subst (λ (k : BookState). HasTriedEach k c.run.new.self.book old mid) c.in-Ok.ensures.book c.run.ensures.tried)
+    c.conclude-outcome.ensures.concluded

@@ -1,6 +1,7 @@
 use Rattle.std.proofs.Common.{refl}
 use Rattle.ug_coord.specs.HubViews.{hub_seen}
 use Rattle.ug_coord.proofs.Coursing.{decided_by, halted_by}
+use Rattle.ug_coord.proofs.Counts.{decided_quiet, stands_quiet}
 use Rattle.ug_coord.proofs.hub.Hub.decide.Goals as goal
 
 pub returns-in-Ok-clause-on : goal.returns-in-Ok-clause-on
@@ -12,3 +13,11 @@ pub returns-in-Err-clause-on : goal.returns-in-Err-clause-on
 returns-in-Err-clause-on g c from on =
     halted_by from (hub_seen g.C.Crew.seen c.args.self.now) _ _ c.requires.more c.in-Err.ensures.stands
     c.in-Err.ensures.same.wide refl on
+
+pub returns-in-Ok-clause-quiet : goal.returns-in-Ok-clause-quiet
+returns-in-Ok-clause-quiet g c =
+    decided_quiet c.args.self.now.book _ c.in-Ok.ensures.same c.in-Ok.ensures.decided
+
+pub returns-in-Err-clause-quiet : goal.returns-in-Err-clause-quiet
+returns-in-Err-clause-quiet g c =
+    stands_quiet _ c.args.self.now.book _ c.in-Err.ensures.same c.in-Err.ensures.stands

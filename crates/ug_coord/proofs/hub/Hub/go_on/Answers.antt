@@ -2,10 +2,11 @@ use Rattle.ug_coord.specs.HubViews.{hub_seen}
 use Rattle.ug_coord.specs.Hubs.{IsRested}
 use Rattle.ug_coord.specs.Keepers.{kept_seen}
 use Rattle.ug_coord.proofs.Kept.{any_kept, is_on, kept_first, kept_ours, run_on}
+use Rattle.ug_coord.proofs.Tries.{each_on}
 use Rattle.ug_coord.proofs.hub.Hub.go_on.Goals as goal
 
 pub advance-requires-clause-on : goal.advance-requires-clause-on
-advance-requires-clause-on g c =
+advance-requires-clause-on g c κs within =
     let k = kept_seen c.args.keeper.now (g.D.Disk.seen c.args.disk.now) in (
       c.requires.on.0,
       is_on IsRested c.requires.on.0 (hub_seen g.C.Crew.seen c.loop.self) k _
@@ -14,7 +15,7 @@ advance-requires-clause-on g c =
     )
 
 pub advance-requires-clause-ours : goal.advance-requires-clause-ours
-advance-requires-clause-ours g c =
+advance-requires-clause-ours g c κs within =
     let k = kept_seen c.args.keeper.now (g.D.Disk.seen c.args.disk.now) in
     kept_ours IsRested c.requires.on.0 (hub_seen g.C.Crew.seen c.loop.self) k
     (kept_seen c.loop.keeper (g.D.Disk.seen c.loop.disk)) c.args.self.now.book c.loop.self.book
@@ -37,4 +38,13 @@ loop-preserved g c = record {
   kept = c.advance.ensures.kept;
   same = run_on c.args.self.now.book c.loop.self.book c.advance.new.self.book c.loop.invariant.same
       c.advance.ensures.same;
+  tried = each_on c.args.self.now.book c.loop.self.book c.advance.new.self.book
+      (kept_seen c.args.keeper.now (g.D.Disk.seen c.args.disk.now)) (kept_seen c.loop.keeper (g.D.Disk.seen c.loop.disk))
+      (kept_seen c.advance.new.keeper (g.D.Disk.seen c.advance.new.disk)) c.loop.invariant.tried c.advance.ensures.tried;
 }
+
+pub returns-then-not-advance-clause-tried : goal.returns-then-not-advance-clause-tried
+returns-then-not-advance-clause-tried g c =
+    each_on c.args.self.now.book c.loop.self.book c.advance.new.self.book
+    (kept_seen c.args.keeper.now (g.D.Disk.seen c.args.disk.now)) (kept_seen c.loop.keeper (g.D.Disk.seen c.loop.disk))
+    (kept_seen c.advance.new.keeper (g.D.Disk.seen c.advance.new.disk)) c.loop.invariant.tried c.advance.ensures.tried

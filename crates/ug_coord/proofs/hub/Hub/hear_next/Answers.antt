@@ -31,7 +31,7 @@ returns-in-Ok-BadFrame-clause-on g c from on =
     c.in-Ok-BadFrame.field-0-0 c.requires.more c.requires.told
     (read_whole c.args.self.now.streams.len c.args.self.now.streams.items c.next_of.new.streams c.args.rank _
     (search rules) read)
-    refl c.lose.ensures.seen c.lose.ensures.same.wide c.requires.there on
+    refl c.lose.ensures.seen c.lose.ensures.quiet.run.wide c.requires.there on
 
 pub returns-in-Err-clause-on : goal.returns-in-Err-clause-on
 returns-in-Err-clause-on g c from on =

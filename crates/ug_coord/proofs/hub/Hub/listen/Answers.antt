@@ -5,10 +5,10 @@ use Rattle.ug_coord.proofs.Coursing.{any_in, deciding_rests, hearing_reads, stay
 use Rattle.ug_coord.proofs.hub.Hub.listen.Goals as goal
 
 pub hear_next-requires-clause-on : goal.hear_next-requires-clause-on
-hear_next-requires-clause-on g c = (c.requires.on.0, any_in (is_next Hearing) c.requires.on.0 _ c.requires.on.1)
+hear_next-requires-clause-on g c κs within = (c.requires.on.0, any_in (is_next Hearing) c.requires.on.0 _ c.requires.on.1)
 
 pub turn-requires-clause-on : goal.turn-requires-clause-on
-turn-requires-clause-on g c = (
+turn-requires-clause-on g c κs within = (
   c.requires.on.0,
   stays_in (is_next Hearing) c.requires.on.0 (hub_seen g.C.Crew.seen c.args.self.now)
       (hub_seen g.C.Crew.seen c.hear_next.new.self)

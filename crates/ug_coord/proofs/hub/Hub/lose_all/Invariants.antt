@@ -1,6 +1,5 @@
-use Rattle.ug_book.specs.Views.{IsSameRun}
 use Rattle.ug_coord.specs.Deeds.{Standing}
-use Rattle.ug_coord.specs.Hubs.{IsBrokenOff, IsOnIn}
+use Rattle.ug_coord.specs.Hubs.{IsBrokenOff, IsOnIn, IsQuiet}
 use Rattle.ug_coord.specs.HubViews.{hub_seen}
 use Rattle.ug_coord.proofs.hub.Hub.lose_all.Given as goal
 
@@ -8,5 +7,5 @@ abbrev pub invariant-loop-rank : goal.invariant-loop-rank
 invariant-loop-rank g l = record {
   on : (from : Standing) → IsOnIn IsBrokenOff from (hub_seen g.C.Crew.seen l.initial.self)
       → IsOnIn IsBrokenOff from (hub_seen g.C.Crew.seen l.self);
-  same : IsSameRun l.initial.self.book l.self.book;
+  quiet : IsQuiet l.initial.self.book l.self.book;
 }

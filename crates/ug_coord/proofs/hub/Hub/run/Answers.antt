@@ -4,10 +4,14 @@ use Rattle.ug_coord.specs.HubViews.{hub_seen}
 use Rattle.ug_coord.specs.Hubs.{IsRested}
 use Rattle.ug_coord.proofs.Coursing.{stays_in}
 use Rattle.ug_coord.proofs.Kept.{kept_first, ours_same}
+use Rattle.ug_coord.specs.Keepers.{kept_seen}
+use Rattle.ug_coord.specs.Keeping.{HasTriedEach}
+use Rattle.ug_rules.specs.State.{BookState}
+use Rattle.ug_coord.proofs.Tries.{each_on, each_quiet}
 use Rattle.ug_coord.proofs.hub.Hub.run.Goals as goal
 
 pub go_on-requires-clause-on : goal.go_on-requires-clause-on
-go_on-requires-clause-on g c = (
+go_on-requires-clause-on g c κs within = (
   c.requires.on.0,
   stays_in IsRested c.requires.on.0 (hub_seen g.C.Crew.seen c.args.self.now)
       (hub_seen g.C.Crew.seen c.start_all.new.self) (λ phase on. c.start_all.ensures.on phase c.requires.on.0 on)
@@ -15,8 +19,8 @@ go_on-requires-clause-on g c = (
 )
 
 pub go_on-requires-clause-ours : goal.go_on-requires-clause-ours
-go_on-requires-clause-ours g c =
-    ours_same c.args.keeper.now.saves c.args.self.now.book c.start_all.new.self.book c.start_all.ensures.same
+go_on-requires-clause-ours g c κs within =
+    ours_same c.args.keeper.now.saves c.args.self.now.book c.start_all.new.self.book c.start_all.ensures.quiet.run
     c.requires.ours
 
 pub returns-clause-ends : goal.returns-clause-ends
@@ -29,3 +33,11 @@ returns-clause-ends g c from on =
 pub returns-clause-over : goal.returns-clause-over
 returns-clause-over g c wants =
     subst IsOver (sym c.close.ensures.same.0) (c.go_on.ensures.over (sym c.close.ensures.same.1 ∙ wants))
+
+pub returns-clause-tried : goal.returns-clause-tried
+returns-clause-tried g c =
+    let k = kept_seen c.args.keeper.now (g.D.Disk.seen c.args.disk.now) in
+    let l = kept_seen c.go_on.new.keeper (g.D.Disk.seen c.go_on.new.disk) in
+    subst (λ (b : BookState). HasTriedEach c.args.self.now.book b k l) (sym c.close.ensures.same.0)
+    (each_on c.args.self.now.book c.start_all.new.self.book c.go_on.new.self.book k k l
+    (each_quiet c.args.self.now.book c.start_all.new.self.book k c.start_all.ensures.quiet) c.go_on.ensures.tried)

@@ -1,6 +1,5 @@
-use Rattle.ug_book.specs.Views.{IsSameRun}
 use Rattle.ug_coord.specs.Deeds.{Standing}
-use Rattle.ug_coord.specs.Hubs.{IsOnAs, IsSetUpFrame, Phase}
+use Rattle.ug_coord.specs.Hubs.{IsOnAs, IsQuiet, IsSetUpFrame, Phase}
 use Rattle.ug_coord.specs.HubViews.{hub_seen}
 use Rattle.ug_coord.proofs.hub.Hub.start_all.Given as goal
 
@@ -9,5 +8,5 @@ invariant-loop-rank g l = record {
   on : (phase : Phase) (from : Standing) → IsOnAs phase from (hub_seen g.C.Crew.seen l.initial.self)
       → IsOnAs phase from (hub_seen g.C.Crew.seen l.self);
   frame : IsSetUpFrame l.self.book l.self.frame.items;
-  same : IsSameRun l.initial.self.book l.self.book;
+  quiet : IsQuiet l.initial.self.book l.self.book;
 }

@@ -10,7 +10,8 @@ returns-then-not-is_alive-clause-on g c phase from before on left =
 pub returns-in-Ok-clause-on : goal.returns-in-Ok-clause-on
 returns-in-Ok-clause-on g c phase from before on left =
     told_on c.send.result phase from before (hub_seen g.C.Crew.seen c.args.self.now)
-    (hub_seen g.C.Crew.seen c.send.new.self) c.args.told c.if-not-is_alive.ensures left (search rules) on
+    (hub_seen g.C.Crew.seen c.send.new.self) c.args.told c.if-not-is_alive.ensures c.encode_order.ensures.carried left
+    (search rules) on
 
 pub returns-in-Err-clause-on : goal.returns-in-Err-clause-on
 returns-in-Err-clause-on g c phase from before on left =

@@ -1,6 +1,5 @@
-use Rattle.ug_book.specs.Views.{IsSameRun}
 use Rattle.ug_coord.specs.Deeds.{Standing}
-use Rattle.ug_coord.specs.Hubs.{IsOnAs, Phase}
+use Rattle.ug_coord.specs.Hubs.{IsOnAs, IsQuiet, Phase}
 use Rattle.ug_coord.specs.HubViews.{hub_seen}
 use Rattle.ug_coord.proofs.hub.Hub.tell_all.Given as goal
 
@@ -9,5 +8,5 @@ invariant-loop g l = record {
   next : (goal.iterator-loop g).can_next l.iterator' × (goal.iterator-loop g).is_finite l.iterator';
   on : (phase : Phase) (from : Standing) → IsOnAs phase from (hub_seen g.C.Crew.seen l.initial.self)
       → IsOnAs phase from (hub_seen g.C.Crew.seen l.self);
-  same : IsSameRun l.initial.self.book l.self.book;
+  quiet : IsQuiet l.initial.self.book l.self.book;
 }

@@ -1,10 +1,18 @@
+use Rattle.std.proofs.Common.{rules}
+use Rattle.ug_coord.proofs.Counts.{left_quiet, quiet_on}
 use Rattle.ug_coord.proofs.Coursing.{first_order}
 use Rattle.ug_coord.proofs.hub.Hub.tell_next.Goals as goal
 
 pub tell-requires-clause-order : goal.tell-requires-clause-order
-tell-requires-clause-order g c =
+tell-requires-clause-order g c κs within =
     first_order c.args.self.now.book c.next_order.new.self c.in-Some.told c.problem-problem.ensures.book c.in-Some.ensures.told
 
 pub returns-in-Some-clause-on : goal.returns-in-Some-clause-on
 returns-in-Some-clause-on g c phase from on =
     c.tell.ensures.on phase from c.args.self.now.book on c.in-Some.ensures.told
+
+pub returns-in-Some-clause-quiet : goal.returns-in-Some-clause-quiet
+returns-in-Some-clause-quiet g c =
+    quiet_on c.args.self.now.book c.next_order.new.self c.tell.new.self.book
+    (left_quiet c.args.self.now.book c.next_order.new.self c.in-Some.told (search rules) c.in-Some.ensures.told)
+    c.tell.ensures.quiet

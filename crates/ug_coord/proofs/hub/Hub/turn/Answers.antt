@@ -6,6 +6,7 @@ use Rattle.ug_coord.specs.Hubs.{HubSeen, IsOnAs, IsOnIn, IsRested, MayRead, Phas
 use Rattle.ug_coord.specs.Reading.{HasBroken, HasFed, HasGone, HasLacked}
 use Rattle.ug_coord.proofs.Coursing.{any_in, broke_by, broken_rests, deciding_rests, fed_by, gone_by, lacked_by, reading_reads, reading_rests, stays_in}
 use Rattle.ug_coord.proofs.Whole.{broken_whole, fed_whole, gone_whole, lacked_whole}
+use Rattle.ug_coord.proofs.Counts.{lost_quiet, quiet_one}
 use Rattle.ug_coord.proofs.hub.Hub.turn.Goals as goal
 
 pub read_rests : (result : Bool) (from : Standing) (h new : HubSeen)
@@ -17,21 +18,18 @@ read_rests true from h new goes on = deciding_rests from new (goes from (reading
 read_rests false from h new goes on =
     reading_rests from new (stays_in (is_next Reading) from h new (λ phase is. goes phase from is) on)
 
-pub lose_all-requires : goal.lose_all-requires
-lose_all-requires g c =
+pub lose_all-requires-clause-on : goal.lose_all-requires-clause-on
+lose_all-requires-clause-on g c κs within =
     let broken : HasBroken (g.C.Crew.seen c.args.self.now.crew) (g.C.Crew.seen c.take_turn.new.crew)
-    c.args.self.now.streams.items c.take_turn.new.streams = search rules in
-    record {
-      on = (
-        c.requires.on.0,
-        broke_by c.requires.on.0 (hub_seen g.C.Crew.seen c.args.self.now) _ c.requires.more c.requires.told
-            (broken_whole c.args.self.now.streams.len (g.C.Crew.seen c.args.self.now.crew) (g.C.Crew.seen c.take_turn.new.crew)
-            c.args.self.now.streams.items c.take_turn.new.streams (search rules) broken) refl c.requires.on.1,
-      );
-    }
+    c.args.self.now.streams.items c.take_turn.new.streams = search rules in (
+      c.requires.on.0,
+      broke_by c.requires.on.0 (hub_seen g.C.Crew.seen c.args.self.now) _ c.requires.more c.requires.told
+          (broken_whole c.args.self.now.streams.len (g.C.Crew.seen c.args.self.now.crew) (g.C.Crew.seen c.take_turn.new.crew)
+          c.args.self.now.streams.items c.take_turn.new.streams (search rules) broken) refl c.requires.on.1,
+    )
 
 pub hear_next-requires-clause-on : goal.hear_next-requires-clause-on
-hear_next-requires-clause-on g c =
+hear_next-requires-clause-on g c κs within =
     let fed : HasFed (g.C.Crew.seen c.args.self.now.crew) (g.C.Crew.seen c.take_turn.new.crew)
     c.args.self.now.streams.items c.take_turn.new.streams c.in-Fed.rank = search rules in (
       c.requires.on.0,
@@ -77,3 +75,10 @@ returns-in-Wanting-clause-on g c from on =
     c.requires.told
     (lacked_whole c.args.self.now.streams.len (g.C.Crew.seen c.args.self.now.crew) (g.C.Crew.seen c.take_turn.new.crew)
     c.args.self.now.streams.items c.take_turn.new.streams c.in-Wanting.rank (search rules) lacked) refl on)
+
+pub returns-in-Gone-clause-hears : goal.returns-in-Gone-clause-hears
+returns-in-Gone-clause-hears g c =
+    quiet_one c.args.self.now.book _ (lost_quiet c.in-Gone.rank c.args.self.now.book _ c.gone.ensures.same c.gone.ensures.done)
+
+pub returns-in-Failed-clause-hears : goal.returns-in-Failed-clause-hears
+returns-in-Failed-clause-hears g c = quiet_one c.args.self.now.book _ c.lose_all.ensures.quiet

@@ -1,4 +1,4 @@
-use Rattle.std.proofs.Common.{◌≡◌, Some, IfSome, inl, refl, subst, arith}
+use Rattle.std.proofs.Common.{◌≡◌, Some, IfSome, inl, refl, sym, subst, ◌∙◌, arith}
 use Rattle.ug_checkpoint.specs.Causes.{save_cause}
 use Rattle.ug_checkpoint.specs.declared.error.SaveError.{SaveError}
 use Rattle.ug_checkpoint.specs.Savers.{last_slot, next_slot}
@@ -28,6 +28,20 @@ returns-in-Ok-clause-by_one g c =
       one = inl refl;
       sequence = omega (arith, c.in-Ok.ensures.sequence, is.next);
     }
+
+pub returns-in-Ok-clause-became : goal.returns-in-Ok-clause-became
+returns-in-Ok-clause-became g c =
+    let is = of_some c.args.image (IsNext c.args.self.now.saver) c.in-Some.image c.requires.image
+    c.in-Some.is in (
+      record {
+        found = record { slot = next_slot c.args.self.now.saver; image = c.in-Some.image };
+        finds = c.in-Ok.ensures.acknowledged;
+        is = record { is = c.in-Some.is; sequence = sym c.in-Ok.ensures.sequence };
+      },
+      c.in-Ok.ensures.sequence ∙ is.next,
+      refl,
+      refl,
+    )
 
 pub returns-in_default-clause-any_moment : goal.returns-in_default-clause-any_moment
 returns-in_default-clause-any_moment g c =

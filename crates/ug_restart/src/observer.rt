@@ -18,8 +18,17 @@ pub struct Progress {
     pub nodes: usize,
 }
 
-/// What the threads of a run pass, and to whom they tell how it gets on. Each call of it ends. An
-/// observer that wants to be told nothing has `pass` alone.
+/// Why a coordinator hears a rank no more, where the rank has not ended by itself.
+#[derive(Clone, Copy, PartialEq, Eq)]
+pub enum Dropped {
+    /// What came from it is no report.
+    Nonsense,
+    /// A report of it cannot be true.
+    Untrue,
+}
+
+/// What a run passes, and to whom it tells how it gets on. Each call of it ends. An observer that
+/// wants to be told nothing has `pass` alone.
 pub trait Observer: Sync {
     /// The worker of a rank has come to a moment.
     fn pass(&self, rank: u32, moment: Moment);
@@ -35,6 +44,9 @@ pub trait Observer: Sync {
 
     /// It is told how the run stands.
     fn tell(&self, _progress: &Progress) {}
+
+    /// A rank at the other end of a link is heard no more.
+    fn drops(&self, _rank: u32, _why: Dropped) {}
 }
 
 /// None observes: it does nothing.
