@@ -8,13 +8,16 @@ use crate::expect::holds;
 use crate::problems::line;
 use std::alloc::{AllocError, Global};
 use std::sync::Wait;
+use std::sync::atomic::{AtomicU64, Ordering};
 use ug_book::Opening;
 use ug_checkpoint::load;
-use ug_coord::{Coordinated, Host, coordinate};
+use ug_coord::{Coordinated, coordinate};
 use ug_disk::{MemoryDisk, Script as DiskScript};
 use ug_io::{Exchange, MemoryCrew, Piece, Script};
 use ug_problem::Shared;
-use ug_restart::{Attempt, End, Outcome, Start, begin};
+use ug_restart::{
+    Attempt, Dropped, End, Host, Moment, Observer, Outcome, Progress, Start, Unobserved, begin,
+};
 use ug_rules::Settings;
 
 /// How a run ends.
@@ -263,7 +266,12 @@ fn disk_of(alloc: Global, failing: &[u64]) -> Result<MemoryDisk, AllocError> {
 }
 
 // Whether the run ends so, and tells that.
-fn comes_so<R: Wait>(rt: &R, alloc: Global, case: &Case) -> Result<bool, AllocError> {
+fn comes_so<R: Wait, O: Observer>(
+    rt: &R,
+    alloc: Global,
+    case: &Case,
+    observer: &O,
+) -> Result<bool, AllocError> {
     let count = case.told.len();
     if count == 0 || 256 < count {
         return Ok(false);
@@ -278,7 +286,11 @@ fn comes_so<R: Wait>(rt: &R, alloc: Global, case: &Case) -> Result<bool, AllocEr
     let mut disk = disk_of(alloc, &[])?;
     let script = Script::new(case.failing.to_vec(alloc)?, case.most);
     let crew = MemoryCrew::new(alloc, solvers, case.pieces, script)?;
-    let host = Host { rt, alloc };
+    let host = Host {
+        rt,
+        alloc,
+        observer,
+    };
     let Coordinated { crew, outcome } = coordinate(&host, &opening, None, &mut disk, crew);
     drop(opening);
     drop(disk);
@@ -294,8 +306,109 @@ fn comes_so<R: Wait>(rt: &R, alloc: Global, case: &Case) -> Result<bool, AllocEr
 #[test]
 fn crews_are_told_byte_for_byte(rt: HostRuntime) {
     for case in CASES {
-        holds(&rt, comes_so(&rt, rt.alloc(), case).is_ok_and(|so| so));
+        holds(
+            &rt,
+            comes_so(&rt, rt.alloc(), case, &Unobserved).is_ok_and(|so| so),
+        );
     }
+}
+
+/// Keeps what it was told: of what a run began, after how many reports it stood how, and which rank
+/// was dropped last for which cause, and how many.
+#[derive(Drop)]
+struct Notes {
+    begun: AtomicU64,
+    told: AtomicU64,
+    nonsense: AtomicU64,
+    untrue: AtomicU64,
+    dropped: AtomicU64,
+}
+
+impl Notes {
+    fn new() -> Notes {
+        Notes {
+            begun: AtomicU64::new(0),
+            told: AtomicU64::new(0),
+            nonsense: AtomicU64::new(99),
+            untrue: AtomicU64::new(99),
+            dropped: AtomicU64::new(0),
+        }
+    }
+
+    fn has(&self, wanted: [u64; 5]) -> bool {
+        let found = [
+            self.begun.load(Ordering::SeqCst),
+            self.told.load(Ordering::SeqCst),
+            self.nonsense.load(Ordering::SeqCst),
+            self.untrue.load(Ordering::SeqCst),
+            self.dropped.load(Ordering::SeqCst),
+        ];
+        found == wanted
+    }
+}
+
+impl Observer for Notes {
+    fn pass(&self, _rank: u32, _moment: Moment) {}
+
+    fn begin(&self, columns: usize, rows: usize, solvers: u32) {
+        if columns == 1 && rows == 0 {
+            self.begun.store(solvers as u64, Ordering::SeqCst);
+        }
+    }
+
+    fn wants(&self, _heard: u64, is_better: bool) -> bool {
+        is_better
+    }
+
+    fn tell(&self, progress: &Progress) {
+        if progress.best.as_deref() == Some(b"2".as_slice()) && progress.nodes == 1 {
+            self.told.store(progress.heard, Ordering::SeqCst);
+        }
+    }
+
+    fn drops(&self, rank: u32, why: Dropped) {
+        self.dropped.fetch_add(1, Ordering::SeqCst);
+        match why {
+            Dropped::Nonsense => self.nonsense.store(rank as u64, Ordering::SeqCst),
+            Dropped::Untrue => self.untrue.store(rank as u64, Ordering::SeqCst),
+        }
+    }
+}
+
+// Rank 0 says what is no report, rank 1 that it has ended before it was ready, and rank 2 does it
+// all: it is ready with the third report that is heard, and tells the point with the fourth.
+const TWO_ARE_DROPPED: Case = Case {
+    limit: 100,
+    pieces: &[
+        Piece {
+            rank: 0,
+            bytes: b"\0\0\0\0",
+        },
+        Piece {
+            rank: 1,
+            bytes: b"\0\0\0\x01\x16",
+        },
+        Piece {
+            rank: 1,
+            bytes: READY,
+        },
+        Piece {
+            rank: 2,
+            bytes: ALL,
+        },
+    ],
+    failing: &[],
+    most: 1000,
+    told: &[Some(b""), Some(END), Some(WHOLE)],
+    way: Way::Answered,
+};
+
+#[test]
+fn observer_is_told_how_a_coordinator_gets_on(rt: HostRuntime) {
+    let notes = Notes::new();
+    let so = comes_so(&rt, rt.alloc(), &TWO_ARE_DROPPED, &notes);
+    holds(&rt, so.is_ok_and(|so| so));
+    holds(&rt, notes.has([3, 4, 0, 1, 2]));
 }
 
 // How a run of the rank that does it all ended with this disk, from its first image on, and the
@@ -315,7 +428,12 @@ fn saved<R: Wait>(
     };
     let script = Script::new(Vec::new(alloc), 1000);
     let crew = MemoryCrew::new(alloc, 1, BY_ITSELF, script)?;
-    let host = Host { rt, alloc };
+    let observer = &Unobserved;
+    let host = Host {
+        rt,
+        alloc,
+        observer,
+    };
     let Coordinated { crew, outcome } = coordinate(&host, &opening, Some(saver), disk, crew);
     drop(crew);
     drop(opening);

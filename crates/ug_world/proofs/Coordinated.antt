@@ -10,6 +10,7 @@ use Rattle.ug_frames.specs.Honest.{AreHonest}
 use Rattle.ug_rules.specs.declared.heard.Heard.{Heard}
 use Rattle.ug_rules.specs.declared.told.Told.{Told}
 use Rattle.ug_rules.specs.State.{BookState}
+use Rattle.ug_rules.specs.Books.{IsBook, IsSoundBook}
 use Rattle.ug_rules.specs.Hearing.{IsHearable, after_hearing}
 use Rattle.ug_rules.specs.HearingLaws.{HasRisingChanges}
 use Rattle.ug_rules.specs.Deaths.{killed}
@@ -190,10 +191,27 @@ none_heard b = record {
   dones = λ ticket cutoff count ending among area given x inside good. absurd (omega (arith, among.1));
 }
 
-pub coordinators_lose_nothing : CoordinatorsLoseNothing
-coordinators_lose_nothing b faults deeds now book sound unused course stays =
+book_loses_nothing : (b : BookState) (faults : ℕ) (deeds : List Deed) (now : Standing) → IsBook b
+    → IsSoundBook b → b.last ≡ 0 → (course : IsCourse (beginning b faults) deeds now)
+    → StaysHonest (beginning b faults) nothing deeds now course
+    → AreSound (beginning b faults) deeds now course × LosesNothing now.book
+book_loses_nothing b faults deeds now book sound unused course stays =
     course_keeps (length b.ranks) (beginning b faults) nothing deeds now course stays (none_heard b)
     (record {
       holds = unused_holds (opening b []) book sound unused;
       true_ = unused_true b [] book unused;
     })
+
+-- without a deed
+none_loses : (b : BookState) (faults : ℕ) (deeds : List Deed) (now : Standing) → deeds ≡ [] → IsSoundBook b
+    → (course : IsCourse (beginning b faults) deeds now)
+    → AreSound (beginning b faults) deeds now course × LosesNothing now.book
+none_loses b faults [] now none sound course =
+    (sound, subst (λ (s : Standing). LosesNothing s.book) (sym course) (loses_nothing b sound))
+none_loses b faults (deed ∷ deeds) now none sound course = absurd cc
+
+pub coordinators_lose_nothing : CoordinatorsLoseNothing
+coordinators_lose_nothing b faults now come made sound unused stays = elim made [
+  | inl book ↦ book_loses_nothing b faults come.deeds now book sound unused come.course stays
+  | inr none ↦ none_loses b faults come.deeds now none sound come.course
+]

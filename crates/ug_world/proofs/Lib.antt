@@ -11,3 +11,7 @@ pub mod DiskLaws
 pub mod DiskFinds
 pub mod DiskPlays
 pub mod Coordinated
+pub mod Numbered
+pub mod Traffic
+pub mod Worked
+pub mod Solved

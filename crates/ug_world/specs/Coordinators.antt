@@ -1,15 +1,15 @@
 -- The law of coordinators at a crew: whatever comes of it, no better point is lost.
-use Rattle.std.specs.Prelude.{◌≡◌, ℕ, List, [], ◌∷◌, ◌++◌}
+use Rattle.std.specs.Prelude.{◌≡◌, ◌⊎◌, ℕ, List, [], ◌∷◌, ◌++◌}
 use Rattle.ug_frames.specs.declared.report.Report.{Report}
 use Rattle.ug_frames.specs.Honest.{AreHonest}
 use Rattle.ug_rules.specs.declared.heard.Heard.{Heard}
 use Rattle.ug_rules.specs.declared.told.Told.{Told}
 use Rattle.ug_rules.specs.State.{BookState}
 use Rattle.ug_rules.specs.Books.{IsBook, IsSoundBook}
-use Rattle.ug_coord.specs.Deeds.{AreSound, Broke, Came, Closed, Decided, Deed, Halted, IsCourse}
+use Rattle.ug_coord.specs.Deeds.{Broke, Came, Closed, Decided, Deed, Halted, IsCourse}
 use Rattle.ug_coord.specs.Deeds.{Launched, Lost, Passed, Sent, SetUp, Standing, Took, Unclosed, Unfed}
 use Rattle.ug_coord.specs.Deeds.{Unread, Unsent, Unwritten}
-use Rattle.ug_coord.specs.Hubs.{beginning}
+use Rattle.ug_coord.specs.Hubs.{HasCome, StaysSound, beginning}
 use Rattle.ug_world.specs.Honest.{IsGivenWith}
 use Rattle.ug_world.specs.Laws.{LosesNothing}
 
@@ -83,11 +83,16 @@ StaysHonest old past (deed ∷ deeds) new (mid, does, more) = honest_at old past
     × (IsHonestSo mid.book (after deed past).told (after deed past).heard
     × StaysHonest mid (after deed past) deeds new more)
 
+-- what is heard is honest through a course from the beginning
+abbrev pub IsHonestFrom : (b : BookState) (faults : ℕ) (now : Standing) → HasCome (beginning b faults) now
+    → Type 0
+IsHonestFrom b faults now come = StaysHonest (beginning b faults) nothing come.deeds now come.course
+
 -- From a sound book that has given no ticket: whatever comes of the crew, whichever ranks are gone
 -- and whichever calls fail, at each moment the book is sound, so no better point is lost, as long as
 -- what is heard is honest.
 abbrev pub CoordinatorsLoseNothing : Type 0
-CoordinatorsLoseNothing = (b : BookState) (faults : ℕ) (deeds : List Deed) (now : Standing)
-    → IsBook b → IsSoundBook b → b.last ≡ 0 → (course : IsCourse (beginning b faults) deeds now)
-    → StaysHonest (beginning b faults) nothing deeds now course
-    → AreSound (beginning b faults) deeds now course × LosesNothing now.book
+CoordinatorsLoseNothing = (b : BookState) (faults : ℕ) (now : Standing)
+    (come : HasCome (beginning b faults) now) → IsBook b ⊎ (come.deeds ≡ []) → IsSoundBook b → b.last ≡ 0
+    → IsHonestFrom b faults now come
+    → StaysSound (beginning b faults) now come × LosesNothing now.book

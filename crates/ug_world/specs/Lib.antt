@@ -12,3 +12,4 @@ pub mod DiskPlays
 pub mod Machines
 pub mod Saves
 pub mod Coordinators
+pub mod Workers

@@ -1,5 +1,6 @@
 ghost use Rattle.ug_world.specs.Coordinators.{CoordinatorsLoseNothing};
 ghost use Rattle.ug_world.specs.Laws.{HonestLoseNothing};
+ghost use Rattle.ug_world.specs.Workers.{CoordinatorsOfWorkersLoseNothing};
 
 /// Whatever solvers send, in whatever order it is heard, again or not at all, whoever joins and
 /// whoever dies: at every moment between two events each better point lies in a primitive node
@@ -12,4 +13,11 @@ pub fn honest_solvers_lose_nothing()
 /// moment each better point lies in a primitive node held, as long as what is heard is honest.
 pub fn coordinators_lose_nothing()
     ensures { CoordinatorsLoseNothing }
+{}
+
+/// Whatever comes of a coordinator's crew of workers, whatever their schedule and in whatever pieces
+/// their bytes come: at every moment each better point lies in a primitive node held. Nothing is
+/// asked of what they tell.
+pub fn coordinators_of_workers_lose_nothing()
+    ensures { CoordinatorsOfWorkersLoseNothing }
 {}

@@ -18,12 +18,16 @@ mod ranks;
 mod saving;
 mod schedule;
 mod starting;
+mod workers;
 
 pub use disk_event::DiskEvent;
 pub use disk_law::{crashes_lose_nothing, runs_begin};
 pub use disk_schedule::{Attempts, PlayDiskFault, PlayedDisk, play_disk};
 pub use event::Event;
 pub use halt::Halted;
-pub use law::{coordinators_lose_nothing, honest_solvers_lose_nothing};
+pub use law::{
+    coordinators_lose_nothing, coordinators_of_workers_lose_nothing, honest_solvers_lose_nothing,
+};
 pub use playing::{Halt, Playing};
 pub use schedule::{PlayFault, Played, Replies, play};
+pub use workers::solve_by_workers;
