@@ -25,8 +25,15 @@ impl Faults {
     pub fn add(&mut self, error: io::Error) -> Failed
         ensures { Rose self.old.count self.new.count }
     {
-        self.count = self.count.saturating_add(1);
         self.last = Some(error);
+        self.rise()
+    }
+
+    /// One fault more, whose cause is told elsewhere.
+    pub fn rise(&mut self) -> Failed
+        ensures { Rose self.old.count self.new.count }
+    {
+        self.count = self.count.saturating_add(1);
         Failed
     }
 

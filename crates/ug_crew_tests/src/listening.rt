@@ -1,0 +1,114 @@
+ghost use Rattle.std.specs.Prelude.{◌≡◌, ◌<◌, length};
+
+use std::alloc::{AllocError, AllocGlobal, Global};
+use std::fs;
+use std::fs::{File, Files};
+use std::io::Read;
+use ug_io::{Came, Crew};
+
+/// How many bytes were heard of each of three ranks, as long as they were `a` to `g` over and over,
+/// and how many ranks are gone.
+#[derive(Clone, Copy, Debug, PartialEq)]
+pub struct Tally {
+    pub bytes: [usize; 3],
+    pub gone: usize,
+}
+
+/// So many times the bytes `a` to `g`.
+pub fn over_and_over(alloc: Global, count: usize) -> Result<Vec<u8>, AllocError> {
+    let mut bytes = Vec::new(alloc);
+    for _ in 0..count {
+        bytes.extend_from_slice(b"abcdefg")?;
+    }
+    Ok(bytes)
+}
+
+// The byte that comes behind so many.
+fn next_of(count: usize) -> u8 {
+    b'a' + (count % 7) as u8
+}
+
+impl Tally {
+    fn total(&self) -> usize {
+        let [zero, one, two] = self.bytes;
+        zero.saturating_add(one).saturating_add(two)
+    }
+
+    fn add(&mut self, rank: u32, bytes: &[u8]) {
+        if let Some(count) = self.bytes.get_mut(rank as usize) {
+            for byte in bytes {
+                if *byte == next_of(*count) {
+                    *count = count.saturating_add(1);
+                }
+            }
+        }
+    }
+}
+
+/// Listens until so many bytes came, and so many ranks are gone.
+pub fn listen<C: Crew>(crew: &mut C, bytes: usize, gone: usize) -> Tally {
+    let mut tally = Tally {
+        bytes: [0; 3],
+        gone: 0,
+    };
+    let mut buffer = [0u8; 1000];
+    for _ in 0..1_000_000u32 {
+        if tally.total() >= bytes && tally.gone >= gone {
+            break;
+        }
+        match crew.turn(&mut buffer) {
+            Ok(Came::Bytes { rank, count }) => {
+                tally.add(rank, buffer.get(..count).unwrap_or(&[]));
+            }
+            Ok(Came::Gone { .. }) => tally.gone = tally.gone.saturating_add(1),
+            Err(_) => break,
+        }
+    }
+    tally
+}
+
+/// Starts the rank, if it does not live.
+pub fn start<C: Crew>(crew: &mut C, rank: u32) -> bool
+    requires { rank < length (C.seen crew.old).lives }
+    ensures { length (C.seen crew.new).lives ≡ length (C.seen crew.old).lives }
+{
+    !crew.is_alive(rank) && crew.launch(rank).is_ok()
+}
+
+/// Starts three ranks, of which none lives.
+pub fn start_three<C: Crew>(crew: &mut C) -> bool
+    requires { 2 < length (C.seen crew.old).lives }
+{
+    start(crew, 0) && start(crew, 1) && start(crew, 2)
+}
+
+/// Tells the bytes to the rank, if it lives.
+pub fn tell<C: Crew>(crew: &mut C, rank: u32, bytes: &[u8]) -> bool {
+    crew.is_alive(rank) && crew.send(rank, bytes).is_ok()
+}
+
+/// Tells the bytes to three ranks that live.
+pub fn tell_three<C: Crew>(crew: &mut C, bytes: &[u8]) -> bool {
+    tell(crew, 0, bytes) && tell(crew, 1, bytes) && tell(crew, 2, bytes)
+}
+
+/// Whether no child is left, and none of four sockets in this folder.
+pub fn is_clean<R: Files<File = File> + AllocGlobal>(rt: &R, folder: &str) -> bool {
+    for rank in 0..4u32 {
+        let Ok(path) = format!(in rt.alloc(); "{folder}/ug-{rank}.sock") else {
+            return false;
+        };
+        if fs::exists(rt, path.as_str()).ok() == Some(true) {
+            return false;
+        }
+    }
+    is_childless(rt)
+}
+
+// Whether this program has no child, where the system tells it.
+fn is_childless<R: Files<File = File>>(rt: &R) -> bool {
+    match File::open(rt, "/proc/thread-self/children") {
+        Ok(mut file) => file.read(&mut [0u8; 8]).ok() == Some(0),
+        Err(_) => true,
+    }
+}

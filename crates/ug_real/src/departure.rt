@@ -1,0 +1,47 @@
+use std::os::unix::process::ExitStatusExt;
+use std::process::ExitStatus;
+use std::{fmt, io};
+
+/// Why a rank of a crew is gone.
+#[derive(Debug, Drop)]
+pub enum Departure {
+    /// It could not be started, or its connection could not be taken.
+    Unstarted(io::Error),
+    /// A signal of this number ended it.
+    Killed(i32),
+    /// It ended with this status.
+    Ended(i32),
+    /// Memory was wanting for what it was to be told.
+    Untold(io::Error),
+    /// It closed its connection, or its standard input before it had one, and did not end.
+    HungUp,
+    /// It ended, and the system does not tell how.
+    Lost,
+}
+
+/// Who is told why a rank is gone, once each time that one is.
+pub trait Watcher {
+    fn gone(&mut self, rank: u32, why: &Departure);
+}
+
+/// How a child with this status ended.
+pub fn end_of(status: ExitStatus) -> Departure {
+    match (status.signal(), status.code()) {
+        (Some(signal), _) => Departure::Killed(signal),
+        (None, Some(code)) => Departure::Ended(code),
+        (None, None) => Departure::Lost,
+    }
+}
+
+impl fmt::Display for Departure {
+    fn fmt<W: fmt::Write>(&self, f: &mut fmt::Formatter<W>) -> fmt::Result {
+        match self {
+            Departure::Unstarted(error) => write!(f, "could not be started: {error}"),
+            Departure::Killed(signal) => write!(f, "killed by signal {signal}"),
+            Departure::Ended(code) => write!(f, "ended with status {code}"),
+            Departure::Untold(error) => write!(f, "could not be told: {error}"),
+            Departure::HungUp => f.write_str("closed its connection and did not end"),
+            Departure::Lost => f.write_str("ended, and its status is not known"),
+        }
+    }
+}

@@ -1,0 +1,258 @@
+ghost use Rattle.std.specs.Prelude.{◌≤◌, length, IfSome};
+
+use crate::again;
+use crate::departure::Departure;
+use crate::outbox::Outbox;
+use crate::sockets::Door;
+use crate::ward::Ward;
+use mio::net::UnixStream;
+use mio::{Interest, Registry, Token};
+use std::alloc::{AllocError, Global};
+use std::io::ErrorKind;
+use std::rt::Files;
+use std::time::{Duration, Instant};
+use std::{io, mem};
+
+/// How many milliseconds a child has to end once it has hung up.
+const GRACE: u64 = 1000;
+
+/// A child of a crew, and the connection to it.
+#[derive(Drop)]
+pub struct Peer<'a, R: Files> {
+    rank: u32,
+    line: Line<'a, R>,
+    child: Ward,
+    outbox: Outbox,
+    // There may be something to hear of it.
+    is_stirred: bool,
+    // It closed its standard input, so it ends, most likely.
+    is_ending: bool,
+    // Nobody is to hear of it.
+    is_shut: bool,
+    // Why it is gone, where its end does not say it.
+    why: Option<Departure>,
+    // Since when its end is waited for.
+    since: Option<Instant>,
+}
+
+// The connection to a child.
+#[derive(Drop)]
+enum Line<'a, R: Files> {
+    // It has not come yet.
+    Awaited(Door<'a, R>),
+    Open(UnixStream),
+    Closed,
+}
+
+impl<'a, R: Files> Peer<'a, R> {
+    /// A child that is to come to this door.
+    pub fn new(alloc: Global, rank: u32, door: Door<'a, R>, child: Ward) -> Peer<'a, R> {
+        Peer {
+            rank,
+            line: Line::Awaited(door),
+            child,
+            outbox: Outbox::new(alloc),
+            is_stirred: false,
+            is_ending: false,
+            is_shut: false,
+            why: None,
+            since: None,
+        }
+    }
+
+    pub fn rank(&self) -> u32 {
+        self.rank
+    }
+
+    pub fn is_stirred(&self) -> bool {
+        self.is_stirred
+    }
+
+    pub fn is_shut(&self) -> bool {
+        self.is_shut
+    }
+
+    /// Whether it has not come to its socket.
+    pub fn is_awaited(&self) -> bool {
+        match &self.line {
+            Line::Awaited(_) => true,
+            Line::Open(_) | Line::Closed => false,
+        }
+    }
+
+    /// Whether it is to end soon, of which no event need tell.
+    pub fn is_leaving(&self) -> bool {
+        match &self.line {
+            Line::Closed => !self.child.has_ended(),
+            Line::Awaited(_) | Line::Open(_) => self.is_ending && !self.child.has_ended(),
+        }
+    }
+
+    /// Has what becomes of it reported under this token.
+    pub fn register(&mut self, registry: &Registry, token: Token) -> io::Result<()> {
+        if let Line::Awaited(door) = &mut self.line {
+            registry.register(&mut door.listener, token, Interest::READABLE)?;
+        }
+        self.child.register(registry, token)
+    }
+
+    // Takes the connection, if it has come.
+    fn answer(&mut self, registry: &Registry, token: Token) {
+        let Line::Awaited(door) = &mut self.line else {
+            return;
+        };
+        match door.listener.accept() {
+            Ok((stream, _)) => self.open(registry, token, stream),
+            Err(error) => match error.kind() {
+                // A connection that was given up is none.
+                ErrorKind::WouldBlock | ErrorKind::Interrupted | ErrorKind::ConnectionAborted => {
+                    drop(error);
+                }
+                _ => self.give_up(Departure::Unstarted(error)),
+            },
+        }
+    }
+
+    // Goes on with its connection. The socket it came to is not needed any more.
+    fn open(&mut self, registry: &Registry, token: Token, mut stream: UnixStream) {
+        let both = Interest::READABLE | Interest::WRITABLE;
+        match registry.register(&mut stream, token, both) {
+            Ok(()) => {
+                self.outbox.flush(&mut stream);
+                self.line = Line::Open(stream);
+                self.is_stirred = true;
+            }
+            Err(error) => {
+                drop(stream);
+                self.give_up(Departure::Unstarted(error));
+            }
+        }
+    }
+
+    // Hears it no more, and kills it.
+    fn give_up(&mut self, why: Departure) {
+        self.close();
+        self.child.kill();
+        if self.why.is_none() {
+            self.why = Some(why);
+        }
+    }
+
+    // Closes its connection.
+    fn close(&mut self) {
+        self.line = Line::Closed;
+        self.outbox.close();
+    }
+
+    /// Takes note of what may have become of it: bytes, room for bytes, its coming, or its end.
+    pub fn stir(&mut self, registry: &Registry, token: Token, is_ending: bool) {
+        if is_ending {
+            self.is_ending = true;
+            self.child.look();
+        }
+        self.answer(registry, token);
+        if self.is_awaited() && self.child.has_ended() {
+            self.close();
+        }
+        if let Line::Open(stream) = &mut self.line {
+            self.outbox.flush(stream);
+        }
+        self.is_stirred = true;
+    }
+
+    // Whether its end was waited for long enough. Without a clock it was.
+    fn has_waited(&self, now: Option<Instant>) -> bool {
+        match (now, self.since) {
+            (Some(now), Some(since)) => now.duration_since(since) >= Duration::from_millis(GRACE),
+            (Some(_), None) => false,
+            (None, _) => true,
+        }
+    }
+
+    /// Goes on waiting for its end at this time, if it has not come, or kills it where that has
+    /// lasted too long. One that has only closed its standard input may stay.
+    pub fn hurry(&mut self, now: Option<Instant>) {
+        if self.child.has_ended() {
+            return;
+        }
+        if !self.has_waited(now) {
+            self.since = self.since.or(now);
+            return;
+        }
+        match &self.line {
+            Line::Open(_) => {
+                self.is_ending = false;
+                self.since = None;
+            }
+            Line::Awaited(_) | Line::Closed => self.give_up(Departure::HungUp),
+        }
+    }
+
+    // Reads some bytes. It closes where none will come any more.
+    fn take(&mut self, buffer: &mut [u8]) -> Option<usize>
+        ensures { IfSome result (λ n. n ≤ length buffer.new) }
+    {
+        let Line::Open(stream) = &mut self.line else {
+            return None;
+        };
+        match again::read(stream, buffer) {
+            Ok(n) if n > 0 => return Some(n),
+            Err(error) if error.kind() == ErrorKind::WouldBlock && !self.child.has_ended() => {
+                drop(error);
+                self.is_stirred = false;
+            }
+            _ => {
+                self.close();
+                self.child.look();
+            }
+        }
+        None
+    }
+
+    /// Hears some bytes of it, and says how many, if there are any for now. 0 tells that it is gone,
+    /// which comes behind all that it said.
+    pub fn hear(&mut self, buffer: &mut [u8]) -> Option<usize>
+        ensures { IfSome result (λ n. n ≤ length buffer.new) }
+    {
+        if let Some(count) = self.take(buffer) {
+            return Some(count);
+        }
+        match &self.line {
+            Line::Closed if self.child.has_ended() => Some(0),
+            _ => {
+                self.is_stirred = false;
+                None
+            }
+        }
+    }
+
+    /// Sends it bytes, or keeps them until it can take them.
+    pub fn send(
+        &mut self,
+        registry: &Registry,
+        token: Token,
+        bytes: &[u8],
+    ) -> Result<(), AllocError> {
+        self.answer(registry, token);
+        match &mut self.line {
+            Line::Open(stream) => self.outbox.send(stream, bytes),
+            Line::Awaited(_) => self.outbox.push(bytes),
+            Line::Closed => Ok(()),
+        }
+    }
+
+    /// Closes its connection and kills it. Nobody is to hear of it.
+    pub fn shut(&mut self) {
+        self.is_shut = true;
+        self.close();
+        self.child.kill();
+    }
+
+    /// Why it is gone.
+    pub fn departure(&mut self) -> Departure {
+        match mem::take(&mut self.why) {
+            Some(why) => why,
+            None => self.child.departure(),
+        }
+    }
+}

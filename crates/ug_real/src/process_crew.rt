@@ -1,0 +1,130 @@
+ghost use Rattle.std.specs.Prelude.{◌≡◌, None, false, replicate, IfOk};
+ghost use Rattle.ug_io.specs.Crews.{IsAlive};
+
+use crate::departure::{Departure, Watcher};
+use crate::faults::Faults;
+use crate::pack::{Children, Heard, Pack};
+use std::alloc::{AllocError, Global};
+use std::fs::File;
+use std::io;
+use std::io::ErrorKind;
+use std::net::Net;
+use std::process::{Processes, SystemProcess};
+use std::rt::Files;
+use std::time::Clock;
+use ug_io::{Came, Crew, Failed};
+
+/// Child programs as a crew, each at the other end of a Unix socket. What a child does not take
+/// waits in memory; a child that takes nothing holds up no other. It tells nothing of bytes. No
+/// child and no socket's file is left where it is dropped.
+#[derive(Drop)]
+pub struct ProcessCrew<'a, R: Files<File = File>, W: Drop> {
+    pack: Pack<'a, R, W>,
+    lives: Vec<bool>,
+    faults: Faults,
+}
+
+// Why a turn has nothing to wait for.
+fn nobody() -> io::Error {
+    io::Error::new(ErrorKind::NotFound, "no rank lives")
+}
+
+impl<'a, R, W> ProcessCrew<'a, R, W>
+where
+    R: Files<File = File> + Net + Processes<Started = SystemProcess> + Clock,
+    W: Watcher + Drop,
+{
+    /// A crew of so many ranks, none of which lives yet. The watcher is told why a rank is gone,
+    /// unless it was shut. No call has failed yet.
+    pub fn new(
+        rt: &'a R,
+        alloc: Global,
+        ranks: u32,
+        children: Children<'a>,
+        watcher: W,
+    ) -> Result<ProcessCrew<'a, R, W>, AllocError>
+        ensures lives { IfOk result (λ crew. crew.lives.items ≡ replicate ranks false) }
+        ensures faults { IfOk result (λ crew. crew.faults.count ≡ 0) }
+    {
+        let lives = match vec![in alloc; false; ranks as usize] {
+            Ok(lives) => lives,
+            Err(error) => {
+                drop(watcher);
+                return Err(error);
+            }
+        };
+        Ok(ProcessCrew {
+            pack: Pack::new(rt, alloc, children, watcher),
+            lives,
+            faults: Faults::new(),
+        })
+    }
+
+    /// Why the last call failed that did, in the system's words.
+    pub fn error(&self) -> Option<&io::Error> {
+        self.faults.last.as_ref()
+    }
+}
+
+impl<R, W> Crew for ProcessCrew<'_, R, W>
+where
+    R: Files<File = File> + Net + Processes<Started = SystemProcess> + Clock,
+    W: Watcher + Drop,
+{
+    ghost seen = { λ c. record { said = None; lives = c.lives.items; faults = c.faults.count } };
+
+    fn is_alive(&self, rank: u32) -> bool {
+        let at = rank as usize;
+        at < self.lives.len() && self.lives[at]
+    }
+
+    fn launch(&mut self, rank: u32) -> Result<(), Failed> {
+        match self.pack.launch(rank) {
+            Ok(()) => {
+                self.lives[rank as usize] = true;
+                Ok(())
+            }
+            Err(error) => {
+                self.pack.tell(rank, &Departure::Unstarted(error));
+                Err(self.faults.rise())
+            }
+        }
+    }
+
+    fn turn(&mut self, buffer: &mut [u8]) -> Result<Came, Failed> {
+        if !self.lives.contains(&true) {
+            return Err(self.faults.add(nobody()));
+        }
+        match self.pack.turn(buffer) {
+            Ok(Heard { rank, count }) if self.is_alive(rank) => {
+                if count > 0 {
+                    return Ok(Came::Bytes { rank, count });
+                }
+                self.lives[rank as usize] = false;
+                self.faults.rise();
+                Ok(Came::Gone { rank })
+            }
+            Ok(_) => Err(self.faults.add(nobody())),
+            Err(error) => Err(self.faults.add(error)),
+        }
+    }
+
+    fn send(&mut self, rank: u32, bytes: &[u8]) -> Result<(), Failed> {
+        match self.pack.send(rank, bytes) {
+            Ok(()) => Ok(()),
+            Err(error) => {
+                self.pack.tell(rank, &Departure::Untold(error));
+                Err(self.faults.rise())
+            }
+        }
+    }
+
+    fn shut(&mut self, rank: u32) {
+        self.pack.shut(rank);
+        self.lives[rank as usize] = false;
+    }
+
+    fn finish(&mut self) {
+        self.pack.finish();
+    }
+}

@@ -1,0 +1,160 @@
+use mio::net::UnixListener;
+use std::alloc::Global;
+use std::fs::{DirBuilder, File, Permissions, TryLockError};
+use std::io::ErrorKind;
+use std::net::Net;
+use std::os::unix::fs::{DirBuilderExt, MetadataExt, PermissionsExt};
+use std::os::unix::net::SocketAddr;
+use std::rt::Files;
+use std::{fs, io};
+
+/// How many bytes the path to a socket has at most.
+const LONGEST: usize = 107;
+
+/// The folder in which the children of a crew come to their sockets. It is locked from the first
+/// call on, so that no other crew takes its sockets away.
+#[derive(Drop)]
+pub struct Sockets<'a, R: Files<File = File>> {
+    rt: &'a R,
+    alloc: Global,
+    folder: &'a str,
+    lock: Option<File>,
+}
+
+/// A socket to which a child is to come.
+#[derive(Drop)]
+pub struct Door<'a, R: Files> {
+    pub listener: UnixListener,
+    pub file: SocketFile<'a, R>,
+}
+
+/// The file of a socket, which is removed where this is dropped.
+pub struct SocketFile<'a, R: Files> {
+    rt: &'a R,
+    path: String,
+}
+
+impl<R: Files> SocketFile<'_, R> {
+    pub fn path(&self) -> &str {
+        self.path.as_str()
+    }
+}
+
+impl<R: Files> Drop for SocketFile<'_, R> {
+    fn drop(self) {
+        let SocketFile { rt, path } = self;
+        let _ = fs::remove_file(rt, path.as_str());
+    }
+}
+
+// Why no socket is made in this folder.
+fn refused(why: &'static str) -> io::Error {
+    io::Error::new(ErrorKind::PermissionDenied, why)
+}
+
+// The folder, if its owner alone may write it.
+fn own_alone(folder: File) -> io::Result<File> {
+    if folder.metadata()?.mode() & 0o022 != 0 {
+        drop(folder);
+        return Err(refused("others may write in the folder of sockets"));
+    }
+    Ok(folder)
+}
+
+// The folder, locked.
+fn locked(folder: File) -> io::Result<File> {
+    match folder.try_lock() {
+        Ok(()) => Ok(folder),
+        Err(TryLockError::WouldBlock) => {
+            drop(folder);
+            Err(io::Error::new(
+                ErrorKind::ResourceBusy,
+                "another program has its sockets in this folder",
+            ))
+        }
+        Err(TryLockError::Error(error)) => {
+            drop(folder);
+            Err(error)
+        }
+    }
+}
+
+// The folder of this path, made for this user alone where it is not there, and locked.
+fn open_folder<R: Files<File = File>>(rt: &R, path: &str) -> io::Result<File> {
+    DirBuilder::new()
+        .recursive(true)
+        .mode(0o700)
+        .create(rt, path)?;
+    File::open(rt, path).and_then(own_alone).and_then(locked)
+}
+
+// Removes a file that lies at this path.
+fn remove_old<R: Files>(rt: &R, path: &str) -> io::Result<()> {
+    match fs::remove_file(rt, path) {
+        Err(error) if error.kind() == ErrorKind::NotFound => {
+            drop(error);
+            Ok(())
+        }
+        removed => removed,
+    }
+}
+
+// Whether the folder is of the user who made this file.
+fn is_own<R: Files>(rt: &R, folder: &File, file: &str) -> io::Result<bool> {
+    let owner = folder.metadata()?.uid();
+    Ok(fs::symlink_metadata(rt, file)?.uid() == owner)
+}
+
+// The address of a socket at this path.
+fn address_of(path: &str) -> io::Result<SocketAddr> {
+    if path.len() > LONGEST {
+        return Err(io::Error::new(
+            ErrorKind::InvalidFilename,
+            "the path to its socket has more than 107 bytes",
+        ));
+    }
+    SocketAddr::from_pathname(path)
+}
+
+impl<'a, R: Files<File = File> + Net> Sockets<'a, R> {
+    /// A folder that is not looked at yet.
+    pub fn new(rt: &'a R, alloc: Global, folder: &'a str) -> Sockets<'a, R> {
+        Sockets {
+            rt,
+            alloc,
+            folder,
+            lock: None,
+        }
+    }
+
+    // Opens the folder where it is not open.
+    fn open(&mut self) -> io::Result<()> {
+        if self.lock.is_none() {
+            self.lock = Some(open_folder(self.rt, self.folder)?);
+        }
+        Ok(())
+    }
+
+    /// Makes the socket of a rank, which this user alone can come to. A file that lies there is
+    /// removed.
+    pub fn bind(&mut self, rank: u32) -> io::Result<Door<'a, R>> {
+        let folder = self.folder;
+        let path = format!(in self.alloc; "{folder}/ug-{rank}.sock")?;
+        let address = address_of(path.as_str())?;
+        self.open()?;
+        remove_old(self.rt, path.as_str())?;
+        let listener = UnixListener::bind_addr(self.rt, &address)?;
+        let file = SocketFile { rt: self.rt, path };
+        self.guard(file.path())?;
+        Ok(Door { listener, file })
+    }
+
+    // Lets this user alone use the file, in a folder of this user.
+    fn guard(&self, file: &str) -> io::Result<()> {
+        fs::set_permissions(self.rt, file, Permissions::from_mode(0o600))?;
+        match &self.lock {
+            Some(folder) if is_own(self.rt, folder, file)? => Ok(()),
+            _ => Err(refused("the folder of sockets is another user's")),
+        }
+    }
+}
