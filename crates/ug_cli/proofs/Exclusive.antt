@@ -1,5 +1,5 @@
 -- The numbers of a plan are those that the words spell, and no others.
-use Rattle.std.proofs.Common.{◌≡◌, ℕ, ◌*◌, ◌^◌, ◌<◌, ◌≤◌, List, Option, None, Some, codes, sym, ap, ◌∙◌, arith}
+use Rattle.std.proofs.Common.{◌≡◌, ℕ, ◌*◌, ◌^◌, ◌<◌, ◌≤◌, List, Option, None, Some, codes, false, refl, sym, ap, ◌∙◌, arith}
 use Rattle.std.specs.Int.{div_ceil}
 use Rattle.std.proofs.lemmas.Fmt.{decimal_injective}
 use Rattle.clap.specs.Walk.{Row, Text}
@@ -7,7 +7,10 @@ use Rattle.ug_cli.specs.declared.plan.Plan.{Plan}
 use Rattle.ug_cli.specs.declared.plan.Plan.TheVariants as plans
 use Rattle.ug_cli.specs.declared.plan.Solvers.{Solvers}
 use Rattle.ug_cli.specs.Numbers.{IsGiven, IsGivenOr, IsNumber}
-use Rattle.ug_cli.specs.Taken.{AreRanks, AskedIn, InOrder, ranks_of, word_of}
+use Rattle.ug_cli.specs.declared.plan.Asked.{Asked}
+use Rattle.ug_cli.specs.declared.plan.Mode.{Mode}
+use Rattle.ug_cli.specs.declared.plan.Mode.TheVariants.{Threads, Processes}
+use Rattle.ug_cli.specs.Taken.{AreRanks, AreSettings, AskedIn, InOrder, IsMode, Needs, crew_of, needs_of, ranks_of, word_of}
 
 one_number : (least most : ℕ) (word : Text) (a b : ℕ) → most < 2 ^ 64 → IsNumber least most word a
     → IsNumber least most word b → a ≡ b
@@ -45,12 +48,63 @@ not_both None p q r x y e below order = x
 not_both (Some c) (plans.Solve a) (plans.Solve b) r x y e below order =
     clash c.1 a.settings.ranks b.settings.ranks x.1.settings.ranks y.1.settings.ranks (below_of a.settings.ranks r e below) order
 not_both (Some c) (plans.Solve a) (plans.Restart b) r x y e below order = let f = sym x.0 ∙ y.0 in cc
+not_both (Some c) (plans.Solve a) (plans.Worker b) r x y e below order = let f = sym x.0 ∙ y.0 in cc
 not_both (Some c) (plans.Solve a) (plans.Show b) r x y e below order = let f = sym x.0 ∙ y.0 in cc
 not_both (Some c) (plans.Solve a) (plans.Gen b) r x y e below order = let f = sym x.0 ∙ y.0 in cc
 not_both (Some c) (plans.Restart a) (plans.Solve b) r x y e below order = let f = sym x.0 ∙ y.0 in cc
 not_both (Some c) (plans.Restart a) (plans.Restart b) r x y e below order =
     clash c.1 a.settings.ranks b.settings.ranks x.1.settings.ranks y.1.settings.ranks (below_of a.settings.ranks r e below) order
+not_both (Some c) (plans.Restart a) (plans.Worker b) r x y e below order = let f = sym x.0 ∙ y.0 in cc
 not_both (Some c) (plans.Restart a) (plans.Show b) r x y e below order = let f = sym x.0 ∙ y.0 in cc
 not_both (Some c) (plans.Restart a) (plans.Gen b) r x y e below order = let f = sym x.0 ∙ y.0 in cc
+not_both (Some c) (plans.Worker a) q r x y e below order = cc
 not_both (Some c) (plans.Show a) q r x y e below order = cc
 not_both (Some c) (plans.Gen a) q r x y e below order = cc
+
+-- ---- what a plan needs
+
+one_mode : (word : Option Text) (a b : Mode) → IsMode word a → IsMode word b → a ≡ b
+one_mode word Threads Threads x y = refl
+one_mode word Threads Processes x y = let f = sym x ∙ y in cc
+one_mode word Processes Threads x y = let f = sym x ∙ y in cc
+one_mode word Processes Processes x y = refl
+
+one_crew : (rows : List Row) (a b : Asked) → AreSettings rows a → AreSettings rows b
+    → crew_of a.mode a.ranks.solvers ≡ crew_of b.mode b.ranks.solvers
+one_crew rows a b x y =
+    ap (λ (m : Mode). crew_of m a.ranks.solvers) (one_mode (word_of (codes "mode") rows) a.mode b.mode x.mode y.mode)
+    ∙ ap (λ (n : ℕ). crew_of b.mode n) (one_given 1 256 (word_of (codes "solvers") rows) a.ranks.solvers
+    b.ranks.solvers (omega arith) x.ranks.solvers y.ranks.solvers)
+
+pub same_needs : (command : Option (Text × List Row)) (p q : Plan) → AskedIn command p → AskedIn command q
+    → needs_of p ≡ needs_of q
+same_needs None p q x y = absurd x
+same_needs (Some c) (plans.Solve a) (plans.Solve b) x y =
+    ap (λ (crew : Option ℕ). record { crew = crew; link = false }) (one_crew c.1 a.settings b.settings x.1.settings
+    y.1.settings)
+same_needs (Some c) (plans.Solve a) (plans.Restart b) x y = let f = sym x.0 ∙ y.0 in cc
+same_needs (Some c) (plans.Solve a) (plans.Worker b) x y = let f = sym x.0 ∙ y.0 in cc
+same_needs (Some c) (plans.Solve a) (plans.Show b) x y = let f = sym x.0 ∙ y.0 in cc
+same_needs (Some c) (plans.Solve a) (plans.Gen b) x y = let f = sym x.0 ∙ y.0 in cc
+same_needs (Some c) (plans.Restart a) (plans.Solve b) x y = let f = sym x.0 ∙ y.0 in cc
+same_needs (Some c) (plans.Restart a) (plans.Restart b) x y =
+    ap (λ (crew : Option ℕ). record { crew = crew; link = false }) (one_crew c.1 a.settings b.settings x.1.settings
+    y.1.settings)
+same_needs (Some c) (plans.Restart a) (plans.Worker b) x y = let f = sym x.0 ∙ y.0 in cc
+same_needs (Some c) (plans.Restart a) (plans.Show b) x y = let f = sym x.0 ∙ y.0 in cc
+same_needs (Some c) (plans.Restart a) (plans.Gen b) x y = let f = sym x.0 ∙ y.0 in cc
+same_needs (Some c) (plans.Worker a) (plans.Solve b) x y = let f = sym x.0 ∙ y.0 in cc
+same_needs (Some c) (plans.Worker a) (plans.Restart b) x y = let f = sym x.0 ∙ y.0 in cc
+same_needs (Some c) (plans.Worker a) (plans.Worker b) x y = refl
+same_needs (Some c) (plans.Worker a) (plans.Show b) x y = let f = sym x.0 ∙ y.0 in cc
+same_needs (Some c) (plans.Worker a) (plans.Gen b) x y = let f = sym x.0 ∙ y.0 in cc
+same_needs (Some c) (plans.Show a) (plans.Solve b) x y = let f = sym x.0 ∙ y.0 in cc
+same_needs (Some c) (plans.Show a) (plans.Restart b) x y = let f = sym x.0 ∙ y.0 in cc
+same_needs (Some c) (plans.Show a) (plans.Worker b) x y = let f = sym x.0 ∙ y.0 in cc
+same_needs (Some c) (plans.Show a) (plans.Show b) x y = refl
+same_needs (Some c) (plans.Show a) (plans.Gen b) x y = let f = sym x.0 ∙ y.0 in cc
+same_needs (Some c) (plans.Gen a) (plans.Solve b) x y = let f = sym x.0 ∙ y.0 in cc
+same_needs (Some c) (plans.Gen a) (plans.Restart b) x y = let f = sym x.0 ∙ y.0 in cc
+same_needs (Some c) (plans.Gen a) (plans.Worker b) x y = let f = sym x.0 ∙ y.0 in cc
+same_needs (Some c) (plans.Gen a) (plans.Show b) x y = let f = sym x.0 ∙ y.0 in cc
+same_needs (Some c) (plans.Gen a) (plans.Gen b) x y = refl

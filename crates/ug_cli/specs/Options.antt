@@ -55,6 +55,9 @@ abbrev pub restart : App
 restart = with_rules (with_rules (with_rules (new_app (codes "restart"))
     (positional (codes "file") ∷ demanded (codes "checkpoint") ∷ [])) ranks_rules) bounds_rules
 
+abbrev pub worker : App
+worker = with_rules (new_app (codes "worker")) (demanded (codes "socket") ∷ [])
+
 abbrev pub show : App
 show = with_rules (new_app (codes "show")) (demanded (codes "checkpoint") ∷ [])
 
@@ -78,5 +81,5 @@ bare = record {
 
 -- the whole command line
 abbrev pub ug : App
-ug = with_subcommand (with_subcommand (with_subcommand (with_subcommand bare
-    solve.top) restart.top) show.top) gen.top
+ug = with_subcommand (with_subcommand (with_subcommand (with_subcommand (with_subcommand bare
+    solve.top) restart.top) worker.top) show.top) gen.top

@@ -1,5 +1,6 @@
 -- What a command line asks for.
 use Rattle.std.specs.Prelude.{◌≡◌, ◌≢◌, ◌↔◌, ℕ, ◌*◌, ◌<◌, ◌≤◌, IsTrue, List, [], map, codes}
+use Rattle.std.specs.Prelude.{Bool, true, false}
 use Rattle.std.specs.Prelude.{Option, None, Some, option_map, String, string_bytes}
 use Rattle.std.specs.declared.alloc.Global.{Global}
 use Rattle.std.specs.Int.{div_ceil}
@@ -11,7 +12,10 @@ use Rattle.ug_cli.specs.declared.plan.Gen.{Gen}
 use Rattle.ug_cli.specs.declared.plan.Plan.{Plan}
 use Rattle.ug_cli.specs.declared.plan.Plan.TheVariants as plans
 use Rattle.ug_cli.specs.declared.plan.Solvers.{Solvers}
+use Rattle.ug_cli.specs.declared.plan.Mode.{Mode}
+use Rattle.ug_cli.specs.declared.plan.Mode.TheVariants.{Threads, Processes}
 use Rattle.ug_cli.specs.declared.plan.Restart.{Restart}
+use Rattle.ug_cli.specs.declared.plan.Worker.{Worker}
 use Rattle.ug_cli.specs.declared.plan.Asked.{Asked}
 use Rattle.ug_cli.specs.declared.plan.Show.{Show}
 use Rattle.ug_cli.specs.declared.plan.Solve.{Solve}
@@ -43,9 +47,14 @@ pub record AreBounds (rows : List Row) (bounds : Limits) : Type 0 where
   pub boxed : IsGivenIf 0 1000000000 (word_of (codes "box") rows) bounds.boxed
   pub gap : IsGiven 0 1000000000000000000 (word_of (codes "gap") rows) bounds.gap
 
--- the settings of a solve, which runs in threads
+-- the word is where the solvers run
+abbrev pub IsMode : Option Text → Mode → Type 0
+IsMode word Threads = word ≡ Some (codes "threads")
+IsMode word Processes = word ≡ Some (codes "processes")
+
+-- the settings of a solve
 pub record AreSettings (rows : List Row) (settings : Asked) : Type 0 where
-  pub mode : word_of (codes "mode") rows ≡ Some (codes "threads")
+  pub mode : IsMode (word_of (codes "mode") rows) settings.mode
   pub ranks : AreRanks rows settings.ranks
   pub bounds : AreBounds rows settings.bounds
   pub sockets : word_of (codes "sockets") rows ≡ Some settings.sockets.now
@@ -63,6 +72,10 @@ pub record IsRestart (rows : List Row) (restart : Restart) : Type 0 where
   pub checkpoint : word_of (codes "checkpoint") rows ≡ Some restart.checkpoint.now
   pub settings : AreSettings rows restart.settings
 
+-- a solver works for the coordinator at the socket
+pub record IsWorker (rows : List Row) (worker : Worker) : Type 0 where
+  pub socket : word_of (codes "socket") rows ≡ Some worker.socket.now
+
 -- the checkpoint is shown that the folder has
 pub record IsShow (rows : List Row) (show : Show) : Type 0 where
   pub checkpoint : word_of (codes "checkpoint") rows ≡ Some show.checkpoint.now
@@ -77,6 +90,7 @@ pub record IsGen (rows : List Row) (gen : Gen) : Type 0 where
 abbrev pub Asks : Text → List Row → Plan → Type 0
 Asks name rows (plans.Solve solve) = (name ≡ codes "solve") × IsSolve rows solve
 Asks name rows (plans.Restart restart) = (name ≡ codes "restart") × IsRestart rows restart
+Asks name rows (plans.Worker worker) = (name ≡ codes "worker") × IsWorker rows worker
 Asks name rows (plans.Show show) = (name ≡ codes "show") × IsShow rows show
 Asks name rows (plans.Gen gen) = (name ≡ codes "gen") × IsGen rows gen
 
@@ -94,6 +108,7 @@ pub record AskedBy (words : List Text) (plan : Plan) : Type 0 where
 abbrev pub ranks_of : Plan → Option Solvers
 ranks_of (plans.Solve solve) = Some solve.settings.ranks
 ranks_of (plans.Restart restart) = Some restart.settings.ranks
+ranks_of (plans.Worker worker) = None
 ranks_of (plans.Show show) = None
 ranks_of (plans.Gen gen) = None
 
@@ -133,3 +148,32 @@ IsUnread words (usages.HighBelowLow low high) = ⊥
 abbrev pub CrossedIsNotTaken : Type 0
 CrossedIsNotTaken = (words : List Text) (low high : ℕ) (plan : Plan)
     → IsCrossed words low high → TakenWords words plan → ⊥
+
+-- what a plan needs beside its files: a crew of so many solvers, or a link
+pub record Needs : Type 0 where
+  pub crew : Option ℕ
+  pub link : Bool
+
+-- so many solvers in processes are a crew
+abbrev pub crew_of : Mode → ℕ → Option ℕ
+crew_of Threads solvers = None
+crew_of Processes solvers = Some solvers
+
+-- only a solve in processes needs a crew, and a solver that works at a socket a link
+abbrev pub needs_of : Plan → Needs
+needs_of (plans.Solve solve) = record {
+  crew = crew_of solve.settings.mode solve.settings.ranks.solvers;
+  link = false;
+}
+needs_of (plans.Restart restart) = record {
+  crew = crew_of restart.settings.mode restart.settings.ranks.solvers;
+  link = false;
+}
+needs_of (plans.Worker worker) = record { crew = None; link = true }
+needs_of (plans.Show show) = record { crew = None; link = false }
+needs_of (plans.Gen gen) = record { crew = None; link = false }
+
+-- all plans that the words ask for need the same
+abbrev pub WordsTellTheNeeds : Type 0
+WordsTellTheNeeds = (words : List Text) (plan other : Plan) → TakenWords words plan
+    → TakenWords words other → needs_of plan ≡ needs_of other

@@ -1,7 +1,12 @@
-ghost use Rattle.ug_cli.specs.Taken.{CrossedIsNotTaken};
+ghost use Rattle.ug_cli.specs.Taken.{CrossedIsNotTaken, WordsTellTheNeeds};
 
 /// The answers of `read_words` exclude one another: words that are refused since their high is
 /// below their low ask for no other plan, whose high is not.
 pub fn crossed_is_not_taken()
     ensures { CrossedIsNotTaken }
+{}
+
+/// The words tell what a run needs beside its files: whoever has a plan of them knows it of each.
+pub fn words_tell_the_needs()
+    ensures { WordsTellTheNeeds }
 {}

@@ -14,7 +14,7 @@ mod reading;
 mod settings;
 mod usage;
 
-pub use laws::crossed_is_not_taken;
-pub use plan::{Asked, Gen, Limits, Plan, Restart, Show, Solve, Solvers};
+pub use laws::{crossed_is_not_taken, words_tell_the_needs};
+pub use plan::{Asked, Gen, Limits, Mode, Plan, Restart, Show, Solve, Solvers, Worker};
 pub use reading::read_words;
 pub use usage::Usage;

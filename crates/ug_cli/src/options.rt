@@ -5,7 +5,7 @@ ghost use Rattle.ug_cli.specs.Options.{bare as bare_app, bounds_rules, ranks_rul
 ghost use Rattle.ug_cli.specs.Options.{defaulted as defaulted_rule, demanded as demanded_rule};
 ghost use Rattle.ug_cli.specs.Options.{flag as flag_rule, optional as optional_rule};
 ghost use Rattle.ug_cli.specs.Options.{gen as gen_app, restart as restart_app, show as show_app};
-ghost use Rattle.ug_cli.specs.Options.{positional as positional_rule, solve as solve_app};
+ghost use Rattle.ug_cli.specs.Options.{positional as positional_rule, solve as solve_app, worker as worker_app};
 
 use clap::{Arg, ArgAction, Command};
 use std::alloc::{AllocError, Global};
@@ -125,6 +125,13 @@ fn restart<'a>(alloc: Global) -> Result<Command<'a>, AllocError>
     with_bounds(alloc, with_ranks(alloc, command))
 }
 
+fn worker<'a>(alloc: Global) -> Result<Command<'a>, AllocError>
+    ensures app { IfOk result (λ c. app_of c ≡ worker_app) }
+    ensures local { IfOk result (λ c. (out-Command c).has_globals ≡ false) }
+{
+    add(Ok(Command::new(alloc, "worker")), demanded(alloc, "socket"))
+}
+
 fn show<'a>(alloc: Global) -> Result<Command<'a>, AllocError>
     ensures app { IfOk result (λ c. app_of c ≡ show_app) }
     ensures local { IfOk result (λ c. (out-Command c).has_globals ≡ false) }
@@ -182,6 +189,7 @@ pub fn command<'a>(alloc: Global) -> Result<Command<'a>, AllocError>
 {
     let program = with(Ok(bare(alloc)), solve(alloc));
     let program = with(program, restart(alloc));
+    let program = with(program, worker(alloc));
     let program = with(program, show(alloc));
     with(program, generate(alloc))
 }

@@ -23,9 +23,19 @@ pub struct Limits {
     pub gap: u64,
 }
 
-/// How a file is solved, in threads.
+/// Where the solvers run.
+#[derive(Clone, Copy, PartialEq, Eq)]
+pub enum Mode {
+    /// In threads of the program.
+    Threads,
+    /// In processes of their own, each at a socket.
+    Processes,
+}
+
+/// How a file is solved.
 #[derive(Clone, Copy, PartialEq, Eq)]
 pub struct Asked<'a> {
+    pub mode: Mode,
     pub ranks: Solvers,
     pub bounds: Limits,
     /// The folder of the sockets.
@@ -50,6 +60,13 @@ pub struct Restart<'a> {
     pub settings: Asked<'a>,
 }
 
+/// Work for the coordinator at a socket.
+#[derive(Clone, Copy, PartialEq, Eq)]
+pub struct Worker<'a> {
+    /// The file of the socket.
+    pub socket: &'a str,
+}
+
 /// Print a checkpoint.
 #[derive(Clone, Copy, PartialEq, Eq)]
 pub struct Show<'a> {
@@ -70,6 +87,7 @@ pub struct Gen {
 pub enum Plan<'a> {
     Solve(Solve<'a>),
     Restart(Restart<'a>),
+    Worker(Worker<'a>),
     Show(Show<'a>),
     Gen(Gen),
 }

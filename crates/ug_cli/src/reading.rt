@@ -7,7 +7,7 @@ ghost use Rattle.ug_cli.specs.Taken.{ranks_of as stated_ranks, texts};
 
 use crate::given::{given, text_of};
 use crate::options::command;
-use crate::plan::{Gen, Plan, Restart, Show, Solve, Solvers};
+use crate::plan::{Gen, Plan, Restart, Show, Solve, Solvers, Worker};
 use crate::settings::settings_of;
 use crate::usage::Usage;
 use clap::ArgMatches;
@@ -47,6 +47,15 @@ fn restart_of<'a>(matches: &ArgMatches<'a>) -> Option<Plan<'a>>
     }
 }
 
+fn worker_of<'a>(matches: &ArgMatches<'a>) -> Option<Plan<'a>>
+    ensures found { IfSome result (Asks (codes "worker") (rows_of (found_of matches.now))) }
+    ensures none { IfNone result ((plan : Plan)
+        → Asks (codes "worker") (rows_of (found_of matches.now)) plan → ⊥) }
+{
+    let socket = text_of(matches, "socket")?;
+    Some(Plan::Worker(Worker { socket }))
+}
+
 fn show_of<'a>(matches: &ArgMatches<'a>) -> Option<Plan<'a>>
     ensures found { IfSome result (Asks (codes "show") (rows_of (found_of matches.now))) }
     ensures none { IfNone result ((plan : Plan)
@@ -83,6 +92,7 @@ fn plan_of<'a>(name: &str, matches: &ArgMatches<'a>) -> Option<Plan<'a>>
     match name {
         "solve" => solve_of(matches),
         "restart" => restart_of(matches),
+        "worker" => worker_of(matches),
         "show" => show_of(matches),
         "gen" => gen_of(matches),
         _ => None,
@@ -127,6 +137,7 @@ fn ranks_in(plan: &Plan<'_>) -> Option<Solvers>
     match plan {
         Plan::Solve(solve) => Some(solve.settings.ranks),
         Plan::Restart(restart) => Some(restart.settings.ranks),
+        Plan::Worker(_) => None,
         Plan::Show(_) => None,
         Plan::Gen(_) => None,
     }

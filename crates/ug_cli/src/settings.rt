@@ -1,10 +1,10 @@
 ghost use Rattle.std.specs.Prelude.{ℕ, Option, IfSome, IfNone, codes};
 ghost use Rattle.clap.specs.Words.{found_of, rows_of};
 ghost use Rattle.ug_cli.specs.Numbers.{IsGivenIf};
-ghost use Rattle.ug_cli.specs.Taken.{AreBounds, AreRanks, AreSettings, word_of};
+ghost use Rattle.ug_cli.specs.Taken.{AreBounds, AreRanks, AreSettings, IsMode, word_of};
 
 use crate::given::{given, given_if, given_or, has_word, text_of};
-use crate::plan::{Asked, Limits, Solvers};
+use crate::plan::{Asked, Limits, Mode, Solvers};
 use clap::ArgMatches;
 
 fn ranks_of(matches: &ArgMatches<'_>) -> Option<Solvers>
@@ -58,21 +58,36 @@ fn bounds_of(matches: &ArgMatches<'_>) -> Option<Limits>
     }
 }
 
+// Where the solvers run.
+fn mode_of(matches: &ArgMatches<'_>) -> Option<Mode>
+    ensures found { IfSome result
+        (IsMode (word_of (codes "mode") (rows_of (found_of matches.now)))) }
+    ensures none { IfNone result ((mode : Mode)
+        → IsMode (word_of (codes "mode") (rows_of (found_of matches.now))) mode → ⊥) }
+{
+    if has_word(matches, "mode", "threads") {
+        return Some(Mode::Threads);
+    }
+    if has_word(matches, "mode", "processes") {
+        return Some(Mode::Processes);
+    }
+    None
+}
+
 /// The settings of a solve.
 pub fn settings_of<'a>(matches: &ArgMatches<'a>) -> Option<Asked<'a>>
     ensures found { IfSome result (AreSettings (rows_of (found_of matches.now))) }
     ensures none { IfNone result ((settings : Asked)
         → AreSettings (rows_of (found_of matches.now)) settings → ⊥) }
 {
-    if !has_word(matches, "mode", "threads") {
-        return None;
-    }
     match (
+        mode_of(matches),
         ranks_of(matches),
         bounds_of(matches),
         text_of(matches, "sockets"),
     ) {
-        (Some(ranks), Some(bounds), Some(sockets)) => Some(Asked {
+        (Some(mode), Some(ranks), Some(bounds), Some(sockets)) => Some(Asked {
+            mode,
             ranks,
             bounds,
             sockets,

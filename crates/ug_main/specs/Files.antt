@@ -1,35 +1,55 @@
--- What the program did with real files, of whose bytes nothing is told.
-use Rattle.std.specs.Prelude.{◌≡◌, ℕ, List, None}
+-- What the program did with real files, children and sockets, of whose bytes nothing is told.
+use Rattle.std.specs.Prelude.{◌≡◌, ℕ, List, Option, None}
 use Rattle.clap.specs.Walk.{Text}
+use Rattle.ug_io.specs.Crews.{CrewSeen}
+use Rattle.ug_io.specs.Links.{LinkSeen}
 use Rattle.ug_io.specs.Outside.{SinkSeen}
+use Rattle.ug_real.specs.declared.process_crew.ProcessCrew.{ProcessCrew}
+use Rattle.ug_real.specs.declared.socket_link.SocketLink.{SocketLink}
 use Rattle.ug_print.specs.Lines.{memory_line}
-use Rattle.ug_top.specs.Outside.{Outside, outside}
+use Rattle.ug_top.specs.Outside.{Outside}
 use Rattle.ug_top.specs.declared.status.Status.{Status}
 use Rattle.ug_top.specs.declared.status.Status.TheVariants.{Memory}
 use Rattle.ug_top.specs.Ran.{HasRun, HasTold}
 
--- how often reading, saving and writing failed
+-- how often reading, saving and writing failed, and what is seen of the crew and of the link
 pub record FilesSeen : Type 0 where
   pub reads : ℕ
   pub stores : ℕ
   pub writes : ℕ
+  pub crew : Option CrewSeen
+  pub link : Option LinkSeen
+
+-- who of real children lives, and how often their crew failed
+abbrev pub crew_seen : {R W P : Type 0} → ProcessCrew R W P → CrewSeen
+crew_seen crew = record { said = None; lives = crew.lives.items; faults = crew.faults.count }
+
+-- whether a real link has ended, and how often it failed
+abbrev pub link_seen : {R : Type 0} → SocketLink R → LinkSeen
+link_seen link = record { said = None; ended = link.has_ended; faults = link.faults.count }
 
 -- what is seen of files, of which nothing is told, by how often their calls failed
-abbrev pub of_files : ℕ → ℕ → Outside
-of_files reads stores = outside (record { left = None; faults = reads })
-    (record { told = None; faults = stores })
+abbrev pub of_files : ℕ → ℕ → Option CrewSeen → Option LinkSeen → Outside
+of_files reads stores crew link = record {
+  source = record { left = None; faults = reads };
+  disk = record { told = None; faults = stores };
+  crew = crew;
+  link = link;
+}
 
 abbrev pub of_output : ℕ → SinkSeen
 of_output writes = record { written = None; faults = writes }
 
--- what the words ask for was done, and this status says how it ended; no call had failed before,
--- and these are all that failed
-abbrev pub HasRunOnFiles : List Text → FilesSeen → Status → Type 0
-HasRunOnFiles words seen status = HasRun words (of_files 0 0) (of_files seen.reads seen.stores)
-    (of_output 0) (of_output seen.writes) status
+-- what the words ask for was done, and this status says how it ended; no call had failed before of
+-- files, whatever crew and link there were, and these are all that failed
+pub record HasRunOnFiles (words : List Text) (seen : FilesSeen) (status : Status) : Type 0 where
+  pub crew : Option CrewSeen
+  pub link : Option LinkSeen
+  pub ran : HasRun words (of_files 0 0 crew link)
+      (of_files seen.reads seen.stores seen.crew seen.link) (of_output 0) (of_output seen.writes) status
 
 -- memory was wanting before anything was done: no call that reads or saves has failed, and the line
 -- of it was told, or standard output failed
 pub record IsUnbegun (seen : FilesSeen) (status : Status) : Type 0 where
-  pub nothing : of_files seen.reads seen.stores ≡ of_files 0 0
+  pub nothing : of_files seen.reads seen.stores seen.crew seen.link ≡ of_files 0 0 None None
   pub told : HasTold Memory memory_line (of_output 0) (of_output seen.writes) status

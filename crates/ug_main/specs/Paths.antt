@@ -7,9 +7,10 @@ use Rattle.ug_cli.specs.declared.plan.Solve.{Solve}
 use Rattle.ug_main.specs.declared.paths.Paths.{Paths}
 
 -- the paths are these
-pub record ArePaths (file folder : Text) (is_shown : Bool) (paths : Paths) : Type 0 where
+pub record ArePaths (file folder socket : Text) (is_shown : Bool) (paths : Paths) : Type 0 where
   pub files : paths.file.now ≡ file
   pub folders : paths.folder.now ≡ folder
+  pub sockets : paths.socket.now ≡ socket
   pub shown : paths.is_shown ≡ is_shown
 
 -- a solve's folder, where a checkpoint is kept
@@ -19,10 +20,11 @@ folder_of solve = unwrap_or (option_map (λ folder. folder.now) solve.checkpoint
 -- The paths of a plan, or of no plan. What is not named is empty, and the folder of a show is only
 -- shown.
 abbrev pub ArePathsOf : Option Plan → Paths → Type 0
-ArePathsOf None paths = ArePaths [] [] false paths
+ArePathsOf None paths = ArePaths [] [] [] false paths
 ArePathsOf (Some (plans.Solve solve)) paths =
-    ArePaths solve.file.now (folder_of solve) false paths
+    ArePaths solve.file.now (folder_of solve) [] false paths
 ArePathsOf (Some (plans.Restart restart)) paths =
-    ArePaths restart.file.now restart.checkpoint.now false paths
-ArePathsOf (Some (plans.Show show)) paths = ArePaths [] show.checkpoint.now true paths
-ArePathsOf (Some (plans.Gen gen)) paths = ArePaths [] [] false paths
+    ArePaths restart.file.now restart.checkpoint.now [] false paths
+ArePathsOf (Some (plans.Worker worker)) paths = ArePaths [] [] worker.socket.now false paths
+ArePathsOf (Some (plans.Show show)) paths = ArePaths [] show.checkpoint.now [] true paths
+ArePathsOf (Some (plans.Gen gen)) paths = ArePaths [] [] [] false paths

@@ -1,42 +1,49 @@
 //! The program `ug`: solves bounded integer programs of MPS files, and goes on from checkpoints. It
 //! stands on ug_top, on ug_cli for the words, on ug_print for why a text is refused, and on ug_real.
-//! `main` makes the real objects, a reader of the file, a writer to standard output and the
-//! checkpoint's folder; `carry_out` runs with them, under the contract of `run`, which says what was
-//! printed. Standard error gets the usage line, why a run failed, and, on a terminal or with
-//! `UG_PROGRESS` set, how it gets on.
+//! `main` makes the real objects, a reader of the file, a writer to standard output, the folder of
+//! the checkpoint, and where words ask for it a crew of children or the socket of one; `carry_out`
+//! runs with them, under the contract of `run`, which says what was printed. Standard error gets the
+//! usage line, why a run failed, and, on a terminal or with `UG_PROGRESS` set, how it gets on.
 #![tactic(auto)]
 
-ghost use Rattle.std.specs.Prelude.{◌≡◌};
-ghost use Rattle.ug_cli.specs.Taken.{texts};
-ghost use Rattle.ug_top.specs.Outside.{outside};
-ghost use Rattle.ug_main.specs.Files.{HasRunOnFiles, IsUnbegun};
+ghost use Rattle.std.specs.Prelude.{◌≡◌, IfOk, IfSome};
+ghost use Rattle.ug_cli.specs.declared.plan.Plan.{Plan};
+ghost use Rattle.ug_cli.specs.Taken.{TakenWords, needs_of, texts};
+ghost use Rattle.ug_top.specs.Ends.{HasCrewFor, HasLinkFor, HasNeeds, IsPlanOf};
+ghost use Rattle.ug_top.specs.Outside.{outside, seen_if};
+ghost use Rattle.ug_main.specs.Files.{HasRunOnFiles, IsUnbegun, crew_seen, link_seen};
 ghost use Rattle.ug_top.specs.Ran.{HasRun};
 
 mod descriptors;
+mod gone;
 mod paths;
 mod reasons;
 mod teller;
 mod words;
 
 use crate::descriptors::take_standard;
+use crate::gone::Gone;
 use crate::paths::{Paths, paths_of};
 use crate::reasons::Reasons;
 use crate::teller::Teller;
 use crate::words::Behind;
+use std::alloc::AllocError;
 use std::fs::File;
 use std::io::{Eprint, IsTerminal, Print, Printer};
-use std::process::ExitCode;
+use std::net::Net;
+use std::process::{ExitCode, Processes, SystemProcess};
 use std::rt::{Env, Files};
 use std::sync::Wait;
 use std::thread::Threads;
+use std::time::Clock;
 use std::{env, io};
-use ug_cli::{Usage, read_words};
+use ug_cli::{Asked, Mode, Plan, Usage, crossed_is_not_taken, read_words, words_tell_the_needs};
 use ug_disk::Disk;
-use ug_io::{Sink, Source};
+use ug_io::{Crew, Link, Sink, Source};
 use ug_print::reason;
-use ug_real::{FileDisk, Reader, RealFolder, Writer};
-use ug_threads::{Host, Observer};
-use ug_top::{Refusal, Status, run, tell_unread};
+use ug_real::{Children, FileDisk, ProcessCrew, Reader, RealFolder, SocketLink, Writer};
+use ug_restart::{Host, Observer};
+use ug_top::{Objects, Refusal, Status, run, tell_unread};
 
 // The words behind the program's own name. A word that is not UTF-8 is no command.
 fn words_of<R: Env + AllocGlobal>(rt: &R) -> Result<Vec<String>, Status> {
@@ -44,6 +51,19 @@ fn words_of<R: Env + AllocGlobal>(rt: &R) -> Result<Vec<String>, Status> {
     match words.collect(rt.alloc()) {
         Ok(words) => Ok(words),
         Err(_) => Err(Status::Memory),
+    }
+}
+
+// The program's own name, by which it starts its children. Where there is none, or one that is not
+// UTF-8, it is empty, and no child can be started.
+fn name_of<R: Env + AllocGlobal>(rt: &R) -> Result<String, Status> {
+    let none = String::new(rt.alloc());
+    match env::args(&(rt, rt.alloc())) {
+        Ok(mut all) => Ok(all.next().unwrap_or(none)),
+        Err(error) => match status_of(&error) {
+            Status::Memory => Err(Status::Memory),
+            _ => Ok(none),
+        },
     }
 }
 
@@ -56,21 +76,48 @@ fn status_of(error: &io::Error) -> Status {
     }
 }
 
-// Finds the files that the words name, and does what the words ask for.
+// What the program runs on: files, and a crew of child programs or a socket where a plan needs it.
+type Real<'a, R> = Objects<
+    Reader<'a, R>,
+    FileDisk<RealFolder<'a, R>>,
+    ProcessCrew<'a, R, Gone<'a, R>>,
+    SocketLink<'a, R>,
+>;
+
+// The words of a run, and the program that its children are.
+#[derive(Drop)]
+struct Called {
+    name: String,
+    words: Vec<String>,
+}
+
+// Finds what the words name, and does what the words ask for.
 #[tactic(auto, using(crate::proofs::Files::unbegun_is_run))]
-fn obey<'a, R>(rt: &'a R, words: &'a [String], is_told: bool) -> Worked<'a, R>
+fn obey<'a, R>(rt: &'a R, called: &'a Called, is_told: bool) -> Worked<'a, R>
 where
-    R: Files<File = File> + Print + Eprint + AllocGlobal + Threads + Wait + Sync,
-    ensures { HasRunOnFiles (texts words.now) (record {
-      reads = result.input.faults.count;
-      stores = result.disk.faults.count;
+    R: Files<File = File>
+        + Net
+        + Processes<Started = SystemProcess>
+        + Clock
+        + Print
+        + Eprint
+        + AllocGlobal
+        + Threads
+        + Wait
+        + Sync,
+    ensures { HasRunOnFiles (texts called.now.words.items) (record {
+      reads = result.objects.input.faults.count;
+      stores = result.objects.disk.faults.count;
       writes = result.out.faults.count;
+      crew = seen_if crew_seen result.objects.crew;
+      link = seen_if link_seen result.objects.link;
     }) result.status }
 {
-    match read_words(rt.alloc(), words) {
-        Ok(plan) => work(rt, words, paths_of(Some(plan)), is_told),
+    crossed_is_not_taken();
+    match read_words(rt.alloc(), &called.words) {
+        Ok(plan) => work(rt, called, Some(plan), is_told),
         Err(Usage::Memory) => unbegun(rt),
-        Err(_) => work(rt, words, paths_of(None), is_told),
+        Err(_) => work(rt, called, None, is_told),
     }
 }
 
@@ -81,13 +128,12 @@ struct Job<'a> {
     paths: Paths<'a>,
 }
 
-// The status with which it ended, and the file, standard output and folder as they are then.
+// The status with which it ended, and the objects and standard output as they are then.
 #[derive(Drop)]
 struct Worked<'a, R: Files<File = File> + Print> {
     status: Status,
-    input: Reader<'a, R>,
+    objects: Real<'a, R>,
     out: Writer<Printer<'a, R>>,
-    disk: FileDisk<RealFolder<'a, R>>,
 }
 
 // The status alone.
@@ -114,14 +160,83 @@ where
     })
 }
 
+// The crew of a solve in processes, whose children are this program.
+fn crew_of<'a, R>(
+    rt: &'a R,
+    called: &'a Called,
+    plan: Option<Plan<'a>>,
+    is_told: bool,
+) -> Result<Option<ProcessCrew<'a, R, Gone<'a, R>>>, AllocError>
+where
+    R: Files<File = File>
+        + Net
+        + Processes<Started = SystemProcess>
+        + Clock
+        + Print
+        + Eprint
+        + AllocGlobal
+        + Threads
+        + Wait
+        + Sync,
+    ensures { IfSome plan.entry (λ p. IfOk result (λ crew.
+        HasCrewFor (needs_of p).crew (seen_if crew_seen crew))) }
+{
+    let asked = match plan {
+        Some(Plan::Solve(solve)) => solve.settings,
+        Some(Plan::Restart(restart)) => restart.settings,
+        Some(Plan::Worker(_) | Plan::Show(_) | Plan::Gen(_)) | None => return Ok(None),
+    };
+    let Asked {
+        mode,
+        ranks,
+        sockets,
+        ..
+    } = asked;
+    match mode {
+        Mode::Threads => Ok(None),
+        Mode::Processes => {
+            let children = Children {
+                program: called.name.as_str(),
+                sockets,
+            };
+            let watcher = Gone::new(rt, is_told);
+            match ProcessCrew::new(rt, rt.alloc(), ranks.solvers, children, watcher) {
+                Ok(crew) => Ok(Some(crew)),
+                Err(error) => Err(error),
+            }
+        }
+    }
+}
+
+// The link of a solver that works for a coordinator.
+fn link_of<'a, R: Net>(rt: &'a R, plan: Option<Plan<'a>>) -> Option<SocketLink<'a, R>>
+    ensures { IfSome plan.entry (λ p. HasLinkFor (needs_of p).link (seen_if link_seen result)) }
+{
+    match plan {
+        Some(Plan::Worker(worker)) => Some(SocketLink::new(rt, worker.socket)),
+        Some(Plan::Solve(_) | Plan::Restart(_) | Plan::Show(_) | Plan::Gen(_)) | None => None,
+    }
+}
+
 // Tells want of memory before anything was done, as a run tells it.
 fn unbegun<R>(rt: &R) -> Worked<'_, R>
 where
-    R: Files<File = File> + Print + Eprint + AllocGlobal,
+    R: Files<File = File>
+        + Net
+        + Processes<Started = SystemProcess>
+        + Clock
+        + Print
+        + Eprint
+        + AllocGlobal
+        + Threads
+        + Wait
+        + Sync,
     ensures { IsUnbegun (record {
-      reads = result.input.faults.count;
-      stores = result.disk.faults.count;
+      reads = result.objects.input.faults.count;
+      stores = result.objects.disk.faults.count;
       writes = result.out.faults.count;
+      crew = seen_if crew_seen result.objects.crew;
+      link = seen_if link_seen result.objects.link;
     }) result.status }
 {
     let mut out = Writer::new(io::writer(rt));
@@ -131,49 +246,80 @@ where
     }
     Worked {
         status,
-        input: Reader::new(rt, ""),
+        objects: Objects {
+            input: Reader::new(rt, ""),
+            disk: disk_of(rt, paths_of(None)),
+            crew: None,
+            link: None,
+        },
         out,
-        disk: disk_of(rt, paths_of(None)),
     }
 }
 
-// Does what the words ask for, with these files.
-fn work<'a, R>(rt: &'a R, words: &[String], paths: Paths<'a>, is_told: bool) -> Worked<'a, R>
+// Does what the words ask for, with what the plan of them names.
+fn work<'a, R>(
+    rt: &'a R,
+    called: &'a Called,
+    plan: Option<Plan<'a>>,
+    is_told: bool,
+) -> Worked<'a, R>
 where
-    R: Files<File = File> + Print + Eprint + AllocGlobal + Threads + Wait + Sync,
-    ensures { HasRunOnFiles (texts words.now) (record {
-      reads = result.input.faults.count;
-      stores = result.disk.faults.count;
+    R: Files<File = File>
+        + Net
+        + Processes<Started = SystemProcess>
+        + Clock
+        + Print
+        + Eprint
+        + AllocGlobal
+        + Threads
+        + Wait
+        + Sync,
+    requires { IsPlanOf (texts called.now.words.items) plan }
+    ensures { HasRunOnFiles (texts called.now.words.items) (record {
+      reads = result.objects.input.faults.count;
+      stores = result.objects.disk.faults.count;
       writes = result.out.faults.count;
+      crew = seen_if crew_seen result.objects.crew;
+      link = seen_if link_seen result.objects.link;
     }) result.status }
 {
-    let mut input = Reader::new(rt, paths.file);
+    words_tell_the_needs();
+    let paths = paths_of(plan);
+    let Ok(crew) = crew_of(rt, called, plan, is_told) else {
+        return unbegun(rt);
+    };
+    let mut objects = Objects {
+        input: Reader::new(rt, paths.file),
+        disk: disk_of(rt, paths),
+        crew,
+        link: link_of(rt, plan),
+    };
     let mut out = Writer::new(io::writer(rt));
-    let mut disk = disk_of(rt, paths);
     let observer = Teller::new(rt, is_told);
     let host = Host {
         rt,
         alloc: rt.alloc(),
         observer: &observer,
     };
-    let job = Job { words, paths };
-    let status = carry_out(&host, job, &mut input, &mut out, &mut disk);
+    let job = Job {
+        words: &called.words,
+        paths,
+    };
+    let status = carry_out(&host, job, &mut objects, &mut out);
     Worked {
         status,
-        input,
+        objects,
         out,
-        disk,
     }
 }
 
 // Does the job with these objects. Why it failed goes to standard error: the system's words where a
 // call did, else what is the matter with the text or the checkpoint.
-fn carry_out<R, O, S, K, D>(
+fn carry_out<R, O, S, K, D, C, L>(
     host: &Host<'_, R, O>,
     job: Job<'_>,
-    input: &mut S,
+    objects: &mut Objects<S, D, C, L>,
     out: &mut K,
-    disk: &mut D,
 ) -> Status
 where
     R: Eprint + Threads + Wait + Sync,
@@ -181,18 +327,27 @@ where
     S: Source + Reasons,
     K: Sink + Reasons,
     D: Disk + Reasons,
+    C: Crew + Drop,
+    L: Link + Reasons + Drop,
+    requires { (plan : Plan) → TakenWords (texts job.words.now) plan
+        → HasNeeds plan (outside S.seen D.seen C.seen L.seen objects.old) }
     ensures { HasRun (texts job.entry.words.now)
-        (outside (S.seen input.old) (D.seen disk.old))
-        (outside (S.seen input.new) (D.seen disk.new)) (K.seen out.old) (K.seen out.new) result }
+        (outside S.seen D.seen C.seen L.seen objects.old)
+        (outside S.seen D.seen C.seen L.seen objects.new) (K.seen out.old) (K.seen out.new) result }
 {
-    let ran = run(host, job.words, input, out, disk);
+    let ran = run(host, job.words, objects, out);
     let rt = host.rt;
     match ran.status {
-        Status::ReadFault => explain(rt, job.paths.file, input.reason()),
+        Status::ReadFault => explain(rt, job.paths.file, objects.input.reason()),
         Status::WriteFault => explain(rt, "standard output", out.reason()),
         Status::Refused => explain_refusal(rt, job.paths.file, ran.refusal),
-        Status::DiskFault => explain(rt, job.paths.folder, disk.reason()),
-        status => advise(rt, job.paths.folder, status),
+        Status::DiskFault => explain(rt, job.paths.folder, objects.disk.reason()),
+        Status::LinkFault => {
+            if let Some(link) = &objects.link {
+                explain(rt, job.paths.socket, link.reason());
+            }
+        }
+        status => advise(rt, job.paths, status),
     }
     ran.status
 }
@@ -205,9 +360,22 @@ fn explain_refusal<R: Eprint>(rt: &R, file: &str, refusal: Option<Refusal>) {
     }
 }
 
-// Says what is the matter with the checkpoint in this folder.
-fn advise<R: Eprint>(rt: &R, folder: &str, status: Status) {
+// Says what is the matter with the checkpoint in this folder, and what helps where solvers are gone.
+fn advise<R: Eprint>(rt: &R, paths: Paths<'_>, status: Status) {
+    let folder = paths.folder;
     let advice = match status {
+        Status::Stranded if folder.is_empty() => {
+            let _ = eprintln!(rt;
+                "ug: all solvers are gone; with --checkpoint a run can be gone on with"
+            );
+            return;
+        }
+        Status::Stranded => "all solvers are gone; `ug restart` goes on from the checkpoint",
+        Status::BadFrame => {
+            let socket = paths.socket;
+            let _ = eprintln!(rt; "ug: {socket}: what came is no order");
+            return;
+        }
         Status::NoCheckpoint => "there is no checkpoint here",
         Status::OtherProblem => "the checkpoint is of another problem; each has its own folder",
         Status::BadImage => "a slot of the checkpoint is damaged, or no slot of ug",
@@ -230,15 +398,27 @@ fn explain<R: Eprint>(rt: &R, file: &str, error: Option<&io::Error>) {
     }
 }
 
+// The program's own name, and its words.
+fn call_of<R: Env + AllocGlobal>(rt: &R) -> Result<Called, Status> {
+    let name = name_of(rt)?;
+    match words_of(rt) {
+        Ok(words) => Ok(Called { name, words }),
+        Err(status) => {
+            drop(name);
+            Err(status)
+        }
+    }
+}
+
 fn main(rt: HostRuntime) -> ExitCode {
     let standard = take_standard(&rt);
-    let status = match words_of(&rt) {
-        Ok(words) => ended(obey(&rt, &words, wants_progress(&rt))),
+    let status = match call_of(&rt) {
+        Ok(called) => ended(obey(&rt, &called, wants_progress(&rt))),
         Err(Status::Memory) => ended(unbegun(&rt)),
         Err(status) => status,
     };
     if status == Status::Usage {
-        let _ = eprintln!(rt; "usage: ug solve|restart|gen|show");
+        let _ = eprintln!(rt; "usage: ug solve|restart|worker|gen|show");
     }
     drop(standard);
     ExitCode::from(status.code())

@@ -1,8 +1,9 @@
 use std::fs::File;
 use std::io;
 use std::io::Write;
+use std::net::Net;
 use std::rt::Files;
-use ug_real::{FileDisk, Reader, RealFolder, Writer};
+use ug_real::{FileDisk, Reader, RealFolder, SocketLink, Writer};
 
 /// What keeps why a call on it failed.
 pub trait Reasons {
@@ -23,6 +24,12 @@ impl<W: Write + Drop> Reasons for Writer<W> {
 }
 
 impl<R: Files<File = File>> Reasons for FileDisk<RealFolder<'_, R>> {
+    fn reason(&self) -> Option<&io::Error> {
+        self.error()
+    }
+}
+
+impl<R: Net> Reasons for SocketLink<'_, R> {
     fn reason(&self) -> Option<&io::Error> {
         self.error()
     }

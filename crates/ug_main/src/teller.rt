@@ -1,12 +1,12 @@
 use std::io::Eprint;
 use std::sync::atomic::{AtomicU64, Ordering};
-use ug_threads::{Moment, Observer, Progress};
+use ug_restart::{Dropped, Moment, Observer, Progress};
 
 const MILLION: u64 = 1_000_000;
 
 /// Tells on standard error how a run gets on, where that is wanted: a line when it begins, one at
 /// each better incumbent, and one after 1000, 2000, 5000, 10000 and so on reports, from a million on
-/// at each million.
+/// at each million, and one where a rank is heard no more.
 #[derive(Drop)]
 pub struct Teller<'a, R> {
     rt: &'a R,
@@ -72,5 +72,15 @@ impl<'a, R: Eprint + Sync> Observer for Teller<'a, R> {
             .and_then(|value| str::from_utf8(value).ok())
             .unwrap_or("none");
         let _ = eprintln!(self.rt; "ug: {heard} reports: best {best}, {nodes} nodes held");
+    }
+
+    fn drops(&self, rank: u32, why: Dropped) {
+        if self.is_on {
+            let why = match why {
+                Dropped::Nonsense => "said what is no report",
+                Dropped::Untrue => "told what cannot be so",
+            };
+            let _ = eprintln!(self.rt; "ug: rank {rank} is gone: {why}");
+        }
     }
 }

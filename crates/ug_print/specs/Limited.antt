@@ -1,4 +1,4 @@
--- The line of a run that was limited, and those of saves that were not made.
+-- The line of a run that ended with nodes left, and those of saves that were not made.
 use Rattle.std.specs.Prelude.{◌≡◌, ℕ, ℤ, List, [], ◌++◌, length, Option, Some, None, codes, ◌==◌}
 use Rattle.std.specs.Prelude.{if◌then◌else◌}
 use Rattle.std.specs.Fmt.{decimal}
@@ -15,17 +15,26 @@ abbrev pub IsBestWord : Instance → Option (List ℤ) → List ℕ → Type 0
 IsBestWord p None word = word ≡ codes "none"
 IsBestWord p (Some x) word = IsPrinted p.objective (value_of p.objective x) word
 
--- `open`, the best value and a count of nodes
-abbrev pub open_line : List ℕ → ℕ → List ℕ
-open_line best count = line (codes "open" ++ further best ++ further (decimal count))
+-- a name, the best value and a count of nodes
+abbrev pub left_line : List ℕ → List ℕ → ℕ → List ℕ
+left_line name best count = line (name ++ further best ++ further (decimal count))
 
--- the line of a book that goes on: the value of its incumbent, and how many primitive nodes it has
-pub record IsOpenLine (b : BookState) (text : List ℕ) : Type 0 where
+-- the line of this name of a book that has nodes left: the value of its incumbent, and how many
+-- primitive nodes it has
+pub record IsLeftLine (name : List ℕ) (b : BookState) (text : List ℕ) : Type 0 where
   pub best : List ℕ
   pub nodes : List Node
   pub value : IsBestWord b.problem b.best best
   pub primitive : ArePrimitive b nodes
-  pub is : text ≡ open_line best (length nodes)
+  pub is : text ≡ left_line name best (length nodes)
+
+-- the line of a book that goes on
+abbrev pub IsOpenLine : BookState → List ℕ → Type 0
+IsOpenLine b text = IsLeftLine (codes "open") b text
+
+-- the line of one all whose ranks are gone
+abbrev pub IsStrandedLine : BookState → List ℕ → Type 0
+IsStrandedLine b text = IsLeftLine (codes "stranded") b text
 
 -- the line of a count that is not 0
 abbrev pub count_part : List ℕ → ℕ → List ℕ

@@ -23,6 +23,6 @@ pub use checkpoints::checkpoint_lines;
 pub use counts::push_counts;
 pub use faults::fault_line;
 pub use fixed::{memory, read_fault};
-pub use limited::open_line;
+pub use limited::{open_line, stranded_line};
 pub use reasons::reason;
 pub use refusals::refusal;

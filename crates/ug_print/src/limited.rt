@@ -1,5 +1,5 @@
-ghost use Rattle.std.specs.Prelude.{◌≡◌, IfOk};
-ghost use Rattle.ug_print.specs.Limited.{open_line, IsOpenLine};
+ghost use Rattle.std.specs.Prelude.{◌≡◌, IfOk, codes};
+ghost use Rattle.ug_print.specs.Limited.{IsLeftLine, IsOpenLine, IsStrandedLine, left_line};
 
 use crate::best::best_word;
 use crate::words::{push_number, push_word};
@@ -11,17 +11,31 @@ use ug_book::Book;
 pub fn open_line(alloc: Global, book: &Book) -> Result<Vec<u8>, AllocError>
     ensures { IfOk result (λ text. IsOpenLine book.now text.items) }
 {
+    left_line(alloc, book, b"open")
+}
+
+/// The line of a book all whose ranks are gone, with the same numbers.
+pub fn stranded_line(alloc: Global, book: &Book) -> Result<Vec<u8>, AllocError>
+    ensures { IfOk result (λ text. IsStrandedLine book.now text.items) }
+{
+    left_line(alloc, book, b"stranded")
+}
+
+// The line of this name of a book that has nodes left.
+fn left_line(alloc: Global, book: &Book, name: &[u8]) -> Result<Vec<u8>, AllocError>
+    ensures { IfOk result (λ text. IsLeftLine name.now book.now text.items) }
+{
     let nodes = book.primitive()?;
     let problem = book.problem();
     let best = best_word(alloc, problem.problem(), book.best())?;
-    open_words(alloc, best.as_slice(), nodes.len())
+    left_words(alloc, name, best.as_slice(), nodes.len())
 }
 
-// The line of a best value and a count of nodes.
-fn open_words(alloc: Global, best: &[u8], count: usize) -> Result<Vec<u8>, AllocError>
-    ensures { IfOk result (λ text. text.items ≡ open_line best.now count) }
+// The line of a name, a best value and a count of nodes.
+fn left_words(alloc: Global, name: &[u8], best: &[u8], count: usize) -> Result<Vec<u8>, AllocError>
+    ensures { IfOk result (λ text. text.items ≡ left_line name.now best.now count) }
 {
-    let mut text = Vec::from_slice(alloc, b"open")?;
+    let mut text = Vec::from_slice(alloc, name)?;
     push_word(&mut text, best)?;
     push_number(&mut text, alloc, count as u64)?;
     text.push(b'\n')?;

@@ -1,5 +1,5 @@
 -- What the ending book of a run is, by what the run began with.
-use Rattle.std.proofs.Common.{ℕ, [], ◌∷◌, map, None, IfSome, ◌∙◌, subst, inl}
+use Rattle.std.proofs.Common.{◌≡◌, Option, ℕ, [], ◌∷◌, map, None, IfSome, ◌∙◌, subst, inl}
 use Rattle.ug_problem.specs.Instances.{Instance, root_of}
 use Rattle.ug_problem.specs.Incumbents.{one_kept}
 use Rattle.ug_problem.proofs.Incumbents.{all_of_one}
@@ -16,10 +16,11 @@ use Rattle.ug_book.proofs.Starts.{start_is_sound}
 use Rattle.ug_restart.specs.declared.outcome.End.{End}
 use Rattle.ug_restart.specs.declared.outcome.Outcome.{Outcome}
 use Rattle.ug_restart.specs.declared.outcome.End.TheVariants.{Answered, Limited, Stranded, Memory}
-use Rattle.ug_restart.specs.Outcomes.{IfBook}
-use Rattle.ug_threads.specs.Ends.{IfAnswered, IsReplayOf}
-use Rattle.ug_threads.specs.Outcomes.{HasEnded}
-use Rattle.ug_threads.proofs.Outcomes.{same_run}
+use Rattle.ug_restart.specs.Outcomes.{HasFeasible, IfAnswered, IfBook, IsRight}
+use Rattle.ug_io.specs.Crews.{CrewSeen}
+use Rattle.ug_world.specs.Coordinators.{CoordinatorsLoseNothing}
+use Rattle.ug_top.specs.Solved.{HasSolved}
+use Rattle.ug_top.proofs.Solved.{solved_feasible, solved_right, solved_same}
 use Rattle.ug_top.specs.Runs.{IsOf, IsRightFor, IsRun}
 
 -- each point lies in the root
@@ -37,57 +38,59 @@ root_is_sound p run settings =
     (start_is_sound p run None ([] ∷ []) settings).1 (root_covers p settings)
 
 is_of : (given b : BookState) (p : Instance) (settings : Settings) → IsOf p settings given
-    → IsReplayOf given b → IsOf p settings b
-is_of given b p settings of t =
-    let same = same_run given b t in
-    record {
-      its_problem = same.problem ∙ of.its_problem;
-      its_settings = same.settings ∙ of.its_settings;
-    }
-
-pub ends_of : (given : BookState) (end : End) (p : Instance) (settings : Settings)
-    → IsOf p settings given → HasEnded given end → IfBook end (IsOf p settings)
-ends_of given (Answered b) p settings of t = is_of given b p settings of t.replayed
-ends_of given (Limited b) p settings of t = is_of given b p settings of t.replayed
-ends_of given (Stranded b) p settings of t = is_of given b p settings of t.replayed
-ends_of given Memory p settings of t = tt
-
-pub ends_right : (given : BookState) (end : End) (p : Instance) (settings : Settings)
-    → IsOf p settings given → IsSoundBook given → HasEnded given end
-    → IfAnswered end (IsRightFor p settings)
-ends_right given (Answered b) p settings of sound t =
-    let own = is_of given b p settings of t.replayed in
-    subst (λ (q : Instance). Right q settings.gap (one_kept b.best)) own.its_problem
-    (subst (λ (s : Settings). Right b.problem s.gap (one_kept b.best)) own.its_settings
-    (t.right sound))
-ends_right given (Limited b) p settings of sound t = tt
-ends_right given (Stranded b) p settings of sound t = tt
-ends_right given Memory p settings of sound t = tt
-
-pub ends_feasible : (given : BookState) (end : End) (p : Instance) (settings : Settings)
-    → IsOf p settings given → HasEnded given end
-    → IfBook end (λ b. IfSome b.best (Feasible p))
-ends_feasible given (Answered b) p settings of t =
-    subst (λ (q : Instance). IfSome b.best (Feasible q))
-    (is_of given b p settings of t.replayed).its_problem t.feasible
-ends_feasible given (Limited b) p settings of t =
-    subst (λ (q : Instance). IfSome b.best (Feasible q))
-    (is_of given b p settings of t.replayed).its_problem t.feasible
-ends_feasible given (Stranded b) p settings of t =
-    subst (λ (q : Instance). IfSome b.best (Feasible q))
-    (is_of given b p settings of t.replayed).its_problem t.feasible
-ends_feasible given Memory p settings of t = tt
-
--- a run from a book of the problem
-pub is_run : (Began : BookState → Type 0) (Trusted : (b : BookState) → Began b → Type 0)
-    (p : Instance) (settings : Settings) (outcome : Outcome) (given : BookState)
-    → (began : Began given) → IsOf p settings given → (Trusted given began → IsSoundBook given)
-    → HasEnded given outcome.end → IsRun Began Trusted p settings outcome
-is_run Began Trusted p settings outcome given began of sound ended = record {
-  given = given;
-  began = began;
-  ended = ended;
-  of = ends_of given outcome.end p settings of ended;
-  feasible = ends_feasible given outcome.end p settings of ended;
-  right = λ trusted. ends_right given outcome.end p settings of (sound trusted) ended;
+    → IsSameRun given b → IsOf p settings b
+is_of given b p settings of same = record {
+  its_problem = same.problem ∙ of.its_problem;
+  its_settings = same.settings ∙ of.its_settings;
 }
+
+ends_of : (given : BookState) (end : End) (p : Instance) (settings : Settings)
+    → IsOf p settings given → IfBook end (IsSameRun given) → IfBook end (IsOf p settings)
+ends_of given (Answered b) p settings of same = is_of given b p settings of same
+ends_of given (Limited b) p settings of same = is_of given b p settings of same
+ends_of given (Stranded b) p settings of same = is_of given b p settings of same
+ends_of given Memory p settings of same = tt
+
+ends_right : (given : BookState) (end : End) (p : Instance) (settings : Settings)
+    → IsOf p settings given → IfBook end (IsSameRun given) → IfAnswered end IsRight
+    → IfAnswered end (IsRightFor p settings)
+ends_right given (Answered b) p settings of same right =
+    let own = is_of given b p settings of same in
+    subst (λ (q : Instance). Right q settings.gap (one_kept b.best)) own.its_problem
+    (subst (λ (s : Settings). Right b.problem s.gap (one_kept b.best)) own.its_settings right)
+ends_right given (Limited b) p settings of same right = tt
+ends_right given (Stranded b) p settings of same right = tt
+ends_right given Memory p settings of same right = tt
+
+feasible_of : (given b : BookState) (p : Instance) (settings : Settings) → IsOf p settings given
+    → IsSameRun given b → HasFeasible b → IfSome b.best (Feasible p)
+feasible_of given b p settings of same feasible =
+    subst (λ (q : Instance). IfSome b.best (Feasible q)) (is_of given b p settings of same).its_problem
+    feasible
+
+ends_feasible : (given : BookState) (end : End) (p : Instance) (settings : Settings)
+    → IsOf p settings given → IfBook end (IsSameRun given) → IfBook end HasFeasible
+    → IfBook end (λ b. IfSome b.best (Feasible p))
+ends_feasible given (Answered b) p settings of same feasible = feasible_of given b p settings of same feasible
+ends_feasible given (Limited b) p settings of same feasible = feasible_of given b p settings of same feasible
+ends_feasible given (Stranded b) p settings of same feasible = feasible_of given b p settings of same feasible
+ends_feasible given Memory p settings of same feasible = tt
+
+-- a run from a book of the problem that has given no ticket
+pub is_run : CoordinatorsLoseNothing → (Began : BookState → Type 0)
+    (Trusted : (b : BookState) → Began b → Type 0)
+    (by : Option CrewSeen) (p : Instance) (settings : Settings) (outcome : Outcome) (given : BookState)
+    → (began : Began given) → IsOf p settings given → given.last ≡ 0
+    → (Trusted given began → IsSoundBook given)
+    → HasSolved by given outcome.end → IsRun Began Trusted by p settings outcome
+is_run law Began Trusted by p settings outcome given began of unused sound solved =
+    let same = solved_same by given outcome.end solved in
+    record {
+      given = given;
+      began = began;
+      solved = solved;
+      of = ends_of given outcome.end p settings of same;
+      feasible = ends_feasible given outcome.end p settings of same (solved_feasible by given outcome.end solved);
+      right = λ trusted crew. ends_right given outcome.end p settings of same
+          (solved_right law by given outcome.end solved unused crew (sound trusted));
+    }

@@ -8,3 +8,5 @@ mod Scales
 mod Stored
 mod Tellings
 mod Texts
+pub mod Solved
+pub mod Needs

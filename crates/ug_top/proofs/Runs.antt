@@ -69,6 +69,7 @@ asked_planned (Some command) words (plans.Solve solve) asks t =
     planned command.1 solve.settings asks.1.settings t.order
 asked_planned (Some command) words (plans.Restart restart) asks t =
     planned command.1 restart.settings asks.1.settings t.order
+asked_planned (Some command) words (plans.Worker worker) asks t = tt
 asked_planned (Some command) words (plans.Show show) asks t = tt
 asked_planned (Some command) words (plans.Gen gen) asks t = planned_gen command.1 gen asks.1
 
@@ -110,6 +111,8 @@ module _ (one : OneOutcome) (Ran : Instance → Outcome → Type 0)
       stated one asked.bounds.boxed left statuses.Answered t.problem (λ e. absurd (cc e)) t.states
   file_complete statuses.Limited t =
       stated one asked.bounds.boxed left statuses.Limited t.problem (λ e. absurd (cc e)) t.states
+  file_complete statuses.Stranded t =
+      stated one asked.bounds.boxed left statuses.Stranded t.problem (λ e. absurd (cc e)) t.states
   file_complete statuses.Refused t = refused one asked.bounds.boxed left t.fault t.first
   file_complete statuses.ReadFault t =
       untold asked.bounds.boxed left statuses.ReadFault (inr (inl refl)) (λ e. absurd (cc e))
@@ -129,6 +132,8 @@ module _ (one : OneOutcome) (Ran : Instance → Outcome → Type 0)
       stated one asked.bounds.boxed left statuses.SmallerGap t.problem (λ e. absurd (cc e)) t.states
   file_complete statuses.Usage t = absurd t
   file_complete statuses.WriteFault t = absurd t
+  file_complete statuses.LinkFault t = absurd t
+  file_complete statuses.BadFrame t = absurd t
 
 solve_complete : OneOutcome → {A : Type 0} (folder : Option A) (asked : Asked) (old new : Outside)
     (status : Status) (text : List ℕ) → AreSolveLines folder asked old new status text
@@ -144,6 +149,7 @@ lines_complete one (plans.Solve solve) old new status text t =
     solve_complete one solve.checkpoint solve.settings old new status text t
 lines_complete one (plans.Restart restart) old new status text t =
     file_complete one _ _ restart.settings old.source.left text status t
+lines_complete one (plans.Worker worker) old new status text t = tt
 lines_complete one (plans.Show show) old new status text t = tt
 lines_complete one (plans.Gen gen) old new status text t = tt
 
@@ -152,6 +158,7 @@ lines_complete one (plans.Gen gen) old new status text t = tt
 pub read_to : (old new : Outside) (ended : Ended) → HasStopped old.source.left new.source.left ended
     → IsReadTo old new (status_of ended)
 read_to old new (ends.Lines status told) stops = inr (inr stops)
+read_to old new (ends.Quiet status) stops = inr (inr stops)
 read_to old new (ends.Refused refusal told) stops = inr (inr stops)
 read_to old new ends.ReadFault stops = inl refl
 read_to old new ends.Memory stops = inr (inl refl)

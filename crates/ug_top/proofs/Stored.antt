@@ -18,9 +18,12 @@ use Rattle.ug_restart.specs.declared.outcome.Outcome.{Outcome}
 use Rattle.ug_restart.specs.Openings.{CoversWhatIsFound}
 use Rattle.ug_restart.specs.Moments.{AllCovered, IsCoveredFind}
 use Rattle.ug_restart.specs.Outcomes.{IsMissedByFaults, IsUntouched}
+use Rattle.ug_io.specs.Crews.{CrewSeen}
 use Rattle.ug_top.specs.Runs.{IsKeptOn}
+use Rattle.ug_top.specs.Solved.{KeepsCovered, KeepsCoveredBy}
+use Rattle.ug_top.proofs.Solved.{kept_anyway}
 use Rattle.ug_top.specs.declared.ended.Ended.{Ended}
-use Rattle.ug_top.specs.declared.ended.Ended.TheVariants.{Lines, Refused, ReadFault, Memory}
+use Rattle.ug_top.specs.declared.ended.Ended.TheVariants.{Lines, Quiet, Refused, ReadFault, Memory}
 use Rattle.ug_top.specs.declared.status.Status.{Status}
 use Rattle.ug_top.specs.declared.status.Status.TheVariants as statuses
 use Rattle.ug_top.specs.Ends.{IsCalmFor, IsStored, IsUnreadFor, status_of}
@@ -38,29 +41,39 @@ covered_now None covers = tt
 covered_now (Some history) covers = λ zero one may found recovered.
     covers found (record { zero = zero; one = one; could = may; recovered = recovered })
 
-pub untouched : (old new : DiskSeen) (status : Status) → (status ≡ statuses.DiskFault → ⊥)
-    → new.told ≡ old.told → new.faults ≡ old.faults → IsStored old new status
-untouched old new status none same calm = record {
+pub keeps_untouched : (old new : DiskSeen) → new.told ≡ old.told → KeepsCovered old new
+keeps_untouched old new same covers = subst (λ t. AllCovered old.told t) (sym same)
+    (starts IsCoveredFind old.told (covered_now old.told covers))
+
+pub untouched : (Keeps : Type 0) (old new : DiskSeen) (status : Status) → (status ≡ statuses.DiskFault → ⊥)
+    → new.told ≡ old.told → new.faults ≡ old.faults → Keeps → IsStored Keeps old new status
+untouched Keeps old new status none same calm keeps = record {
   rises = omega (arith, calm);
   fault = λ is. absurd (none is);
   calm = λ c. calm;
   unread = λ u. same;
-  any_moment = λ covers. subst (λ t. AllCovered old.told t) (sym same)
-      (starts IsCoveredFind old.told (covered_now old.told covers));
+  any_moment = keeps;
 }
 
 -- ---- a run
 
-over : (old new : DiskSeen) (status : Status) → IsOver status → old.faults ≤ new.faults
-    → (CoversWhatIsFound old.told → AllCovered old.told new.told) → IsStored old new status
-over old new status (inl is) rises moment = record {
+over : (Keeps : Type 0) (old new : DiskSeen) (status : Status) → IsOver status → old.faults ≤ new.faults
+    → Keeps → IsStored Keeps old new status
+over Keeps old new status (inl is) rises moment = record {
   rises = rises;
   fault = λ e. absurd (cc (sym is ∙ e));
   calm = λ c. absurd (subst IsCalmFor is c);
   unread = λ u. absurd (subst IsUnreadFor is u);
   any_moment = moment;
 }
-over old new status (inr is) rises moment = record {
+over Keeps old new status (inr (inl is)) rises moment = record {
+  rises = rises;
+  fault = λ e. absurd (cc (sym is ∙ e));
+  calm = λ c. absurd (subst IsCalmFor is c);
+  unread = λ u. absurd (subst IsUnreadFor is u);
+  any_moment = moment;
+}
+over Keeps old new status (inr (inr is)) rises moment = record {
   rises = rises;
   fault = λ e. absurd (cc (sym is ∙ e));
   calm = λ c. absurd (subst IsCalmFor is c);
@@ -68,10 +81,9 @@ over old new status (inr is) rises moment = record {
   any_moment = moment;
 }
 
-memory : (old new : DiskSeen) → old.faults ≤ new.faults
-    → (CoversWhatIsFound old.told → AllCovered old.told new.told)
-    → IsStored old new statuses.Memory
-memory old new rises moment = record {
+memory : (Keeps : Type 0) (old new : DiskSeen) → old.faults ≤ new.faults → Keeps
+    → IsStored Keeps old new statuses.Memory
+memory Keeps old new rises moment = record {
   rises = rises;
   fault = λ e. absurd (cc e);
   calm = λ c. absurd c;
@@ -79,15 +91,15 @@ memory old new rises moment = record {
   any_moment = moment;
 }
 
-outcome_stored : (gap : ℕ) (outcome : Outcome) (e : Ended) (old new : DiskSeen)
-    → TellsOutcome gap outcome e → old.faults ≤ new.faults
-    → (CoversWhatIsFound old.told → AllCovered old.told new.told)
-    → IsStored old new (status_of e)
-outcome_stored gap outcome (Lines status text) old new t rises moment =
-    over old new status (outcome_is_over gap outcome status text.items t) rises moment
-outcome_stored gap outcome (Refused refusal text) old new t rises moment = absurd t
-outcome_stored gap outcome ReadFault old new t rises moment = absurd t
-outcome_stored gap outcome Memory old new t rises moment = memory old new rises moment
+outcome_stored : (Keeps : Type 0) (gap : ℕ) (outcome : Outcome) (e : Ended) (old new : DiskSeen)
+    → TellsOutcome gap outcome e → old.faults ≤ new.faults → Keeps
+    → IsStored Keeps old new (status_of e)
+outcome_stored Keeps gap outcome (Lines status text) old new t rises moment =
+    over Keeps old new status (outcome_is_over gap outcome status text.items t) rises moment
+outcome_stored Keeps gap outcome (Quiet status) old new t rises moment = absurd t
+outcome_stored Keeps gap outcome (Refused refusal text) old new t rises moment = absurd t
+outcome_stored Keeps gap outcome ReadFault old new t rises moment = absurd t
+outcome_stored Keeps gap outcome Memory old new t rises moment = memory Keeps old new rises moment
 
 -- the disk's count of faults did not fall, whatever was missed
 missed_rises : (outcome : Outcome) (old new : DiskSeen) → IsMissedByFaults outcome old new
@@ -110,37 +122,39 @@ missed_from outcome old mid new same t = record {
 }
 
 -- a run with a checkpoint
-pub kept_stored : (gap : ℕ) (Is : BookState → Type 0) (outcome : Outcome) (e : Ended)
+pub kept_stored : (Keeps : Type 0) (gap : ℕ) (Is : BookState → Type 0) (outcome : Outcome) (e : Ended)
     (old new : DiskSeen) → TellsOutcome gap outcome e → IsKeptOn Is outcome old new
-    → (CoversWhatIsFound old.told → AllCovered old.told new.told)
-    → IsStored old new (status_of e)
-kept_stored gap Is outcome e old new t kept moment =
-    outcome_stored gap outcome e old new t (missed_rises outcome old new kept.missed) moment
+    → Keeps → IsStored Keeps old new (status_of e)
+kept_stored Keeps gap Is outcome e old new t kept moment =
+    outcome_stored Keeps gap outcome e old new t (missed_rises outcome old new kept.missed) moment
 
 -- a run without one
-pub alone_stored : (gap : ℕ) (outcome : Outcome) (e : Ended) (old new : DiskSeen)
-    → TellsOutcome gap outcome e → IsUntouched outcome old new → IsStored old new (status_of e)
-alone_stored gap outcome e old new t u =
-    let un = untouched old new statuses.Memory (λ e. absurd (cc e)) u.told u.calm in
-    outcome_stored gap outcome e old new t un.rises un.any_moment
+pub alone_stored : (by : Option CrewSeen) (gap : ℕ) (outcome : Outcome) (e : Ended) (old new : DiskSeen)
+    → TellsOutcome gap outcome e → IsUntouched outcome old new
+    → IsStored (KeepsCoveredBy by old new) old new (status_of e)
+alone_stored by gap outcome e old new t u =
+    outcome_stored (KeepsCoveredBy by old new) gap outcome e old new t (omega (arith, u.calm))
+    (kept_anyway by old new (keeps_untouched old new u.told))
 
 pub end_stored : (outcome : Outcome) (e : Ended) (old new : DiskSeen) → TellsEnd outcome e
-    → new.told ≡ old.told → new.faults ≡ old.faults → IsStored old new (status_of e)
+    → new.told ≡ old.told → new.faults ≡ old.faults → IsStored (KeepsCovered old new) old new (status_of e)
 end_stored outcome (Lines status text) old new t same calm =
-    let un = untouched old new statuses.Memory (λ e. absurd (cc e)) same calm in
-    over old new status (line_is_over outcome.end status text.items t) un.rises un.any_moment
+    over (KeepsCovered old new) old new status (line_is_over outcome.end status text.items t)
+    (omega (arith, calm)) (keeps_untouched old new same)
+end_stored outcome (Quiet status) old new t same calm = absurd t
 end_stored outcome (Refused refusal text) old new t same calm = absurd t
 end_stored outcome ReadFault old new t same calm = absurd t
 end_stored outcome Memory old new t same calm =
-    untouched old new statuses.Memory (λ e. absurd (cc e)) same calm
+    untouched (KeepsCovered old new) old new statuses.Memory (λ e. absurd (cc e)) same calm
+    (keeps_untouched old new same)
 
 -- ---- a fault
 
 -- no call of the disk failed
-calm_fault : (status : Status) (old new : DiskSeen) → (status ≡ statuses.DiskFault → ⊥)
+calm_fault : (Keeps : Type 0) (status : Status) (old new : DiskSeen) → (status ≡ statuses.DiskFault → ⊥)
     → (IsUnreadFor status → ⊥) → new.faults ≡ old.faults
-    → (CoversWhatIsFound old.told → AllCovered old.told new.told) → IsStored old new status
-calm_fault status old new none read calm moment = record {
+    → Keeps → IsStored Keeps old new status
+calm_fault Keeps status old new none read calm moment = record {
   rises = omega (arith, calm);
   fault = λ e. absurd (none e);
   calm = λ c. calm;
@@ -148,39 +162,38 @@ calm_fault status old new none read calm moment = record {
   any_moment = moment;
 }
 
-faulty : (fault : StartFault) (old new : DiskSeen) → start_cause fault old.faults new.faults
-    → (CoversWhatIsFound old.told → AllCovered old.told new.told)
-    → IsStored old new (status_of_fault fault)
-faulty faults.Memory old new calm moment = memory old new (omega (arith, calm)) moment
-faulty faults.DiskFault old new rose moment = record {
+faulty : (Keeps : Type 0) (fault : StartFault) (old new : DiskSeen)
+    → start_cause fault old.faults new.faults → Keeps → IsStored Keeps old new (status_of_fault fault)
+faulty Keeps faults.Memory old new calm moment = memory Keeps old new (omega (arith, calm)) moment
+faulty Keeps faults.DiskFault old new rose moment = record {
   rises = rose_rises old.faults new.faults rose;
   fault = λ e. rose;
   calm = λ c. absurd c;
   unread = λ u. absurd u;
   any_moment = moment;
 }
-faulty (faults.BadImage slot at) old new calm moment =
-    calm_fault statuses.BadImage old new (λ e. absurd (cc e)) (λ u. u) calm moment
-faulty faults.NoCheckpoint old new calm moment =
-    calm_fault statuses.NoCheckpoint old new (λ e. absurd (cc e)) (λ u. u) calm moment
-faulty (faults.OtherProblem at kept read) old new calm moment =
-    calm_fault statuses.OtherProblem old new (λ e. absurd (cc e)) (λ u. u) calm moment
-faulty (faults.SmallerGap kept asked) old new calm moment =
-    calm_fault statuses.SmallerGap old new (λ e. absurd (cc e)) (λ u. u) calm moment
-faulty faults.Spent old new calm moment =
-    calm_fault statuses.Spent old new (λ e. absurd (cc e)) (λ u. u) calm moment
+faulty Keeps (faults.BadImage slot at) old new calm moment =
+    calm_fault Keeps statuses.BadImage old new (λ e. absurd (cc e)) (λ u. u) calm moment
+faulty Keeps faults.NoCheckpoint old new calm moment =
+    calm_fault Keeps statuses.NoCheckpoint old new (λ e. absurd (cc e)) (λ u. u) calm moment
+faulty Keeps (faults.OtherProblem at kept read) old new calm moment =
+    calm_fault Keeps statuses.OtherProblem old new (λ e. absurd (cc e)) (λ u. u) calm moment
+faulty Keeps (faults.SmallerGap kept asked) old new calm moment =
+    calm_fault Keeps statuses.SmallerGap old new (λ e. absurd (cc e)) (λ u. u) calm moment
+faulty Keeps faults.Spent old new calm moment =
+    calm_fault Keeps statuses.Spent old new (λ e. absurd (cc e)) (λ u. u) calm moment
 
 -- a fault that is told, or for which memory was wanting
-pub fault_stored : (fault : StartFault) (e : Ended) (old new : DiskSeen) → TellsFault fault e
-    → start_cause fault old.faults new.faults
-    → (CoversWhatIsFound old.told → AllCovered old.told new.told)
-    → IsStored old new (status_of e)
-fault_stored fault (Lines status text) old new t cause moment =
-    subst (IsStored old new) (sym t.0) (faulty fault old new cause moment)
-fault_stored fault (Refused refusal text) old new t cause moment = absurd t
-fault_stored fault ReadFault old new t cause moment = absurd t
-fault_stored fault Memory old new t cause moment =
-    memory old new (faulty fault old new cause moment).rises moment
+pub fault_stored : (Keeps : Type 0) (fault : StartFault) (e : Ended) (old new : DiskSeen) → TellsFault fault e
+    → start_cause fault old.faults new.faults → Keeps
+    → IsStored Keeps old new (status_of e)
+fault_stored Keeps fault (Lines status text) old new t cause moment =
+    subst (IsStored Keeps old new) (sym t.0) (faulty Keeps fault old new cause moment)
+fault_stored Keeps fault (Quiet status) old new t cause moment = absurd t
+fault_stored Keeps fault (Refused refusal text) old new t cause moment = absurd t
+fault_stored Keeps fault ReadFault old new t cause moment = absurd t
+fault_stored Keeps fault Memory old new t cause moment =
+    memory Keeps old new (faulty Keeps fault old new cause moment).rises moment
 
 -- ---- a load
 
@@ -196,19 +209,20 @@ load_covered old new leaves covers =
 
 pub image_stored : (image : Image) (e : Ended) (old new : DiskSeen) → TellsImage image e
     → new.faults ≡ old.faults → Leaves (CouldLeave old.told) old.told new.told
-    → IsStored old new (status_of e)
+    → IsStored (KeepsCovered old new) old new (status_of e)
 image_stored image (Lines status text) old new t calm leaves =
-    over old new status (inl t.0) (omega (arith, calm)) (load_covered old.told new.told leaves)
+    over (KeepsCovered old new) old new status (inl t.0) (omega (arith, calm)) (load_covered old.told new.told leaves)
+image_stored image (Quiet status) old new t calm leaves = absurd t
 image_stored image (Refused refusal text) old new t calm leaves = absurd t
 image_stored image ReadFault old new t calm leaves = absurd t
 image_stored image Memory old new t calm leaves =
-    memory old new (omega (arith, calm)) (load_covered old.told new.told leaves)
+    memory (KeepsCovered old new) old new (omega (arith, calm)) (load_covered old.told new.told leaves)
 
 -- where nothing is loaded, the same is said of the start that stands for it
 pub load_stored : (error : LoadError) (e : Ended) (old new : DiskSeen)
     → TellsFault (fault_of_load error) e → load_cause error old.faults new.faults
-    → Leaves (CouldLeave old.told) old.told new.told → IsStored old new (status_of e)
+    → Leaves (CouldLeave old.told) old.told new.told → IsStored (KeepsCovered old new) old new (status_of e)
 load_stored error e old new t cause leaves =
-    fault_stored (fault_of_load error) e old new t
+    fault_stored (KeepsCovered old new) (fault_of_load error) e old new t
     (not_loaded error (fault_of_load error) old.faults new.faults refl cause)
     (load_covered old.told new.told leaves)

@@ -1,5 +1,5 @@
 -- What is told of a run is what its command's lines are.
-use Rattle.std.proofs.Common.{◌≡◌, ◌⊎◌, inl, inr, ℕ, List, Option, None, Some, refl, sym, subst}
+use Rattle.std.proofs.Common.{◌≡◌, ◌⊎◌, inl, inr, ℕ, List, Option, None, Some, refl, sym, subst, ◌∙◌}
 use Rattle.ug_problem.specs.Instances.{Instance}
 use Rattle.ug_restart.specs.declared.fault.StartFault.{StartFault}
 use Rattle.ug_restart.specs.declared.fault.StartFault.TheVariants as faults
@@ -9,7 +9,7 @@ use Rattle.ug_restart.specs.declared.outcome.Outcome.{Outcome}
 use Rattle.ug_print.specs.Faults.{fault_line}
 use Rattle.ug_cli.specs.declared.plan.Asked.{Asked}
 use Rattle.ug_top.specs.declared.ended.Ended.{Ended}
-use Rattle.ug_top.specs.declared.ended.Ended.TheVariants.{Lines, Refused, ReadFault, Memory}
+use Rattle.ug_top.specs.declared.ended.Ended.TheVariants.{Lines, Quiet, Refused, ReadFault, Memory}
 use Rattle.ug_top.specs.declared.status.Status.{Status}
 use Rattle.ug_top.specs.declared.status.Status.TheVariants as statuses
 use Rattle.ug_top.specs.Ends.{AreFileLines, AreGenLines, AreRestartLines, AreSolveLines, BeginsAlways, HasNotBegun, HasNotGoneOn, HasRunAlone, HasRunOn, HasRunSaved, status_of, text_of}
@@ -27,13 +27,13 @@ use Rattle.ug_top.specs.Unread.{IsUnread}
 -- ---- the status of an end
 
 abbrev pub IsOver : Status → Type 0
-IsOver status = (status ≡ statuses.Answered) ⊎ (status ≡ statuses.Limited)
+IsOver status = (status ≡ statuses.Answered) ⊎ ((status ≡ statuses.Limited) ⊎ (status ≡ statuses.Stranded))
 
 end_is_over : (gap : ℕ) (end : End) (status : Status) (text : List ℕ)
     → AreEndLines gap end status text → IsOver status
 end_is_over gap (ends.Answered b) status text t = inl t.0
-end_is_over gap (ends.Limited b) status text t = inr t.0
-end_is_over gap (ends.Stranded b) status text t = absurd t
+end_is_over gap (ends.Limited b) status text t = inr (inl t.0)
+end_is_over gap (ends.Stranded b) status text t = inr (inr t.0)
 end_is_over gap ends.Memory status text t = absurd t
 
 pub outcome_is_over : (gap : ℕ) (outcome : Outcome) (status : Status) (text : List ℕ)
@@ -43,7 +43,7 @@ outcome_is_over gap outcome status text t = end_is_over gap outcome.end status t
 pub line_is_over : (end : End) (status : Status) (text : List ℕ) → IsEndLine end status text
     → IsOver status
 line_is_over (ends.Answered b) status text t = inl t.0
-line_is_over (ends.Limited b) status text t = inr t.0
+line_is_over (ends.Limited b) status text t = inr (inl t.0)
 line_is_over (ends.Stranded b) status text t = absurd t
 line_is_over ends.Memory status text t = absurd t
 
@@ -62,7 +62,15 @@ module _ (Ran : Instance → Outcome → Type 0) (Not : Instance → StartFault 
         ran = ran;
         lines = subst (λ s. AreOutcomeLines asked.bounds.gap outcome s text) is lines;
       })
-  over_lines outcome status text ran lines (inr is) =
+  over_lines outcome status text ran lines (inr (inl is)) =
+      subst (λ s. AreFileLines Ran Not asked left s text) (sym is) (record {
+        problem = p;
+        states = states;
+        outcome = outcome;
+        ran = ran;
+        lines = subst (λ s. AreOutcomeLines asked.bounds.gap outcome s text) is lines;
+      })
+  over_lines outcome status text ran lines (inr (inr is)) =
       subst (λ s. AreFileLines Ran Not asked left s text) (sym is) (record {
         problem = p;
         states = states;
@@ -131,6 +139,7 @@ module _ (Ran : Instance → Outcome → Type 0) (Not : Instance → StartFault 
   run_lines (Lines status text) (inr (fault, not, tells)) =
       subst (λ s. AreFileLines Ran Not asked left s text.items) (sym tells.0)
       (fault_lines fault text.items not tells.1)
+  run_lines (Quiet status) t = absurd t
   run_lines (Refused refusal text) t = absurd t
   run_lines ReadFault t = absurd t
   run_lines Memory t = refl
@@ -138,32 +147,32 @@ module _ (Ran : Instance → Outcome → Type 0) (Not : Instance → StartFault 
 -- a solve without a checkpoint
 pub alone_lines : {A : Type 0} (folder : Option A) (asked : Asked) (old new : Outside) (p : Instance)
     → folder ≡ None → States old.source.left asked.bounds.boxed p → (e : Ended)
-    → TellsRun (HasRunAlone asked old.disk new.disk p) (BeginsAlways p)
+    → TellsRun (HasRunAlone new.crew asked old.disk new.disk p) (BeginsAlways p)
     asked.bounds.gap e → AreSolveLines folder asked old new (status_of e) (text_of e)
 alone_lines {A} folder asked old new p is states e t =
     subst (λ (k : Option A). AreSolveLines k asked old new (status_of e) (text_of e)) (sym is)
-    (run_lines (HasRunAlone asked old.disk new.disk) BeginsAlways asked
+    (run_lines (HasRunAlone new.crew asked old.disk new.disk) BeginsAlways asked
     old.source.left p states e t)
 
 -- a solve with one
 pub saved_lines : {A : Type 0} (folder : Option A) (name : A) (asked : Asked) (old new : Outside)
     (p : Instance) → folder ≡ Some name → States old.source.left asked.bounds.boxed p → (e : Ended)
-    → TellsRun (HasRunSaved asked old.disk new.disk p)
+    → TellsRun (HasRunSaved new.crew asked old.disk new.disk p)
     (HasNotBegun asked old.disk new.disk p) asked.bounds.gap e
     → AreSolveLines folder asked old new (status_of e) (text_of e)
 saved_lines {A} folder name asked old new p is states e t =
     subst (λ (k : Option A). AreSolveLines k asked old new (status_of e) (text_of e)) (sym is)
-    (run_lines (HasRunSaved asked old.disk new.disk)
+    (run_lines (HasRunSaved new.crew asked old.disk new.disk)
     (HasNotBegun asked old.disk new.disk) asked old.source.left p states e t)
 
 -- a restart
 pub restart_lines : (asked : Asked) (old new : Outside) (p : Instance)
     → States old.source.left asked.bounds.boxed p → (e : Ended)
-    → TellsRun (HasRunOn asked old.disk new.disk p)
+    → TellsRun (HasRunOn new.crew asked old.disk new.disk p)
     (HasNotGoneOn asked old.disk new.disk p) asked.bounds.gap e
     → AreRestartLines asked old new (status_of e) (text_of e)
 restart_lines asked old new p states e t =
-    run_lines (HasRunOn asked old.disk new.disk)
+    run_lines (HasRunOn new.crew asked old.disk new.disk)
     (HasNotGoneOn asked old.disk new.disk) asked old.source.left p states e t
 
 -- a command that read no problem
@@ -171,6 +180,7 @@ pub unread_lines : (Ran : Instance → Outcome → Type 0) (Not : Instance → S
     (asked : Asked) (left : Option (List ℕ)) (e : Ended) → IsUnread asked.bounds.boxed left e
     → AreFileLines Ran Not asked left (status_of e) (text_of e)
 unread_lines Ran Not asked left (Lines status text) t = absurd t
+unread_lines Ran Not asked left (Quiet status) t = absurd t
 unread_lines Ran Not asked left (Refused refusal text) t = t
 unread_lines Ran Not asked left ReadFault t = refl
 unread_lines Ran Not asked left Memory t = refl
@@ -181,6 +191,7 @@ pub tells_outcome : (Ran : Outcome → Type 0) (Not : StartFault → Type 0) (ga
     (outcome : Outcome) (e : Ended) → Ran outcome → TellsOutcome gap outcome e
     → TellsRun Ran Not gap e
 tells_outcome Ran Not gap outcome (Lines status text) ran t = inl (outcome, ran, t)
+tells_outcome Ran Not gap outcome (Quiet status) ran t = absurd t
 tells_outcome Ran Not gap outcome (Refused refusal text) ran t = absurd t
 tells_outcome Ran Not gap outcome ReadFault ran t = absurd t
 tells_outcome Ran Not gap outcome Memory ran t = tt
@@ -188,14 +199,22 @@ tells_outcome Ran Not gap outcome Memory ran t = tt
 pub tells_fault : (Ran : Outcome → Type 0) (Not : StartFault → Type 0) (gap : ℕ)
     (fault : StartFault) (e : Ended) → Not fault → TellsFault fault e → TellsRun Ran Not gap e
 tells_fault Ran Not gap fault (Lines status text) not t = inr (fault, not, t)
+tells_fault Ran Not gap fault (Quiet status) not t = absurd t
 tells_fault Ran Not gap fault (Refused refusal text) not t = absurd t
 tells_fault Ran Not gap fault ReadFault not t = absurd t
 tells_fault Ran Not gap fault Memory not t = tt
 
 -- ---- the lines of a made instance
 
+not_stranded : (end : End) (status : Status) (text : List ℕ) → IsEndLine end status text
+    → status ≡ statuses.Stranded → ⊥
+not_stranded (ends.Answered b) status text t is = absurd (cc (sym t.0 ∙ is))
+not_stranded (ends.Limited b) status text t is = absurd (cc (sym t.0 ∙ is))
+not_stranded (ends.Stranded b) status text t is = absurd t
+not_stranded ends.Memory status text t is = absurd t
+
 module _ (gen : Gen) (old new : DiskSeen) (outcome : Outcome)
-    (ran : IsNewRun (instance gen.seed gen.size) (settings_made gen.solvers) outcome)
+    (ran : IsNewRun None (instance gen.seed gen.size) (settings_made gen.solvers) outcome)
     (untouched : IsUntouched outcome old new) where
   made_over : (status : Status) (text : List ℕ) → IsEndLine outcome.end status text
       → IsOver status → AreGenLines gen old new status text
@@ -206,18 +225,20 @@ module _ (gen : Gen) (old new : DiskSeen) (outcome : Outcome)
         untouched = untouched;
         line = subst (λ s. IsEndLine outcome.end s text) is line;
       })
-  made_over status text line (inr is) =
+  made_over status text line (inr (inl is)) =
       subst (λ s. AreGenLines gen old new s text) (sym is) (record {
         outcome = outcome;
         ran = ran;
         untouched = untouched;
         line = subst (λ s. IsEndLine outcome.end s text) is line;
       })
+  made_over status text line (inr (inr is)) = absurd (not_stranded outcome.end status text line is)
 
   pub made_lines : (e : Ended) → TellsEnd outcome e
       → AreGenLines gen old new (status_of e) (text_of e)
   made_lines (Lines status text) t =
       made_over status text.items t (line_is_over outcome.end status text.items t)
+  made_lines (Quiet status) t = absurd t
   made_lines (Refused refusal text) t = absurd t
   made_lines ReadFault t = absurd t
   made_lines Memory t = refl

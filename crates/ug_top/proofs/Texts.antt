@@ -6,7 +6,7 @@ use Rattle.ug_mps.specs.Enough.{IsEnough}
 use Rattle.ug_top.specs.Lines.{States}
 use Rattle.ug_top.specs.Unread.{IsTextUnread, IsUnread}
 use Rattle.ug_top.specs.declared.ended.Ended.{Ended}
-use Rattle.ug_top.specs.declared.ended.Ended.TheVariants.{Lines, Refused, ReadFault, Memory}
+use Rattle.ug_top.specs.declared.ended.Ended.TheVariants.{Lines, Quiet, Refused, ReadFault, Memory}
 
 pub told_problem : (left : Option (List ℕ)) (text : List ℕ) (boxed : Option ℕ) (p : Instance)
     → IfSome left (λ bytes. IsEnough bytes text) → Reads text boxed p → States left boxed p
@@ -17,6 +17,7 @@ pub told_unread : (left : Option (List ℕ)) (text : List ℕ) (boxed : Option �
     → IfSome left (λ bytes. IsEnough bytes text) → IsTextUnread boxed text e
     → IsUnread boxed left e
 told_unread left text boxed (Lines status told) enough unread = absurd unread
+told_unread left text boxed (Quiet status) enough unread = absurd unread
 told_unread None text boxed (Refused refusal told) enough (f, first, same) =
     record { fault = f; first = tt; is = same }
 told_unread (Some bytes) text boxed (Refused refusal told) enough (f, first, same) =

@@ -1,5 +1,8 @@
 -- How each command ends: its status and its lines, by what it read and what the disk had.
-use Rattle.std.specs.Prelude.{◌≡◌, ℕ, ◌<◌, ◌≤◌, List, Option, None, Some}
+use Rattle.std.specs.Prelude.{◌≡◌, ℕ, ◌<◌, ◌≤◌, Bool, true, false, List, [], Option, None, Some}
+use Rattle.std.specs.Prelude.{IsSomeAnd}
+use Rattle.ug_io.specs.Crews.{CrewSeen}
+use Rattle.ug_io.specs.Links.{LinkSeen}
 use Rattle.ug_io.specs.Outside.{Rose, SourceSeen}
 use Rattle.ug_disk.specs.declared.slot.Slot.{Slot}
 use Rattle.ug_disk.specs.Crashes.{Leaves}
@@ -9,9 +12,7 @@ use Rattle.ug_restart.specs.declared.fault.StartFault.{StartFault}
 use Rattle.ug_restart.specs.declared.fault.StartFault.TheVariants as faults
 use Rattle.ug_restart.specs.declared.outcome.Outcome.{Outcome}
 use Rattle.ug_restart.specs.Starts.{IsBegun, IsGoneOn, IsNotBegun, IsNotGoneOn, IsSafeStart}
-use Rattle.ug_restart.specs.Openings.{CoversWhatIsFound}
 use Rattle.ug_restart.specs.Keeps.{KeepsImage}
-use Rattle.ug_restart.specs.Moments.{AllCovered}
 use Rattle.ug_checkpoint.specs.declared.found.Found.{Found}
 use Rattle.ug_checkpoint.specs.Recovery.{HasFound, IsFirstBadSlot, Loaded}
 use Rattle.ug_restart.specs.Outcomes.{IsUntouched}
@@ -20,6 +21,13 @@ use Rattle.ug_print.specs.Lines.{memory_line, read_fault_line}
 use Rattle.ug_print.specs.Faults.{fault_line}
 use Rattle.ug_print.specs.Checkpoints.{AreCheckpointLines}
 use Rattle.ug_gen.specs.Stated.{instance}
+use Rattle.ug_worker.specs.declared.served.Served.{Served}
+use Rattle.ug_worker.specs.declared.served.Served.TheVariants as service
+use Rattle.ug_worker.specs.Serving.{HasServed}
+use Rattle.ug_worker.specs.Courses as links
+use Rattle.ug_coord.specs.Hubs as crews
+use Rattle.clap.specs.Walk.{Text}
+use Rattle.ug_cli.specs.Taken.{TakenWords, needs_of}
 use Rattle.ug_cli.specs.declared.plan.Asked.{Asked}
 use Rattle.ug_cli.specs.declared.plan.Gen.{Gen}
 use Rattle.ug_cli.specs.declared.plan.Plan.{Plan}
@@ -30,17 +38,19 @@ use Rattle.ug_top.specs.Lines.{AreFaultLines, AreRunLines, IsEndLine, IsRefusedL
 use Rattle.ug_top.specs.declared.status.Status.{Status}
 use Rattle.ug_top.specs.declared.status.Status.TheVariants as statuses
 use Rattle.ug_top.specs.declared.ended.Ended.{Ended}
-use Rattle.ug_top.specs.declared.ended.Ended.TheVariants.{Lines, Refused, ReadFault, Memory}
+use Rattle.ug_top.specs.declared.ended.Ended.TheVariants.{Lines, Quiet, Refused, ReadFault, Memory}
 
 -- its status and its lines
 abbrev pub status_of : Ended → Status
 status_of (Lines status text) = status
+status_of (Quiet status) = status
 status_of (Refused refusal text) = statuses.Refused
 status_of ReadFault = statuses.ReadFault
 status_of Memory = statuses.Memory
 
 abbrev pub text_of : Ended → List ℕ
 text_of (Lines status text) = text.items
+text_of (Quiet status) = []
 text_of (Refused refusal text) = text.items
 text_of ReadFault = read_fault_line
 text_of Memory = memory_line
@@ -54,6 +64,8 @@ AreFileLines Ran Not asked left statuses.Answered text =
     AreRunLines Ran asked.bounds.gap asked.bounds.boxed left statuses.Answered text
 AreFileLines Ran Not asked left statuses.Limited text =
     AreRunLines Ran asked.bounds.gap asked.bounds.boxed left statuses.Limited text
+AreFileLines Ran Not asked left statuses.Stranded text =
+    AreRunLines Ran asked.bounds.gap asked.bounds.boxed left statuses.Stranded text
 AreFileLines Ran Not asked left statuses.Refused text =
     IsRefusedLine asked.bounds.boxed left text
 AreFileLines Ran Not asked left statuses.ReadFault text = text ≡ read_fault_line
@@ -72,20 +84,22 @@ AreFileLines Ran Not asked left statuses.SmallerGap text =
     AreFaultLines Not asked.bounds.boxed left statuses.SmallerGap text
 AreFileLines Ran Not asked left statuses.Usage text = ⊥
 AreFileLines Ran Not asked left statuses.WriteFault text = ⊥
+AreFileLines Ran Not asked left statuses.LinkFault text = ⊥
+AreFileLines Ran Not asked left statuses.BadFrame text = ⊥
 
 -- a new solve without a checkpoint: the disk is left alone, and nothing keeps it from beginning
-pub record HasRunAlone (asked : Asked) (old new : DiskSeen) (p : Instance) (outcome : Outcome)
-    : Type 0 where
-  pub ran : IsNewRun p (settings_for asked p) outcome
+pub record HasRunAlone (by : Option CrewSeen) (asked : Asked) (old new : DiskSeen) (p : Instance)
+    (outcome : Outcome) : Type 0 where
+  pub ran : IsNewRun by p (settings_for asked p) outcome
   pub untouched : IsUntouched outcome old new
 
 abbrev pub BeginsAlways : Instance → StartFault → Type 0
 BeginsAlways p fault = ⊥
 
 -- a new solve with a checkpoint
-pub record HasRunSaved (asked : Asked) (old new : DiskSeen) (p : Instance) (outcome : Outcome)
-    : Type 0 where
-  pub ran : IsSavedRun p (settings_for asked p) old.told outcome
+pub record HasRunSaved (by : Option CrewSeen) (asked : Asked) (old new : DiskSeen) (p : Instance)
+    (outcome : Outcome) : Type 0 where
+  pub ran : IsSavedRun by p (settings_for asked p) old.told outcome
   pub kept : IsKeptOn (IsBegun p (settings_for asked p) old.told) outcome old new
 
 -- It does not begin: at each moment a crash leaves what a beginning may leave, so nothing was saved
@@ -99,9 +113,9 @@ pub record HasNotBegun (asked : Asked) (old new : DiskSeen) (p : Instance) (faul
   pub kept : KeepsImage (IsBegun p (settings_for asked p) old.told) old.told new.told
 
 -- a run that goes on from the checkpoint
-pub record HasRunOn (asked : Asked) (old new : DiskSeen) (p : Instance) (outcome : Outcome)
-    : Type 0 where
-  pub ran : IsRunOn p (settings_for asked p) old.told outcome
+pub record HasRunOn (by : Option CrewSeen) (asked : Asked) (old new : DiskSeen) (p : Instance)
+    (outcome : Outcome) : Type 0 where
+  pub ran : IsRunOn by p (settings_for asked p) old.told outcome
   pub kept : IsKeptOn (IsGoneOn p (settings_for asked p) old.told) outcome old new
 
 -- it does not go on, and likewise nothing was saved but, perhaps, its first image, and an image is
@@ -117,16 +131,16 @@ pub record HasNotGoneOn (asked : Asked) (old new : DiskSeen) (p : Instance) (fau
 abbrev pub AreSolveLines : {A : Type 0} → Option A → Asked → Outside → Outside → Status → List ℕ
     → Type 0
 AreSolveLines None asked old new status text =
-    AreFileLines (HasRunAlone asked old.disk new.disk) BeginsAlways asked old.source.left status
+    AreFileLines (HasRunAlone new.crew asked old.disk new.disk) BeginsAlways asked old.source.left status
     text
 AreSolveLines (Some folder) asked old new status text =
-    AreFileLines (HasRunSaved asked old.disk new.disk) (HasNotBegun asked old.disk new.disk) asked
+    AreFileLines (HasRunSaved new.crew asked old.disk new.disk) (HasNotBegun asked old.disk new.disk) asked
     old.source.left status text
 
 -- how a restart ends
 abbrev pub AreRestartLines : Asked → Outside → Outside → Status → List ℕ → Type 0
 AreRestartLines asked old new status text =
-    AreFileLines (HasRunOn asked old.disk new.disk) (HasNotGoneOn asked old.disk new.disk) asked
+    AreFileLines (HasRunOn new.crew asked old.disk new.disk) (HasNotGoneOn asked old.disk new.disk) asked
     old.source.left status text
 
 -- ---- a checkpoint
@@ -161,6 +175,9 @@ AreShowLines old new statuses.Limited text = ⊥
 AreShowLines old new statuses.OtherProblem text = ⊥
 AreShowLines old new statuses.Spent text = ⊥
 AreShowLines old new statuses.SmallerGap text = ⊥
+AreShowLines old new statuses.Stranded text = ⊥
+AreShowLines old new statuses.LinkFault text = ⊥
+AreShowLines old new statuses.BadFrame text = ⊥
 
 -- ---- faults
 
@@ -179,8 +196,11 @@ IsCalmFor statuses.OtherProblem = Unit {0}
 IsCalmFor statuses.BadImage = Unit {0}
 IsCalmFor statuses.Spent = Unit {0}
 IsCalmFor statuses.SmallerGap = Unit {0}
+IsCalmFor statuses.Stranded = ⊥
+IsCalmFor statuses.LinkFault = Unit {0}
+IsCalmFor statuses.BadFrame = Unit {0}
 
--- the text was not read, so the disk is not asked
+-- no text was read, so the disk is not asked
 abbrev pub IsUnreadFor : Status → Type 0
 IsUnreadFor statuses.Refused = Unit {0}
 IsUnreadFor statuses.ReadFault = Unit {0}
@@ -195,16 +215,19 @@ IsUnreadFor statuses.OtherProblem = ⊥
 IsUnreadFor statuses.BadImage = ⊥
 IsUnreadFor statuses.Spent = ⊥
 IsUnreadFor statuses.SmallerGap = ⊥
+IsUnreadFor statuses.Stranded = ⊥
+IsUnreadFor statuses.LinkFault = Unit {0}
+IsUnreadFor statuses.BadFrame = Unit {0}
 
 -- The count of the disk's faults does not fall. A disk fault is told only where it rose, and it did
 -- not where a run was refused for another cause. Where no text was read the slots are as they were.
--- Where all that recovery could find was Covered, it is so at each moment.
-pub record IsStored (old new : DiskSeen) (status : Status) : Type 0 where
+-- What of the disk stays Covered at each moment, is said so.
+pub record IsStored (Keeps : Type 0) (old new : DiskSeen) (status : Status) : Type 0 where
   pub rises : old.faults ≤ new.faults
   pub fault : status ≡ statuses.DiskFault → Rose old.faults new.faults
   pub calm : IsCalmFor status → new.faults ≡ old.faults
   pub unread : IsUnreadFor status → new.told ≡ old.told
-  pub any_moment : CoversWhatIsFound old.told → AllCovered old.told new.told
+  pub any_moment : Keeps
 
 -- The count of the source's faults does not fall, and a read fault is told exactly where it rose.
 pub record IsReadAs (old new : SourceSeen) (status : Status) : Type 0 where
@@ -212,9 +235,9 @@ pub record IsReadAs (old new : SourceSeen) (status : Status) : Type 0 where
   pub fault : status ≡ statuses.ReadFault → Rose old.faults new.faults
   pub source : old.faults < new.faults → status ≡ statuses.ReadFault
 
-pub record IsAccounted (old new : Outside) (status : Status) : Type 0 where
+pub record IsAccounted (Keeps : Type 0) (old new : Outside) (status : Status) : Type 0 where
   pub read : IsReadAs old.source new.source status
-  pub stored : IsStored old.disk new.disk status
+  pub stored : IsStored Keeps old.disk new.disk status
 
 -- ---- a made instance
 
@@ -222,7 +245,7 @@ pub record IsAccounted (old new : Outside) (status : Status) : Type 0 where
 pub record IsMadeRun (gen : Gen) (old new : DiskSeen) (status : Status) (text : List ℕ)
     : Type 0 where
   pub outcome : Outcome
-  pub ran : IsNewRun (instance gen.seed gen.size) (settings_made gen.solvers) outcome
+  pub ran : IsNewRun None (instance gen.seed gen.size) (settings_made gen.solvers) outcome
   pub untouched : IsUntouched outcome old new
   pub line : IsEndLine outcome.end status text
 
@@ -243,6 +266,39 @@ AreGenLines gen old new statuses.OtherProblem text = ⊥
 AreGenLines gen old new statuses.BadImage text = ⊥
 AreGenLines gen old new statuses.Spent text = ⊥
 AreGenLines gen old new statuses.SmallerGap text = ⊥
+AreGenLines gen old new statuses.Stranded text = ⊥
+AreGenLines gen old new statuses.LinkFault text = ⊥
+AreGenLines gen old new statuses.BadFrame text = ⊥
+
+-- ---- a solver at a link
+
+-- its service ended so
+abbrev pub IsServed : Option LinkSeen → Served → Type 0
+IsServed link end = IsSomeAnd link (λ seen. HasServed seen end)
+
+-- from some place on what came is no order, or none that is due
+pub record HasMetBad (link : Option LinkSeen) : Type 0 where
+  pub at : ℕ
+  pub is : IsServed link (service.BadFrame at)
+
+-- how a service ends: nothing is printed but want of memory
+abbrev pub AreWorkerLines : Option LinkSeen → Status → List ℕ → Type 0
+AreWorkerLines link statuses.Answered text = IsServed link service.Ended × (text ≡ [])
+AreWorkerLines link statuses.LinkFault text = IsServed link service.LinkFault × (text ≡ [])
+AreWorkerLines link statuses.BadFrame text = HasMetBad link × (text ≡ [])
+AreWorkerLines link statuses.Memory text = text ≡ memory_line
+AreWorkerLines link statuses.Limited text = ⊥
+AreWorkerLines link statuses.Stranded text = ⊥
+AreWorkerLines link statuses.Usage text = ⊥
+AreWorkerLines link statuses.Refused text = ⊥
+AreWorkerLines link statuses.ReadFault text = ⊥
+AreWorkerLines link statuses.WriteFault text = ⊥
+AreWorkerLines link statuses.DiskFault text = ⊥
+AreWorkerLines link statuses.NoCheckpoint text = ⊥
+AreWorkerLines link statuses.OtherProblem text = ⊥
+AreWorkerLines link statuses.BadImage text = ⊥
+AreWorkerLines link statuses.Spent text = ⊥
+AreWorkerLines link statuses.SmallerGap text = ⊥
 
 -- ---- any plan
 
@@ -252,6 +308,8 @@ AreLinesOf (plans.Solve solve) old new status text =
     AreSolveLines solve.checkpoint solve.settings old new status text
 AreLinesOf (plans.Restart restart) old new status text =
     AreRestartLines restart.settings old new status text
+AreLinesOf (plans.Worker worker) old new status text =
+    AreWorkerLines new.link status text
 AreLinesOf (plans.Show show) old new status text =
     AreShowLines old.disk new.disk status text
 AreLinesOf (plans.Gen gen) old new status text =
@@ -261,6 +319,7 @@ AreLinesOf (plans.Gen gen) old new status text =
 abbrev pub IsDiskless : Plan → Type 0
 IsDiskless (plans.Solve solve) = solve.checkpoint ≡ None
 IsDiskless (plans.Restart restart) = ⊥
+IsDiskless (plans.Worker worker) = Unit {0}
 IsDiskless (plans.Show show) = ⊥
 IsDiskless (plans.Gen gen) = Unit {0}
 
@@ -273,5 +332,28 @@ pub record IsLeftAlone (old new : DiskSeen) : Type 0 where
 abbrev pub IsPlannedOf : Plan → Type 0
 IsPlannedOf (plans.Solve solve) = IsPlanned solve.settings
 IsPlannedOf (plans.Restart restart) = IsPlanned restart.settings
+IsPlannedOf (plans.Worker worker) = Unit {0}
 IsPlannedOf (plans.Show show) = Unit {0}
 IsPlannedOf (plans.Gen gen) = IsPlannedGen gen
+
+-- a crew of so many solvers is there, where one is needed, and none lives yet
+abbrev pub HasCrewFor : Option ℕ → Option CrewSeen → Type 0
+HasCrewFor None None = Unit {0}
+HasCrewFor None (Some seen) = ⊥
+HasCrewFor (Some solvers) None = ⊥
+HasCrewFor (Some solvers) (Some seen) = crews.IsFresh seen solvers
+
+-- a link is there, where one is needed, and nothing was said over it
+abbrev pub HasLinkFor : Bool → Option LinkSeen → Type 0
+HasLinkFor false link = Unit {0}
+HasLinkFor true link = IsSomeAnd link links.IsFresh
+
+-- what a plan needs is there
+pub record HasNeeds (plan : Plan) (now : Outside) : Type 0 where
+  pub crew : HasCrewFor (needs_of plan).crew now.crew
+  pub link : HasLinkFor (needs_of plan).link now.link
+
+-- the words ask for the plan, or for none where there is none
+abbrev pub IsPlanOf : List Text → Option Plan → Type 0
+IsPlanOf words None = (plan : Plan) → TakenWords words plan → ⊥
+IsPlanOf words (Some plan) = TakenWords words plan

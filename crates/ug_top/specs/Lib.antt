@@ -7,3 +7,4 @@ pub mod Plans
 pub mod Runs
 pub mod Scaled
 pub mod Unread
+pub mod Solved

@@ -10,7 +10,7 @@ use Rattle.ug_restart.specs.declared.outcome.End.{End}
 use Rattle.ug_restart.specs.declared.outcome.End.TheVariants as ends
 use Rattle.ug_restart.specs.declared.outcome.Outcome.{Outcome}
 use Rattle.ug_print.specs.Answers.{AreAnswerLines, IsAnswerLine}
-use Rattle.ug_print.specs.Limited.{IsOpenLine, count_lines}
+use Rattle.ug_print.specs.Limited.{IsOpenLine, IsStrandedLine, count_lines}
 use Rattle.ug_print.specs.Faults.{fault_line}
 use Rattle.ug_print.specs.Refusals.{refused_line}
 use Rattle.ug_top.specs.declared.status.Status.{Status}
@@ -24,11 +24,14 @@ code_of statuses.Refused = 3
 code_of statuses.ReadFault = 4
 code_of statuses.WriteFault = 5
 code_of statuses.DiskFault = 6
+code_of statuses.Stranded = 7
 code_of statuses.Limited = 8
 code_of statuses.Memory = 9
 code_of statuses.NoCheckpoint = 10
 code_of statuses.OtherProblem = 11
 code_of statuses.BadImage = 12
+code_of statuses.LinkFault = 13
+code_of statuses.BadFrame = 14
 code_of statuses.Spent = 15
 code_of statuses.SmallerGap = 16
 
@@ -47,7 +50,7 @@ abbrev pub AreEndLines : ℕ → End → Status → List ℕ → Type 0
 AreEndLines gap (ends.Answered b) status text =
     (status ≡ statuses.Answered) × AreAnswerLines gap b.problem (answer_of b.best) text
 AreEndLines gap (ends.Limited b) status text = (status ≡ statuses.Limited) × IsOpenLine b text
-AreEndLines gap (ends.Stranded b) status text = ⊥
+AreEndLines gap (ends.Stranded b) status text = (status ≡ statuses.Stranded) × IsStrandedLine b text
 AreEndLines gap ends.Memory status text = ⊥
 
 -- the status and the first line of a run that ended with a book, without a gap

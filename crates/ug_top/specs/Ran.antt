@@ -10,6 +10,7 @@ use Rattle.ug_cli.specs.Taken.{TakenWords}
 use Rattle.ug_cli.specs.declared.plan.Plan.{Plan}
 use Rattle.ug_cli.specs.declared.plan.Plan.TheVariants as plans
 use Rattle.ug_top.specs.Outside.{Outside}
+use Rattle.ug_top.specs.Solved.{IsStillThere, KeepsCoveredBy}
 use Rattle.ug_mps.specs.Enough.{StopsAtEnd}
 use Rattle.ug_top.specs.Ends.{AreLinesOf, IsAccounted, IsDiskless, IsLeftAlone, status_of}
 use Rattle.ug_top.specs.Ends.{text_of}
@@ -33,6 +34,7 @@ abbrev pub IsCompleteOf : Plan → Option (List ℕ) → Status → Type 0
 IsCompleteOf (plans.Solve solve) left status = IsComplete solve.settings.bounds.boxed left status
 IsCompleteOf (plans.Restart restart) left status =
     IsComplete restart.settings.bounds.boxed left status
+IsCompleteOf (plans.Worker worker) left status = Unit {0}
 IsCompleteOf (plans.Show show) left status = Unit {0}
 IsCompleteOf (plans.Gen gen) left status = Unit {0}
 
@@ -41,14 +43,15 @@ abbrev pub IsReadTo : Outside → Outside → Status → Type 0
 IsReadTo old new status = (status ≡ ReadFault)
     ⊎ ((status ≡ Memory) ⊎ StopsAtEnd old.source.left new.source.left)
 
--- the words ask for a plan, and what is due is what it comes to; without a checkpoint the disk is
--- left alone
+-- The words ask for a plan, and what is due is what it comes to. Without a checkpoint the disk is
+-- left alone. Where there was no crew there is none, and the solvers were threads.
 pub record IsWorked (words : List Text) (old new : Outside) (status : Status) (text : List ℕ)
     : Type 0 where
   pub plan : Plan
   pub taken : TakenWords words plan
   pub lines : AreLinesOf plan old new status text
-  pub accounted : IsAccounted old new status
+  pub accounted : IsAccounted (KeepsCoveredBy new.crew old.disk new.disk) old new status
+  pub crew : IsStillThere old.crew new.crew
   pub alone : IsDiskless plan → IsLeftAlone old.disk new.disk
   pub complete : IsCompleteOf plan old.source.left status
   pub read : IsReadTo old new status

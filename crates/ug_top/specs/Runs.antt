@@ -1,5 +1,6 @@
 -- A run, from a problem to the book with which it ends, and what it leaves on the disk.
 use Rattle.std.specs.Prelude.{◌≡◌, [], ◌∷◌, None, Option, IfSome}
+use Rattle.ug_io.specs.Crews.{CrewSeen}
 use Rattle.ug_disk.specs.Crashes.{Leaves}
 use Rattle.ug_disk.specs.Histories.{DiskSeen, History}
 use Rattle.ug_problem.specs.Instances.{Instance}
@@ -14,9 +15,9 @@ use Rattle.ug_restart.specs.declared.outcome.Outcome.{Outcome}
 use Rattle.ug_restart.specs.Starts.{IsBegun, IsGoneOn, IsSafeStart}
 use Rattle.ug_restart.specs.Moments.{FindsIn, IsOfRun}
 use Rattle.ug_restart.specs.Outcomes.{IfBook}
-use Rattle.ug_threads.specs.Ends.{IfAnswered}
+use Rattle.ug_restart.specs.Outcomes.{IfAnswered}
 use Rattle.ug_restart.specs.Outcomes.{IsMissedByFaults, IsSavedOrCounted}
-use Rattle.ug_threads.specs.Outcomes.{HasEnded}
+use Rattle.ug_top.specs.Solved.{HasSolved, IsTrusted}
 
 -- the book with which a new solve without checkpoints begins: it is run 1, and the root is left
 abbrev pub first_book : Instance → Settings → BookState
@@ -32,33 +33,34 @@ pub record IsOf (p : Instance) (settings : Settings) (b : BookState) : Type 0 wh
 abbrev pub IsRightFor : Instance → Settings → BookState → Type 0
 IsRightFor p settings b = Right p settings.gap (one_kept b.best)
 
--- The run began with such a book, and threads at a desk led from it to the one with which it ended.
--- Whatever it began with, the incumbent then is feasible; where that can be trusted, an answer is
--- right.
+-- The run began with such a book, and solvers led from it to the one with which it ended: threads,
+-- where there is no crew. Whatever it began with, the incumbent then is feasible; where that can be
+-- trusted, and the solvers, an answer is right.
 pub record IsRun (Began : BookState → Type 0) (Trusted : (b : BookState) → Began b → Type 0)
-    (p : Instance) (settings : Settings) (outcome : Outcome) : Type 0 where
+    (by : Option CrewSeen) (p : Instance) (settings : Settings) (outcome : Outcome) : Type 0 where
   pub given : BookState
   pub began : Began given
-  pub ended : HasEnded given outcome.end
+  pub solved : HasSolved by given outcome.end
   pub of : IfBook outcome.end (IsOf p settings)
   pub feasible : IfBook outcome.end (λ b. IfSome b.best (Feasible p))
-  pub right : Trusted given began → IfAnswered outcome.end (IsRightFor p settings)
+  pub right : Trusted given began → IsTrusted by given outcome.end solved
+      → IfAnswered outcome.end (IsRightFor p settings)
 
 -- a new solve without checkpoints
-abbrev pub IsNewRun : Instance → Settings → Outcome → Type 0
-IsNewRun p settings outcome =
-    IsRun (λ b. b ≡ first_book p settings) (λ b t. Unit {0}) p settings outcome
+abbrev pub IsNewRun : Option CrewSeen → Instance → Settings → Outcome → Type 0
+IsNewRun by p settings outcome =
+    IsRun (λ b. b ≡ first_book p settings) (λ b t. Unit {0}) by p settings outcome
 
 -- a new solve on a disk, whatever it had
-abbrev pub IsSavedRun : Instance → Settings → Option History → Outcome → Type 0
-IsSavedRun p settings told outcome =
-    IsRun (IsBegun p settings told) (λ b t. Unit {0}) p settings outcome
+abbrev pub IsSavedRun : Option CrewSeen → Instance → Settings → Option History → Outcome → Type 0
+IsSavedRun by p settings told outcome =
+    IsRun (IsBegun p settings told) (λ b t. Unit {0}) by p settings outcome
 
 -- a run that goes on from what the disk had; its answer is right where the very image from which it
 -- goes on was Covered
-abbrev pub IsRunOn : Instance → Settings → Option History → Outcome → Type 0
-IsRunOn p settings told outcome =
-    IsRun (IsGoneOn p settings told) (λ b t. IsCovered t.found.image) p settings outcome
+abbrev pub IsRunOn : Option CrewSeen → Instance → Settings → Option History → Outcome → Type 0
+IsRunOn by p settings told outcome =
+    IsRun (IsGoneOn p settings told) (λ b t. IsCovered t.found.image) by p settings outcome
 
 -- Up to some moment a crash leaves what the beginning of such a book may leave. From that moment on
 -- recovery finds an image of this book's problem and run, whatever a crash leaves.

@@ -1,140 +1,175 @@
 ghost use Rattle.std.specs.Prelude.{◌≡◌, None};
-ghost use Rattle.ug_top.specs.Outside.{outside};
+ghost use Rattle.ug_top.specs.Outside.{outside, seen_if};
 ghost use Rattle.ug_top.specs.Plans.{IsPlanned};
-ghost use Rattle.ug_top.specs.Ends.{AreLinesOf, AreRestartLines, AreSolveLines, BeginsAlways, HasNotBegun, HasNotGoneOn, HasRunAlone, HasRunOn, HasRunSaved, IsAccounted, IsDiskless, IsLeftAlone, IsPlannedOf, IsStored, status_of, text_of};
+ghost use Rattle.ug_top.specs.Ends.{AreLinesOf, AreRestartLines, AreSolveLines, BeginsAlways, HasNeeds};
+ghost use Rattle.ug_top.specs.Ends.{HasNotBegun, HasNotGoneOn, HasRunAlone, HasRunOn, HasRunSaved};
+ghost use Rattle.ug_top.specs.Ends.{IsAccounted, IsDiskless, IsLeftAlone, IsPlannedOf, IsStored};
+ghost use Rattle.ug_top.specs.Ends.{status_of, text_of};
 ghost use Rattle.ug_top.specs.Outcomes.{TellsRun};
+ghost use Rattle.ug_top.specs.Solved.{FitsCrew, IsStillThere, KeepsCoveredBy};
 ghost use Rattle.ug_top.specs.Unread.{HasStopped};
 
 use crate::ended::Ended;
 use crate::made::run_made;
+use crate::objects::Objects;
 use crate::one_run::{go_on, solve_new, solve_saved};
 use crate::outcome::{tell_fault, tell_outcome};
 use crate::reading::read_problem;
+use crate::served::run_worker;
 use crate::settings::settings_for;
 use crate::show::show;
 use std::sync::Wait;
 use std::thread::Threads;
 use ug_cli::{Asked, Plan, Restart, Solve};
 use ug_disk::Disk;
-use ug_io::Source;
+use ug_io::{Crew, Link, Source};
 use ug_problem::Shared;
-use ug_threads::{Host, Observer};
+use ug_restart::{Host, Observer};
 
 /// Does what the plan asks for, up to the lines, which it does not write: it reads the source,
-/// runs, and saves to the disk, each as far as the plan has it.
+/// runs, saves to the disk, and works with the crew or over the link, each as far as the plan has it.
 #[tactic(auto, using(crate::proofs::Gathered::has_stopped, crate::proofs::Gathered::stops_unread))]
-pub fn run_plan<R: Threads + Wait + Sync, S: Source, D: Disk, O: Observer>(
-    host: &Host<'_, R, O>,
-    plan: &Plan<'_>,
-    input: &mut S,
-    disk: &mut D,
-) -> Ended
-    requires { IsPlannedOf plan.now }
-    ensures lines { AreLinesOf plan.now
-        (outside (S.seen input.old) (D.seen disk.old))
-        (outside (S.seen input.new) (D.seen disk.new)) (status_of result) (text_of result) }
-    ensures accounted { IsAccounted
-        (outside (S.seen input.old) (D.seen disk.old))
-        (outside (S.seen input.new) (D.seen disk.new)) (status_of result) }
-    ensures alone { IsDiskless plan.now → IsLeftAlone (D.seen disk.old) (D.seen disk.new) }
-    ensures stopped { HasStopped (S.seen input.old).left (S.seen input.new).left result }
+pub fn run_plan<
+    R: Threads + Wait + Sync,
+    S: Source,
+    D: Disk,
+    O: Observer,
+    C: Crew + Drop,
+    L: Link + Drop,
+>(host: &Host<'_, R, O>, plan: &Plan<'_>, objects: &mut Objects<S, D, C, L>) -> Ended
+    requires planned { IsPlannedOf plan.now }
+    requires needs { HasNeeds plan.now (outside S.seen D.seen C.seen L.seen objects.old) }
+    ensures lines { AreLinesOf plan.now (outside S.seen D.seen C.seen L.seen objects.old)
+        (outside S.seen D.seen C.seen L.seen objects.new) (status_of result) (text_of result) }
+    ensures accounted { IsAccounted (KeepsCoveredBy (seen_if C.seen objects.new.crew)
+        (D.seen objects.old.disk) (D.seen objects.new.disk)) (outside S.seen D.seen C.seen L.seen objects.old)
+        (outside S.seen D.seen C.seen L.seen objects.new) (status_of result) }
+    ensures alone { IsDiskless plan.now
+        → IsLeftAlone (D.seen objects.old.disk) (D.seen objects.new.disk) }
+    ensures stopped { HasStopped (S.seen objects.old.input).left (S.seen objects.new.input).left
+        result }
+    ensures crew { IsStillThere (seen_if C.seen objects.old.crew) (seen_if C.seen objects.new.crew) }
 {
     match plan {
-        Plan::Solve(solve) => run_solve(host, solve, input, disk),
-        Plan::Restart(restart) => run_restart(host, restart, input, disk),
-        Plan::Show(_) => show(host.alloc, disk),
-        Plan::Gen(asked) => run_made(host, asked, disk),
+        Plan::Solve(solve) => run_solve(host, solve, objects),
+        Plan::Restart(restart) => run_restart(host, restart, objects),
+        Plan::Worker(_) => run_worker(host, &mut objects.link),
+        Plan::Show(_) => show(host.alloc, &mut objects.disk),
+        Plan::Gen(asked) => run_made(host, asked, &mut objects.disk, &mut objects.crew),
     }
 }
 
 // Reads the problem and solves it.
 #[tactic(auto, using(crate::proofs::Gathered::has_stopped, crate::proofs::Gathered::stops_unread))]
-fn run_solve<R: Threads + Wait + Sync, S: Source, D: Disk, O: Observer>(
-    host: &Host<'_, R, O>,
-    solve: &Solve<'_>,
-    input: &mut S,
-    disk: &mut D,
-) -> Ended
-    requires { IsPlanned solve.now.settings }
-    ensures lines { AreSolveLines solve.now.checkpoint solve.now.settings
-        (outside (S.seen input.old) (D.seen disk.old))
-        (outside (S.seen input.new) (D.seen disk.new)) (status_of result) (text_of result) }
-    ensures accounted { IsAccounted
-        (outside (S.seen input.old) (D.seen disk.old))
-        (outside (S.seen input.new) (D.seen disk.new)) (status_of result) }
-    ensures alone { solve.now.checkpoint ≡ None → IsLeftAlone (D.seen disk.old) (D.seen disk.new) }
-    ensures stopped { HasStopped (S.seen input.old).left (S.seen input.new).left result }
+fn run_solve<
+    R: Threads + Wait + Sync,
+    S: Source,
+    D: Disk,
+    O: Observer,
+    C: Crew + Drop,
+    L: Link + Drop,
+>(host: &Host<'_, R, O>, solve: &Solve<'_>, objects: &mut Objects<S, D, C, L>) -> Ended
+    requires planned { IsPlanned solve.now.settings }
+    requires fits { FitsCrew solve.now.settings.ranks.solvers (seen_if C.seen objects.old.crew) }
+    ensures lines { AreSolveLines solve.now.checkpoint solve.now.settings (outside S.seen D.seen C.seen L.seen objects.old)
+        (outside S.seen D.seen C.seen L.seen objects.new) (status_of result) (text_of result) }
+    ensures accounted { IsAccounted (KeepsCoveredBy (seen_if C.seen objects.new.crew)
+        (D.seen objects.old.disk) (D.seen objects.new.disk)) (outside S.seen D.seen C.seen L.seen objects.old)
+        (outside S.seen D.seen C.seen L.seen objects.new) (status_of result) }
+    ensures alone { solve.now.checkpoint ≡ None
+        → IsLeftAlone (D.seen objects.old.disk) (D.seen objects.new.disk) }
+    ensures stopped { HasStopped (S.seen objects.old.input).left (S.seen objects.new.input).left
+        result }
+    ensures crew { IsStillThere (seen_if C.seen objects.old.crew) (seen_if C.seen objects.new.crew) }
 {
-    let problem = match read_problem(host.alloc, solve.settings.bounds.boxed, input) {
+    let boxed = solve.settings.bounds.boxed;
+    let problem = match read_problem(host.alloc, boxed, &mut objects.input) {
         Ok(problem) => problem,
         Err(ended) => return ended,
     };
+    let Objects { disk, crew, .. } = objects;
     match solve.checkpoint {
-        None => run_alone(host, &solve.settings, problem, disk),
-        Some(_) => run_saved(host, &solve.settings, problem, disk),
+        None => run_alone(host, &solve.settings, problem, disk, crew),
+        Some(_) => run_saved(host, &solve.settings, problem, disk, crew),
     }
 }
 
 // Reads the problem and goes on with it.
 #[tactic(auto, using(crate::proofs::Gathered::has_stopped, crate::proofs::Gathered::stops_unread))]
-fn run_restart<R: Threads + Wait + Sync, S: Source, D: Disk, O: Observer>(
-    host: &Host<'_, R, O>,
-    restart: &Restart<'_>,
-    input: &mut S,
-    disk: &mut D,
-) -> Ended
-    requires { IsPlanned restart.now.settings }
-    ensures lines { AreRestartLines restart.now.settings
-        (outside (S.seen input.old) (D.seen disk.old))
-        (outside (S.seen input.new) (D.seen disk.new)) (status_of result) (text_of result) }
-    ensures accounted { IsAccounted
-        (outside (S.seen input.old) (D.seen disk.old))
-        (outside (S.seen input.new) (D.seen disk.new)) (status_of result) }
-    ensures stopped { HasStopped (S.seen input.old).left (S.seen input.new).left result }
+fn run_restart<
+    R: Threads + Wait + Sync,
+    S: Source,
+    D: Disk,
+    O: Observer,
+    C: Crew + Drop,
+    L: Link + Drop,
+>(host: &Host<'_, R, O>, restart: &Restart<'_>, objects: &mut Objects<S, D, C, L>) -> Ended
+    requires planned { IsPlanned restart.now.settings }
+    requires fits { FitsCrew restart.now.settings.ranks.solvers (seen_if C.seen objects.old.crew) }
+    ensures lines { AreRestartLines restart.now.settings (outside S.seen D.seen C.seen L.seen objects.old)
+        (outside S.seen D.seen C.seen L.seen objects.new) (status_of result) (text_of result) }
+    ensures accounted { IsAccounted (KeepsCoveredBy (seen_if C.seen objects.new.crew)
+        (D.seen objects.old.disk) (D.seen objects.new.disk)) (outside S.seen D.seen C.seen L.seen objects.old)
+        (outside S.seen D.seen C.seen L.seen objects.new) (status_of result) }
+    ensures stopped { HasStopped (S.seen objects.old.input).left (S.seen objects.new.input).left
+        result }
+    ensures crew { IsStillThere (seen_if C.seen objects.old.crew) (seen_if C.seen objects.new.crew) }
 {
-    let problem = match read_problem(host.alloc, restart.settings.bounds.boxed, input) {
+    let boxed = restart.settings.bounds.boxed;
+    let problem = match read_problem(host.alloc, boxed, &mut objects.input) {
         Ok(problem) => problem,
         Err(ended) => return ended,
     };
-    run_on(host, &restart.settings, problem, disk)
+    let Objects { disk, crew, .. } = objects;
+    run_on(host, &restart.settings, problem, disk, crew)
 }
 
 // Solves the problem without a checkpoint.
-fn run_alone<R: Threads + Wait + Sync, D: Disk, O: Observer>(
+fn run_alone<R: Threads + Wait + Sync, D: Disk, O: Observer, C: Crew + Drop>(
     host: &Host<'_, R, O>,
     asked: &Asked<'_>,
     problem: Shared,
     disk: &mut D,
+    crew: &mut Option<C>,
 ) -> Ended
-    requires { IsPlanned asked.now }
+    requires planned { IsPlanned asked.now }
+    requires fits { FitsCrew asked.now.ranks.solvers (seen_if C.seen crew.old) }
     ensures run { TellsRun
-        (HasRunAlone asked.now (D.seen disk.old) (D.seen disk.new) problem)
+        (HasRunAlone (seen_if C.seen crew.new) asked.now (D.seen disk.old) (D.seen disk.new) problem)
         (BeginsAlways problem) asked.now.bounds.gap result }
-    ensures stored { IsStored (D.seen disk.old) (D.seen disk.new) (status_of result) }
+    ensures stored { IsStored
+        (KeepsCoveredBy (seen_if C.seen crew.new) (D.seen disk.old) (D.seen disk.new))
+        (D.seen disk.old) (D.seen disk.new) (status_of result) }
     ensures alone { IsLeftAlone (D.seen disk.old) (D.seen disk.new) }
+    ensures crew { IsStillThere (seen_if C.seen crew.old) (seen_if C.seen crew.new) }
 {
     let settings = settings_for(asked, problem.problem());
-    let outcome = solve_new(host, problem, settings, disk);
+    let outcome = solve_new(host, crew, problem, settings, disk);
     let ended = tell_outcome(host.alloc, &outcome, asked.bounds.gap);
     drop(outcome);
     ended
 }
 
 // Solves the problem and keeps a checkpoint.
-fn run_saved<R: Threads + Wait + Sync, D: Disk, O: Observer>(
+fn run_saved<R: Threads + Wait + Sync, D: Disk, O: Observer, C: Crew + Drop>(
     host: &Host<'_, R, O>,
     asked: &Asked<'_>,
     problem: Shared,
     disk: &mut D,
+    crew: &mut Option<C>,
 ) -> Ended
-    requires { IsPlanned asked.now }
+    requires planned { IsPlanned asked.now }
+    requires fits { FitsCrew asked.now.ranks.solvers (seen_if C.seen crew.old) }
     ensures run { TellsRun
-        (HasRunSaved asked.now (D.seen disk.old) (D.seen disk.new) problem)
+        (HasRunSaved (seen_if C.seen crew.new) asked.now (D.seen disk.old) (D.seen disk.new) problem)
         (HasNotBegun asked.now (D.seen disk.old) (D.seen disk.new) problem) asked.now.bounds.gap result }
-    ensures stored { IsStored (D.seen disk.old) (D.seen disk.new) (status_of result) }
+    ensures stored { IsStored
+        (KeepsCoveredBy (seen_if C.seen crew.new) (D.seen disk.old) (D.seen disk.new))
+        (D.seen disk.old) (D.seen disk.new) (status_of result) }
+    ensures crew { IsStillThere (seen_if C.seen crew.old) (seen_if C.seen crew.new) }
 {
     let settings = settings_for(asked, problem.problem());
-    match solve_saved(host, problem, settings, disk) {
+    match solve_saved(host, crew, problem, settings, disk) {
         Ok(outcome) => {
             let ended = tell_outcome(host.alloc, &outcome, asked.bounds.gap);
             drop(outcome);
@@ -145,21 +180,25 @@ fn run_saved<R: Threads + Wait + Sync, D: Disk, O: Observer>(
 }
 
 // Goes on with the problem from the checkpoint.
-fn run_on<R: Threads + Wait + Sync, D: Disk, O: Observer>(
+fn run_on<R: Threads + Wait + Sync, D: Disk, O: Observer, C: Crew + Drop>(
     host: &Host<'_, R, O>,
     asked: &Asked<'_>,
     problem: Shared,
     disk: &mut D,
+    crew: &mut Option<C>,
 ) -> Ended
-    requires { IsPlanned asked.now }
+    requires planned { IsPlanned asked.now }
+    requires fits { FitsCrew asked.now.ranks.solvers (seen_if C.seen crew.old) }
     ensures run { TellsRun
-        (HasRunOn asked.now (D.seen disk.old) (D.seen disk.new) problem)
-        (HasNotGoneOn asked.now (D.seen disk.old) (D.seen disk.new) problem)
-        asked.now.bounds.gap result }
-    ensures stored { IsStored (D.seen disk.old) (D.seen disk.new) (status_of result) }
+        (HasRunOn (seen_if C.seen crew.new) asked.now (D.seen disk.old) (D.seen disk.new) problem)
+        (HasNotGoneOn asked.now (D.seen disk.old) (D.seen disk.new) problem) asked.now.bounds.gap result }
+    ensures stored { IsStored
+        (KeepsCoveredBy (seen_if C.seen crew.new) (D.seen disk.old) (D.seen disk.new))
+        (D.seen disk.old) (D.seen disk.new) (status_of result) }
+    ensures crew { IsStillThere (seen_if C.seen crew.old) (seen_if C.seen crew.new) }
 {
     let settings = settings_for(asked, problem.problem());
-    match go_on(host, problem, settings, disk) {
+    match go_on(host, crew, problem, settings, disk) {
         Ok(outcome) => {
             let ended = tell_outcome(host.alloc, &outcome, asked.bounds.gap);
             drop(outcome);

@@ -9,6 +9,8 @@ use crate::status::Status;
 pub enum Ended {
     /// With lines that were made.
     Lines { status: Status, text: Vec<u8> },
+    /// With no line.
+    Quiet { status: Status },
     /// The text states no problem.
     Refused { refusal: Refusal, text: Vec<u8> },
     /// The source failed.
@@ -24,6 +26,7 @@ impl Ended {
     {
         match self {
             Ended::Lines { status, .. } => *status,
+            Ended::Quiet { status } => *status,
             Ended::Refused { .. } => Status::Refused,
             Ended::ReadFault => Status::ReadFault,
             Ended::Memory => Status::Memory,
@@ -36,6 +39,7 @@ impl Ended {
     {
         match self {
             Ended::Lines { text, .. } => text.as_slice(),
+            Ended::Quiet { .. } => &[],
             Ended::Refused { text, .. } => text.as_slice(),
             Ended::ReadFault => ug_print::read_fault(),
             Ended::Memory => ug_print::memory(),
@@ -46,7 +50,8 @@ impl Ended {
     pub fn refusal(&self) -> Option<Refusal> {
         match self {
             Ended::Refused { refusal, .. } => Some(*refusal),
-            Ended::Lines { .. } | Ended::ReadFault | Ended::Memory => None,
+            Ended::Lines { .. } | Ended::Quiet { .. } => None,
+            Ended::ReadFault | Ended::Memory => None,
         }
     }
 }

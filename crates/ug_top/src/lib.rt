@@ -8,17 +8,21 @@
 mod command;
 mod ended;
 mod made;
+mod objects;
 mod one_run;
 mod outcome;
 mod ran;
 mod reading;
 mod running;
 mod scaled;
+mod served;
 mod settings;
 mod show;
+mod solvers;
 mod status;
 mod write;
 
+pub use objects::Objects;
 pub use ran::{Ran, Refusal};
 pub use running::{run, tell_unread};
 pub use status::Status;

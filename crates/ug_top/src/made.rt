@@ -1,4 +1,7 @@
+ghost use Rattle.std.specs.Prelude.{IsNone};
+ghost use Rattle.ug_top.specs.Outside.{seen_if};
 ghost use Rattle.ug_top.specs.Plans.{IsPlannedGen};
+ghost use Rattle.ug_top.specs.Solved.{KeepsCovered};
 ghost use Rattle.ug_top.specs.Ends.{AreGenLines, IsLeftAlone, IsStored, status_of, text_of};
 
 use crate::ended::Ended;
@@ -10,26 +13,31 @@ use std::thread::Threads;
 use ug_cli::Gen;
 use ug_disk::Disk;
 use ug_gen::make;
+use ug_io::Crew;
 use ug_problem::Shared;
-use ug_threads::{Host, Observer};
+use ug_restart::{Host, Observer};
 
 /// Makes the instance of the plan and solves it. The disk is left alone.
-pub fn run_made<R: Threads + Wait + Sync, D: Disk, O: Observer>(
+pub fn run_made<R: Threads + Wait + Sync, D: Disk, O: Observer, C: Crew + Drop>(
     host: &Host<'_, R, O>,
     asked: &Gen,
     disk: &mut D,
+    crew: &mut Option<C>,
 ) -> Ended
-    requires { IsPlannedGen asked.now }
+    requires planned { IsPlannedGen asked.now }
+    requires threads { IsNone (seen_if C.seen crew.old) }
     ensures lines { AreGenLines asked.now (D.seen disk.old) (D.seen disk.new)
         (status_of result) (text_of result) }
-    ensures stored { IsStored (D.seen disk.old) (D.seen disk.new) (status_of result) }
+    ensures stored { IsStored (KeepsCovered (D.seen disk.old) (D.seen disk.new))
+        (D.seen disk.old) (D.seen disk.new) (status_of result) }
     ensures alone { IsLeftAlone (D.seen disk.old) (D.seen disk.new) }
+    ensures threads { IsNone (seen_if C.seen crew.new) }
 {
     let Ok(problem) = make(host.alloc, asked.seed, asked.size) else {
         return Ended::Memory;
     };
     let settings = settings_made(asked.solvers);
-    let outcome = solve_new(host, Shared::own(problem), settings, disk);
+    let outcome = solve_new(host, crew, Shared::own(problem), settings, disk);
     let ended = tell_end(host.alloc, &outcome);
     drop(outcome);
     ended

@@ -1,38 +1,43 @@
-ghost use Rattle.std.specs.Prelude.{IfOk, IfErr, OnErr};
+ghost use Rattle.std.specs.Prelude.{Some, IfOk, IfErr, OnErr};
+ghost use Rattle.ug_checkpoint.specs.Savers.{IsKept};
+ghost use Rattle.ug_book.specs.Openings.{IsOpening, opening_book};
+ghost use Rattle.ug_coord.specs.Keeping.{HasKept, IsKeptSafe};
 ghost use Rattle.ug_disk.specs.Crashes.{Leaves};
 ghost use Rattle.ug_rules.specs.Books.{AreSettings};
-ghost use Rattle.ug_restart.specs.Openings.{CoversWhatIsFound};
 ghost use Rattle.ug_restart.specs.Faults.{start_cause};
 ghost use Rattle.ug_restart.specs.Starts.{IsBegun, IsGoneOn, IsNotBegun, IsNotGoneOn, IsSafeStart};
-ghost use Rattle.ug_restart.specs.Moments.{AllCovered, FindsIn, IsCoveredNow, IsFoundNow, IsOfRun};
-ghost use Rattle.ug_checkpoint.specs.Savers.{IsKept};
-ghost use Rattle.ug_rules.specs.Books.{IsSoundBook};
-ghost use Rattle.ug_book.specs.Openings.{IsOpening, opening_book};
-ghost use Rattle.ug_restart.specs.Outcomes.{IsMissedByFaults, IsSavedOrCounted, IsUntouched};
-ghost use Rattle.ug_threads.specs.Outcomes.{HasEnded};
+ghost use Rattle.ug_restart.specs.Outcomes.{IsUntouched};
+ghost use Rattle.ug_top.specs.Outside.{seen_if};
 ghost use Rattle.ug_top.specs.Runs.{IsKeptOn, IsNewRun, IsRunOn, IsSavedRun};
+ghost use Rattle.ug_top.specs.Solved.{FitsCrew, HasSolvedSafely, IsStillThere, KeepsCoveredBy};
 
+use crate::solvers::solve_by;
 use std::sync::Wait;
 use std::thread::Threads;
 use ug_book::Opening;
 use ug_disk::Disk;
+use ug_io::Crew;
 use ug_problem::Shared;
-use ug_restart::{End, Outcome, Start, StartFault, begin, restart};
+use ug_restart::{End, Host, Observer, Outcome, Start, StartFault, begin, restart};
 use ug_rules::Settings;
-use ug_threads::{Host, Observer, solve_threads};
+use ug_world::coordinators_lose_nothing;
 
-/// Solves the problem without checkpoints, by as many threads as the settings have solvers. The
-/// disk is left alone.
-pub fn solve_new<R: Threads + Wait + Sync, D: Disk, O: Observer>(
+/// Solves the problem without checkpoints, by the crew or by as many threads as the settings have
+/// solvers. The disk is left alone.
+pub fn solve_new<R: Threads + Wait + Sync, D: Disk, O: Observer, C: Crew + Drop>(
     host: &Host<'_, R, O>,
+    crew: &mut Option<C>,
     problem: Shared,
     settings: Settings,
     disk: &mut D,
 ) -> Outcome
-    requires { AreSettings settings }
-    ensures ran { IsNewRun problem settings result }
+    requires settings { AreSettings settings }
+    requires fits { FitsCrew settings.solvers (seen_if C.seen crew.old) }
+    ensures ran { IsNewRun (seen_if C.seen crew.new) problem settings result }
     ensures untouched { IsUntouched result (D.seen disk.old) (D.seen disk.new) }
+    ensures crew { IsStillThere (seen_if C.seen crew.old) (seen_if C.seen crew.new) }
 {
+    coordinators_lose_nothing();
     let Ok(opening) = Opening::new(host.alloc, problem, 1, settings) else {
         return Outcome {
             end: End::Memory,
@@ -41,7 +46,7 @@ pub fn solve_new<R: Threads + Wait + Sync, D: Disk, O: Observer>(
             last: None,
         };
     };
-    let outcome = solve_threads(host, &opening, None, disk);
+    let outcome = solve_by(host, crew, &opening, None, disk);
     drop(opening);
     outcome
 }
@@ -49,14 +54,17 @@ pub fn solve_new<R: Threads + Wait + Sync, D: Disk, O: Observer>(
 /// Solves the problem and saves checkpoints, whatever the disk has: the run number is above that of
 /// the checkpoint there. The first image is acknowledged before a solver begins; the snapshots that
 /// come are saved, and the book at the end.
-pub fn solve_saved<R: Threads + Wait + Sync, D: Disk, O: Observer>(
+pub fn solve_saved<R: Threads + Wait + Sync, D: Disk, O: Observer, C: Crew + Drop>(
     host: &Host<'_, R, O>,
+    crew: &mut Option<C>,
     problem: Shared,
     settings: Settings,
     disk: &mut D,
 ) -> Result<Outcome, StartFault>
-    requires { AreSettings settings }
-    ensures ran { IfOk result (IsSavedRun problem settings (D.seen disk.old).told) }
+    requires settings { AreSettings settings }
+    requires fits { FitsCrew settings.solvers (seen_if C.seen crew.old) }
+    ensures ran { IfOk result
+        (IsSavedRun (seen_if C.seen crew.new) problem settings (D.seen disk.old).told) }
     ensures kept { IfOk result (λ o. IsKeptOn
         (IsBegun problem settings (D.seen disk.old).told) o (D.seen disk.old) (D.seen disk.new)) }
     ensures refused { IfErr result (IsNotBegun (D.seen disk.old).told (D.seen disk.new).told) }
@@ -65,25 +73,30 @@ pub fn solve_saved<R: Threads + Wait + Sync, D: Disk, O: Observer>(
         (D.seen disk.old).told (D.seen disk.new).told) }
     ensures cause { IfErr result (λ fault. start_cause fault
         (D.seen disk.old).faults (D.seen disk.new).faults) }
-    ensures any_moment { CoversWhatIsFound (D.seen disk.old).told
-        → AllCovered (D.seen disk.old).told (D.seen disk.new).told }
+    ensures any_moment { KeepsCoveredBy (seen_if C.seen crew.new)
+        (D.seen disk.old) (D.seen disk.new) }
+    ensures crew { IsStillThere (seen_if C.seen crew.old) (seen_if C.seen crew.new) }
 {
+    coordinators_lose_nothing();
     match begin(host.alloc, disk, problem, settings) {
-        Ok(start) => Ok(solve_from(host, start, disk)),
+        Ok(start) => Ok(solve_from(host, crew, start, disk)),
         Err(fault) => Err(fault),
     }
 }
 
 /// Goes on from the checkpoint on the disk, which is of the same problem, with its incumbent and
 /// its boxes, under the run number after its own.
-pub fn go_on<R: Threads + Wait + Sync, D: Disk, O: Observer>(
+pub fn go_on<R: Threads + Wait + Sync, D: Disk, O: Observer, C: Crew + Drop>(
     host: &Host<'_, R, O>,
+    crew: &mut Option<C>,
     problem: Shared,
     settings: Settings,
     disk: &mut D,
 ) -> Result<Outcome, StartFault>
-    requires { AreSettings settings }
-    ensures ran { IfOk result (IsRunOn problem settings (D.seen disk.old).told) }
+    requires settings { AreSettings settings }
+    requires fits { FitsCrew settings.solvers (seen_if C.seen crew.old) }
+    ensures ran { IfOk result
+        (IsRunOn (seen_if C.seen crew.new) problem settings (D.seen disk.old).told) }
     ensures kept { IfOk result (λ o. IsKeptOn
         (IsGoneOn problem settings (D.seen disk.old).told) o (D.seen disk.old) (D.seen disk.new)) }
     ensures refused { IfErr result (IsNotGoneOn problem settings
@@ -93,36 +106,35 @@ pub fn go_on<R: Threads + Wait + Sync, D: Disk, O: Observer>(
         (D.seen disk.old).told (D.seen disk.new).told) }
     ensures cause { IfErr result (λ fault. start_cause fault
         (D.seen disk.old).faults (D.seen disk.new).faults) }
-    ensures any_moment { CoversWhatIsFound (D.seen disk.old).told
-        → AllCovered (D.seen disk.old).told (D.seen disk.new).told }
+    ensures any_moment { KeepsCoveredBy (seen_if C.seen crew.new)
+        (D.seen disk.old) (D.seen disk.new) }
+    ensures crew { IsStillThere (seen_if C.seen crew.old) (seen_if C.seen crew.new) }
 {
+    coordinators_lose_nothing();
     match restart(host.alloc, disk, problem, settings) {
-        Ok(next) => Ok(solve_from(host, next, disk)),
+        Ok(next) => Ok(solve_from(host, crew, next, disk)),
         Err(fault) => Err(fault),
     }
 }
 
 // Solves from this start, and saves.
-fn solve_from<R: Threads + Wait + Sync, D: Disk, O: Observer>(
+fn solve_from<R: Threads + Wait + Sync, D: Disk, O: Observer, C: Crew + Drop>(
     host: &Host<'_, R, O>,
+    crew: &mut Option<C>,
     start: Start,
     disk: &mut D,
 ) -> Outcome
     requires opening { IsOpening start.opening }
     requires kept { IsKept start.saver (D.seen disk.old).told }
-    ensures ended { HasEnded (opening_book start.opening) result.end }
-    ensures saved { IsSavedOrCounted result (D.seen disk.new).told }
-    ensures missed { IsMissedByFaults result (D.seen disk.old) (D.seen disk.new) }
-    ensures found { IsFoundNow (IsOfRun (opening_book start.opening)) start.saver
-        (D.seen disk.old).told
-        → Leaves (FindsIn (IsOfRun (opening_book start.opening)))
-        (D.seen disk.old).told (D.seen disk.new).told }
-    ensures any_moment { IsSoundBook (opening_book start.opening)
-        → IsCoveredNow start.saver (D.seen disk.old).told
-        → AllCovered (D.seen disk.old).told (D.seen disk.new).told }
+    requires fits { FitsCrew start.opening.settings.solvers (seen_if C.seen crew.old) }
+    ensures solved { HasSolvedSafely (seen_if C.seen crew.new) (opening_book start.opening) result.end
+        (IsKeptSafe (Some start.saver) (D.seen disk.old) (D.seen disk.new)) }
+    ensures kept { HasKept (opening_book start.opening) (Some start.saver) result
+        (D.seen disk.old) (D.seen disk.new) }
+    ensures crew { IsStillThere (seen_if C.seen crew.old) (seen_if C.seen crew.new) }
 {
     let Start { opening, saver } = start;
-    let outcome = solve_threads(host, &opening, Some(saver), disk);
+    let outcome = solve_by(host, crew, &opening, Some(saver), disk);
     drop(opening);
     outcome
 }

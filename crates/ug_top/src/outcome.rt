@@ -1,6 +1,6 @@
 ghost use Rattle.std.specs.Prelude.{◌≡◌, [], ◌++◌, IfOk, IfSome};
 ghost use Rattle.ug_rules.specs.State.{held_nodes};
-ghost use Rattle.ug_threads.specs.Ends.{IfAnswered, IsStranded};
+ghost use Rattle.ug_restart.specs.Outcomes.{IfAnswered, IsStranded};
 ghost use Rattle.ug_print.specs.Limited.{count_lines};
 ghost use Rattle.ug_top.specs.Lines.{AreEndLines, IsEndLine};
 ghost use Rattle.ug_top.specs.Outcomes.{TellsEnd, TellsFault, TellsOutcome};
@@ -8,7 +8,7 @@ ghost use Rattle.ug_top.specs.Outcomes.{TellsEnd, TellsFault, TellsOutcome};
 use crate::ended::Ended;
 use crate::status::{Status, status_of};
 use std::alloc::{AllocError, Global};
-use ug_print::{answer_line, answer_lines, fault_line, open_line, push_counts};
+use ug_print::{answer_line, answer_lines, fault_line, open_line, push_counts, stranded_line};
 use ug_restart::{End, Outcome, StartFault};
 
 // A status and its lines.
@@ -16,8 +16,7 @@ type Told = (Status, Vec<u8>);
 
 /// Tells how a run ended, under the gap as it was asked for, and which saves are counted.
 pub fn tell_outcome(alloc: Global, outcome: &Outcome, gap: u64) -> Ended
-    requires none { IfAnswered outcome.now.end (λ b. held_nodes b ≡ []) }
-    requires stranded { IsStranded outcome.now.end → ⊥ }
+    requires { IfAnswered outcome.now.end (λ b. held_nodes b ≡ []) }
     ensures { TellsOutcome gap outcome.now result }
 {
     match end_lines(alloc, &outcome.end, gap) {
@@ -40,14 +39,13 @@ fn with_counts(alloc: Global, status: Status, text: Vec<u8>, outcome: &Outcome, 
 
 // The status and the first lines of an end; none where it has no book.
 fn end_lines(alloc: Global, end: &End, gap: u64) -> Result<Option<Told>, AllocError>
-    requires none { IfAnswered end.now (λ b. held_nodes b ≡ []) }
-    requires stranded { IsStranded end.now → ⊥ }
+    requires { IfAnswered end.now (λ b. held_nodes b ≡ []) }
     ensures { IfOk result (λ told. IfSome told (λ t. AreEndLines gap end.now t.0 t.1.items)) }
 {
     match end {
         End::Answered(book) => Ok(Some((Status::Answered, answer_lines(alloc, book, gap)?))),
         End::Limited(book) => Ok(Some((Status::Limited, open_line(alloc, book)?))),
-        End::Stranded(_) => unreachable!(),
+        End::Stranded(book) => Ok(Some((Status::Stranded, stranded_line(alloc, book)?))),
         End::Memory => Ok(None),
     }
 }

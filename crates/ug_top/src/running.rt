@@ -1,11 +1,13 @@
 ghost use Rattle.ug_print.specs.Lines.{memory_line};
-ghost use Rattle.ug_cli.specs.Taken.{texts};
+ghost use Rattle.ug_cli.specs.declared.plan.Plan.{Plan};
+ghost use Rattle.ug_cli.specs.Taken.{TakenWords, texts};
 ghost use Rattle.ug_top.specs.Outside.{outside};
-ghost use Rattle.ug_top.specs.Ends.{status_of, text_of};
+ghost use Rattle.ug_top.specs.Ends.{HasNeeds, status_of, text_of};
 ghost use Rattle.ug_top.specs.Ran.{HasRun, HasTold, IsDue, due_status, due_text};
 
 use crate::command::run_plan;
 use crate::ended::Ended;
+use crate::objects::Objects;
 use crate::ran::Ran;
 use crate::status::Status;
 use crate::write::write_all;
@@ -13,27 +15,37 @@ use std::sync::Wait;
 use std::thread::Threads;
 use ug_cli::{Usage, crossed_is_not_taken, read_words};
 use ug_disk::Disk;
-use ug_io::{Failed, Sink, Source};
+use ug_io::{Crew, Failed, Link, Sink, Source};
 use ug_mps::one_outcome;
-use ug_threads::{Host, Observer};
+use ug_restart::{Host, Observer};
 
 /// Does all that the program does: reads the words, which are those behind the program's name, does
 /// what they ask for, and writes the lines of it. `Memory` alone has no cause: it may come in place
-/// of any status but `Usage`, or before the outside fails. Of a text that was refused it answers why,
+/// of any status but `Usage`, or before the outside fails. What the words need, a crew or a link, is
+/// among the objects. Of a text that was refused it answers why,
 /// whatever became of its line.
-pub fn run<R: Threads + Wait + Sync, S: Source, K: Sink, D: Disk, O: Observer>(
+pub fn run<R, S, K, D, O, C, L>(
     host: &Host<'_, R, O>,
     words: &[String],
-    input: &mut S,
+    objects: &mut Objects<S, D, C, L>,
     out: &mut K,
-    disk: &mut D,
 ) -> Ran
+where
+    R: Threads + Wait + Sync,
+    S: Source,
+    K: Sink,
+    D: Disk,
+    O: Observer,
+    C: Crew + Drop,
+    L: Link + Drop,
+    requires { (plan : Plan) → TakenWords (texts words.now) plan
+        → HasNeeds plan (outside S.seen D.seen C.seen L.seen objects.old) }
     ensures { HasRun (texts words.now)
-        (outside (S.seen input.old) (D.seen disk.old))
-        (outside (S.seen input.new) (D.seen disk.new))
+        (outside S.seen D.seen C.seen L.seen objects.old)
+        (outside S.seen D.seen C.seen L.seen objects.new)
         (K.seen out.old) (K.seen out.new) result.status }
 {
-    let Some(ended) = carry_out(host, words, input, disk) else {
+    let Some(ended) = carry_out(host, words, objects) else {
         return Ran {
             status: Status::Usage,
             refusal: None,
@@ -68,20 +80,28 @@ fn tell<K: Sink>(out: &mut K, ended: &Ended) -> Status
 
 // Does what the words ask for: how it ended, with the lines that are due; none where they ask for
 // nothing.
-fn carry_out<R: Threads + Wait + Sync, S: Source, D: Disk, O: Observer>(
+fn carry_out<R, S, D, O, C, L>(
     host: &Host<'_, R, O>,
     words: &[String],
-    input: &mut S,
-    disk: &mut D,
+    objects: &mut Objects<S, D, C, L>,
 ) -> Option<Ended>
+where
+    R: Threads + Wait + Sync,
+    S: Source,
+    D: Disk,
+    O: Observer,
+    C: Crew + Drop,
+    L: Link + Drop,
+    requires { (plan : Plan) → TakenWords (texts words.now) plan
+        → HasNeeds plan (outside S.seen D.seen C.seen L.seen objects.old) }
     ensures { IsDue (texts words.now)
-        (outside (S.seen input.old) (D.seen disk.old))
-        (outside (S.seen input.new) (D.seen disk.new)) (due_status result) (due_text result) }
+        (outside S.seen D.seen C.seen L.seen objects.old)
+        (outside S.seen D.seen C.seen L.seen objects.new) (due_status result) (due_text result) }
 {
     one_outcome();
     crossed_is_not_taken();
     match read_words(host.alloc, words) {
-        Ok(plan) => Some(run_plan(host, &plan, input, disk)),
+        Ok(plan) => Some(run_plan(host, &plan, objects)),
         Err(Usage::Memory) => Some(Ended::Memory),
         Err(Usage::Words) => None,
         Err(Usage::HighBelowLow { .. }) => None,

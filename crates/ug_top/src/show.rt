@@ -1,5 +1,6 @@
 ghost use Rattle.ug_image.specs.Images.{IsImage};
 ghost use Rattle.ug_top.specs.Outcomes.{TellsImage};
+ghost use Rattle.ug_top.specs.Solved.{KeepsCovered};
 ghost use Rattle.ug_top.specs.Ends.{AreShowLines, IsStored, status_of, text_of};
 
 use crate::ended::Ended;
@@ -16,7 +17,8 @@ use ug_restart::StartFault;
 pub fn show<D: Disk>(alloc: Global, disk: &mut D) -> Ended
     ensures lines { AreShowLines (D.seen disk.old) (D.seen disk.new)
         (status_of result) (text_of result) }
-    ensures stored { IsStored (D.seen disk.old) (D.seen disk.new) (status_of result) }
+    ensures stored { IsStored (KeepsCovered (D.seen disk.old) (D.seen disk.new))
+        (D.seen disk.old) (D.seen disk.new) (status_of result) }
 {
     match load(alloc, disk) {
         Ok(Some(found)) => {

@@ -18,6 +18,8 @@ pub enum Status {
     WriteFault,
     /// The disk failed before the run had begun.
     DiskFault,
+    /// All solvers in processes are gone, and nodes are left.
+    Stranded,
     /// As many reports were heard as may be, and nodes are left.
     Limited,
     /// Memory was wanting.
@@ -28,6 +30,10 @@ pub enum Status {
     OtherProblem,
     /// A slot is open and spells no image.
     BadImage,
+    /// The link to the coordinator failed, or ended early.
+    LinkFault,
+    /// What came over the link is no order, or none that is due.
+    BadFrame,
     /// The run or the sequence of the checkpoint is 2^62 or more.
     Spent,
     /// The gap that is asked for is less than that of the checkpoint.
@@ -46,11 +52,14 @@ impl Status {
             Status::ReadFault => 4,
             Status::WriteFault => 5,
             Status::DiskFault => 6,
+            Status::Stranded => 7,
             Status::Limited => 8,
             Status::Memory => 9,
             Status::NoCheckpoint => 10,
             Status::OtherProblem => 11,
             Status::BadImage => 12,
+            Status::LinkFault => 13,
+            Status::BadFrame => 14,
             Status::Spent => 15,
             Status::SmallerGap => 16,
         }

@@ -9,7 +9,7 @@ use std::alloc::{AllocError, Global};
 use std::process::Abort;
 use std::sync::Wait;
 use std::thread::Threads;
-use ug_disk::{Disk, MemoryDisk, Slot};
+use ug_disk::{MemoryDisk, Slot};
 
 /// The problem without columns.
 pub const EMPTY: &str = "ROWS/ N Z/ENDATA/";
@@ -30,12 +30,12 @@ const FRACTIONS: &str =
     / UP Y 5/ENDATA/";
 
 /// What is told of the command over the text.
-pub fn tells<R: Threads + Wait + Sync, D: Disk>(
+pub fn tells<R: Threads + Wait + Sync>(
     rt: &R,
     alloc: Global,
     line: &str,
     text: &str,
-    disk: &mut D,
+    disk: &mut MemoryDisk,
 ) -> Result<Vec<u8>, AllocError> {
     let text = written(alloc, text)?;
     let told = told(rt, alloc, line, text.as_slice(), disk);
@@ -75,10 +75,10 @@ fn slot_only(alloc: Global, zero: &[u8]) -> Result<MemoryDisk, AllocError> {
 type Case<'a> = (&'a str, &'a str, u8, &'a str);
 
 // Expects a command to tell what it is to.
-fn tells_so<R: Threads + Wait + Sync + Abort, D: Disk>(
+fn tells_so<R: Threads + Wait + Sync + Abort>(
     rt: &R,
     alloc: Global,
-    disk: &mut D,
+    disk: &mut MemoryDisk,
     case: &Case<'_>,
 ) {
     let (line, text, status, lines) = *case;
@@ -90,10 +90,10 @@ fn tells_so<R: Threads + Wait + Sync + Abort, D: Disk>(
 }
 
 // The same of commands, one after another over one disk.
-fn tell_so<R: Threads + Wait + Sync + Abort, D: Disk>(
+fn tell_so<R: Threads + Wait + Sync + Abort>(
     rt: &R,
     alloc: Global,
-    disk: &mut D,
+    disk: &mut MemoryDisk,
     cases: &[Case<'_>],
 ) {
     for case in cases {
@@ -172,8 +172,8 @@ fn stopped_run_is_shown_and_goes_on(rt: HostRuntime) {
     drop(disk);
 }
 
-// Whether a run told the optimum or, but for the third, that it is open.
-fn is_open_or(told: &[u8], optimum: &[u8], run: usize) -> bool {
+/// Whether a run told the optimum or, but for the third, that it is open.
+pub fn is_open_or(told: &[u8], optimum: &[u8], run: usize) -> bool {
     run < 2 && told.starts_with(b"\x08open ") || told == optimum
 }
 
@@ -192,8 +192,8 @@ fn goes_on<R: Threads + Wait + Sync + Abort>(
     drop(optimum);
 }
 
-// Expects the disk to show the number of the run.
-fn shows_its_number<R: Threads + Wait + Sync + Abort>(
+/// Expects the disk to show the number of the run.
+pub fn shows_its_number<R: Threads + Wait + Sync + Abort>(
     rt: &R,
     alloc: Global,
     disk: &mut MemoryDisk,
@@ -207,7 +207,8 @@ fn shows_its_number<R: Threads + Wait + Sync + Abort>(
     drop(first);
 }
 
-const RUNS: &[&str] = &["solve f --limit 3", "restart f --limit 1", "restart f"];
+/// Three runs over one disk, of which the first two may be open at their end.
+pub const RUNS: &[&str] = &["solve f --limit 3", "restart f --limit 1", "restart f"];
 
 // Expects that of three runs over one disk.
 fn numbers_rise<R: Threads + Wait + Sync + Abort>(

@@ -23,6 +23,8 @@ mod notation;
 #[cfg(test)]
 mod one_column;
 #[cfg(test)]
+mod processes;
+#[cfg(test)]
 mod refusals;
 #[cfg(test)]
 mod running;

@@ -27,7 +27,7 @@ fn failing<'a>(
 fn tells<R: Threads + Wait + Sync + Abort>(
     rt: &R,
     alloc: Global,
-    input: &mut ScriptedSource<'_>,
+    input: ScriptedSource<'_>,
     wanted: &[u8],
 ) {
     let mut disk = sound_disk(alloc);
@@ -41,14 +41,12 @@ fn tells<R: Threads + Wait + Sync + Abort>(
 fn source_that_fails(rt: HostRuntime) {
     let alloc = rt.alloc();
     // The first read fails.
-    let mut input = failing(alloc, EMPTY, 1, 5).expect(&rt, "memory");
-    tells(&rt, alloc, &mut input, b"\x04read fault\n");
-    drop(input);
+    let input = failing(alloc, EMPTY, 1, 5).expect(&rt, "memory");
+    tells(&rt, alloc, input, b"\x04read fault\n");
     // The source would fail behind the ENDATA line, where nothing is read.
     let text = "ROWS\n N Z\nENDATA\nmore\n";
-    let mut input = failing(alloc, text, 3, 9).expect(&rt, "memory");
-    tells(&rt, alloc, &mut input, b"\0optimal 0\n");
-    drop(input);
+    let input = failing(alloc, text, 3, 9).expect(&rt, "memory");
+    tells(&rt, alloc, input, b"\0optimal 0\n");
 }
 
 // The status of a solve that writes to this sink.
@@ -83,11 +81,11 @@ const NO_COMMANDS: &[&str] = &[
     "solve f --box",
     "solve f --solvers 0",
     "solve f --low 5 --high 4",
-    "solve f --mode processes",
+    "solve f --mode process",
     "restart f",
     "show",
     "gen 0 3",
-    "worker --socket s",
+    "worker s",
 ];
 
 // Expects the words of a line to tell nothing, with the status of words that are no command.

@@ -1,11 +1,14 @@
 use crate::expect::{holds, holds_at};
 use crate::running::words_of;
 use std::alloc::Global;
-use ug_cli::{Asked, Gen, Limits, Plan, Restart, Show, Solve, Solvers, Usage, read_words};
+use ug_cli::{
+    Asked, Gen, Limits, Mode, Plan, Restart, Show, Solve, Solvers, Usage, Worker, read_words,
+};
 
 // The settings with these ranks, and otherwise what they are by default.
 fn settings_with(solvers: u32, low: u32, high: u32) -> Asked<'static> {
     Asked {
+        mode: Mode::Threads,
         ranks: Solvers {
             solvers,
             racing: false,
@@ -41,6 +44,7 @@ const ALL: Solve<'static> = Solve {
     file: "m",
     checkpoint: Some("c"),
     settings: Asked {
+        mode: Mode::Threads,
         ranks: Solvers {
             solvers: 256,
             racing: true,
@@ -68,8 +72,13 @@ const REFUSED: &[&str] = &[
     "prove m",
     "solve",
     "solve m n",
-    "solve m --mode processes",
-    "worker --socket s",
+    "solve m --mode process",
+    "solve m --mode threads --mode processes",
+    "worker",
+    "worker s",
+    "worker --socket",
+    "worker --socket s --socket s",
+    "worker --socket s --solvers 2",
     "solve m --solvers 0",
     "solve m --solvers 257",
     "solve m --solvers +3",
@@ -165,6 +174,20 @@ fn words_are_read_as_plans(rt: HostRuntime) {
         settings: settings_with(1, 1, 2),
     });
     holds(&rt, gives(alloc, "restart m --checkpoint c", restart));
+    let apart = Plan::Solve(Solve {
+        file: "m",
+        checkpoint: None,
+        settings: Asked {
+            mode: Mode::Processes,
+            ..settings_with(2, 2, 3)
+        },
+    });
+    holds(
+        &rt,
+        gives(alloc, "solve m --solvers 2 --mode processes", apart),
+    );
+    let worker = Plan::Worker(Worker { socket: "s" });
+    holds(&rt, gives(alloc, "worker --socket s", worker));
     let show = Plan::Show(Show { checkpoint: "c" });
     holds(&rt, gives(alloc, "show --checkpoint c", show));
     holds(

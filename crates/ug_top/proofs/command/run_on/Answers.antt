@@ -4,6 +4,7 @@ use Rattle.ug_rules.specs.declared.settings.Settings.{Settings}
 use Rattle.ug_disk.specs.Crashes.{Leaves}
 use Rattle.ug_restart.specs.Starts.{IsGoneOn, IsNotGoneOn, IsSafeStart}
 use Rattle.ug_restart.proofs.Keeps.{keeps_image}
+use Rattle.ug_top.specs.Outside.{seen_if}
 use Rattle.ug_top.specs.Runs.{IsKeptOn, IsRunOn}
 use Rattle.ug_top.specs.Plans.{settings_for}
 use Rattle.ug_top.specs.Ends.{HasNotGoneOn, HasRunOn}
@@ -18,11 +19,11 @@ returns-in-Ok-clause-run g c =
     let is = c.settings_for-settings.ensures.value
     ∙ ap (λ (p : Instance). settings_for c.args.asked.now p) c.problem.ensures.value in
     tells_outcome
-    (HasRunOn c.args.asked.now old new c.args.problem)
+    (HasRunOn (seen_if g.C.Crew.seen c.go_on.new.crew) c.args.asked.now old new c.args.problem)
     (HasNotGoneOn c.args.asked.now old new c.args.problem)
     c.args.asked.now.bounds.gap c.in-Ok.outcome c.tell_outcome-ended.result
     (record {
-      ran = subst (λ (s : Settings). IsRunOn c.args.problem s old.told c.in-Ok.outcome) is
+      ran = subst (λ (s : Settings). IsRunOn (seen_if g.C.Crew.seen c.go_on.new.crew) c.args.problem s old.told c.in-Ok.outcome) is
           c.in-Ok.ensures.ran;
       kept = subst (λ (s : Settings). IsKeptOn (IsGoneOn c.args.problem s old.told) c.in-Ok.outcome
           old new) is c.in-Ok.ensures.kept;
@@ -31,7 +32,7 @@ returns-in-Ok-clause-run g c =
 
 pub returns-in-Ok-clause-stored : goal.returns-in-Ok-clause-stored
 returns-in-Ok-clause-stored g c =
-    kept_stored c.args.asked.now.bounds.gap _ c.in-Ok.outcome c.tell_outcome-ended.result _ _
+    kept_stored _ c.args.asked.now.bounds.gap _ c.in-Ok.outcome c.tell_outcome-ended.result _ _
     c.tell_outcome-ended.ensures c.in-Ok.ensures.kept c.go_on.ensures.any_moment
 
 pub returns-in-Err-clause-run : goal.returns-in-Err-clause-run
@@ -47,7 +48,7 @@ returns-in-Err-clause-run g c =
     Leaves (IsSafeStart old.told (IsGoneOn c.args.problem s old.told)) old.told new.told) is
     c.in-Err.ensures.safe in
     tells_fault
-    (HasRunOn c.args.asked.now old new c.args.problem)
+    (HasRunOn (seen_if g.C.Crew.seen c.go_on.new.crew) c.args.asked.now old new c.args.problem)
     (HasNotGoneOn c.args.asked.now old new c.args.problem)
     c.args.asked.now.bounds.gap c.in-Err.fault c.tell_fault.result
     (record {
@@ -60,5 +61,5 @@ returns-in-Err-clause-run g c =
 
 pub returns-in-Err-clause-stored : goal.returns-in-Err-clause-stored
 returns-in-Err-clause-stored g c =
-    fault_stored c.in-Err.fault c.tell_fault.result _ _ c.tell_fault.ensures
+    fault_stored _ c.in-Err.fault c.tell_fault.result _ _ c.tell_fault.ensures
     c.in-Err.ensures.cause c.go_on.ensures.any_moment

@@ -1,4 +1,4 @@
-use Rattle.ug_top.specs.Outside.{outside}
+use Rattle.ug_top.specs.Outside.{outside, seen_if}
 use Rattle.ug_top.proofs.Accounts.{unread_read, unread_stored}
 use Rattle.ug_top.proofs.Tellings.{restart_lines}
 use Rattle.ug_top.proofs.command.run_restart.Goals as goal
@@ -6,12 +6,17 @@ use Rattle.ug_top.proofs.command.run_restart.Goals as goal
 pub returns-in-Err-clause-accounted : goal.returns-in-Err-clause-accounted
 returns-in-Err-clause-accounted g c = record {
   read = unread_read _ _ c.in-Err.ended _ _ c.in-Err.ensures.unread c.in-Err.ensures.cause;
-  stored = unread_stored _ _ c.in-Err.ended _ c.in-Err.ensures.unread;
+  stored = unread_stored (seen_if g.C.Crew.seen c.args.objects.now.crew) _ _ c.in-Err.ended _ c.in-Err.ensures.unread;
 }
 
 pub returns-clause-lines : goal.returns-clause-lines
 returns-clause-lines g c =
     restart_lines c.args.restart.now.settings
-    (outside (g.S.Source.seen c.args.input.now) (g.D.Disk.seen c.args.disk.now))
-    (outside (g.S.Source.seen c.read_problem.new.input) (g.D.Disk.seen c.run_on.new.disk))
+    (outside g.S.Source.seen g.D.Disk.seen g.C.Crew.seen g.L.Link.seen c.args.objects.now)
+    (record {
+      source = g.S.Source.seen c.read_problem.new.input;
+      disk = g.D.Disk.seen c.run_on.new.disk;
+      crew = seen_if g.C.Crew.seen c.run_on.new.crew;
+      link = seen_if g.L.Link.seen c.args.objects.now.link;
+    })
     c.in-Ok.problem c.in-Ok.ensures.states c.run_on.result c.run_on.ensures.run

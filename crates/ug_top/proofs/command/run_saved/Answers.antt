@@ -4,6 +4,7 @@ use Rattle.ug_rules.specs.declared.settings.Settings.{Settings}
 use Rattle.ug_disk.specs.Crashes.{Leaves}
 use Rattle.ug_restart.specs.Starts.{IsBegun, IsSafeStart}
 use Rattle.ug_restart.proofs.Keeps.{keeps_image}
+use Rattle.ug_top.specs.Outside.{seen_if}
 use Rattle.ug_top.specs.Runs.{IsKeptOn, IsSavedRun}
 use Rattle.ug_top.specs.Plans.{settings_for}
 use Rattle.ug_top.specs.Ends.{HasNotBegun, HasRunSaved}
@@ -18,11 +19,11 @@ returns-in-Ok-clause-run g c =
     let is = c.settings_for-settings.ensures.value
     ∙ ap (λ (p : Instance). settings_for c.args.asked.now p) c.problem.ensures.value in
     tells_outcome
-    (HasRunSaved c.args.asked.now old new c.args.problem)
+    (HasRunSaved (seen_if g.C.Crew.seen c.solve_saved.new.crew) c.args.asked.now old new c.args.problem)
     (HasNotBegun c.args.asked.now old new c.args.problem)
     c.args.asked.now.bounds.gap c.in-Ok.outcome c.tell_outcome-ended.result
     (record {
-      ran = subst (λ (s : Settings). IsSavedRun c.args.problem s old.told c.in-Ok.outcome) is
+      ran = subst (λ (s : Settings). IsSavedRun (seen_if g.C.Crew.seen c.solve_saved.new.crew) c.args.problem s old.told c.in-Ok.outcome) is
           c.in-Ok.ensures.ran;
       kept = subst (λ (s : Settings). IsKeptOn (IsBegun c.args.problem s old.told) c.in-Ok.outcome
           old new) is c.in-Ok.ensures.kept;
@@ -31,7 +32,7 @@ returns-in-Ok-clause-run g c =
 
 pub returns-in-Ok-clause-stored : goal.returns-in-Ok-clause-stored
 returns-in-Ok-clause-stored g c =
-    kept_stored c.args.asked.now.bounds.gap _ c.in-Ok.outcome c.tell_outcome-ended.result _ _
+    kept_stored _ c.args.asked.now.bounds.gap _ c.in-Ok.outcome c.tell_outcome-ended.result _ _
     c.tell_outcome-ended.ensures c.in-Ok.ensures.kept c.solve_saved.ensures.any_moment
 
 pub returns-in-Err-clause-run : goal.returns-in-Err-clause-run
@@ -47,7 +48,7 @@ returns-in-Err-clause-run g c =
     Leaves (IsSafeStart old.told (IsBegun c.args.problem s old.told)) old.told new.told) is
     c.in-Err.ensures.safe in
     tells_fault
-    (HasRunSaved c.args.asked.now old new c.args.problem)
+    (HasRunSaved (seen_if g.C.Crew.seen c.solve_saved.new.crew) c.args.asked.now old new c.args.problem)
     (HasNotBegun c.args.asked.now old new c.args.problem)
     c.args.asked.now.bounds.gap c.in-Err.fault c.tell_fault.result
     (record {
@@ -59,5 +60,5 @@ returns-in-Err-clause-run g c =
 
 pub returns-in-Err-clause-stored : goal.returns-in-Err-clause-stored
 returns-in-Err-clause-stored g c =
-    fault_stored c.in-Err.fault c.tell_fault.result _ _ c.tell_fault.ensures
+    fault_stored _ c.in-Err.fault c.tell_fault.result _ _ c.tell_fault.ensures
     c.in-Err.ensures.cause c.solve_saved.ensures.any_moment

@@ -1,43 +1,59 @@
-use Rattle.std.proofs.Common.{ap}
+use Rattle.std.proofs.Common.{refl, sym, ap, subst}
 use Rattle.ug_rules.specs.State.{BookState}
+use Rattle.ug_rules.specs.declared.settings.Settings.{Settings}
 use Rattle.ug_book.specs.Openings.{opening_book}
 use Rattle.ug_snapshot.specs.Moments.{IsCovered}
 use Rattle.ug_restart.specs.Starts.{IsGoneOn}
 use Rattle.ug_restart.proofs.Finds.{start_found}
+use Rattle.ug_top.specs.Outside.{seen_if}
+use Rattle.ug_top.specs.Solved.{FitsCrew}
 use Rattle.ug_top.proofs.Books.{is_run}
 use Rattle.ug_top.proofs.Covering.{gone_on_sound, image_sound, refused_covered, run_covered}
+use Rattle.ug_top.proofs.Solved.{kept_anyway, kept_by, still_there}
 use Rattle.ug_top.proofs.Stored.{missed_from}
 use Rattle.ug_top.proofs.one_run.go_on.Goals as goal
 
 pub returns-in-Err-clause-any_moment : goal.returns-in-Err-clause-any_moment
-returns-in-Err-clause-any_moment g c = λ covers.
+returns-in-Err-clause-any_moment g c =
     let told = (g.D.Disk.seen c.args.disk.now).told in
-    refused_covered _ _ (IsGoneOn c.args.problem c.args.settings told)
-    (λ b t. gone_on_sound c.args.problem c.args.settings told b covers t) covers
-    c.restart.ensures.any_moment
+    kept_anyway (seen_if g.C.Crew.seen c.args.crew.now) (g.D.Disk.seen c.args.disk.now) (g.D.Disk.seen c.restart.new.disk)
+    (λ covers. refused_covered _ _ (IsGoneOn c.args.problem c.args.settings told)
+    (λ b t. gone_on_sound c.args.problem c.args.settings told b covers t) covers c.restart.ensures.any_moment)
+
+pub returns-in-Err-clause-crew : goal.returns-in-Err-clause-crew
+returns-in-Err-clause-crew g c = still_there (seen_if g.C.Crew.seen c.args.crew.now)
+
+pub solve_from-requires-clause-fits : goal.solve_from-requires-clause-fits
+solve_from-requires-clause-fits g c κs within =
+    subst (λ (s : Settings). FitsCrew s.solvers (seen_if g.C.Crew.seen c.args.crew.now))
+    (sym (ap (λ (b : BookState). b.settings) c.in-Ok.ensures.started.book.is)) c.requires.fits
 
 pub returns-in-Ok-clause-ran : goal.returns-in-Ok-clause-ran
 returns-in-Ok-clause-ran g c =
     let told = (g.D.Disk.seen c.args.disk.now).told in
     let given = opening_book c.in-Ok.next.opening in
     let began = c.in-Ok.ensures.started.book in
-    is_run (IsGoneOn c.args.problem c.args.settings told) (λ b t. IsCovered t.found.image) c.args.problem
+    is_run c.coordinators_lose_nothing.ensures (IsGoneOn c.args.problem c.args.settings told) (λ b t. IsCovered t.found.image)
+    (seen_if g.C.Crew.seen c.solve_from.new.crew) c.args.problem
     c.args.settings c.solve_from.result given began
     (record {
       its_problem = ap (λ (b : BookState). b.problem) began.is;
       its_settings = ap (λ (b : BookState). b.settings) began.is;
     })
+    refl
     (λ covered. image_sound c.args.problem c.args.settings told given began covered)
-    c.solve_from.ensures.ended
+    c.solve_from.ensures.solved.solved
 
 pub returns-in-Ok-clause-any_moment : goal.returns-in-Ok-clause-any_moment
-returns-in-Ok-clause-any_moment g c = λ covers.
+returns-in-Ok-clause-any_moment g c =
     let told = (g.D.Disk.seen c.args.disk.now).told in
-    run_covered _ _ _ (opening_book c.in-Ok.next.opening) c.in-Ok.next.saver
-    (IsGoneOn c.args.problem c.args.settings told)
-    (λ b t. gone_on_sound c.args.problem c.args.settings told b covers t)
+    kept_by (seen_if g.C.Crew.seen c.solve_from.new.crew) (opening_book c.in-Ok.next.opening)
+    c.solve_from.result.end (g.D.Disk.seen c.args.disk.now) (g.D.Disk.seen c.solve_from.new.disk) _
+    c.solve_from.ensures.solved
+    (λ goes covers. run_covered _ _ _ (opening_book c.in-Ok.next.opening) c.in-Ok.next.saver
+    (IsGoneOn c.args.problem c.args.settings told) (λ b t. gone_on_sound c.args.problem c.args.settings told b covers t)
     c.in-Ok.ensures.started.book covers c.restart.ensures.any_moment
-    c.in-Ok.ensures.started.acknowledged c.solve_from.ensures.any_moment
+    c.in-Ok.ensures.started.acknowledged goes)
 
 pub returns-in-Ok-clause-kept : goal.returns-in-Ok-clause-kept
 returns-in-Ok-clause-kept g c = record {
@@ -46,10 +62,10 @@ returns-in-Ok-clause-kept g c = record {
     is = c.in-Ok.ensures.started.book;
     begun = (g.D.Disk.seen c.restart.new.disk).told;
     before = c.restart.ensures.any_moment;
-    since = c.solve_from.ensures.found
+    since = c.solve_from.ensures.kept.found
         (start_found (opening_book c.in-Ok.next.opening) c.in-Ok.next.saver _
         c.in-Ok.ensures.started.acknowledged);
   };
-  saved = c.solve_from.ensures.saved;
-  missed = missed_from _ _ _ _ c.in-Ok.ensures.cause c.solve_from.ensures.missed;
+  saved = c.solve_from.ensures.kept.saved;
+  missed = missed_from _ _ _ _ c.in-Ok.ensures.cause c.solve_from.ensures.kept.missed;
 }

@@ -1,40 +1,58 @@
-use Rattle.std.proofs.Common.{ap}
+use Rattle.std.proofs.Common.{refl, sym, ap, subst}
 use Rattle.ug_rules.specs.State.{BookState}
+use Rattle.ug_rules.specs.declared.settings.Settings.{Settings}
 use Rattle.ug_book.specs.Openings.{opening_book}
 use Rattle.ug_restart.specs.Starts.{IsBegun}
 use Rattle.ug_restart.proofs.Finds.{start_found}
+use Rattle.ug_top.specs.Outside.{seen_if}
+use Rattle.ug_top.specs.Solved.{FitsCrew}
 use Rattle.ug_top.proofs.Books.{is_run}
 use Rattle.ug_top.proofs.Covering.{begun_sound, refused_covered, run_covered}
+use Rattle.ug_top.proofs.Solved.{kept_anyway, kept_by, still_there}
 use Rattle.ug_top.proofs.Stored.{missed_from}
 use Rattle.ug_top.proofs.one_run.solve_saved.Goals as goal
 
 pub returns-in-Err-clause-any_moment : goal.returns-in-Err-clause-any_moment
-returns-in-Err-clause-any_moment g c = λ covers.
-    refused_covered _ _ (IsBegun c.args.problem c.args.settings (g.D.Disk.seen c.args.disk.now).told)
-    (begun_sound c.args.problem c.args.settings (g.D.Disk.seen c.args.disk.now).told) covers
-    c.begin.ensures.any_moment
+returns-in-Err-clause-any_moment g c =
+    let told = (g.D.Disk.seen c.args.disk.now).told in
+    kept_anyway (seen_if g.C.Crew.seen c.args.crew.now) (g.D.Disk.seen c.args.disk.now) (g.D.Disk.seen c.begin.new.disk)
+    (λ covers. refused_covered _ _ (IsBegun c.args.problem c.args.settings told)
+    (begun_sound c.args.problem c.args.settings told) covers c.begin.ensures.any_moment)
+
+pub returns-in-Err-clause-crew : goal.returns-in-Err-clause-crew
+returns-in-Err-clause-crew g c = still_there (seen_if g.C.Crew.seen c.args.crew.now)
+
+pub solve_from-requires-clause-fits : goal.solve_from-requires-clause-fits
+solve_from-requires-clause-fits g c κs within =
+    subst (λ (s : Settings). FitsCrew s.solvers (seen_if g.C.Crew.seen c.args.crew.now))
+    (sym (ap (λ (b : BookState). b.settings) c.in-Ok.ensures.started.book.is)) c.requires.fits
 
 pub returns-in-Ok-clause-ran : goal.returns-in-Ok-clause-ran
 returns-in-Ok-clause-ran g c =
     let told = (g.D.Disk.seen c.args.disk.now).told in
     let given = opening_book c.in-Ok.start.opening in
     let began = c.in-Ok.ensures.started.book in
-    is_run (IsBegun c.args.problem c.args.settings told) (λ b t. Unit {0}) c.args.problem
+    is_run c.coordinators_lose_nothing.ensures (IsBegun c.args.problem c.args.settings told) (λ b t. Unit {0})
+    (seen_if g.C.Crew.seen c.solve_from.new.crew) c.args.problem
     c.args.settings c.solve_from.result given began
     (record {
       its_problem = ap (λ (b : BookState). b.problem) began.is;
       its_settings = ap (λ (b : BookState). b.settings) began.is;
     })
+    refl
     (λ trusted. begun_sound c.args.problem c.args.settings told given began)
-    c.solve_from.ensures.ended
+    c.solve_from.ensures.solved.solved
 
 pub returns-in-Ok-clause-any_moment : goal.returns-in-Ok-clause-any_moment
-returns-in-Ok-clause-any_moment g c = λ covers.
+returns-in-Ok-clause-any_moment g c =
     let told = (g.D.Disk.seen c.args.disk.now).told in
-    run_covered _ _ _ (opening_book c.in-Ok.start.opening) c.in-Ok.start.saver
+    kept_by (seen_if g.C.Crew.seen c.solve_from.new.crew) (opening_book c.in-Ok.start.opening)
+    c.solve_from.result.end (g.D.Disk.seen c.args.disk.now) (g.D.Disk.seen c.solve_from.new.disk) _
+    c.solve_from.ensures.solved
+    (λ goes covers. run_covered _ _ _ (opening_book c.in-Ok.start.opening) c.in-Ok.start.saver
     (IsBegun c.args.problem c.args.settings told) (begun_sound c.args.problem c.args.settings told)
     c.in-Ok.ensures.started.book covers c.begin.ensures.any_moment
-    c.in-Ok.ensures.started.acknowledged c.solve_from.ensures.any_moment
+    c.in-Ok.ensures.started.acknowledged goes)
 
 pub returns-in-Ok-clause-kept : goal.returns-in-Ok-clause-kept
 returns-in-Ok-clause-kept g c = record {
@@ -43,10 +61,10 @@ returns-in-Ok-clause-kept g c = record {
     is = c.in-Ok.ensures.started.book;
     begun = (g.D.Disk.seen c.begin.new.disk).told;
     before = c.begin.ensures.any_moment;
-    since = c.solve_from.ensures.found
+    since = c.solve_from.ensures.kept.found
         (start_found (opening_book c.in-Ok.start.opening) c.in-Ok.start.saver _
         c.in-Ok.ensures.started.acknowledged);
   };
-  saved = c.solve_from.ensures.saved;
-  missed = missed_from _ _ _ _ c.in-Ok.ensures.cause c.solve_from.ensures.missed;
+  saved = c.solve_from.ensures.kept.saved;
+  missed = missed_from _ _ _ _ c.in-Ok.ensures.cause c.solve_from.ensures.kept.missed;
 }

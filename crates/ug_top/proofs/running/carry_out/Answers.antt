@@ -4,8 +4,8 @@ use Rattle.ug_top.specs.Ends.{status_of, text_of}
 use Rattle.ug_top.proofs.Runs.{lines_complete, read_to, taken_planned}
 use Rattle.ug_top.proofs.running.carry_out.Goals as goal
 
-pub run_plan-requires-after_bounds : goal.run_plan-requires-after_bounds
-run_plan-requires-after_bounds g c κs within = taken_planned _ c.in-Ok.plan c.in-Ok.ensures
+pub run_plan-requires-clause-planned : goal.run_plan-requires-clause-planned
+run_plan-requires-clause-planned g c κs within = taken_planned _ c.in-Ok.plan c.in-Ok.ensures
 
 pub returns-in-Ok : goal.returns-in-Ok
 returns-in-Ok g c = inl (record {
@@ -13,13 +13,14 @@ returns-in-Ok g c = inl (record {
   taken = c.in-Ok.ensures;
   lines = c.run_plan.ensures.lines;
   accounted = c.run_plan.ensures.accounted;
+  crew = c.run_plan.ensures.crew;
   alone = c.run_plan.ensures.alone;
   complete = lines_complete c.one_outcome.ensures c.in-Ok.plan
-      (outside (g.S.Source.seen c.args.input.now) (g.D.Disk.seen c.args.disk.now))
-      (outside (g.S.Source.seen c.run_plan.new.input) (g.D.Disk.seen c.run_plan.new.disk))
+      (outside g.S.Source.seen g.D.Disk.seen g.C.Crew.seen g.L.Link.seen c.args.objects.now)
+      (outside g.S.Source.seen g.D.Disk.seen g.C.Crew.seen g.L.Link.seen c.run_plan.new.objects)
       (status_of c.run_plan.result) (text_of c.run_plan.result) c.run_plan.ensures.lines;
   read = read_to
-      (outside (g.S.Source.seen c.args.input.now) (g.D.Disk.seen c.args.disk.now))
-      (outside (g.S.Source.seen c.run_plan.new.input) (g.D.Disk.seen c.run_plan.new.disk))
+      (outside g.S.Source.seen g.D.Disk.seen g.C.Crew.seen g.L.Link.seen c.args.objects.now)
+      (outside g.S.Source.seen g.D.Disk.seen g.C.Crew.seen g.L.Link.seen c.run_plan.new.objects)
       c.run_plan.result c.run_plan.ensures.stopped;
 })

@@ -7,6 +7,7 @@ use Rattle.ug_checkpoint.specs.Recovery.{HasFound}
 use Rattle.ug_restart.specs.declared.fault.StartFault.TheVariants as faults
 use Rattle.ug_restart.proofs.Goings.{image_of_loaded}
 use Rattle.ug_top.specs.declared.ended.Ended.TheVariants as ended
+use Rattle.ug_top.specs.Solved.{KeepsCovered}
 use Rattle.ug_top.proofs.Stored.{fault_stored, image_stored, load_covered, load_stored}
 use Rattle.ug_top.proofs.show.show.Goals as goal
 
@@ -27,7 +28,7 @@ pub returns-in-Ok-None-clause-stored : goal.returns-in-Ok-None-clause-stored
 returns-in-Ok-None-clause-stored g c =
     let old = g.D.Disk.seen c.args.disk.now in
     let new = g.D.Disk.seen c.load.new.disk in
-    fault_stored faults.NoCheckpoint c.tell_fault.result old new c.tell_fault.ensures
+    fault_stored (KeepsCovered old new) faults.NoCheckpoint c.tell_fault.result old new c.tell_fault.ensures
     c.in-Ok-None.ensures.cause (load_covered old.told new.told c.load.ensures.any_moment)
 
 pub returns-in-Err-Memory-clause-stored : goal.returns-in-Err-Memory-clause-stored

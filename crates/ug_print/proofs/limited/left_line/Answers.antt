@@ -5,8 +5,8 @@ use Rattle.std.proofs.lemmas.Result.{IfOk-weaker}
 use Rattle.ug_problem.specs.Instances.{Instance}
 use Rattle.ug_nodes.specs.declared.node.Node.{Node}
 use Rattle.ug_nodes.specs.Primitive.{lent}
-use Rattle.ug_print.specs.Limited.{open_line, IsBestWord}
-use Rattle.ug_print.proofs.limited.open_line.Goals as goal
+use Rattle.ug_print.specs.Limited.{left_line, IsBestWord}
+use Rattle.ug_print.proofs.limited.left_line.Goals as goal
 
 -- the nodes are those that the book lends
 pub returns : goal.returns
@@ -24,7 +24,7 @@ returns c =
     (c.problem.ensures.value ∙ c.problem-problem.ensures.value)
     (subst (λ (b : Option (List ℤ)). IsBestWord c.problem.result.now b best) c.best.ensures
     c.in_ok-best.ensures) in
-    IfOk-weaker c.open_words.result _ _
+    IfOk-weaker c.left_words.result _ _
     (λ text is. record {
       best = best;
       nodes = nodes;
@@ -33,7 +33,7 @@ returns c =
         each = c.in_ok-nodes.ensures.each;
         rising = c.in_ok-nodes.ensures.rising;
       };
-      is = is ∙ (ap (λ (w : List ℕ). open_line w c.len.result) c.as_slice.ensures
-          ∙ ap (open_line best) count);
+      is = is ∙ (ap (λ (w : List ℕ). left_line c.args.name.now w c.len.result) c.as_slice.ensures
+          ∙ ap (left_line c.args.name.now best) count);
     })
-    c.open_words.ensures
+    c.left_words.ensures

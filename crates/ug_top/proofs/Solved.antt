@@ -1,0 +1,196 @@
+-- What is so of a run's end, whoever solved.
+use Rattle.std.proofs.Common.{◌≡◌, inl, inr, ℕ, [], Option, None, Some, IfSome, refl, sym, subst}
+use Rattle.std.specs.Prelude.{IsNone}
+use Rattle.std.proofs.lemmas.Bool.{false≢true}
+use Rattle.ug_io.specs.Crews.{CrewSeen}
+use Rattle.ug_disk.specs.Crashes.{Leaves}
+use Rattle.ug_disk.specs.Histories.{DiskSeen}
+use Rattle.ug_checkpoint.specs.declared.saver.Saver.{Saver}
+use Rattle.ug_rules.specs.State.{BookState, held_nodes}
+use Rattle.ug_rules.specs.Books.{IsSoundBook}
+use Rattle.ug_book.specs.Views.{IsSameRun}
+use Rattle.ug_restart.specs.declared.outcome.End.{End}
+use Rattle.ug_restart.specs.declared.outcome.End.TheVariants.{Answered, Limited, Memory, Stranded}
+use Rattle.ug_restart.specs.declared.outcome.Outcome.{Outcome}
+use Rattle.ug_restart.specs.Moments.{AllCovered, FindsIn, IsCoveredNow, IsFoundNow, IsOfRun}
+use Rattle.ug_restart.specs.Outcomes.{HasFeasible, IfAnswered, IfBook, IsMissedByFaults, IsRight, IsSavedOrCounted, IsUntouched}
+use Rattle.ug_threads.specs.Outcomes.{HasEnded}
+use Rattle.ug_threads.proofs.Endings.{none_ended}
+use Rattle.ug_threads.specs.Ends.{IsReplayOf}
+use Rattle.ug_threads.proofs.Outcomes.{same_run}
+use Rattle.ug_coord.specs.Ends.{is_ended, ranks_of}
+use Rattle.ug_coord.specs.Hubs.{HasCoordinated, IsFresh}
+use Rattle.ug_coord.specs.Keeping.{HasKept, IsKeptSafe, IsNothing}
+use Rattle.ug_coord.proofs.Causes.{AreAlive}
+use Rattle.ug_coord.proofs.Ends.{nothing_coordinated}
+use Rattle.ug_coord.proofs.Kept.{sound_last}
+use Rattle.ug_problem.specs.Instances.{Instance}
+use Rattle.ug_rules.specs.declared.settings.Settings.{Settings}
+use Rattle.ug_cli.specs.declared.plan.Mode.{Mode}
+use Rattle.ug_cli.specs.declared.plan.Mode.TheVariants.{Threads, Processes}
+use Rattle.ug_cli.specs.Taken.{crew_of}
+use Rattle.ug_world.specs.Coordinators.{CoordinatorsLoseNothing}
+use Rattle.ug_top.specs.Ends.{HasCrewFor}
+use Rattle.ug_top.specs.Runs.{IsNewRun}
+use Rattle.ug_top.specs.Solved.{FitsCrew, HasSolved, HasSolvedSafely, IsStillThere, IsTrusted, KeepsCovered, KeepsCoveredBy}
+
+-- ---- the ending book
+
+threads_same : (given : BookState) (end : End) → IfBook end (IsReplayOf given) → IfBook end (IsSameRun given)
+threads_same given (Answered b) t = same_run given b t
+threads_same given (Limited b) t = same_run given b t
+threads_same given (Stranded b) t = same_run given b t
+threads_same given Memory t = tt
+
+pub solved_same : (by : Option CrewSeen) (given : BookState) (end : End) → HasSolved by given end
+    → IfBook end (IsSameRun given)
+solved_same None given end h = threads_same given end h.replayed
+solved_same (Some crew) given end h = h.same
+
+pub solved_feasible : (by : Option CrewSeen) (given : BookState) (end : End) → HasSolved by given end
+    → IfBook end HasFeasible
+solved_feasible None given end h = h.feasible
+solved_feasible (Some crew) given end h = h.feasible
+
+crew_answered : (end : End) (b : BookState) → is_ended end b → IfAnswered end (λ own. held_nodes own ≡ [])
+crew_answered (Answered own) b (same, none) = subst (λ (k : BookState). held_nodes k ≡ []) (sym same) none
+crew_answered (Limited own) b is = tt
+crew_answered (Stranded own) b is = tt
+crew_answered Memory b is = tt
+
+pub solved_answered : (by : Option CrewSeen) (given : BookState) (end : End) → HasSolved by given end
+    → IfAnswered end (λ own. held_nodes own ≡ [])
+solved_answered None given end h = h.answered
+solved_answered (Some crew) given end h = crew_answered end h.now.book h.ended
+
+crew_right : (end : End) (b : BookState) → is_ended end b → IsSoundBook b
+    → IfAnswered end (λ own. IsSoundBook own → IsRight own) → IfAnswered end IsRight
+crew_right (Answered own) b (same, none) sound right = right (subst IsSoundBook (sym same) sound)
+crew_right (Limited own) b is sound right = tt
+crew_right (Stranded own) b is sound right = tt
+crew_right Memory b is sound right = tt
+
+-- where it is trusted
+pub solved_right : CoordinatorsLoseNothing → (by : Option CrewSeen) (given : BookState) (end : End)
+    (h : HasSolved by given end) → given.last ≡ 0 → IsTrusted by given end h → IsSoundBook given
+    → IfAnswered end IsRight
+solved_right law None given end h unused trusted sound = h.right sound
+solved_right law (Some crew) given end h unused trusted sound =
+    let stays = law given h.faults h.now h.come h.made sound unused trusted in
+    crew_right end h.now.book h.ended
+    (sound_last _ h.come.deeds h.now h.come.course stays.0) h.right
+
+-- ---- what was said of a solve by a crew
+
+pub crew_safely : CoordinatorsLoseNothing → (given : BookState) (crew : CrewSeen) (end : End) (Safe : Type 0)
+    → given.last ≡ 0 → HasCoordinated given crew end Safe → HasSolvedSafely (Some crew) given end Safe
+crew_safely law given crew end Safe unused h = record {
+  solved = record {
+    faults = h.faults;
+    now = h.now;
+    come = h.come;
+    made = h.made;
+    shown = h.shown;
+    closed = h.closed;
+    ended = h.ended;
+    same = h.same;
+    feasible = h.feasible;
+    limited = h.limited;
+    causes = h.causes;
+    right = h.right;
+    safe = λ sound. tt;
+  };
+  safe = λ trusted sound. h.safe (law given h.faults h.now h.come h.made sound unused trusted).0;
+}
+
+-- ---- and of one by threads
+
+pub threads_safe : (given : BookState) (saver : Option Saver) (old new : DiskSeen)
+    → IfSome saver (λ s. IsSoundBook given → IsCoveredNow s old.told → AllCovered old.told new.told)
+    → IsSoundBook given → IsKeptSafe saver old new
+threads_safe given None old new all sound = tt
+threads_safe given (Some saver) old new all sound = all sound
+
+pub threads_kept : (given : BookState) (saver : Option Saver) (outcome : Outcome) (old new : DiskSeen)
+    → (IsNone saver → IsUntouched outcome old new)
+    → IfSome saver (λ s. IsSavedOrCounted outcome new.told)
+    → IfSome saver (λ s. IsFoundNow (IsOfRun given) s old.told → Leaves (FindsIn (IsOfRun given)) old.told new.told)
+    → IsMissedByFaults outcome old new → HasKept given saver outcome old new
+threads_kept given saver outcome old new untouched saved found missed =
+    record { untouched = untouched; saved = saved; found = found; missed = missed }
+
+-- ---- nobody solved
+
+pub nobody_solved : (by : Option CrewSeen) (given : BookState) (outcome : Outcome) (solvers : ℕ)
+    → FitsCrew solvers by → AreAlive given → IsNothing outcome
+    → solvers ≡ ranks_of given → HasSolved by given outcome.end
+nobody_solved None given outcome solvers fits alive none ranks =
+    subst (HasEnded given) (sym none.ended) (none_ended given)
+nobody_solved (Some crew) given outcome solvers fits alive none ranks =
+    let nothing = nothing_coordinated given crew None outcome (record { told = None; faults = 0 })
+    (subst (IsFresh crew) ranks fits) alive none in
+    record {
+      faults = nothing.faults;
+      now = nothing.now;
+      come = nothing.come;
+      made = nothing.made;
+      shown = nothing.shown;
+      closed = nothing.closed;
+      ended = nothing.ended;
+      same = nothing.same;
+      feasible = nothing.feasible;
+      limited = nothing.limited;
+      causes = nothing.causes;
+      right = nothing.right;
+      safe = λ sound. tt;
+    }
+
+pub still_there : (crew : Option CrewSeen) → IsStillThere crew crew
+still_there None = tt
+still_there (Some crew) = tt
+
+-- ---- at each moment
+
+pub kept_by : (by : Option CrewSeen) (given : BookState) (end : End) (old new : DiskSeen) (Safe : Type 0)
+    → HasSolvedSafely by given end Safe → ((IsSoundBook given → Safe) → KeepsCovered old new)
+    → KeepsCoveredBy by old new
+kept_by None given end old new Safe done keeps = keeps (λ sound. done.safe tt sound)
+kept_by (Some crew) given end old new Safe done keeps = inr (record {
+  given = given;
+  end = end;
+  solved = done.solved;
+  kept = λ trusted. keeps (λ sound. done.safe trusted sound);
+})
+
+pub kept_anyway : (by : Option CrewSeen) (old new : DiskSeen) → KeepsCovered old new → KeepsCoveredBy by old new
+kept_anyway None old new keeps = keeps
+kept_anyway (Some crew) old new keeps = inl keeps
+
+-- ---- where there is no crew
+
+pub fits_none : (solvers : ℕ) (crew : Option CrewSeen) → IsNone crew → FitsCrew solvers crew
+fits_none solvers None none = tt
+fits_none solvers (Some crew) none = absurd (false≢true (sym none))
+
+pub stays_none : (old new : Option CrewSeen) → IsNone old → IsStillThere old new → IsNone new
+stays_none None None none still = refl
+stays_none None (Some new) none still = absurd still
+stays_none (Some old) new none still = absurd (false≢true (sym none))
+
+pub new_by_none : (by : Option CrewSeen) (p : Instance) (settings : Settings) (outcome : Outcome) → IsNone by
+    → IsNewRun by p settings outcome → IsNewRun None p settings outcome
+new_by_none None p settings outcome none ran = ran
+new_by_none (Some crew) p settings outcome none ran = absurd (false≢true (sym none))
+
+-- ---- what a plan needs
+
+pub crew_fits : (mode : Mode) (solvers : ℕ) (crew : Option CrewSeen) → HasCrewFor (crew_of mode solvers) crew
+    → FitsCrew solvers crew
+crew_fits Threads solvers None has = tt
+crew_fits Threads solvers (Some crew) has = absurd has
+crew_fits Processes solvers None has = absurd has
+crew_fits Processes solvers (Some crew) has = has
+
+pub no_crew : (crew : Option CrewSeen) → HasCrewFor None crew → IsNone crew
+no_crew None has = refl
+no_crew (Some crew) has = absurd has

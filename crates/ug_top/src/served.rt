@@ -1,0 +1,39 @@
+ghost use Rattle.std.specs.Prelude.{◌≡◌, [], true, IsSomeAnd};
+ghost use Rattle.ug_worker.specs.Courses.{IsFresh};
+ghost use Rattle.ug_top.specs.Ends.{AreWorkerLines, HasLinkFor, status_of, text_of};
+ghost use Rattle.ug_top.specs.Outside.{seen_if};
+
+use crate::ended::Ended;
+use crate::status::Status;
+use std::sync::Wait;
+use std::thread::Threads;
+use ug_io::Link;
+use ug_restart::{Host, Observer};
+use ug_worker::{Served, Service, serve};
+
+/// Works for the coordinator at the other end of the link, until it orders the end.
+pub fn run_worker<R: Threads + Wait + Sync, O: Observer, L: Link + Drop>(
+    host: &Host<'_, R, O>,
+    link: &mut Option<L>,
+) -> Ended
+    requires { HasLinkFor true (seen_if L.seen link.old) }
+    ensures { AreWorkerLines (seen_if L.seen link.new) (status_of result) (text_of result) }
+{
+    let Some(own) = link.take() else {
+        unreachable!()
+    };
+    let Service { link: own, end } = serve(host.rt, host.alloc, own);
+    *link = Some(own);
+    match end {
+        Served::Ended => Ended::Quiet {
+            status: Status::Answered,
+        },
+        Served::LinkFault => Ended::Quiet {
+            status: Status::LinkFault,
+        },
+        Served::BadFrame { .. } => Ended::Quiet {
+            status: Status::BadFrame,
+        },
+        Served::Memory => Ended::Memory,
+    }
+}
