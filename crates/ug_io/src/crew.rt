@@ -1,4 +1,4 @@
-ghost use Rattle.std.specs.Prelude.{◌≡◌, ◌<◌, true, false, length, IfOk, OnOk, OnErr, MatchBool};
+ghost use Rattle.std.specs.Prelude.{◌≡◌, ◌<◌, ◌≤◌, true, false, length, IfOk, OnOk, OnErr, MatchBool};
 ghost use Rattle.ug_io.specs.Outside.{IsCounted, Rose};
 ghost use Rattle.ug_io.specs.Crews.{CrewSeen, HasSent, HasTurned, IsAlive, IsAway, IsSetTo, IsSilent};
 
@@ -66,5 +66,6 @@ pub trait Crew {
 
     /// Lets all that was told go out, and waits until each rank has ended. It is the last call.
     fn finish(&mut self)
-        ensures { (seen self.new).said ≡ (seen self.old).said };
+        ensures said { (seen self.new).said ≡ (seen self.old).said }
+        ensures faults { (seen self.old).faults ≤ (seen self.new).faults };
 }
