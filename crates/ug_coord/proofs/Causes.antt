@@ -351,7 +351,7 @@ deed_lives old (Launched other) new rank does alive =
 deed_lives old (SetUp other bytes) new rank does alive =
     inl (still old new rank (ap (λ (s : Standing). s.book) does.rest) alive)
 deed_lives old (Closed other) new rank does alive =
-    inl (still old new rank (ap (λ (s : Standing). s.book) does.1) alive)
+    inl (still old new rank (ap (λ (s : Standing). s.book) does.rest) alive)
 deed_lives old (Came other bytes) new rank does alive =
     inl (still old new rank (ap (λ (s : Standing). s.book) does.rest) alive)
 deed_lives old (Took other report answer) new rank does alive =
@@ -384,7 +384,7 @@ deed_lives old (Passed other order) new rank does alive =
 deed_lives old Broke new rank does alive =
     inl (still old new rank (ap (λ (s : Standing). s.book) does.rest) alive)
 deed_lives old (Unclosed other) new rank does alive =
-    inl (still old new rank (ap (λ (s : Standing). s.book) does.1) alive)
+    inl (still old new rank (ap (λ (s : Standing). s.book) does.rest) alive)
 deed_lives old (Halted steps) new rank does alive = inl (stands_lives steps old.book new.book rank does.is alive)
 deed_lives old (Unwritten other order) new rank does alive =
     inl (left old.book new.book rank (ap (λ (b : BookState). b.ranks) does.told.rest) alive)

@@ -1,5 +1,5 @@
 -- The end, as each rank is told it.
-use Rattle.std.proofs.Common.{◌≡◌, inl, inr, ℕ, suc, Bool, true, false, List, [], ◌∷◌, ◌++◌, length, append-nil, Option, None, Some, IfSome, refl, sym, ap, subst, ◌∙◌, arith}
+use Rattle.std.proofs.Common.{◌≡◌, inl, inr, ℕ, suc, ◌≤◌, Bool, true, false, List, [], ◌∷◌, ◌++◌, length, append-nil, Option, None, Some, IfSome, refl, sym, ap, subst, ◌∙◌, arith}
 use Rattle.std.proofs.lemmas.Bool.{cases_lt, false≢true}
 use Rattle.std.proofs.lemmas.List.{get_or_past}
 use Rattle.std.proofs.lemmas.List.Elements.{Contains-append_left, Contains-push}
@@ -9,7 +9,7 @@ use Rattle.ug_io.specs.Crews.{Adds, CrewSeen, IsAlive, IsSilent, told_to}
 use Rattle.ug_io.specs.Outside.{Rose}
 use Rattle.ug_frames.specs.declared.order.Order.TheVariants.{End}
 use Rattle.ug_frames.specs.OrderFrames as orders
-use Rattle.ug_coord.specs.Deeds.{Closed, Deed, Does, IsToldEnd, Standing, Unclosed}
+use Rattle.ug_coord.specs.Deeds.{Closed, Closing, Deed, Does, IsToldEnd, Standing, Unclosed}
 use Rattle.ug_coord.specs.Ends.{ranks_of}
 use Rattle.ug_coord.specs.Hubs.{AnyPhase, EndsFrom, HasCome, HasSentTo, HubSeen, IsClosedBelow, IsFit, IsKeptIn, Phase, StaysSound, standing}
 use Rattle.ug_coord.specs.Keeping.{KeptSeen}
@@ -27,11 +27,15 @@ still_said : (a b : Option (List Exchange)) → b ≡ a → Adds a b []
 still_said None b same = same
 still_said (Some said) b same = same ∙ ap (λ (all : List Exchange). Some all) (sym (append-nil said))
 
+-- nothing is done any more but that
+abbrev closing : Phase → Phase
+closing phase = record { broken = phase.broken; pace = Closing }
+
 -- one deed more, by which the rank was told
 closes : (from : Standing) (h next : HubSeen) (old new : KeptSeen) (rank : ℕ) (deed : Deed) (more : List Exchange)
     → Adds h.crew.said next.crew.said more
     → ((said : List Exchange) (phase : Phase)
-    → Does (standing said phase h) deed (standing (said ++ more) phase next))
+    → Does (standing said phase h) deed (standing (said ++ more) (closing phase) next))
     → next.crew.lives ≡ h.crew.lives → (IsFit h → IsFit next)
     → ((deeds : List Deed) → IsToldEnd rank (deeds ++ deed ∷ []))
     → IsClosedBelow rank from h old new → IsClosedBelow (suc rank) from next old new
@@ -39,14 +43,14 @@ closes from h next old new rank deed more adds does lives fits told k =
     let on = k.kept.on in
     let phase = k.kept.phase in
     let mid : Standing = standing on.said phase h in
-    let now : Standing = standing (on.said ++ more) phase next in
+    let now : Standing = standing (on.said ++ more) (closing phase) next in
     let come : HasCome from now = record {
       deeds = on.come.deeds ++ deed ∷ [];
       course = course_more from on.come.deeds mid now deed on.come.course (does on.said phase);
     } in
     record {
       kept = record {
-        phase = phase;
+        phase = closing phase;
         is = tt;
         on = record {
           said = on.said ++ more;
@@ -75,10 +79,10 @@ closed_on from h next old new rank bytes is alive sent k =
     ap (told_to rank) (is ∙ sym frame_of_end) in
     closes from h next old new rank (Closed rank) (told_to rank (orders.spelled End))
     (subst (Adds h.crew.said next.crew.said) told sent.said)
-    (λ said phase. (
-      alive.lives,
-      ap (λ (n : HubSeen). standing (said ++ told_to rank (orders.spelled End)) phase n) sent.rest,
-    ))
+    (λ said phase. record {
+      alive = alive.lives;
+      rest = ap (λ (n : HubSeen). standing (said ++ told_to rank (orders.spelled End)) (closing phase) n) sent.rest;
+    })
     (ap (λ (n : HubSeen). n.crew.lives) sent.rest)
     (λ fit. record {
       lives = ap (λ (n : HubSeen). length n.crew.lives) sent.rest ∙ fit.lives
@@ -95,12 +99,12 @@ unclosed_on from h next old new rank silent faults rest k =
     let same : next ≡ record h { crew = record h.crew { faults = next.crew.faults } } =
     rest ∙ ap (λ (crew : CrewSeen). record h { crew = crew }) (only_faults h.crew next.crew silent) in
     closes from h next old new rank (Unclosed rank) [] (still_said h.crew.said next.crew.said silent.said)
-    (λ said phase. (
-      faults,
-      ap (λ (n : HubSeen). standing (said ++ []) phase n) same
-          ∙ ap (λ (all : List Exchange). standing all phase (record h { crew = record h.crew { faults = next.crew.faults } }))
-          (append-nil said),
-    ))
+    (λ said phase. record {
+      faults = faults;
+      rest = ap (λ (n : HubSeen). standing (said ++ []) (closing phase) n) same
+          ∙ ap (λ (all : List Exchange). standing all (closing phase)
+          (record h { crew = record h.crew { faults = next.crew.faults } })) (append-nil said);
+    })
     silent.lives
     (λ fit. record {
       lives = ap (λ (n : HubSeen). length n.crew.lives) same ∙ fit.lives
@@ -141,15 +145,17 @@ all_closed from h old new n all k rank alive = elim (cases_lt rank n) [
 
 -- nothing is said any more
 pub ends_kept : (from : Standing) (h : HubSeen) (seen : CrewSeen) (old new : KeptSeen) (n : ℕ)
-    → seen.said ≡ h.crew.said → n ≡ ranks_of h.book → IsClosedBelow n from h old new
-    → EndsFrom from seen h.book old new
-ends_kept from h seen old new n still all k =
+    → seen.said ≡ h.crew.said → h.crew.faults ≤ seen.faults → n ≡ ranks_of h.book
+    → IsClosedBelow n from h old new → EndsFrom from (record h { crew = seen }) old new
+ends_kept from h seen old new n still faults all k =
     let on = k.kept.on in
     record {
       now = standing on.said k.kept.phase h;
       come = on.come;
       shown = subst (λ told. IfSome told (λ t. t ≡ on.said)) (sym still) on.shown;
       its = refl;
+      wants = refl;
+      faults = faults;
       closed = all_closed from h old new n all k;
       moves = k.kept.moves;
     }

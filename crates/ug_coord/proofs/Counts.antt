@@ -284,7 +284,7 @@ deed_within old (Launched rank) new does within =
 deed_within old (SetUp rank bytes) new does within =
     book_within old new (ap (λ (s : Standing). s.book) does.rest) within
 deed_within old (Closed rank) new does within =
-    book_within old new (ap (λ (s : Standing). s.book) does.1) within
+    book_within old new (ap (λ (s : Standing). s.book) does.rest) within
 deed_within old (Came rank bytes) new does within =
     book_within old new (ap (λ (s : Standing). s.book) does.rest) within
 deed_within old (Took rank report answer) new does within =
@@ -305,7 +305,7 @@ deed_within old (Passed rank order) new does within =
 deed_within old Broke new does within =
     book_within old new (ap (λ (s : Standing). s.book) does.rest) within
 deed_within old (Unclosed rank) new does within =
-    book_within old new (ap (λ (s : Standing). s.book) does.1) within
+    book_within old new (ap (λ (s : Standing). s.book) does.rest) within
 deed_within old (Halted steps) new does within =
     same_within old.book new.book (stands_same steps old.book new.book does.is) within
 deed_within old (Unwritten rank order) new does within =

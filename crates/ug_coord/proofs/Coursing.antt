@@ -25,7 +25,7 @@ use Rattle.ug_rules.specs.Deaths.{killed}
 use Rattle.ug_rules.specs.Deciding.{IsDecided, Stands}
 use Rattle.ug_rules.specs.Hearing.{IsDue, after_hearing}
 use Rattle.ug_book.specs.Reads.{IsOrderTold}
-use Rattle.ug_coord.specs.Deeds.{Broke, Came, Decided, Deciding, Deed, Does, Ended, Failed, Halted, Hearing, IsCourse, IsHearing, IsReading, Launched, Lost, Nonsense, Pace, Passed, Reading, Sent, SetUp, Standing, Took, Unfed, Unread, Unsent, Unwritten}
+use Rattle.ug_coord.specs.Deeds.{Broke, Came, Decided, Deciding, Deed, Does, Ended, Failed, Halted, Hearing, IsCourse, IsHearing, IsMoreWanted, IsReading, Launched, Lost, MayBeRead, MayDecide, Nonsense, Passed, Reading, Sent, SetUp, Standing, Took, Unfed, Unread, Unsent, Unwritten}
 use Rattle.ug_coord.specs.Ends.{IsOver, ranks_of}
 use Rattle.ug_stream.specs.declared.next.Next.TheVariants.{BadFrame, Message, NeedMore}
 use Rattle.ug_coord.specs.Reading.{HasBroken, HasFed, HasGone, HasLacked, HasRead}
@@ -87,7 +87,7 @@ hearing said phase h more told decided =
     record { settled = record { more = more; told = told }; decided = decided }
 
 reading : (said : List Exchange) (phase : Phase) (h : HubSeen) → ¬ IsOver h.book → h.book.orders ≡ []
-    → phase.pace ≢ Deciding → IsReading (standing said phase h)
+    → MayBeRead phase.pace → IsReading (standing said phase h)
 reading said phase h more told decided =
     record { settled = record { more = more; told = told }; decided = decided }
 
@@ -129,6 +129,7 @@ failed_on phase b old new rank h on =
       why = (refl, inr h.faults, streams);
       lives = lives;
       broken = refl;
+      wants = ap (λ (h : HubSeen). h.wants) h.rest;
       pace = refl;
       book = ap (λ (h : HubSeen). h.book) h.rest;
     })
@@ -164,9 +165,10 @@ lost_on phase b old new rank broken there rest ranks on =
     on_still phase phase b old new (Lost rank Failed) (ap (λ (h : HubSeen). h.crew.said) rest)
     (λ said. record {
       there = there;
-      why = (refl, inl broken, streams);
+      why = (refl, inl (broken, ap (λ (h : HubSeen). h.crew.faults) rest), streams);
       lives = lives;
       broken = refl;
+      wants = ap (λ (h : HubSeen). h.wants) rest;
       pace = refl;
       book = ap (λ (h : HubSeen). h.book) rest;
     })
@@ -286,7 +288,7 @@ set_up_on false phase b old new rank frame alive setup came on = failed_on phase
 
 -- ---- decisions
 
-pub decided_on : (phase : Phase) (b : Standing) (old new : HubSeen) → ¬ IsOver old.book → phase.pace ≢ Hearing
+pub decided_on : (phase : Phase) (b : Standing) (old new : HubSeen) → ¬ IsOver old.book → MayDecide phase.pace
     → IsDecided old.book new.book → ranks_of new.book ≡ ranks_of old.book → new ≡ record old { book = new.book }
     → IsOnAs phase b old → IsOnAs (record { broken = phase.broken; pace = Hearing }) b new
 decided_on phase b old new more due is ranks rest on =
@@ -304,8 +306,8 @@ decided_on phase b old new more due is ranks rest on =
 
 -- a decision was cut short
 pub halted_on : (phase : Phase) (b : Standing) (old new : HubSeen) (steps : ℕ) → ¬ IsOver old.book
-    → phase.pace ≢ Hearing → Stands steps old.book new.book → ranks_of new.book ≡ ranks_of old.book
-    → new ≡ record old { book = new.book } → IsOnAs phase b old
+    → MayDecide phase.pace → Stands steps old.book new.book → ranks_of new.book ≡ ranks_of old.book
+    → new ≡ record old { wants = true; book = new.book } → IsOnAs phase b old
     → IsOnAs (record { broken = phase.broken; pace = Hearing }) b new
 halted_on phase b old new steps more due is ranks rest on =
     let after : Phase = record { broken = phase.broken; pace = Hearing } in
@@ -325,9 +327,10 @@ halted_on phase b old new steps more due is ranks rest on =
 -- bytes, which were fed to the stream of their rank
 pub fed_on : (phase : Phase) (b : Standing) (old new : HubSeen) (rank : ℕ) → ¬ IsOver old.book
     → old.book.orders ≡ [] → phase.pace ≡ Hearing
-    → HasFed old.crew new.crew old.streams new.streams rank → new.book ≡ old.book → IsOnAs phase b old
+    → HasFed old.crew new.crew old.streams new.streams rank → new.book ≡ old.book → new.wants ≡ old.wants
+    → IsOnAs phase b old
     → IsOnAs (record { broken = phase.broken; pace = Reading }) b new
-fed_on phase b old new rank more told decided h book on =
+fed_on phase b old new rank more told decided h book wants on =
     let after : Phase = record { broken = phase.broken; pace = Reading } in
     let ranks = ap (λ (b : BookState). ranks_of b) book in
     on_more phase after b old new (Came rank h.bytes) (heard_from rank h.bytes) h.said
@@ -338,12 +341,21 @@ fed_on phase b old new rank more told decided h book on =
           ap (λ (l : List Bool). record (standing (said ++ heard_from rank h.bytes) after new) { lives = l }) h.lives
           ∙ ap (λ (n : ℕ). record (standing (said ++ heard_from rank h.bytes) after new) { lives = old.crew.lives; faults = n })
           h.faults
-          ∙ ap (λ (l : List Waiting). record (standing (said ++ heard_from rank h.bytes) after old) { streams = l; book = new.book })
+          ∙ ap (λ (l : List Waiting). record (standing (said ++ heard_from rank h.bytes) after old) {
+            wants = new.wants;
+            streams = l;
+            book = new.book;
+          })
           h.streams
           ∙ ap (λ (book : BookState). record (standing (said ++ heard_from rank h.bytes) after old) {
+            wants = new.wants;
             streams = slice_set old.streams rank (fed (slice_index_or old.streams rank first) h.bytes);
             book = book;
-          }) book;
+          }) book
+          ∙ ap (λ (w : Bool). record (standing (said ++ heard_from rank h.bytes) after old) {
+            wants = w;
+            streams = slice_set old.streams rank (fed (slice_index_or old.streams rank first) h.bytes);
+          }) wants;
     })
     (record {
       lives = ap (λ (l : List Bool). length l) h.lives ∙ on.fit.lives ∙ sym ranks;
@@ -354,9 +366,10 @@ fed_on phase b old new rank more told decided h book on =
 -- and could not be kept
 pub lacked_on : (phase : Phase) (b : Standing) (old new : HubSeen) (rank : ℕ) → ¬ IsOver old.book
     → old.book.orders ≡ [] → phase.pace ≡ Hearing
-    → HasLacked old.crew new.crew old.streams new.streams rank → new.book ≡ old.book → IsOnAs phase b old
+    → HasLacked old.crew new.crew old.streams new.streams rank → new.book ≡ old.book → new.wants ≡ true
+    → IsOnAs phase b old
     → IsOnAs (record { broken = phase.broken; pace = Reading }) b new
-lacked_on phase b old new rank more told decided h book on =
+lacked_on phase b old new rank more told decided h book wants on =
     let after : Phase = record { broken = phase.broken; pace = Reading } in
     let ranks = ap (λ (b : BookState). ranks_of b) book in
     on_more phase after b old new (Unfed rank h.bytes) (heard_from rank h.bytes) h.said
@@ -367,12 +380,21 @@ lacked_on phase b old new rank more told decided h book on =
           ap (λ (l : List Bool). record (standing (said ++ heard_from rank h.bytes) after new) { lives = l }) h.lives
           ∙ ap (λ (n : ℕ). record (standing (said ++ heard_from rank h.bytes) after new) { lives = old.crew.lives; faults = n })
           h.faults
-          ∙ ap (λ (l : List Waiting). record (standing (said ++ heard_from rank h.bytes) after old) { streams = l; book = new.book })
+          ∙ ap (λ (l : List Waiting). record (standing (said ++ heard_from rank h.bytes) after old) {
+            wants = new.wants;
+            streams = l;
+            book = new.book;
+          })
           h.streams
           ∙ ap (λ (book : BookState). record (standing (said ++ heard_from rank h.bytes) after old) {
+            wants = new.wants;
             streams = slice_set old.streams rank (shut (slice_index_or old.streams rank first));
             book = book;
-          }) book;
+          }) book
+          ∙ ap (λ (w : Bool). record (standing (said ++ heard_from rank h.bytes) after old) {
+            wants = w;
+            streams = slice_set old.streams rank (shut (slice_index_or old.streams rank first));
+          }) wants;
     })
     (record {
       lives = ap (λ (l : List Bool). length l) h.lives ∙ on.fit.lives ∙ sym ranks;
@@ -384,11 +406,12 @@ lacked_on phase b old new rank more told decided h book on =
 pub took_on : (phase : Phase) (b : Standing) (old mid new : HubSeen) (rank : ℕ) (stream : Waiting) (report : Report)
     → IsGiven reports.IsCarried reports.spelled (slice_index_or old.streams rank first) stream report
     → mid ≡ record old { streams = slice_set old.streams rank stream } → HasHeardReport mid new rank report
-    → ¬ IsOver old.book → old.book.orders ≡ [] → phase.pace ≢ Deciding
+    → ¬ IsOver old.book → old.book.orders ≡ [] → MayBeRead phase.pace
     → IsOnAs phase b old → IsOnAs (record { broken = phase.broken; pace = Deciding }) b new
 took_on phase b old mid new rank stream report given step heard more told may on =
     let after : Phase = record { broken = phase.broken; pace = Deciding } in
     let both = heard.rest ∙ ap (λ (h : HubSeen). record h {
+      wants = new.wants;
       book = after_hearing heard.answer rank report h.book;
     }) step in
     on_still phase after b old new (Took rank report heard.answer) (ap (λ (h : HubSeen). h.crew.said) both)
@@ -399,6 +422,8 @@ took_on phase b old mid new rank stream report given step heard more told may on
       given = given;
       due = subst (λ (book : BookState). IsDue book rank report heard.answer)
           (ap (λ (h : HubSeen). h.book) step) heard.due;
+      wants = subst (λ (w : Bool). IsMoreWanted heard.answer w new.wants) (ap (λ (h : HubSeen). h.wants) step)
+          heard.wants;
       rest = ap (λ (h : HubSeen). standing said after h) both;
     })
     (record {
@@ -413,7 +438,7 @@ pub nonsense_on : (phase : Phase) (b : Standing) (old mid new : HubSeen) (rank :
     → IsBadAt reports.IsCarried reports.spelled (slice_index_or old.streams rank first) stream at
     → mid ≡ record old { streams = slice_set old.streams rank stream } → new ≡ without rank mid
     → ranks_of new.book ≡ ranks_of mid.book → rank < ranks_of old.book
-    → ¬ IsOver old.book → old.book.orders ≡ [] → phase.pace ≢ Deciding → IsOnAs phase b old
+    → ¬ IsOver old.book → old.book.orders ≡ [] → MayBeRead phase.pace → IsOnAs phase b old
     → IsOnAs (record { broken = phase.broken; pace = Deciding }) b new
 nonsense_on phase b old mid new rank stream at bad step lost ranks there more told may on =
     let after : Phase = record { broken = phase.broken; pace = Deciding } in
@@ -429,9 +454,11 @@ nonsense_on phase b old mid new rank stream at bad step lost ranks there more to
         at = at;
         bad = bad;
         streams = ap (λ (h : HubSeen). h.streams) both;
+        faults = ap (λ (h : HubSeen). h.crew.faults) both;
       };
       lives = ap (λ (h : HubSeen). h.crew.lives) both;
       broken = refl;
+      wants = ap (λ (h : HubSeen). h.wants) both;
       pace = refl;
       book = ap (λ (h : HubSeen). h.book) both;
     })
@@ -445,12 +472,12 @@ nonsense_on phase b old mid new rank stream at bad step lost ranks there more to
 -- word that a rank is gone
 pub gone_on : (phase : Phase) (b : Standing) (old new : HubSeen) (rank : ℕ)
     → rank < ranks_of old.book → slice_index_or old.crew.lives rank false ≡ true
-    → Adds old.crew.said new.crew.said (Gone rank ∷ [])
+    → Adds old.crew.said new.crew.said (Gone rank ∷ []) → Rose old.crew.faults new.crew.faults
     → new.crew.lives ≡ slice_set old.crew.lives rank false → new.streams ≡ old.streams
-    → new.book ≡ killed rank old.book → ranks_of new.book ≡ ranks_of old.book
+    → new.book ≡ killed rank old.book → ranks_of new.book ≡ ranks_of old.book → new.wants ≡ old.wants
     → ¬ IsOver old.book → old.book.orders ≡ [] → phase.pace ≡ Hearing → IsOnAs phase b old
     → IsOnAs (record { broken = phase.broken; pace = Deciding }) b new
-gone_on phase b old new rank there alive adds lives streams book ranks more told decided on =
+gone_on phase b old new rank there alive adds faults lives streams book ranks wants more told decided on =
     on_more phase (record { broken = phase.broken; pace = Deciding }) b old new (Lost rank Ended) (Gone rank ∷ []) adds
     (λ said. record {
       there = there;
@@ -459,9 +486,11 @@ gone_on phase b old new rank there alive adds lives streams book ranks more told
         alive = alive;
         said = refl;
         streams = streams;
+        faults = faults;
       };
       lives = lives;
       broken = refl;
+      wants = wants;
       pace = refl;
       book = book;
     })
@@ -531,49 +560,51 @@ nonsense_by b old mid new rank at more told read rest lost ranks there (phase, m
 
 -- a report could not be read
 pub unread_by : (b : Standing) (old new : HubSeen) → ¬ IsOver old.book → old.book.orders ≡ []
-    → new ≡ record old { streams = new.streams } → new.streams ≡ old.streams → IsOnIn MayRead b old
+    → new ≡ record old { wants = true; streams = new.streams } → new.streams ≡ old.streams → IsOnIn MayRead b old
     → IsOnIn (is_next Deciding) b new
 unread_by b old new more told rest streams (phase, may, on) =
     let after : Phase = record { broken = phase.broken; pace = Deciding } in
-    let same : new ≡ old = rest ∙ ap (λ (l : List Waiting). record old { streams = l }) streams in (
+    let same : new ≡ record old { wants = true } =
+    rest ∙ ap (λ (l : List Waiting). record old { wants = true; streams = l }) streams in (
       after,
       refl,
       on_still phase after b old new Unread (ap (λ (h : HubSeen). h.crew.said) same)
           (λ said. (reading said phase old more told may, ap (λ (h : HubSeen). standing said after h) same))
-          (subst IsFit (sym same) on.fit) on,
+          (subst IsFit (sym same) (record { lives = on.fit.lives; streams = on.fit.streams })) on,
     )
 
 -- ---- a turn
 
 -- bytes came
 pub fed_by : (b : Standing) (old new : HubSeen) (rank : ℕ) → ¬ IsOver old.book → old.book.orders ≡ []
-    → HasFed old.crew new.crew old.streams new.streams rank → new.book ≡ old.book
+    → HasFed old.crew new.crew old.streams new.streams rank → new.book ≡ old.book → new.wants ≡ old.wants
     → IsOnIn (is_next Hearing) b old → IsOnIn (is_next Reading) b new
-fed_by b old new rank more told h book (phase, decided, on) = (
+fed_by b old new rank more told h book wants (phase, decided, on) = (
   record { broken = phase.broken; pace = Reading },
   refl,
-  fed_on phase b old new rank more told decided h book on,
+  fed_on phase b old new rank more told decided h book wants on,
 )
 
 -- and memory was wanting to keep them
 pub lacked_by : (b : Standing) (old new : HubSeen) (rank : ℕ) → ¬ IsOver old.book → old.book.orders ≡ []
-    → HasLacked old.crew new.crew old.streams new.streams rank → new.book ≡ old.book
+    → HasLacked old.crew new.crew old.streams new.streams rank → new.book ≡ old.book → new.wants ≡ true
     → IsOnIn (is_next Hearing) b old → IsOnIn (is_next Reading) b new
-lacked_by b old new rank more told h book (phase, decided, on) = (
+lacked_by b old new rank more told h book wants (phase, decided, on) = (
   record { broken = phase.broken; pace = Reading },
   refl,
-  lacked_on phase b old new rank more told decided h book on,
+  lacked_on phase b old new rank more told decided h book wants on,
 )
 
 -- word that a rank is gone
 pub gone_by : (b : Standing) (old new : HubSeen) (rank : ℕ) → ¬ IsOver old.book → old.book.orders ≡ []
     → HasGone old.crew new.crew old.streams new.streams rank → new.book ≡ killed rank old.book
-    → ranks_of new.book ≡ ranks_of old.book → IsOnIn (is_next Hearing) b old → IsOnIn (is_next Deciding) b new
-gone_by b old new rank more told h book ranks (phase, decided, on) = (
+    → ranks_of new.book ≡ ranks_of old.book → new.wants ≡ old.wants → IsOnIn (is_next Hearing) b old
+    → IsOnIn (is_next Deciding) b new
+gone_by b old new rank more told h book ranks wants (phase, decided, on) = (
   record { broken = phase.broken; pace = Deciding },
   refl,
   gone_on phase b old new rank (omega (arith, h.lost.alive.there, on.fit.lives)) h.lost.alive.lives h.lost.said
-      h.lost.lives h.streams book ranks more told decided on,
+      h.lost.faults h.lost.lives h.streams book ranks wants more told decided on,
 )
 
 pub only_faults : (a c : CrewSeen) → IsSilent a c → c ≡ record a { faults = c.faults }
@@ -583,14 +614,15 @@ only_faults a c silent =
 
 -- it failed
 pub broke_by : (b : Standing) (old new : HubSeen) → ¬ IsOver old.book → old.book.orders ≡ []
-    → HasBroken old.crew new.crew old.streams new.streams
-    → new.book ≡ old.book → IsOnIn (is_next Hearing) b old → IsOnIn IsBrokenOff b new
-broke_by b old new more told h book (phase, decided, on) = (
+    → HasBroken old.crew new.crew old.streams new.streams → new.book ≡ old.book → new.wants ≡ old.wants
+    → IsOnIn (is_next Hearing) b old → IsOnIn IsBrokenOff b new
+broke_by b old new more told h book wants (phase, decided, on) = (
   record { broken = true; pace = Deciding },
   record { broken = refl; due = refl },
   broke_on phase b old new more told decided h.faults
-      (ap (λ (l : List Waiting). record { crew = new.crew; streams = l; book = new.book }) h.streams
-      ∙ ap (λ (book : BookState). record { crew = new.crew; streams = old.streams; book = book }) book
+      (ap (λ (l : List Waiting). record new { streams = l }) h.streams
+      ∙ ap (λ (w : Bool). record new { wants = w; streams = old.streams }) wants
+      ∙ ap (λ (book : BookState). record old { crew = new.crew; book = book }) book
       ∙ ap (λ (crew : CrewSeen). record old { crew = crew }) (only_faults old.crew new.crew h.silent)) on,
 )
 
@@ -612,8 +644,8 @@ decided_by b old new more is ranks rest (phase, due, on) = (
 )
 
 pub halted_by : (b : Standing) (old new : HubSeen) (steps : ℕ) → ¬ IsOver old.book
-    → Stands steps old.book new.book
-    → ranks_of new.book ≡ ranks_of old.book → new ≡ record old { book = new.book } → IsOnIn IsRested b old
+    → Stands steps old.book new.book → ranks_of new.book ≡ ranks_of old.book
+    → new ≡ record old { wants = true; book = new.book } → IsOnIn IsRested b old
     → IsOnIn (is_next Hearing) b new
 halted_by b old new steps more is ranks rest (phase, due, on) = (
   record { broken = phase.broken; pace = Hearing },
@@ -623,12 +655,13 @@ halted_by b old new steps more is ranks rest (phase, due, on) = (
 
 -- an order could not be put into bytes
 pub unwritten_on : (phase : Phase) (b : Standing) (before : BookState) (h : HubSeen) (told : Told)
-    → IsAlive h.crew told.rank
-    → IsOrderTold before h.book told → IsOnAs phase b (record h { book = before }) → IsOnAs phase b h
+    → IsAlive h.crew told.rank → IsOrderTold before h.book told → IsOnAs phase b (record h { book = before })
+    → IsOnAs phase b (record h { wants = true })
 unwritten_on phase b before h told alive left on =
-    on_still phase phase b (record h { book = before }) h (Unwritten told.rank told.order) refl
+    on_still phase phase b (record h { book = before }) (record h { wants = true }) (Unwritten told.rank told.order) refl
     (λ said. record { alive = alive.lives; told = left; rest = refl })
-    (fit_book h before (told_ranks before h.book told left) on.fit) on
+    (fit_book (record h { wants = true }) before (told_ranks before h.book told left)
+    (record { lives = on.fit.lives; streams = on.fit.streams })) on
 
 -- ---- the end
 
@@ -658,38 +691,28 @@ stays_in P b old new goes (phase, is, on) = (phase, is, goes phase on)
 pub any_in : (P : Phase → Type 0) (b : Standing) (h : HubSeen) → IsOnIn P b h → IsOnIn AnyPhase b h
 any_in P b h (phase, is, on) = (phase, tt, on)
 
-abbrev NotHearing : Pace → Type 0
-NotHearing Deciding = Unit {0}
-NotHearing Hearing = ⊥
-NotHearing Reading = Unit {0}
-
-abbrev NotDeciding : Pace → Type 0
-NotDeciding Deciding = ⊥
-NotDeciding Hearing = Unit {0}
-NotDeciding Reading = Unit {0}
-
 pub deciding_rests : (b : Standing) (h : HubSeen) → IsOnIn (is_next Deciding) b h → IsOnIn IsRested b h
-deciding_rests b h (phase, is, on) = (phase, λ hears. subst NotHearing (sym is ∙ hears) tt, on)
+deciding_rests b h (phase, is, on) = (phase, subst MayDecide (sym is) tt, on)
 
 pub reading_rests : (b : Standing) (h : HubSeen) → IsOnIn (is_next Reading) b h → IsOnIn IsRested b h
-reading_rests b h (phase, is, on) = (phase, λ hears. subst NotHearing (sym is ∙ hears) tt, on)
+reading_rests b h (phase, is, on) = (phase, subst MayDecide (sym is) tt, on)
 
 pub broken_rests : (b : Standing) (h : HubSeen) → IsOnIn IsBrokenOff b h → IsOnIn IsRested b h
-broken_rests b h (phase, is, on) = (phase, λ hears. subst NotHearing (sym is.due ∙ hears) tt, on)
+broken_rests b h (phase, is, on) = (phase, subst MayDecide (sym is.due) tt, on)
 
 pub hearing_reads : (b : Standing) (h : HubSeen) → IsOnIn (is_next Hearing) b h → IsOnIn MayRead b h
-hearing_reads b h (phase, is, on) = (phase, λ due. subst NotDeciding (sym is ∙ due) tt, on)
+hearing_reads b h (phase, is, on) = (phase, subst MayBeRead (sym is) tt, on)
 
 pub reading_reads : (b : Standing) (h : HubSeen) → IsOnIn (is_next Reading) b h → IsOnIn MayRead b h
-reading_reads b h (phase, is, on) = (phase, λ due. subst NotDeciding (sym is ∙ due) tt, on)
+reading_reads b h (phase, is, on) = (phase, subst MayBeRead (sym is) tt, on)
 
 -- ---- the beginning
 
 pub begun_on : (b : BookState) (h : HubSeen) → IsFresh h.crew (ranks_of b) → h.book ≡ b
-    → h.streams ≡ replicate (ranks_of b) first → IsOnIn IsRested (beginning b h.crew.faults) h
-begun_on b h fresh book streams = (
+    → h.streams ≡ replicate (ranks_of b) first → h.wants ≡ false → IsOnIn IsRested (beginning b h.crew.faults) h
+begun_on b h fresh book streams wants = (
   record { broken = false; pace = Deciding },
-  λ hears. subst NotHearing hears tt,
+  tt,
   record {
     said = [];
     come = record {
@@ -700,6 +723,7 @@ begun_on b h fresh book streams = (
             lives = replicate (ranks_of b) false;
             streams = l;
           }) streams
+          ∙ ap (λ (w : Bool). record (beginning b h.crew.faults) { wants = w; book = h.book }) wants
           ∙ ap (λ (own : BookState). record (beginning b h.crew.faults) { book = own }) book;
     };
     shown = fresh.said;

@@ -1,5 +1,5 @@
 -- How a solve by a crew ends.
-use Rattle.std.proofs.Common.{◌≡◌, inl, inr, ℕ, false, [], arith, Option, None, Some, IfSome, refl, sym, ap, subst, ◌∙◌}
+use Rattle.std.proofs.Common.{◌≡◌, inl, inr, ℕ, Bool, false, [], arith, Option, None, Some, IfSome, refl, sym, ap, subst, ◌∙◌}
 use Rattle.std.proofs.lemmas.Bool.{cases_lt, false≢true}
 use Rattle.std.proofs.lemmas.List.{get_or-replicate, get_or_past, length-replicate}
 use Rattle.std.specs.Prelude.{IsSomeAnd, replicate, slice_index_or}
@@ -23,7 +23,7 @@ use Rattle.ug_restart.specs.Outcomes.{HasFeasible, IfAnswered, IfBook, IfLimited
 use Rattle.ug_restart.proofs.Outcomes.{none_missed, saved_or_counted, still_covered, still_found, time_covered, time_found, time_missed}
 use Rattle.ug_coord.specs.Deeds.{Standing}
 use Rattle.ug_coord.specs.Ends.{IsAtLimit, is_ended, ranks_of}
-use Rattle.ug_coord.specs.Hubs.{EndsFrom, HasCoordinated, IsFresh, StaysSound, beginning}
+use Rattle.ug_coord.specs.Hubs.{EndsFrom, HasCoordinated, HubSeen, IsFresh, StaysSound, beginning}
 use Rattle.ug_coord.specs.Keeping.{Begins, HasConcluded, HasKept, AreEachSaved, HasTriedEach, IsBegun, IsEachSaved, IsKeptSafe, IsNothing, IsOurs, KeptSeen, Moves, end_kept, missed_by, moves, savers, unsaved_by}
 use Rattle.ug_coord.proofs.Causes.{AreAlive, dead_has_cause}
 use Rattle.ug_coord.proofs.Counts.{IsWithin, course_within}
@@ -60,15 +60,16 @@ none_lives n rank = elim (cases_lt rank n) [
 
 pub nothing_coordinated : (b : BookState) (seen : CrewSeen) (saver : Option Saver) (outcome : Outcome)
     (disk : DiskSeen) → IsFresh seen (ranks_of b) → AreAlive b → IsNothing outcome
-    → HasCoordinated b seen outcome.end (IsKeptSafe saver disk disk)
+    → HasCoordinated b seen.faults seen outcome.end (IsKeptSafe saver disk disk)
 nothing_coordinated b seen saver outcome disk fresh alive none = record {
-  faults = seen.faults;
   now = beginning b seen.faults;
   come = record { deeds = []; course = refl };
   made = inr refl;
   shown = fresh.said;
   closed = λ rank alive. absurd (false≢true (sym (none_lives (ranks_of b) rank) ∙ alive));
   ended = ended_nothing outcome.end b none.ended;
+  failed = omega arith;
+  wants = no_book (λ book. false ≡ false) outcome.end none.ended;
   same = no_book (IsSameRun b) outcome.end none.ended;
   feasible = no_book HasFeasible outcome.end none.ended;
   limited = no_limit outcome.end none.ended;
@@ -112,16 +113,16 @@ book_has P (Stranded own) b is holds = subst P (sym is.0) holds
 book_has P Memory b is holds = tt
 
 -- all that was saved
-pub all_moved : (from : Standing) (seen : CrewSeen) (book : BookState) (old mid : KeptSeen) (disk : DiskSeen)
-    (outcome : Outcome) (e : EndsFrom from seen book old mid) → is_ended outcome.end book → IsOurs mid book
+pub all_moved : (from : Standing) (h : HubSeen) (old mid : KeptSeen) (disk : DiskSeen)
+    (outcome : Outcome) (e : EndsFrom from h old mid) → is_ended outcome.end h.book → IsOurs mid h.book
     → (c : HasConcluded outcome mid disk)
     → Moves (StaysSound from e.now e.come) (Unit {0}) old (record { saves = c.saves; disk = disk })
-all_moved from seen book old mid disk outcome e is ours c =
+all_moved from h old mid disk outcome e is ours c =
     moves_on (IfBook outcome.end IsSoundBook) (StaysSound from e.now e.come) (IfBook outcome.end (IsOurs mid))
     (Unit {0}) old mid (record { saves = c.saves; disk = disk })
-    (λ sound. book_has IsSoundBook outcome.end book is
+    (λ sound. book_has IsSoundBook outcome.end h.book is
     (subst IsSoundBook e.its (sound_last from e.come.deeds e.now e.come.course sound)))
-    (λ none. book_has (IsOurs mid) outcome.end book is ours) e.moves c.moves
+    (λ none. book_has (IsOurs mid) outcome.end h.book is ours) e.moves c.moves
 
 safe_moved : (Covers : Type 0) (a b : Option Saves) (x y : DiskSeen) → moves Covers (Unit {0}) a x b y → Covers
     → IsKeptSafe (savers a) x y
@@ -138,37 +139,39 @@ at_limit (Stranded own) b is within = tt
 at_limit Memory b is within = tt
 
 -- what is known of the ending book
-pub record IsEndingBook (b : BookState) (end : End) (book : BookState) : Type 0 where
+pub record IsEndingBook (b : BookState) (end : End) (wants : Bool) (book : BookState) : Type 0 where
   pub made : IsBook b
   pub ended : is_ended end book
+  pub lacks : IfBook end (λ own. wants ≡ false)
   pub same : IsSameRun b book
   pub within : IsWithin b
   pub alive : AreAlive b
   pub feasible : IfBook end HasFeasible
   pub right : IfAnswered end (λ own. IsSoundBook own → IsRight own)
 
-pub solved_coordinated : (b : BookState) (faults : ℕ) (seen : CrewSeen)
-    (book : BookState) (old mid : KeptSeen) (disk : DiskSeen) (outcome : Outcome)
-    → EndsFrom (beginning b faults) seen book old mid → IsEndingBook b outcome.end book → IsOurs mid book
+pub solved_coordinated : (b : BookState) (faults : ℕ) (h : HubSeen) (old mid : KeptSeen) (disk : DiskSeen)
+    (outcome : Outcome) → EndsFrom (beginning b faults) h old mid → IsEndingBook b outcome.end h.wants h.book
+    → IsOurs mid h.book
     → HasConcluded outcome mid disk
-    → HasCoordinated b seen outcome.end (IsKeptSafe (savers old.saves) old.disk disk)
-solved_coordinated b faults seen book old mid disk outcome e is ours c = record {
-  faults = faults;
+    → HasCoordinated b faults h.crew outcome.end (IsKeptSafe (savers old.saves) old.disk disk)
+solved_coordinated b faults h old mid disk outcome e is ours c = record {
   now = e.now;
   come = e.come;
   made = inl is.made;
   shown = e.shown;
   closed = e.closed;
   ended = subst (is_ended outcome.end) (sym e.its) is.ended;
-  same = book_has (IsSameRun b) outcome.end book is.ended is.same;
+  failed = e.faults;
+  wants = subst (λ (w : Bool). IfBook outcome.end (λ own. w ≡ false)) (sym e.wants) is.lacks;
+  same = book_has (IsSameRun b) outcome.end h.book is.ended is.same;
   feasible = is.feasible;
-  limited = at_limit outcome.end book is.ended (subst IsWithin e.its
+  limited = at_limit outcome.end h.book is.ended (subst IsWithin e.its
       (course_within (beginning b faults) e.come.deeds e.now e.come.course is.within));
   causes = λ rank there dead.
       dead_has_cause (beginning b faults) e.come.deeds e.now rank e.come.course (is.alive rank there) dead;
   right = is.right;
   safe = λ sound. safe_moved (StaysSound (beginning b faults) e.now e.come) old.saves c.saves old.disk disk
-      (all_moved (beginning b faults) seen book old mid disk outcome e is.ended ours c) sound;
+      (all_moved (beginning b faults) h old mid disk outcome e is.ended ours c) sound;
 }
 
 -- ---- what stands on the disk
@@ -211,13 +214,13 @@ some_saver Covers Ours None b x y P one holds = tt
 some_saver Covers Ours (Some a) None x y P one holds = absurd one
 some_saver Covers Ours (Some a) (Some b) x y P one holds = holds
 
-pub solved_kept : (o : Opening) (from : Standing) (seen : CrewSeen) (book : BookState) (old mid : KeptSeen)
-    (disk : DiskSeen) (outcome : Outcome) → EndsFrom from seen book old mid → is_ended outcome.end book
-    → IsOurs mid book → IfSome old.saves (IsBegun o) → HasConcluded outcome mid disk
+pub solved_kept : (o : Opening) (from : Standing) (h : HubSeen) (old mid : KeptSeen) (disk : DiskSeen)
+    (outcome : Outcome) → EndsFrom from h old mid → is_ended outcome.end h.book → IsOurs mid h.book
+    → IfSome old.saves (IsBegun o) → HasConcluded outcome mid disk
     → HasKept (opening_book o) (savers old.saves) outcome old.disk disk
-solved_kept o from seen book old mid disk outcome e is ours own c =
+solved_kept o from h old mid disk outcome e is ours own c =
     kept_moved o outcome old.saves c.saves old.disk disk (StaysSound from e.now e.come) own
-    (all_moved from seen book old mid disk outcome e is ours c) c.missed c.unsaved
+    (all_moved from h old mid disk outcome e is ours c) c.missed c.unsaved
     (some_saver (StaysSound from e.now e.come) (Unit {0}) old.saves mid.saves old.disk mid.disk
     (IsSavedOrCounted outcome disk.told) e.moves
     (saved_end outcome mid.saves c.saves mid.disk disk c.became c.missed c.unsaved))

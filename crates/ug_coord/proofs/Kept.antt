@@ -9,7 +9,6 @@ use Rattle.ug_restart.specs.declared.saves.Saves.{Saves}
 use Rattle.ug_restart.specs.Saves.{book_of}
 use Rattle.ug_restart.specs.Going.{time}
 use Rattle.ug_restart.proofs.Going.{goes_nowhere, goes_on, goes_where}
-use Rattle.ug_io.specs.Crews.{CrewSeen}
 use Rattle.ug_coord.proofs.Coursing.{course_more}
 use Rattle.ug_coord.specs.Deeds.{AreSound, Deed, Does, IsCourse, Standing}
 use Rattle.ug_coord.specs.Hubs.{AnyPhase, EndsFrom, HasCome, HubSeen, IsKeptIn, IsOnIn, Phase, StaysSound, standing}
@@ -186,7 +185,7 @@ pub kept_ours : (P : Phase → Type 0) (from : Standing) (h : HubSeen) (old new 
 kept_ours P from h old new b c k same ours =
     ours_on (StaysSound from (standing k.on.said k.phase h) k.on.come) (Unit {0}) old new b c k.moves same ours
 
-pub ends_ours : (from : Standing) (seen : CrewSeen) (book : BookState) (old new : KeptSeen) (b c : BookState)
-    → EndsFrom from seen book old new → IsSameRun b c → IsOurs old b → IsOurs new c
-ends_ours from seen book old new b c e same ours =
+pub ends_ours : (from : Standing) (h : HubSeen) (old new : KeptSeen) (b c : BookState)
+    → EndsFrom from h old new → IsSameRun b c → IsOurs old b → IsOurs new c
+ends_ours from h old new b c e same ours =
     ours_on (StaysSound from e.now e.come) (Unit {0}) old new b c e.moves same ours

@@ -15,6 +15,7 @@ use Rattle.ug_frames.specs.OrderFrames as orders
 use Rattle.ug_frames.specs.ReportFrames as reports
 use Rattle.ug_stream.specs.Streams.{IsBadAt, IsGiven, Waiting, fed, first, shut}
 use Rattle.ug_rules.specs.declared.heard.Heard.{Heard}
+use Rattle.ug_rules.specs.declared.heard.Heard.TheVariants.{Memory}
 use Rattle.ug_rules.specs.State.{BookState}
 use Rattle.ug_rules.specs.Books.{IsSoundBook}
 use Rattle.ug_rules.specs.Deaths.{killed}
@@ -24,19 +25,36 @@ use Rattle.ug_book.specs.Reads.{IsOrderTold}
 use Rattle.ug_coord.specs.Ends.{IsOver}
 
 -- what a coordinator does next: it decides; or it was decided, and it hears what comes; or something
--- came, and it reads what that is
+-- came, and it reads what that is; or it tells the end, and nothing else any more
 pub data Pace : Type 0 where
   Deciding : Pace
   Hearing : Pace
   Reading : Pace
+  Closing : Pace
+
+-- a decision was not what came last
+abbrev pub MayDecide : Pace → Type 0
+MayDecide Deciding = Unit {0}
+MayDecide Hearing = ⊥
+MayDecide Reading = Unit {0}
+MayDecide Closing = ⊥
+
+-- what is there may be read
+abbrev pub MayBeRead : Pace → Type 0
+MayBeRead Deciding = ⊥
+MayBeRead Hearing = Unit {0}
+MayBeRead Reading = Unit {0}
+MayBeRead Closing = ⊥
 
 -- what was heard and told and who is gone; who lives; how often the crew failed, and whether a turn
--- did; what comes next; the bytes of each rank of which no report was taken yet; and the book
+-- did; whether memory was wanting; what comes next; the bytes of each rank of which no report was
+-- taken yet; and the book
 pub record Standing : Type 0 where
   pub said : List Exchange
   pub lives : List Bool
   pub faults : ℕ
   pub broken : Bool
+  pub wants : Bool
   pub pace : Pace
   pub streams : List Waiting
   pub book : BookState
@@ -91,12 +109,12 @@ pub record IsHearing (old : Standing) : Type 0 where
 -- and it was decided, or something came
 pub record IsReading (old : Standing) : Type 0 where
   pub settled : IsSettled old
-  pub decided : old.pace ≢ Deciding
+  pub decided : MayBeRead old.pace
 
 -- a decision is due, and no end
 pub record IsDeciding (old : Standing) : Type 0 where
   pub more : ¬ IsOver old.book
-  pub due : old.pace ≢ Hearing
+  pub due : MayDecide old.pace
 
 -- the problem's order, with the book's gap
 pub record IsSetUp (old new : Standing) (rank : ℕ) (bytes : List ℕ) : Type 0 where
@@ -107,6 +125,11 @@ pub record IsSetUp (old new : Standing) (rank : ℕ) (bytes : List ℕ) : Type 0
     said = old.said ++ told_to rank (orders.spelled (Setup old.book.settings.gap bytes));
   }
 
+-- where memory is not wanting now, it was not before, nor for what is answered
+pub record IsMoreWanted (answer : Heard) (old new : Bool) : Type 0 where
+  pub before : new ≡ false → old ≡ false
+  pub now : new ≡ false → answer ≢ Memory
+
 -- a report was given by the bytes of its rank, and heard
 pub record IsTaken (old new : Standing) (rank : ℕ) (report : Report) (answer : Heard)
     : Type 0 where
@@ -115,7 +138,9 @@ pub record IsTaken (old new : Standing) (rank : ℕ) (report : Report) (answer :
   pub stream : Waiting
   pub given : IsGiven reports.IsCarried reports.spelled (stream_at old rank) stream report
   pub due : IsDue old.book rank report answer
+  pub wants : IsMoreWanted answer old.wants new.wants
   pub rest : new ≡ record old {
+    wants = new.wants;
     streams = slice_set old.streams rank stream;
     pace = Deciding;
     book = after_hearing answer rank report old.book;
@@ -129,19 +154,24 @@ pub record IsNonsense (old new : Standing) (rank : ℕ) : Type 0 where
   pub at : ℕ
   pub bad : IsBadAt reports.IsCarried reports.spelled (stream_at old rank) stream at
   pub streams : new.streams ≡ slice_set old.streams rank stream
+  pub faults : new.faults ≡ old.faults
 
--- it ended, and the crew says so
+-- it ended, and the crew says so, which counts as a fault
 pub record HasEnded (old new : Standing) (rank : ℕ) : Type 0 where
   pub hearing : IsHearing old
   pub alive : lives_at old rank ≡ true
   pub said : new.said ≡ old.said ++ Gone rank ∷ []
   pub streams : new.streams ≡ old.streams
+  pub faults : Rose old.faults new.faults
+
+-- a turn failed before, or a call for the rank did now
+abbrev pub IsFault : Standing → Standing → Type 0
+IsFault old new = ((old.broken ≡ true) × (new.faults ≡ old.faults)) ⊎ Rose old.faults new.faults
 
 -- why it is gone, and what the crew says of it then
 abbrev pub IsCause : Standing → Standing → ℕ → Cause → Type 0
 IsCause old new rank Ended = HasEnded old new rank
-IsCause old new rank Failed = (new.said ≡ old.said)
-    × ((old.broken ≡ true) ⊎ Rose old.faults new.faults) × (new.streams ≡ old.streams)
+IsCause old new rank Failed = (new.said ≡ old.said) × IsFault old new × (new.streams ≡ old.streams)
 IsCause old new rank Nonsense = IsNonsense old new rank
 
 -- what comes next
@@ -156,6 +186,7 @@ pub record IsLost (old new : Standing) (rank : ℕ) (cause : Cause) : Type 0 whe
   pub why : IsCause old new rank cause
   pub lives : new.lives ≡ slice_set old.lives rank false
   pub broken : new.broken ≡ old.broken
+  pub wants : new.wants ≡ old.wants
   pub pace : new.pace ≡ next_after cause old.pace
   pub book : new.book ≡ killed rank old.book
 
@@ -192,7 +223,7 @@ pub record IsUnsent (old new : Standing) (rank : ℕ) (order : Order) : Type 0 w
 pub record IsUnwritten (old new : Standing) (rank : ℕ) (order : Order) : Type 0 where
   pub alive : lives_at old rank ≡ true
   pub told : IsOrderTold old.book new.book (record { rank = rank; order = order })
-  pub rest : new ≡ record old { book = new.book }
+  pub rest : new ≡ record old { wants = true; book = new.book }
 
 -- bytes came, and stand in the stream of their rank
 pub record IsFed (old new : Standing) (rank : ℕ) (bytes : List ℕ) : Type 0 where
@@ -210,15 +241,30 @@ pub record IsUnfed (old new : Standing) (rank : ℕ) (bytes : List ℕ) : Type 0
   pub alive : lives_at old rank ≡ true
   pub rest : new ≡ record old {
     said = old.said ++ heard_from rank bytes;
+    wants = true;
     streams = slice_set old.streams rank (shut (stream_at old rank));
     pace = Reading;
   }
 
--- it was decided, or so many steps of that stand
-pub record HasDecided (Is : BookState → BookState → Type 0) (old new : Standing) : Type 0 where
+-- it was decided, or so many steps of that stand; and whether memory is wanting then
+pub record HasDecided (Is : BookState → BookState → Type 0) (wants : Bool) (old new : Standing)
+    : Type 0 where
   pub deciding : IsDeciding old
   pub is : Is old.book new.book
-  pub rest : new ≡ record old { book = new.book; pace = Hearing }
+  pub rest : new ≡ record old { wants = wants; book = new.book; pace = Hearing }
+
+-- the end was told to a rank that lives
+pub record IsClosed (old new : Standing) (rank : ℕ) : Type 0 where
+  pub alive : lives_at old rank ≡ true
+  pub rest : new ≡ record old {
+    said = old.said ++ told_to rank (orders.spelled End);
+    pace = Closing;
+  }
+
+-- that failed
+pub record IsUnclosed (old new : Standing) : Type 0 where
+  pub faults : Rose old.faults new.faults
+  pub rest : new ≡ record old { faults = new.faults; pace = Closing }
 
 -- a turn failed
 pub record HasBroken (old new : Standing) : Type 0 where
@@ -231,21 +277,20 @@ abbrev pub Does : Standing → Deed → Standing → Type 0
 Does old (Launched rank) new = (lives_at old rank ≡ false)
     × (new ≡ record old { lives = slice_set old.lives rank true })
 Does old (SetUp rank bytes) new = IsSetUp old new rank bytes
-Does old (Closed rank) new = (lives_at old rank ≡ true)
-    × (new ≡ record old { said = old.said ++ told_to rank (orders.spelled End) })
+Does old (Closed rank) new = IsClosed old new rank
 Does old (Came rank bytes) new = IsFed old new rank bytes
 Does old (Took rank report answer) new = IsTaken old new rank report answer
 Does old (Lost rank cause) new = IsLost old new rank cause
-Does old Decided new = HasDecided IsDecided old new
+Does old Decided new = HasDecided IsDecided old.wants old new
 Does old (Sent rank order) new = IsSent old new rank order
 Does old (Unsent rank order) new = IsUnsent old new rank order
 Does old (Passed rank order) new = IsPassed old new rank order
 Does old Broke new = HasBroken old new
-Does old (Unclosed rank) new = Rose old.faults new.faults × (new ≡ record old { faults = new.faults })
-Does old (Halted steps) new = HasDecided (Stands steps) old new
+Does old (Unclosed rank) new = IsUnclosed old new
+Does old (Halted steps) new = HasDecided (Stands steps) true old new
 Does old (Unwritten rank order) new = IsUnwritten old new rank order
 Does old (Unfed rank bytes) new = IsUnfed old new rank bytes
-Does old Unread new = IsReading old × (new ≡ record old { pace = Deciding })
+Does old Unread new = IsReading old × (new ≡ record old { wants = true; pace = Deciding })
 
 -- the end was told to the rank in one of the deeds, or that failed
 abbrev pub IsToldEnd : ℕ → List Deed → Type 0

@@ -7,6 +7,7 @@ use Rattle.ug_coord.specs.Hubs.{HubSeen}
 abbrev pub hub_seen : {R O C : Type 0} → (C → CrewSeen) → Hub R O C → HubSeen
 hub_seen seen hub = record {
   crew = seen hub.crew;
+  wants = hub.wants;
   streams = hub.streams.items;
   book = hub.book;
 }

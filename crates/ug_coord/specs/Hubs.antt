@@ -1,5 +1,5 @@
 -- How a coordinator stands to its crew, and how its work ends.
-use Rattle.std.specs.Prelude.{◌≡◌, ◌≢◌, ◌⊎◌, ◌+◌, ℕ, ◌<◌, Bool, true, false, List, [], length}
+use Rattle.std.specs.Prelude.{◌≡◌, ◌⊎◌, ◌+◌, ℕ, ◌<◌, ◌≤◌, Bool, true, false, List, [], length}
 use Rattle.std.specs.Prelude.{replicate, slice_index_or, slice_set, IfSome}
 use Rattle.ug_io.specs.declared.crew.Exchange.{Exchange}
 use Rattle.ug_io.specs.Crews.{Adds, CrewSeen, told_to}
@@ -18,8 +18,8 @@ use Rattle.ug_frames.specs.declared.report.Report.{Report}
 use Rattle.ug_restart.specs.declared.outcome.End.{End}
 use Rattle.ug_restart.specs.Outcomes.{HasFeasible, IfAnswered, IfBook, IfLimited, IsRight}
 use Rattle.ug_coord.specs.Ends.{IsAtLimit, is_ended, ranks_of}
-use Rattle.ug_coord.specs.Deeds.{AreSound, Deciding, Deed, Hearing, IsCourse, IsToldEnd, Pace}
-use Rattle.ug_coord.specs.Deeds.{Standing, lives_at}
+use Rattle.ug_coord.specs.Deeds.{AreSound, Deciding, Deed, IsCourse, IsMoreWanted, IsToldEnd, MayBeRead}
+use Rattle.ug_coord.specs.Deeds.{MayDecide, Pace, Standing, lives_at}
 use Rattle.ug_ranks.specs.Looks.{is_alive}
 use Rattle.ug_ranks.specs.States.{state_at}
 use Rattle.ug_coord.specs.Causes.{HasCause}
@@ -32,6 +32,7 @@ beginning b faults = record {
   lives = replicate (ranks_of b) false;
   faults = faults;
   broken = false;
+  wants = false;
   pace = Deciding;
   streams = replicate (ranks_of b) first;
   book = b;
@@ -46,10 +47,11 @@ pub record HasCome (from now : Standing) : Type 0 where
 abbrev pub StaysSound : (from now : Standing) → HasCome from now → Type 0
 StaysSound from now come = AreSound from come.deeds now come.course
 
--- what is seen of a coordinator: its crew, the bytes of each rank of which no report was taken yet,
--- and its book
+-- what is seen of a coordinator: its crew, whether memory was wanting, the bytes of each rank of
+-- which no report was taken yet, and its book
 pub record HubSeen : Type 0 where
   pub crew : CrewSeen
+  pub wants : Bool
   pub streams : List Waiting
   pub book : BookState
 
@@ -106,6 +108,7 @@ standing said phase h = record {
   lives = h.crew.lives;
   faults = h.crew.faults;
   broken = phase.broken;
+  wants = h.wants;
   pace = phase.pace;
   streams = h.streams;
   book = h.book;
@@ -128,11 +131,11 @@ is_next pace phase = phase.pace ≡ pace
 
 -- a decision is not what was made last; one may be due
 abbrev pub IsRested : Phase → Type 0
-IsRested phase = phase.pace ≢ Hearing
+IsRested phase = MayDecide phase.pace
 
 -- what is there may be read
 abbrev pub MayRead : Phase → Type 0
-MayRead phase = phase.pace ≢ Deciding
+MayRead phase = MayBeRead phase.pace
 
 -- a turn failed, and a decision is due
 pub record IsBrokenOff (phase : Phase) : Type 0 where
@@ -168,29 +171,34 @@ pub record IsFresh (seen : CrewSeen) (ranks : ℕ) : Type 0 where
   pub said : IfSome seen.said (λ said. said ≡ [])
   pub lives : seen.lives ≡ replicate ranks false
 
--- Deeds led from that standing to one with this book, and the crew, where it tells what was said,
--- tells the same. Each rank that lives was told the end, or that failed. What is saved went on beside
--- them.
-pub record EndsFrom (from : Standing) (seen : CrewSeen) (book : BookState) (old new : KeptSeen)
-    : Type 0 where
+-- Deeds led from that standing to one with this book, and memory was wanting or not. The crew, where
+-- it tells what was said, tells the same, and has failed no less often. Each rank that lives was told
+-- the end, or that failed. What is saved went on beside them.
+pub record EndsFrom (from : Standing) (h : HubSeen) (old new : KeptSeen) : Type 0 where
   pub now : Standing
   pub come : HasCome from now
-  pub shown : IfSome seen.said (λ told. told ≡ now.said)
-  pub its : now.book ≡ book
+  pub shown : IfSome h.crew.said (λ told. told ≡ now.said)
+  pub its : now.book ≡ h.book
+  pub wants : now.wants ≡ h.wants
+  pub faults : now.faults ≤ h.crew.faults
   pub closed : (rank : ℕ) → lives_at now rank ≡ true → IsToldEnd rank come.deeds
   pub moves : Moves (StaysSound from now come) (Unit {0}) old new
 
--- How the work ended: deeds led from the beginning with this book to the end, none where memory was
--- wanting for the book itself. The crew, where it tells what was said, tells the same. Each rank that
--- lives was told the end, or that failed. Where each book of them was sound, it was safe.
-pub record HasCoordinated (b : BookState) (seen : CrewSeen) (end : End) (Safe : Type 0) : Type 0 where
-  pub faults : ℕ
+-- How the work ended: deeds led from the beginning with this book and a crew that had failed so often
+-- to the end, none where memory was wanting for the book itself. The crew, where it tells what was
+-- said, tells the same, and has failed no less often. Each rank that lives was told the end, or that
+-- failed. Memory was wanting in none of the deeds where there is a book. Where each book of them was
+-- sound, it was safe.
+pub record HasCoordinated (b : BookState) (faults : ℕ) (seen : CrewSeen) (end : End) (Safe : Type 0)
+    : Type 0 where
   pub now : Standing
   pub come : HasCome (beginning b faults) now
   pub made : IsBook b ⊎ (come.deeds ≡ [])
   pub shown : IfSome seen.said (λ told. told ≡ now.said)
   pub closed : (rank : ℕ) → lives_at now rank ≡ true → IsToldEnd rank come.deeds
   pub ended : is_ended end now.book
+  pub failed : now.faults ≤ seen.faults
+  pub wants : IfBook end (λ book. now.wants ≡ false)
   pub same : IfBook end (IsSameRun b)
   pub feasible : IfBook end HasFeasible
   pub limited : IfLimited end IsAtLimit
@@ -219,4 +227,8 @@ pub record HasHeardReport (old new : HubSeen) (rank : ℕ) (report : Report) : T
   pub answer : Heard
   pub due : IsDue old.book rank report answer
   pub ranks : ranks_of new.book ≡ ranks_of old.book
-  pub rest : new ≡ record old { book = after_hearing answer rank report old.book }
+  pub wants : IsMoreWanted answer old.wants new.wants
+  pub rest : new ≡ record old {
+    wants = new.wants;
+    book = after_hearing answer rank report old.book;
+  }

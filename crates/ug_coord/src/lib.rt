@@ -5,9 +5,11 @@
 //! What it did is a course of deeds by the rules of the book, which the crew's bytes show.
 #![tactic(auto)]
 
+mod hearing;
 mod hub;
 mod keeper;
 mod solving;
 mod streams;
+mod telling;
 
 pub use solving::{Coordinated, coordinate};

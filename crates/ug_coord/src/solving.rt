@@ -51,8 +51,9 @@ pub fn coordinate<R: Wait, D: Disk, O: Observer, C: Crew + Drop>(
     requires fresh { IsFresh (C.seen crew) (ranks_of (opening_book opening.now)) }
 
     // The book at the end comes from the opening's by the rules.
-    ensures coordinated { HasCoordinated (opening_book opening.now) (C.seen result.crew)
-        result.outcome.end (IsKeptSafe saver (D.seen disk.old) (D.seen disk.new)) }
+    ensures coordinated { HasCoordinated (opening_book opening.now) (C.seen crew).faults
+        (C.seen result.crew) result.outcome.end
+        (IsKeptSafe saver (D.seen disk.old) (D.seen disk.new)) }
 
     // What stands on the disk.
     ensures kept { HasKept (opening_book opening.now) saver result.outcome
@@ -114,8 +115,8 @@ fn solve<R: Wait, D: Disk, O: Observer, C: Crew + Drop>(
     requires kept { IsKeptBy (kept_seen keeper (D.seen disk.old)) }
     requires begun { IfSome keeper.saves (IsBegun opening.now) }
     requires fresh { IsFresh (C.seen crew) (ranks_of (opening_book opening.now)) }
-    ensures coordinated { HasCoordinated (opening_book opening.now) (C.seen result.crew)
-        result.outcome.end
+    ensures coordinated { HasCoordinated (opening_book opening.now) (C.seen crew).faults
+        (C.seen result.crew) result.outcome.end
         (IsKeptSafe (savers keeper.saves) (D.seen disk.old) (D.seen disk.new)) }
     ensures kept { HasKept (opening_book opening.now) (savers keeper.saves) result.outcome
         (D.seen disk.old) (D.seen disk.new) }
@@ -260,6 +261,7 @@ fn setup_of(alloc: Global, book: &Book) -> Result<Vec<u8>, AllocError>
 fn end_of(book: Book, wants: bool) -> End
     requires { wants ≡ false → IsOver book }
     ensures ended { is_ended result book }
+    ensures lacks { IfBook result (λ b. wants ≡ false) }
     ensures feasible { IfBook result HasFeasible }
     ensures right { IfAnswered result (λ b. IsSoundBook b → IsRight b) }
 {

@@ -11,8 +11,8 @@ solve-requires-clause-begun g c κs within = begun_so c.args.opening.now c.args.
 
 pub returns-in-Ok-clause-coordinated : goal.returns-in-Ok-clause-coordinated
 returns-in-Ok-clause-coordinated g c =
-    subst (λ s. HasCoordinated (opening_book c.args.opening.now) (g.C.Crew.seen c.solve.result.crew)
-    c.solve.result.outcome.end (IsKeptSafe s (g.D.Disk.seen c.args.disk.now) (g.D.Disk.seen c.solve.new.disk)))
+    subst (λ s. HasCoordinated (opening_book c.args.opening.now) (g.C.Crew.seen c.args.crew).faults
+    (g.C.Crew.seen c.solve.result.crew) c.solve.result.outcome.end (IsKeptSafe s (g.D.Disk.seen c.args.disk.now) (g.D.Disk.seen c.solve.new.disk)))
     (sym (its_saver c.args.opening.now c.args.saver _ c.in-Ok.ensures)) c.solve.ensures.coordinated
 
 pub returns-in-Ok-clause-kept : goal.returns-in-Ok-clause-kept

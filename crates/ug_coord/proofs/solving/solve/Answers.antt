@@ -1,4 +1,4 @@
-use Rattle.std.proofs.Common.{sym, ap, subst, ◌∙◌, arith}
+use Rattle.std.proofs.Common.{◌≡◌, false, refl, sym, ap, subst, ◌∙◌, arith}
 use Rattle.std.specs.Prelude.{replicate}
 use Rattle.ug_stream.specs.Streams.{first}
 use Rattle.ug_rules.specs.State.{BookState}
@@ -7,6 +7,7 @@ use Rattle.ug_book.specs.Openings.{opening_book}
 use Rattle.ug_restart.specs.Outcomes.{HasFeasible, IfAnswered, IfBook, IsRight}
 use Rattle.ug_coord.specs.Ends.{is_ended, ranks_of}
 use Rattle.ug_coord.specs.Hubs.{beginning}
+use Rattle.ug_coord.specs.HubViews.{hub_seen}
 use Rattle.ug_coord.specs.Keeping.{HasTriedEach, savers}
 use Rattle.ug_coord.specs.Keepers.{kept_seen}
 use Rattle.ug_coord.proofs.Coursing.{begun_on}
@@ -29,7 +30,7 @@ pub run-requires-clause-on : goal.run-requires-clause-on
 run-requires-clause-on g c κs within = (
   beginning (opening_book c.args.opening.now) (g.C.Crew.seen c.args.crew).faults,
   begun_on (opening_book c.args.opening.now) _ c.requires.fresh c.in-Ok.ensures.book
-      (c.in-Ok.ensures.streams ∙ ap (λ (b : BookState). replicate (ranks_of b) first) c.in-Ok.ensures.book),
+      (c.in-Ok.ensures.streams ∙ ap (λ (b : BookState). replicate (ranks_of b) first) c.in-Ok.ensures.book) refl,
 )
 
 pub run-requires-clause-ours : goal.run-requires-clause-ours
@@ -43,13 +44,15 @@ returns-clause-coordinated g c =
     let mid = kept_seen c.run.new.keeper (g.D.Disk.seen c.run.new.disk) in
     let ends = c.run.ensures.ends (beginning b faults)
     (begun_on (opening_book c.args.opening.now) _ c.requires.fresh c.in-Ok.ensures.book
-    (c.in-Ok.ensures.streams ∙ ap (λ (b : BookState). replicate (ranks_of b) first) c.in-Ok.ensures.book)) in
-    solved_coordinated b faults (g.C.Crew.seen c.run.new.self.crew) c.run.new.self.book old mid
+    (c.in-Ok.ensures.streams ∙ ap (λ (b : BookState). replicate (ranks_of b) first) c.in-Ok.ensures.book) refl) in
+    solved_coordinated b faults (hub_seen g.C.Crew.seen c.run.new.self) old mid
     (g.D.Disk.seen c.conclude-outcome.new.disk) c.conclude-outcome.result ends
     (record {
       made = subst IsBook c.in-Ok.ensures.book c.in-Ok.ensures.made;
       ended = subst (λ e. is_ended e c.run.new.self.book) (sym c.conclude-outcome.ensures.end)
           c.end_of-end.ensures.ended;
+      lacks = subst (λ e. IfBook e (λ own. c.run.new.self.wants ≡ false)) (sym c.conclude-outcome.ensures.end)
+          c.end_of-end.ensures.lacks;
       same = run_on b _ c.run.new.self.book (same_of b _ c.in-Ok.ensures.book) c.run.ensures.same;
       within = omega arith;
       alive = opening_alive c.args.opening.now;
@@ -57,7 +60,7 @@ returns-clause-coordinated g c =
       right = subst (λ e. IfAnswered e (λ own. IsSoundBook own → IsRight own)) (sym c.conclude-outcome.ensures.end)
           c.end_of-end.ensures.right;
     })
-    (ends_ours (beginning b faults) (g.C.Crew.seen c.run.new.self.crew) c.run.new.self.book old mid _ _ ends
+    (ends_ours (beginning b faults) (hub_seen g.C.Crew.seen c.run.new.self) old mid _ _ ends
     c.run.ensures.same
     (begun_ours c.args.opening.now c.args.keeper.saves _ c.requires.begun c.in-Ok.ensures.book))
     c.conclude-outcome.ensures.concluded
@@ -70,11 +73,11 @@ returns-clause-kept g c =
     let mid = kept_seen c.run.new.keeper (g.D.Disk.seen c.run.new.disk) in
     let ends = c.run.ensures.ends (beginning b faults)
     (begun_on (opening_book c.args.opening.now) _ c.requires.fresh c.in-Ok.ensures.book
-    (c.in-Ok.ensures.streams ∙ ap (λ (b : BookState). replicate (ranks_of b) first) c.in-Ok.ensures.book)) in
-    solved_kept c.args.opening.now (beginning b faults) (g.C.Crew.seen c.run.new.self.crew) c.run.new.self.book old mid
+    (c.in-Ok.ensures.streams ∙ ap (λ (b : BookState). replicate (ranks_of b) first) c.in-Ok.ensures.book) refl) in
+    solved_kept c.args.opening.now (beginning b faults) (hub_seen g.C.Crew.seen c.run.new.self) old mid
     (g.D.Disk.seen c.conclude-outcome.new.disk) c.conclude-outcome.result ends
     (subst (λ e. is_ended e c.run.new.self.book) (sym c.conclude-outcome.ensures.end) c.end_of-end.ensures.ended)
-    (ends_ours (beginning b faults) (g.C.Crew.seen c.run.new.self.crew) c.run.new.self.book old mid _ _ ends
+    (ends_ours (beginning b faults) (hub_seen g.C.Crew.seen c.run.new.self) old mid _ _ ends
     c.run.ensures.same
     (begun_ours c.args.opening.now c.args.keeper.saves _ c.requires.begun c.in-Ok.ensures.book))
     c.requires.begun c.conclude-outcome.ensures.concluded

@@ -1,0 +1,151 @@
+//! What a coordinator hears of its crew, a report at a time.
+
+ghost use Rattle.std.specs.Prelude.{◌≡◌, ◌<◌, [], false, MatchBool};
+ghost use Rattle.ug_rules.specs.Hearing.{IsHearable};
+ghost use Rattle.ug_coord.specs.Deeds.{Deciding, Hearing, Standing};
+ghost use Rattle.ug_coord.specs.Ends.{IsOver, ranks_of};
+ghost use Rattle.ug_coord.specs.Hubs.{AnyPhase, HasHeardReport, HearsOne, IsBrokenOff, IsOnAs};
+ghost use Rattle.ug_coord.specs.Hubs.{IsOnIn, IsQuiet, IsRested, MayRead, Phase, is_next};
+
+use crate::hub::Hub;
+use crate::streams::{Turn, next_of, take_turn};
+use std::sync::Wait;
+use ug_frames::Report;
+use ug_io::Crew;
+use ug_restart::{Dropped, Observer, progress_of};
+use ug_rules::Heard;
+use ug_snapshot::image_of;
+use ug_stream::Next;
+
+impl<'a, R: Wait, O: Observer, C: Crew + Drop> Hub<'a, R, O, C> {
+    ghost use Rattle.ug_coord.specs.HubViews.{hub_seen};
+
+    /// Hears a report that is there, or waits until something comes.
+    pub fn listen(&mut self)
+        requires on { (from : Standing) × IsOnIn (is_next Hearing) from (hub_seen C.seen self.old) }
+        requires more { ¬ IsOver self.old.book }
+        requires told { self.old.book.orders ≡ [] }
+        ensures on { (from : Standing) → IsOnIn (is_next Hearing) from (hub_seen C.seen self.old)
+            → IsOnIn IsRested from (hub_seen C.seen self.new) }
+        ensures hears { HearsOne self.old.book self.new.book }
+    {
+        match self.last {
+            Some(rank) if (rank as usize) < self.streams.len() => {
+                if !self.hear_next(rank) {
+                    self.turn();
+                }
+            }
+            _ => self.turn(),
+        }
+    }
+
+    // Waits until something comes, and hears the first report of it.
+    fn turn(&mut self)
+        requires on { (from : Standing) × IsOnIn (is_next Hearing) from (hub_seen C.seen self.old) }
+        requires more { ¬ IsOver self.old.book }
+        requires told { self.old.book.orders ≡ [] }
+        ensures on { (from : Standing) → IsOnIn (is_next Hearing) from (hub_seen C.seen self.old)
+            → IsOnIn IsRested from (hub_seen C.seen self.new) }
+        ensures hears { HearsOne self.old.book self.new.book }
+    {
+        match take_turn(&mut self.crew, &mut self.streams, &mut self.input) {
+            Turn::Fed { rank } => {
+                self.last = Some(rank);
+                self.hear_next(rank);
+            }
+            Turn::Gone { rank } => self.book.gone(rank),
+            Turn::Failed => self.lose_all(),
+            Turn::Wanting { .. } => self.wants = true,
+        }
+    }
+
+    // Hears the next report of the rank, or that what came is none. False where all of it was
+    // heard.
+    fn hear_next(&mut self, rank: u32) -> bool
+        requires on { (from : Standing) × IsOnIn AnyPhase from (hub_seen C.seen self.old) }
+        requires there { rank < ranks_of self.old.book }
+        requires more { ¬ IsOver self.old.book }
+        requires told { self.old.book.orders ≡ [] }
+        ensures on { MatchBool result
+            ((from : Standing) → IsOnIn MayRead from (hub_seen C.seen self.old)
+            → IsOnIn (is_next Deciding) from (hub_seen C.seen self.new))
+            ((phase : Phase) (from : Standing) → IsOnAs phase from (hub_seen C.seen self.old)
+            → IsOnAs phase from (hub_seen C.seen self.new)) }
+        ensures hears { HearsOne self.old.book self.new.book }
+        ensures nothing { result ≡ false → self.new.book ≡ self.old.book }
+    {
+        match next_of(self.host.alloc, &mut self.streams, rank) {
+            Ok(Next::Message(report)) => {
+                self.hear(rank, report);
+                true
+            }
+            Ok(Next::NeedMore) => {
+                self.last = None;
+                false
+            }
+            Ok(Next::BadFrame { .. }) => {
+                self.last = None;
+                self.lose(rank);
+                self.host.observer.drops(rank, Dropped::Nonsense);
+                true
+            }
+            Err(_) => {
+                self.wants = true;
+                true
+            }
+        }
+    }
+
+    // Hears a report, which its bytes gave.
+    fn hear(&mut self, rank: u32, report: Report)
+        requires there { rank < ranks_of self.old.book }
+        requires hearable { IsHearable report }
+        ensures heard { HasHeardReport (hub_seen C.seen self.old) (hub_seen C.seen self.new) rank
+            report }
+        ensures hears { HearsOne self.old.book self.new.book }
+    {
+        let is_point = is_point(&report);
+        let was_alive = self.book.is_alive(rank);
+        let heard = self.book.hear(rank, report);
+        self.wants = self.wants || heard == Heard::Memory;
+        if was_alive && !self.book.is_alive(rank) {
+            self.host.observer.drops(rank, Dropped::Untrue);
+        }
+        self.observe(is_point && heard == Heard::Kept);
+    }
+
+    // Tells how the run stands, if that is wanted now and memory suffices.
+    fn observe(&self, is_better: bool) {
+        if !self.host.observer.wants(self.book.count(), is_better) {
+            return;
+        }
+        let Ok(image) = image_of(self.host.alloc, &self.book, 1) else {
+            return;
+        };
+        if let Some(progress) = progress_of(self.host.alloc, &image) {
+            self.host.observer.tell(&progress);
+            drop(progress);
+        }
+        drop(image);
+    }
+
+    // A turn failed, so all ranks are gone.
+    fn lose_all(&mut self)
+        requires on { (from : Standing) × IsOnIn IsBrokenOff from (hub_seen C.seen self.old) }
+        ensures on { (from : Standing) → IsOnIn IsBrokenOff from (hub_seen C.seen self.old)
+            → IsOnIn IsBrokenOff from (hub_seen C.seen self.new) }
+        ensures quiet { IsQuiet self.old.book self.new.book }
+    {
+        for rank in 0..self.book.settings().solvers {
+            self.lose(rank);
+        }
+    }
+}
+
+// Whether it tells of a point.
+fn is_point(report: &Report) -> bool {
+    match report {
+        Report::Solution { .. } => true,
+        _ => false,
+    }
+}

@@ -1,0 +1,199 @@
+//! What a coordinator tells its crew: the start, its orders and the end.
+
+ghost use Rattle.std.specs.Prelude.{◌≡◌, ◌<◌, [], suc, false};
+ghost use Rattle.ug_io.specs.Crews.{IsAlive, IsAway};
+ghost use Rattle.ug_frames.specs.Orders.{IsOrder};
+ghost use Rattle.ug_rules.specs.State.{BookState};
+ghost use Rattle.ug_book.specs.Reads.{IsOrderTold};
+ghost use Rattle.ug_coord.specs.Deeds.{Standing};
+ghost use Rattle.ug_coord.specs.Ends.{ranks_of};
+ghost use Rattle.ug_coord.specs.Hubs.{AnyPhase, EndsFrom, IsClosedBelow, IsKeptIn, IsOnAs, IsOnIn};
+ghost use Rattle.ug_coord.specs.Hubs.{IsQuiet, IsSetUpFrame, Phase, launched_or_failed};
+ghost use Rattle.ug_coord.specs.Hubs.{sent_or_failed, without};
+ghost use Rattle.ug_coord.specs.Keeping.{KeptSeen};
+
+use crate::hub::Hub;
+use std::sync::Wait;
+use ug_frames::encode_order;
+use ug_io::Crew;
+use ug_restart::Observer;
+use ug_rules::Told;
+
+// The frame of the order to end.
+const END: &[u8] = &[0, 0, 0, 1, 8];
+
+impl<'a, R: Wait, O: Observer, C: Crew + Drop> Hub<'a, R, O, C> {
+    ghost use Rattle.ug_coord.specs.HubViews.{hub_seen};
+
+    /// The rank is gone: it is heard no more, and the book takes it for dead.
+    pub fn lose(&mut self, rank: u32)
+        requires { rank < ranks_of self.old.book }
+        ensures seen { hub_seen C.seen self.new ≡ without rank (hub_seen C.seen self.old) }
+        ensures quiet { IsQuiet self.old.book self.new.book }
+        ensures frame { self.new.frame ≡ self.old.frame }
+    {
+        if self.crew.is_alive(rank) {
+            self.crew.shut(rank);
+        }
+        self.book.gone(rank);
+    }
+
+    // Tells the frame to the rank. Where that fails it is gone, and false is answered.
+    fn send(&mut self, rank: u32) -> bool
+        requires there { rank < ranks_of self.old.book }
+        requires alive { IsAlive (C.seen self.old.crew) rank }
+        ensures sent { sent_or_failed result (hub_seen C.seen self.old) (hub_seen C.seen self.new)
+            rank self.old.frame.items }
+        ensures quiet { IsQuiet self.old.book self.new.book }
+        ensures frame { self.new.frame ≡ self.old.frame }
+    {
+        if self.crew.send(rank, &self.frame).is_ok() {
+            return true;
+        }
+        self.lose(rank);
+        false
+    }
+
+    // Starts the rank, which does not live. Where that fails it is gone, and false is answered.
+    fn launch(&mut self, rank: u32) -> bool
+        requires away { IsAway (C.seen self.old.crew) rank }
+        requires there { rank < ranks_of self.old.book }
+        ensures launched { launched_or_failed result (hub_seen C.seen self.old)
+            (hub_seen C.seen self.new) rank }
+        ensures quiet { IsQuiet self.old.book self.new.book }
+        ensures frame { self.new.frame ≡ self.old.frame }
+    {
+        if self.crew.launch(rank).is_ok() {
+            return true;
+        }
+        self.lose(rank);
+        false
+    }
+
+    // Starts the rank, and tells it the problem, which the frame is.
+    fn start(&mut self, rank: u32)
+        requires on { (from : Standing) × IsOnIn AnyPhase from (hub_seen C.seen self.old) }
+        requires there { rank < ranks_of self.old.book }
+        requires frame { IsSetUpFrame self.old.book self.old.frame.items }
+        ensures on { (phase : Phase) (from : Standing) → IsOnAs phase from (hub_seen C.seen self.old)
+            → IsOnAs phase from (hub_seen C.seen self.new) }
+        ensures frame { IsSetUpFrame self.new.book self.new.frame.items }
+        ensures quiet { IsQuiet self.old.book self.new.book }
+    {
+        if self.crew.is_alive(rank) {
+            return;
+        }
+        if self.launch(rank) {
+            self.send(rank);
+        }
+    }
+
+    /// Starts each rank, and tells it the problem, which the frame is.
+    pub fn start_all(&mut self)
+        requires on { (from : Standing) × IsOnIn AnyPhase from (hub_seen C.seen self.old) }
+        requires frame { IsSetUpFrame self.old.book self.old.frame.items }
+        ensures on { (phase : Phase) (from : Standing) → IsOnAs phase from (hub_seen C.seen self.old)
+            → IsOnAs phase from (hub_seen C.seen self.new) }
+        ensures quiet { IsQuiet self.old.book self.new.book }
+    {
+        for rank in 0..self.book.settings().solvers {
+            self.start(rank);
+        }
+    }
+
+    // Tells an order that just left the book to its rank, if this lives.
+    fn tell(&mut self, told: Told)
+        requires order { IsOrder told.order }
+        requires on { (from : Standing) × (before : BookState)
+            × IsOnIn AnyPhase from (record (hub_seen C.seen self.old) { book = before })
+            × IsOrderTold before self.old.book told }
+        ensures on { (phase : Phase) (from : Standing) (before : BookState)
+            → IsOnAs phase from (record (hub_seen C.seen self.old) { book = before })
+            → IsOrderTold before self.old.book told
+            → IsOnAs phase from (hub_seen C.seen self.new) }
+        ensures quiet { IsQuiet self.old.book self.new.book }
+    {
+        let rank = told.rank;
+        if !self.crew.is_alive(rank) {
+            drop(told);
+            return;
+        }
+        self.frame.clear();
+        match encode_order(&mut self.frame, &told.order) {
+            Ok(()) => {
+                drop(told);
+                self.send(rank);
+            }
+            Err(_) => {
+                drop(told);
+                self.wants = true;
+            }
+        }
+    }
+
+    // Tells the earliest order that waits. False where none does.
+    fn tell_next(&mut self) -> bool
+        requires on { (from : Standing) × IsOnIn AnyPhase from (hub_seen C.seen self.old) }
+        ensures on { (phase : Phase) (from : Standing) → IsOnAs phase from (hub_seen C.seen self.old)
+            → IsOnAs phase from (hub_seen C.seen self.new) }
+        ensures quiet { IsQuiet self.old.book self.new.book }
+        ensures none { result ≡ false → self.new.book.orders ≡ [] }
+    {
+        // Each order of a book has a frame.
+        let _problem = self.book.problem();
+        match self.book.next_order() {
+            Some(told) => {
+                self.tell(told);
+                true
+            }
+            None => false,
+        }
+    }
+
+    /// Tells all orders that wait.
+    pub fn tell_all(&mut self)
+        requires on { (from : Standing) × IsOnIn AnyPhase from (hub_seen C.seen self.old) }
+        ensures on { (phase : Phase) (from : Standing) → IsOnAs phase from (hub_seen C.seen self.old)
+            → IsOnAs phase from (hub_seen C.seen self.new) }
+        ensures quiet { IsQuiet self.old.book self.new.book }
+        ensures all { self.new.wants ≡ false → self.new.book.orders ≡ [] }
+    {
+        for _ in self.host.rt.forever() {
+            if self.wants {
+                return;
+            }
+            if !self.tell_next() {
+                return;
+            }
+        }
+        unreachable!()
+    }
+
+    // Tells the end to the rank, if it lives.
+    fn end(&mut self, rank: u32)
+        ensures closed { (from : Standing) (old new : KeptSeen)
+            → IsClosedBelow rank from (hub_seen C.seen self.old) old new
+            → IsClosedBelow (suc rank) from (hub_seen C.seen self.new) old new }
+        ensures same { (self.new.book ≡ self.old.book) × (self.new.wants ≡ self.old.wants) }
+    {
+        if self.crew.is_alive(rank) {
+            match self.crew.send(rank, END) {
+                Ok(()) => {}
+                Err(_) => {}
+            }
+        }
+    }
+
+    /// Tells the end to each rank that lives, and waits until all have ended.
+    pub fn close(&mut self)
+        ensures ends { (from : Standing) (old new : KeptSeen)
+            → IsKeptIn AnyPhase from (hub_seen C.seen self.old) old new
+            → EndsFrom from (hub_seen C.seen self.new) old new }
+        ensures same { (self.new.book ≡ self.old.book) × (self.new.wants ≡ self.old.wants) }
+    {
+        for rank in 0..self.book.settings().solvers {
+            self.end(rank);
+        }
+        self.crew.finish();
+    }
+}
