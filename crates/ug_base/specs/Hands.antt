@@ -1,5 +1,5 @@
 -- What handing does: the first of the boxes left is no longer left, and is the last of the boxes
--- handed.
+-- handed. A task hands none where it would have none left; it gives the last one too.
 use Rattle.std.specs.Prelude.{◌≡◌, ◌<◌, ◌≤◌, List, [], ◌∷◌, ◌++◌, length, Option, Some, None}
 use Rattle.ug_rows.specs.declared.area.Interval.{Interval}
 use Rattle.ug_base.specs.declared.handed.Handed.{Handed}
@@ -17,14 +17,28 @@ pub record IsMoved (work : WorkState) (old new : List Part)
   pub area_is : area ≡ area_of work part
   pub last : others_new ≡ others_old ++ area ∷ []
 
--- of two boxes left or more the first is handed, and its number is its place among the boxes
--- handed; nothing else changed
-pub record IsHanded (old new : TaskState) (given : Handed) : Type 0 where
-  pub two : 2 ≤ length old.boxes
+-- the first of the boxes left is handed, and its number is its place among the boxes handed;
+-- nothing else changed
+pub record IsGiven (old new : TaskState) (given : Handed) : Type 0 where
   pub boxes : old.boxes ≡ given.area ∷ new.boxes
   pub handed : new.handed ≡ old.handed ++ given.area ∷ []
   pub number : given.number ≡ length old.handed
   pub same : new ≡ record old { boxes = new.boxes; handed = new.handed }
+
+-- the same, of two boxes left or more
+pub record IsHanded (old new : TaskState) (handed : Handed) : Type 0 where
+  pub two : 2 ≤ length old.boxes
+  pub given : IsGiven old new handed
+
+-- no box was left; nothing changed
+pub record IsNoneGiven (old new : TaskState) : Type 0 where
+  pub none : old.boxes ≡ []
+  pub same : new ≡ old
+
+-- what giving with this answer did
+abbrev pub DidGive : TaskState → TaskState → Option Handed → Type 0
+DidGive old new None = IsNoneGiven old new
+DidGive old new (Some given) = IsGiven old new given
 
 -- fewer than two boxes were left; nothing changed
 pub record IsNoneHanded (old new : TaskState) : Type 0 where

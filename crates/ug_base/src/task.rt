@@ -7,7 +7,7 @@ ghost use Rattle.ug_rows.specs.Sums.{box_floor};
 ghost use Rattle.ug_propagate.specs.Working.{IsBox};
 ghost use Rattle.ug_propagate.specs.declared.resting.Rest.TheVariants.{Unknown};
 ghost use Rattle.ug_base.specs.Covers.{AreCovered};
-ghost use Rattle.ug_base.specs.Hands.{DidHand, HandsLess};
+ghost use Rattle.ug_base.specs.Hands.{DidGive, DidHand, HandsLess};
 ghost use Rattle.ug_base.specs.Steps.{LeavesLess, TookStep};
 ghost use Rattle.ug_base.specs.Tasks.{AreBelow, BoundsTheRest, IsLeastFloor, lesser_of};
 ghost use Rattle.ug_problem.specs.Better.{AreAllHanded, HasNoGood, IsGap, IsSmallCutoff, cutoff_of};
@@ -234,6 +234,20 @@ impl Task {
         ensures err { OnErr result (self.new ≡ self.old) }
     {
         if self.parts.len() < 2 {
+            return Ok(None);
+        }
+        self.give()
+    }
+
+    /// Hands the first box left to another, the last one too, so that a task may end before all of it
+    /// is searched. None is handed exactly where none is left. After an error it is as it was.
+    pub fn give(&mut self) -> Result<Option<Handed>, AllocError>
+        ensures given { IfOk result (DidGive self.old self.new) }
+        ensures none { IfOk result (λ given. IsNone given ↔ (self.old.boxes ≡ [])) }
+        ensures less { IfOk result (HandsLess self.old self.new) }
+        ensures err { OnErr result (self.new ≡ self.old) }
+    {
+        if self.parts.is_empty() {
             return Ok(None);
         }
         let number = self.handed.len() as u64;

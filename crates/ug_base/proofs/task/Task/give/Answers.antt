@@ -2,7 +2,7 @@ use Rattle.std.proofs.Common.{refl}
 use Rattle.ug_base.specs.Views.{state_of}
 use Rattle.ug_base.proofs.Chains.{chain_rest}
 use Rattle.ug_base.proofs.HandLemmas.{handed_task}
-use Rattle.ug_base.proofs.task.Task.hand.Goals as goal
+use Rattle.ug_base.proofs.task.Task.give.Goals as goal
 
 pub invariant_of-self-2 : goal.invariant_of-self-2
 invariant_of-self-2 c =
