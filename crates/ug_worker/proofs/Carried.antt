@@ -14,6 +14,7 @@ use Rattle.ug_frames.specs.Reports.{IsReport}
 use Rattle.ug_frames.proofs.OfProblem.{changes_fit, point_fits}
 use Rattle.ug_base.specs.Tasks.{AreBelow, IsTask, TaskState}
 use Rattle.ug_worker.specs.declared.kept.Kept.{Kept}
+use Rattle.ug_worker.specs.declared.tally.Tally.{Tally}
 use Rattle.ug_worker.specs.Engagements.{Engaged, IsFoundBy, IsHandedBy}
 use Rattle.ug_worker.specs.Seats.{Agrees}
 use Rattle.ug_worker.proofs.Seating.{handed_agrees}
@@ -47,17 +48,17 @@ solution_carried k e f x a h = record {
       (sym (ap (λ (t : TaskState). t.problem) h.found.same)) h.found.good.feasible);
 }
 
-pub handed_area : (k : Kept) (e f : Engaged) (number : ℕ) (area : List Interval) → Agrees k e
-    → IsHandedBy e number area f → IsBelow area (root_of k.problem)
-handed_area k e f number area a h =
-    subst (λ (p : Instance). IsBelow area (root_of p)) (handed_agrees k e f number area a h).problem
+pub handed_area : (k : Kept) (tally : Tally) (e f : Engaged) (number : ℕ) (area : List Interval) → Agrees k e
+    → IsHandedBy tally e number area f → IsBelow area (root_of k.problem)
+handed_area k tally e f number area a h =
+    subst (λ (p : Instance). IsBelow area (root_of p)) (handed_agrees k tally e f number area a h).problem
     (handed_below f.task h.task.handed area h.own h.handed.handed)
 
-pub hand_carried : (k : Kept) (e f : Engaged) (number : ℕ) (area : List Interval) (changes : List Change)
-    → Agrees k e → IsHandedBy e number area f → IsRising changes
+pub hand_carried : (k : Kept) (tally : Tally) (e f : Engaged) (number : ℕ) (area : List Interval) (changes : List Change)
+    → Agrees k e → IsHandedBy tally e number area f → IsRising changes
     → Spells (root_of k.problem) changes area → IsReport (Hand k.ticket number changes)
-hand_carried k e f number area changes a h rising spells = record {
+hand_carried k tally e f number area changes a h rising spells = record {
   given = a.given;
   fields = changes_fit k.problem changes
-      (subst IsProblem (handed_agrees k e f number area a h).problem h.own.problem) rising spells.valid;
+      (subst IsProblem (handed_agrees k tally e f number area a h).problem h.own.problem) rising spells.valid;
 }

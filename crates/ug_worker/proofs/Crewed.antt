@@ -43,7 +43,7 @@ taken_of (Came bytes ∷ deeds) = taken_of deeds
 taken_of (Took order ∷ deeds) = order ∷ taken_of deeds
 taken_of (Told report ∷ deeds) = taken_of deeds
 
-taken_carried : (a : Standing) (deeds : List Deed) (b : Standing) → IsCourse a deeds b
+pub taken_carried : (a : Standing) (deeds : List Deed) (b : Standing) → IsCourse a deeds b
     → All orders.IsCarried (taken_of deeds)
 taken_carried a [] b same = All-nil orders.IsCarried
 taken_carried a (Came bytes ∷ deeds) b (mid, does, more) = taken_carried mid deeds b more
@@ -52,7 +52,7 @@ taken_carried a (Took order ∷ deeds) b (mid, does, more) =
 taken_carried a (Told report ∷ deeds) b (mid, does, more) = taken_carried mid deeds b more
 
 -- it is their frames, and what waits
-heard_parts : (a : Standing) (deeds : List Deed) (b : Standing) (before : List ℕ) → a.waiting.bad ≡ false
+pub heard_parts : (a : Standing) (deeds : List Deed) (b : Standing) (before : List ℕ) → a.waiting.bad ≡ false
     → heard_in a.said ≡ before ++ a.waiting.bytes → IsCourse a deeds b
     → heard_in b.said ≡ (before ++ flat_map orders.spelled (taken_of deeds)) ++ b.waiting.bytes
 heard_parts a [] b before fine same course =
@@ -80,7 +80,7 @@ heard_parts a (Told report ∷ deeds) b before fine same (mid, does, more) =
 
 -- ---- reports and orders, the latest first
 
-reports_turned : (past deeds : List Deed) (report : Report)
+pub reports_turned : (past deeds : List Deed) (report : Report)
     → Contains (reports_in (turned past deeds)) report
     → Contains (reports_in past) report ⊎ Contains (reports_of deeds) report
 reports_turned past [] report there = inl there
@@ -106,7 +106,7 @@ past_kept past (Took order ∷ deeds) report there = past_kept (Took order ∷ p
 past_kept past (Told own ∷ deeds) report there =
     past_kept (Told own ∷ past) deeds report (behind own (reports_in past) report there)
 
-told_kept : (past deeds : List Deed) (report : Report) → Contains (reports_of deeds) report
+pub told_kept : (past deeds : List Deed) (report : Report) → Contains (reports_of deeds) report
     → Contains (reports_in (turned past deeds)) report
 told_kept past [] report there = absurd (nothing_in report there)
 told_kept past (Came bytes ∷ deeds) report there = told_kept (Came bytes ∷ past) deeds report there
@@ -117,7 +117,7 @@ told_kept past (Told own ∷ deeds) report there = elim (first_or own (reports_o
   | inr later ↦ told_kept (Told own ∷ past) deeds report later
 ]
 
-took_turned : (past deeds : List Deed) (order : Order) → Contains (turned past deeds) (Took order)
+pub took_turned : (past deeds : List Deed) (order : Order) → Contains (turned past deeds) (Took order)
     → Contains past (Took order) ⊎ Contains (taken_of deeds) order
 took_turned past [] order there = inl there
 took_turned past (Came bytes ∷ deeds) order there =
@@ -153,7 +153,7 @@ abbrev pub tickets_sent : List Order → List Ticket
 tickets_sent [] = []
 tickets_sent (order ∷ more) = tickets_of (work_of order) ++ tickets_sent more
 
-sent_on : (xs ys : List Order) → tickets_sent (xs ++ ys) ≡ tickets_sent xs ++ tickets_sent ys
+pub sent_on : (xs ys : List Order) → tickets_sent (xs ++ ys) ≡ tickets_sent xs ++ tickets_sent ys
 sent_on [] ys = refl
 sent_on (x ∷ xs) ys =
     ap (λ (t : List Ticket). tickets_of (work_of x) ++ t) (sent_on xs ys)
@@ -175,7 +175,7 @@ apart_more (Some work) ts us sent apart t here there = elim (first_or work.ticke
 ]
 
 -- tickets that stand once in the orders taken do so in the deeds
-once_turned : (past deeds : List Deed) → AreOnce (tickets_in past) → AreOnce (tickets_sent (taken_of deeds))
+pub once_turned : (past deeds : List Deed) → AreOnce (tickets_in past) → AreOnce (tickets_sent (taken_of deeds))
     → ((t : Ticket) → Contains (tickets_in past) t → Contains (tickets_sent (taken_of deeds)) t → ⊥)
     → AreOnce (tickets_in (turned past deeds))
 once_turned past [] once sent apart = once
@@ -189,7 +189,7 @@ once_turned past (Told report ∷ deeds) once sent apart =
     once_turned (Told report ∷ past) deeds once sent apart
 
 -- an order that is one of work is that
-work_is : (order : Order) (work : Ordered) → work_of order ≡ Some work → order ≡ order_of work
+pub work_is : (order : Order) (work : Ordered) → work_of order ≡ Some work → order ≡ order_of work
 work_is (Setup gap bytes) work same = absurd (omega (arith, ap work_count same))
 work_is (Work ticket params race cutoff changes) work same =
     ap order_of (same_work (record {

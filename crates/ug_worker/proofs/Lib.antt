@@ -11,3 +11,6 @@ pub mod Transcribed
 pub mod Honesty
 pub mod Heard
 pub mod Crewed
+pub mod Spoken
+pub mod Counted
+pub mod Silent

@@ -1,19 +1,39 @@
 -- What the steps of a round, hands and reports make of where a worker stands.
-use Rattle.std.proofs.Common.{◌≡◌, ℕ, suc, ◌+◌, ◌-◌, ◌<◌, ◌≤◌, List, length, Option, Some, Bool, true, false, ℤ, ◌⊎◌, refl, sym, ap, subst, ◌∙◌, arith, if◌then◌else◌}
+use Rattle.std.proofs.Common.{◌≡◌, inl, inr, ℕ, suc, ◌+◌, ◌-◌, ◌<◌, ◌≤◌, List, length, Option, Some, Bool, true, false, [], ℤ, ◌⊎◌, refl, sym, ap, subst, ◌∙◌, arith, if◌then◌else◌}
 use Rattle.ug_rows.specs.declared.area.Interval.{Interval}
 use Rattle.ug_base.specs.declared.handed.Handed.{Handed}
-use Rattle.ug_base.specs.Hands.{IsHanded}
+use Rattle.ug_base.specs.Hands.{IsGiven, IsHanded}
 use Rattle.ug_base.specs.Steps.{IsFound}
 use Rattle.ug_base.specs.Tasks.{IsLeastFloor, IsTask, TaskState}
 use Rattle.ug_worker.specs.declared.reply.Reply.{Reply}
-use Rattle.ug_worker.specs.Engagements.{Engaged, GoesOn, HasBegun, IsFoundBy, IsHandedBy, IsQuiet, IsSince, IsStatedBy, due_of, lowered, steps_of_round}
-use Rattle.ug_worker.specs.Workers.{HasHanded, StandsAt}
+use Rattle.ug_worker.specs.declared.search.Asked.{Asked}
+use Rattle.ug_worker.specs.declared.tally.Tally.{Tally}
+use Rattle.ug_worker.specs.Engagements.{Engaged, GoesOn, HasBegun, HasObliged, IsFoundBy, IsHandedBy, IsQuiet, IsRenewed, IsSince, IsStatedBy, IsWanted, due_by, due_of, lowered, steps_of_round}
+use Rattle.ug_worker.specs.Renewals.{IsDue}
+use Rattle.ug_worker.specs.Workers.{HasHanded, IsGiving, IsSearched, IsToTell, StandsAt}
 
 -- a box asked for was handed, where one was due
 due_less : (racing : Bool) (asked due : ℕ) → (if racing then 0 else asked) ≡ due → 0 < due
     → (if racing then 0 else (asked - 1)) ≡ due - 1
 due_less true asked due e some = absurd (omega (arith, e, some))
 due_less false asked due e some = omega (arith, e, some)
+
+-- fewer are asked for where a box was given
+due_at_most : (racing : Bool) (asked : ℕ) → (if racing then 0 else asked) ≡ 0
+    → (if racing then 0 else (asked - 1)) ≡ 0
+due_at_most true asked e = refl
+due_at_most false asked e = omega (arith, e)
+
+-- fewer are left behind one that was given
+pub given_left : (old new : TaskState) (given : Handed) → IsGiven old new given
+    → length old.boxes ≡ length new.boxes + 1
+given_left old new given h =
+    omega (arith, ap (λ (boxes : List (List Interval)). length boxes) h.boxes)
+
+still_obliged : (old new : TaskState) (e : Engaged) (given : Handed) → IsGiven old new given
+    → HasObliged e old → HasObliged (record e { task = new; made = 64; asked = e.asked - 1 }) new
+still_obliged old new e given h (inl none) = inl (due_at_most e.racing e.asked none)
+still_obliged old new e given h (inr few) = inr (omega (arith, given_left old new given h, few))
 
 -- nothing happened since
 pub since_now : (e : Engaged) → e.made ≤ steps_of_round → IsSince e e.task e.made
@@ -22,13 +42,13 @@ since_now e room = record { more = 0; quiet = refl; made = omega arith; within =
 -- a box is left where one was handed
 pub some_left : (old new : TaskState) (given : Handed) → IsHanded old new given → 0 < length new.boxes
 some_left old new given h =
-    omega (arith, h.two, ap (λ (boxes : List (List Interval)). length boxes) h.boxes)
+    omega (arith, h.two, ap (λ (boxes : List (List Interval)). length boxes) h.given.boxes)
 
 module _ (At : Option Engaged → Type 0) where
   -- a step more found nothing
-  pub made_quiet : (old new : TaskState) (made due : ℕ) → made < 64 → IsQuiet old new
-      → StandsAt At old made due → StandsAt At new (made + 1) due
-  made_quiet old new made due room quiet s = record {
+  pub made_quiet : (old new : TaskState) (made : ℕ) (asked : Asked) → made < 64 → IsQuiet old new
+      → StandsAt At old made asked → StandsAt At new (made + 1) asked
+  made_quiet old new made asked room quiet s = record {
     now = s.now;
     at = s.at;
     since = record {
@@ -37,16 +57,18 @@ module _ (At : Option Engaged → Type 0) where
       made = omega (arith, s.since.made);
       within = omega (arith, room);
     };
-    asked = s.asked;
+    due = s.due;
+    racing = s.racing;
   }
 
   -- what the seat has behind a point that was found
   abbrev pub found_now : Engaged → TaskState → ℕ → Engaged
   found_now e new made = record e { task = new; made = made + 1 }
 
-  pub found_by : (old new : TaskState) (made due : ℕ) (x : List ℤ) → made < 64 → IsFound old new x
-      → IsTask new → (s : StandsAt At old made due) → IsFoundBy s.now x (found_now s.now new made)
-  found_by old new made due x room found own s = record {
+  pub found_by : (old new : TaskState) (made : ℕ) (asked : Asked) (x : List ℤ) → made < 64
+      → IsFound old new x → IsTask new → (s : StandsAt At old made asked)
+      → IsFoundBy s.now x (found_now s.now new made)
+  found_by old new made asked x room found own s = record {
     task = old;
     count = made;
     since = s.since;
@@ -57,67 +79,120 @@ module _ (At : Option Engaged → Type 0) where
   }
 
   -- the point was told
-  pub stands_found : (new : TaskState) (e : Engaged) (made due : ℕ) → made < 64 → due_of e ≡ due
-      → At (Some (found_now e new made)) → StandsAt At new (made + 1) due
-  stands_found new e made due room asked at = record {
+  pub stands_found : (new : TaskState) (e : Engaged) (made : ℕ) (asked : Asked) → made < 64
+      → due_of e ≡ asked.count → e.racing ≡ asked.racing → At (Some (found_now e new made))
+      → StandsAt At new (made + 1) asked
+  stands_found new e made asked room due racing at = record {
     now = found_now e new made;
     at = at;
     since = since_now (found_now e new made) (omega (arith, room));
-    asked = asked;
+    due = due;
+    racing = racing;
   }
 
   -- what the seat has behind a box that was handed
   abbrev pub handed_now : Engaged → TaskState → Engaged
   handed_now e new = record e { task = new; made = 64; asked = e.asked - 1 }
 
-  pub handed_by : (old new : TaskState) (due : ℕ) (given : Handed) → 0 < due → IsHanded old new given
-      → IsTask new → (s : StandsAt At old 64 due)
-      → IsHandedBy s.now given.number given.area (handed_now s.now new)
-  handed_by old new due given some handed own s = record {
+  pub handed_by : (tally : Tally) (old new : TaskState) (asked : Asked) (given : Handed) → 0 < asked.count
+      → IsHanded old new given → IsTask new → (s : StandsAt At old 64 asked)
+      → IsHandedBy tally s.now given.number given.area (handed_now s.now new)
+  handed_by tally old new asked given some handed own s = record {
     task = old;
     since = s.since;
-    due = omega (arith, s.asked, some);
+    cause = inl (record { due = omega (arith, s.due, some); two = handed.two });
+    handed = handed.given;
+    own = own;
+    same = refl;
+  }
+
+  pub stands_handed : (new : TaskState) (e : Engaged) (asked : Asked) → 0 < asked.count
+      → due_of e ≡ asked.count → e.racing ≡ asked.racing → At (Some (handed_now e new))
+      → StandsAt At new 64 (record asked { count = asked.count - 1 })
+  stands_handed new e asked some due racing at = record {
+    now = handed_now e new;
+    at = at;
+    since = since_now (handed_now e new) (omega arith);
+    due = due_less e.racing e.asked asked.count due some;
+    racing = racing;
+  }
+
+  -- all boxes are to be given
+  pub to_give : (tally : Tally) (task : TaskState) (asked : Asked) → HasHanded At task asked
+      → IsDue tally asked.racing → IsGiving At tally task
+  to_give tally task asked h due = record {
+    now = h.stands.now;
+    at = h.stands.at;
+    since = h.stands.since;
+    renewed = record {
+      obliged = subst (λ (n : ℕ). (n ≡ 0) ⊎ (length task.boxes < 2)) (sym h.stands.due) h.all;
+      due = subst (IsDue tally) (sym h.stands.racing) due;
+    };
+  }
+
+  pub given_by : (tally : Tally) (old new : TaskState) (given : Handed) → IsGiven old new given → IsTask new
+      → (s : IsGiving At tally old)
+      → IsHandedBy tally s.now given.number given.area (handed_now s.now new)
+  given_by tally old new given handed own s = record {
+    task = old;
+    since = s.since;
+    cause = inr s.renewed;
     handed = handed;
     own = own;
     same = refl;
   }
 
-  pub stands_handed : (new : TaskState) (e : Engaged) (due : ℕ) → 0 < due → due_of e ≡ due
-      → At (Some (handed_now e new)) → StandsAt At new 64 (due - 1)
-  stands_handed new e due some asked at = record {
-    now = handed_now e new;
+  pub still_giving : (tally : Tally) (old new : TaskState) (given : Handed) → IsGiven old new given
+      → (s : IsGiving At tally old) → (After : Option Engaged → Type 0)
+      → After (Some (handed_now s.now new)) → IsGiving After tally new
+  still_giving tally old new given h s After at = record {
+    now = handed_now s.now new;
     at = at;
-    since = since_now (handed_now e new) (omega arith);
-    asked = due_less e.racing e.asked due asked some;
+    since = since_now (handed_now s.now new) (omega arith);
+    renewed = record {
+      obliged = still_obliged old new s.now given h s.renewed.obliged;
+      due = s.renewed.due;
+    };
+  }
+
+  -- none is left
+  pub all_given : (tally : Tally) (task : TaskState) → IsGiving At tally task → IsTask task → task.boxes ≡ []
+      → IsSearched At task
+  all_given tally task s own none = record {
+    now = s.now;
+    at = s.at;
+    done = record { count = steps_of_round; since = s.since; own = own; none = none };
   }
 
   -- what the seat has behind a report of what is left
   abbrev pub stated_now : Engaged → TaskState → Engaged
   stated_now e task = record e { task = task; made = 0 }
 
-  pub stated_by : (task : TaskState) (due left : ℕ) (floor : ℤ) → (h : HasHanded At task due)
-      → left ≡ length task.boxes → IsLeastFloor task.problem task.boxes floor
-      → IsStatedBy h.stands.now left floor (stated_now h.stands.now task)
-  stated_by task due left floor h count least = record {
+  pub stated_by : (tally : Tally) (task : TaskState) (asked : Asked) (left : ℕ) (floor : ℤ)
+      → (h : IsToTell At tally task asked) → left ≡ length task.boxes
+      → IsLeastFloor task.problem task.boxes floor
+      → IsStatedBy tally h.handed.stands.now left floor (stated_now h.handed.stands.now task)
+  stated_by tally task asked left floor h count least = record {
     task = task;
-    since = h.stands.since;
-    given = subst (λ (n : ℕ). (n ≡ 0) ⊎ (length task.boxes < 2)) (sym h.stands.asked) h.all;
+    since = h.handed.stands.since;
+    obliged = subst (λ (n : ℕ). (n ≡ 0) ⊎ (length task.boxes < 2)) (sym h.handed.stands.due) h.handed.all;
+    kept = λ due. h.kept (subst (IsDue tally) h.handed.stands.racing due);
     count = count;
     least = least;
     same = refl;
   }
 
-  pub stated_at : (task : TaskState) (due left : ℕ) (floor low : ℤ) → low ≡ floor
-      → (h : HasHanded At task due) → left ≡ length task.boxes
+  pub stated_at : (tally : Tally) (task : TaskState) (asked : Asked) (left : ℕ) (floor low : ℤ) → low ≡ floor
+      → (h : IsToTell At tally task asked) → left ≡ length task.boxes
       → IsLeastFloor task.problem task.boxes floor
-      → IsStatedBy h.stands.now left low (stated_now h.stands.now task)
-  stated_at task due left floor low e h count least =
-      subst (λ (value : ℤ). IsStatedBy h.stands.now left value (stated_now h.stands.now task)) (sym e)
-      (stated_by task due left floor h count least)
+      → IsStatedBy tally h.handed.stands.now left low (stated_now h.handed.stands.now task)
+  stated_at tally task asked left floor low e h count least =
+      subst (λ (value : ℤ). IsStatedBy tally h.handed.stands.now left value (stated_now h.handed.stands.now task))
+      (sym e) (stated_by tally task asked left floor h count least)
 
   -- a task that goes on
   pub stands_on : (task new : TaskState) (reply : Reply) → (h : GoesOn At task reply) → new ≡ lowered reply.cutoff task
-      → StandsAt At new 0 reply.collect
+      → StandsAt At new 0 (record { count = due_by reply; racing = reply.racing })
   stands_on task new reply h e = record {
     now = h.now;
     at = h.at;
@@ -127,11 +202,13 @@ module _ (At : Option Engaged → Type 0) where
       made = omega (arith, h.made);
       within = omega arith;
     };
-    asked = h.due;
+    due = h.due;
+    racing = h.racing;
   }
 
   -- a task that was begun
-  pub stands_begun : (task : TaskState) → (h : HasBegun At task) → StandsAt At task 0 (due_of h.now)
+  pub stands_begun : (task : TaskState) → (h : HasBegun At task)
+      → StandsAt At task 0 (record { count = due_of h.now; racing = h.now.racing })
   stands_begun task h = record {
     now = h.now;
     at = h.at;
@@ -141,5 +218,6 @@ module _ (At : Option Engaged → Type 0) where
       made = omega (arith, h.begun.made);
       within = omega arith;
     };
-    asked = refl;
+    due = refl;
+    racing = refl;
   }

@@ -6,6 +6,7 @@ use Rattle.ug_worker.specs.declared.pace.Pace.{Pace}
 use Rattle.ug_worker.specs.declared.pace.Pace.TheVariants as pace
 use Rattle.ug_worker.specs.declared.search.Search.{Search}
 use Rattle.ug_worker.specs.declared.kept.Kept.{Kept}
+use Rattle.ug_worker.specs.declared.tally.Tally.{Tally}
 use Rattle.ug_worker.specs.declared.served.Served.{Served}
 use Rattle.ug_worker.specs.declared.served.Served.TheVariants.{BadFrame, Ended, LinkFault, Memory}
 use Rattle.ug_worker.specs.declared.server.Post.{Post}
@@ -22,20 +23,22 @@ use Rattle.ug_worker.specs.Serving.{HasServed, IsFront, IsOn, IsOpen, StandsOn, 
 use Rattle.ug_worker.specs.Workers.{HasPaced, IsAtWork}
 use Rattle.ug_worker.proofs.Wires.{said_front}
 
-pub open_stage : (basis : Basis) (some : Option Engaged) → IsOpen (stage_of basis some)
-open_stage basis None = tt
-open_stage basis (Some e) = tt
+pub open_stage : (basis : Basis) (tally : Tally) (some : Option Engaged) → IsOpen (stage_of basis tally some)
+open_stage basis tally None = tt
+open_stage basis tally (Some e) = tt
 
 -- ---- the seat between two steps
 
 -- the task that the worker has, and how the seat stands to it
 pub record IsSeatedAs (s : SeatSeen) : Type 0 where
+  pub tally : Tally
   pub some : Option Engaged
-  pub seated : IsSeated s some
+  pub seated : IsSeated s tally some
 
-pub work_seated : (s : SeatSeen) (search : Option Search) → IsAtWork (IsSeated s) search → IsSeatedAs s
-work_seated s None h = record { some = None; seated = h }
-work_seated s (Some search) h = record { some = Some h.now; seated = h.at }
+pub work_seated : (s : SeatSeen) (tally : Tally) (search : Option Search) → IsAtWork (IsSeated s) tally search
+    → IsSeatedAs s
+work_seated s tally None h = record { tally = tally; some = None; seated = h }
+work_seated s tally (Some search) h = record { tally = search.tally; some = Some h.now; seated = h.at }
 
 module _ {L : Type 0} (seen : L → LinkSeen) where
   -- ---- a server of its parts
@@ -55,9 +58,9 @@ module _ {L : Type 0} (seen : L → LinkSeen) where
   busy_by None post wire same h = h
   busy_by (Some end) post wire same h =
       let s = seat_seen seen wire post.kept in
-      let w = work_seated s post.worker.search h in
+      let w = work_seated s post.worker.tally post.worker.search h in
       subst (λ (e : Option Served).
-      stands_as e (seen wire.link) wire.orders (stage_of (basis_of post.kept) w.some)) same w.seated.stands
+      stands_as e (seen wire.link) wire.orders (stage_of (basis_of post.kept) w.tally w.some)) same w.seated.stands
 
   pub busy_server : (post : Post) (wire : Wire L) → IsBusyAs seen wire post
       → is_server seen wire.end (Some post) wire
@@ -67,16 +70,16 @@ module _ {L : Type 0} (seen : L → LinkSeen) where
 
   paced_by : (pace : Pace) (post : Post) (wire : Wire L)
       → HasPaced (IsSeated (seat_seen seen wire post.kept)) (IsOver (seat_seen seen wire post.kept))
-      post.worker.search pace → is_server seen wire.end (Some post) wire
+      post.worker.tally post.worker.search pace → is_server seen wire.end (Some post) wire
   paced_by pace.On post wire h = busy_server post wire h
   paced_by pace.Waits post wire (none, at) =
       busy_server post wire
-      (subst (IsAtWork (IsSeated (seat_seen seen wire post.kept))) (sym none) at)
+      (subst (IsAtWork (IsSeated (seat_seen seen wire post.kept)) post.worker.tally) (sym none) at)
   paced_by pace.Over post wire h = ended_server wire.end (Some post) wire h
 
   pub paced_server : (pace : Pace) (post : Post) (wire : Wire L)
       → HasPaced (IsSeated (seat_seen seen wire post.kept)) (IsOver (seat_seen seen wire post.kept))
-      post.worker.search pace → is_server seen wire.end (Some post) wire
+      post.worker.tally post.worker.search pace → is_server seen wire.end (Some post) wire
   paced_server pace post wire h = paced_by pace post wire h
 
   -- ---- what the link shows
@@ -85,8 +88,8 @@ module _ {L : Type 0} (seen : L → LinkSeen) where
       → (now : Standing) × IsOn (seen wire.link) now
   posted_on None wire none h = (record { said = h.said; waiting = wire.orders; stage = Blank }, h.on)
   posted_on (Some post) wire none h =
-      let w = work_seated (seat_seen seen wire post.kept) post.worker.search h in
-      let stage = stage_of (basis_of post.kept) w.some in
+      let w = work_seated (seat_seen seen wire post.kept) post.worker.tally post.worker.search h in
+      let stage = stage_of (basis_of post.kept) w.tally w.some in
       let on : StandsOn (seen wire.link) wire.orders stage = subst (λ (e : Option Served).
       stands_as e (seen wire.link) wire.orders stage) none w.seated.stands in
       (record { said = on.said; waiting = wire.orders; stage = stage }, on.on)
@@ -110,24 +113,26 @@ module _ {L : Type 0} (seen : L → LinkSeen) where
   rested_by None old new heard none h =
       blank_server new.end new (heard Blank tt
       (subst (λ (e : Option Served). stands_as e (seen old.link) old.orders Blank) (sym none) h))
-  rested_by (Some post) old new heard none h = busy_server post new (rested_work post.worker.search h)
+  rested_by (Some post) old new heard none h = busy_server post new (rested_work post.worker.tally post.worker.search h)
     where
-      again : (some : Option Engaged) → IsSeated (seat_seen seen old post.kept) some
-          → IsSeated (seat_seen seen new post.kept) some
-      again some s = record {
+      again : (tally : Tally) (some : Option Engaged) → IsSeated (seat_seen seen old post.kept) tally some
+          → IsSeated (seat_seen seen new post.kept) tally some
+      again tally some s = record {
         gap = s.gap;
         agrees = s.agrees;
-        stands = heard (stage_of (basis_of post.kept) some) (open_stage (basis_of post.kept) some) s.stands;
+        stands = heard (stage_of (basis_of post.kept) tally some) (open_stage (basis_of post.kept) tally some) s.stands;
       }
 
-      rested_work : (search : Option Search) → IsAtWork (IsSeated (seat_seen seen old post.kept)) search
-          → IsAtWork (IsSeated (seat_seen seen new post.kept)) search
-      rested_work None h = again None h
-      rested_work (Some search) h = record {
+      rested_work : (tally : Tally) (search : Option Search)
+          → IsAtWork (IsSeated (seat_seen seen old post.kept)) tally search
+          → IsAtWork (IsSeated (seat_seen seen new post.kept)) tally search
+      rested_work tally None h = again tally None h
+      rested_work tally (Some search) h = record {
         now = h.now;
-        at = again (Some h.now) h.at;
+        at = again search.tally (Some h.now) h.at;
         since = h.since;
-        asked = h.asked;
+        due = h.due;
+        racing = h.racing;
       }
 
   pub rested : (post : Option Post) (old new : Wire L)
@@ -160,7 +165,7 @@ same_by seen other None None v w link orders at end h =
     subst (λ (o : Waiting). StandsOn (other w.link) o Blank) (sym orders)
     (subst (λ (s : LinkSeen). StandsOn s v.orders Blank) (sym link) h)
 same_by seen other None (Some post) v w link orders at end h =
-    subst (λ (s : SeatSeen). IsAtWork (IsSeated s) post.worker.search)
+    subst (λ (s : SeatSeen). IsAtWork (IsSeated s) post.worker.tally post.worker.search)
     (sym (same_seat seen other v w post.kept link orders at end)) h
 
 pub same_server : {L M : Type 0} (seen : L → LinkSeen) (other : M → LinkSeen) (a : Server L) (b : Server M)

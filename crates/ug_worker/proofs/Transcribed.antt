@@ -1,5 +1,5 @@
 -- What a worker does is a transcript.
-use Rattle.std.proofs.Common.{◌≡◌, ◌≢◌, inl, inr, ℕ, ℤ, ◌<◌, Bool, true, false, List, [], ◌∷◌, ◌++◌, length, Option, Some, None, IfSome, if◌then◌else◌, refl, sym, ap, subst, ◌∙◌, arith}
+use Rattle.std.proofs.Common.{◌≡◌, ◌≢◌, ◌⊎◌, inl, inr, ℕ, ℤ, ◌<◌, Bool, true, false, List, [], ◌∷◌, ◌++◌, length, Option, Some, None, IfSome, if◌then◌else◌, refl, sym, ap, subst, ◌∙◌, arith}
 use Rattle.std.specs.Prelude.{Contains}
 use Rattle.std.proofs.lemmas.Bool.{false≢true}
 use Rattle.ug_rows.specs.declared.area.Interval.{Interval}
@@ -24,7 +24,9 @@ use Rattle.ug_frames.specs.ReportFrames.{IsCarried}
 use Rattle.ug_frames.specs.Honest.{IsInHands}
 use Rattle.ug_base.specs.Tasks.{TaskState, lesser_of}
 use Rattle.ug_base.proofs.Floors.{lesser_is}
-use Rattle.ug_worker.specs.Engagements.{Engaged, IsFoundBy, IsStatedBy}
+use Rattle.ug_worker.specs.declared.tally.Tally.{Tally}
+use Rattle.ug_worker.specs.Engagements.{Engaged, IsFoundBy, IsRenewed, IsStatedBy, IsWanted}
+use Rattle.ug_worker.specs.Renewals.{begun, counted}
 use Rattle.ug_worker.specs.Deeds.{Basis, Deed, Came, Took, Told, IsBegun, IsDoneTold, IsHandTold, IsSetUp, IsTaken, IsTold}
 use Rattle.ug_worker.specs.Deeds.{Stage, Blank, SetUp, Free, Busy, Ending, Over}
 use Rattle.ug_worker.specs.Courses.{IsCourse, Standing, beginning}
@@ -226,12 +228,12 @@ at_won basis past t racing ticket its a =
     }
 
 -- work was ordered
-at_begun : (basis : Basis) (past : List Deed) (ticket : Ticket) (params : Params) (race : Bool)
+at_begun : (basis : Basis) (past : List Deed) (tally : Tally) (ticket : Ticket) (params : Params) (race : Bool)
     (cutoff : Option ℤ) (changes : List Change) (new : Stage)
-    → IsBegun basis ticket params race cutoff changes new
-    → (e : Engaged) × (new ≡ Busy basis e)
+    → IsBegun basis tally ticket params race cutoff changes new
+    → (e : Engaged) × (new ≡ Busy basis (begun tally) e)
     × IsAtTask basis (Took (Work ticket params race cutoff changes) ∷ past) e.task e.racing
-at_begun basis past ticket params race cutoff changes new h =
+at_begun basis past tally ticket params race cutoff changes new h =
     let e : Engaged = record {
       task = record {
         problem = basis.problem;
@@ -249,7 +251,7 @@ at_begun basis past ticket params race cutoff changes new h =
     } in
     let work : Ordered = record { ticket = ticket; params = params; race = race; cutoff = cutoff; changes = changes } in (
       e,
-      h.begun,
+      h.begins,
       record {
         under = record { work = work; last = refl; its = refl; valid = h.valid };
         problem = refl;
@@ -312,17 +314,22 @@ under_its basis past ticket other same u = record {
 }
 
 -- a box is handed where no other has the task's box
-not_racing : (racing : Bool) (asked : ℕ) → 0 < (if racing then 0 else asked) → racing ≡ false
-not_racing true asked due = absurd (omega (arith, due))
-not_racing false asked due = refl
+not_asked : (racing : Bool) (asked : ℕ) → 0 < (if racing then 0 else asked) → racing ≡ false
+not_asked true asked due = absurd (omega (arith, due))
+not_asked false asked due = refl
+
+not_racing : (tally : Tally) (e : Engaged) (task : TaskState) → IsWanted e task ⊎ IsRenewed tally e task
+    → e.racing ≡ false
+not_racing tally e task (inl wanted) = not_asked e.racing e.asked wanted.due
+not_racing tally e task (inr renewed) = renewed.due.free
 
 -- a box
-at_handed : (basis : Basis) (past : List Deed) (e f : Engaged) (ticket : Ticket) (number : ℕ)
+at_handed : (basis : Basis) (past : List Deed) (tally : Tally) (e f : Engaged) (ticket : Ticket) (number : ℕ)
     (changes : List Change) → IsCarried (Hand ticket number changes)
-    → IsHandTold basis e ticket number changes f → IsAtTask basis past e.task e.racing
+    → IsHandTold basis tally e ticket number changes f → IsAtTask basis past e.task e.racing
     → IsBoxTold basis past ticket number changes
     × IsAtTask basis (Told (Hand ticket number changes) ∷ past) f.task f.racing
-at_handed basis past e f ticket number changes carried told at =
+at_handed basis past tally e f ticket number changes carried told at =
     let h = told.handed in
     let root = root_of basis.problem in
     let quiet = quiet_same h.since.more e.task h.task h.since.quiet in
@@ -332,7 +339,7 @@ at_handed basis past e f ticket number changes carried told at =
     let box : told.area ≡ area_by root changes =
     area_only root told.area changes carried.can.fields.rising told.spells in
     let counted = hands_counted root h.task.ticket (told_since past) h.task.handed a.hands in
-    let free : e.racing ≡ false = not_racing e.racing e.asked h.due in
+    let free : e.racing ≡ false = not_racing tally e h.task h.cause in
     let parts : f.task.handed ≡ h.task.handed ++ area_by root changes ∷ [] =
     h.handed.handed ∙ ap (λ (area : List Interval). h.task.handed ++ area ∷ []) box in
     let whole : f.task.whole ≡ box_of basis a.under.work =
@@ -363,10 +370,10 @@ at_handed basis past e f ticket number changes carried told at =
     )
 
 -- what is left
-at_stated : (basis : Basis) (past : List Deed) (e f : Engaged) (ticket : Ticket) (nodes : ℕ) (floor : ℤ)
-    → ticket ≡ e.task.ticket → IsStatedBy e nodes floor f → IsAtTask basis past e.task e.racing
+at_stated : (basis : Basis) (past : List Deed) (tally : Tally) (e f : Engaged) (ticket : Ticket) (nodes : ℕ) (floor : ℤ)
+    → ticket ≡ e.task.ticket → IsStatedBy tally e nodes floor f → IsAtTask basis past e.task e.racing
     → IsRestTold basis past ticket nodes × IsAtTask basis (Told (State ticket nodes floor) ∷ past) f.task f.racing
-at_stated basis past e f ticket nodes floor its h at =
+at_stated basis past tally e f ticket nodes floor its h at =
     let quiet = quiet_same h.since.more e.task h.task h.since.quiet in
     let a = at_same basis past e.task h.task e.racing quiet at in
     let told = at_more basis past (Told (State ticket nodes floor) ∷ past) (Told (State ticket nodes floor)) h.task
@@ -419,8 +426,8 @@ at_done basis past e ticket cutoff count told at =
 abbrev Holds : List Deed → Stage → Type 0
 Holds past Blank = (reports_in past ≡ []) × ((basis : Basis) → ¬ IsSetUpWith past basis)
 Holds past (SetUp basis) = IsSet past basis × (reports_in past ≡ [])
-Holds past (Free basis) = IsSet past basis × Contains past (Told Ready)
-Holds past (Busy basis e) =
+Holds past (Free basis tally) = IsSet past basis × Contains past (Told Ready)
+Holds past (Busy basis tally e) =
     IsSet past basis × Contains past (Told Ready) × IsAtTask basis past e.task e.racing
 Holds past Ending =
     (basis : Basis) × IsSet past basis × Contains past (Told Ready) × Contains past (Took End)
@@ -436,8 +443,8 @@ came_holds past bytes Blank (silent, none) = (
   ],
 )
 came_holds past bytes (SetUp basis) (set, silent) = (set_came past bytes basis set, silent)
-came_holds past bytes (Free basis) (set, ready) = (set_came past bytes basis set, behind _ past _ ready)
-came_holds past bytes (Busy basis e) (set, ready, at) =
+came_holds past bytes (Free basis tally) (set, ready) = (set_came past bytes basis set, behind _ past _ ready)
+came_holds past bytes (Busy basis tally e) (set, ready, at) =
     (set_came past bytes basis set, behind _ past _ ready, at_came basis past bytes e.task e.racing at)
 came_holds past bytes Ending (basis, set, ready, ordered) =
     (basis, set_came past bytes basis set, behind _ past _ ready, behind _ past _ ordered)
@@ -446,78 +453,78 @@ came_holds past bytes Over (basis, set) = (basis, set_came past bytes basis set)
 -- ---- orders
 
 -- an order that changes nothing, where there is no task
-free_on : (past : List Deed) (order : Order) (basis : Basis) (new : Stage) → is_setup order ≡ 0
-    → new ≡ Free basis → Holds past (Free basis) → Holds (Took order ∷ past) new
-free_on past order basis new other same (set, ready) =
+free_on : (past : List Deed) (order : Order) (basis : Basis) (tally : Tally) (new : Stage) → is_setup order ≡ 0
+    → new ≡ Free basis tally → Holds past (Free basis tally) → Holds (Took order ∷ past) new
+free_on past order basis tally new other same (set, ready) =
     subst (Holds (Took order ∷ past)) (sym same) (set_took past order basis other set, behind _ past _ ready)
 
 begun_on : (past : List Deed) (ticket : Ticket) (params : Params) (race : Bool) (cutoff : Option ℤ)
-    (changes : List Change) (basis : Basis) (new : Stage)
-    → IsBegun basis ticket params race cutoff changes new → Holds past (Free basis)
+    (changes : List Change) (basis : Basis) (tally : Tally) (new : Stage)
+    → IsBegun basis tally ticket params race cutoff changes new → Holds past (Free basis tally)
     → Holds (Took (Work ticket params race cutoff changes) ∷ past) new
-begun_on past ticket params race cutoff changes basis new taken (set, ready) =
-    let begun = at_begun basis past ticket params race cutoff changes new taken in
-    subst (Holds (Took (Work ticket params race cutoff changes) ∷ past)) (sym begun.1)
-    (set_took past _ basis refl set, behind _ past _ ready, begun.2)
+begun_on past ticket params race cutoff changes basis tally new taken (set, ready) =
+    let start = at_begun basis past tally ticket params race cutoff changes new taken in
+    subst (Holds (Took (Work ticket params race cutoff changes) ∷ past)) (sym start.1)
+    (set_took past _ basis refl set, behind _ past _ ready, start.2)
 
-free_holds : (past : List Deed) (order : Order) (basis : Basis) (new : Stage)
-    → IsTaken (Free basis) order new → Holds past (Free basis) → Holds (Took order ∷ past) new
-free_holds past (Setup gap bytes) basis new taken holds = absurd taken
-free_holds past (Work ticket params race cutoff changes) basis new taken holds =
-    begun_on past ticket params race cutoff changes basis new taken holds
-free_holds past (Incumbent cutoff) basis new taken holds = free_on past _ basis new refl taken holds
-free_holds past (CollectIn ticket count) basis new taken holds = free_on past _ basis new refl taken holds
-free_holds past (CollectOut ticket) basis new taken holds = free_on past _ basis new refl taken holds
-free_holds past (Winner ticket) basis new taken holds = free_on past _ basis new refl taken holds
-free_holds past (Stop ticket) basis new taken holds = free_on past _ basis new refl taken holds
-free_holds past End basis new taken (set, ready) =
+free_holds : (past : List Deed) (order : Order) (basis : Basis) (tally : Tally) (new : Stage)
+    → IsTaken (Free basis tally) order new → Holds past (Free basis tally) → Holds (Took order ∷ past) new
+free_holds past (Setup gap bytes) basis tally new taken holds = absurd taken
+free_holds past (Work ticket params race cutoff changes) basis tally new taken holds =
+    begun_on past ticket params race cutoff changes basis tally new taken holds
+free_holds past (Incumbent cutoff) basis tally new taken holds = free_on past _ basis tally new refl taken holds
+free_holds past (CollectIn ticket count) basis tally new taken holds = free_on past _ basis tally new refl taken holds
+free_holds past (CollectOut ticket) basis tally new taken holds = free_on past _ basis tally new refl taken holds
+free_holds past (Winner ticket) basis tally new taken holds = free_on past _ basis tally new refl taken holds
+free_holds past (Stop ticket) basis tally new taken holds = free_on past _ basis tally new refl taken holds
+free_holds past End basis tally new taken (set, ready) =
     subst (Holds (Took End ∷ past)) (sym taken)
     (basis, set_took past End basis refl set, behind _ past _ ready, in_front (Took End) past)
 
 -- the task goes on
-busy_on : (past : List Deed) (order : Order) (basis : Basis) (f : Engaged) (new : Stage) → is_setup order ≡ 0
-    → new ≡ Busy basis f → IsAtTask basis (Took order ∷ past) f.task f.racing → IsSet past basis
+busy_on : (past : List Deed) (order : Order) (basis : Basis) (tally : Tally) (f : Engaged) (new : Stage) → is_setup order ≡ 0
+    → new ≡ Busy basis tally f → IsAtTask basis (Took order ∷ past) f.task f.racing → IsSet past basis
     → Contains past (Told Ready) → Holds (Took order ∷ past) new
-busy_on past order basis f new other same at set ready =
+busy_on past order basis tally f new other same at set ready =
     subst (Holds (Took order ∷ past)) (sym same) (set_took past order basis other set, behind _ past _ ready, at)
 
 -- it is dropped
-dropped_on : (past : List Deed) (order : Order) (basis : Basis) (new : Stage) → is_setup order ≡ 0
-    → new ≡ Free basis → IsSet past basis → Contains past (Told Ready) → Holds (Took order ∷ past) new
-dropped_on past order basis new other same set ready = free_on past order basis new other same (set, ready)
+dropped_on : (past : List Deed) (order : Order) (basis : Basis) (tally : Tally) (new : Stage) → is_setup order ≡ 0
+    → new ≡ Free basis tally → IsSet past basis → Contains past (Told Ready) → Holds (Took order ∷ past) new
+dropped_on past order basis tally new other same set ready = free_on past order basis tally new other same (set, ready)
 
-busy_holds : (past : List Deed) (order : Order) (basis : Basis) (e : Engaged) (new : Stage)
-    → IsTaken (Busy basis e) order new → Holds past (Busy basis e) → Holds (Took order ∷ past) new
-busy_holds past (Setup gap bytes) basis e new taken holds = absurd taken
-busy_holds past (Work ticket params race cutoff changes) basis e new taken holds = absurd taken
-busy_holds past (Incumbent cutoff) basis e new (between, same) (set, ready, at) =
-    busy_on past (Incumbent cutoff) basis
+busy_holds : (past : List Deed) (order : Order) (basis : Basis) (tally : Tally) (e : Engaged) (new : Stage)
+    → IsTaken (Busy basis tally e) order new → Holds past (Busy basis tally e) → Holds (Took order ∷ past) new
+busy_holds past (Setup gap bytes) basis tally e new taken holds = absurd taken
+busy_holds past (Work ticket params race cutoff changes) basis tally e new taken holds = absurd taken
+busy_holds past (Incumbent cutoff) basis tally e new (between, same) (set, ready, at) =
+    busy_on past (Incumbent cutoff) basis tally
     (record e { task = record e.task { cutoff = Some (lesser_of e.task.cutoff cutoff) } }) new refl same
     (at_lowered basis past e.task e.racing cutoff at) set ready
-busy_holds past (CollectIn ticket count) basis e new taken (set, ready, at) =
+busy_holds past (CollectIn ticket count) basis tally e new taken (set, ready, at) =
     let still = at_took basis past (CollectIn ticket count) e.task e.racing refl at in
     elim taken.done [
-      | inl own ↦ busy_on past _ basis (record e { asked = count }) new refl own.1 still set ready
-      | inr other ↦ busy_on past _ basis e new refl other.1 still set ready
+      | inl own ↦ busy_on past _ basis tally (record e { asked = count }) new refl own.1 still set ready
+      | inr other ↦ busy_on past _ basis tally e new refl other.1 still set ready
     ]
-busy_holds past (CollectOut ticket) basis e new taken (set, ready, at) =
+busy_holds past (CollectOut ticket) basis tally e new taken (set, ready, at) =
     let still = at_took basis past (CollectOut ticket) e.task e.racing refl at in
     elim taken.done [
-      | inl own ↦ busy_on past _ basis (record e { asked = 0 }) new refl own.1 still set ready
-      | inr other ↦ busy_on past _ basis e new refl other.1 still set ready
+      | inl own ↦ busy_on past _ basis tally (record e { asked = 0 }) new refl own.1 still set ready
+      | inr other ↦ busy_on past _ basis tally e new refl other.1 still set ready
     ]
-busy_holds past (Winner ticket) basis e new taken (set, ready, at) = elim taken.done [
-  | inl own ↦ busy_on past _ basis (record e { racing = false }) new refl own.1
+busy_holds past (Winner ticket) basis tally e new taken (set, ready, at) = elim taken.done [
+  | inl own ↦ busy_on past _ basis tally (record e { racing = false }) new refl own.1
       (at_won basis past e.task e.racing ticket own.0 at) set ready
-  | inr other ↦ busy_on past _ basis e new refl other.1
+  | inr other ↦ busy_on past _ basis tally e new refl other.1
       (at_took basis past (Winner ticket) e.task e.racing refl at) set ready
 ]
-busy_holds past (Stop ticket) basis e new taken (set, ready, at) = elim taken.done [
-  | inl own ↦ dropped_on past (Stop ticket) basis new refl own.1 set ready
-  | inr other ↦ busy_on past _ basis e new refl other.1
+busy_holds past (Stop ticket) basis tally e new taken (set, ready, at) = elim taken.done [
+  | inl own ↦ dropped_on past (Stop ticket) basis tally new refl own.1 set ready
+  | inr other ↦ busy_on past _ basis tally e new refl other.1
       (at_took basis past (Stop ticket) e.task e.racing refl at) set ready
 ]
-busy_holds past End basis e new (between, same) (set, ready, at) =
+busy_holds past End basis tally e new (between, same) (set, ready, at) =
     subst (Holds (Took End ∷ past)) (sym same)
     (basis, set_took past End basis refl set, behind _ past _ ready, in_front (Took End) past)
 
@@ -547,41 +554,41 @@ took_holds : (past : List Deed) (order : Order) (old new : Stage) → IsTaken ol
     → Holds (Took order ∷ past) new
 took_holds past order Blank new taken holds = blank_holds past order new taken holds
 took_holds past order (SetUp basis) new taken holds = absurd taken
-took_holds past order (Free basis) new taken holds = free_holds past order basis new taken holds
-took_holds past order (Busy basis e) new taken holds = busy_holds past order basis e new taken holds
+took_holds past order (Free basis tally) new taken holds = free_holds past order basis tally new taken holds
+took_holds past order (Busy basis tally e) new taken holds = busy_holds past order basis tally e new taken holds
 took_holds past order Ending new taken holds = absurd taken
 took_holds past order Over new taken holds = absurd taken
 
 -- ---- reports
 
 -- the task goes on
-told_on : (past : List Deed) (report : Report) (basis : Basis) (f : Engaged) (new : Stage)
-    → new ≡ Busy basis f → IsSaid basis past report → IsAtTask basis (Told report ∷ past) f.task f.racing
+told_on : (past : List Deed) (report : Report) (basis : Basis) (tally : Tally) (f : Engaged) (new : Stage)
+    → new ≡ Busy basis tally f → IsSaid basis past report → IsAtTask basis (Told report ∷ past) f.task f.racing
     → IsSet past basis → Contains past (Told Ready) → Holds (Told report ∷ past) new
-told_on past report basis f new same said at set ready =
+told_on past report basis tally f new same said at set ready =
     subst (Holds (Told report ∷ past)) (sym same) (set_told past report basis said set, behind _ past _ ready, at)
 
-telling_holds : (past : List Deed) (report : Report) (basis : Basis) (e : Engaged) (new : Stage)
-    → IsCarried report → IsTold (Busy basis e) report new → Holds past (Busy basis e)
+telling_holds : (past : List Deed) (report : Report) (basis : Basis) (tally : Tally) (e : Engaged) (new : Stage)
+    → IsCarried report → IsTold (Busy basis tally e) report new → Holds past (Busy basis tally e)
     → Holds (Told report ∷ past) new
-telling_holds past Ready basis e new carried told holds = absurd told
-telling_holds past (Solution ticket x) basis e new carried (f, its, found, same) (set, ready, at) =
+telling_holds past Ready basis tally e new carried told holds = absurd told
+telling_holds past (Solution ticket x) basis tally e new carried (f, its, found, same) (set, ready, at) =
     let so = at_found basis past e f ticket x its found at in
-    told_on past (Solution ticket x) basis f new same
+    told_on past (Solution ticket x) basis tally f new same
     (ready, record { under = under_its basis past e.task.ticket ticket its at.under; feasible = so.0 }) so.1 set ready
-telling_holds past (Hand ticket number changes) basis e new carried (f, handed, same) (set, ready, at) =
-    let so = at_handed basis past e f ticket number changes carried handed at in
-    told_on past (Hand ticket number changes) basis f new same (ready, so.0) so.1 set ready
-telling_holds past (State ticket nodes floor) basis e new carried (f, its, stated, same) (set, ready, at) =
-    let so = at_stated basis past e f ticket nodes floor its stated at in
-    told_on past (State ticket nodes floor) basis f new same (ready, so.0) so.1 set ready
-telling_holds past (Done ticket cutoff count ending) basis e new carried (done, same) (set, ready, at) =
+telling_holds past (Hand ticket number changes) basis tally e new carried (f, handed, same) (set, ready, at) =
+    let so = at_handed basis past tally e f ticket number changes carried handed at in
+    told_on past (Hand ticket number changes) basis tally f new same (ready, so.0) so.1 set ready
+telling_holds past (State ticket nodes floor) basis tally e new carried (f, its, stated, same) (set, ready, at) =
+    let so = at_stated basis past tally e f ticket nodes floor its stated at in
+    told_on past (State ticket nodes floor) basis (counted tally) f new same (ready, so.0) so.1 set ready
+telling_holds past (Done ticket cutoff count ending) basis tally e new carried (done, same) (set, ready, at) =
     subst (Holds (Told (Done ticket cutoff count ending) ∷ past)) (sym same) (
       set_told past (Done ticket cutoff count ending) basis
           (ready, at_done basis past e ticket cutoff count done at) set,
       behind _ past _ ready,
     )
-telling_holds past Ended basis e new carried told holds = absurd told
+telling_holds past Ended basis tally e new carried told holds = absurd told
 
 -- the first report
 ready_holds : (past : List Deed) (report : Report) (basis : Basis) (new : Stage)
@@ -610,9 +617,9 @@ told_holds : (past : List Deed) (report : Report) (old new : Stage) → IsCarrie
     → Holds past old → Holds (Told report ∷ past) new
 told_holds past report Blank new carried told holds = absurd told
 told_holds past report (SetUp basis) new carried told holds = ready_holds past report basis new told holds
-told_holds past report (Free basis) new carried told holds = absurd told
-told_holds past report (Busy basis e) new carried told holds =
-    telling_holds past report basis e new carried told holds
+told_holds past report (Free basis tally) new carried told holds = absurd told
+told_holds past report (Busy basis tally e) new carried told holds =
+    telling_holds past report basis tally e new carried told holds
 told_holds past report Ending new carried told holds = end_holds past report new told holds
 told_holds past report Over new carried told holds = absurd told
 
@@ -645,8 +652,8 @@ transcript past Blank (silent, none) = record {
   said = λ basis h. absurd (none basis h);
 }
 transcript past (SetUp basis) holds = set_transcript past basis holds.0
-transcript past (Free basis) holds = set_transcript past basis holds.0
-transcript past (Busy basis e) holds = set_transcript past basis holds.0
+transcript past (Free basis tally) holds = set_transcript past basis holds.0
+transcript past (Busy basis tally e) holds = set_transcript past basis holds.0
 transcript past Ending (basis, set, ready, ordered) = set_transcript past basis set
 transcript past Over (basis, set) = set_transcript past basis set
 

@@ -16,7 +16,9 @@ use Rattle.ug_frames.specs.declared.report.Report.{Report}
 use Rattle.ug_frames.specs.declared.report.Report.TheVariants.{Ready, Solution, Hand, State, Done}
 use Rattle.ug_frames.specs.declared.report.Report.TheVariants.{Ended}
 use Rattle.ug_base.specs.Tasks.{TaskState}
+use Rattle.ug_worker.specs.declared.tally.Tally.{Tally}
 use Rattle.ug_worker.specs.Engagements.{Engaged, IsDoneBy, IsFoundBy, IsHandedBy, IsStatedBy, lowered}
+use Rattle.ug_worker.specs.Renewals.{begun, counted, fresh, usual}
 
 -- bytes came; an order was taken, whose frame had come; or a report was told
 pub data Deed : Type 0 where
@@ -30,12 +32,13 @@ pub record Basis : Type 0 where
   pub gap : ℤ
 
 -- where a worker stands: nothing was ordered yet; the problem came, and Ready is to be told; it has no
--- task; it has one; the end was ordered, and Ended is to be told; nothing comes after
+-- task; it has one; the end was ordered, and Ended is to be told; nothing comes after. From Ready on
+-- it counts its rounds.
 pub data Stage : Type 0 where
   Blank : Stage
   SetUp : Basis → Stage
-  Free : Basis → Stage
-  Busy : Basis → Engaged → Stage
+  Free : Basis → Tally → Stage
+  Busy : Basis → Tally → Engaged → Stage
   Ending : Stage
   Over : Stage
 
@@ -62,10 +65,10 @@ pub record IsSetUp (old : Stage) (gap : ℤ) (bytes : List ℕ) (new : Stage) : 
   pub set : new ≡ SetUp (record { problem = problem; gap = gap })
 
 -- an order of work where there is none, of a box below the root
-pub record IsBegun (basis : Basis) (ticket : Ticket) (params : Params) (race : Bool)
-    (cutoff : Option ℤ) (changes : List Change) (new : Stage) : Type 0 where
+pub record IsBegun (basis : Basis) (tally : Tally) (ticket : Ticket) (params : Params)
+    (race : Bool) (cutoff : Option ℤ) (changes : List Change) (new : Stage) : Type 0 where
   pub valid : AreChangesOf (root_of basis.problem) changes
-  pub begun : new ≡ Busy basis (record {
+  pub begins : new ≡ Busy basis (begun tally) (record {
     task = task_of basis ticket params cutoff (area_by (root_of basis.problem) changes);
     made = 0;
     asked = 0;
@@ -79,31 +82,32 @@ pub record IsForTask (e : Engaged) (ticket : Ticket) (changed old new : Stage) :
       ⊎ ((ticket ≢ e.task.ticket) × (new ≡ old))
 
 -- what the order does to a task, between two rounds
-abbrev pub IsTakenBusy : Basis → Engaged → Order → Stage → Type 0
-IsTakenBusy basis e (Setup gap bytes) new = ⊥
-IsTakenBusy basis e (Work ticket params race cutoff changes) new = ⊥
-IsTakenBusy basis e (Incumbent cutoff) new = (e.made ≡ 0)
-    × (new ≡ Busy basis (record e { task = lowered (Some cutoff) e.task }))
-IsTakenBusy basis e (CollectIn ticket count) new =
-    IsForTask e ticket (Busy basis (record e { asked = count })) (Busy basis e) new
-IsTakenBusy basis e (CollectOut ticket) new =
-    IsForTask e ticket (Busy basis (record e { asked = 0 })) (Busy basis e) new
-IsTakenBusy basis e (Winner ticket) new =
-    IsForTask e ticket (Busy basis (record e { racing = false })) (Busy basis e) new
-IsTakenBusy basis e (Stop ticket) new = IsForTask e ticket (Free basis) (Busy basis e) new
-IsTakenBusy basis e End new = (e.made ≡ 0) × (new ≡ Ending)
+abbrev pub IsTakenBusy : Basis → Tally → Engaged → Order → Stage → Type 0
+IsTakenBusy basis tally e (Setup gap bytes) new = ⊥
+IsTakenBusy basis tally e (Work ticket params race cutoff changes) new = ⊥
+IsTakenBusy basis tally e (Incumbent cutoff) new = (e.made ≡ 0)
+    × (new ≡ Busy basis tally (record e { task = lowered (Some cutoff) e.task }))
+IsTakenBusy basis tally e (CollectIn ticket count) new =
+    IsForTask e ticket (Busy basis tally (record e { asked = count })) (Busy basis tally e) new
+IsTakenBusy basis tally e (CollectOut ticket) new =
+    IsForTask e ticket (Busy basis tally (record e { asked = 0 })) (Busy basis tally e) new
+IsTakenBusy basis tally e (Winner ticket) new =
+    IsForTask e ticket (Busy basis tally (record e { racing = false })) (Busy basis tally e) new
+IsTakenBusy basis tally e (Stop ticket) new =
+    IsForTask e ticket (Free basis tally) (Busy basis tally e) new
+IsTakenBusy basis tally e End new = (e.made ≡ 0) × (new ≡ Ending)
 
 -- what it does where there is no task
-abbrev pub IsTakenFree : Basis → Order → Stage → Type 0
-IsTakenFree basis (Setup gap bytes) new = ⊥
-IsTakenFree basis (Work ticket params race cutoff changes) new =
-    IsBegun basis ticket params race cutoff changes new
-IsTakenFree basis (Incumbent cutoff) new = new ≡ Free basis
-IsTakenFree basis (CollectIn ticket count) new = new ≡ Free basis
-IsTakenFree basis (CollectOut ticket) new = new ≡ Free basis
-IsTakenFree basis (Winner ticket) new = new ≡ Free basis
-IsTakenFree basis (Stop ticket) new = new ≡ Free basis
-IsTakenFree basis End new = new ≡ Ending
+abbrev pub IsTakenFree : Basis → Tally → Order → Stage → Type 0
+IsTakenFree basis tally (Setup gap bytes) new = ⊥
+IsTakenFree basis tally (Work ticket params race cutoff changes) new =
+    IsBegun basis tally ticket params race cutoff changes new
+IsTakenFree basis tally (Incumbent cutoff) new = new ≡ Free basis tally
+IsTakenFree basis tally (CollectIn ticket count) new = new ≡ Free basis tally
+IsTakenFree basis tally (CollectOut ticket) new = new ≡ Free basis tally
+IsTakenFree basis tally (Winner ticket) new = new ≡ Free basis tally
+IsTakenFree basis tally (Stop ticket) new = new ≡ Free basis tally
+IsTakenFree basis tally End new = new ≡ Ending
 
 -- what it does as the first one
 abbrev pub IsTakenFirst : Order → Stage → Type 0
@@ -115,19 +119,19 @@ IsTakenFirst order new = ⊥
 abbrev pub IsTaken : Stage → Order → Stage → Type 0
 IsTaken Blank order new = IsTakenFirst order new
 IsTaken (SetUp basis) order new = ⊥
-IsTaken (Free basis) order new = IsTakenFree basis order new
-IsTaken (Busy basis e) order new = IsTakenBusy basis e order new
+IsTaken (Free basis tally) order new = IsTakenFree basis tally order new
+IsTaken (Busy basis tally e) order new = IsTakenBusy basis tally e order new
 IsTaken Ending order new = ⊥
 IsTaken Over order new = ⊥
 
 -- ---- reports
 
 -- a box that is handed, as its changes
-pub record IsHandTold (basis : Basis) (e : Engaged) (ticket : Ticket) (number : ℕ)
-    (changes : List Change) (f : Engaged) : Type 0 where
+pub record IsHandTold (basis : Basis) (tally : Tally) (e : Engaged) (ticket : Ticket)
+    (number : ℕ) (changes : List Change) (f : Engaged) : Type 0 where
   pub area : List Interval
   pub its : ticket ≡ e.task.ticket
-  pub handed : IsHandedBy e number area f
+  pub handed : IsHandedBy tally e number area f
   pub spells : Spells (root_of basis.problem) changes area
 
 -- the end of a task, its cutoff, and how many boxes were handed
@@ -139,20 +143,21 @@ pub record IsDoneTold (e : Engaged) (ticket : Ticket) (cutoff : Option ℤ) (cou
   pub counted : count ≡ length task.handed
 
 -- what is told of a task
-abbrev pub IsToldBusy : Basis → Engaged → Report → Stage → Type 0
-IsToldBusy basis e Ready new = ⊥
-IsToldBusy basis e (Solution ticket x) new =
-    (f : Engaged) × (ticket ≡ e.task.ticket) × IsFoundBy e x f × (new ≡ Busy basis f)
-IsToldBusy basis e (Hand ticket number changes) new =
-    (f : Engaged) × IsHandTold basis e ticket number changes f × (new ≡ Busy basis f)
-IsToldBusy basis e (State ticket nodes floor) new =
-    (f : Engaged) × (ticket ≡ e.task.ticket) × IsStatedBy e nodes floor f × (new ≡ Busy basis f)
-IsToldBusy basis e (Done ticket cutoff count ending) new =
-    IsDoneTold e ticket cutoff count × (new ≡ Free basis)
-IsToldBusy basis e Ended new = ⊥
+abbrev pub IsToldBusy : Basis → Tally → Engaged → Report → Stage → Type 0
+IsToldBusy basis tally e Ready new = ⊥
+IsToldBusy basis tally e (Solution ticket x) new =
+    (f : Engaged) × (ticket ≡ e.task.ticket) × IsFoundBy e x f × (new ≡ Busy basis tally f)
+IsToldBusy basis tally e (Hand ticket number changes) new =
+    (f : Engaged) × IsHandTold basis tally e ticket number changes f × (new ≡ Busy basis tally f)
+IsToldBusy basis tally e (State ticket nodes floor) new =
+    (f : Engaged) × (ticket ≡ e.task.ticket) × IsStatedBy tally e nodes floor f
+    × (new ≡ Busy basis (counted tally) f)
+IsToldBusy basis tally e (Done ticket cutoff count ending) new =
+    IsDoneTold e ticket cutoff count × (new ≡ Free basis tally)
+IsToldBusy basis tally e Ended new = ⊥
 
 abbrev pub IsReadyTold : Basis → Report → Stage → Type 0
-IsReadyTold basis Ready new = new ≡ Free basis
+IsReadyTold basis Ready new = new ≡ Free basis (fresh (Some usual))
 IsReadyTold basis report new = ⊥
 
 abbrev pub IsEndTold : Report → Stage → Type 0
@@ -163,7 +168,7 @@ IsEndTold report new = ⊥
 abbrev pub IsTold : Stage → Report → Stage → Type 0
 IsTold Blank report new = ⊥
 IsTold (SetUp basis) report new = IsReadyTold basis report new
-IsTold (Free basis) report new = ⊥
-IsTold (Busy basis e) report new = IsToldBusy basis e report new
+IsTold (Free basis tally) report new = ⊥
+IsTold (Busy basis tally e) report new = IsToldBusy basis tally e report new
 IsTold Ending report new = IsEndTold report new
 IsTold Over report new = ⊥

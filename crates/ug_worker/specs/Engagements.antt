@@ -1,14 +1,17 @@
 -- A task in a worker's hands, and what the worker does between two looks at its orders: a round of so
--- many steps, then the boxes that are asked for, then what is left.
+-- many steps, then the boxes that are asked for, then what is left; or, where the task is to be
+-- renewed, all boxes.
 use Rattle.std.specs.Prelude.{◌≡◌, ◌⊎◌, ℕ, ℤ, zero, suc, ◌+◌, ◌-◌, ◌<◌, ◌≤◌, Bool, true, false, List, [], length}
 use Rattle.std.specs.Prelude.{Option, Some, None, if◌then◌else◌}
 use Rattle.ug_rows.specs.declared.area.Interval.{Interval}
-use Rattle.ug_base.specs.Hands.{IsHanded}
+use Rattle.ug_base.specs.Hands.{IsGiven}
 use Rattle.ug_base.specs.Steps.{IsFound, IsPruned, IsSplit}
 use Rattle.ug_base.specs.Tasks.{IsLeastFloor, IsTask, TaskState, lesser_of}
 use Rattle.ug_worker.specs.declared.reply.Reply.{Reply}
+use Rattle.ug_worker.specs.declared.tally.Tally.{Tally}
 use Rattle.ug_worker.specs.declared.took.Took.{Took}
 use Rattle.ug_worker.specs.declared.took.Took.TheVariants as took
+use Rattle.ug_worker.specs.Renewals.{IsDue, begun}
 
 -- how many steps a round has
 abbrev pub steps_of_round : ℕ
@@ -53,22 +56,38 @@ pub record IsFoundBy (e : Engaged) (x : List ℤ) (f : Engaged) : Type 0 where
   pub own : IsTask f.task
   pub same : f ≡ record e { task = f.task; made = count + 1 }
 
--- the round is over, and a box that is asked for was handed
-pub record IsHandedBy (e : Engaged) (number : ℕ) (area : List Interval) (f : Engaged)
-    : Type 0 where
+-- a box is asked for, and another is left
+pub record IsWanted (e : Engaged) (task : TaskState) : Type 0 where
+  pub due : 0 < due_of e
+  pub two : 2 ≤ length task.boxes
+
+-- all boxes that are asked for were handed, unless fewer than two are left
+abbrev pub HasObliged : Engaged → TaskState → Type 0
+HasObliged e task = (due_of e ≡ 0) ⊎ (length task.boxes < 2)
+
+-- then all others are given, where the task is to be renewed
+pub record IsRenewed (tally : Tally) (e : Engaged) (task : TaskState) : Type 0 where
+  pub obliged : HasObliged e task
+  pub due : IsDue tally e.racing
+
+-- the round is over, and a box was handed that is asked for, or given
+pub record IsHandedBy (tally : Tally) (e : Engaged) (number : ℕ) (area : List Interval)
+    (f : Engaged) : Type 0 where
   pub task : TaskState
   pub since : IsSince e task steps_of_round
-  pub due : 0 < due_of e
-  pub handed : IsHanded task f.task (record { number = number; area = area })
+  pub cause : IsWanted e task ⊎ IsRenewed tally e task
+  pub handed : IsGiven task f.task (record { number = number; area = area })
   pub own : IsTask f.task
   pub same : f ≡ record e { task = f.task; made = steps_of_round; asked = e.asked - 1 }
 
--- the round is over, all boxes that are asked for were handed, unless fewer than two are left, and so
--- many are left, of which the least floor is this
-pub record IsStatedBy (e : Engaged) (left : ℕ) (floor : ℤ) (f : Engaged) : Type 0 where
+-- the round is over, all boxes that are asked for were handed, unless fewer than two are left, the
+-- task is not to be renewed, and so many are left, of which the least floor is this
+pub record IsStatedBy (tally : Tally) (e : Engaged) (left : ℕ) (floor : ℤ) (f : Engaged)
+    : Type 0 where
   pub task : TaskState
   pub since : IsSince e task steps_of_round
-  pub given : (due_of e ≡ 0) ⊎ (length task.boxes < 2)
+  pub obliged : HasObliged e task
+  pub kept : ¬ IsDue tally e.racing
   pub count : left ≡ length task.boxes
   pub least : IsLeastFloor task.problem task.boxes floor
   pub same : f ≡ record e { task = task; made = 0 }
@@ -90,29 +109,30 @@ pub record IsBegun (e : Engaged) (task : TaskState) : Type 0 where
   pub its : e.task ≡ task
   pub made : e.made ≡ 0
 
-module _ (At : Option Engaged → Type 0) where
+-- so it is by an answer
+abbrev pub due_by : Reply → ℕ
+due_by reply = (if reply.racing then 0 else reply.collect)
+
+module _ (At : Tally → Option Engaged → Type 0) where
   -- with a task or without one
   abbrev pub Stands : Type 0
-  Stands = (some : Option Engaged) × At some
+  Stands = (tally : Tally) × (some : Option Engaged) × At tally some
 
+module _ (At : Option Engaged → Type 0) where
   -- a task was begun
   pub record HasBegun (task : TaskState) : Type 0 where
     pub now : Engaged
     pub at : At (Some now)
     pub begun : IsBegun now task
 
-  -- what a worker took: a task, nothing for now, or word that no work comes any more
-  abbrev pub HasTaken : Type 0 → Took → Type 0
-  HasTaken Over (took.Work task) = HasBegun task
-  HasTaken Over took.Wait = At None
-  HasTaken Over took.Over = Over
-
-  -- the task goes on, under the cutoff told, and so many boxes are to be handed
+  -- the task goes on, under the cutoff told, so many boxes are to be handed, and others have the same
+  -- box or not
   pub record GoesOn (task : TaskState) (reply : Reply) : Type 0 where
     pub now : Engaged
     pub at : At (Some now)
     pub made : now.made ≡ 0
-    pub due : due_of now ≡ reply.collect
+    pub due : due_of now ≡ due_by reply
+    pub racing : now.racing ≡ reply.racing
     pub its : now.task ≡ lowered reply.cutoff task
 
   -- the task is to be dropped, or goes on
@@ -122,3 +142,9 @@ module _ (At : Option Engaged → Type 0) where
 
   abbrev pub IsReplied : TaskState → Reply → Type 0
   IsReplied task reply = is_replied reply.stop task reply
+
+-- what a worker took: a task, nothing for now, or word that no work comes any more
+abbrev pub HasTaken : (Tally → Option Engaged → Type 0) → Tally → Type 0 → Took → Type 0
+HasTaken At tally Over (took.Work task) = HasBegun (At (begun tally)) task
+HasTaken At tally Over took.Wait = At tally None
+HasTaken At tally Over took.Over = Over

@@ -1,3 +1,4 @@
+pub mod Renewals
 pub mod Engagements
 pub mod Workers
 pub mod Deeds

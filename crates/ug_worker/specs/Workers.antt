@@ -1,43 +1,60 @@
 -- How a worker stands to its task within a round, and how it leaves it.
 use Rattle.std.specs.Prelude.{◌≡◌, ◌⊎◌, ℕ, ◌+◌, ◌<◌, Bool, true, false, [], length, Option, Some, None}
 use Rattle.ug_base.specs.Tasks.{TaskState}
-use Rattle.ug_worker.specs.Engagements.{Engaged, IsDoneBy, IsSince, Stands, due_of, steps_of_round}
+use Rattle.ug_worker.specs.Engagements.{Engaged, IsDoneBy, IsRenewed, IsSince, Stands, due_of}
+use Rattle.ug_worker.specs.Engagements.{steps_of_round}
+use Rattle.ug_worker.specs.Renewals.{IsDue}
 use Rattle.ug_worker.specs.declared.pace.Pace.{Pace}
 use Rattle.ug_worker.specs.declared.pace.Pace.TheVariants as pace
+use Rattle.ug_worker.specs.declared.search.Asked.{Asked}
 use Rattle.ug_worker.specs.declared.search.Search.{Search}
 use Rattle.ug_worker.specs.declared.search.Left.{Left}
 use Rattle.ug_worker.specs.declared.search.Left.TheVariants.{Nothing, Dropped, Wanting}
+use Rattle.ug_worker.specs.declared.tally.Tally.{Tally}
 
 module _ (At : Option Engaged → Type 0) where
-  -- so many steps of the round are made, and so many boxes are to be handed
-  pub record StandsAt (task : TaskState) (count due : ℕ) : Type 0 where
+  -- so many steps of the round are made, and this is asked for
+  pub record StandsAt (task : TaskState) (count : ℕ) (asked : Asked) : Type 0 where
     pub now : Engaged
     pub at : At (Some now)
     pub since : IsSince now task count
-    pub asked : due_of now ≡ due
+    pub due : due_of now ≡ asked.count
+    pub racing : now.racing ≡ asked.racing
 
   -- the round is over, or no box is left within it
-  pub record HasStepped (task : TaskState) (due : ℕ) : Type 0 where
+  pub record HasStepped (task : TaskState) (asked : Asked) : Type 0 where
     pub count : ℕ
-    pub stands : StandsAt task count due
+    pub stands : StandsAt task count asked
     pub over : (count ≡ steps_of_round) ⊎ (task.boxes ≡ [])
 
   -- a step more was made, or no box is left
-  abbrev pub HasMade : Bool → ℕ → TaskState → ℕ → Type 0
-  HasMade true made task due = StandsAt task (made + 1) due
-  HasMade false made task due = StandsAt task made due × (task.boxes ≡ [])
+  abbrev pub HasMade : Bool → ℕ → TaskState → Asked → Type 0
+  HasMade true made task asked = StandsAt task (made + 1) asked
+  HasMade false made task asked = StandsAt task made asked × (task.boxes ≡ [])
 
   -- all boxes that were asked for are handed, unless fewer than two are left
-  pub record HasHanded (task : TaskState) (due : ℕ) : Type 0 where
-    pub stands : StandsAt task steps_of_round due
-    pub all : (due ≡ 0) ⊎ (length task.boxes < 2)
+  pub record HasHanded (task : TaskState) (asked : Asked) : Type 0 where
+    pub stands : StandsAt task steps_of_round asked
+    pub all : (asked.count ≡ 0) ⊎ (length task.boxes < 2)
     pub some : 0 < length task.boxes
 
   -- one of so many boxes was handed, or fewer than two are left
-  abbrev pub HasGiven : Bool → ℕ → TaskState → ℕ → Type 0
-  HasGiven true asked task due =
-      StandsAt task steps_of_round due × (asked ≡ due + 1) × (0 < length task.boxes)
-  HasGiven false asked task due = HasHanded task due
+  abbrev pub HasGiven : Bool → ℕ → TaskState → Asked → Type 0
+  HasGiven true count task asked =
+      StandsAt task steps_of_round asked × (count ≡ asked.count + 1) × (0 < length task.boxes)
+  HasGiven false count task asked = HasHanded task asked
+
+  -- then it is told what is left, unless the task is to be renewed
+  pub record IsToTell (tally : Tally) (task : TaskState) (asked : Asked) : Type 0 where
+    pub handed : HasHanded task asked
+    pub kept : ¬ IsDue tally asked.racing
+
+  -- the task is to be renewed, and boxes are given until none is left
+  pub record IsGiving (tally : Tally) (task : TaskState) : Type 0 where
+    pub now : Engaged
+    pub at : At (Some now)
+    pub since : IsSince now task steps_of_round
+    pub renewed : IsRenewed tally now task
 
   -- the search of the task is over
   pub record IsSearched (task : TaskState) : Type 0 where
@@ -45,19 +62,20 @@ module _ (At : Option Engaged → Type 0) where
     pub at : At (Some now)
     pub done : IsDoneBy now task
 
+module _ (At : Tally → Option Engaged → Type 0) where
   -- how it is left: where it says that no box is left, none is
-  abbrev pub EndsAs : Left → TaskState → Type 0
-  EndsAs Nothing task = IsSearched task
-  EndsAs Dropped task = At None
-  EndsAs Wanting task = Stands At
+  abbrev pub EndsAs : Tally → Left → TaskState → Type 0
+  EndsAs tally Nothing task = IsSearched (At tally) task
+  EndsAs tally Dropped task = At tally None
+  EndsAs tally Wanting task = Stands At
 
   -- it stands to the task that it searches, if it has one, before a round
-  abbrev pub IsAtWork : Option Search → Type 0
-  IsAtWork None = At None
-  IsAtWork (Some search) = StandsAt search.task 0 search.collect
+  abbrev pub IsAtWork : Tally → Option Search → Type 0
+  IsAtWork tally None = At tally None
+  IsAtWork tally (Some search) = StandsAt (At search.tally) search.task 0 search.asked
 
   -- so it is behind a step, or no work comes any more
-  abbrev pub HasPaced : Type 0 → Option Search → Pace → Type 0
-  HasPaced Over search pace.On = IsAtWork search
-  HasPaced Over search pace.Waits = (search ≡ None) × At None
-  HasPaced Over search pace.Over = Over
+  abbrev pub HasPaced : Type 0 → Tally → Option Search → Pace → Type 0
+  HasPaced Over tally search pace.On = IsAtWork tally search
+  HasPaced Over tally search pace.Waits = (search ≡ None) × At tally None
+  HasPaced Over tally search pace.Over = Over

@@ -87,8 +87,15 @@ impl<'a> WorkerCrew<'a> {
         self.staff.exchanged()
     }
 
-    /// At each moment what was heard from each rank was what a worker tells that hears what was told to
-    /// it by then.
+    /// How often a call failed, up to the end of the count.
+    pub fn faults(&self) -> u64
+        ensures { result ≡ (crew_seen self.now).faults }
+    {
+        self.faults
+    }
+
+    /// At each moment what was heard from each rank was what a worker tells that hears what was told
+    /// to it by then.
     pub fn is_worked(&self)
         ensures { AreAlwaysWorked (exchanged_of self.now) }
     {

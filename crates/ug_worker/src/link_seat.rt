@@ -6,6 +6,7 @@ ghost use Rattle.ug_problem.specs.Instances.{root_of};
 ghost use Rattle.ug_nodes.specs.Changes.{IsAreaRefused};
 ghost use Rattle.ug_base.specs.Tasks.{TaskState, lesser_of};
 ghost use Rattle.ug_frames.specs.declared.order.Order.TheVariants.{Work};
+ghost use Rattle.ug_worker.specs.declared.tally.Tally.{Tally};
 ghost use Rattle.ug_worker.specs.Engagements.{Engaged, HasTaken, IsReplied, lowered};
 ghost use Rattle.ug_worker.specs.Seats.{IsGoing, IsObeyed, IsOrdered, IsOver, IsSeated, IsTaskOf, basis_of};
 ghost use Rattle.ug_worker.specs.Deeds.{task_of};
@@ -38,9 +39,9 @@ impl<L: Link + Drop> LinkSeat<L> {
 
     // No order is there: more may come, or the service has ended.
     fn idle(&self) -> Took
-        requires { IsSeated (seat_seen L.seen self.now.wire self.now.kept) None }
-        ensures { HasTaken
-            (IsSeated (seat_seen L.seen self.now.wire self.now.kept))
+        ensures { (tally : Tally)
+            → IsSeated (seat_seen L.seen self.now.wire self.now.kept) tally None
+            → HasTaken (IsSeated (seat_seen L.seen self.now.wire self.now.kept)) tally
             (IsOver (seat_seen L.seen self.now.wire self.now.kept)) result }
     {
         match self.wire.end {
@@ -51,11 +52,13 @@ impl<L: Link + Drop> LinkSeat<L> {
 
     // Does as is ordered where there is no task: takes a task, or ends, or goes on.
     fn receive(&mut self, order: Order) -> Option<Took>
-        requires { IsOrdered (seat_seen L.seen self.old.wire self.old.kept) None order }
-        ensures { MatchOption result
-            (IsSeated (seat_seen L.seen self.new.wire self.new.kept) None)
-            (HasTaken
-            (IsSeated (seat_seen L.seen self.new.wire self.new.kept))
+        requires { (tally : Tally)
+            × IsOrdered (seat_seen L.seen self.old.wire self.old.kept) tally None order }
+        ensures { (tally : Tally)
+            → IsOrdered (seat_seen L.seen self.old.wire self.old.kept) tally None order
+            → MatchOption result
+            (IsSeated (seat_seen L.seen self.new.wire self.new.kept) tally None)
+            (HasTaken (IsSeated (seat_seen L.seen self.new.wire self.new.kept)) tally
             (IsOver (seat_seen L.seen self.new.wire self.new.kept))) }
     {
         match order {
@@ -91,10 +94,13 @@ impl<L: Link + Drop> LinkSeat<L> {
         cutoff: Option<i128>,
         changes: &Changes,
     ) -> Took
-        requires { IsOrdered (seat_seen L.seen self.old.wire self.old.kept) None
+        requires { (tally : Tally)
+            × IsOrdered (seat_seen L.seen self.old.wire self.old.kept) tally None
             (Work ticket params race cutoff changes.now) }
-        ensures { HasTaken
-            (IsSeated (seat_seen L.seen self.new.wire self.new.kept))
+        ensures { (tally : Tally)
+            → IsOrdered (seat_seen L.seen self.old.wire self.old.kept) tally None
+            (Work ticket params race cutoff changes.now)
+            → HasTaken (IsSeated (seat_seen L.seen self.new.wire self.new.kept)) tally
             (IsOver (seat_seen L.seen self.new.wire self.new.kept)) result }
     {
         match self.task(ticket, params, cutoff, changes) {
@@ -173,12 +179,12 @@ impl<L: Link + Drop> LinkSeat<L> {
 
     // Obeys an order between two rounds, which may lower the cutoff. False where the task is dropped.
     fn obey(&mut self, order: Order, cutoff: &mut Option<i128>) -> bool
-        requires { (e : Engaged) × (e.made ≡ 0)
-            × IsOrdered (seat_seen L.seen self.old.wire self.old.kept) (Some e) order }
-        ensures obeyed { (e : Engaged) (task : TaskState) → e.made ≡ 0
-            → IsOrdered (seat_seen L.seen self.old.wire self.old.kept) (Some e) order
+        requires { (tally : Tally) × (e : Engaged) × (e.made ≡ 0)
+            × IsOrdered (seat_seen L.seen self.old.wire self.old.kept) tally (Some e) order }
+        ensures obeyed { (tally : Tally) (e : Engaged) (task : TaskState) → e.made ≡ 0
+            → IsOrdered (seat_seen L.seen self.old.wire self.old.kept) tally (Some e) order
             → e.task ≡ lowered cutoff.old task
-            → IsObeyed result (seat_seen L.seen self.new.wire self.new.kept) task cutoff.new }
+            → IsObeyed result (seat_seen L.seen self.new.wire self.new.kept) tally task cutoff.new }
         ensures small { IsSmallCutoff cutoff.old → IsSmallCutoff cutoff.new }
     {
         match order {
@@ -217,20 +223,24 @@ impl<L: Link + Drop> LinkSeat<L> {
     // The task goes on under the cutoff, unless the service has ended.
     fn reply(&self, cutoff: Option<i128>) -> Reply
         ensures small { result.cutoff ≡ cutoff }
-        ensures replied { (task : TaskState) → IsGoing (seat_seen L.seen self.now.wire self.now.kept) task cutoff
-            → IsReplied (IsSeated (seat_seen L.seen self.now.wire self.now.kept)) task result }
+        ensures replied { (tally : Tally) (task : TaskState)
+            → IsGoing (seat_seen L.seen self.now.wire self.now.kept) tally task cutoff
+            → IsReplied (IsSeated (seat_seen L.seen self.now.wire self.now.kept) tally) task result }
     {
-        let collect = if self.kept.racing { 0 } else { self.kept.asked };
+        let collect = self.kept.asked;
+        let racing = self.kept.racing;
         match self.wire.end {
             None => Reply {
                 cutoff,
                 collect,
                 stop: false,
+                racing,
             },
             Some(_) => Reply {
                 cutoff,
                 collect,
                 stop: true,
+                racing,
             },
         }
     }
@@ -240,7 +250,7 @@ impl<L: Link + Drop> Seat for LinkSeat<L> {
     ghost use Rattle.ug_worker.specs.Seats.{IsOver, IsSeated};
     ghost use Rattle.ug_worker.specs.SeatViews.{seat_seen};
 
-    ghost at = { λ seat some. IsSeated (seat_seen L.seen seat.wire seat.kept) some };
+    ghost at = { λ seat tally some. IsSeated (seat_seen L.seen seat.wire seat.kept) tally some };
 
     ghost over = { λ seat. IsOver (seat_seen L.seen seat.wire seat.kept) };
 
@@ -267,6 +277,7 @@ impl<L: Link + Drop> Seat for LinkSeat<L> {
                     cutoff,
                     collect: 0,
                     stop: true,
+                    racing: false,
                 };
             }
         }

@@ -1,4 +1,4 @@
-ghost use Rattle.std.specs.Prelude.{◌≡◌, None, false};
+ghost use Rattle.std.specs.Prelude.{◌≡◌, None, true, false};
 ghost use Rattle.ug_problem.specs.Better.{IsSmallCutoff};
 
 /// No value of a point of a problem, and so no cutoff, is greater.
@@ -9,21 +9,24 @@ const MOST: u128 = 20_000_000_000_000_000_000_000_000_000_000_000_000;
 pub struct Reply {
     /// The incumbent's cutoff, if there is an incumbent.
     pub cutoff: Option<i128>,
-    /// How many boxes are still to be handed.
+    /// How many boxes are still to be handed, where no others have the same box.
     pub collect: u32,
     /// Whether the task is to be dropped.
     pub stop: bool,
+    /// Whether others have the same box, or may have it.
+    pub racing: bool,
 }
 
 impl Reply {
-    /// The task goes on as it is.
+    /// The task goes on as it is, and nothing is known of others.
     pub fn nothing() -> Reply
-        ensures { result ≡ record { cutoff = None; collect = 0; stop = false } }
+        ensures { result ≡ record { cutoff = None; collect = 0; stop = false; racing = true } }
     {
         Reply {
             cutoff: None,
             collect: 0,
             stop: false,
+            racing: true,
         }
     }
 

@@ -3,11 +3,13 @@
 ghost use Rattle.std.specs.Prelude.{◌≡◌, ◌<◌, ◌≤◌, ◌+◌, ◌*◌, ◌^◌, [], true, false, length, unsigned_abs, IfErr, IfOk, OnErr, OnOk};
 ghost use Rattle.ug_problem.specs.Better.{IsSmallCutoff};
 ghost use Rattle.ug_base.specs.Tasks.{IsLeastFloor, IsTask};
-ghost use Rattle.ug_worker.specs.Engagements.{HasBegun, IsReplied, Stands, lowered};
-ghost use Rattle.ug_worker.specs.Workers.{EndsAs, HasHanded, HasStepped, HasGiven, HasMade, StandsAt};
+ghost use Rattle.ug_worker.specs.Engagements.{HasBegun, IsReplied, Stands, due_by, lowered};
+ghost use Rattle.ug_worker.specs.Renewals.{IsDue};
+ghost use Rattle.ug_worker.specs.Workers.{EndsAs, HasHanded, HasStepped, HasGiven, HasMade, IsGiving, IsToTell, StandsAt};
 
 use crate::reply::Reply;
 use crate::seat::Seat;
+use crate::tally::Tally;
 use std::alloc::AllocError;
 use ug_base::{Step, Task};
 
@@ -25,32 +27,45 @@ pub enum Left {
     Wanting,
 }
 
+/// What is asked of a worker between two rounds.
+#[derive(Clone, Copy, PartialEq, Eq)]
+pub struct Asked {
+    /// How many boxes are to be handed.
+    pub count: u32,
+    /// Whether others have the same box.
+    pub racing: bool,
+}
+
 /// A task that is searched.
 #[derive(Drop)]
 pub struct Search {
     pub task: Task,
-    /// How many boxes are to be handed.
-    pub collect: u32,
+    pub tally: Tally,
+    pub asked: Asked,
 }
 
 impl Search {
     /// Begins with a task: does as was ordered before its first round; how the worker stands to a
     /// task that ends here.
     pub fn begin<S: Seat>(&mut self, seat: &mut S) -> Result<(), Left>
-        requires { HasBegun (S.at seat.old) self.old.task }
-        ensures ok { OnOk result (StandsAt (S.at seat.new) self.new.task 0 self.new.collect) }
-        ensures err { IfErr result (λ left. EndsAs (S.at seat.new) left self.new.task) }
+        requires { HasBegun (S.at seat.old self.old.tally) self.old.task }
+        ensures ok { OnOk result
+            (StandsAt (S.at seat.new self.new.tally) self.new.task 0 self.new.asked) }
+        ensures err { IfErr result
+            (λ left. EndsAs (S.at seat.new) self.new.tally left self.new.task) }
     {
         let reply = seat.look();
         self.obey(seat, reply)
     }
 
-    /// Some steps, and what is then to be handed and told; how the worker stands to a task that ends
-    /// here.
+    /// Some steps, and what is then to be handed and told, or all that is left given; how the worker
+    /// stands to a task that ends here.
     pub fn round<S: Seat>(&mut self, seat: &mut S) -> Result<(), Left>
-        requires { StandsAt (S.at seat.old) self.old.task 0 self.old.collect }
-        ensures ok { OnOk result (StandsAt (S.at seat.new) self.new.task 0 self.new.collect) }
-        ensures err { IfErr result (λ left. EndsAs (S.at seat.new) left self.new.task) }
+        requires { StandsAt (S.at seat.old self.old.tally) self.old.task 0 self.old.asked }
+        ensures ok { OnOk result
+            (StandsAt (S.at seat.new self.new.tally) self.new.task 0 self.new.asked) }
+        ensures err { IfErr result
+            (λ left. EndsAs (S.at seat.new) self.new.tally left self.new.task) }
     {
         if self.steps(seat).is_err() {
             return Err(Left::Wanting);
@@ -62,13 +77,17 @@ impl Search {
         if self.hands(seat).is_err() {
             return Err(Left::Wanting);
         }
+        if self.tally.is_due(self.asked.racing) {
+            return Err(self.renew(seat));
+        }
         self.tell(seat)
     }
 
     // Makes the steps of a round, or fewer where no box is left.
     fn steps<S: Seat>(&mut self, seat: &mut S) -> Result<(), AllocError>
-        requires { StandsAt (S.at seat.old) self.old.task 0 self.old.collect }
-        ensures ok { OnOk result (HasStepped (S.at seat.new) self.new.task self.new.collect) }
+        requires { StandsAt (S.at seat.old self.old.tally) self.old.task 0 self.old.asked }
+        ensures ok { OnOk result
+            (HasStepped (S.at seat.new self.new.tally) self.new.task self.new.asked) }
         ensures err { OnErr result (Stands (S.at seat.new)) }
     {
         for made in 0..STEPS {
@@ -81,10 +100,11 @@ impl Search {
 
     // Makes a step, and tells the point that it finds. False where no box is left.
     fn step<S: Seat>(&mut self, seat: &mut S, made: u32) -> Result<bool, AllocError>
-        requires stands { StandsAt (S.at seat.old) self.old.task made self.old.collect }
+        requires stands { StandsAt (S.at seat.old self.old.tally) self.old.task made self.old.asked }
         requires room { made < 64 }
-        ensures stands { IfOk result (λ more. HasMade (S.at seat.new) more made self.new.task
-            self.new.collect) }
+        ensures stands { IfOk result
+            (λ more. HasMade (S.at seat.new self.new.tally) more made self.new.task
+            self.new.asked) }
         ensures err { OnErr result (Stands (S.at seat.new)) }
     {
         match self.task.step()? {
@@ -101,12 +121,13 @@ impl Search {
 
     // Hands as many boxes as are asked for, or fewer where not two are left.
     fn hands<S: Seat>(&mut self, seat: &mut S) -> Result<(), AllocError>
-        requires stands { StandsAt (S.at seat.old) self.old.task 64 self.old.collect }
+        requires stands { StandsAt (S.at seat.old self.old.tally) self.old.task 64 self.old.asked }
         requires left { 0 < length self.old.task.boxes }
-        ensures ok { OnOk result (HasHanded (S.at seat.new) self.new.task self.new.collect) }
+        ensures ok { OnOk result
+            (HasHanded (S.at seat.new self.new.tally) self.new.task self.new.asked) }
         ensures err { OnErr result (Stands (S.at seat.new)) }
     {
-        for _ in 0..self.collect {
+        for _ in 0..self.asked.count {
             if !self.hand(seat)? {
                 return Ok(());
             }
@@ -116,11 +137,11 @@ impl Search {
 
     // Hands a box. False where not two are left.
     fn hand<S: Seat>(&mut self, seat: &mut S) -> Result<bool, AllocError>
-        requires stands { StandsAt (S.at seat.old) self.old.task 64 self.old.collect }
-        requires some { 0 < self.old.collect }
+        requires stands { StandsAt (S.at seat.old self.old.tally) self.old.task 64 self.old.asked }
+        requires some { 0 < self.old.asked.count }
         requires left { 0 < length self.old.task.boxes }
-        ensures given { IfOk result (λ more. HasGiven (S.at seat.new) more self.old.collect
-            self.new.task self.new.collect) }
+        ensures given { IfOk result (λ more. HasGiven (S.at seat.new self.new.tally) more
+            self.old.asked.count self.new.task self.new.asked) }
         ensures err { OnErr result (Stands (S.at seat.new)) }
     {
         let Some(handed) = self.task.hand()? else {
@@ -130,15 +151,66 @@ impl Search {
         let told = seat.hand(handed.number, &handed.area);
         drop(handed);
         told?;
-        self.collect -= 1;
+        self.asked.count -= 1;
         Ok(true)
+    }
+
+    // Renews the task: gives all that is left, so that none is.
+    fn renew<S: Seat>(&mut self, seat: &mut S) -> Left
+        requires handed { HasHanded (S.at seat.old self.old.tally) self.old.task self.old.asked }
+        requires due { IsDue self.old.tally self.old.asked.racing }
+        ensures { EndsAs (S.at seat.new) self.new.tally result self.new.task }
+    {
+        match self.give_all(seat) {
+            Ok(()) => {
+                is_one(&self.task);
+                Left::Nothing
+            }
+            Err(_) => Left::Wanting,
+        }
+    }
+
+    // Gives each box that is left, in order.
+    fn give_all<S: Seat>(&mut self, seat: &mut S) -> Result<(), AllocError>
+        requires { IsGiving (S.at seat.old self.old.tally) self.old.tally self.old.task }
+        ensures given { OnOk result
+            (IsGiving (S.at seat.new self.new.tally) self.new.tally self.new.task) }
+        ensures none { OnOk result (self.new.task.boxes ≡ []) }
+        ensures err { OnErr result (Stands (S.at seat.new)) }
+    {
+        for _ in 0..self.task.left() {
+            self.give(seat)?;
+        }
+        Ok(())
+    }
+
+    // Gives the first box left.
+    fn give<S: Seat>(&mut self, seat: &mut S) -> Result<(), AllocError>
+        requires giving { IsGiving (S.at seat.old self.old.tally) self.old.tally self.old.task }
+        requires left { 0 < length self.old.task.boxes }
+        ensures given { OnOk result
+            (IsGiving (S.at seat.new self.new.tally) self.new.tally self.new.task) }
+        ensures less { OnOk result (length self.old.task.boxes ≡ length self.new.task.boxes + 1) }
+        ensures err { OnErr result (Stands (S.at seat.new)) }
+    {
+        let Some(handed) = self.task.give()? else {
+            unreachable!()
+        };
+        is_one(&self.task);
+        let told = seat.hand(handed.number, &handed.area);
+        drop(handed);
+        told?;
+        Ok(())
     }
 
     // Tells what is left, and does as is answered.
     fn tell<S: Seat>(&mut self, seat: &mut S) -> Result<(), Left>
-        requires { HasHanded (S.at seat.old) self.old.task self.old.collect }
-        ensures ok { OnOk result (StandsAt (S.at seat.new) self.new.task 0 self.new.collect) }
-        ensures err { IfErr result (λ left. EndsAs (S.at seat.new) left self.new.task) }
+        requires { IsToTell (S.at seat.old self.old.tally) self.old.tally self.old.task
+            self.old.asked }
+        ensures ok { OnOk result
+            (StandsAt (S.at seat.new self.new.tally) self.new.task 0 self.new.asked) }
+        ensures err { IfErr result
+            (λ left. EndsAs (S.at seat.new) self.new.tally left self.new.task) }
     {
         let left = self.task.left();
         match self.task.lowest() {
@@ -149,34 +221,52 @@ impl Search {
 
     // Tells that so many boxes are left, and the least of their floors.
     fn state<S: Seat>(&mut self, seat: &mut S, left: u64, floor: i128) -> Result<(), Left>
-        requires handed { HasHanded (S.at seat.old) self.old.task self.old.collect }
+        requires told { IsToTell (S.at seat.old self.old.tally) self.old.tally self.old.task
+            self.old.asked }
         requires count { left ≡ length self.old.task.boxes }
         requires least { IsLeastFloor self.old.task.problem self.old.task.boxes floor }
         requires value { unsigned_abs floor ≤ 2 * 10 ^ 37 }
-        ensures ok { OnOk result (StandsAt (S.at seat.new) self.new.task 0 self.new.collect) }
-        ensures err { IfErr result (λ left. EndsAs (S.at seat.new) left self.new.task) }
+        ensures ok { OnOk result
+            (StandsAt (S.at seat.new self.new.tally) self.new.task 0 self.new.asked) }
+        ensures err { IfErr result
+            (λ left. EndsAs (S.at seat.new) self.new.tally left self.new.task) }
     {
         match seat.state(left, floor) {
-            Ok(reply) => self.obey(seat, reply),
+            Ok(reply) => {
+                self.tally.count();
+                self.obey(seat, reply)
+            }
             Err(_) => Err(Left::Wanting),
         }
     }
 
     // Goes on as is ordered.
     fn obey<S: Seat>(&mut self, seat: &S, reply: Reply) -> Result<(), Left>
-        requires replied { IsReplied (S.at seat.now) self.old.task reply }
+        requires replied { IsReplied (S.at seat.now self.old.tally) self.old.task reply }
         requires small { IsSmallCutoff reply.cutoff }
-        ensures ok { OnOk result (StandsAt (S.at seat.now) self.new.task 0 self.new.collect) }
-        ensures err { IfErr result (λ left. EndsAs (S.at seat.now) left self.new.task) }
+        ensures ok { OnOk result
+            (StandsAt (S.at seat.now self.new.tally) self.new.task 0 self.new.asked) }
+        ensures err { IfErr result
+            (λ left. EndsAs (S.at seat.now) self.new.tally left self.new.task) }
     {
         let _seat = seat;
         if reply.stop {
             return Err(Left::Dropped);
         }
         lower(&mut self.task, reply.cutoff);
-        self.collect = reply.collect;
+        self.asked = Asked {
+            count: due_by(reply),
+            racing: reply.racing,
+        };
         Ok(())
     }
+}
+
+// How many boxes are to be handed: none as long as others have the same box.
+fn due_by(reply: Reply) -> u32
+    ensures { result ≡ due_by reply }
+{
+    if reply.racing { 0 } else { reply.collect }
 }
 
 // Lowers the cutoff, where one is told.

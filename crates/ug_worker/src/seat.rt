@@ -2,7 +2,9 @@ ghost use Rattle.std.specs.Prelude.{◌≡◌, ◌*◌, ◌^◌, ◌≤◌, ◌<
 ghost use Rattle.ug_problem.specs.Better.{IsSmallCutoff};
 ghost use Rattle.ug_base.specs.Tasks.{TaskState};
 ghost use Rattle.ug_rows.specs.declared.area.Interval.{Interval};
+ghost use Rattle.ug_worker.specs.declared.tally.Tally.{Tally};
 ghost use Rattle.ug_worker.specs.Engagements.{Engaged, HasTaken, IsDoneBy, IsFoundBy, IsHandedBy, IsReplied, IsStatedBy, Stands};
+ghost use Rattle.ug_worker.specs.Renewals.{counted};
 
 use crate::reply::Reply;
 use crate::took::{Took, Untaken};
@@ -11,59 +13,68 @@ use ug_base::Task;
 use ug_rows::{IntBox, Point};
 
 /// Where a worker sits: what it takes its work from, and tells of it. What the worker has to have done
-/// before a call is the call's condition, over the task as it was at the call before.
+/// before a call is the call's condition, over the task as it was at the call before, and the rounds
+/// that the worker made.
 pub trait Seat {
     ghost use Rattle.std.specs.Prelude.{Option};
+    ghost use Rattle.ug_worker.specs.declared.tally.Tally.{Tally};
     ghost use Rattle.ug_worker.specs.Engagements.{Engaged};
 
-    /// The worker's task is this, or it has none.
-    ghost at: { Self → Option Engaged → Type 0 };
+    /// The worker made these rounds, and its task is this, or it has none.
+    ghost at: { Self → Tally → Option Engaged → Type 0 };
 
     /// No work comes any more.
     ghost over: { Self → Type 0 };
 
     /// The work that there is.
     fn take(&mut self) -> Result<Took, Untaken>
-        requires { at self.old None }
-        ensures took { IfOk result (HasTaken (at self.new) (over self.new)) }
-        ensures err { OnErr result (at self.new None) };
+        requires at { (tally : Tally) × at self.old tally None }
+        ensures took { (tally : Tally) → at self.old tally None
+            → IfOk result (HasTaken (at self.new) tally (over self.new)) }
+        ensures err { OnErr result (Stands (at self.new)) };
 
     /// What is ordered before the first round of a task.
     fn look(&mut self) -> Reply
-        requires at { (e : Engaged) × at self.old (Some e) × (e.made ≡ 0) }
+        requires at { (tally : Tally) × (e : Engaged) × at self.old tally (Some e) × (e.made ≡ 0) }
         ensures small { IsSmallCutoff result.cutoff }
-        ensures replied { (e : Engaged) → at self.old (Some e) → e.made ≡ 0
-            → IsReplied (at self.new) e.task result };
+        ensures replied { (tally : Tally) (e : Engaged) → at self.old tally (Some e) → e.made ≡ 0
+            → IsReplied (at self.new tally) e.task result };
 
     /// A point that was found.
     fn solution(&mut self, point: Point)
-        requires at { (e f : Engaged) × at self.old (Some e) × IsFoundBy e point f }
-        ensures { (e f : Engaged) → at self.old (Some e) → IsFoundBy e point f
-            → at self.new (Some f) };
+        requires at { (tally : Tally) × (e f : Engaged) × at self.old tally (Some e)
+            × IsFoundBy e point f }
+        ensures { (tally : Tally) (e f : Engaged) → at self.old tally (Some e)
+            → IsFoundBy e point f → at self.new tally (Some f) };
 
-    /// A box that is handed.
+    /// A box that is handed, or given where the task is renewed.
     fn hand(&mut self, number: u64, area: &IntBox) -> Result<(), AllocError>
-        requires at { (e f : Engaged) × at self.old (Some e) × IsHandedBy e number area.now f }
-        ensures ok { (e f : Engaged) → at self.old (Some e) → IsHandedBy e number area.now f
-            → OnOk result (at self.new (Some f)) }
+        requires at { (tally : Tally) × (e f : Engaged) × at self.old tally (Some e)
+            × IsHandedBy tally e number area.now f }
+        ensures ok { (tally : Tally) (e f : Engaged) → at self.old tally (Some e)
+            → IsHandedBy tally e number area.now f → OnOk result (at self.new tally (Some f)) }
         ensures err { OnErr result (Stands (at self.new)) };
 
     /// How many boxes are left, and the least of their floors; and what is ordered before the next
-    /// round.
+    /// round. The round is counted.
     fn state(&mut self, left: u64, floor: i128) -> Result<Reply, AllocError>
         requires some { 0 < left }
         requires value { unsigned_abs floor ≤ 2 * 10 ^ 37 }
-        requires at { (e f : Engaged) × at self.old (Some e) × IsStatedBy e left floor f }
+        requires at { (tally : Tally) × (e f : Engaged) × at self.old tally (Some e)
+            × IsStatedBy tally e left floor f }
         ensures small { IfOk result (λ reply. IsSmallCutoff reply.cutoff) }
-        ensures replied { (e f : Engaged) → at self.old (Some e) → IsStatedBy e left floor f
-            → IfOk result (IsReplied (at self.new) f.task) }
+        ensures replied { (tally : Tally) (e f : Engaged) → at self.old tally (Some e)
+            → IsStatedBy tally e left floor f
+            → IfOk result (IsReplied (at self.new (counted tally)) f.task) }
         ensures err { OnErr result (Stands (at self.new)) };
 
     /// A task of which no box is left.
     fn done(&mut self, task: Task)
         requires none { task.boxes ≡ [] }
-        requires at { (e : Engaged) × at self.old (Some e) × IsDoneBy e task }
-        ensures { at self.new None };
+        requires at { (tally : Tally) × (e : Engaged) × at self.old tally (Some e)
+            × IsDoneBy e task }
+        ensures { (tally : Tally) (e : Engaged) → at self.old tally (Some e) → IsDoneBy e task
+            → at self.new tally None };
 
     /// The worker ends in the middle of a task.
     fn give_up(&mut self, task: Task)
@@ -78,6 +89,7 @@ pub trait Seat {
     /// Waits until there may be work, after a `take` that was answered Wait. False where no work
     /// can come.
     fn rest(&mut self) -> bool
-        requires { at self.old None }
-        ensures { MatchBool result (at self.new None) (over self.new) };
+        requires { (tally : Tally) × at self.old tally None }
+        ensures { (tally : Tally) → at self.old tally None
+            → MatchBool result (at self.new tally None) (over self.new) };
 }

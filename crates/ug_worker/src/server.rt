@@ -6,6 +6,7 @@ ghost use Rattle.ug_frames.specs.declared.order.Order.TheVariants.{Setup};
 ghost use Rattle.ug_worker.specs.Deeds.{Blank, SetUp};
 ghost use Rattle.ug_worker.specs.Courses.{IsFresh};
 ghost use Rattle.ug_worker.specs.Serving.{HasNext, has_ended, stands_as};
+ghost use Rattle.ug_worker.specs.Renewals.{fresh, usual};
 ghost use Rattle.ug_worker.specs.SeatViews.{seat_seen};
 ghost use Rattle.ug_worker.specs.Seats.{IsSeated};
 ghost use Rattle.ug_worker.specs.Servers.{HasMoved, IsBusyAs, IsServer, is_server};
@@ -14,6 +15,7 @@ use crate::kept::Kept;
 use crate::link_seat::LinkSeat;
 use crate::pace::Pace;
 use crate::served::Served;
+use crate::tally::Renewal;
 use crate::wire::Wire;
 use crate::worker::Worker;
 use std::alloc::Global;
@@ -212,10 +214,10 @@ fn sit<L: Link + Drop>(alloc: Global, mut wire: Wire<L>, gap: i128, problem: Pro
 
 // With no task yet.
 fn seated<L: Link + Drop>(alloc: Global, wire: Wire<L>, kept: Kept) -> Moved<L>
-    requires { IsSeated (seat_seen L.seen wire kept) None }
+    requires { IsSeated (seat_seen L.seen wire kept) (fresh (Some usual)) None }
     ensures { HasMoved L.seen result }
 {
-    let worker = Worker::new();
+    let worker = Worker::new(Some(Renewal::usual()));
     posted(alloc, wire, Post { kept, worker }, false)
 }
 

@@ -53,8 +53,8 @@ impl Staff {
         self.exchanged.as_slice()
     }
 
-    /// At each moment what was heard from each rank was what a worker tells that hears what was told to
-    /// it by then.
+    /// At each moment what was heard from each rank was what a worker tells that hears what was told
+    /// to it by then.
     pub fn is_worked(&self)
         ensures { AreAlwaysWorked self.now }
     {

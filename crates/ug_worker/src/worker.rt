@@ -2,21 +2,24 @@
 
 ghost use Rattle.std.specs.Prelude.{◌≡◌, None, IfErr, OnOk};
 ghost use Rattle.ug_worker.specs.Engagements.{HasBegun};
+ghost use Rattle.ug_worker.specs.Renewals.{begun, fresh};
 ghost use Rattle.ug_worker.specs.Workers.{EndsAs, HasPaced, IsAtWork, StandsAt};
 
 use crate::pace::Pace;
-use crate::search::{Left, Search};
+use crate::search::{Asked, Left, Search};
 use crate::seat::Seat;
+use crate::tally::{Renewal, Tally};
 use crate::took::Took;
 use std::sync::Wait;
 use ug_base::Task;
 
-/// Works until nothing is held, no more is to be heard, or memory is wanting.
-pub fn work<R: Wait, S: Seat>(rt: &R, seat: &mut S)
-    requires { S.at seat.old None }
+/// Works until nothing is held, no more is to be heard, or memory is wanting. Tasks are renewed as
+/// this says, if it is there.
+pub fn work<R: Wait, S: Seat>(rt: &R, seat: &mut S, renewal: Option<Renewal>)
+    requires { S.at seat.old (fresh renewal) None }
     ensures { S.over seat.new }
 {
-    let mut worker = Worker::new();
+    let mut worker = Worker::new(renewal);
     for _ in rt.forever() {
         match worker.step(seat) {
             Pace::On => {}
@@ -31,24 +34,28 @@ pub fn work<R: Wait, S: Seat>(rt: &R, seat: &mut S)
     unreachable!()
 }
 
-/// A worker: the task that it searches, if it has one.
+/// A worker: the rounds that it made, and the task that it searches, if it has one.
 #[derive(Drop)]
 pub struct Worker {
+    pub tally: Tally,
     pub search: Option<Search>,
 }
 
 impl Worker {
-    /// One that has no task.
-    pub fn new() -> Worker
-        ensures { result.search ≡ None }
+    /// One that made no round, and has no task. Tasks are renewed as this says, if it is there.
+    pub fn new(renewal: Option<Renewal>) -> Worker
+        ensures { result ≡ record { tally = fresh renewal; search = None } }
     {
-        Worker { search: None }
+        Worker {
+            tally: Tally::new(renewal),
+            search: None,
+        }
     }
 
     /// Takes what there is where it has no task, and else makes a round of steps.
     pub fn step<S: Seat>(&mut self, seat: &mut S) -> Pace
-        requires { IsAtWork (S.at seat.old) self.old.search }
-        ensures { HasPaced (S.at seat.new) (S.over seat.new) self.new.search result }
+        requires { IsAtWork (S.at seat.old) self.old.tally self.old.search }
+        ensures { HasPaced (S.at seat.new) (S.over seat.new) self.new.tally self.new.search result }
     {
         match self.search.take() {
             Some(search) => self.go_on(seat, search),
@@ -58,8 +65,8 @@ impl Worker {
 
     // Makes a round of steps.
     fn go_on<S: Seat>(&mut self, seat: &mut S, mut search: Search) -> Pace
-        requires { StandsAt (S.at seat.old) search.task 0 search.collect }
-        ensures { HasPaced (S.at seat.new) (S.over seat.new) self.new.search result }
+        requires { StandsAt (S.at seat.old search.tally) search.task 0 search.asked }
+        ensures { HasPaced (S.at seat.new) (S.over seat.new) self.new.tally self.new.search result }
     {
         let went = search.round(seat);
         self.keep(seat, search, went)
@@ -67,9 +74,9 @@ impl Worker {
 
     // Takes what there is.
     fn take<S: Seat>(&mut self, seat: &mut S) -> Pace
-        requires at { S.at seat.old None }
+        requires at { S.at seat.old self.old.tally None }
         requires none { self.old.search ≡ None }
-        ensures { HasPaced (S.at seat.new) (S.over seat.new) self.new.search result }
+        ensures { HasPaced (S.at seat.new) (S.over seat.new) self.new.tally self.new.search result }
     {
         match seat.take() {
             Ok(Took::Work(task)) => self.begin(seat, task),
@@ -84,20 +91,29 @@ impl Worker {
 
     // Begins with a task.
     fn begin<S: Seat>(&mut self, seat: &mut S, task: Task) -> Pace
-        requires { HasBegun (S.at seat.old) task }
-        ensures { HasPaced (S.at seat.new) (S.over seat.new) self.new.search result }
+        requires { HasBegun (S.at seat.old (begun self.old.tally)) task }
+        ensures { HasPaced (S.at seat.new) (S.over seat.new) self.new.tally self.new.search result }
     {
-        let mut search = Search { task, collect: 0 };
+        self.tally.begin();
+        let mut search = Search {
+            task,
+            tally: self.tally,
+            asked: Asked {
+                count: 0,
+                racing: true,
+            },
+        };
         let begun = search.begin(seat);
         self.keep(seat, search, begun)
     }
 
     // Keeps the task, or leaves one that ended.
     fn keep<S: Seat>(&mut self, seat: &mut S, search: Search, went: Result<(), Left>) -> Pace
-        requires ok { OnOk went (StandsAt (S.at seat.old) search.task 0 search.collect) }
-        requires err { IfErr went (λ left. EndsAs (S.at seat.old) left search.task) }
-        ensures { HasPaced (S.at seat.new) (S.over seat.new) self.new.search result }
+        requires ok { OnOk went (StandsAt (S.at seat.old search.tally) search.task 0 search.asked) }
+        requires err { IfErr went (λ left. EndsAs (S.at seat.old) search.tally left search.task) }
+        ensures { HasPaced (S.at seat.new) (S.over seat.new) self.new.tally self.new.search result }
     {
+        self.tally = search.tally;
         match went {
             Ok(()) => {
                 self.search = Some(search);
@@ -106,29 +122,29 @@ impl Worker {
             Err(left) => {
                 let Search { task, .. } = search;
                 self.search = None;
-                leave(seat, task, left)
+                self.leave(seat, task, left)
             }
         }
     }
-}
 
-// Leaves a task.
-fn leave<S: Seat>(seat: &mut S, task: Task, left: Left) -> Pace
-    requires { EndsAs (S.at seat.old) left task }
-    ensures { HasPaced (S.at seat.new) (S.over seat.new) None result }
-{
-    match left {
-        Left::Nothing => {
-            seat.done(task);
-            Pace::On
-        }
-        Left::Dropped => {
-            drop(task);
-            Pace::On
-        }
-        Left::Wanting => {
-            seat.give_up(task);
-            Pace::Over
+    // Leaves a task.
+    fn leave<S: Seat>(&self, seat: &mut S, task: Task, left: Left) -> Pace
+        requires { EndsAs (S.at seat.old) self.now.tally left task }
+        ensures { HasPaced (S.at seat.new) (S.over seat.new) self.now.tally None result }
+    {
+        match left {
+            Left::Nothing => {
+                seat.done(task);
+                Pace::On
+            }
+            Left::Dropped => {
+                drop(task);
+                Pace::On
+            }
+            Left::Wanting => {
+                seat.give_up(task);
+                Pace::Over
+            }
         }
     }
 }

@@ -1,9 +1,10 @@
-use Rattle.std.proofs.Common.{rules, ◌≡◌, false, None, refl, sym, subst}
+use Rattle.std.proofs.Common.{rules, ◌≡◌, false, None, Some, refl, sym, subst}
 use Rattle.std.proofs.lemmas.Int.{to_z-of_z}
 use mir.Syntax.{w128}
 use mir.Val.{of_z, to_z}
 use Rattle.ug_worker.specs.Deeds.{Free}
 use Rattle.ug_worker.specs.SeatViews.{seat_seen}
+use Rattle.ug_worker.specs.Renewals.{fresh, usual}
 use Rattle.ug_worker.specs.Seats.{IsSeated}
 use Rattle.ug_worker.specs.Deeds.{Basis, SetUp}
 use Rattle.ug_worker.proofs.server.sit.Goals as goal
@@ -18,17 +19,17 @@ seated-requires g c =
       ticket = record { run = 1; number = 1 };
       racing = false;
       asked = 0;
-    })) None) (sym problem)
+    })) (fresh (Some usual)) None) (sym problem)
     (subst (λ gap. IsSeated (seat_seen g.L.Link.seen c.tell.new.self (record {
       problem = c.args.problem;
       gap = gap;
       ticket = record { run = 1; number = 1 };
       racing = false;
       asked = 0;
-    })) None)
+    })) (fresh (Some usual)) None)
     (sym (to_z-of_z w128 c.args.gap c.ranges.gap))
     (record {
       gap = c.requires.gap;
       agrees = tt;
-      stands = c.tell.ensures (SetUp basis) (Free basis) refl c.requires.on;
+      stands = c.tell.ensures (SetUp basis) (Free basis (fresh (Some usual))) refl c.requires.on;
     }))

@@ -4,5 +4,5 @@ use Rattle.ug_worker.proofs.worker.work.Given as goal
 abbrev pub invariant-loop : goal.invariant-loop
 invariant-loop g l = record {
   next : (goal.iterator-loop g).can_next l.iterator' × (goal.iterator-loop g).is_finite l.iterator';
-  at : IsAtWork (g.S.Seat.at l.seat) l.worker.search;
+  at : IsAtWork (g.S.Seat.at l.seat) l.worker.tally l.worker.search;
 }

@@ -6,12 +6,11 @@ use Rattle.ug_worker.specs.Seats.{basis_of}
 use Rattle.ug_worker.proofs.link_seat.LinkSeatSeat.done.Goals as goal
 
 pub returns : goal.returns
-returns g c =
-    let (e, seated, done) = c.requires.at in
-    record {
-      gap = seated.gap;
-      agrees = tt;
-      stands = c.tell.ensures (Busy (basis_of c.args.self.now.kept) e) (Free (basis_of c.args.self.now.kept)) (
+returns g c tally e seated done = record {
+  gap = seated.gap;
+  agrees = tt;
+  stands = c.tell.ensures (Busy (basis_of c.args.self.now.kept) tally e)
+      (Free (basis_of c.args.self.now.kept) tally) (
         record {
           task = c.args.task;
           its = sym seated.agrees.ticket;
@@ -21,4 +20,4 @@ returns g c =
         },
         refl,
       ) seated.stands;
-    }
+}

@@ -7,13 +7,14 @@ use Rattle.ug_worker.proofs.link_seat.LinkSeatSeat.solution.Goals as goal
 
 pub tell-requires : goal.tell-requires
 tell-requires g c =
-    let (e, f, seated, found) = c.requires.at in
+    let (tally, e, f, seated, found) = c.requires.at in
     solution_carried c.args.self.now.kept e f c.args.point seated.agrees found
 
 pub returns : goal.returns
-returns g c e f seated found = record {
+returns g c tally e f seated found = record {
   gap = seated.gap;
   agrees = found_agrees c.args.self.now.kept e f c.args.point seated.agrees found;
-  stands = c.tell.ensures (Busy (basis_of c.args.self.now.kept) e) (Busy (basis_of c.args.self.now.kept) f)
+  stands = c.tell.ensures (Busy (basis_of c.args.self.now.kept) tally e)
+      (Busy (basis_of c.args.self.now.kept) tally f)
       (f, sym seated.agrees.ticket, found, refl) seated.stands;
 }

@@ -1,9 +1,12 @@
 use Rattle.std.proofs.Common.{None}
+use Rattle.ug_worker.specs.declared.tally.Tally.{Tally}
 use Rattle.ug_worker.specs.Seats.{IsSeated}
 use Rattle.ug_worker.specs.SeatViews.{seat_seen}
 use Rattle.ug_worker.proofs.link_seat.LinkSeatSeat.take.Given as goal
 
 abbrev pub invariant-loop : goal.invariant-loop
 invariant-loop g l = record {
-  at : IsSeated (seat_seen g.L.Link.seen l.self.wire l.self.kept) None;
+  some : (tally : Tally) × IsSeated (seat_seen g.L.Link.seen l.self.wire l.self.kept) tally None;
+  each : (tally : Tally) → IsSeated (seat_seen g.L.Link.seen l.initial.self.wire l.initial.self.kept) tally None
+      → IsSeated (seat_seen g.L.Link.seen l.self.wire l.self.kept) tally None;
 }

@@ -9,13 +9,16 @@ pub solution-requires : goal.solution-requires
 solution-requires g c =
     let s = c.requires.stands in
     let found : IsFound c.args.self.now.task c.step.new.self c.in-Found.point = search rules in
+    let tally = c.args.self.now.tally in
+    let At = g.S.Seat.at c.args.seat.now tally in
     record {
       at = (
+        tally,
         s.now,
-        found_now (g.S.Seat.at c.args.seat.now) s.now c.step.new.self c.args.made,
+        found_now At s.now c.step.new.self c.args.made,
         s.at,
-        found_by (g.S.Seat.at c.args.seat.now) c.args.self.now.task c.step.new.self c.args.made
-            c.args.self.now.collect c.in-Found.point c.requires.room found c.is_one.ensures s,
+        found_by At c.args.self.now.task c.step.new.self c.args.made c.args.self.now.asked c.in-Found.point
+            c.requires.room found c.is_one.ensures s,
       );
     }
 
@@ -23,21 +26,23 @@ pub returns-in-Found-clause-stands : goal.returns-in-Found-clause-stands
 returns-in-Found-clause-stands g c =
     let s = c.requires.stands in
     let found : IsFound c.args.self.now.task c.step.new.self c.in-Found.point = search rules in
-    let now = found_now (g.S.Seat.at c.args.seat.now) s.now c.step.new.self c.args.made in
-    stands_found (g.S.Seat.at c.solution.new.self) c.step.new.self s.now c.args.made c.args.self.now.collect
-    c.requires.room s.asked
-    (c.solution.ensures s.now now s.at
-    (found_by (g.S.Seat.at c.args.seat.now) c.args.self.now.task c.step.new.self c.args.made
-    c.args.self.now.collect c.in-Found.point c.requires.room found c.is_one.ensures s))
+    let tally = c.args.self.now.tally in
+    let At = g.S.Seat.at c.args.seat.now tally in
+    let now = found_now At s.now c.step.new.self c.args.made in
+    stands_found (g.S.Seat.at c.solution.new.self tally) c.step.new.self s.now c.args.made c.args.self.now.asked
+    c.requires.room s.due s.racing
+    (c.solution.ensures tally s.now now s.at
+    (found_by At c.args.self.now.task c.step.new.self c.args.made c.args.self.now.asked c.in-Found.point
+    c.requires.room found c.is_one.ensures s))
 
 pub returns-in-Pruned-clause-stands : goal.returns-in-Pruned-clause-stands
 returns-in-Pruned-clause-stands g c =
     let pruned : IsPruned c.args.self.now.task c.step.new.self = search rules in
-    made_quiet (g.S.Seat.at c.args.seat.now) c.args.self.now.task c.step.new.self c.args.made
-    c.args.self.now.collect c.requires.room (inl pruned) c.requires.stands
+    made_quiet (g.S.Seat.at c.args.seat.now c.args.self.now.tally) c.args.self.now.task c.step.new.self c.args.made
+    c.args.self.now.asked c.requires.room (inl pruned) c.requires.stands
 
 pub returns-in-Split-clause-stands : goal.returns-in-Split-clause-stands
 returns-in-Split-clause-stands g c =
     let split : IsSplit c.args.self.now.task c.step.new.self = search rules in
-    made_quiet (g.S.Seat.at c.args.seat.now) c.args.self.now.task c.step.new.self c.args.made
-    c.args.self.now.collect c.requires.room (inr split) c.requires.stands
+    made_quiet (g.S.Seat.at c.args.seat.now c.args.self.now.tally) c.args.self.now.task c.step.new.self c.args.made
+    c.args.self.now.asked c.requires.room (inr split) c.requires.stands

@@ -2,4 +2,4 @@ use Rattle.ug_worker.specs.Workers.{StandsAt}
 use Rattle.ug_worker.proofs.search.Search.steps.Given as goal
 
 abbrev pub invariant-loop-made : goal.invariant-loop-made
-invariant-loop-made g l = StandsAt (g.S.Seat.at l.seat) l.self.task l.made l.self.collect
+invariant-loop-made g l = StandsAt (g.S.Seat.at l.seat l.self.tally) l.self.task l.made l.self.asked

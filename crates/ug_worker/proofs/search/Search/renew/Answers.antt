@@ -1,0 +1,14 @@
+use Rattle.ug_worker.proofs.Rounds.{all_given, to_give}
+use Rattle.ug_worker.proofs.search.Search.renew.Goals as goal
+
+pub give_all-requires : goal.give_all-requires
+give_all-requires g c =
+    let tally = c.args.self.now.tally in
+    to_give (g.S.Seat.at c.args.seat.now tally) tally c.args.self.now.task c.args.self.now.asked
+    c.requires.handed c.requires.due
+
+pub returns-in-Ok : goal.returns-in-Ok
+returns-in-Ok g c =
+    let tally = c.give_all.new.self.tally in
+    all_given (g.S.Seat.at c.give_all.new.seat tally) tally c.give_all.new.self.task c.in-Ok.ensures.given
+    c.is_one.ensures c.in-Ok.ensures.none
