@@ -1,5 +1,5 @@
 -- What a call does for a rank that is here, and for one that is not.
-use Rattle.std.specs.Prelude.{◌≡◌, ◌≢◌, ℕ, ◌<◌, ◌≤◌, true, None, List, length}
+use Rattle.std.specs.Prelude.{◌≡◌, ◌≢◌, ℕ, ◌<◌, ◌≤◌, true, false, None, List, length}
 use Rattle.ug_rows.specs.declared.area.Interval.{Interval}
 use Rattle.ug_rules.specs.declared.heard.Heard.{Heard}
 use Rattle.ug_rules.specs.declared.heard.Heard.TheVariants.{Stale}
@@ -26,4 +26,4 @@ pub record HasHandedHere (r number : ℕ) (area : List Interval) (answer : Heard
 
 -- what a rank is told that is not here
 abbrev pub stopped : Reply
-stopped = record { cutoff = None; collect = 0; stop = true }
+stopped = record { cutoff = None; collect = 0; stop = true; racing = false }

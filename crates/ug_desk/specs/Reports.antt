@@ -58,6 +58,7 @@ pub record IsReply (b : BookState) (r : ℕ) (ticket : Ticket) (reply : Reply) :
   pub cutoff : reply.cutoff ≡ cutoff_of_best b
   pub collect : reply.collect ≡ asked_at (state_at b.ranks r)
   pub stop : MatchBool reply.stop (IsStop b r ticket) (IsGoingOn b r ticket)
+  pub racing : reply.racing ≡ is_racing (state_at b.ranks r)
 
 -- what is told of the boxes left was heard
 pub record HasNoted (r : ℕ) (ticket : Ticket) (left : ℕ) (floor : ℤ) (old new : BookState)

@@ -272,5 +272,6 @@ fn stopped() -> Reply
         cutoff: None,
         collect: 0,
         stop: true,
+        racing: false,
     }
 }

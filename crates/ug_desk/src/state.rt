@@ -89,6 +89,7 @@ fn reply(book: &Book, rank: u32, ticket: Ticket) -> Reply
         cutoff: cutoff_of_best(book),
         collect: book.asked(rank),
         stop: is_stop(book, rank, ticket),
+        racing: is_racing(book, rank),
     }
 }
 

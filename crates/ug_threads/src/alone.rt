@@ -23,7 +23,8 @@ pub fn alone<R: Wait>(rt: &R, alloc: Global, opening: &Opening) -> Option<Book>
     let locked = Locked::new(alloc, copy).ok()?;
     let mut seat = OwnSeat { locked };
     seat.send_away();
-    work(rt, &mut seat);
+    // Nothing is saved before the end.
+    work(rt, &mut seat, None);
     of_opening(seat.locked, opening)
 }
 
@@ -45,7 +46,7 @@ impl OwnSeat {
 
 impl Seat for OwnSeat {
     // Of a book that nobody shares the book's own contracts say more.
-    ghost at = { λ seat some. Unit {0} };
+    ghost at = { λ seat tally some. Unit {0} };
 
     ghost over = { λ seat. Unit {0} };
 

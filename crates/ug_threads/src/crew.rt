@@ -10,7 +10,7 @@ use std::thread::{Scope, Threads};
 use ug_desk::{Desk, Pass};
 use ug_restart::{Host, Observer};
 use ug_snapshot::Snapshot;
-use ug_worker::work;
+use ug_worker::{Renewal, work};
 
 /// The passes, each where its thread finds it.
 pub fn places(alloc: Global, passes: Vec<Pass>) -> Result<Vec<Mutex<Pass>>, AllocError>
@@ -106,6 +106,8 @@ fn sit<R: Wait, O: Observer>(
         every: every.unwrap_or(0),
         seen: 0,
     };
-    work(host.rt, &mut seat);
+    // Without a checkpoint nothing is gained by it.
+    let renewal = every.map(|_| Renewal::usual());
+    work(host.rt, &mut seat, renewal);
     drop(seat);
 }

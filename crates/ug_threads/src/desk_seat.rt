@@ -58,7 +58,7 @@ fn progress<R: Wait>(rt: &R, alloc: Global, desk: &Desk, pass: &mut Pass) -> Opt
 
 impl<'a, R: Wait, O: Observer> Seat for DeskSeat<'a, R, O> {
     // A lock keeps no history, so a desk says nothing of where its workers stand.
-    ghost at = { λ seat some. Unit {0} };
+    ghost at = { λ seat tally some. Unit {0} };
 
     ghost over = { λ seat. Unit {0} };
 

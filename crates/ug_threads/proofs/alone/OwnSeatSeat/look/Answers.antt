@@ -1,5 +1,5 @@
-use Rattle.ug_threads.proofs.Silent.{replied_any}
+use Rattle.ug_worker.proofs.Silent.{replied_any}
 use Rattle.ug_threads.proofs.alone.OwnSeatSeat.look.Goals as goal
 
 pub returns-clause-replied : goal.returns-clause-replied
-returns-clause-replied c e at made = replied_any _ (λ some. tt) _ e.task _
+returns-clause-replied c tally e at made = replied_any _ (λ some. tt) _ e.task _

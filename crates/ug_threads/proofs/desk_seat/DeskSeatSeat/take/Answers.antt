@@ -1,5 +1,5 @@
-use Rattle.ug_threads.proofs.Silent.{if_ok, took_any}
+use Rattle.ug_worker.proofs.Silent.{if_ok, took_any}
 use Rattle.ug_threads.proofs.desk_seat.DeskSeatSeat.take.Goals as goal
 
 pub returns-clause-took : goal.returns-clause-took
-returns-clause-took g c = if_ok _ _ (λ taken. took_any _ (λ some. tt) _ tt taken)
+returns-clause-took g c tally at = if_ok _ _ (λ taken. took_any _ (λ tally some. tt) tally _ tt taken)
