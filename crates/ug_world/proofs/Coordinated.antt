@@ -1,6 +1,6 @@
 -- What a coordinator at a crew does is a schedule.
 use Rattle.std.proofs.Common.{◌≡◌, inl, inr, ℕ, ◌<◌, List, [], ◌∷◌, ◌++◌, append_assoc, length, Some, refl, sym, ap, subst, ◌∙◌, arith}
-use Rattle.std.specs.Prelude.{slice_get, slice_set}
+use Rattle.std.specs.Prelude.{slice_get}
 use Rattle.ug_frames.specs.declared.order.Order.{Order}
 use Rattle.ug_frames.specs.declared.report.Report.{Report}
 use Rattle.ug_frames.specs.declared.report.Report.TheVariants.{Ready, Solution, Hand, State, Done}
@@ -11,7 +11,7 @@ use Rattle.ug_rules.specs.declared.heard.Heard.{Heard}
 use Rattle.ug_rules.specs.declared.told.Told.{Told}
 use Rattle.ug_rules.specs.State.{BookState}
 use Rattle.ug_rules.specs.Books.{IsBook, IsSoundBook}
-use Rattle.ug_rules.specs.Hearing.{IsHearable, after_hearing}
+use Rattle.ug_rules.specs.Hearing.{IsHearable}
 use Rattle.ug_rules.specs.HearingLaws.{HasRisingChanges}
 use Rattle.ug_rules.specs.Deaths.{killed}
 use Rattle.ug_book.specs.Reads.{IsOrderTold}
@@ -137,8 +137,8 @@ deed_holds n old mid past (Launched rank) (away, rest) now honest k =
     same_holds n old.book mid.book past (ap (λ (s : Standing). s.book) rest) k
 deed_holds n old mid past (SetUp rank bytes) does now honest k =
     same_holds n old.book mid.book past (ap (λ (s : Standing). s.book) does.rest) k
-deed_holds n old mid past (Closed rank) (alive, rest) now honest k =
-    same_holds n old.book mid.book past (ap (λ (s : Standing). s.book) rest) k
+deed_holds n old mid past (Closed rank) does now honest k =
+    same_holds n old.book mid.book past (ap (λ (s : Standing). s.book) does.rest) k
 deed_holds n old mid past (Came rank bytes) does now honest k =
     same_holds n old.book mid.book past (ap (λ (s : Standing). s.book) does.rest) k
 deed_holds n old mid past (Took rank report answer) does now honest k =
@@ -156,8 +156,8 @@ deed_holds n old mid past (Passed rank order) does now honest k =
     left n old.book mid.book past (record { rank = rank; order = order }) does.told k
 deed_holds n old mid past Broke does now honest k =
     same_holds n old.book mid.book past (ap (λ (s : Standing). s.book) does.rest) k
-deed_holds n old mid past (Unclosed rank) (faults, rest) now honest k =
-    same_holds n old.book mid.book past (ap (λ (s : Standing). s.book) rest) k
+deed_holds n old mid past (Unclosed rank) does now honest k =
+    same_holds n old.book mid.book past (ap (λ (s : Standing). s.book) does.rest) k
 deed_holds n old mid past (Halted steps) does now honest k =
     event_holds n (world_of old.book past) (world_of mid.book past) Decide tt
     (record { decided = inr (record { steps = steps; stands = does.is }); rest = refl }) k.true_ k.holds

@@ -1,7 +1,6 @@
 -- Where recovery finds an image that has P, whatever a crash leaves, it goes on to, if the images that
 -- are new have P.
 use Rattle.std.proofs.Common.{◌≡◌, inl, inr, List, ℕ, Option, None, Some, refl, sym, ◌∙◌, ap, subst}
-use Rattle.ug_disk.specs.declared.slot.Slot.{Slot}
 use Rattle.ug_disk.specs.Histories.{History}
 use Rattle.ug_disk.specs.Crashes.{Leaves, MayLeaveBoth}
 use Rattle.ug_disk.specs.Memories.{begun}

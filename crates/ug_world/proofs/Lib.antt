@@ -15,3 +15,14 @@ pub mod Numbered
 pub mod Traffic
 pub mod Worked
 pub mod Solved
+pub mod Readable
+pub mod Calm
+pub mod Fair
+pub mod Running
+pub mod Unheard
+pub mod Fairness
+pub mod Outlooks
+pub mod Tracked
+pub mod Hearing
+pub mod Sincere
+pub mod Living

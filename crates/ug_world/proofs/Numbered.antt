@@ -33,10 +33,11 @@ abbrev pub number_after : ℕ → Order → ℕ
 number_after from (WorkOrder ticket params race cutoff changes) = ticket.number
 number_after from order = from
 
--- an order may come next: one of work under a greater number, or any other but a first one
+-- an order may come next: one of work under a greater number, or any other but a first one or the end
 abbrev pub MayCome : ℕ → Order → Type 0
 MayCome from (WorkOrder ticket params race cutoff changes) = from < ticket.number
 MayCome from (Setup gap bytes) = ⊥
+MayCome from End = ⊥
 MayCome from order = Unit {0}
 
 -- the numbers rise from the one to the other
@@ -92,6 +93,7 @@ numbered_on a b c (t ∷ ts) us one two =
 abbrev IsOther : Order → Type 0
 IsOther (Setup gap bytes) = ⊥
 IsOther (WorkOrder ticket params race cutoff changes) = ⊥
+IsOther End = ⊥
 IsOther order = Unit {0}
 
 abbrev AreOther : List Told → Type 0
@@ -106,7 +108,7 @@ other_next a (CollectIn ticket count) h = (tt, refl)
 other_next a (CollectOut ticket) h = (tt, refl)
 other_next a (Winner ticket) h = (tt, refl)
 other_next a (Stop ticket) h = (tt, refl)
-other_next a End h = (tt, refl)
+other_next a End h = absurd h
 
 others_numbered : (a : ℕ) (ts : List Told) → AreOther ts → IsNumbered a ts a
 others_numbered a [] h = omega arith

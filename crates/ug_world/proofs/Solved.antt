@@ -1,22 +1,30 @@
 -- How a solve by workers ends.
-use Rattle.std.proofs.Common.{◌≡◌, ℕ, Bool, List, Option, Some, refl, sym, subst}
+use Rattle.std.proofs.Common.{◌≡◌, inl, inr, ℕ, Bool, false, List, length, Option, Some, refl, sym, ap, subst, arith}
+use Rattle.std.specs.Prelude.{replicate}
+use Rattle.std.proofs.lemmas.Bool.{cases_lt}
+use Rattle.std.proofs.lemmas.List.{get_or-replicate, get_or_past, length-replicate}
 use Rattle.ug_io.specs.declared.crew.Exchange.{Exchange}
 use Rattle.ug_disk.specs.Histories.{DiskSeen}
+use Rattle.ug_ranks.specs.Looks.{is_alive, is_joined}
+use Rattle.ug_ranks.specs.States.{state_at}
+use Rattle.ug_ranks.specs.declared.state.Off.TheVariants.{Died}
+use Rattle.ug_ranks.specs.declared.state.State.TheVariants.{Absent, Dead}
 use Rattle.ug_rules.specs.State.{BookState}
 use Rattle.ug_rules.specs.Books.{IsSoundBook}
 use Rattle.ug_checkpoint.specs.declared.saver.Saver.{Saver}
 use Rattle.ug_book.specs.declared.opening.Opening.{Opening}
-use Rattle.ug_book.specs.Openings.{IsCoveredOpening, opening_book}
+use Rattle.ug_book.specs.Openings.{IsCoveredOpening, IsOpening, opening_book}
 use Rattle.ug_book.proofs.Starts.{start_is_sound}
 use Rattle.ug_restart.specs.declared.outcome.End.{End}
 use Rattle.ug_restart.specs.declared.outcome.End.TheVariants.{Answered, Limited, Stranded, Memory}
 use Rattle.ug_restart.specs.declared.outcome.Outcome.{Outcome}
-use Rattle.ug_restart.specs.Outcomes.{IfAnswered, IfBook, IfLimited, IsLimited, IsRight}
-use Rattle.ug_coord.specs.Ends.{is_ended}
+use Rattle.ug_restart.specs.Outcomes.{IfAnswered, IfBook, IfLimited, IsLimited, IsRight, IsStranded}
+use Rattle.ug_coord.specs.Ends.{AllDead, is_ended}
 use Rattle.ug_coord.specs.Hubs.{HasCoordinated}
 use Rattle.ug_coord.specs.Keeping.{IsKeptSafe, IsNothing}
 use Rattle.ug_coord.proofs.Ends.{safe_still}
 use Rattle.ug_worker.specs.Staffs.{AreAlwaysWorked}
+use Rattle.ug_world.specs.Calm.{CalmWorkersLive}
 use Rattle.ug_world.specs.Laws.{LosesNothing}
 use Rattle.ug_world.specs.Workers.{CoordinatorsOfWorkersLoseNothing, HasSolved}
 
@@ -39,17 +47,59 @@ at_limit (Limited own) b is = subst IsLimited (sym is.0) is.1
 at_limit (Stranded own) b is = tt
 at_limit Memory b is = tt
 
+stranded_dead : (end : End) (b : BookState) → is_ended end b → IsStranded end → AllDead b
+stranded_dead (Answered own) b is stranded = absurd stranded
+stranded_dead (Limited own) b is stranded = absurd stranded
+stranded_dead (Stranded own) b is stranded = is.1.dead
+stranded_dead Memory b is stranded = absurd stranded
+
+stranded_wants : (P : Type 0) (end : End) → IfBook end (λ book. P) → IsStranded end → P
+stranded_wants P (Answered own) has stranded = absurd stranded
+stranded_wants P (Limited own) has stranded = absurd stranded
+stranded_wants P (Stranded own) has stranded = has
+stranded_wants P Memory has stranded = absurd stranded
+
+-- no rank of an opening's book has joined
+unjoined : (solvers rank : ℕ) → is_joined (state_at (replicate solvers Absent) rank) ≡ false
+unjoined solvers rank = elim (cases_lt rank solvers) [
+  | inl below ↦ ap is_joined (get_or-replicate solvers rank Absent (Dead Died) below)
+  | inr past ↦ ap is_joined (get_or_past (replicate solvers Absent) rank (Dead Died)
+      (omega (arith, past, length-replicate solvers Absent)))
+]
+
+-- a rank that is dead, or none
+dead_anyway : (b : BookState) (rank : ℕ) → AllDead b → is_alive (state_at b.ranks rank) ≡ false
+dead_anyway b rank dead = elim (cases_lt rank (length b.ranks)) [
+  | inl below ↦ dead rank below
+  | inr past ↦ ap is_alive (get_or_past b.ranks rank (Dead Died) past)
+]
+
+module _ (o : Opening) (end : End) (said : List Exchange) (lives : List Bool) (faults : ℕ) (Safe : Type 0)
+    (h : HasCoordinated (opening_book o) 0 (record { said = Some said; lives = lives; faults = faults }) end Safe) where
+  -- where the crew never failed some rank lives
+  never_stranded : CalmWorkersLive → IsOpening o → AreAlwaysWorked said → faults ≡ 0 → IsStranded end → ⊥
+  never_stranded law opening worked none stranded =
+      law (opening_book o) 0 h.now h.come (record {
+        unused = record { last = refl; orders = refl };
+        away = unjoined o.settings.solvers;
+        worked = subst (λ (s : List Exchange). AreAlwaysWorked s) h.shown worked;
+        calm = record { same = omega (arith, h.failed, none); small = omega arith };
+        memory = stranded_wants (h.now.wants ≡ false) end h.wants stranded;
+      }) 0
+      (h.causes 0 (omega (arith, opening.settings.some, length-replicate o.settings.solvers Absent))
+      (dead_anyway h.now.book 0 (stranded_dead end h.now.book h.ended stranded)))
+
 -- what was said is worked
-pub has_solved : CoordinatorsOfWorkersLoseNothing → (o : Opening) (saver : Option Saver) (end : End)
-    (old new : DiskSeen) (said : List Exchange) (lives : List Bool) (faults : ℕ) → IsCoveredOpening o
-    → AreAlwaysWorked said
-    → HasCoordinated (opening_book o) (record { said = Some said; lives = lives; faults = faults }) end
+pub has_solved : CoordinatorsOfWorkersLoseNothing → CalmWorkersLive → (o : Opening) (saver : Option Saver)
+    (end : End) (old new : DiskSeen) (said : List Exchange) (lives : List Bool) (faults : ℕ) → IsOpening o
+    → IsCoveredOpening o → AreAlwaysWorked said
+    → HasCoordinated (opening_book o) 0 (record { said = Some said; lives = lives; faults = faults }) end
     (IsKeptSafe saver old new)
-    → HasSolved o saver end old new
-has_solved law o saver end old new said lives faults covered worked h =
+    → HasSolved o saver end faults old new
+has_solved law calm o saver end old new said lives faults opening covered worked h =
     let sound : IsSoundBook (opening_book o) =
     (start_is_sound o.problem o.run o.best o.boxes o.settings).1 covered in
-    let all = law (opening_book o) h.faults h.now h.come h.made sound (record { last = refl; orders = refl })
+    let all = law (opening_book o) 0 h.now h.come h.made sound (record { last = refl; orders = refl })
     (subst (λ (s : List Exchange). AreAlwaysWorked s) h.shown worked) in
     record {
       same = h.same;
@@ -57,22 +107,26 @@ has_solved law o saver end old new said lives faults covered worked h =
       feasible = h.feasible;
       right = answer_right end h.now.book h.ended all.1.sound h.right;
       limited = at_limit end h.now.book h.ended;
+      exact = h.limited;
+      calm = never_stranded o end said lives faults (IsKeptSafe saver old new) h calm opening worked;
       safe = h.safe all.0;
     }
 
 -- memory was wanting at once
 nothing_solved_by : (o : Opening) (saver : Option Saver) (end : End) (disk : DiskSeen) → end ≡ Memory
-    → IsKeptSafe saver disk disk → HasSolved o saver end disk disk
-nothing_solved_by o saver end disk is safe = subst (λ (e : End). HasSolved o saver e disk disk) (sym is) (record {
+    → IsKeptSafe saver disk disk → HasSolved o saver end 0 disk disk
+nothing_solved_by o saver end disk is safe = subst (λ (e : End). HasSolved o saver e 0 disk disk) (sym is) (record {
   same = tt;
   sound = tt;
   feasible = tt;
   right = tt;
   limited = tt;
+  exact = tt;
+  calm = λ none stranded. stranded;
   safe = safe;
 })
 
 pub nothing_solved : (o : Opening) (saver : Option Saver) (outcome : Outcome) (disk : DiskSeen)
-    → IsNothing outcome → HasSolved o saver outcome.end disk disk
+    → IsNothing outcome → HasSolved o saver outcome.end 0 disk disk
 nothing_solved o saver outcome disk none =
     nothing_solved_by o saver outcome.end disk none.ended (safe_still saver disk)

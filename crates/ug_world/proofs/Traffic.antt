@@ -479,11 +479,11 @@ deed_step gap r old (SetUp rank bytes) new is fit does =
     (ap (λ (s : Standing). s.said) does.rest) (ap (λ (s : Standing). s.streams) does.rest)
     (ap (λ (s : Standing). s.lives) does.rest) (λ same. inr does.its) fit
     (same_grows old.book new.book (ap (λ (s : Standing). s.book) does.rest)))
-deed_step gap r old (Closed rank) new is fit (alive, rest) =
+deed_step gap r old (Closed rank) new is fit does =
     telling r old new (record { rank = rank; order = End }) None end_carried
-    (ap (λ (s : Standing). s.said) rest) (ap (λ (s : Standing). s.streams) rest)
-    (ap (λ (s : Standing). s.lives) rest) (λ same. inr tt) fit
-    (same_grows old.book new.book (ap (λ (s : Standing). s.book) rest))
+    (ap (λ (s : Standing). s.said) does.rest) (ap (λ (s : Standing). s.streams) does.rest)
+    (ap (λ (s : Standing). s.lives) does.rest) (λ same. inr tt) fit
+    (same_grows old.book new.book (ap (λ (s : Standing). s.book) does.rest))
 deed_step gap r old (Came rank bytes) new is fit does =
     coming r rank old new bytes (fed (stream_at old rank) bytes)
     (ap (λ (s : Standing). s.said) does.rest) (ap (λ (s : Standing). s.streams) does.rest)
@@ -521,10 +521,10 @@ deed_step gap r old Broke new is fit does =
     silent r old new None (ap (λ (s : Standing). s.said) does.rest) (ap (λ (s : Standing). s.streams) does.rest)
     (ap (λ (s : Standing). length s.lives) does.rest) fit
     (same_grows old.book new.book (ap (λ (s : Standing). s.book) does.rest))
-deed_step gap r old (Unclosed rank) new is fit (faults, rest) =
-    silent r old new None (ap (λ (s : Standing). s.said) rest) (ap (λ (s : Standing). s.streams) rest)
-    (ap (λ (s : Standing). length s.lives) rest) fit
-    (same_grows old.book new.book (ap (λ (s : Standing). s.book) rest))
+deed_step gap r old (Unclosed rank) new is fit does =
+    silent r old new None (ap (λ (s : Standing). s.said) does.rest) (ap (λ (s : Standing). s.streams) does.rest)
+    (ap (λ (s : Standing). length s.lives) does.rest) fit
+    (same_grows old.book new.book (ap (λ (s : Standing). s.book) does.rest))
 deed_step gap r old (Halted steps) new is fit does =
     silent r old new None (ap (λ (s : Standing). s.said) does.rest) (ap (λ (s : Standing). s.streams) does.rest)
     (ap (λ (s : Standing). length s.lives) does.rest) fit (stands_grows steps old.book new.book does.is)

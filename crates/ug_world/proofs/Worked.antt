@@ -84,6 +84,15 @@ no_setup a (t ∷ ts) b rank gap bytes h there = elim (first_or t ts _ there) [
   | inr later ↦ no_setup (number_after a t.order) ts b rank gap bytes h.1 later
 ]
 
+-- nor the end
+no_end : (a : ℕ) (ts : List Told) (b rank : ℕ) → IsNumbered a ts b
+    → Contains ts (record { rank = rank; order = End }) → ⊥
+no_end a [] b rank h there = nothing_in _ there
+no_end a (t ∷ ts) b rank h there = elim (first_or t ts _ there) [
+  | inl same ↦ subst (λ (u : Told). MayCome a u.order) same h.0
+  | inr later ↦ no_end (number_after a t.order) ts b rank h.1 later
+]
+
 front_numbered : (a : ℕ) (ts us : List Told) (c : ℕ) → IsNumbered a (ts ++ us) c
     → (b : ℕ) × IsNumbered a ts b
 front_numbered a [] us c h = (a, omega arith)
@@ -118,7 +127,7 @@ may_be_sent a (CollectIn ticket count) h = h
 may_be_sent a (CollectOut ticket) h = h
 may_be_sent a (Winner ticket) h = h
 may_be_sent a (Stop ticket) h = h
-may_be_sent a End h = h
+may_be_sent a End h = tt
 
 rising_less : (a b : ℕ) (os : List Order) → a ≤ b → AreRising b os → AreRising a os
 rising_less a b [] less h = tt
@@ -254,7 +263,7 @@ among_heard (deed ∷ deeds) rank report there =
 
 -- ---- at the end of a course
 
-none_waits : (n r : ℕ) → slice_index_or (replicate n first) r first ≡ first
+pub none_waits : (n r : ℕ) → slice_index_or (replicate n first) r first ≡ first
 none_waits n r = elim (cases_lt r n) [
   | inl below ↦ get_or-replicate n r first first below
   | inr past ↦ get_or_past (replicate n first) r first (omega (arith, past, length-replicate n first))
@@ -263,7 +272,7 @@ none_waits n r = elim (cases_lt r n) [
 fit_first : (b : BookState) (faults : ℕ) → Fits (beginning b faults)
 fit_first b faults = length-replicate (ranks_of b) first ∙ sym (length-replicate (ranks_of b) false)
 
-none_read : (b : BookState) (faults r : ℕ) → IsRead r (beginning b faults) []
+pub none_read : (b : BookState) (faults r : ℕ) → IsRead r (beginning b faults) []
 none_read b faults r = record {
   carried = All-nil reports.IsCarried;
   rest = [];
@@ -293,7 +302,7 @@ module _ (b : BookState) (faults : ℕ) (unused : IsUnused b) (deeds : List Deed
     | inr none ↦ absurd none
   ]
 
-  sent_to : (r : ℕ) → IsSentTo b.problem now.said r (orders_to b.settings.gap r deeds)
+  pub sent_to : (r : ℕ) → IsSentTo b.problem now.said r (orders_to b.settings.gap r deeds)
   sent_to r = record {
     carried = (traffic r).carried;
     bytes = (traffic r).told;
@@ -304,12 +313,23 @@ module _ (b : BookState) (faults : ℕ) (unused : IsUnused b) (deeds : List Deed
     ];
   }
 
-  read_from : (r : ℕ) → AreReportsAt now.said r (reports_from r deeds)
+  pub read_from : (r : ℕ) → AreReportsAt now.said r (reports_from r deeds)
   read_from r =
       let read = (traffic r).read [] (none_read b faults r) in
       record { carried = read.carried; rest = read.rest; parts = read.parts }
 
-  once : (r : ℕ) → AreOnce (tickets_sent (orders_to b.settings.gap r deeds))
+  -- no end left the queue
+  pub none_ends : (r : ℕ) → Contains (left_of deeds) (record { rank = r; order = End }) → ⊥
+  none_ends r left = no_end 0 all now.book.last r numbered
+      (Contains-append_left (left_of deeds) now.book.orders _ left)
+
+  -- nor one that comes first
+  pub none_sets : (r : ℕ) (gap : ℤ) (bytes : List ℕ)
+      → Contains (left_of deeds) (record { rank = r; order = Setup gap bytes }) → ⊥
+  none_sets r gap bytes left = no_setup 0 all now.book.last r gap bytes numbered
+      (Contains-append_left (left_of deeds) now.book.orders _ left)
+
+  pub once : (r : ℕ) → AreOnce (tickets_sent (orders_to b.settings.gap r deeds))
   once r =
       let front = front_numbered 0 (left_of deeds) now.book.orders now.book.last numbered in
       rising_once 0 (orders_to b.settings.gap r deeds) (rising_to b.settings.gap r deeds 0 front.0 front.1)
@@ -375,7 +395,7 @@ is_after (Unwritten rank order) past = record { told = refl; heard = same_heard 
 is_after (Unfed rank bytes) past = record { told = same_told past; heard = same_heard past }
 is_after Unread past = record { told = same_told past; heard = same_heard past }
 
-left_push : (done : List Deed) (deed : Deed)
+pub left_push : (done : List Deed) (deed : Deed)
     → left_of (done ++ deed ∷ []) ≡ left_of done ++ option_to_list (left_in deed)
 left_push [] deed = append-nil (option_to_list (left_in deed))
 left_push (one ∷ done) deed =

@@ -13,3 +13,4 @@ pub mod Machines
 pub mod Saves
 pub mod Coordinators
 pub mod Workers
+pub mod Calm

@@ -9,7 +9,9 @@ use Rattle.ug_book.specs.Openings.{opening_book}
 use Rattle.ug_book.specs.Views.{IsSameRun}
 use Rattle.ug_restart.specs.declared.outcome.End.{End}
 use Rattle.ug_restart.specs.Outcomes.{HasFeasible, IfAnswered, IfBook, IfLimited, IsLimited, IsRight}
+use Rattle.ug_restart.specs.Outcomes.{IsStranded}
 use Rattle.ug_coord.specs.Deeds.{Standing}
+use Rattle.ug_coord.specs.Ends.{IsAtLimit}
 use Rattle.ug_coord.specs.Hubs.{HasCome, StaysSound, beginning}
 use Rattle.ug_coord.specs.Keeping.{IsKeptSafe}
 use Rattle.ug_worker.specs.Staffs.{AreAlwaysWorked}
@@ -21,22 +23,27 @@ pub record IsUnused (b : BookState) : Type 0 where
   pub orders : b.orders ≡ []
 
 -- From a sound book that has given no ticket: where at each moment what was heard of each rank is
--- what a worker tells that hears what was told to the rank, at each moment the book is sound, so no
--- better point is lost. Nothing is asked of what is told.
+-- what a worker tells that hears what was told to the rank, at each moment the book is sound, so
+-- no better point is lost. Nothing is asked of what is told.
 abbrev pub CoordinatorsOfWorkersLoseNothing : Type 0
 CoordinatorsOfWorkersLoseNothing = (b : BookState) (faults : ℕ) (now : Standing)
     (come : HasCome (beginning b faults) now) → IsBook b ⊎ (come.deeds ≡ []) → IsSoundBook b → IsUnused b
     → AreAlwaysWorked now.said
     → StaysSound (beginning b faults) now come × LosesNothing now.book
 
--- How a solve of what an opening left has ended, where workers did it. The book with which it ended
--- is one of the same run, loses no better point, and has a feasible incumbent, if it has one. An
--- answer is right. At the limit as many reports were heard as may be, and a node is held. With a saver,
--- where all that recovery could find was Covered, it is so at each moment.
-pub record HasSolved (o : Opening) (saver : Option Saver) (end : End) (old new : DiskSeen) : Type 0 where
+-- How a solve of what an opening left has ended, where workers did it and their crew failed so
+-- often. The book with which it ended is one of the same run, loses no better point, and has a
+-- feasible incumbent, if it has one. An answer is right. At the limit just as many reports were heard
+-- as may be, and a node is held. Where the crew never failed the run was not stranded: so it is
+-- answered, at its limit, or memory was wanting. With a saver, where all that recovery could find was
+-- Covered, it is so at each moment.
+pub record HasSolved (o : Opening) (saver : Option Saver) (end : End) (faults : ℕ)
+    (old new : DiskSeen) : Type 0 where
   pub same : IfBook end (IsSameRun (opening_book o))
   pub sound : IfBook end LosesNothing
   pub feasible : IfBook end HasFeasible
   pub right : IfAnswered end IsRight
   pub limited : IfLimited end IsLimited
+  pub exact : IfLimited end IsAtLimit
+  pub calm : faults ≡ 0 → ¬ IsStranded end
   pub safe : IsKeptSafe saver old new

@@ -1,3 +1,4 @@
+ghost use Rattle.ug_world.specs.Calm.{CalmWorkersLive};
 ghost use Rattle.ug_world.specs.Coordinators.{CoordinatorsLoseNothing};
 ghost use Rattle.ug_world.specs.Laws.{HonestLoseNothing};
 ghost use Rattle.ug_world.specs.Workers.{CoordinatorsOfWorkersLoseNothing};
@@ -15,9 +16,15 @@ pub fn coordinators_lose_nothing()
     ensures { CoordinatorsLoseNothing }
 {}
 
-/// Whatever comes of a coordinator's crew of workers, whatever their schedule and in whatever pieces
-/// their bytes come: at every moment each better point lies in a primitive node held. Nothing is
-/// asked of what they tell.
+/// Whatever comes of a coordinator's crew of workers, whatever their schedule and in whatever
+/// pieces their bytes come: at every moment each better point lies in a primitive node held. Nothing
+/// is asked of what they tell.
 pub fn coordinators_of_workers_lose_nothing()
     ensures { CoordinatorsOfWorkersLoseNothing }
+{}
+
+/// Where no call of such a crew failed and memory was not wanting, no rank is taken for gone: no bytes
+/// that come are bad, and no answer to a report is the death of its rank.
+pub fn calm_workers_live()
+    ensures { CalmWorkersLive }
 {}

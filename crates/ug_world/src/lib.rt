@@ -26,8 +26,9 @@ pub use disk_schedule::{Attempts, PlayDiskFault, PlayedDisk, play_disk};
 pub use event::Event;
 pub use halt::Halted;
 pub use law::{
-    coordinators_lose_nothing, coordinators_of_workers_lose_nothing, honest_solvers_lose_nothing,
+    calm_workers_live, coordinators_lose_nothing, coordinators_of_workers_lose_nothing,
+    honest_solvers_lose_nothing,
 };
 pub use playing::{Halt, Playing};
 pub use schedule::{PlayFault, Played, Replies, play};
-pub use workers::solve_by_workers;
+pub use workers::{CrewOutcome, solve_by_workers};

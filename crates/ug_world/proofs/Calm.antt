@@ -1,0 +1,327 @@
+-- That where no call of a crew of workers failed and memory was not wanting each deed is quiet.
+use Rattle.std.proofs.Common.{◌≡◌, ◌≢◌, inl, inr, ℕ, zero, suc, ◌-◌, ◌^◌, ◌<◌, ◌≤◌, true, false, List, [], ◌∷◌, ◌++◌, refl, sym, ap, subst, ◌∙◌, arith}
+use Rattle.std.specs.Prelude.{Contains, slice_index_or, slice_set}
+use Rattle.std.proofs.lemmas.Bool.{false≢true}
+use Rattle.ug_io.specs.declared.crew.Exchange.{Exchange}
+use Rattle.ug_io.specs.Outside.{Rose}
+use Rattle.ug_frames.specs.declared.decoded.Decoded.TheVariants.{Bad}
+use Rattle.ug_frames.specs.ReportFrames as reports
+use Rattle.ug_frames.specs.Fronts.{IsDecoded}
+use Rattle.ug_stream.specs.Streams.{Waiting, fed, first}
+use Rattle.ug_frames.specs.declared.report.Report.{Report}
+use Rattle.ug_rules.specs.declared.heard.Heard.{Heard}
+use Rattle.ug_rules.specs.declared.heard.Heard.TheVariants.{Memory}
+use Rattle.ug_rules.specs.State.{BookState}
+use Rattle.ug_rules.specs.Hearing.{is_deadly}
+use Rattle.ug_coord.specs.Causes.{HasCause, IsEndOf}
+use Rattle.ug_coord.specs.Deeds.{Broke, Came, Cause, Closed, Decided, Deed, Does, Ended, Failed, Halted, IsCause, IsCourse, Launched, Lost, Nonsense, Passed}
+use Rattle.ug_coord.specs.Deeds.{Sent, SetUp, Standing, Took, Unclosed, Unfed, Unread, Unsent, Unwritten, stream_at}
+use Rattle.ug_coord.specs.Ends.{ranks_of}
+use Rattle.ug_coord.specs.Hubs.{HasCome, beginning}
+use Rattle.ug_coord.proofs.Coursing.{course_more}
+use Rattle.ug_worker.specs.Staffs.{AreAlwaysWorked}
+use Rattle.ug_worker.proofs.Honesty.{nothing_in}
+use Rattle.ug_worker.proofs.Told.{first_or}
+use Rattle.ug_worker.proofs.Wires.{fed_fine}
+use Rattle.ug_world.specs.Calm.{IsCalmCourse}
+use Rattle.ug_world.specs.Workers.{IsUnused}
+use Rattle.ug_world.proofs.Readable.{never_bad}
+use Rattle.ug_world.proofs.Traffic.{IsRead, reports_from, traffic_is}
+use Rattle.ug_world.proofs.Worked.{none_read, none_waits, traffic}
+
+-- with the deed no call fails, no bytes are bad and memory is not wanting
+abbrev pub IsQuietDeed : Deed → Type 0
+IsQuietDeed (Launched rank) = Unit {0}
+IsQuietDeed (SetUp rank bytes) = Unit {0}
+IsQuietDeed (Closed rank) = Unit {0}
+IsQuietDeed (Came rank bytes) = Unit {0}
+IsQuietDeed (Took rank report answer) = answer ≢ Memory
+IsQuietDeed (Lost rank cause) = ⊥
+IsQuietDeed Decided = Unit {0}
+IsQuietDeed (Sent rank order) = Unit {0}
+IsQuietDeed (Unsent rank order) = ⊥
+IsQuietDeed (Passed rank order) = Unit {0}
+IsQuietDeed Broke = ⊥
+IsQuietDeed (Unclosed rank) = ⊥
+IsQuietDeed (Halted steps) = ⊥
+IsQuietDeed (Unwritten rank order) = ⊥
+IsQuietDeed (Unfed rank bytes) = ⊥
+IsQuietDeed Unread = ⊥
+
+abbrev pub AreQuiet : List Deed → Type 0
+AreQuiet deeds = (deed : Deed) → Contains deeds deed → IsQuietDeed deed
+
+-- a report of the rank got an answer that is its death
+pub record HasDeadlyAnswer (rank : ℕ) (deeds : List Deed) : Type 0 where
+  pub report : Report
+  pub answer : Heard
+  pub among : Contains deeds (Took rank report answer)
+  pub deadly : is_deadly answer ≡ true
+
+-- ---- the count of faults never falls
+
+rose_up : (old new : ℕ) → Rose old new → old ≤ new
+rose_up old new (inl less) = omega (arith, less)
+rose_up old new (inr full) = omega (arith, full.1)
+
+cause_up : (old new : Standing) (rank : ℕ) (cause : Cause) → IsCause old new rank cause → old.faults ≤ new.faults
+cause_up old new rank Ended is = rose_up old.faults new.faults is.faults
+cause_up old new rank Failed is = elim is.1 [
+  | inl before ↦ omega (arith, before.1)
+  | inr rose ↦ rose_up old.faults new.faults rose
+]
+cause_up old new rank Nonsense is = omega (arith, is.faults)
+
+same_faults : (old new : Standing) → new.faults ≡ old.faults → old.faults ≤ new.faults
+same_faults old new same = omega (arith, same)
+
+faults_up : (old : Standing) (deed : Deed) (new : Standing) → Does old deed new → old.faults ≤ new.faults
+faults_up old (Launched rank) new does = same_faults old new (ap (λ (s : Standing). s.faults) does.1)
+faults_up old (SetUp rank bytes) new does = same_faults old new (ap (λ (s : Standing). s.faults) does.rest)
+faults_up old (Closed rank) new does = same_faults old new (ap (λ (s : Standing). s.faults) does.rest)
+faults_up old (Came rank bytes) new does = same_faults old new (ap (λ (s : Standing). s.faults) does.rest)
+faults_up old (Took rank report answer) new does =
+    same_faults old new (ap (λ (s : Standing). s.faults) does.rest)
+faults_up old (Lost rank cause) new does = cause_up old new rank cause does.why
+faults_up old Decided new does = same_faults old new (ap (λ (s : Standing). s.faults) does.rest)
+faults_up old (Sent rank order) new does = same_faults old new (ap (λ (s : Standing). s.faults) does.rest)
+faults_up old (Unsent rank order) new does = rose_up old.faults new.faults does.faults
+faults_up old (Passed rank order) new does = same_faults old new (ap (λ (s : Standing). s.faults) does.rest)
+faults_up old Broke new does = rose_up old.faults new.faults does.faults
+faults_up old (Unclosed rank) new does = rose_up old.faults new.faults does.faults
+faults_up old (Halted steps) new does = same_faults old new (ap (λ (s : Standing). s.faults) does.rest)
+faults_up old (Unwritten rank order) new does = same_faults old new (ap (λ (s : Standing). s.faults) does.rest)
+faults_up old (Unfed rank bytes) new does = same_faults old new (ap (λ (s : Standing). s.faults) does.rest)
+faults_up old Unread new does = same_faults old new (ap (λ (s : Standing). s.faults) does.1)
+
+course_up : (old : Standing) (deeds : List Deed) (new : Standing) → IsCourse old deeds new → old.faults ≤ new.faults
+course_up old [] new same = same_faults old new (ap (λ (s : Standing). s.faults) same)
+course_up old (deed ∷ deeds) new (mid, does, more) =
+    omega (arith, faults_up old deed mid does, course_up mid deeds new more)
+
+-- ---- where memory was wanting it is
+
+wanted : (old new : Standing) → new.wants ≡ true → new.wants ≡ false → old.wants ≡ false
+wanted old new is none = absurd (false≢true (sym none ∙ is))
+
+wants_back : (old : Standing) (deed : Deed) (new : Standing) → Does old deed new → new.wants ≡ false
+    → old.wants ≡ false
+wants_back old (Launched rank) new does none = sym (ap (λ (s : Standing). s.wants) does.1) ∙ none
+wants_back old (SetUp rank bytes) new does none = sym (ap (λ (s : Standing). s.wants) does.rest) ∙ none
+wants_back old (Closed rank) new does none = sym (ap (λ (s : Standing). s.wants) does.rest) ∙ none
+wants_back old (Came rank bytes) new does none = sym (ap (λ (s : Standing). s.wants) does.rest) ∙ none
+wants_back old (Took rank report answer) new does none = does.wants.before none
+wants_back old (Lost rank cause) new does none = sym does.wants ∙ none
+wants_back old Decided new does none = sym (ap (λ (s : Standing). s.wants) does.rest) ∙ none
+wants_back old (Sent rank order) new does none = sym (ap (λ (s : Standing). s.wants) does.rest) ∙ none
+wants_back old (Unsent rank order) new does none = sym (ap (λ (s : Standing). s.wants) does.rest) ∙ none
+wants_back old (Passed rank order) new does none = sym (ap (λ (s : Standing). s.wants) does.rest) ∙ none
+wants_back old Broke new does none = sym (ap (λ (s : Standing). s.wants) does.rest) ∙ none
+wants_back old (Unclosed rank) new does none = sym (ap (λ (s : Standing). s.wants) does.rest) ∙ none
+wants_back old (Halted steps) new does none = wanted old new (ap (λ (s : Standing). s.wants) does.rest) none
+wants_back old (Unwritten rank order) new does none =
+    wanted old new (ap (λ (s : Standing). s.wants) does.rest) none
+wants_back old (Unfed rank bytes) new does none = wanted old new (ap (λ (s : Standing). s.wants) does.rest) none
+wants_back old Unread new does none = wanted old new (ap (λ (s : Standing). s.wants) does.1) none
+
+course_wants : (old : Standing) (deeds : List Deed) (new : Standing) → IsCourse old deeds new → new.wants ≡ false
+    → old.wants ≡ false
+course_wants old [] new same none = sym (ap (λ (s : Standing). s.wants) same) ∙ none
+course_wants old (deed ∷ deeds) new (mid, does, more) none =
+    wants_back old deed mid does (course_wants mid deeds new more none)
+
+-- ---- what was so before each deed
+
+-- no turn failed, and no stream is shut or bad
+record IsFine (s : Standing) : Type 0 where
+  whole : s.broken ≡ false
+  streams : (rank : ℕ) → (stream_at s rank).bad ≡ false
+
+-- the bytes that wait of a rank can be read
+abbrev IsReadable : Standing → Type 0
+IsReadable s = (rank : ℕ) → IsDecoded reports.IsCarried reports.spelled (stream_at s rank).bytes Bad → ⊥
+
+-- no fault came, and memory is not wanting
+record IsCalmDeed (old new : Standing) : Type 0 where
+  small : old.faults < 2 ^ 64 - 1
+  calm : new.faults ≤ old.faults
+  memory : new.wants ≡ false
+
+no_rise : (old new : ℕ) → old < 2 ^ 64 - 1 → new ≤ old → Rose old new → ⊥
+no_rise old new small calm (inl less) = omega (arith, calm, less)
+no_rise old new small calm (inr full) = omega (arith, small, full.0)
+
+set_fine : (streams : List Waiting) (at : ℕ) (w : Waiting) (rank : ℕ) → w.bad ≡ false
+    → (slice_index_or streams rank first).bad ≡ false → (slice_index_or (slice_set streams at w) rank first).bad ≡ false
+set_fine [] at w rank fine was = was
+set_fine (s ∷ streams) zero w zero fine was = fine
+set_fine (s ∷ streams) zero w (suc rank) fine was = was
+set_fine (s ∷ streams) (suc at) w zero fine was = was
+set_fine (s ∷ streams) (suc at) w (suc rank) fine was = set_fine streams at w rank fine was
+
+-- nothing came
+still_fine : (old new : Standing) → new.broken ≡ old.broken → new.streams ≡ old.streams → IsFine old → IsFine new
+still_fine old new broken streams fine = record {
+  whole = broken ∙ fine.whole;
+  streams = λ rank. ap (λ (l : List Waiting). (slice_index_or l rank first).bad) streams ∙ fine.streams rank;
+}
+
+-- a stream was set
+set_still : (old new : Standing) (at : ℕ) (w : Waiting) → new.broken ≡ old.broken
+    → new.streams ≡ slice_set old.streams at w → w.bad ≡ false → IsFine old → IsFine new
+set_still old new at w broken streams good fine = record {
+  whole = broken ∙ fine.whole;
+  streams = λ rank. ap (λ (l : List Waiting). (slice_index_or l rank first).bad) streams
+      ∙ set_fine old.streams at w rank good (fine.streams rank);
+}
+
+none_lost : (old new : Standing) (rank : ℕ) (cause : Cause) → IsCause old new rank cause → IsCalmDeed old new
+    → IsReadable old → IsFine old → ⊥
+none_lost old new rank Ended is c readable fine = no_rise old.faults new.faults c.small c.calm is.faults
+none_lost old new rank Failed is c readable fine = elim is.1 [
+  | inl before ↦ false≢true (sym fine.whole ∙ before.0)
+  | inr rose ↦ no_rise old.faults new.faults c.small c.calm rose
+]
+none_lost old new rank Nonsense is c readable fine = elim is.bad.bad [
+  | inl before ↦ false≢true (sym (fine.streams rank) ∙ before)
+  | inr bad ↦ readable rank bad
+]
+
+-- the deed is quiet, and all is fine behind it
+abbrev GoesOn : Deed → Standing → Type 0
+GoesOn deed new = IsQuietDeed deed × IsFine new
+
+goes_on : (old : Standing) (deed : Deed) (new : Standing) → Does old deed new → IsCalmDeed old new
+    → IsReadable old → IsFine old → GoesOn deed new
+goes_on old (Launched rank) new does c readable fine =
+    (tt, still_fine old new (ap (λ (s : Standing). s.broken) does.1) (ap (λ (s : Standing). s.streams) does.1) fine)
+goes_on old (SetUp rank bytes) new does c readable fine = (
+  tt,
+  still_fine old new (ap (λ (s : Standing). s.broken) does.rest) (ap (λ (s : Standing). s.streams) does.rest) fine,
+)
+goes_on old (Closed rank) new does c readable fine = (
+  tt,
+  still_fine old new (ap (λ (s : Standing). s.broken) does.rest) (ap (λ (s : Standing). s.streams) does.rest) fine,
+)
+goes_on old (Came rank bytes) new does c readable fine = (
+  tt,
+  set_still old new rank (fed (stream_at old rank) bytes) (ap (λ (s : Standing). s.broken) does.rest)
+      (ap (λ (s : Standing). s.streams) does.rest) (fed_fine (stream_at old rank) bytes (fine.streams rank)) fine,
+)
+goes_on old (Took rank report answer) new does c readable fine = (
+  does.wants.now c.memory,
+  set_still old new rank does.stream (ap (λ (s : Standing). s.broken) does.rest)
+      (ap (λ (s : Standing). s.streams) does.rest) does.given.still fine,
+)
+goes_on old (Lost rank cause) new does c readable fine =
+    absurd (none_lost old new rank cause does.why c readable fine)
+goes_on old Decided new does c readable fine = (
+  tt,
+  still_fine old new (ap (λ (s : Standing). s.broken) does.rest) (ap (λ (s : Standing). s.streams) does.rest) fine,
+)
+goes_on old (Sent rank order) new does c readable fine = (
+  tt,
+  still_fine old new (ap (λ (s : Standing). s.broken) does.rest) (ap (λ (s : Standing). s.streams) does.rest) fine,
+)
+goes_on old (Unsent rank order) new does c readable fine =
+    absurd (no_rise old.faults new.faults c.small c.calm does.faults)
+goes_on old (Passed rank order) new does c readable fine = (
+  tt,
+  still_fine old new (ap (λ (s : Standing). s.broken) does.rest) (ap (λ (s : Standing). s.streams) does.rest) fine,
+)
+goes_on old Broke new does c readable fine = absurd (no_rise old.faults new.faults c.small c.calm does.faults)
+goes_on old (Unclosed rank) new does c readable fine =
+    absurd (no_rise old.faults new.faults c.small c.calm does.faults)
+goes_on old (Halted steps) new does c readable fine =
+    absurd (false≢true (sym c.memory ∙ ap (λ (s : Standing). s.wants) does.rest))
+goes_on old (Unwritten rank order) new does c readable fine =
+    absurd (false≢true (sym c.memory ∙ ap (λ (s : Standing). s.wants) does.rest))
+goes_on old (Unfed rank bytes) new does c readable fine =
+    absurd (false≢true (sym c.memory ∙ ap (λ (s : Standing). s.wants) does.rest))
+goes_on old Unread new does c readable fine =
+    absurd (false≢true (sym c.memory ∙ ap (λ (s : Standing). s.wants) does.1))
+
+-- ---- a course
+
+none_quiet : AreQuiet []
+none_quiet deed there = absurd (nothing_in deed there)
+
+quiet_more : (deed : Deed) (deeds : List Deed) → IsQuietDeed deed → AreQuiet deeds → AreQuiet (deed ∷ deeds)
+quiet_more deed deeds is all one there = elim (first_or deed deeds one there) [
+  | inl same ↦ subst IsQuietDeed same is
+  | inr later ↦ all one later
+]
+
+module _ (b : BookState) (faults : ℕ) (unused : IsUnused b) (said : List Exchange)
+    (worked : AreAlwaysWorked said) where
+  readable : (done : List Deed) (s : Standing) → IsCourse (beginning b faults) done s → (more : List Exchange)
+      → said ≡ s.said ++ more → IsFine s → IsReadable s
+  readable done s so more same fine rank bad =
+      let read : IsRead rank s (reports_from rank done) =
+      (traffic b faults unused done s so rank).read [] (none_read b faults rank) in
+      never_bad s.said rank (reports_from rank done) read.rest (worked s.said more same rank) read.carried read.parts
+      (subst (λ (bytes : List ℕ). IsDecoded reports.IsCarried reports.spelled bytes Bad)
+      (sym (read.waits (fine.streams rank))) bad)
+
+  all_quiet : (done : List Deed) (old : Standing) (deeds : List Deed) (new : Standing)
+      → IsCourse (beginning b faults) done old → IsCourse old deeds new → said ≡ new.said
+      → old.faults < 2 ^ 64 - 1 → new.faults ≤ old.faults → new.wants ≡ false → IsFine old → AreQuiet deeds
+  all_quiet done old [] new so same ends small calm memory fine = none_quiet
+  all_quiet done old (deed ∷ deeds) new so (mid, does, rest) ends small calm memory fine =
+      let so_far = course_more (beginning b faults) done old mid deed so does in
+      let here = traffic b faults unused done old so 0 in
+      let later = traffic_is old.book.settings.gap 0 old (deed ∷ deeds) new refl here.fit (mid, does, rest) in
+      let up = faults_up old deed mid does in
+      let on = course_up mid deeds new rest in
+      let goes = goes_on old deed mid does
+      (record {
+        small = small;
+        calm = omega (arith, on, calm);
+        memory = course_wants mid deeds new rest memory;
+      })
+      (readable done old so later.more (ends ∙ later.grown) fine) fine in
+      quiet_more deed deeds goes.0
+      (all_quiet (done ++ deed ∷ []) mid deeds new so_far rest ends (omega (arith, small, on, calm))
+      (omega (arith, up, calm)) memory goes.1)
+
+-- what takes a rank for gone in a quiet deed is an answer
+by_answer : (rank : ℕ) (deeds : List Deed) (deed : Deed) → Contains deeds deed → IsEndOf rank deed
+    → IsQuietDeed deed → HasDeadlyAnswer rank deeds
+by_answer rank deeds (Launched other) among ends quiet = absurd ends
+by_answer rank deeds (SetUp other bytes) among ends quiet = absurd ends
+by_answer rank deeds (Closed other) among ends quiet = absurd ends
+by_answer rank deeds (Came other bytes) among ends quiet = absurd ends
+by_answer rank deeds (Took other report answer) among ends quiet = record {
+  report = report;
+  answer = answer;
+  among = subst (λ (r : ℕ). Contains deeds (Took r report answer)) ends.0 among;
+  deadly = ends.1;
+}
+by_answer rank deeds (Lost other cause) among ends quiet = absurd quiet
+by_answer rank deeds Decided among ends quiet = absurd ends
+by_answer rank deeds (Sent other order) among ends quiet = absurd ends
+by_answer rank deeds (Unsent other order) among ends quiet = absurd quiet
+by_answer rank deeds (Passed other order) among ends quiet = absurd ends
+by_answer rank deeds Broke among ends quiet = absurd ends
+by_answer rank deeds (Unclosed other) among ends quiet = absurd ends
+by_answer rank deeds (Halted steps) among ends quiet = absurd ends
+by_answer rank deeds (Unwritten other order) among ends quiet = absurd ends
+by_answer rank deeds (Unfed other bytes) among ends quiet = absurd ends
+by_answer rank deeds Unread among ends quiet = absurd ends
+
+fine_first : (b : BookState) (faults : ℕ) → IsFine (beginning b faults)
+fine_first b faults = record {
+  whole = refl;
+  streams = λ rank. ap (λ (w : Waiting). w.bad) (none_waits (ranks_of b) rank);
+}
+
+pub course_quiet : (b : BookState) (faults : ℕ) (now : Standing) (come : HasCome (beginning b faults) now)
+    → IsCalmCourse b faults now → AreQuiet come.deeds
+course_quiet b faults now come c =
+    all_quiet b faults c.unused now.said c.worked [] (beginning b faults) come.deeds now refl come.course refl
+    c.calm.small (omega (arith, c.calm.same)) c.memory (fine_first b faults)
+
+pub answer_of_cause : (rank : ℕ) (deeds : List Deed) → AreQuiet deeds → HasCause rank deeds
+    → HasDeadlyAnswer rank deeds
+answer_of_cause rank deeds quiet cause =
+    by_answer rank deeds cause.deed cause.among cause.ends (quiet cause.deed cause.among)

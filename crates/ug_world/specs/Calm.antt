@@ -1,0 +1,27 @@
+-- The law of a calm crew of workers: where no call failed and memory was not wanting, no rank is taken
+-- for gone.
+use Rattle.std.specs.Prelude.{◌≡◌, ℕ, false}
+use Rattle.ug_io.specs.Outside.{IsCalm}
+use Rattle.ug_ranks.specs.Looks.{is_joined}
+use Rattle.ug_ranks.specs.States.{state_at}
+use Rattle.ug_rules.specs.State.{BookState}
+use Rattle.ug_coord.specs.Causes.{HasCause}
+use Rattle.ug_coord.specs.Deeds.{Standing}
+use Rattle.ug_coord.specs.Hubs.{HasCome, beginning}
+use Rattle.ug_worker.specs.Staffs.{AreAlwaysWorked}
+use Rattle.ug_world.specs.Workers.{IsUnused}
+
+-- From a book that has given no ticket, and no rank of which has joined: the count of faults is the same
+-- at the end, and memory was not wanting. At each moment what was heard of each rank was what a worker
+-- tells.
+pub record IsCalmCourse (b : BookState) (faults : ℕ) (now : Standing) : Type 0 where
+  pub unused : IsUnused b
+  pub away : (rank : ℕ) → is_joined (state_at b.ranks rank) ≡ false
+  pub worked : AreAlwaysWorked now.said
+  pub calm : IsCalm faults now.faults
+  pub memory : now.wants ≡ false
+
+-- Then no deed takes a rank for gone: no bytes that come are bad, and no answer to a report is its death.
+abbrev pub CalmWorkersLive : Type 0
+CalmWorkersLive = (b : BookState) (faults : ℕ) (now : Standing) (come : HasCome (beginning b faults) now)
+    → IsCalmCourse b faults now → (rank : ℕ) → HasCause rank come.deeds → ⊥
