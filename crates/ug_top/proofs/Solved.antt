@@ -45,12 +45,12 @@ threads_same given Memory t = tt
 pub solved_same : (by : Option CrewSeen) (given : BookState) (end : End) → HasSolved by given end
     → IfBook end (IsSameRun given)
 solved_same None given end h = threads_same given end h.replayed
-solved_same (Some crew) given end h = h.same
+solved_same (Some crew) given end h = h.1.same
 
 pub solved_feasible : (by : Option CrewSeen) (given : BookState) (end : End) → HasSolved by given end
     → IfBook end HasFeasible
 solved_feasible None given end h = h.feasible
-solved_feasible (Some crew) given end h = h.feasible
+solved_feasible (Some crew) given end h = h.1.feasible
 
 crew_answered : (end : End) (b : BookState) → is_ended end b → IfAnswered end (λ own. held_nodes own ≡ [])
 crew_answered (Answered own) b (same, none) = subst (λ (k : BookState). held_nodes k ≡ []) (sym same) none
@@ -61,7 +61,7 @@ crew_answered Memory b is = tt
 pub solved_answered : (by : Option CrewSeen) (given : BookState) (end : End) → HasSolved by given end
     → IfAnswered end (λ own. held_nodes own ≡ [])
 solved_answered None given end h = h.answered
-solved_answered (Some crew) given end h = crew_answered end h.now.book h.ended
+solved_answered (Some crew) given end h = crew_answered end h.1.now.book h.1.ended
 
 crew_right : (end : End) (b : BookState) → is_ended end b → IsSoundBook b
     → IfAnswered end (λ own. IsSoundBook own → IsRight own) → IfAnswered end IsRight
@@ -76,31 +76,39 @@ pub solved_right : CoordinatorsLoseNothing → (by : Option CrewSeen) (given : B
     → IfAnswered end IsRight
 solved_right law None given end h unused trusted sound = h.right sound
 solved_right law (Some crew) given end h unused trusted sound =
-    let stays = law given h.faults h.now h.come h.made sound unused trusted in
-    crew_right end h.now.book h.ended
-    (sound_last _ h.come.deeds h.now h.come.course stays.0) h.right
+    let its = h.1 in
+    let stays = law given h.0 its.now its.come its.made sound unused trusted in
+    crew_right end its.now.book its.ended
+    (sound_last _ its.come.deeds its.now its.come.course stays.0) its.right
 
 -- ---- what was said of a solve by a crew
 
-pub crew_safely : CoordinatorsLoseNothing → (given : BookState) (crew : CrewSeen) (end : End) (Safe : Type 0)
-    → given.last ≡ 0 → HasCoordinated given crew end Safe → HasSolvedSafely (Some crew) given end Safe
-crew_safely law given crew end Safe unused h = record {
-  solved = record {
-    faults = h.faults;
-    now = h.now;
-    come = h.come;
-    made = h.made;
-    shown = h.shown;
-    closed = h.closed;
-    ended = h.ended;
-    same = h.same;
-    feasible = h.feasible;
-    limited = h.limited;
-    causes = h.causes;
-    right = h.right;
-    safe = λ sound. tt;
-  };
-  safe = λ trusted sound. h.safe (law given h.faults h.now h.come h.made sound unused trusted).0;
+-- but for what is safe
+abbrev unsafely : (given : BookState) (faults : ℕ) (crew : CrewSeen) (end : End) (Safe : Type 0)
+    → HasCoordinated given faults crew end Safe → HasCoordinated given faults crew end (Unit {0})
+unsafely given faults crew end Safe h = record {
+  now = h.now;
+  come = h.come;
+  made = h.made;
+  shown = h.shown;
+  closed = h.closed;
+  ended = h.ended;
+  failed = h.failed;
+  wants = h.wants;
+  same = h.same;
+  feasible = h.feasible;
+  limited = h.limited;
+  causes = h.causes;
+  right = h.right;
+  safe = λ sound. tt;
+}
+
+pub crew_safely : CoordinatorsLoseNothing → (given : BookState) (faults : ℕ) (crew : CrewSeen) (end : End)
+    (Safe : Type 0) → given.last ≡ 0 → HasCoordinated given faults crew end Safe
+    → HasSolvedSafely (Some crew) given end Safe
+crew_safely law given faults crew end Safe unused h = record {
+  solved = (faults, unsafely given faults crew end Safe h);
+  safe = λ trusted sound. h.safe (law given faults h.now h.come h.made sound unused trusted).0;
 }
 
 -- ---- and of one by threads
@@ -127,23 +135,11 @@ pub nobody_solved : (by : Option CrewSeen) (given : BookState) (outcome : Outcom
 nobody_solved None given outcome solvers fits alive none ranks =
     subst (HasEnded given) (sym none.ended) (none_ended given)
 nobody_solved (Some crew) given outcome solvers fits alive none ranks =
-    let nothing = nothing_coordinated given crew None outcome (record { told = None; faults = 0 })
-    (subst (IsFresh crew) ranks fits) alive none in
-    record {
-      faults = nothing.faults;
-      now = nothing.now;
-      come = nothing.come;
-      made = nothing.made;
-      shown = nothing.shown;
-      closed = nothing.closed;
-      ended = nothing.ended;
-      same = nothing.same;
-      feasible = nothing.feasible;
-      limited = nothing.limited;
-      causes = nothing.causes;
-      right = nothing.right;
-      safe = λ sound. tt;
-    }
+    let disk : DiskSeen = record { told = None; faults = 0 } in (
+      crew.faults,
+      unsafely given crew.faults crew outcome.end (IsKeptSafe None disk disk)
+          (nothing_coordinated given crew None outcome disk (subst (IsFresh crew) ranks fits) alive none),
+    )
 
 pub still_there : (crew : Option CrewSeen) → IsStillThere crew crew
 still_there None = tt

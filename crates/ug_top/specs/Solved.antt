@@ -11,15 +11,16 @@ use Rattle.ug_threads.specs.Outcomes.{HasEnded}
 use Rattle.ug_coord.specs.Hubs.{HasCoordinated, IsFresh}
 use Rattle.ug_world.specs.Coordinators.{IsHonestFrom}
 
--- threads at a desk led there, where there is no crew, or else a coordinator at the crew
+-- threads at a desk led there, where there is no crew, or else a coordinator at the crew, which had
+-- failed some number of times before
 abbrev pub HasSolved : Option CrewSeen → BookState → End → Type 0
 HasSolved None given end = HasEnded given end
-HasSolved (Some crew) given end = HasCoordinated given crew end (Unit {0})
+HasSolved (Some crew) given end = (faults : ℕ) × HasCoordinated given faults crew end (Unit {0})
 
 -- nothing is to be trusted of threads; of a crew, that what was heard of it is honest
 abbrev pub IsTrusted : (by : Option CrewSeen) (given : BookState) (end : End) → HasSolved by given end → Type 0
 IsTrusted None given end solved = Unit {0}
-IsTrusted (Some crew) given end solved = IsHonestFrom given solved.faults solved.now solved.come
+IsTrusted (Some crew) given end solved = IsHonestFrom given solved.0 solved.1.now solved.1.come
 
 -- and where that is so, and the run began soundly, it was safe
 pub record HasSolvedSafely (by : Option CrewSeen) (given : BookState) (end : End) (Safe : Type 0)

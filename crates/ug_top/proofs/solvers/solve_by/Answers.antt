@@ -38,6 +38,6 @@ coordinate-solvers-requires-clause-fresh g c κs within =
 
 pub returns-in-Some-clause-solved : goal.returns-in-Some-clause-solved
 returns-in-Some-clause-solved g c =
-    crew_safely c.coordinators_lose_nothing.ensures (opening_book c.args.opening.now)
+    crew_safely c.coordinators_lose_nothing.ensures (opening_book c.args.opening.now) _
     (g.C.Crew.seen c.coordinate-solvers.result.crew) c.coordinate-solvers.result.outcome.end _ refl
     c.coordinate-solvers.ensures.coordinated
