@@ -188,8 +188,13 @@ where
     {
         if self.poll.is_none() {
             let poll = Poll::new(self.rt)?;
-            let events = Events::with_capacity(self.alloc, EVENTS)?;
-            self.poll = Some((poll, events));
+            match Events::with_capacity(self.alloc, EVENTS) {
+                Ok(events) => drop(self.poll.replace((poll, events))),
+                Err(error) => {
+                    drop(poll);
+                    return Err(error.into());
+                }
+            }
         }
         Ok(())
     }
@@ -199,8 +204,21 @@ where
         ensures { self.new.peers ≡ self.old.peers }
     {
         let door = self.sockets.bind(rank)?;
-        let child = Ward::start(self.rt, self.alloc, self.program, door.file.path())?;
-        Ok(Peer::new(self.alloc, rank, door, child))
+        match Ward::start(self.rt, self.alloc, self.program, door.file.path()) {
+            Ok(child) => Ok(Peer::new(self.alloc, rank, door, child)),
+            Err(error) => {
+                drop(door);
+                Err(error)
+            }
+        }
+    }
+
+    // Has what becomes of the child told by the poll.
+    fn register(&self, peer: &mut Peer<'a, R>, key: usize) -> io::Result<()> {
+        match &self.poll {
+            Some((poll, _)) => peer.register(poll.registry(), Token(key)),
+            None => Err(missing()),
+        }
     }
 
     // A child that has its place behind the poll.
@@ -209,11 +227,13 @@ where
     {
         self.open()?;
         let mut peer = self.start(rank)?;
-        match &self.poll {
-            Some((poll, _)) => peer.register(poll.registry(), Token(key))?,
-            None => return Err(missing()),
+        match self.register(&mut peer, key) {
+            Ok(()) => Ok(peer),
+            Err(error) => {
+                drop(peer);
+                Err(error)
+            }
         }
-        Ok(peer)
     }
 
     /// Starts the child that is this rank.
@@ -227,12 +247,13 @@ where
 
     /// Tells the bytes to the rank, now or as soon as they can go.
     pub fn send(&mut self, rank: u32, bytes: &[u8]) -> io::Result<()> {
-        let key = key_of(&self.peers, rank).ok_or(missing())?;
-        let (Some((poll, _)), Some(peer)) = (&self.poll, self.peers.get_mut(key)) else {
+        let (Some(key), Some((poll, _))) = (key_of(&self.peers, rank), &self.poll) else {
             return Err(missing());
         };
-        peer.send(poll.registry(), Token(key), bytes)?;
-        Ok(())
+        match self.peers.get_mut(key) {
+            Some(peer) => Ok(peer.send(poll.registry(), Token(key), bytes)?),
+            None => Err(missing()),
+        }
     }
 
     /// Closes the connection to the rank, and kills it.
@@ -267,22 +288,34 @@ where
 
     // Waits until there may be something to hear or to send, so many milliseconds at most.
     fn wait(&mut self, most: Option<u64>) -> io::Result<()> {
-        let Some((poll, events)) = &mut self.poll else {
-            return Err(missing());
-        };
         let is_any_leaving = is_any_leaving(&self.peers);
         let most = if is_any_leaving {
             Some(most.unwrap_or(SOON).min(SOON))
         } else {
             most
         };
-        poll.poll(events, most.map(Duration::from_millis))?;
-        stir_all(&mut self.peers, poll.registry(), events);
-        if is_any_leaving {
-            let now = Instant::now(self.rt).ok();
-            hurry_all(&mut self.peers, poll.registry(), now);
-        }
+        self.wait_for_events(most)?;
+        self.heed(is_any_leaving);
         Ok(())
+    }
+
+    // Waits until the poll tells of something, so many milliseconds at most.
+    fn wait_for_events(&mut self, most: Option<u64>) -> io::Result<()> {
+        match &mut self.poll {
+            Some((poll, events)) => poll.poll(events, most.map(Duration::from_millis)),
+            None => Err(missing()),
+        }
+    }
+
+    // Has the children take note of what the poll told, and looks at those that are to end soon.
+    fn heed(&mut self, is_any_leaving: bool) {
+        if let Some((poll, events)) = &self.poll {
+            stir_all(&mut self.peers, poll.registry(), events);
+            if is_any_leaving {
+                let now = Instant::now(self.rt).ok();
+                hurry_all(&mut self.peers, poll.registry(), now);
+            }
+        }
     }
 
     // Lets the child at this key go, and tells why.
@@ -290,6 +323,8 @@ where
         if let Some(mut peer) = self.peers.try_remove(key) {
             let why = peer.departure();
             self.watcher.gone(peer.rank(), &why);
+            drop(why);
+            drop(peer);
         }
     }
 

@@ -196,16 +196,19 @@ impl<'a, R: Files> Peer<'a, R> {
             return None;
         };
         match again::read(stream, buffer) {
-            Ok(n) if n > 0 => return Some(n),
-            Err(error) if error.kind() == ErrorKind::WouldBlock && !self.child.has_ended() => {
+            Ok(0) => {}
+            Ok(n) => return Some(n),
+            Err(error) => {
+                let waits = error.kind() == ErrorKind::WouldBlock && !self.child.has_ended();
                 drop(error);
-                self.is_stirred = false;
-            }
-            _ => {
-                self.close();
-                self.child.look();
+                if waits {
+                    self.is_stirred = false;
+                    return None;
+                }
             }
         }
+        self.close();
+        self.child.look();
         None
     }
 

@@ -140,13 +140,34 @@ impl<'a, R: Files<File = File> + Net> Sockets<'a, R> {
     pub fn bind(&mut self, rank: u32) -> io::Result<Door<'a, R>> {
         let folder = self.folder;
         let path = format!(in self.alloc; "{folder}/ug-{rank}.sock")?;
-        let address = address_of(path.as_str())?;
+        match self.listen(path.as_str()) {
+            Ok(listener) => self.guarded(listener, path),
+            Err(error) => {
+                drop(path);
+                Err(error)
+            }
+        }
+    }
+
+    // A socket at this path. A file that lies there is removed.
+    fn listen(&mut self, path: &str) -> io::Result<UnixListener> {
+        let address = address_of(path)?;
         self.open()?;
-        remove_old(self.rt, path.as_str())?;
-        let listener = UnixListener::bind_addr(self.rt, &address)?;
+        remove_old(self.rt, path)?;
+        UnixListener::bind_addr(self.rt, &address)
+    }
+
+    // A socket at this path to which this user alone can come.
+    fn guarded(&self, listener: UnixListener, path: String) -> io::Result<Door<'a, R>> {
         let file = SocketFile { rt: self.rt, path };
-        self.guard(file.path())?;
-        Ok(Door { listener, file })
+        match self.guard(file.path()) {
+            Ok(()) => Ok(Door { listener, file }),
+            Err(error) => {
+                drop(file);
+                drop(listener);
+                Err(error)
+            }
+        }
     }
 
     // Lets this user alone use the file, in a folder of this user.

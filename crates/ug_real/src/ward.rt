@@ -21,6 +21,20 @@ enum State {
     Lost,
 }
 
+// Starts the command as a worker that is to come to this socket.
+fn spawn<R: Processes<Started = SystemProcess>>(
+    rt: &R,
+    command: &mut Command,
+    socket: &str,
+) -> io::Result<Child> {
+    command.arg("worker")?;
+    command.arg("--socket")?;
+    command.arg(socket)?;
+    command.stdin(Stdio::piped());
+    command.stdout(Stdio::null());
+    command.spawn(rt)
+}
+
 impl Ward {
     /// Starts the program as a worker that is to come to this socket. Its standard output is none,
     /// and its standard input a pipe on which nothing comes: that this closes tells of its end.
@@ -31,16 +45,15 @@ impl Ward {
         socket: &str,
     ) -> io::Result<Ward> {
         let mut command = Command::new(alloc, program)?;
-        command.arg("worker")?;
-        command.arg("--socket")?;
-        command.arg(socket)?;
-        command.stdin(Stdio::piped());
-        command.stdout(Stdio::null());
-        let child = command.spawn(rt)?;
-        Ok(Ward {
-            child,
-            state: State::Runs,
-        })
+        let spawned = spawn(rt, &mut command, socket);
+        drop(command);
+        match spawned {
+            Ok(child) => Ok(Ward {
+                child,
+                state: State::Runs,
+            }),
+            Err(error) => Err(error),
+        }
     }
 
     /// Has its end reported, as an error under this token.
