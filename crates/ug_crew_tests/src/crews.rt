@@ -1,18 +1,29 @@
 //! Crews of children as they should be: told, heard, and seen off.
 
+ghost use Rattle.std.specs.Prelude.{◌<◌, length};
+
 use crate::child::make_echo;
-use crate::listening::{Tally, is_clean, listen, over_and_over, start_three, tell, tell_three};
+use crate::expect::holds;
+use crate::listening::{
+    Tally, hears, is_clean, listen, over_and_over, start, start_again, start_three, tell,
+    tell_three,
+};
 use crate::notes::Notes;
 use std::fs;
 use std::fs::Files;
 use std::os::unix::fs::MetadataExt;
-use std::test::Fail;
+use std::process::Abort;
 use ug_io::Crew;
 use ug_real::{Children, ProcessCrew};
 
 const MANY: usize = 7 * TIMES;
 
 const TIMES: usize = 50_000;
+
+const ECHO: Children<'static> = Children {
+    program: "./echo",
+    sockets: "sockets",
+};
 
 // Whether this user alone may do something in the folder.
 fn is_private<R: Files>(rt: &R, folder: &str) -> bool {
@@ -22,95 +33,119 @@ fn is_private<R: Files>(rt: &R, folder: &str) -> bool {
     }
 }
 
-#[test]
-fn three_children_are_told_before_they_come_and_say_all_of_it_back(
-    rt: HostRuntime,
-) -> Result<(), Fail> {
-    make_echo(&rt)?;
-    let children = Children {
-        program: "./echo",
-        sockets: "new/sockets",
-    };
-    let alloc = rt.alloc();
-    let many = over_and_over(alloc, TIMES)?;
-    let mut lines = Vec::new(alloc);
-    let notes = Notes {
-        alloc,
-        lines: &mut lines,
-    };
-    let mut crew = ProcessCrew::new(&rt, alloc, 3, children, notes)?;
-    assert!(rt; start_three(&mut crew));
-    assert!(rt; tell_three(&mut crew, &many));
-    assert!(rt; is_private(&rt, "new/sockets"));
-    let tally = listen(&mut crew, 3 * MANY, 0);
-    assert_eq!(rt;
-        tally,
-        Tally {
-            bytes: [MANY; 3],
-            gone: 0
-        }
-    );
-    assert!(rt; tell_three(&mut crew, b"q"));
+// Three ranks are told much before they come, and each says all of it back.
+fn says_it_back<C: Crew>(rt: &impl Abort, crew: &mut C, many: &[u8])
+    requires { 2 < length (C.seen crew.old).lives }
+{
+    holds(rt, start_three(crew));
+    holds(rt, tell_three(crew, many));
+    holds(rt, hears(crew, [MANY; 3], 0));
+    holds(rt, tell_three(crew, b"q"));
     crew.finish();
-    assert!(rt; is_clean(&rt, "new/sockets"));
-    drop(crew);
-    assert!(rt; lines.is_empty());
-    Ok(())
 }
 
 #[test]
-fn a_child_that_hangs_up_or_is_shut_or_takes_nothing_is_ended_and_holds_up_nobody(
-    rt: HostRuntime,
-) -> Result<(), Fail> {
-    make_echo(&rt)?;
-    let children = Children {
-        program: "./echo",
-        sockets: "sockets",
-    };
+fn three_children_are_told_before_they_come_and_say_all_of_it_back(rt: HostRuntime) {
     let alloc = rt.alloc();
-    let many = over_and_over(alloc, TIMES)?;
+    holds(&rt, make_echo(&rt).is_ok());
+    let children = Children {
+        sockets: "new/sockets",
+        ..ECHO
+    };
+    let many = over_and_over(alloc, TIMES).expect(&rt, "memory");
     let mut lines = Vec::new(alloc);
     let notes = Notes {
         alloc,
         lines: &mut lines,
     };
-    let mut crew = ProcessCrew::new(&rt, alloc, 3, children, notes)?;
-    assert!(rt; start_three(&mut crew));
-    assert!(rt; tell_three(&mut crew, b"abc"));
-    assert_eq!(rt;
-        listen(&mut crew, 9, 0),
-        Tally {
-            bytes: [3; 3],
-            gone: 0
-        }
-    );
-    assert!(rt; tell(&mut crew, 0, b"h"));
-    assert_eq!(rt;
-        listen(&mut crew, 0, 1),
-        Tally {
-            bytes: [0; 3],
-            gone: 1
-        }
-    );
-    assert!(rt; !crew.is_alive(0));
-    assert!(rt; crew.is_alive(1));
-    if crew.is_alive(1) {
-        crew.shut(1);
-        assert!(rt; crew.launch(1).is_ok());
-    }
-    assert!(rt; tell(&mut crew, 2, b"s"));
-    assert!(rt; tell(&mut crew, 2, &many));
-    assert!(rt; tell(&mut crew, 1, b"ab"));
-    assert_eq!(rt;
-        listen(&mut crew, 2, 0),
-        Tally {
-            bytes: [0, 2, 0],
-            gone: 0
-        }
-    );
+    let mut crew = ProcessCrew::new(&rt, alloc, 3, children, notes).expect(&rt, "memory");
+    says_it_back(&rt, &mut crew, &many);
+    holds(&rt, is_private(&rt, "new/sockets"));
+    holds(&rt, is_clean(&rt, "new/sockets"));
     drop(crew);
-    assert!(rt; is_clean(&rt, "sockets"));
-    assert!(rt; lines.len() == 1);
-    assert!(rt; lines[0].as_str() == "0 closed its connection and did not end");
-    Ok(())
+    drop(many);
+    holds(&rt, lines.is_empty());
+    drop(lines);
+}
+
+// One hangs up and is gone, and one that is shut is started again.
+fn goes_on_without<C: Crew>(rt: &impl Abort, crew: &mut C)
+    requires { 2 < length (C.seen crew.old).lives }
+{
+    holds(rt, start_three(crew));
+    holds(rt, tell_three(crew, b"abc"));
+    holds(rt, hears(crew, [3; 3], 0));
+    holds(rt, tell(crew, 0, b"h"));
+    holds(rt, hears(crew, [0; 3], 1));
+    holds(rt, !crew.is_alive(0));
+    holds(rt, start_again(crew, 1));
+}
+
+// One takes nothing of the much that it is told, and another is heard.
+fn is_not_held_up<C: Crew>(rt: &impl Abort, crew: &mut C, many: &[u8]) {
+    holds(rt, tell(crew, 2, b"s"));
+    holds(rt, tell(crew, 2, many));
+    holds(rt, tell(crew, 1, b"ab"));
+    holds(rt, hears(crew, [0, 2, 0], 0));
+}
+
+#[test]
+fn a_child_that_hangs_up_or_is_shut_or_takes_nothing_is_ended_and_holds_up_nobody(rt: HostRuntime) {
+    let alloc = rt.alloc();
+    holds(&rt, make_echo(&rt).is_ok());
+    let many = over_and_over(alloc, TIMES).expect(&rt, "memory");
+    let mut lines = Vec::new(alloc);
+    let notes = Notes {
+        alloc,
+        lines: &mut lines,
+    };
+    let mut crew = ProcessCrew::new(&rt, alloc, 3, ECHO, notes).expect(&rt, "memory");
+    goes_on_without(&rt, &mut crew);
+    is_not_held_up(&rt, &mut crew, &many);
+    drop(crew);
+    drop(many);
+    holds(&rt, is_clean(&rt, "sockets"));
+    holds(&rt, lines.len() == 1);
+    holds(
+        &rt,
+        lines[0].as_str() == "0 closed its connection and did not end",
+    );
+    drop(lines);
+}
+
+// One talks on. Two others come, and are heard byte by byte, so that it is always ahead.
+fn hears_beside_a_talker<C: Crew>(rt: &impl Abort, crew: &mut C)
+    requires { 2 < length (C.seen crew.old).lives }
+{
+    holds(rt, start(crew, 0));
+    holds(rt, tell(crew, 0, b"t"));
+    let mut wanted = Tally {
+        bytes: [1, 0, 0],
+        gone: 0,
+    };
+    holds(rt, listen(crew, wanted, &mut [0u8; 1000]).gone == 0);
+    holds(rt, start(crew, 1));
+    holds(rt, start(crew, 2));
+    holds(rt, tell(crew, 1, b"abc"));
+    holds(rt, tell(crew, 2, b"abcde"));
+    wanted.bytes = [0, 3, 5];
+    let tally = listen(crew, wanted, &mut [0u8]);
+    let [_, one, two] = tally.bytes;
+    holds(rt, one == 3 && two == 5 && tally.gone == 0);
+}
+
+#[test]
+fn a_child_that_talks_on_keeps_no_other_from_coming_and_being_heard(rt: HostRuntime) {
+    let alloc = rt.alloc();
+    holds(&rt, make_echo(&rt).is_ok());
+    let mut lines = Vec::new(alloc);
+    let notes = Notes {
+        alloc,
+        lines: &mut lines,
+    };
+    let mut crew = ProcessCrew::new(&rt, alloc, 3, ECHO, notes).expect(&rt, "memory");
+    hears_beside_a_talker(&rt, &mut crew);
+    drop(crew);
+    drop(lines);
+    holds(&rt, is_clean(&rt, "sockets"));
 }

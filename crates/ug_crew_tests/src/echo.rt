@@ -25,9 +25,23 @@ fn stay<R: Clock>(rt: &R) {
     thread::sleep(rt, Duration::from_secs(1000));
 }
 
+// Says the bytes 'a' to 'g' over and over, until its link ends.
+fn talk<R: Net>(link: &mut SocketLink<'_, R>) {
+    let mut bytes = [0u8; 3500];
+    for (at, byte) in bytes.iter_mut().enumerate() {
+        *byte = b'a' + (at % 7) as u8;
+    }
+    for _ in 0..u64::MAX {
+        if !tell(link, &bytes) {
+            return;
+        }
+    }
+}
+
 /// Says back what it hears until its link ends, or a piece of it begins with a byte 'q'. Where one
 /// begins with 'h' it closes its link and stays, and where one does with 's' it stays and takes
-/// nothing: so such a byte is told once all before it was said back.
+/// nothing, and where one does with 't' it talks on without an end: so such a byte is told once all
+/// before it was said back.
 pub fn echo<R: Net + Clock>(rt: &R, path: &str) {
     let mut link = SocketLink::new(rt, path);
     let mut buffer = [0u8; 4096];
@@ -46,6 +60,10 @@ pub fn echo<R: Net + Clock>(rt: &R, path: &str) {
             }
             Some(b's') => {
                 stay(rt);
+                break;
+            }
+            Some(b't') => {
+                talk(&mut link);
                 break;
             }
             Some(_) => {}

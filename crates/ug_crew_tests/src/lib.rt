@@ -10,6 +10,8 @@ mod crews;
 #[cfg(test)]
 mod echo;
 #[cfg(test)]
+mod expect;
+#[cfg(test)]
 mod links;
 #[cfg(test)]
 mod listening;

@@ -8,7 +8,7 @@ use ug_io::{Came, Crew};
 
 /// How many bytes were heard of each of three ranks, as long as they were `a` to `g` over and over,
 /// and how many ranks are gone.
-#[derive(Clone, Copy, Debug, PartialEq)]
+#[derive(Clone, Copy, PartialEq)]
 pub struct Tally {
     pub bytes: [usize; 3],
     pub gone: usize,
@@ -29,9 +29,11 @@ fn next_of(count: usize) -> u8 {
 }
 
 impl Tally {
-    fn total(&self) -> usize {
+    // Whether it has what is wanted, or more.
+    fn has(&self, wanted: &Tally) -> bool {
         let [zero, one, two] = self.bytes;
-        zero.saturating_add(one).saturating_add(two)
+        let [least_zero, least_one, least_two] = wanted.bytes;
+        least_zero <= zero && least_one <= one && least_two <= two && wanted.gone <= self.gone
     }
 
     fn add(&mut self, rank: u32, bytes: &[u8]) {
@@ -43,28 +45,51 @@ impl Tally {
             }
         }
     }
+
+    // Takes note of what comes next, and says whether something did.
+    fn hear<C: Crew>(&mut self, crew: &mut C, buffer: &mut [u8]) -> bool
+        requires { 0 < length buffer.old }
+        ensures { length (C.seen crew.new).lives ≡ length (C.seen crew.old).lives }
+    {
+        match crew.turn(buffer) {
+            Ok(Came::Bytes { rank, count }) => {
+                self.add(rank, buffer.get(..count).unwrap_or(&[]));
+                true
+            }
+            Ok(Came::Gone { .. }) => {
+                self.gone = self.gone.saturating_add(1);
+                true
+            }
+            Err(_) => false,
+        }
+    }
 }
 
-/// Listens until so many bytes came, and so many ranks are gone.
-pub fn listen<C: Crew>(crew: &mut C, bytes: usize, gone: usize) -> Tally {
+/// Listens by way of the buffer until so many bytes came from each rank, and so many ranks are
+/// gone, at least.
+pub fn listen<C: Crew>(crew: &mut C, wanted: Tally, buffer: &mut [u8]) -> Tally
+    requires { 0 < length buffer.old }
+    ensures { length (C.seen crew.new).lives ≡ length (C.seen crew.old).lives }
+{
     let mut tally = Tally {
         bytes: [0; 3],
         gone: 0,
     };
-    let mut buffer = [0u8; 1000];
-    for _ in 0..1_000_000u32 {
-        if tally.total() >= bytes && tally.gone >= gone {
+    for _ in 0..u64::MAX {
+        if tally.has(&wanted) || !tally.hear(crew, buffer) {
             break;
-        }
-        match crew.turn(&mut buffer) {
-            Ok(Came::Bytes { rank, count }) => {
-                tally.add(rank, buffer.get(..count).unwrap_or(&[]));
-            }
-            Ok(Came::Gone { .. }) => tally.gone = tally.gone.saturating_add(1),
-            Err(_) => break,
         }
     }
     tally
+}
+
+/// Whether just so many bytes come from each rank, and so many ranks are gone, once there are as
+/// many.
+pub fn hears<C: Crew>(crew: &mut C, bytes: [usize; 3], gone: usize) -> bool
+    ensures { length (C.seen crew.new).lives ≡ length (C.seen crew.old).lives }
+{
+    let wanted = Tally { bytes, gone };
+    listen(crew, wanted, &mut [0u8; 1000]) == wanted
 }
 
 /// Starts the rank, if it does not live.
@@ -82,8 +107,19 @@ pub fn start_three<C: Crew>(crew: &mut C) -> bool
     start(crew, 0) && start(crew, 1) && start(crew, 2)
 }
 
+/// Shuts the rank, if it lives, and starts it again.
+pub fn start_again<C: Crew>(crew: &mut C, rank: u32) -> bool {
+    if !crew.is_alive(rank) {
+        return false;
+    }
+    crew.shut(rank);
+    crew.launch(rank).is_ok()
+}
+
 /// Tells the bytes to the rank, if it lives.
-pub fn tell<C: Crew>(crew: &mut C, rank: u32, bytes: &[u8]) -> bool {
+pub fn tell<C: Crew>(crew: &mut C, rank: u32, bytes: &[u8]) -> bool
+    ensures { length (C.seen crew.new).lives ≡ length (C.seen crew.old).lives }
+{
     crew.is_alive(rank) && crew.send(rank, bytes).is_ok()
 }
 
