@@ -253,6 +253,76 @@ fn desk_is_over_where_the_root_is_done(rt: HostRuntime) {
     }
 }
 
+// Gives all boxes of a task.
+fn give_all<R: Wait>(
+    rt: &R,
+    desk: &Desk,
+    pass: &mut Pass,
+    task: &mut Task,
+) -> Result<(), AllocError>
+    ensures { OnOk result (task.new.boxes ≡ []) }
+{
+    loop {
+        let Some(handed) = task.give()? else {
+            return Ok(());
+        };
+        desk.hand(rt, pass, handed.number, &handed.area);
+        drop(handed);
+    }
+}
+
+// How many nodes are saved now, if they are the first hands of their tickets, or the root alone.
+fn saved<R: Wait>(rt: &R, desk: &Desk, pass: &mut Pass) -> Option<usize> {
+    let image = desk.snapshot(rt, pass).ok()?.into_image();
+    let nodes = image.nodes.as_slice();
+    let count = nodes.len();
+    let is_so = nodes
+        .iter()
+        .enumerate()
+        .all(|(at, node)| node.name.hand == at as u64);
+    drop(image);
+    if is_so { Some(count) } else { None }
+}
+
+// Whether all boxes of the task can be given, and then it is done.
+fn gives_all<R: Wait>(rt: &R, desk: &Desk, pass: &mut Pass, mut task: Task) -> bool {
+    match give_all(rt, desk, pass, &mut task) {
+        Ok(()) => desk.done(rt, pass, task) == Heard::Kept,
+        Err(_) => {
+            drop(task);
+            false
+        }
+    }
+}
+
+// Whether the root is what is saved of a task of three boxes, and its boxes once they were given.
+fn boxes_are_saved<R: Wait>(rt: &R, desk: &Desk, pass: &mut Pass) -> bool {
+    match work(rt, desk, pass) {
+        Some(mut task) => {
+            let halved = splits(&mut task) && splits(&mut task);
+            let before = saved(rt, desk, pass);
+            let given = gives_all(rt, desk, pass, task);
+            halved && before == Some(1) && given && saved(rt, desk, pass) == Some(3)
+        }
+        None => false,
+    }
+}
+
+#[test]
+fn boxes_given_are_saved_in_place_of_the_node(rt: HostRuntime) {
+    match open(rt.alloc()) {
+        Some((desk, mut passes)) => {
+            match passes.as_mut_slice() {
+                [first, _] => holds(&rt, boxes_are_saved(&rt, &desk, first)),
+                _ => holds(&rt, false),
+            }
+            drop(passes);
+            drop(desk);
+        }
+        None => panic!(rt; "no memory"),
+    }
+}
+
 // Takes and searches, or waits. Whether the desk is not over.
 fn goes_on<R: Wait>(rt: &R, desk: &Desk, pass: &mut Pass) -> bool {
     let seen = desk.stirred(rt);

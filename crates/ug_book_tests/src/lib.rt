@@ -38,4 +38,6 @@ mod ranks;
 #[cfg(test)]
 mod schedules;
 #[cfg(test)]
+mod worked;
+#[cfg(test)]
 mod worlds;

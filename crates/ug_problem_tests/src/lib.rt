@@ -26,6 +26,8 @@ mod problems;
 #[cfg(test)]
 mod records;
 #[cfg(test)]
+mod renewals;
+#[cfg(test)]
 mod rounds;
 #[cfg(test)]
 mod searches;

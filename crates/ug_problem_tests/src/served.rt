@@ -1,4 +1,4 @@
-//! A worker at the end of a link in memory, and all bytes that it tells.
+//! A worker at the end of a link in memory, alone and in a crew, and all bytes that it tells.
 
 mod bytes;
 mod cases;
@@ -6,5 +6,6 @@ mod failing;
 mod knapsack;
 mod link;
 mod square;
-mod stairs;
+mod staffed;
+pub mod stairs;
 mod words;

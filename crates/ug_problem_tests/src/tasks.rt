@@ -5,7 +5,7 @@ ghost use Rattle.ug_problem.specs.Better.{IsGap};
 
 use crate::expect::{holds, same, same_at};
 use std::alloc::{AllocError, Global};
-use ug_base::{Step, Task};
+use ug_base::{Handed, Step, Task};
 use ug_branch::Params;
 use ug_mps::read;
 use ug_nodes::Ticket;
@@ -192,11 +192,53 @@ const UPPER: [Interval; 2] = [Interval { low: 4, high: 7 }, Interval { low: 0, h
 
 const LOWER: [Interval; 2] = [Interval { low: 2, high: 3 }, Interval { low: 2, high: 7 }];
 
+const LOWEST: [Interval; 2] = [Interval { low: 0, high: 1 }, Interval { low: 2, high: 7 }];
+
+// Whether a box that is handed has this number and these sides.
+fn is_box(given: &Handed, number: u64, sides: &[Interval]) -> bool {
+    given.number == number && given.area.as_slice() == sides
+}
+
 // Whether the box handed next has this number and these sides.
 fn hands(task: &mut Task, number: u64, sides: &[Interval]) -> bool {
     match task.hand() {
-        Ok(Some(given)) => given.number == number && given.area.as_slice() == sides,
+        Ok(Some(given)) => is_box(&given, number, sides),
         _ => false,
+    }
+}
+
+// Whether the box given next has this number and these sides.
+fn gives(task: &mut Task, number: u64, sides: &[Interval]) -> bool {
+    match task.give() {
+        Ok(Some(given)) => is_box(&given, number, sides),
+        _ => false,
+    }
+}
+
+fn gives_nothing(task: &mut Task) -> bool {
+    task.give().is_ok_and(|given| given.is_none())
+}
+
+// Whether it gives all boxes left, the last one too, and the search of it is then over.
+fn gives_all(task: &mut Task) -> bool {
+    steps_so(task, b'S')
+        && steps_so(task, b'S')
+        && gives(task, 0, &UPPER)
+        && gives(task, 1, &LOWER)
+        && gives(task, 2, &LOWEST)
+        && gives_nothing(task)
+        && steps_so(task, b'E')
+        && task.handed().len() == 3
+}
+
+#[test]
+fn gives_all_boxes(rt: HostRuntime) {
+    match task(rt.alloc(), 0, 0) {
+        Some(mut task) => {
+            holds(&rt, gives_all(&mut task));
+            drop(task);
+        }
+        None => panic!(rt; "no memory"),
     }
 }
 

@@ -1,6 +1,7 @@
 //! Three columns under three rows: a point after another is found, each better than those before.
 
 use crate::served::cases::{Case, GAP, each_is_served_so};
+use crate::served::staffed::crew_tells_the_same;
 use crate::served::words::{FIRST, Ordered, Reported, Work};
 use ug_worker::Served;
 
@@ -86,4 +87,11 @@ const CASES: &[Case] = &[Case {
 #[test]
 fn searches_the_knapsack_at_a_link(rt: HostRuntime) {
     each_is_served_so(&rt, rt.alloc(), KNAPSACK, CASES);
+}
+
+#[test]
+fn searches_the_knapsack_in_a_crew(rt: HostRuntime) {
+    for case in CASES {
+        crew_tells_the_same(&rt, rt.alloc(), KNAPSACK, case);
+    }
 }

@@ -1,0 +1,175 @@
+//! Ways in which workers solve a problem.
+
+ghost use Rattle.std.specs.Prelude.{IfSome};
+ghost use Rattle.ug_rules.specs.Books.{AreSettings};
+
+use std::alloc::{AllocError, Global};
+use ug_rules::Settings;
+use ug_worker::Visit;
+
+/// How workers are visited before each is visited in its turn, with all that there is.
+#[derive(Clone, Copy)]
+pub enum Visits {
+    /// Each hears a byte of its orders, and a byte of its reports is heard.
+    ByteByByte,
+    /// One after another, each until nothing comes of it any more.
+    OneBeforeAnother,
+    /// All of them work long before anything is heard of them, and then a few bytes are.
+    LateReports,
+    /// None is.
+    InTurn,
+}
+
+/// How a problem is solved.
+#[derive(Clone, Copy)]
+pub struct Way {
+    pub solvers: u32,
+    pub racing: bool,
+    pub gap: i128,
+    pub low: u32,
+    pub high: u32,
+    pub visits: Visits,
+}
+
+/// One to four ranks, with a race and without, a gap and none, and pools from the least on.
+pub const WAYS: &[Way] = &[
+    Way {
+        solvers: 1,
+        racing: false,
+        gap: 0,
+        low: 0,
+        high: 0,
+        visits: Visits::ByteByByte,
+    },
+    Way {
+        solvers: 2,
+        racing: false,
+        gap: 0,
+        low: 2,
+        high: 3,
+        visits: Visits::ByteByByte,
+    },
+    Way {
+        solvers: 4,
+        racing: true,
+        gap: 0,
+        low: 4,
+        high: 8,
+        visits: Visits::ByteByByte,
+    },
+    Way {
+        solvers: 3,
+        racing: false,
+        gap: 2,
+        low: 3,
+        high: 6,
+        visits: Visits::OneBeforeAnother,
+    },
+    Way {
+        solvers: 2,
+        racing: true,
+        gap: 2,
+        low: 0,
+        high: 0,
+        visits: Visits::LateReports,
+    },
+    Way {
+        solvers: 4,
+        racing: false,
+        gap: 0,
+        low: 8,
+        high: 8,
+        visits: Visits::LateReports,
+    },
+    Way {
+        solvers: 3,
+        racing: true,
+        gap: 0,
+        low: 1,
+        high: 1,
+        visits: Visits::InTurn,
+    },
+];
+
+/// The settings of a run in this way, if there are some.
+pub fn settings_of(way: Way) -> Option<Settings>
+    ensures { IfSome result AreSettings }
+{
+    if way.solvers == 0 || way.high < way.low || way.gap < 0 || 2 < way.gap {
+        return None;
+    }
+    Some(Settings {
+        solvers: way.solvers,
+        racing: way.racing,
+        low: way.low,
+        high: way.high,
+        every: 0,
+        limit: u64::MAX,
+        winner: 2,
+        gap: way.gap,
+    })
+}
+
+// So many visits of each rank in turn, with so many bytes of orders and of reports at most.
+fn push_rounds(
+    schedule: &mut Vec<Visit>,
+    solvers: u32,
+    rounds: u32,
+    orders: usize,
+    reports: usize,
+) -> Result<(), AllocError> {
+    for _ in 0..rounds {
+        for rank in 0..solvers {
+            schedule.push(Visit {
+                rank,
+                orders,
+                reports,
+            })?;
+        }
+    }
+    Ok(())
+}
+
+// So many visits of each rank with all that there is, one rank after another.
+fn push_ranks(schedule: &mut Vec<Visit>, solvers: u32, visits: u32) -> Result<(), AllocError> {
+    for rank in 0..solvers {
+        for _ in 0..visits {
+            schedule.push(Visit {
+                rank,
+                orders: usize::MAX,
+                reports: usize::MAX,
+            })?;
+        }
+    }
+    Ok(())
+}
+
+// Rounds in which nothing is heard before rounds in which little is, over and over.
+fn push_late(schedule: &mut Vec<Visit>, solvers: u32) -> Result<(), AllocError> {
+    for _ in 0..20 {
+        push_rounds(schedule, solvers, 20, usize::MAX, 0)?;
+        push_rounds(schedule, solvers, 5, 0, 7)?;
+    }
+    Ok(())
+}
+
+fn push_visits(schedule: &mut Vec<Visit>, way: Way) -> Result<(), AllocError> {
+    match way.visits {
+        Visits::ByteByByte => push_rounds(schedule, way.solvers, 600, 1, 1),
+        Visits::OneBeforeAnother => push_ranks(schedule, way.solvers, 200),
+        Visits::LateReports => push_late(schedule, way.solvers),
+        Visits::InTurn => Ok(()),
+    }
+}
+
+/// The schedule of visits of this way.
+pub fn schedule_of(alloc: Global, way: Way) -> Result<Vec<Visit>, AllocError> {
+    let mut schedule = Vec::new(alloc);
+    match push_visits(&mut schedule, way) {
+        Ok(()) => Ok(schedule),
+        Err(error) => {
+            drop(schedule);
+            Err(error)
+        }
+    }
+}

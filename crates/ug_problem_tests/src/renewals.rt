@@ -1,0 +1,247 @@
+//! A worker that renews its task, at a seat in memory that notes what it is told and asks for nothing.
+//! By hand, of the stairs (served/stairs.rt): the first round finds a point and leaves three boxes, the
+//! second finds one and leaves five. The third finds the point with a = 9 by 13 halvings of b and 15
+//! of c, drops the 30 boxes left of it, halves a from 6..8 to 8 and then b four times: 64 steps, and
+//! seven boxes are left.
+
+use crate::expect::same_at;
+use crate::served::stairs::STAIRS;
+use crate::tasks::whole_of;
+use std::alloc::{AllocError, Global};
+use std::sync::Wait;
+use ug_base::Task;
+use ug_branch::Params;
+use ug_mps::read;
+use ug_nodes::Ticket;
+use ug_problem::Shared;
+use ug_rows::{IntBox, Interval, Point};
+use ug_worker::{Renewal, Reply, Seat, Took, Untaken, work};
+
+// A seat with one task to give.
+#[derive(Drop)]
+struct Notebook {
+    task: Option<Task>,
+    // After how many reports of what is left the race is won.
+    race: u64,
+    states: u64,
+    // The number of the hand for which there is no memory.
+    refused: u64,
+    // A letter for each call.
+    told: Vec<u8>,
+    // Whether the boxes that the task handed are those by hand.
+    is_handed: bool,
+}
+
+impl Notebook {
+    fn note(&mut self, letter: u8) {
+        drop(self.told.push(letter));
+    }
+
+    fn next(&mut self) -> Took {
+        match self.task.take() {
+            Some(task) => Took::Work(task),
+            None => Took::Over,
+        }
+    }
+
+    fn reply(&self) -> Reply {
+        Reply {
+            cutoff: None,
+            collect: 0,
+            stop: false,
+            racing: self.states < self.race,
+        }
+    }
+}
+
+impl Seat for Notebook {
+    ghost at = { λ seat tally some. Unit {0} };
+
+    ghost over = { λ seat. Unit {0} };
+
+    fn take(&mut self) -> Result<Took, Untaken> {
+        let took = self.next();
+        Ok(took)
+    }
+
+    fn look(&mut self) -> Reply {
+        self.reply().bounded()
+    }
+
+    fn solution(&mut self, point: Point) {
+        drop(point);
+        self.note(b'P');
+    }
+
+    fn hand(&mut self, number: u64, area: &IntBox) -> Result<(), AllocError> {
+        let _area = area;
+        self.note(b'H');
+        if number == self.refused {
+            return Err(AllocError);
+        }
+        Ok(())
+    }
+
+    fn state(&mut self, left: u64, floor: i128) -> Result<Reply, AllocError> {
+        let _left = left;
+        let _floor = floor;
+        self.note(b'S');
+        self.states = self.states.saturating_add(1);
+        let reply = self.reply().bounded();
+        Ok(reply)
+    }
+
+    fn done(&mut self, task: Task) {
+        self.is_handed = are_by_hand(task.handed());
+        drop(task);
+        self.note(b'D');
+    }
+
+    fn give_up(&mut self, task: Task) {
+        drop(task);
+        self.note(b'G');
+    }
+
+    fn leave(&mut self) {
+        self.note(b'L');
+    }
+
+    fn rest(&mut self) -> bool {
+        false
+    }
+}
+
+const FULL: Interval = Interval {
+    low: 0,
+    high: 32767,
+};
+
+// a and b of the boxes that the second round leaves; their c is full.
+const BY_HAND: [[Interval; 2]; 5] = [
+    [Interval { low: 0, high: 5 }, FULL],
+    [Interval { low: 6, high: 8 }, FULL],
+    [
+        Interval { low: 9, high: 9 },
+        Interval {
+            low: 0,
+            high: 16383,
+        },
+    ],
+    [
+        Interval { low: 9, high: 9 },
+        Interval {
+            low: 16384,
+            high: 24575,
+        },
+    ],
+    [
+        Interval { low: 9, high: 9 },
+        Interval {
+            low: 24576,
+            high: 32767,
+        },
+    ],
+];
+
+// Whether these are the boxes that the second round leaves.
+fn are_by_hand(handed: &[IntBox]) -> bool {
+    if handed.len() != BY_HAND.len() {
+        return false;
+    }
+    for at in 0..handed.len() {
+        let [a, b] = BY_HAND[at];
+        if handed[at].as_slice() != [a, b, FULL].as_slice() {
+            return false;
+        }
+    }
+    true
+}
+
+// The task of all of the stairs, upper halves first.
+fn task(alloc: Global) -> Option<Task> {
+    let problem = Shared::own(read(alloc, STAIRS, None).ok()?);
+    let Some(whole) = whole_of(problem.problem()) else {
+        drop(problem);
+        return None;
+    };
+    let ticket = Ticket { run: 1, number: 3 };
+    Task::new(alloc, problem, ticket, Params::new(4), whole, None, 0).ok()
+}
+
+// A task that is renewed after so many rounds at the least, and whatever part of all they are; after
+// how many the race is won; for which hand there is no memory; what is told, and whether the boxes
+// handed are those by hand.
+#[derive(Clone, Copy)]
+struct Case {
+    rounds: u64,
+    race: u64,
+    refused: u64,
+    told: &'static [u8],
+    is_handed: bool,
+}
+
+const DUE_AT_ONCE: Case = Case {
+    rounds: 1,
+    race: 0,
+    refused: u64::MAX,
+    told: b"PSPHHHHHD",
+    is_handed: true,
+};
+
+const CASES: &[Case] = &[
+    DUE_AT_ONCE,
+    Case {
+        race: 1,
+        ..DUE_AT_ONCE
+    },
+    Case {
+        rounds: 2,
+        told: b"PSPSPHHHHHHHD",
+        is_handed: false,
+        ..DUE_AT_ONCE
+    },
+    Case {
+        race: 2,
+        told: b"PSPSPHHHHHHHD",
+        is_handed: false,
+        ..DUE_AT_ONCE
+    },
+    Case {
+        refused: 2,
+        told: b"PSPHHHG",
+        is_handed: false,
+        ..DUE_AT_ONCE
+    },
+];
+
+// What a worker tells that searches the stairs, if there is memory for them.
+fn told<R: Wait>(rt: &R, alloc: Global, case: &Case) -> Option<Notebook> {
+    let mut seat = Notebook {
+        task: Some(task(alloc)?),
+        race: case.race,
+        states: 0,
+        refused: case.refused,
+        told: Vec::new(alloc),
+        is_handed: false,
+    };
+    let renewal = Renewal {
+        rounds: case.rounds,
+        part: 1,
+    };
+    work(rt, &mut seat, Some(renewal));
+    Some(seat)
+}
+
+#[test]
+fn renews_where_it_is_due(rt: HostRuntime) {
+    for case in CASES {
+        match told(&rt, rt.alloc(), case) {
+            Some(seat) => {
+                same_at(&rt, &seat.told.as_slice(), &case.told, &case.told);
+                same_at(&rt, &seat.is_handed, &case.is_handed, &case.told);
+                drop(seat);
+            }
+            None => panic!(rt; "no memory"),
+        }
+    }
+}
