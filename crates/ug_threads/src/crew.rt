@@ -106,8 +106,18 @@ fn sit<R: Wait, O: Observer>(
         every: every.unwrap_or(0),
         seen: 0,
     };
-    // Without a checkpoint nothing is gained by it.
-    let renewal = every.map(|_| Renewal::usual());
-    work(host.rt, &mut seat, renewal);
+    work(host.rt, &mut seat, renewal_for(every));
     drop(seat);
+}
+
+// After how many reports a snapshot may come where tasks are renewed: then the pool has thousands of
+// nodes, and all wait while they are copied.
+const SELDOM: u64 = 10_000;
+
+// Whether tasks are renewed. Without a checkpoint nothing is gained by it.
+fn renewal_for(every: Option<u64>) -> Option<Renewal> {
+    match every {
+        Some(every) if every >= SELDOM => Some(Renewal::usual()),
+        _ => None,
+    }
 }
