@@ -16,12 +16,13 @@ use crate::worked::ways::{WAYS, Way, schedule_of, settings_of};
 use std::alloc::{AllocError, Global};
 use std::sync::Wait;
 use ug_book::Opening;
+use ug_coord::Coordinated;
 use ug_disk::{MemoryDisk, Script};
 use ug_mps::read;
 use ug_problem::{Problem, Shared};
 use ug_restart::{Host, Outcome, Unobserved};
-use ug_worker::Visit;
-use ug_world::{CrewOutcome, solve_by_workers};
+use ug_worker::{Visit, WorkerCrew};
+use ug_world::solve_by_workers;
 
 /// A disk on which nothing is.
 pub fn empty_disk(alloc: Global) -> MemoryDisk {
@@ -32,8 +33,8 @@ pub fn empty_disk(alloc: Global) -> MemoryDisk {
     MemoryDisk::new(alloc, Vec::new(alloc), Vec::new(alloc), script)
 }
 
-// What comes of the opening by workers that are visited so.
-fn solved<R: Wait>(rt: &R, alloc: Global, opening: &Opening, schedule: &[Visit]) -> Outcome
+// What comes of the opening by workers that are visited so. None where a call of their crew failed.
+fn solved<R: Wait>(rt: &R, alloc: Global, opening: &Opening, schedule: &[Visit]) -> Option<Outcome>
     requires { IsOpening opening.now }
 {
     let host = Host {
@@ -41,10 +42,17 @@ fn solved<R: Wait>(rt: &R, alloc: Global, opening: &Opening, schedule: &[Visit])
         alloc,
         observer: &Unobserved,
     };
+    let crew = WorkerCrew::new(alloc, opening.settings.solvers, schedule).ok()?;
     let mut disk = empty_disk(alloc);
-    let CrewOutcome { outcome, .. } = solve_by_workers(&host, opening, None, &mut disk, schedule);
+    let Coordinated { crew, outcome } = solve_by_workers(&host, opening, None, &mut disk, crew);
     drop(disk);
-    outcome
+    let faults = crew.faults();
+    drop(crew);
+    if faults != 0 {
+        drop(outcome);
+        return None;
+    }
+    Some(outcome)
 }
 
 // Whether the answer in this way is right. This is the least value, if a point is feasible.
@@ -64,9 +72,14 @@ fn is_right<R: Wait>(
         Ok(schedule) => {
             let outcome = solved(rt, alloc, &opening, &schedule);
             drop(schedule);
-            let so = has_found(opening.problem.problem(), &outcome.end, least, way.gap);
-            drop(outcome);
-            so
+            match outcome {
+                Some(outcome) => {
+                    let so = has_found(opening.problem.problem(), &outcome.end, least, way.gap);
+                    drop(outcome);
+                    so
+                }
+                None => false,
+            }
         }
         Err(_) => false,
     };

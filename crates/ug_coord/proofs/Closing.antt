@@ -145,9 +145,9 @@ all_closed from h old new n all k rank alive = elim (cases_lt rank n) [
 
 -- nothing is said any more
 pub ends_kept : (from : Standing) (h : HubSeen) (seen : CrewSeen) (old new : KeptSeen) (n : ℕ)
-    → seen.said ≡ h.crew.said → h.crew.faults ≤ seen.faults → n ≡ ranks_of h.book
+    → seen.said ≡ h.crew.said → seen.faults ≡ h.crew.faults → n ≡ ranks_of h.book
     → IsClosedBelow n from h old new → EndsFrom from (record h { crew = seen }) old new
-ends_kept from h seen old new n still faults all k =
+ends_kept from h seen old new n still calm all k =
     let on = k.kept.on in
     record {
       now = standing on.said k.kept.phase h;
@@ -155,7 +155,7 @@ ends_kept from h seen old new n still faults all k =
       shown = subst (λ told. IfSome told (λ t. t ≡ on.said)) (sym still) on.shown;
       its = refl;
       wants = refl;
-      faults = faults;
+      faults = sym calm;
       closed = all_closed from h old new n all k;
       moves = k.kept.moves;
     }

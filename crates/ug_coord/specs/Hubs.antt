@@ -172,21 +172,21 @@ pub record IsFresh (seen : CrewSeen) (ranks : ℕ) : Type 0 where
   pub lives : seen.lives ≡ replicate ranks false
 
 -- Deeds led from that standing to one with this book, and memory was wanting or not. The crew, where
--- it tells what was said, tells the same, and has failed no less often. Each rank that lives was told
--- the end, or that failed. What is saved went on beside them.
+-- it tells what was said, tells the same, and has failed as often. Each rank that lives was told the
+-- end, or that failed. What is saved went on beside them.
 pub record EndsFrom (from : Standing) (h : HubSeen) (old new : KeptSeen) : Type 0 where
   pub now : Standing
   pub come : HasCome from now
   pub shown : IfSome h.crew.said (λ told. told ≡ now.said)
   pub its : now.book ≡ h.book
   pub wants : now.wants ≡ h.wants
-  pub faults : now.faults ≤ h.crew.faults
+  pub faults : now.faults ≡ h.crew.faults
   pub closed : (rank : ℕ) → lives_at now rank ≡ true → IsToldEnd rank come.deeds
   pub moves : Moves (StaysSound from now come) (Unit {0}) old new
 
 -- How the work ended: deeds led from the beginning with this book and a crew that had failed so often
 -- to the end, none where memory was wanting for the book itself. The crew, where it tells what was
--- said, tells the same, and has failed no less often. Each rank that lives was told the end, or that
+-- said, tells the same, and has failed as often. Each rank that lives was told the end, or that
 -- failed. Memory was wanting in none of the deeds where there is a book. Where each book of them was
 -- sound, it was safe.
 pub record HasCoordinated (b : BookState) (faults : ℕ) (seen : CrewSeen) (end : End) (Safe : Type 0)
@@ -197,7 +197,7 @@ pub record HasCoordinated (b : BookState) (faults : ℕ) (seen : CrewSeen) (end 
   pub shown : IfSome seen.said (λ told. told ≡ now.said)
   pub closed : (rank : ℕ) → lives_at now rank ≡ true → IsToldEnd rank come.deeds
   pub ended : is_ended end now.book
-  pub failed : now.faults ≤ seen.faults
+  pub failed : now.faults ≡ seen.faults
   pub wants : IfBook end (λ book. now.wants ≡ false)
   pub same : IfBook end (IsSameRun b)
   pub feasible : IfBook end HasFeasible

@@ -1,4 +1,4 @@
-ghost use Rattle.std.specs.Prelude.{◌≡◌, ◌<◌, ◌≤◌, true, false, length, IfOk, OnOk, OnErr, MatchBool};
+ghost use Rattle.std.specs.Prelude.{◌≡◌, ◌<◌, true, false, length, IfOk, OnOk, OnErr, MatchBool};
 ghost use Rattle.ug_io.specs.Outside.{IsCounted, Rose};
 ghost use Rattle.ug_io.specs.Crews.{CrewSeen, HasSent, HasTurned, IsAlive, IsAway, IsSetTo, IsSilent};
 
@@ -64,8 +64,9 @@ pub trait Crew {
         ensures shut { IsSetTo false (seen self.old) (seen self.new) rank }
         ensures calm { (seen self.new).faults ≡ (seen self.old).faults };
 
-    /// Lets all that was told go out, and waits until each rank has ended. It is the last call.
+    /// Lets all that was told go out, and waits until each rank has ended. It is the last call, and
+    /// none that can fail.
     fn finish(&mut self)
         ensures said { (seen self.new).said ≡ (seen self.old).said }
-        ensures faults { (seen self.old).faults ≤ (seen self.new).faults };
+        ensures calm { (seen self.new).faults ≡ (seen self.old).faults };
 }

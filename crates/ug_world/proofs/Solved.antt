@@ -1,9 +1,11 @@
 -- How a solve by workers ends.
-use Rattle.std.proofs.Common.{◌≡◌, inl, inr, ℕ, Bool, false, List, length, Option, Some, refl, sym, ap, subst, arith}
-use Rattle.std.specs.Prelude.{replicate}
+use Rattle.std.proofs.Common.{◌≡◌, inl, inr, ℕ, false, List, length, Option, Some, refl, sym, ap, subst, arith}
+use Rattle.std.specs.Prelude.{IfSome, replicate}
 use Rattle.std.proofs.lemmas.Bool.{cases_lt}
 use Rattle.std.proofs.lemmas.List.{get_or-replicate, get_or_past, length-replicate}
 use Rattle.ug_io.specs.declared.crew.Exchange.{Exchange}
+use Rattle.ug_io.specs.Crews.{CrewSeen}
+use Rattle.ug_io.specs.Outside.{IsCalm}
 use Rattle.ug_disk.specs.Histories.{DiskSeen}
 use Rattle.ug_ranks.specs.Looks.{is_alive, is_joined}
 use Rattle.ug_ranks.specs.States.{state_at}
@@ -17,12 +19,10 @@ use Rattle.ug_book.specs.Openings.{IsCoveredOpening, IsOpening, opening_book}
 use Rattle.ug_book.proofs.Starts.{start_is_sound}
 use Rattle.ug_restart.specs.declared.outcome.End.{End}
 use Rattle.ug_restart.specs.declared.outcome.End.TheVariants.{Answered, Limited, Stranded, Memory}
-use Rattle.ug_restart.specs.declared.outcome.Outcome.{Outcome}
 use Rattle.ug_restart.specs.Outcomes.{IfAnswered, IfBook, IfLimited, IsLimited, IsRight, IsStranded}
 use Rattle.ug_coord.specs.Ends.{AllDead, is_ended}
 use Rattle.ug_coord.specs.Hubs.{HasCoordinated}
-use Rattle.ug_coord.specs.Keeping.{IsKeptSafe, IsNothing}
-use Rattle.ug_coord.proofs.Ends.{safe_still}
+use Rattle.ug_coord.specs.Keeping.{IsKeptSafe}
 use Rattle.ug_worker.specs.Staffs.{AreAlwaysWorked}
 use Rattle.ug_world.specs.Calm.{CalmWorkersLive}
 use Rattle.ug_world.specs.Laws.{LosesNothing}
@@ -74,59 +74,45 @@ dead_anyway b rank dead = elim (cases_lt rank (length b.ranks)) [
   | inr past ↦ ap is_alive (get_or_past b.ranks rank (Dead Died) past)
 ]
 
-module _ (o : Opening) (end : End) (said : List Exchange) (lives : List Bool) (faults : ℕ) (Safe : Type 0)
-    (h : HasCoordinated (opening_book o) 0 (record { said = Some said; lives = lives; faults = faults }) end Safe) where
-  -- where the crew never failed some rank lives
-  never_stranded : CalmWorkersLive → IsOpening o → AreAlwaysWorked said → faults ≡ 0 → IsStranded end → ⊥
-  never_stranded law opening worked none stranded =
-      law (opening_book o) 0 h.now h.come (record {
+module _ (o : Opening) (end : End) (before : ℕ) (after : CrewSeen) (said : List Exchange) (Safe : Type 0)
+    (h : HasCoordinated (opening_book o) before after end Safe) (told : after.said ≡ Some said) where
+  -- what was heard and told in the deeds is what the crew tells
+  was_said : AreAlwaysWorked said → AreAlwaysWorked h.now.said
+  was_said worked = subst AreAlwaysWorked
+      (subst (λ (shown : Option (List Exchange)). IfSome shown (λ s. s ≡ h.now.said)) told h.shown) worked
+
+  -- where no call of the crew failed some rank lives
+  pub never_stranded : CalmWorkersLive → IsOpening o → AreAlwaysWorked said → IsCalm before after.faults
+      → ¬ IsStranded end
+  never_stranded law opening worked calm stranded =
+      law (opening_book o) before h.now h.come (record {
         unused = record { last = refl; orders = refl };
         away = unjoined o.settings.solvers;
-        worked = subst (λ (s : List Exchange). AreAlwaysWorked s) h.shown worked;
-        calm = record { same = omega (arith, h.failed, none); small = omega arith };
+        worked = was_said worked;
+        calm = subst (IsCalm before) (sym h.failed) calm;
         memory = stranded_wants (h.now.wants ≡ false) end h.wants stranded;
       }) 0
       (h.causes 0 (omega (arith, opening.settings.some, length-replicate o.settings.solvers Absent))
       (dead_anyway h.now.book 0 (stranded_dead end h.now.book h.ended stranded)))
 
--- what was said is worked
-pub has_solved : CoordinatorsOfWorkersLoseNothing → CalmWorkersLive → (o : Opening) (saver : Option Saver)
-    (end : End) (old new : DiskSeen) (said : List Exchange) (lives : List Bool) (faults : ℕ) → IsOpening o
-    → IsCoveredOpening o → AreAlwaysWorked said
-    → HasCoordinated (opening_book o) 0 (record { said = Some said; lives = lives; faults = faults }) end
-    (IsKeptSafe saver old new)
-    → HasSolved o saver end faults old new
-has_solved law calm o saver end old new said lives faults opening covered worked h =
-    let sound : IsSoundBook (opening_book o) =
-    (start_is_sound o.problem o.run o.best o.boxes o.settings).1 covered in
-    let all = law (opening_book o) 0 h.now h.come h.made sound (record { last = refl; orders = refl })
-    (subst (λ (s : List Exchange). AreAlwaysWorked s) h.shown worked) in
-    record {
-      same = h.same;
-      sound = book_loses end h.now.book h.ended all.1;
-      feasible = h.feasible;
-      right = answer_right end h.now.book h.ended all.1.sound h.right;
-      limited = at_limit end h.now.book h.ended;
-      exact = h.limited;
-      calm = never_stranded o end said lives faults (IsKeptSafe saver old new) h calm opening worked;
-      safe = h.safe all.0;
-    }
-
--- memory was wanting at once
-nothing_solved_by : (o : Opening) (saver : Option Saver) (end : End) (disk : DiskSeen) → end ≡ Memory
-    → IsKeptSafe saver disk disk → HasSolved o saver end 0 disk disk
-nothing_solved_by o saver end disk is safe = subst (λ (e : End). HasSolved o saver e 0 disk disk) (sym is) (record {
-  same = tt;
-  sound = tt;
-  feasible = tt;
-  right = tt;
-  limited = tt;
-  exact = tt;
-  calm = λ none stranded. stranded;
-  safe = safe;
-})
-
-pub nothing_solved : (o : Opening) (saver : Option Saver) (outcome : Outcome) (disk : DiskSeen)
-    → IsNothing outcome → HasSolved o saver outcome.end 0 disk disk
-nothing_solved o saver outcome disk none =
-    nothing_solved_by o saver outcome.end disk none.ended (safe_still saver disk)
+module _ (o : Opening) (end : End) (before : ℕ) (after : CrewSeen) (said : List Exchange) (saver : Option Saver)
+    (old new : DiskSeen)
+    (h : HasCoordinated (opening_book o) before after end (IsKeptSafe saver old new)) (told : after.said ≡ Some said)
+  where
+    -- what was said is worked
+    pub has_solved : CoordinatorsOfWorkersLoseNothing → IsCoveredOpening o → AreAlwaysWorked said
+        → HasSolved o saver end old new
+    has_solved law covered worked =
+        let sound : IsSoundBook (opening_book o) =
+        (start_is_sound o.problem o.run o.best o.boxes o.settings).1 covered in
+        let all = law (opening_book o) before h.now h.come h.made sound (record { last = refl; orders = refl })
+        (was_said o end before after said (IsKeptSafe saver old new) h told worked) in
+        record {
+          same = h.same;
+          sound = book_loses end h.now.book h.ended all.1;
+          feasible = h.feasible;
+          right = answer_right end h.now.book h.ended all.1.sound h.right;
+          limited = at_limit end h.now.book h.ended;
+          exact = h.limited;
+          safe = h.safe all.0;
+        }

@@ -9,7 +9,6 @@ use Rattle.ug_book.specs.Openings.{opening_book}
 use Rattle.ug_book.specs.Views.{IsSameRun}
 use Rattle.ug_restart.specs.declared.outcome.End.{End}
 use Rattle.ug_restart.specs.Outcomes.{HasFeasible, IfAnswered, IfBook, IfLimited, IsLimited, IsRight}
-use Rattle.ug_restart.specs.Outcomes.{IsStranded}
 use Rattle.ug_coord.specs.Deeds.{Standing}
 use Rattle.ug_coord.specs.Ends.{IsAtLimit}
 use Rattle.ug_coord.specs.Hubs.{HasCome, StaysSound, beginning}
@@ -31,19 +30,15 @@ CoordinatorsOfWorkersLoseNothing = (b : BookState) (faults : ℕ) (now : Standin
     → AreAlwaysWorked now.said
     → StaysSound (beginning b faults) now come × LosesNothing now.book
 
--- How a solve of what an opening left has ended, where workers did it and their crew failed so
--- often. The book with which it ended is one of the same run, loses no better point, and has a
--- feasible incumbent, if it has one. An answer is right. At the limit just as many reports were heard
--- as may be, and a node is held. Where the crew never failed the run was not stranded: so it is
--- answered, at its limit, or memory was wanting. With a saver, where all that recovery could find was
--- Covered, it is so at each moment.
-pub record HasSolved (o : Opening) (saver : Option Saver) (end : End) (faults : ℕ)
-    (old new : DiskSeen) : Type 0 where
+-- How a solve of what an opening left has ended, where workers did it. The book with which it ended is
+-- one of the same run, loses no better point, and has a feasible incumbent, if it has one. An answer is
+-- right. At the limit just as many reports were heard as may be, and a node is held. With a saver, where
+-- all that recovery could find was Covered, it is so at each moment.
+pub record HasSolved (o : Opening) (saver : Option Saver) (end : End) (old new : DiskSeen) : Type 0 where
   pub same : IfBook end (IsSameRun (opening_book o))
   pub sound : IfBook end LosesNothing
   pub feasible : IfBook end HasFeasible
   pub right : IfAnswered end IsRight
   pub limited : IfLimited end IsLimited
   pub exact : IfLimited end IsAtLimit
-  pub calm : faults ≡ 0 → ¬ IsStranded end
   pub safe : IsKeptSafe saver old new

@@ -31,4 +31,4 @@ pub use law::{
 };
 pub use playing::{Halt, Playing};
 pub use schedule::{PlayFault, Played, Replies, play};
-pub use workers::{CrewOutcome, solve_by_workers};
+pub use workers::solve_by_workers;

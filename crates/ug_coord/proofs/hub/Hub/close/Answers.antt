@@ -23,4 +23,4 @@ loop-rank-preserved g c = record {
 pub returns-clause-ends : goal.returns-clause-ends
 returns-clause-ends g c from old new k =
     ends_kept from (hub_seen g.C.Crew.seen c.loop-rank.self) (g.C.Crew.seen c.finish.new.self) old new _
-    c.finish.ensures.said c.finish.ensures.faults (search rules) (c.loop-rank.invariant.closed from old new k)
+    c.finish.ensures.said c.finish.ensures.calm (search rules) (c.loop-rank.invariant.closed from old new k)
