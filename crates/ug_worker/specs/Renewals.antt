@@ -6,7 +6,7 @@ use Rattle.ug_worker.specs.declared.tally.Tally.{Tally}
 
 -- that of the program
 abbrev pub usual : Renewal
-usual = record { rounds = 256; part = 128 }
+usual = record { rounds = 1024; part = 128 }
 
 -- no round was made
 abbrev pub fresh : Option Renewal → Tally

@@ -4,7 +4,7 @@ ghost use Rattle.std.specs.Prelude.{◌≡◌, ◌<◌, ◌≤◌, ◌*◌, Matc
 ghost use Rattle.ug_worker.specs.Renewals.{IsDue, begun, counted, fresh, one_more, usual};
 
 /// How many rounds a task has at the least before it is renewed.
-const ROUNDS: u64 = 256;
+const ROUNDS: u64 = 1024;
 
 /// One in so many of all rounds of its worker a task has before it is renewed.
 const PART: u64 = 128;
