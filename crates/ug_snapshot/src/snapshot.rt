@@ -1,4 +1,4 @@
-ghost use Rattle.std.specs.Prelude.{◌≡◌};
+ghost use Rattle.std.specs.Prelude.{◌≡◌, length};
 ghost use Rattle.ug_snapshot.specs.Snapshots.{IsSnapshot};
 
 use std::marker::Model;
@@ -50,6 +50,13 @@ impl Snapshot {
         ensures { result ≡ self.now.count }
     {
         self.count
+    }
+
+    /// How many nodes the image has.
+    pub fn nodes(&self) -> usize
+        ensures { result ≡ length self.now.image.nodes }
+    {
+        self.image.nodes.len()
     }
 
     /// The image of then, under sequence 1.

@@ -3,6 +3,7 @@
 ghost use Rattle.std.specs.Prelude.{◌≡◌, length, IfOk};
 
 use crate::desk_seat::DeskSeat;
+use crate::pace::Pace;
 use crossbeam_channel::Sender;
 use std::alloc::{AllocError, Global};
 use std::sync::{Mutex, Wait};
@@ -34,13 +35,12 @@ pub fn passes(alloc: Global, places: Vec<Mutex<Pass>>) -> Result<Vec<Pass>, Allo
     Ok(passes)
 }
 
-/// Where the workers sit: the desk, the place of each pass, and after how many deliveries of a pass a
-/// snapshot is wanted, if any is.
+/// Where the workers sit: the desk, the place of each pass, and when snapshots are due.
 #[derive(Clone, Copy)]
 pub struct Table<'a> {
     pub desk: &'a Desk,
     pub places: &'a [Mutex<Pass>],
-    pub every: Option<u64>,
+    pub pace: &'a Pace,
 }
 
 /// Starts a thread for each pass. One whose thread was not started leaves; where none was started
@@ -53,7 +53,7 @@ pub fn start<'s, E, R: Threads + Wait + Sync, O: Observer>(
 ) {
     let started = start_each(scope, host, table, &sender);
     match table.places.first() {
-        Some(place) if started == 0 => sit(host, table.desk, place, Some(sender), table.every),
+        Some(place) if started == 0 => sit(host, table.desk, place, Some(sender), table.pace),
         _ => drop(sender),
     }
 }
@@ -67,10 +67,10 @@ fn start_each<'s, E, R: Threads + Wait + Sync, O: Observer>(
 ) -> u32 {
     let mut started = 0u32;
     let desk = table.desk;
-    let every = table.every;
+    let pace = table.pace;
     for place in table.places {
-        let own = sender_for(sender, every);
-        let spawned = scope.spawn(move || sit(host, desk, place, own, every));
+        let own = sender_for(sender, pace);
+        let spawned = scope.spawn(move || sit(host, desk, place, own, pace));
         if spawned.is_ok() {
             started = started.saturating_add(1);
         } else {
@@ -82,8 +82,10 @@ fn start_each<'s, E, R: Threads + Wait + Sync, O: Observer>(
 }
 
 // A sender of one's own, where snapshots are wanted and there is memory for it.
-fn sender_for(sender: &Sender<Snapshot>, every: Option<u64>) -> Option<Sender<Snapshot>> {
-    every?;
+fn sender_for(sender: &Sender<Snapshot>, pace: &Pace) -> Option<Sender<Snapshot>> {
+    if !pace.is_wanted() {
+        return None;
+    }
     sender.clone().ok()
 }
 
@@ -93,7 +95,7 @@ fn sit<R: Wait, O: Observer>(
     desk: &Desk,
     place: &Mutex<Pass>,
     sender: Option<Sender<Snapshot>>,
-    every: Option<u64>,
+    pace: &Pace,
 ) {
     let mut pass = place.lock(host.rt);
     let mut seat = DeskSeat {
@@ -103,21 +105,17 @@ fn sit<R: Wait, O: Observer>(
         pass: &mut pass,
         observer: host.observer,
         sender,
-        every: every.unwrap_or(0),
+        pace,
         seen: 0,
     };
-    work(host.rt, &mut seat, renewal_for(every));
+    work(host.rt, &mut seat, renewal_for(pace));
     drop(seat);
 }
 
-// After how many reports a snapshot may come where tasks are renewed: then the pool has thousands of
-// nodes, and all wait while they are copied.
-const SELDOM: u64 = 10_000;
-
 // Whether tasks are renewed. Without a checkpoint nothing is gained by it.
-fn renewal_for(every: Option<u64>) -> Option<Renewal> {
-    match every {
-        Some(every) if every >= SELDOM => Some(Renewal::usual()),
-        _ => None,
+fn renewal_for(pace: &Pace) -> Option<Renewal> {
+    if pace.is_wanted() {
+        return Some(Renewal::usual());
     }
+    None
 }

@@ -1,5 +1,6 @@
 ghost use Rattle.std.specs.Prelude.{◌≡◌, ◌<◌, []};
 
+use crate::pace::Pace;
 use crate::told::{answered, told};
 use crossbeam_channel::Sender;
 use std::alloc::{AllocError, Global};
@@ -22,8 +23,8 @@ pub struct DeskSeat<'a, R, O> {
     pub observer: &'a O,
     /// Where snapshots go, if they are wanted.
     pub sender: Option<Sender<Snapshot>>,
-    /// After how many deliveries one is wanted.
-    pub every: u64,
+    /// When they are due.
+    pub pace: &'a Pace,
     /// How many calls had been made before the last `take` that were not answered Wait.
     pub seen: u64,
 }
@@ -35,15 +36,16 @@ fn send_if_due<R: Wait>(
     desk: &Desk,
     pass: &mut Pass,
     sender: &Option<Sender<Snapshot>>,
-    every: u64,
+    pace: &Pace,
 ) {
     let Some(sender) = sender else {
         return;
     };
-    if pass.heard().checked_rem(every) != Some(0) || sender.is_full() {
+    if sender.is_full() || !pace.is_due(pass.heard()) {
         return;
     }
     if let Ok(snapshot) = desk.snapshot(rt, pass) {
+        pace.sent(pass.heard(), snapshot.nodes());
         drop(sender.try_send(rt, snapshot));
     }
 }
@@ -78,7 +80,7 @@ impl<'a, R: Wait, O: Observer> Seat for DeskSeat<'a, R, O> {
         self.observer.pass(self.pass.rank(), Moment::Asking);
         let heard = self.desk.solution(self.rt, self.pass, point);
         self.observer.pass(self.pass.rank(), Moment::Answered);
-        send_if_due(self.rt, self.desk, self.pass, &self.sender, self.every);
+        send_if_due(self.rt, self.desk, self.pass, &self.sender, self.pace);
         if self.observer.wants(self.pass.heard(), heard == Heard::Kept) {
             if let Some(progress) = progress(self.rt, self.alloc, self.desk, self.pass) {
                 self.observer.tell(&progress);
@@ -91,7 +93,7 @@ impl<'a, R: Wait, O: Observer> Seat for DeskSeat<'a, R, O> {
         self.observer.pass(self.pass.rank(), Moment::Asking);
         let heard = self.desk.hand(self.rt, self.pass, number, area);
         self.observer.pass(self.pass.rank(), Moment::Answered);
-        send_if_due(self.rt, self.desk, self.pass, &self.sender, self.every);
+        send_if_due(self.rt, self.desk, self.pass, &self.sender, self.pace);
         told(heard)
     }
 
@@ -99,7 +101,7 @@ impl<'a, R: Wait, O: Observer> Seat for DeskSeat<'a, R, O> {
         self.observer.pass(self.pass.rank(), Moment::Asking);
         let reply = self.desk.state(self.rt, self.pass, left, floor);
         self.observer.pass(self.pass.rank(), Moment::Answered);
-        send_if_due(self.rt, self.desk, self.pass, &self.sender, self.every);
+        send_if_due(self.rt, self.desk, self.pass, &self.sender, self.pace);
         if self.observer.wants(self.pass.heard(), false) {
             if let Some(progress) = progress(self.rt, self.alloc, self.desk, self.pass) {
                 self.observer.tell(&progress);
@@ -113,7 +115,7 @@ impl<'a, R: Wait, O: Observer> Seat for DeskSeat<'a, R, O> {
         self.observer.pass(self.pass.rank(), Moment::Asking);
         self.desk.done(self.rt, self.pass, task);
         self.observer.pass(self.pass.rank(), Moment::Answered);
-        send_if_due(self.rt, self.desk, self.pass, &self.sender, self.every);
+        send_if_due(self.rt, self.desk, self.pass, &self.sender, self.pace);
     }
 
     fn give_up(&mut self, task: Task) {

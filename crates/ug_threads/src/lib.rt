@@ -10,6 +10,7 @@ mod crew;
 mod desk_seat;
 mod ending;
 mod listener;
+mod pace;
 mod solve;
 mod together;
 mod told;

@@ -9,6 +9,7 @@ use crate::alone::alone;
 use crate::crew::{Table, passes, places, start};
 use crate::ending::of_opening;
 use crate::listener::{Listener, listen};
+use crate::pace::Pace;
 use crossbeam_channel::{Receiver, Sender, bounded};
 use std::alloc::{AllocError, Global};
 use std::sync::{Mutex, Wait};
@@ -56,10 +57,11 @@ pub fn solve<R: Threads + Wait + Sync, O: Observer, T: Listener + Drop>(
         sender,
         receiver,
     } = seating;
+    let pace = Pace::new(every);
     let table = Table {
         desk: &desk,
         places: places.as_slice(),
-        every,
+        pace: &pace,
     };
     let listener = run(host, table, sender, &receiver, listener);
     let book = match closed(host.alloc, desk, places, opening) {
