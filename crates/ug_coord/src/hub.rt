@@ -20,9 +20,7 @@ use ug_stream::Assembler;
 /// A coordinator at work, with its crew.
 #[derive(Drop)]
 pub struct Hub<'a, R, O, C> {
-    pub host: &'a Host<'a, R, O>,
     pub book: Book,
-    pub crew: C,
     /// What came from each rank and of which no report was taken yet.
     pub streams: Vec<Assembler>,
     /// What is heard into.
@@ -33,6 +31,8 @@ pub struct Hub<'a, R, O, C> {
     pub last: Option<u32>,
     /// Whether memory was wanting.
     pub wants: bool,
+    pub host: &'a Host<'a, R, O>,
+    pub crew: C,
     ghost room: { 0 < length input.items },
 }
 

@@ -31,8 +31,8 @@ const READ: usize = 65_536;
 /// The crew after a solve, and how this ended.
 #[derive(Drop)]
 pub struct Coordinated<C> {
-    pub crew: C,
     pub outcome: Outcome,
+    pub crew: C,
 }
 
 /// Solves what the opening has left, with a crew of which nothing was heard yet and no rank of which
@@ -151,10 +151,16 @@ fn solve<R: Wait, D: Disk, O: Observer, C: Crew + Drop>(
     hub.run(&mut keeper, disk);
     let Hub {
         book,
-        crew,
+        streams,
+        input,
+        frame,
         wants,
+        crew,
         ..
     } = hub;
+    drop(streams);
+    drop(input);
+    drop(frame);
     let end = end_of(book, wants);
     let outcome = conclude(keeper, disk, end);
     Coordinated { crew, outcome }

@@ -40,13 +40,13 @@ pub enum Visited {
 #[derive(Drop)]
 pub struct WorkerCrew<'a> {
     alloc: Global,
-    staff: Staff,
+    faults: u64,
+    // Whose turn it is behind the schedule.
+    next: u32,
     lives: Vec<bool>,
+    staff: Staff,
     // What is left of the schedule.
     schedule: &'a [Visit],
-    // Whose turn it is behind it.
-    next: u32,
-    faults: u64,
 }
 
 impl<'a> WorkerCrew<'a> {

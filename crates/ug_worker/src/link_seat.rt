@@ -29,8 +29,8 @@ use ug_rows::{IntBox, Point};
 #[derive(Drop)]
 pub struct LinkSeat<L> {
     pub alloc: Global,
-    pub wire: Wire<L>,
     pub kept: Kept,
+    pub wire: Wire<L>,
 }
 
 impl<L: Link + Drop> LinkSeat<L> {

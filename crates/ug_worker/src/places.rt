@@ -19,11 +19,12 @@ pub fn man(alloc: Global, place: &mut Option<Server<QueueLink>>, input: Vec<u8>)
         → IsPlace said rank place.new }
 {
     if place.is_some() {
+        drop(input);
         return false;
     }
     let server = Server::new(alloc, QueueLink::new(alloc), input);
     server.wire.link.is_queue();
-    *place = Some(server);
+    drop(place.replace(server));
     true
 }
 
@@ -69,7 +70,7 @@ pub fn step(place: &mut Option<Server<QueueLink>>, most: usize) -> Progress
     server.wire.link.give(most);
     let Moved { server, progress } = step_queue(server);
     server.wire.link.is_queue();
-    *place = Some(server);
+    drop(place.replace(server));
     progress
 }
 

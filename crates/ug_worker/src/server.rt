@@ -40,8 +40,8 @@ pub enum Progress {
 /// A worker at a link behind a step, and how it goes on.
 #[derive(Drop)]
 pub struct Moved<L> {
-    pub server: Server<L>,
     pub progress: Progress,
+    pub server: Server<L>,
 }
 
 /// A worker whose coordinator is at the other end of a link: it hears the problem, then searches each
@@ -49,8 +49,8 @@ pub struct Moved<L> {
 #[derive(Drop)]
 pub struct Server<L> {
     pub(crate) alloc: Global,
-    pub(crate) wire: Wire<L>,
     pub(crate) post: Option<Post>,
+    pub(crate) wire: Wire<L>,
 }
 
 /// What a worker at a link has once the problem is there.
@@ -108,8 +108,18 @@ impl<L: Link + Drop> Server<L> {
     pub fn into_link(self) -> L
         ensures { result ≡ self.wire.link }
     {
-        let Server { wire, .. } = self;
-        let Wire { link, .. } = wire;
+        let Server { wire, post, .. } = self;
+        drop(post);
+        let Wire {
+            link,
+            orders,
+            input,
+            frame,
+            ..
+        } = wire;
+        drop(orders);
+        drop(input);
+        drop(frame);
         link
     }
 

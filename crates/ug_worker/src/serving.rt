@@ -17,8 +17,8 @@ const READ: usize = 65_536;
 /// The link after its service, and how this ended.
 #[derive(Drop)]
 pub struct Service<L> {
-    pub link: L,
     pub end: Served,
+    pub link: L,
 }
 
 /// Serves a link over which nothing was said yet: hears the problem, then searches each box that is

@@ -25,8 +25,6 @@ const READ: usize = 65_536;
 #[derive(Drop)]
 pub struct Wire<L> {
     pub alloc: Global,
-    /// The link.
-    pub link: L,
     pub orders: Assembler,
     // What is read into.
     pub input: Vec<u8>,
@@ -36,6 +34,8 @@ pub struct Wire<L> {
     pub at: u64,
     /// How the service ended, where it has.
     pub end: Option<Served>,
+    /// The link.
+    pub link: L,
     pub ghost room: { 0 < length input.items },
 }
 

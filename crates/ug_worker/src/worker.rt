@@ -25,10 +25,14 @@ pub fn work<R: Wait, S: Seat>(rt: &R, seat: &mut S, renewal: Option<Renewal>)
             Pace::On => {}
             Pace::Waits => {
                 if !seat.rest() {
+                    drop(worker);
                     return;
                 }
             }
-            Pace::Over => return,
+            Pace::Over => {
+                drop(worker);
+                return;
+            }
         }
     }
     unreachable!()
@@ -116,12 +120,12 @@ impl Worker {
         self.tally = search.tally;
         match went {
             Ok(()) => {
-                self.search = Some(search);
+                drop(self.search.replace(search));
                 Pace::On
             }
             Err(left) => {
                 let Search { task, .. } = search;
-                self.search = None;
+                drop(self.search.take());
                 self.leave(seat, task, left)
             }
         }

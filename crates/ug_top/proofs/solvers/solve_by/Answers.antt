@@ -28,8 +28,8 @@ returns-in-None-clause-kept g c =
     c.solve_threads.ensures.untouched c.solve_threads.ensures.saved c.solve_threads.ensures.found
     c.solve_threads.ensures.missed
 
-pub coordinate-solvers-requires-clause-fresh : goal.coordinate-solvers-requires-clause-fresh
-coordinate-solvers-requires-clause-fresh g c κs within =
+pub coordinate-outcome-requires-clause-fresh : goal.coordinate-outcome-requires-clause-fresh
+coordinate-outcome-requires-clause-fresh g c κs within =
     let is : c.args.crew.now ≡ Some c.in-Some.solvers = search rules in
     subst (IsFresh (g.C.Crew.seen c.in-Some.solvers))
     (sym (length-replicate c.args.opening.now.settings.solvers Absent))
@@ -39,5 +39,5 @@ coordinate-solvers-requires-clause-fresh g c κs within =
 pub returns-in-Some-clause-solved : goal.returns-in-Some-clause-solved
 returns-in-Some-clause-solved g c =
     crew_safely c.coordinators_lose_nothing.ensures (opening_book c.args.opening.now) _
-    (g.C.Crew.seen c.coordinate-solvers.result.crew) c.coordinate-solvers.result.outcome.end _ refl
-    c.coordinate-solvers.ensures.coordinated
+    (g.C.Crew.seen c.coordinate-outcome.result.crew) c.coordinate-outcome.result.outcome.end _ refl
+    c.coordinate-outcome.ensures.coordinated

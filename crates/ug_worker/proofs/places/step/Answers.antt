@@ -4,8 +4,8 @@ use Rattle.ug_worker.specs.Staffs.{IsSteady}
 use Rattle.ug_worker.proofs.Servers.{same_server}
 use Rattle.ug_worker.proofs.places.step.Goals as goal
 
-pub step_queue-server-requires : goal.step_queue-server-requires
-step_queue-server-requires c =
+pub step_queue-progress-requires : goal.step_queue-progress-requires
+step_queue-progress-requires c =
     let same : c.args.place.now ≡ Some c.in-Some.server = search rules in
     same_server queue_seen queue_seen c.in-Some.server _ (record {
       link = ap queue_seen c.give.ensures;
