@@ -35,7 +35,7 @@ ranks_rules = defaulted (codes "mode") (codes "threads")
 
 -- how often is saved, and how far is gone; and the folder of the sockets
 abbrev pub bounds_rules : List Rule
-bounds_rules = defaulted (codes "every") (codes "100")
+bounds_rules = optional (codes "every")
     ∷ defaulted (codes "limit") (codes "1099511627776")
     ∷ optional (codes "box")
     ∷ defaulted (codes "gap") (codes "0")

@@ -40,9 +40,14 @@ pub record AreRanks (rows : List Row) (ranks : Solvers) : Type 0 where
   pub high : IsGivenOr (div_ceil (3 * ranks.low) 2) 1 131072 (word_of (codes "high") rows)
       ranks.high
 
+-- how often is saved where no word says it
+abbrev pub usual_every : Mode → ℕ
+usual_every Threads = 100
+usual_every Processes = 10000
+
 -- how often is saved, how far is gone, the bound of a column that has none, and the gap
-pub record AreBounds (rows : List Row) (bounds : Limits) : Type 0 where
-  pub every : IsGiven 1 4294967295 (word_of (codes "every") rows) bounds.every
+pub record AreBounds (rows : List Row) (mode : Mode) (bounds : Limits) : Type 0 where
+  pub every : IsGivenOr (usual_every mode) 1 4294967295 (word_of (codes "every") rows) bounds.every
   pub limit : IsGiven 0 1099511627776 (word_of (codes "limit") rows) bounds.limit
   pub boxed : IsGivenIf 0 1000000000 (word_of (codes "box") rows) bounds.boxed
   pub gap : IsGiven 0 1000000000000000000 (word_of (codes "gap") rows) bounds.gap
@@ -56,7 +61,7 @@ IsMode word Processes = word ≡ Some (codes "processes")
 pub record AreSettings (rows : List Row) (settings : Asked) : Type 0 where
   pub mode : IsMode (word_of (codes "mode") rows) settings.mode
   pub ranks : AreRanks rows settings.ranks
-  pub bounds : AreBounds rows settings.bounds
+  pub bounds : AreBounds rows settings.mode settings.bounds
   pub sockets : word_of (codes "sockets") rows ≡ Some settings.sockets.now
 
 -- a file is solved, and a checkpoint is kept where a folder is given

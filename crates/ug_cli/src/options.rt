@@ -97,7 +97,7 @@ fn with_bounds<'a>(
         → IfOk result (λ c. app_of c ≡ with_rules app bounds_rules) }
     ensures local { IfOk result (λ c. (out-Command c).has_globals ≡ false) }
 {
-    let command = add(command, defaulted(alloc, "every", "100"));
+    let command = add(command, optional(alloc, "every"));
     let command = add(command, defaulted(alloc, "limit", "1099511627776"));
     let command = add(command, optional(alloc, "box"));
     let command = add(command, defaulted(alloc, "gap", "0"));

@@ -1,7 +1,8 @@
-ghost use Rattle.std.specs.Prelude.{ℕ, Option, IfSome, IfNone, codes};
+ghost use Rattle.std.specs.Prelude.{◌≡◌, ◌≤◌, ℕ, Option, IfSome, IfNone, codes};
 ghost use Rattle.clap.specs.Words.{found_of, rows_of};
 ghost use Rattle.ug_cli.specs.Numbers.{IsGivenIf};
-ghost use Rattle.ug_cli.specs.Taken.{AreBounds, AreRanks, AreSettings, IsMode, word_of};
+ghost use Rattle.ug_cli.specs.Taken.{AreBounds, AreRanks, AreSettings, IsMode, usual_every};
+ghost use Rattle.ug_cli.specs.Taken.{word_of};
 
 use crate::given::{given, given_if, given_or, has_word, text_of};
 use crate::plan::{Asked, Limits, Mode, Solvers};
@@ -38,12 +39,24 @@ fn box_of(matches: &ArgMatches<'_>) -> Option<Option<u32>>
     }
 }
 
-fn bounds_of(matches: &ArgMatches<'_>) -> Option<Limits>
-    ensures found { IfSome result (AreBounds (rows_of (found_of matches.now))) }
-    ensures none { IfNone result ((bounds : Limits)
-        → AreBounds (rows_of (found_of matches.now)) bounds → ⊥) }
+// How often is saved where no word says it. While a coordinator of processes saves it hears
+// nothing, so there saves are seldom.
+fn usual_every(mode: Mode) -> u64
+    ensures value { result ≡ usual_every mode }
+    ensures most { result ≤ 4294967295 }
 {
-    let every = given(matches, "every", 1, 4_294_967_295);
+    match mode {
+        Mode::Threads => 100,
+        Mode::Processes => 10_000,
+    }
+}
+
+fn bounds_of(matches: &ArgMatches<'_>, mode: Mode) -> Option<Limits>
+    ensures found { IfSome result (AreBounds (rows_of (found_of matches.now)) mode) }
+    ensures none { IfNone result ((any : Mode) (bounds : Limits)
+        → AreBounds (rows_of (found_of matches.now)) any bounds → ⊥) }
+{
+    let every = given_or(matches, "every", 1, 4_294_967_295, usual_every(mode));
     let limit = given(matches, "limit", 0, 1_099_511_627_776);
     let boxed = box_of(matches);
     let gap = given(matches, "gap", 0, 1_000_000_000_000_000_000);
@@ -80,13 +93,13 @@ pub fn settings_of<'a>(matches: &ArgMatches<'a>) -> Option<Asked<'a>>
     ensures none { IfNone result ((settings : Asked)
         → AreSettings (rows_of (found_of matches.now)) settings → ⊥) }
 {
+    let mode = mode_of(matches)?;
     match (
-        mode_of(matches),
         ranks_of(matches),
-        bounds_of(matches),
+        bounds_of(matches, mode),
         text_of(matches, "sockets"),
     ) {
-        (Some(mode), Some(ranks), Some(bounds), Some(sockets)) => Some(Asked {
+        (Some(ranks), Some(bounds), Some(sockets)) => Some(Asked {
             mode,
             ranks,
             bounds,

@@ -25,6 +25,19 @@ fn settings_with(solvers: u32, low: u32, high: u32) -> Asked<'static> {
     }
 }
 
+// Those of two solvers in processes, with a save at each so many reports.
+fn apart_with(every: u32) -> Asked<'static> {
+    let settings = settings_with(2, 2, 3);
+    Asked {
+        mode: Mode::Processes,
+        bounds: Limits {
+            every,
+            ..settings.bounds
+        },
+        ..settings
+    }
+}
+
 // Words, and the file, the solvers, the low and the high that they give to a solve.
 type Solved = (&'static str, &'static str, u32, u32, u32);
 
@@ -177,14 +190,24 @@ fn words_are_read_as_plans(rt: HostRuntime) {
     let apart = Plan::Solve(Solve {
         file: "m",
         checkpoint: None,
-        settings: Asked {
-            mode: Mode::Processes,
-            ..settings_with(2, 2, 3)
-        },
+        settings: apart_with(10_000),
     });
     holds(
         &rt,
         gives(alloc, "solve m --solvers 2 --mode processes", apart),
+    );
+    let often = Plan::Solve(Solve {
+        file: "m",
+        checkpoint: None,
+        settings: apart_with(100),
+    });
+    holds(
+        &rt,
+        gives(
+            alloc,
+            "solve m --solvers 2 --mode processes --every 100",
+            often,
+        ),
     );
     let worker = Plan::Worker(Worker { socket: "s" });
     holds(&rt, gives(alloc, "worker --socket s", worker));
