@@ -1,10 +1,11 @@
 ghost use Rattle.std.specs.Prelude.{◌≤◌, length, IfOk};
 
 use crate::again;
+use crate::before::copy;
 use crate::kept::{Kept, keep};
 use std::alloc::Global;
 use std::fs::{File, OpenOptions, TryLockError};
-use std::io::ErrorKind;
+use std::io::{Eprint, ErrorKind};
 use std::os::unix::fs::FileExt;
 use std::path::Path;
 use std::rt::Files;
@@ -19,12 +20,37 @@ fn name_of(slot: Slot) -> &'static str {
     }
 }
 
+// The name of the file that keeps what the slot had before a run began anew.
+fn before_name_of(slot: Slot) -> &'static str {
+    match slot {
+        Slot::Zero => "before0",
+        Slot::One => "before1",
+    }
+}
+
+/// What is done with the slots of a folder.
+#[derive(Clone, Copy, PartialEq, Eq)]
+pub enum Stage {
+    /// They are looked at, and nothing is made: a file that is not there is an empty slot.
+    Looks,
+    /// They are looked at, and made where they are not there. Before the first write what they have
+    /// is to be kept.
+    Begins,
+    /// They are written.
+    Writes,
+}
+
 /// The files of both slots, open for writing in a folder that is locked for as long.
 #[derive(Drop)]
 pub struct SlotFiles<'a, R: Files<File = File>> {
     rt: &'a R,
     alloc: Global,
     path: &'a str,
+    stage: Stage,
+    // Whether something is on the disk of what was written.
+    has_saved: bool,
+    // How many writes and syncs failed since.
+    failures: u64,
     folder: Option<File>,
     kept: Kept<File>,
 }
@@ -37,7 +63,18 @@ pub fn open_slot<R: Files<File = File>>(
     slot: Slot,
     ways: &OpenOptions,
 ) -> io::Result<File> {
-    let path = Path::new(folder).join(alloc, name_of(slot))?;
+    open_file(rt, alloc, folder, name_of(slot), ways)
+}
+
+// The file of this name in the folder.
+fn open_file<R: Files<File = File>>(
+    rt: &R,
+    alloc: Global,
+    folder: &str,
+    name: &str,
+    ways: &OpenOptions,
+) -> io::Result<File> {
+    let path = Path::new(folder).join(alloc, name)?;
     let file = ways.open(rt, path.as_path());
     drop(path);
     file
@@ -78,35 +115,47 @@ fn locked(folder: File) -> io::Result<File> {
     }
 }
 
-// The folder of this path, made where it is not there, and locked.
-fn locked_folder<R: Files<File = File>>(rt: &R, path: &str) -> io::Result<File> {
-    fs::create_dir_all(rt, path)?;
+// The folder of this path, locked. It is made where it is not there, if that may be.
+fn locked_folder<R: Files<File = File>>(rt: &R, path: &str, makes: bool) -> io::Result<File> {
+    if makes {
+        fs::create_dir_all(rt, path)?;
+    }
     File::open(rt, path).and_then(locked)
 }
 
 impl<'a, R: Files<File = File>> SlotFiles<'a, R> {
-    pub fn new(rt: &'a R, alloc: Global, path: &'a str) -> SlotFiles<'a, R> {
+    /// Those of the folder of this path, of which nothing is open yet.
+    pub fn new(rt: &'a R, alloc: Global, path: &'a str, stage: Stage) -> SlotFiles<'a, R> {
         SlotFiles {
             rt,
             alloc,
             path,
+            stage,
+            has_saved: false,
+            failures: 0,
             folder: None,
             kept: Kept::new(),
         }
     }
 
-    // The folder, made where it is not there, and locked where it is not.
+    // Whether what is not there is made.
+    fn makes(&self) -> bool {
+        self.stage != Stage::Looks
+    }
+
+    // The folder, locked where it is not.
     fn lock(&mut self) -> io::Result<&File> {
         if self.folder.is_none() {
-            return keep(&mut self.folder, locked_folder(self.rt, self.path));
+            let makes = self.makes();
+            return keep(&mut self.folder, locked_folder(self.rt, self.path, makes));
         }
         opened(self.folder.as_ref())
     }
 
-    // The slot's file in the locked folder, made where it is not there.
-    fn make(&mut self, slot: Slot) -> io::Result<File> {
+    // The slot's file in the locked folder.
+    fn open(&mut self, slot: Slot) -> io::Result<File> {
         let mut ways = OpenOptions::new();
-        ways.read(true).write(true).create(true);
+        ways.read(true).write(true).create(self.makes());
         match self.lock() {
             Ok(_) => open_slot(self.rt, self.alloc, self.path, slot, &ways),
             Err(error) => Err(error),
@@ -116,7 +165,7 @@ impl<'a, R: Files<File = File>> SlotFiles<'a, R> {
     // The slot's file, opened where it is not open.
     fn file(&mut self, slot: Slot) -> io::Result<&File> {
         if self.kept.of(slot).is_none() {
-            let got = self.make(slot);
+            let got = self.open(slot);
             return self.kept.keep(slot, got);
         }
         opened(self.kept.of(slot))
@@ -124,34 +173,145 @@ impl<'a, R: Files<File = File>> SlotFiles<'a, R> {
 
     /// How many bytes the slot has.
     pub fn len(&mut self, slot: Slot) -> io::Result<u64> {
-        self.file(slot).and_then(len_of)
+        let makes = self.makes();
+        match self.file(slot) {
+            Ok(file) => len_of(file),
+            Err(error) if !makes && error.kind() == ErrorKind::NotFound => {
+                drop(error);
+                Ok(0)
+            }
+            Err(error) => Err(error),
+        }
     }
 
     /// Reads some of the slot's bytes from a place on.
     pub fn read(&mut self, slot: Slot, at: u64, buffer: &mut [u8]) -> io::Result<usize>
         ensures { IfOk result (λ n. n ≤ length buffer.new) }
     {
+        let makes = self.makes();
         match self.file(slot) {
             Ok(file) => again::read_at(file, buffer, at),
+            Err(error) if !makes && error.kind() == ErrorKind::NotFound => {
+                drop(error);
+                Ok(0)
+            }
             Err(error) => Err(error),
         }
     }
 
-    /// Writes all of the bytes from a place on.
-    pub fn write(&mut self, slot: Slot, at: u64, bytes: &[u8]) -> io::Result<()> {
+    // Waits until the names in the folder are on the disk.
+    fn sync_folder(&mut self) -> io::Result<()> {
+        self.lock().and_then(File::sync_all)
+    }
+
+    // What is only looked at and is not there has nothing that could wait to reach the disk.
+    fn unless_missing(&self, got: io::Result<()>) -> io::Result<()> {
+        match got {
+            Err(error) if !self.makes() && error.kind() == ErrorKind::NotFound => {
+                drop(error);
+                Ok(())
+            }
+            got => got,
+        }
+    }
+
+    // Writes all of the bytes from a place on.
+    fn put(&mut self, slot: Slot, at: u64, bytes: &[u8]) -> io::Result<()> {
         match self.file(slot) {
             Ok(file) => file.write_all_at(bytes, at),
             Err(error) => Err(error),
         }
     }
 
+    // Copies what the slot has to the file that keeps it, in place of what that had.
+    fn copy(&mut self, slot: Slot) -> io::Result<()> {
+        let mut ways = OpenOptions::new();
+        ways.write(true).create(true).truncate(true);
+        let to = open_file(self.rt, self.alloc, self.path, before_name_of(slot), &ways)?;
+        let alloc = self.alloc;
+        let copied = match self.file(slot) {
+            Ok(from) => copy(alloc, from, &to),
+            Err(error) => Err(error),
+        };
+        drop(to);
+        copied
+    }
+
+    // Copies what both slots have.
+    fn copy_both(&mut self) -> io::Result<()> {
+        self.copy(Slot::Zero)?;
+        self.copy(Slot::One)?;
+        self.sync_folder()
+    }
+
+    // Whether some slot has bytes.
+    fn has_any(&mut self) -> io::Result<bool> {
+        let zero = self.len(Slot::Zero)?;
+        let one = self.len(Slot::One)?;
+        Ok(zero != 0 || one != 0)
+    }
+}
+
+impl<R: Files<File = File> + Eprint> SlotFiles<'_, R> {
+    // Keeps what the slots have, if they have any, and says so on standard error.
+    fn keep_before(&mut self) -> io::Result<()> {
+        if !self.has_any()? {
+            return Ok(());
+        }
+        self.copy_both()?;
+        let path = self.path;
+        let _ = eprintln!(self.rt;
+            "ug: {path}: begins anew; the checkpoint that was there is kept as before0, before1"
+        );
+        Ok(())
+    }
+
+    // Says on standard error why a call failed that a save made: at the first one, at the second, at
+    // the fourth and so on. A save ends with the first call that fails. The caller tells of the first
+    // save of all.
+    fn noted(&mut self, got: io::Result<()>) -> io::Result<()> {
+        let Err(error) = got else {
+            return Ok(());
+        };
+        if self.has_saved {
+            self.failures = self.failures.saturating_add(1);
+            let count = self.failures;
+            if count.is_power_of_two() {
+                let path = self.path;
+                let saves = if count == 1 { "save" } else { "saves" };
+                let _ = eprintln!(self.rt; "ug: {path}: {error}; {count} {saves} failed so far");
+            }
+        }
+        Err(error)
+    }
+
+    /// Writes all of the bytes from a place on. Where a run begins, what the slots had is kept
+    /// before the first of them is written.
+    pub fn write(&mut self, slot: Slot, at: u64, bytes: &[u8]) -> io::Result<()> {
+        if self.stage == Stage::Begins {
+            self.keep_before()?;
+        }
+        self.stage = Stage::Writes;
+        let got = self.put(slot, at, bytes);
+        self.noted(got)
+    }
+
     /// Waits until the bytes of the slot's file are on the disk.
     pub fn sync(&mut self, slot: Slot) -> io::Result<()> {
-        self.file(slot).and_then(File::sync_all)
+        let got = self.file(slot).and_then(File::sync_all);
+        let got = self.unless_missing(got);
+        self.noted(got)
     }
 
     /// Waits until the names in the folder are on the disk.
     pub fn sync_names(&mut self) -> io::Result<()> {
-        self.lock().and_then(File::sync_all)
+        let got = self.sync_folder();
+        match self.unless_missing(got) {
+            Ok(()) => {
+                self.has_saved = true;
+                Ok(())
+            }
+            Err(error) => self.noted(Err(error)),
+        }
     }
 }
