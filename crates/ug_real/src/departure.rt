@@ -33,13 +33,22 @@ pub fn end_of(status: ExitStatus) -> Departure {
     }
 }
 
+// Words, and what they are of.
+fn put<W: fmt::Write, T: fmt::Display>(
+    f: &mut fmt::Formatter<W>,
+    words: &str,
+    of: &T,
+) -> fmt::Result {
+    write!(f, "{words}{of}")
+}
+
 impl fmt::Display for Departure {
     fn fmt<W: fmt::Write>(&self, f: &mut fmt::Formatter<W>) -> fmt::Result {
         match self {
-            Departure::Unstarted(error) => write!(f, "could not be started: {error}"),
-            Departure::Killed(signal) => write!(f, "killed by signal {signal}"),
-            Departure::Ended(code) => write!(f, "ended with status {code}"),
-            Departure::Untold(error) => write!(f, "could not be told: {error}"),
+            Departure::Unstarted(error) => put(f, "could not be started: ", error),
+            Departure::Killed(signal) => put(f, "killed by signal ", signal),
+            Departure::Ended(code) => put(f, "ended with status ", code),
+            Departure::Untold(error) => put(f, "could not be told: ", error),
             Departure::HungUp => f.write_str("closed its connection and did not end"),
             Departure::Lost => f.write_str("ended, and its status is not known"),
         }

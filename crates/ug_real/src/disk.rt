@@ -12,8 +12,8 @@ use ug_io::Failed;
 /// like any other.
 #[derive(Drop)]
 pub struct FileDisk<F: Folder + Drop> {
-    folder: F,
     faults: Faults,
+    folder: F,
 }
 
 impl<F: Folder + Drop> FileDisk<F> {

@@ -25,7 +25,7 @@ impl Faults {
     pub fn add(&mut self, error: io::Error) -> Failed
         ensures { Rose self.old.count self.new.count }
     {
-        self.last = Some(error);
+        drop(self.last.replace(error));
         self.rise()
     }
 

@@ -2,8 +2,8 @@ ghost use Rattle.std.specs.Prelude.{◌≡◌, ◌≤◌, ◌++◌, [], true, fa
 
 use crate::again;
 use std::alloc::{AllocError, Global};
-use std::io;
 use std::io::{ErrorKind, Write};
+use std::{io, mem};
 
 /// What is kept of an empty outbox's memory, in bytes.
 const KEPT: usize = 1 << 16;
@@ -86,7 +86,7 @@ impl Outbox {
         ensures closed { self.new.is_closed ≡ self.old.is_closed }
     {
         if self.bytes.capacity() > KEPT {
-            self.bytes = Vec::new(self.alloc);
+            drop(mem::replace(&mut self.bytes, Vec::new(self.alloc)));
         } else {
             self.bytes.clear();
         }

@@ -20,9 +20,6 @@ const GRACE: u64 = 1000;
 #[derive(Drop)]
 pub struct Peer<'a, R: Files> {
     rank: u32,
-    line: Line<'a, R>,
-    child: Ward,
-    outbox: Outbox,
     // There may be something to hear of it.
     is_stirred: bool,
     // It closed its standard input, so it ends, most likely.
@@ -33,6 +30,9 @@ pub struct Peer<'a, R: Files> {
     why: Option<Departure>,
     // Since when its end is waited for.
     since: Option<Instant>,
+    outbox: Outbox,
+    line: Line<'a, R>,
+    child: Ward,
 }
 
 // The connection to a child.
@@ -119,7 +119,7 @@ impl<'a, R: Files> Peer<'a, R> {
         match registry.register(&mut stream, token, both) {
             Ok(()) => {
                 self.outbox.flush(&mut stream);
-                self.line = Line::Open(stream);
+                drop(mem::replace(&mut self.line, Line::Open(stream)));
                 self.is_stirred = true;
             }
             Err(error) => {
@@ -134,13 +134,15 @@ impl<'a, R: Files> Peer<'a, R> {
         self.close();
         self.child.kill();
         if self.why.is_none() {
-            self.why = Some(why);
+            drop(self.why.replace(why));
+        } else {
+            drop(why);
         }
     }
 
     // Closes its connection.
     fn close(&mut self) {
-        self.line = Line::Closed;
+        drop(mem::replace(&mut self.line, Line::Closed));
         self.outbox.close();
     }
 

@@ -3,7 +3,8 @@ ghost use Rattle.ug_io.specs.Crews.{IsAlive};
 
 use crate::departure::{Departure, Watcher};
 use crate::faults::Faults;
-use crate::pack::{Children, Heard, Pack};
+use crate::herd::Heard;
+use crate::pack::{Children, Pack};
 use std::alloc::{AllocError, Global};
 use std::fs::File;
 use std::io;
@@ -19,9 +20,9 @@ use ug_io::{Came, Crew, Failed};
 /// child and no socket's file is left where it is dropped.
 #[derive(Drop)]
 pub struct ProcessCrew<'a, R: Files<File = File>, W: Drop> {
-    pack: Pack<'a, R, W>,
     lives: Vec<bool>,
     faults: Faults,
+    pack: Pack<'a, R, W>,
 }
 
 // Why a turn has nothing to wait for.

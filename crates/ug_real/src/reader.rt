@@ -10,10 +10,10 @@ use ug_io::{Failed, Source};
 /// A file as a source. It is opened at the first call; a failed opening is a fault of that call.
 #[derive(Drop)]
 pub struct Reader<'a, R: Files> {
-    rt: &'a R,
-    path: &'a str,
-    file: Option<R::File>,
     faults: Faults,
+    path: &'a str,
+    rt: &'a R,
+    file: Option<R::File>,
 }
 
 impl<'a, R: Files> Reader<'a, R> {

@@ -17,10 +17,10 @@ const MOST_READINGS: u32 = 1000;
 /// is made or locked.
 #[derive(Drop)]
 pub struct SlotCopies<'a, R: Files<File = File>> {
-    rt: &'a R,
     alloc: Global,
-    path: &'a str,
     kept: Option<Copies>,
+    path: &'a str,
+    rt: &'a R,
 }
 
 // All bytes of each slot.

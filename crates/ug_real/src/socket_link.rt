@@ -12,11 +12,11 @@ use ug_io::{Failed, Got, Link};
 /// a fault of that call.
 #[derive(Drop)]
 pub struct SocketLink<'a, R> {
-    rt: &'a R,
-    path: &'a str,
-    line: Option<Line>,
     has_ended: bool,
     faults: Faults,
+    line: Option<Line>,
+    path: &'a str,
+    rt: &'a R,
 }
 
 // A connection, and whether its calls wait.

@@ -1,5 +1,5 @@
 use mio::net::UnixListener;
-use std::alloc::Global;
+use std::alloc::{AllocError, Global};
 use std::fs::{DirBuilder, File, Permissions, TryLockError};
 use std::io::ErrorKind;
 use std::net::Net;
@@ -15,10 +15,10 @@ const LONGEST: usize = 107;
 /// call on, so that no other crew takes its sockets away.
 #[derive(Drop)]
 pub struct Sockets<'a, R: Files<File = File>> {
-    rt: &'a R,
     alloc: Global,
     folder: &'a str,
     lock: Option<File>,
+    rt: &'a R,
 }
 
 /// A socket to which a child is to come.
@@ -105,6 +105,30 @@ fn is_own<R: Files>(rt: &R, folder: &File, file: &str) -> io::Result<bool> {
     Ok(fs::symlink_metadata(rt, file)?.uid() == owner)
 }
 
+// Why no socket is made in a folder whose user did not make it.
+fn not_own() -> io::Error {
+    refused("the folder of sockets is another user's")
+}
+
+// Sees that the folder is of the user who made this file.
+fn own_folder<R: Files>(rt: &R, folder: &File, file: &str) -> io::Result<()> {
+    if is_own(rt, folder, file)? {
+        return Ok(());
+    }
+    Err(not_own())
+}
+
+// The path to the socket of a rank.
+fn path_of(alloc: Global, folder: &str, rank: u32) -> Result<String, AllocError> {
+    format!(in alloc; "{folder}/ug-{rank}.sock")
+}
+
+// A socket at this path, which is this address. A file that lies there is removed.
+fn listen_at<R: Files + Net>(rt: &R, path: &str, address: &SocketAddr) -> io::Result<UnixListener> {
+    remove_old(rt, path)?;
+    UnixListener::bind_addr(rt, address)
+}
+
 // The address of a socket at this path.
 fn address_of(path: &str) -> io::Result<SocketAddr> {
     if path.len() > LONGEST {
@@ -130,7 +154,10 @@ impl<'a, R: Files<File = File> + Net> Sockets<'a, R> {
     // Opens the folder where it is not open.
     fn open(&mut self) -> io::Result<()> {
         if self.lock.is_none() {
-            self.lock = Some(open_folder(self.rt, self.folder)?);
+            match open_folder(self.rt, self.folder) {
+                Ok(folder) => drop(self.lock.replace(folder)),
+                Err(error) => return Err(error),
+            }
         }
         Ok(())
     }
@@ -138,8 +165,7 @@ impl<'a, R: Files<File = File> + Net> Sockets<'a, R> {
     /// Makes the socket of a rank, which this user alone can come to. A file that lies there is
     /// removed.
     pub fn bind(&mut self, rank: u32) -> io::Result<Door<'a, R>> {
-        let folder = self.folder;
-        let path = format!(in self.alloc; "{folder}/ug-{rank}.sock")?;
+        let path = path_of(self.alloc, self.folder, rank)?;
         match self.listen(path.as_str()) {
             Ok(listener) => self.guarded(listener, path),
             Err(error) => {
@@ -152,9 +178,10 @@ impl<'a, R: Files<File = File> + Net> Sockets<'a, R> {
     // A socket at this path. A file that lies there is removed.
     fn listen(&mut self, path: &str) -> io::Result<UnixListener> {
         let address = address_of(path)?;
-        self.open()?;
-        remove_old(self.rt, path)?;
-        UnixListener::bind_addr(self.rt, &address)
+        match self.open() {
+            Ok(()) => listen_at(self.rt, path, &address),
+            Err(error) => Err(error),
+        }
     }
 
     // A socket at this path to which this user alone can come.
@@ -174,8 +201,8 @@ impl<'a, R: Files<File = File> + Net> Sockets<'a, R> {
     fn guard(&self, file: &str) -> io::Result<()> {
         fs::set_permissions(self.rt, file, Permissions::from_mode(0o600))?;
         match &self.lock {
-            Some(folder) if is_own(self.rt, folder, file)? => Ok(()),
-            _ => Err(refused("the folder of sockets is another user's")),
+            Some(folder) => own_folder(self.rt, folder, file),
+            None => Err(not_own()),
         }
     }
 }

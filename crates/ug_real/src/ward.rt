@@ -27,9 +27,7 @@ fn spawn<R: Processes<Started = SystemProcess>>(
     command: &mut Command,
     socket: &str,
 ) -> io::Result<Child> {
-    command.arg("worker")?;
-    command.arg("--socket")?;
-    command.arg(socket)?;
+    command.args(["worker", "--socket", socket])?;
     command.stdin(Stdio::piped());
     command.stdout(Stdio::null());
     command.spawn(rt)

@@ -10,8 +10,8 @@ use ug_io::{Failed, Sink};
 /// empty is a fault.
 #[derive(Drop)]
 pub struct Writer<W: Write + Drop> {
-    to: W,
     faults: Faults,
+    to: W,
 }
 
 impl<W: Write + Drop> Writer<W> {
