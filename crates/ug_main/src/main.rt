@@ -23,7 +23,7 @@ mod words;
 
 use crate::descriptors::take_standard;
 use crate::gone::Gone;
-use crate::paths::{Paths, paths_of};
+use crate::paths::{Paths, Purpose, paths_of};
 use crate::reasons::Reasons;
 use crate::teller::Teller;
 use crate::words::Behind;
@@ -43,7 +43,7 @@ use ug_io::{Crew, Link, Sink, Source};
 use ug_print::reason;
 use ug_real::{Children, FileDisk, ProcessCrew, Reader, RealFolder, SocketLink, Writer};
 use ug_restart::{Host, Observer};
-use ug_top::{Objects, Refusal, Status, run, tell_unread};
+use ug_top::{Objects, Ran, Refusal, Status, run, tell_unread};
 
 // The words behind the program's own name. A word that is not UTF-8 is no command.
 fn words_of<R: Env + AllocGlobal>(rt: &R) -> Result<Vec<String>, Status> {
@@ -126,11 +126,13 @@ where
 struct Job<'a> {
     words: &'a [String],
     paths: Paths<'a>,
+    // Whether standard error tells more than why it failed.
+    is_told: bool,
 }
 
 // The status with which it ended, and the objects and standard output as they are then.
 #[derive(Drop)]
-struct Worked<'a, R: Files<File = File> + Print> {
+struct Worked<'a, R: Files<File = File> + Print + Eprint> {
     status: Status,
     objects: Real<'a, R>,
     out: Writer<Printer<'a, R>>,
@@ -139,7 +141,7 @@ struct Worked<'a, R: Files<File = File> + Print> {
 // The status alone.
 fn ended<R>(worked: Worked<'_, R>) -> Status
 where
-    R: Files<File = File> + Print,
+    R: Files<File = File> + Print + Eprint,
     ensures { result ≡ worked.entry.status }
 {
     let status = worked.status;
@@ -147,16 +149,17 @@ where
     status
 }
 
-// The folder of checkpoints, which is read alone where its checkpoint is shown.
+// The folder of checkpoints, for what the plan does with it.
 fn disk_of<'a, R>(rt: &'a R, paths: Paths<'a>) -> FileDisk<RealFolder<'a, R>>
 where
-    R: Files<File = File> + AllocGlobal,
+    R: Files<File = File> + Eprint + AllocGlobal,
     ensures { result.faults.count ≡ 0 }
 {
-    FileDisk::new(if paths.is_shown {
-        RealFolder::reading(rt, rt.alloc(), paths.folder)
-    } else {
-        RealFolder::writing(rt, rt.alloc(), paths.folder)
+    let alloc = rt.alloc();
+    FileDisk::new(match paths.purpose {
+        Purpose::Begin => RealFolder::beginning(rt, alloc, paths.folder),
+        Purpose::GoOn => RealFolder::going_on(rt, alloc, paths.folder),
+        Purpose::Show => RealFolder::reading(rt, alloc, paths.folder),
     })
 }
 
@@ -304,6 +307,7 @@ where
     let job = Job {
         words: &called.words,
         paths,
+        is_told,
     };
     let status = carry_out(&host, job, &mut objects, &mut out);
     Worked {
@@ -349,7 +353,23 @@ where
         }
         status => advise(rt, job.paths, status),
     }
-    ran.status
+    let Ran { status, best, .. } = ran;
+    if job.is_told {
+        tell_best(rt, best.as_deref().unwrap_or_default());
+    }
+    drop(best);
+    status
+}
+
+// Tells the lines of a best point that is no answer yet, if there are some.
+fn tell_best<R: Eprint>(rt: &R, lines: &[u8]) {
+    let Ok(lines) = str::from_utf8(lines) else {
+        let _ = eprintln!(rt; "ug: some names of the best point are not UTF-8");
+        return;
+    };
+    for line in lines.lines() {
+        let _ = eprintln!(rt; "ug: best point: {line}");
+    }
 }
 
 // Says what is the matter with the text of this file, which was refused, and what helps.
@@ -386,9 +406,14 @@ fn advise<R: Eprint>(rt: &R, paths: Paths<'_>, status: Status) {
     let _ = eprintln!(rt; "ug: {folder}: {advice}");
 }
 
+// Whether a variable of this value asks for something.
+fn asks(value: &str) -> bool {
+    !value.is_empty() && value != "0"
+}
+
 // Whether standard error is a terminal, or the environment asks for lines of progress.
 fn wants_progress(rt: &HostRuntime) -> bool {
-    rt.stderr().is_terminal() || env::var(rt, "UG_PROGRESS").is_ok()
+    rt.stderr().is_terminal() || env::var(rt, "UG_PROGRESS").is_ok_and(|value| asks(&value))
 }
 
 // Says why a call on this file failed.

@@ -1,6 +1,6 @@
 use std::fs::File;
 use std::io;
-use std::io::Write;
+use std::io::{Eprint, Write};
 use std::net::Net;
 use std::rt::Files;
 use ug_real::{FileDisk, Reader, RealFolder, SocketLink, Writer};
@@ -23,7 +23,7 @@ impl<W: Write + Drop> Reasons for Writer<W> {
     }
 }
 
-impl<R: Files<File = File>> Reasons for FileDisk<RealFolder<'_, R>> {
+impl<R: Files<File = File> + Eprint> Reasons for FileDisk<RealFolder<'_, R>> {
     fn reason(&self) -> Option<&io::Error> {
         self.error()
     }

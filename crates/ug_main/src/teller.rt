@@ -5,14 +5,17 @@ use ug_restart::{Dropped, Moment, Observer, Progress};
 const MILLION: u64 = 1_000_000;
 
 /// Tells on standard error how a run gets on, where that is wanted: a line when it begins, one at
-/// each better incumbent, and one after 1000, 2000, 5000, 10000 and so on reports, from a million on
-/// at each million, and one where a rank is heard no more.
+/// better incumbents, but where they come one behind another no sooner than a sixteenth of all reports
+/// behind the last line, one after 1000, 2000, 5000, 10000 and so on reports, from a million on at each
+/// million, and one where a rank is heard no more.
 #[derive(Drop)]
 pub struct Teller<'a, R> {
     rt: &'a R,
     is_on: bool,
     // After so many reports the next line comes.
     next: AtomicU64,
+    // So many reports there were at the last line.
+    last: AtomicU64,
 }
 
 impl<'a, R> Teller<'a, R> {
@@ -21,7 +24,13 @@ impl<'a, R> Teller<'a, R> {
             rt,
             is_on,
             next: AtomicU64::new(1000),
+            last: AtomicU64::new(0),
         }
+    }
+
+    // Whether the last line is a sixteenth of so many reports ago.
+    fn is_past(&self, heard: u64) -> bool {
+        heard.saturating_sub(self.last.load(Ordering::SeqCst)) >= heard / 16
     }
 
     // Whether so many reports are as many as the next line waits for. Of several threads that ask
@@ -62,7 +71,14 @@ impl<'a, R: Eprint + Sync> Observer for Teller<'a, R> {
     }
 
     fn wants(&self, heard: u64, is_better: bool) -> bool {
-        self.is_on && (self.has_come(heard) || is_better)
+        if !self.is_on {
+            return false;
+        }
+        let is_wanted = self.has_come(heard) || (is_better && self.is_past(heard));
+        if is_wanted {
+            self.last.store(heard, Ordering::SeqCst);
+        }
+        is_wanted
     }
 
     fn tell(&self, progress: &Progress) {
@@ -71,7 +87,8 @@ impl<'a, R: Eprint + Sync> Observer for Teller<'a, R> {
             .as_deref()
             .and_then(|value| str::from_utf8(value).ok())
             .unwrap_or("none");
-        let _ = eprintln!(self.rt; "ug: {heard} reports: best {best}, {nodes} nodes held");
+        let kind = if *nodes == 1 { "node" } else { "nodes" };
+        let _ = eprintln!(self.rt; "ug: {heard} reports: best {best}, {nodes} {kind} held");
     }
 
     fn drops(&self, rank: u32, why: Dropped) {

@@ -8,12 +8,18 @@ use Rattle.ug_problem.specs.Printed.{IsPrinted}
 use Rattle.ug_nodes.specs.declared.node.Node.{Node}
 use Rattle.ug_rules.specs.State.{BookState}
 use Rattle.ug_snapshot.specs.Moments.{ArePrimitive}
+use Rattle.ug_print.specs.Answers.{value_lines}
 use Rattle.ug_print.specs.Lines.{line, further, named_line}
 
 -- the value of the best point as it is printed, and `none` where there is none
 abbrev pub IsBestWord : Instance → Option (List ℤ) → List ℕ → Type 0
 IsBestWord p None word = word ≡ codes "none"
 IsBestWord p (Some x) word = IsPrinted p.objective (value_of p.objective x) word
+
+-- the lines of the columns of the best point that are not 0; none where there is no point
+abbrev pub best_lines : Instance → Option (List ℤ) → List ℕ
+best_lines p None = []
+best_lines p (Some x) = value_lines p.columns x
 
 -- a name, the best value and a count of nodes
 abbrev pub left_line : List ℕ → List ℕ → ℕ → List ℕ

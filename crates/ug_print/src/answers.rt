@@ -86,9 +86,9 @@ fn claim(alloc: Global, gap: u64) -> Result<Vec<u8>, AllocError>
     Ok(text)
 }
 
-// Adds a line for each column whose value is not 0.
+/// Adds a line for each column whose value is not 0.
 #[tactic(auto, using(crate::proofs::ValueLines::value_lines_more))]
-fn push_value_lines(
+pub fn push_value_lines(
     text: &mut Vec<u8>,
     alloc: Global,
     columns: &[Column],

@@ -1,8 +1,9 @@
 ghost use Rattle.std.specs.Prelude.{◌≡◌, ◌++◌, IfOk, OnOk};
 ghost use Rattle.ug_image.specs.Images.{IsImage};
 ghost use Rattle.ug_print.specs.Checkpoints.{head_lines, node_lines, AreCheckpointLines, AreNodesWithin};
+ghost use Rattle.ug_print.specs.Limited.{best_lines};
 
-use crate::best::best_word;
+use crate::best::{best_lines, best_word};
 use crate::nodes::push_node_lines;
 use crate::words::{push_named, push_named_number, push_named_signed};
 use std::alloc::{AllocError, Global};
@@ -17,6 +18,14 @@ pub fn checkpoint_lines(alloc: Global, image: &Image) -> Result<Vec<u8>, AllocEr
     let problem = image.problem.problem();
     let best = best_word(alloc, problem, image.best.as_ref())?;
     whole_lines(alloc, image, problem.columns(), best.as_slice())
+}
+
+/// The lines of the columns of its best point that are not 0; none where it has none.
+pub fn checkpoint_point(alloc: Global, image: &Image) -> Result<Vec<u8>, AllocError>
+    requires { IsImage image.now }
+    ensures { IfOk result (λ text. text.items ≡ best_lines image.now.problem image.now.best) }
+{
+    best_lines(alloc, image.problem.problem(), image.best.as_ref())
 }
 
 // The lines with these columns and this best value.

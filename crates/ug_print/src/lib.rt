@@ -19,10 +19,10 @@ mod refusals;
 mod words;
 
 pub use answers::{answer_line, answer_lines};
-pub use checkpoints::checkpoint_lines;
+pub use checkpoints::{checkpoint_lines, checkpoint_point};
 pub use counts::push_counts;
 pub use faults::fault_line;
 pub use fixed::{memory, read_fault};
-pub use limited::{open_line, stranded_line};
+pub use limited::{incumbent_lines, open_line, stranded_line};
 pub use reasons::reason;
 pub use refusals::refusal;

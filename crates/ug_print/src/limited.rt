@@ -1,7 +1,7 @@
 ghost use Rattle.std.specs.Prelude.{◌≡◌, IfOk, codes};
-ghost use Rattle.ug_print.specs.Limited.{IsLeftLine, IsOpenLine, IsStrandedLine, left_line};
+ghost use Rattle.ug_print.specs.Limited.{IsLeftLine, IsOpenLine, IsStrandedLine, best_lines, left_line};
 
-use crate::best::best_word;
+use crate::best::{best_lines, best_word};
 use crate::words::{push_number, push_word};
 use std::alloc::{AllocError, Global};
 use ug_book::Book;
@@ -19,6 +19,14 @@ pub fn stranded_line(alloc: Global, book: &Book) -> Result<Vec<u8>, AllocError>
     ensures { IfOk result (λ text. IsStrandedLine book.now text.items) }
 {
     left_line(alloc, book, b"stranded")
+}
+
+/// The lines of the columns of its incumbent that are not 0; none where it has none.
+pub fn incumbent_lines(alloc: Global, book: &Book) -> Result<Vec<u8>, AllocError>
+    ensures { IfOk result (λ text. text.items ≡ best_lines book.now.problem book.now.best) }
+{
+    let problem = book.problem();
+    best_lines(alloc, problem.problem(), book.best())
 }
 
 // The line of this name of a book that has nodes left.

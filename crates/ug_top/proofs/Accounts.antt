@@ -26,7 +26,7 @@ use Rattle.ug_top.proofs.Tellings.{IsOver, outcome_is_over}
 
 is_read_fault : (boxed : Option ℕ) (left : Option (List ℕ)) (e : Ended) → IsUnread boxed left e
     → status_of e ≡ statuses.ReadFault → e ≡ ReadFault
-is_read_fault boxed left (Lines status text) t is = absurd t
+is_read_fault boxed left (Lines status text best) t is = absurd t
 is_read_fault boxed left (Quiet status) t is = absurd t
 is_read_fault boxed left (Refused refusal text) t is = absurd (cc is)
 is_read_fault boxed left ReadFault t is = refl
@@ -34,14 +34,14 @@ is_read_fault boxed left Memory t is = absurd (cc is)
 
 no_disk_fault : (boxed : Option ℕ) (left : Option (List ℕ)) (e : Ended) → IsUnread boxed left e
     → status_of e ≡ statuses.DiskFault → ⊥
-no_disk_fault boxed left (Lines status text) t is = absurd t
+no_disk_fault boxed left (Lines status text best) t is = absurd t
 no_disk_fault boxed left (Quiet status) t is = absurd t
 no_disk_fault boxed left (Refused refusal text) t is = absurd (cc is)
 no_disk_fault boxed left ReadFault t is = absurd (cc is)
 no_disk_fault boxed left Memory t is = absurd (cc is)
 
 unread_rises : (e : Ended) (old new : ℕ) → unread_cause e old new → old ≤ new
-unread_rises (Lines status text) old new same = omega (arith, same)
+unread_rises (Lines status text best) old new same = omega (arith, same)
 unread_rises (Quiet status) old new same = omega (arith, same)
 unread_rises (Refused refusal text) old new same = omega (arith, same)
 unread_rises ReadFault old new rose = rose_rises old new rose
@@ -49,7 +49,7 @@ unread_rises Memory old new same = omega (arith, same)
 
 unread_source : (e : Ended) (old new : ℕ) → unread_cause e old new → old < new
     → status_of e ≡ statuses.ReadFault
-unread_source (Lines status text) old new same less = absurd (omega (arith, same, less))
+unread_source (Lines status text best) old new same less = absurd (omega (arith, same, less))
 unread_source (Quiet status) old new same less = absurd (omega (arith, same, less))
 unread_source (Refused refusal text) old new same less = absurd (omega (arith, same, less))
 unread_source ReadFault old new rose less = refl
@@ -58,7 +58,7 @@ unread_source Memory old new same less = absurd (omega (arith, same, less))
 -- a text was gathered, and states no problem
 pub unread_calm : (boxed : Option ℕ) (text : List ℕ) (e : Ended) (old new : ℕ)
     → IsTextUnread boxed text e → new ≡ old → unread_cause e old new
-unread_calm boxed text (Lines status told) old new t same = absurd t
+unread_calm boxed text (Lines status told best) old new t same = absurd t
 unread_calm boxed text (Quiet status) old new t same = absurd t
 unread_calm boxed text (Refused refusal told) old new t same = same
 unread_calm boxed text ReadFault old new t same = absurd t
@@ -106,9 +106,9 @@ fault_not_read faults.Spent e = absurd (cc e)
 
 run_not_read : (Ran : Outcome → Type 0) (Not : StartFault → Type 0) (gap : ℕ) (e : Ended)
     → TellsRun Ran Not gap e → status_of e ≡ statuses.ReadFault → ⊥
-run_not_read Ran Not gap (Lines status text) (inl (outcome, ran, lines)) is =
+run_not_read Ran Not gap (Lines status text best) (inl (outcome, ran, lines)) is =
     over_not_read status (outcome_is_over gap outcome status text.items lines) is
-run_not_read Ran Not gap (Lines status text) (inr (fault, not, tells)) is =
+run_not_read Ran Not gap (Lines status text best) (inr (fault, not, tells)) is =
     fault_not_read fault (sym tells.0 ∙ is)
 run_not_read Ran Not gap (Quiet status) t is = absurd t
 run_not_read Ran Not gap (Refused refusal text) t is = absurd t

@@ -8,7 +8,7 @@ use Rattle.ug_top.specs.Unread.{HasStopped}
 
 -- where a text was gathered
 pub has_stopped : (a b : Option (List ℕ)) (e : Ended) → StopsAtEnd a b → HasStopped a b e
-has_stopped a b (Lines status told) h = h
+has_stopped a b (Lines status told best) h = h
 has_stopped a b (Quiet status) h = h
 has_stopped a b (Refused refusal told) h = h
 has_stopped a b ReadFault h = tt

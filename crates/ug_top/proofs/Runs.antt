@@ -157,7 +157,7 @@ lines_complete one (plans.Gen gen) old new status text t = tt
 
 pub read_to : (old new : Outside) (ended : Ended) → HasStopped old.source.left new.source.left ended
     → IsReadTo old new (status_of ended)
-read_to old new (ends.Lines status told) stops = inr (inr stops)
+read_to old new (ends.Lines status told best) stops = inr (inr stops)
 read_to old new (ends.Quiet status) stops = inr (inr stops)
 read_to old new (ends.Refused refusal told) stops = inr (inr stops)
 read_to old new ends.ReadFault stops = inl refl

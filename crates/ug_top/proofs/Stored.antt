@@ -94,7 +94,7 @@ memory Keeps old new rises moment = record {
 outcome_stored : (Keeps : Type 0) (gap : ℕ) (outcome : Outcome) (e : Ended) (old new : DiskSeen)
     → TellsOutcome gap outcome e → old.faults ≤ new.faults → Keeps
     → IsStored Keeps old new (status_of e)
-outcome_stored Keeps gap outcome (Lines status text) old new t rises moment =
+outcome_stored Keeps gap outcome (Lines status text best) old new t rises moment =
     over Keeps old new status (outcome_is_over gap outcome status text.items t) rises moment
 outcome_stored Keeps gap outcome (Quiet status) old new t rises moment = absurd t
 outcome_stored Keeps gap outcome (Refused refusal text) old new t rises moment = absurd t
@@ -138,7 +138,7 @@ alone_stored by gap outcome e old new t u =
 
 pub end_stored : (outcome : Outcome) (e : Ended) (old new : DiskSeen) → TellsEnd outcome e
     → new.told ≡ old.told → new.faults ≡ old.faults → IsStored (KeepsCovered old new) old new (status_of e)
-end_stored outcome (Lines status text) old new t same calm =
+end_stored outcome (Lines status text best) old new t same calm =
     over (KeepsCovered old new) old new status (line_is_over outcome.end status text.items t)
     (omega (arith, calm)) (keeps_untouched old new same)
 end_stored outcome (Quiet status) old new t same calm = absurd t
@@ -187,7 +187,7 @@ faulty Keeps faults.Spent old new calm moment =
 pub fault_stored : (Keeps : Type 0) (fault : StartFault) (e : Ended) (old new : DiskSeen) → TellsFault fault e
     → start_cause fault old.faults new.faults → Keeps
     → IsStored Keeps old new (status_of e)
-fault_stored Keeps fault (Lines status text) old new t cause moment =
+fault_stored Keeps fault (Lines status text best) old new t cause moment =
     subst (IsStored Keeps old new) (sym t.0) (faulty Keeps fault old new cause moment)
 fault_stored Keeps fault (Quiet status) old new t cause moment = absurd t
 fault_stored Keeps fault (Refused refusal text) old new t cause moment = absurd t
@@ -210,7 +210,7 @@ load_covered old new leaves covers =
 pub image_stored : (image : Image) (e : Ended) (old new : DiskSeen) → TellsImage image e
     → new.faults ≡ old.faults → Leaves (CouldLeave old.told) old.told new.told
     → IsStored (KeepsCovered old new) old new (status_of e)
-image_stored image (Lines status text) old new t calm leaves =
+image_stored image (Lines status text best) old new t calm leaves =
     over (KeepsCovered old new) old new status (inl t.0) (omega (arith, calm)) (load_covered old.told new.told leaves)
 image_stored image (Quiet status) old new t calm leaves = absurd t
 image_stored image (Refused refusal text) old new t calm leaves = absurd t

@@ -133,10 +133,10 @@ module _ (Ran : Instance → Outcome → Type 0) (Not : Instance → StartFault 
 
   pub run_lines : (e : Ended) → TellsRun (Ran p) (Not p) asked.bounds.gap e
       → AreFileLines Ran Not asked left (status_of e) (text_of e)
-  run_lines (Lines status text) (inl (outcome, ran, lines)) =
+  run_lines (Lines status text best) (inl (outcome, ran, lines)) =
       over_lines outcome status text.items ran lines
       (outcome_is_over asked.bounds.gap outcome status text.items lines)
-  run_lines (Lines status text) (inr (fault, not, tells)) =
+  run_lines (Lines status text best) (inr (fault, not, tells)) =
       subst (λ s. AreFileLines Ran Not asked left s text.items) (sym tells.0)
       (fault_lines fault text.items not tells.1)
   run_lines (Quiet status) t = absurd t
@@ -179,7 +179,7 @@ restart_lines asked old new p states e t =
 pub unread_lines : (Ran : Instance → Outcome → Type 0) (Not : Instance → StartFault → Type 0)
     (asked : Asked) (left : Option (List ℕ)) (e : Ended) → IsUnread asked.bounds.boxed left e
     → AreFileLines Ran Not asked left (status_of e) (text_of e)
-unread_lines Ran Not asked left (Lines status text) t = absurd t
+unread_lines Ran Not asked left (Lines status text best) t = absurd t
 unread_lines Ran Not asked left (Quiet status) t = absurd t
 unread_lines Ran Not asked left (Refused refusal text) t = t
 unread_lines Ran Not asked left ReadFault t = refl
@@ -190,7 +190,7 @@ unread_lines Ran Not asked left Memory t = refl
 pub tells_outcome : (Ran : Outcome → Type 0) (Not : StartFault → Type 0) (gap : ℕ)
     (outcome : Outcome) (e : Ended) → Ran outcome → TellsOutcome gap outcome e
     → TellsRun Ran Not gap e
-tells_outcome Ran Not gap outcome (Lines status text) ran t = inl (outcome, ran, t)
+tells_outcome Ran Not gap outcome (Lines status text best) ran t = inl (outcome, ran, t)
 tells_outcome Ran Not gap outcome (Quiet status) ran t = absurd t
 tells_outcome Ran Not gap outcome (Refused refusal text) ran t = absurd t
 tells_outcome Ran Not gap outcome ReadFault ran t = absurd t
@@ -198,7 +198,7 @@ tells_outcome Ran Not gap outcome Memory ran t = tt
 
 pub tells_fault : (Ran : Outcome → Type 0) (Not : StartFault → Type 0) (gap : ℕ)
     (fault : StartFault) (e : Ended) → Not fault → TellsFault fault e → TellsRun Ran Not gap e
-tells_fault Ran Not gap fault (Lines status text) not t = inr (fault, not, t)
+tells_fault Ran Not gap fault (Lines status text best) not t = inr (fault, not, t)
 tells_fault Ran Not gap fault (Quiet status) not t = absurd t
 tells_fault Ran Not gap fault (Refused refusal text) not t = absurd t
 tells_fault Ran Not gap fault ReadFault not t = absurd t
@@ -236,7 +236,7 @@ module _ (gen : Gen) (old new : DiskSeen) (outcome : Outcome)
 
   pub made_lines : (e : Ended) → TellsEnd outcome e
       → AreGenLines gen old new (status_of e) (text_of e)
-  made_lines (Lines status text) t =
+  made_lines (Lines status text best) t =
       made_over status text.items t (line_is_over outcome.end status text.items t)
   made_lines (Quiet status) t = absurd t
   made_lines (Refused refusal text) t = absurd t

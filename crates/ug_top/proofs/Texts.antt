@@ -16,7 +16,7 @@ told_problem (Some bytes) text boxed p enough reads = enough.problem boxed p rea
 pub told_unread : (left : Option (List ℕ)) (text : List ℕ) (boxed : Option ℕ) (e : Ended)
     → IfSome left (λ bytes. IsEnough bytes text) → IsTextUnread boxed text e
     → IsUnread boxed left e
-told_unread left text boxed (Lines status told) enough unread = absurd unread
+told_unread left text boxed (Lines status told best) enough unread = absurd unread
 told_unread left text boxed (Quiet status) enough unread = absurd unread
 told_unread None text boxed (Refused refusal told) enough (f, first, same) =
     record { fault = f; first = tt; is = same }

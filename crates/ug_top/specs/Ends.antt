@@ -42,14 +42,14 @@ use Rattle.ug_top.specs.declared.ended.Ended.TheVariants.{Lines, Quiet, Refused,
 
 -- its status and its lines
 abbrev pub status_of : Ended → Status
-status_of (Lines status text) = status
+status_of (Lines status text best) = status
 status_of (Quiet status) = status
 status_of (Refused refusal text) = statuses.Refused
 status_of ReadFault = statuses.ReadFault
 status_of Memory = statuses.Memory
 
 abbrev pub text_of : Ended → List ℕ
-text_of (Lines status text) = text.items
+text_of (Lines status text best) = text.items
 text_of (Quiet status) = []
 text_of (Refused refusal text) = text.items
 text_of ReadFault = read_fault_line

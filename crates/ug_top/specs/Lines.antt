@@ -10,7 +10,7 @@ use Rattle.ug_restart.specs.declared.outcome.End.{End}
 use Rattle.ug_restart.specs.declared.outcome.End.TheVariants as ends
 use Rattle.ug_restart.specs.declared.outcome.Outcome.{Outcome}
 use Rattle.ug_print.specs.Answers.{AreAnswerLines, IsAnswerLine}
-use Rattle.ug_print.specs.Limited.{IsOpenLine, IsStrandedLine, count_lines}
+use Rattle.ug_print.specs.Limited.{IsOpenLine, IsStrandedLine, best_lines, count_lines}
 use Rattle.ug_print.specs.Faults.{fault_line}
 use Rattle.ug_print.specs.Refusals.{refused_line}
 use Rattle.ug_top.specs.declared.status.Status.{Status}
@@ -52,6 +52,13 @@ AreEndLines gap (ends.Answered b) status text =
 AreEndLines gap (ends.Limited b) status text = (status ≡ statuses.Limited) × IsOpenLine b text
 AreEndLines gap (ends.Stranded b) status text = (status ≡ statuses.Stranded) × IsStrandedLine b text
 AreEndLines gap ends.Memory status text = ⊥
+
+-- the lines of the incumbent of a run that may go on
+abbrev pub IsLeftPoint : End → List ℕ → Type 0
+IsLeftPoint (ends.Answered b) text = ⊥
+IsLeftPoint (ends.Limited b) text = text ≡ best_lines b.problem b.best
+IsLeftPoint (ends.Stranded b) text = text ≡ best_lines b.problem b.best
+IsLeftPoint ends.Memory text = ⊥
 
 -- the status and the first line of a run that ended with a book, without a gap
 abbrev pub IsEndLine : End → Status → List ℕ → Type 0

@@ -18,7 +18,7 @@ IsTextUnread boxed text ended = ⊥
 
 -- the first fault of the source's bytes is told; or the source failed; or memory was wanting
 abbrev pub IsUnread : Option ℕ → Option (List ℕ) → Ended → Type 0
-IsUnread boxed left (Lines status told) = ⊥
+IsUnread boxed left (Lines status told best) = ⊥
 IsUnread boxed left (Quiet status) = ⊥
 IsUnread boxed left (Refused refusal told) = IsRefusedLine boxed left told.items
 IsUnread boxed left ReadFault = Unit {0}
@@ -26,7 +26,7 @@ IsUnread boxed left Memory = Unit {0}
 
 -- where lines are told, reading stopped with the line ENDATA
 abbrev pub HasStopped : Option (List ℕ) → Option (List ℕ) → Ended → Type 0
-HasStopped old new (Lines status told) = StopsAtEnd old new
+HasStopped old new (Lines status told best) = StopsAtEnd old new
 HasStopped old new (Quiet status) = StopsAtEnd old new
 HasStopped old new (Refused refusal told) = StopsAtEnd old new
 HasStopped old new ReadFault = Unit {0}
@@ -34,7 +34,7 @@ HasStopped old new Memory = Unit {0}
 
 -- how often the source failed: it did only where a read fault is told
 abbrev pub unread_cause : Ended → ℕ → ℕ → Type 0
-unread_cause (Lines status told) old new = new ≡ old
+unread_cause (Lines status told best) old new = new ≡ old
 unread_cause (Quiet status) old new = new ≡ old
 unread_cause (Refused refusal told) old new = new ≡ old
 unread_cause ReadFault old new = Rose old new

@@ -7,12 +7,22 @@ use crate::status::Status;
 /// How a command ended, with the lines to write.
 #[derive(Drop)]
 pub enum Ended {
-    /// With lines that were made.
-    Lines { status: Status, text: Vec<u8> },
+    /// With lines that were made, and of a best point that is no answer yet its lines, if there is
+    /// one and memory sufficed.
+    Lines {
+        status: Status,
+        text: Vec<u8>,
+        best: Option<Vec<u8>>,
+    },
     /// With no line.
-    Quiet { status: Status },
+    Quiet {
+        status: Status,
+    },
     /// The text states no problem.
-    Refused { refusal: Refusal, text: Vec<u8> },
+    Refused {
+        refusal: Refusal,
+        text: Vec<u8>,
+    },
     /// The source failed.
     ReadFault,
     /// Memory was wanting.
@@ -52,6 +62,20 @@ impl Ended {
             Ended::Refused { refusal, .. } => Some(*refusal),
             Ended::Lines { .. } | Ended::Quiet { .. } => None,
             Ended::ReadFault | Ended::Memory => None,
+        }
+    }
+
+    /// The lines of a best point that is no answer yet.
+    pub fn into_best(self) -> Option<Vec<u8>> {
+        match self {
+            Ended::Lines { text, best, .. } => {
+                drop(text);
+                best
+            }
+            other => {
+                drop(other);
+                None
+            }
         }
     }
 }

@@ -2,13 +2,15 @@ ghost use Rattle.std.specs.Prelude.{◌≡◌, [], ◌++◌, IfOk, IfSome};
 ghost use Rattle.ug_rules.specs.State.{held_nodes};
 ghost use Rattle.ug_restart.specs.Outcomes.{IfAnswered, IsStranded};
 ghost use Rattle.ug_print.specs.Limited.{count_lines};
-ghost use Rattle.ug_top.specs.Lines.{AreEndLines, IsEndLine};
+ghost use Rattle.ug_top.specs.Lines.{AreEndLines, IsEndLine, IsLeftPoint};
 ghost use Rattle.ug_top.specs.Outcomes.{TellsEnd, TellsFault, TellsOutcome};
 
 use crate::ended::Ended;
 use crate::status::{Status, status_of};
 use std::alloc::{AllocError, Global};
-use ug_print::{answer_line, answer_lines, fault_line, open_line, push_counts, stranded_line};
+use ug_print::{
+    answer_line, answer_lines, fault_line, incumbent_lines, open_line, push_counts, stranded_line,
+};
 use ug_restart::{End, Outcome, StartFault};
 
 // A status and its lines.
@@ -32,8 +34,22 @@ fn with_counts(alloc: Global, status: Status, text: Vec<u8>, outcome: &Outcome, 
 {
     let mut text = text;
     match push_counts(&mut text, alloc, outcome.missed, outcome.unsaved) {
-        Ok(()) => Ended::Lines { status, text },
+        Ok(()) => Ended::Lines {
+            status,
+            text,
+            best: best_of(alloc, &outcome.end),
+        },
         Err(AllocError) => Ended::Memory,
+    }
+}
+
+// The lines of the incumbent of a run that may go on, if it has one and memory suffices.
+fn best_of(alloc: Global, end: &End) -> Option<Vec<u8>>
+    ensures { IfSome result (λ text. IsLeftPoint end.now text.items) }
+{
+    match end {
+        End::Limited(book) | End::Stranded(book) => incumbent_lines(alloc, book).ok(),
+        End::Answered(_) | End::Memory => None,
     }
 }
 
@@ -57,7 +73,11 @@ pub fn tell_end(alloc: Global, outcome: &Outcome) -> Ended
     ensures { TellsEnd outcome.now result }
 {
     match end_line(alloc, &outcome.end) {
-        Ok(Some((status, text))) => Ended::Lines { status, text },
+        Ok(Some((status, text))) => Ended::Lines {
+            status,
+            text,
+            best: None,
+        },
         _ => Ended::Memory,
     }
 }
@@ -84,6 +104,7 @@ pub fn tell_fault(alloc: Global, fault: &StartFault) -> Ended
         Ok(text) => Ended::Lines {
             status: status_of(fault),
             text,
+            best: None,
         },
         Err(AllocError) => Ended::Memory,
     }

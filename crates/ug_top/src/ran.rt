@@ -9,9 +9,12 @@ pub struct Refusal {
     pub kind: Kind,
 }
 
-/// How a run of the program ended, and why its text was refused, where it was.
-#[derive(Clone, Copy)]
+/// How a run of the program ended, and why its text was refused, where it was. Of a best point that
+/// is no answer yet, of a run that goes on or of a checkpoint, the lines of the columns that are not
+/// 0, if there is one and memory sufficed.
+#[derive(Drop)]
 pub struct Ran {
     pub status: Status,
     pub refusal: Option<Refusal>,
+    pub best: Option<Vec<u8>>,
 }

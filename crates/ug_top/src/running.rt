@@ -49,12 +49,17 @@ where
         return Ran {
             status: Status::Usage,
             refusal: None,
+            best: None,
         };
     };
     let status = tell(out, &ended);
     let refusal = ended.refusal();
-    drop(ended);
-    Ran { status, refusal }
+    let best = ended.into_best();
+    Ran {
+        status,
+        refusal,
+        best,
+    }
 }
 
 /// Tells want of memory where the words could not be read, so that nothing is read or saved.

@@ -10,7 +10,7 @@ use std::alloc::{AllocError, Global};
 use ug_checkpoint::{LoadError, load};
 use ug_disk::Disk;
 use ug_image::Image;
-use ug_print::checkpoint_lines;
+use ug_print::{checkpoint_lines, checkpoint_point};
 use ug_restart::StartFault;
 
 /// Tells the checkpoint that recovery finds, or why it finds none.
@@ -44,6 +44,7 @@ fn shown(alloc: Global, image: &Image) -> Ended
         Ok(text) => Ended::Lines {
             status: Status::Answered,
             text,
+            best: checkpoint_point(alloc, image).ok(),
         },
         Err(AllocError) => Ended::Memory,
     }

@@ -4,7 +4,7 @@ use Rattle.ug_top.specs.Outside.{seen_if}
 use Rattle.ug_top.specs.Ends.{IsPlanOf}
 use Rattle.ug_top.proofs.Needs.{has_needs}
 use Rattle.ug_main.specs.Files.{FilesSeen, HasRunOnFiles, crew_seen, link_seen}
-use Rattle.ug_main.proofs.Files.{from_none}
+use Rattle.ug_main.proofs.Files.{from_none, unbegun_is_run}
 use Rattle.ug_main.proofs.work.Goals as goal
 
 pub returns : goal.returns
@@ -26,3 +26,6 @@ carry_out-status-requires-after_bounds g c κs within = λ other taken.
     has_needs c.words_tell_the_needs.ensures (texts c.deref.result.now) c.args.plan _
     (subst (λ words. IsPlanOf (texts words) c.args.plan) (sym c.deref.ensures.value) c.requires)
     c.in-Ok.ensures c.link_of.ensures other taken
+
+pub returns-in_default : goal.returns-in_default
+returns-in_default g c = unbegun_is_run _ _ _ c.unbegun.ensures
