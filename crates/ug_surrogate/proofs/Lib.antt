@@ -1,0 +1,11 @@
+pub mod Ring
+pub mod Below
+pub mod Exchange
+pub mod Sizes
+pub mod Stands
+pub mod Places
+pub mod Machine
+pub mod Parts
+pub mod Divisors
+pub mod Combined
+pub mod Listed

@@ -1,0 +1,6 @@
+pub mod Weights
+pub mod Magnitudes
+pub mod Columns
+pub mod Rounding
+pub mod Implied
+pub mod Guesses

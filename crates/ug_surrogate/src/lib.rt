@@ -1,0 +1,23 @@
+//! Bounds by multipliers: the objective and weighted sides of rows, in one sum. It stands on
+//! ug_rows and ug_problem. `bound` is at most each feasible value of a box, whatever the weights:
+//! `guessed` ones need no proof. `implied` is the row that each feasible point with a value below a
+//! cutoff keeps to. `rounded` moves the sides of a row inwards to the sums that it can have over a
+//! box. No solver asks any of them yet.
+#![tactic(auto)]
+
+mod columns;
+mod exact;
+mod guessing;
+mod implying;
+mod laws;
+mod least;
+mod magnitude;
+mod multipliers;
+mod rounding;
+
+pub use guessing::{guessed, improved};
+pub use implying::{ImpliedError, implied};
+pub use laws::{bounds_are_below, implied_rows_keep_good_points};
+pub use least::bound;
+pub use multipliers::{Multiplier, Multipliers, Side, TooBig, are_of};
+pub use rounding::{Narrowed, Sides, rounded};
