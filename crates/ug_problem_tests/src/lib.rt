@@ -1,10 +1,13 @@
 //! Tests of problems and of what is worked out of one problem alone: numbers and their scales,
-//! limits, records, images and frames byte for byte, links and crews in memory, workers at a link,
-//! changes and boxes, the steps of a task, alone and beside a slow search over whole boxes, made
-//! instances. They stand apart from the crates that they test, from ug_problem to ug_worker,
-//! ug_frames and ug_gen. Nothing here is proved but that the tests are safe and end.
+//! limits, bounds by multipliers, records, images and frames byte for byte, links and crews in
+//! memory, workers at a link, changes and boxes, the steps of a task, alone and beside a slow
+//! search over whole boxes, made instances. They stand apart from the crates that they test, from
+//! ug_problem to ug_worker, ug_frames and ug_gen. Nothing here is proved but that the tests are
+//! safe and end.
 #![tactic(auto)]
 
+#[cfg(test)]
+mod bounds;
 #[cfg(test)]
 mod crews;
 #[cfg(test)]
