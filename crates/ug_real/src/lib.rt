@@ -6,13 +6,13 @@
 //! `FileDisk` stands on a `Folder`, whose contract is what is asked of a system: with one that tells
 //! what became of its files it keeps all that a disk promises. The real ones tell nothing of bytes:
 //! what a real file or socket gives and what a terminal takes, no contract can say.
-//! A `ProcessCrew` is a `Pack`: a `Herd` of `Peer`s behind one poll. A peer is a connection with an `Outbox`,
-//! where what the child does not take waits, and a `Ward`, the child itself. Dropping a ward ends its
-//! child, and dropping the `SocketFile` of a child that has not come removes it, so none is left.
+//! A `ProcessCrew` is a `Pack`: a `Herd` of `Peer`s behind one poll. A peer is a connection with an
+//! `Outbox`, where what the child does not take waits, and a `Ward`, the child itself. Dropping a
+//! ward ends its child, and dropping the `SocketFile` of a child that has not come removes it, so
+//! none is left.
 #![tactic(auto)]
 
 mod again;
-mod before;
 mod departure;
 mod disk;
 mod faults;

@@ -1,7 +1,6 @@
 ghost use Rattle.std.specs.Prelude.{◌≤◌, length, IfOk};
 
 use crate::again;
-use crate::before::copy;
 use crate::kept::{Kept, keep};
 use std::alloc::Global;
 use std::fs::{File, OpenOptions, TryLockError};
@@ -53,6 +52,12 @@ pub struct SlotFiles<'a, R: Files<File = File>> {
     failures: u64,
     folder: Option<File>,
     kept: Kept<File>,
+}
+
+// Copies all that is left to read of a file, and waits until it is on the disk.
+fn copied(from: &mut File, to: &mut File) -> io::Result<()> {
+    io::copy(from, to)?;
+    to.sync_all()
 }
 
 /// The slot's file in the folder, opened in these ways.
@@ -227,10 +232,16 @@ impl<'a, R: Files<File = File>> SlotFiles<'a, R> {
     fn copy(&mut self, slot: Slot) -> io::Result<()> {
         let mut ways = OpenOptions::new();
         ways.write(true).create(true).truncate(true);
-        let to = open_file(self.rt, self.alloc, self.path, before_name_of(slot), &ways)?;
-        let alloc = self.alloc;
-        let copied = match self.file(slot) {
-            Ok(from) => copy(alloc, from, &to),
+        let mut to = open_file(self.rt, self.alloc, self.path, before_name_of(slot), &ways)?;
+        // Opened anew, so that it is read from its begin on.
+        let mut ways = OpenOptions::new();
+        ways.read(true);
+        let copied = match open_slot(self.rt, self.alloc, self.path, slot, &ways) {
+            Ok(mut from) => {
+                let copied = copied(&mut from, &mut to);
+                drop(from);
+                copied
+            }
             Err(error) => Err(error),
         };
         drop(to);
