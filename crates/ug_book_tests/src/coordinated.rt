@@ -14,6 +14,7 @@ use crate::problems::line;
 use std::alloc::{AllocError, Global};
 use std::sync::Wait;
 use ug_book::Opening;
+use ug_branch::Base;
 use ug_coord::{Coordinated, coordinate};
 use ug_disk::{MemoryDisk, Script as DiskScript};
 use ug_io::{Exchange, MemoryCrew, Piece, Script};
@@ -177,6 +178,7 @@ pub fn settings(solvers: u32, every: u64, limit: u64) -> Settings
     Settings {
         solvers,
         racing: false,
+        base: Base::Bound,
         low: 2,
         high: 3,
         every,

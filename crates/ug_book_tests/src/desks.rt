@@ -8,6 +8,7 @@ use std::sync::Wait;
 use std::thread::{Threads, join};
 use ug_base::{Step, Task};
 use ug_book::{Answered, Book, Opening};
+use ug_branch::Base;
 use ug_desk::{Desk, Pass};
 use ug_nodes::Ticket;
 use ug_problem::Shared;
@@ -22,6 +23,7 @@ fn settings() -> Settings
     Settings {
         solvers: 2,
         racing: false,
+        base: Base::Bound,
         low: 2,
         high: 3,
         every: 1,

@@ -4,6 +4,7 @@ ghost use Rattle.ug_ranks.specs.declared.state.State.TheVariants.{Idle};
 use crate::expect::{holds, same};
 use std::alloc::{AllocError, Global};
 use std::process::Abort;
+use ug_branch::Base;
 use ug_frames::Order;
 use ug_nodes::{Changes, Line, Name, Node, Ticket};
 use ug_pool::{OpenNodes, Pool};
@@ -95,6 +96,7 @@ fn terms(racing: bool, cutoff: Option<i128>) -> Terms {
     Terms {
         run: 1,
         racing,
+        base: Base::Bound,
         cutoff,
     }
 }

@@ -10,6 +10,7 @@ use crate::problems::{cube, square};
 use crate::schedules::SCHEDULES;
 use std::alloc::{AllocError, Global};
 use ug_book::{Book, Opening};
+use ug_branch::Base;
 use ug_frames::{Ending, Report};
 use ug_nodes::{Change, Changes, Ticket};
 use ug_problem::{Problem, Shared};
@@ -60,6 +61,7 @@ fn settings(numbers: &[i128]) -> Option<Settings>
     Some(Settings {
         solvers,
         racing: at(numbers, 2) == 1,
+        base: Base::Bound,
         low,
         high,
         every: 1,

@@ -1,5 +1,5 @@
 ghost use Rattle.std.specs.Prelude.{◌≡◌, ℕ, ◌<◌, ◌/◌, ◌%◌};
-ghost use Rattle.ug_branch.specs.Numbers.{number_of, pick_bit, end_bit, half_bit};
+ghost use Rattle.ug_branch.specs.Numbers.{number_of, pick_bit, end_bit, half_bit, base_bit, first_params};
 
 /// Which measure picks the column.
 #[derive(Clone, Copy, PartialEq, Eq)]
@@ -24,19 +24,30 @@ pub enum Half {
     Upper,
 }
 
-/// How a box is branched on.
+/// What a search leaves out: boxes that bound propagation empties, or also those that a weighted sum of
+/// rows bounds.
+#[derive(Clone, Copy, PartialEq, Eq)]
+pub enum Base {
+    /// Bound propagation over the problem's rows.
+    Bound,
+    /// Rows that follow from the problem's and the cutoff, beside them.
+    Surrogate,
+}
+
+/// How a box is searched: how it is branched on, and what is left out.
 #[derive(Clone, Copy, PartialEq, Eq)]
 pub struct Params {
     pub pick: Pick,
     pub end: End,
     pub half: Half,
+    pub base: Base,
 }
 
 impl Params {
     /// The params with this number.
     #[tactic(auto, using(crate::proofs::NumberLemmas::only_one))]
     pub fn new(number: u8) -> Params
-        requires { number < 8 }
+        requires { number < 16 }
         ensures spelled { number_of result ≡ number }
         ensures only { (other : Params) → number_of other ≡ number → other ≡ result }
     {
@@ -44,13 +55,26 @@ impl Params {
             pick: pick_of(number),
             end: end_of(number),
             half: half_of(number),
+            base: base_of(number),
+        }
+    }
+
+    /// The first params of a base.
+    pub fn first(base: Base) -> Params
+        ensures { result ≡ first_params base }
+    {
+        Params {
+            pick: Pick::Place,
+            end: End::Lowest,
+            half: Half::Lower,
+            base,
         }
     }
 
     /// The number of the params.
     pub fn number(self) -> u8
         ensures value { result ≡ number_of self }
-        ensures small { result < 8 }
+        ensures small { result < 16 }
     {
         let pick = match self.pick {
             Pick::Place => 0,
@@ -64,7 +88,11 @@ impl Params {
             Half::Lower => 0,
             Half::Upper => 4,
         };
-        pick + end + half
+        let base = match self.base {
+            Base::Bound => 0,
+            Base::Surrogate => 8,
+        };
+        pick + end + half + base
     }
 
     pub fn pick(self) -> Pick
@@ -83,6 +111,12 @@ impl Params {
         ensures { result ≡ self.half }
     {
         self.half
+    }
+
+    pub fn base(self) -> Base
+        ensures { result ≡ self.base }
+    {
+        self.base
     }
 }
 
@@ -116,5 +150,16 @@ fn half_of(number: u8) -> Half
         Half::Lower
     } else {
         Half::Upper
+    }
+}
+
+// The base that bit 3 names.
+fn base_of(number: u8) -> Base
+    ensures { base_bit result ≡ number / 8 % 2 }
+{
+    if number / 8 % 2 == 0 {
+        Base::Bound
+    } else {
+        Base::Surrogate
     }
 }

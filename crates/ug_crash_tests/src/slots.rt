@@ -6,6 +6,7 @@ ghost use Rattle.ug_checkpoint.specs.Runs.{AreSynced};
 ghost use Rattle.ug_rules.specs.Books.{AreSettings};
 
 use std::alloc::{AllocError, Global};
+use ug_branch::Base;
 use ug_disk::{MemoryDisk, Script};
 use ug_lists::Items;
 use ug_problem::{Problem, ProblemError};
@@ -74,6 +75,7 @@ pub fn settings(gap: u8) -> Settings
     Settings {
         solvers: 1,
         racing: false,
+        base: Base::Bound,
         low: 1,
         high: 2,
         every: 1,

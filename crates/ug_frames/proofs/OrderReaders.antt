@@ -5,9 +5,8 @@ use Rattle.std.proofs.lemmas.List.{append-nil, length-append}
 use Rattle.ug_nodes.specs.declared.name.Ticket.{Ticket}
 use Rattle.ug_nodes.specs.declared.change.Change.{Change}
 use Rattle.ug_branch.specs.declared.params.Params.{Params}
-use Rattle.ug_branch.specs.declared.params.Pick.TheVariants.{Place}
-use Rattle.ug_branch.specs.declared.params.End.TheVariants.{Lowest}
-use Rattle.ug_branch.specs.declared.params.Half.TheVariants.{Lower}
+use Rattle.ug_branch.specs.declared.params.Base.TheVariants.{Bound}
+use Rattle.ug_branch.specs.Numbers.{first_params}
 use Rattle.ug_fields.specs.Reading.{Reading, ◌>>=◌, small_at, number_at, amount_at, optional_at}
 use Rattle.ug_fields.specs.Readers.{IsBytes, IsReader}
 use Rattle.ug_fields.specs.Spelling.{count_field, number_field, optional_field}
@@ -44,7 +43,7 @@ ticket_in order = no_ticket
 
 abbrev params_in : Order → Params
 params_in (Work ticket params race cutoff changes) = params
-params_in order = record { pick = Place; end = Lowest; half = Lower }
+params_in order = first_params Bound
 
 abbrev race_in : Order → Bool
 race_in (Work ticket params race cutoff changes) = race

@@ -13,7 +13,9 @@ use Rattle.ug_branch.specs.declared.params.End.{End}
 use Rattle.ug_branch.specs.declared.params.End.TheVariants.{Lowest, Highest}
 use Rattle.ug_branch.specs.declared.params.Half.{Half}
 use Rattle.ug_branch.specs.declared.params.Half.TheVariants.{Lower, Upper}
-use Rattle.ug_branch.specs.Numbers.{pick_bit, end_bit, half_bit, number_of}
+use Rattle.ug_branch.specs.declared.params.Base.{Base}
+use Rattle.ug_branch.specs.declared.params.Base.TheVariants.{Bound, Surrogate}
+use Rattle.ug_branch.specs.Numbers.{pick_bit, end_bit, half_bit, number_of, base_bit}
 use Rattle.ug_fields.specs.Reading.{small_at, unsigned_at, long_at, amount_at}
 use Rattle.ug_fields.specs.Readers.{IsReader}
 use Rattle.ug_fields.specs.Spelling.{count_field, long_field, number_field}
@@ -67,7 +69,7 @@ ticket_reader =
 
 -- ---- params
 
-number_is : (n : ℕ) → n ≤ 7 → number_of (params_of n) ≡ n
+number_is : (n : ℕ) → n ≤ 15 → number_of (params_of n) ≡ n
 number_is zero small = refl
 number_is (suc zero) small = refl
 number_is (suc (suc zero)) small = refl
@@ -76,30 +78,54 @@ number_is (suc (suc (suc (suc zero)))) small = refl
 number_is (suc (suc (suc (suc (suc zero))))) small = refl
 number_is (suc (suc (suc (suc (suc (suc zero)))))) small = refl
 number_is (suc (suc (suc (suc (suc (suc (suc zero))))))) small = refl
-number_is (suc (suc (suc (suc (suc (suc (suc (suc n)))))))) small = absurd (omega (arith, small))
+number_is (suc (suc (suc (suc (suc (suc (suc (suc zero)))))))) small = refl
+number_is (suc (suc (suc (suc (suc (suc (suc (suc (suc zero))))))))) small = refl
+number_is (suc (suc (suc (suc (suc (suc (suc (suc (suc (suc zero)))))))))) small = refl
+number_is (suc (suc (suc (suc (suc (suc (suc (suc (suc (suc (suc zero))))))))))) small = refl
+number_is (suc (suc (suc (suc (suc (suc (suc (suc (suc (suc (suc (suc zero)))))))))))) small = refl
+number_is (suc (suc (suc (suc (suc (suc (suc (suc (suc (suc (suc (suc (suc zero))))))))))))) small = refl
+number_is (suc (suc (suc (suc (suc (suc (suc (suc (suc (suc (suc (suc (suc (suc zero)))))))))))))) small = refl
+number_is (suc (suc (suc (suc (suc (suc (suc (suc (suc (suc (suc (suc (suc (suc (suc zero))))))))))))))) small = refl
+number_is (suc (suc (suc (suc (suc (suc (suc (suc (suc (suc (suc (suc (suc (suc (suc (suc n)))))))))))))))) small = absurd (omega (arith, small))
 
-params_by : (pick : Pick) (end : End) (half : Half)
-    → params_of (pick_bit pick + 2 * end_bit end + 4 * half_bit half)
-    ≡ record { pick = pick; end = end; half = half }
-params_by Place Lowest Lower = refl
-params_by Place Lowest Upper = refl
-params_by Place Highest Lower = refl
-params_by Place Highest Upper = refl
-params_by Width Lowest Lower = refl
-params_by Width Lowest Upper = refl
-params_by Width Highest Lower = refl
-params_by Width Highest Upper = refl
+params_by : (pick : Pick) (end : End) (half : Half) (base : Base)
+    → params_of (pick_bit pick + 2 * end_bit end + 4 * half_bit half + 8 * base_bit base)
+    ≡ record { pick = pick; end = end; half = half; base = base }
+params_by Place Lowest Lower Bound = refl
+params_by Place Lowest Upper Bound = refl
+params_by Place Highest Lower Bound = refl
+params_by Place Highest Upper Bound = refl
+params_by Width Lowest Lower Bound = refl
+params_by Width Lowest Upper Bound = refl
+params_by Width Highest Lower Bound = refl
+params_by Width Highest Upper Bound = refl
+params_by Place Lowest Lower Surrogate = refl
+params_by Place Lowest Upper Surrogate = refl
+params_by Place Highest Lower Surrogate = refl
+params_by Place Highest Upper Surrogate = refl
+params_by Width Lowest Lower Surrogate = refl
+params_by Width Lowest Upper Surrogate = refl
+params_by Width Highest Lower Surrogate = refl
+params_by Width Highest Upper Surrogate = refl
 
-number_by : (pick : Pick) (end : End) (half : Half)
-    → pick_bit pick + 2 * end_bit end + 4 * half_bit half ≤ 7
-number_by Place Lowest Lower = omega arith
-number_by Place Lowest Upper = omega arith
-number_by Place Highest Lower = omega arith
-number_by Place Highest Upper = omega arith
-number_by Width Lowest Lower = omega arith
-number_by Width Lowest Upper = omega arith
-number_by Width Highest Lower = omega arith
-number_by Width Highest Upper = omega arith
+number_by : (pick : Pick) (end : End) (half : Half) (base : Base)
+    → pick_bit pick + 2 * end_bit end + 4 * half_bit half + 8 * base_bit base ≤ 15
+number_by Place Lowest Lower Bound = omega arith
+number_by Place Lowest Upper Bound = omega arith
+number_by Place Highest Lower Bound = omega arith
+number_by Place Highest Upper Bound = omega arith
+number_by Width Lowest Lower Bound = omega arith
+number_by Width Lowest Upper Bound = omega arith
+number_by Width Highest Lower Bound = omega arith
+number_by Width Highest Upper Bound = omega arith
+number_by Place Lowest Lower Surrogate = omega arith
+number_by Place Lowest Upper Surrogate = omega arith
+number_by Place Highest Lower Surrogate = omega arith
+number_by Place Highest Upper Surrogate = omega arith
+number_by Width Lowest Lower Surrogate = omega arith
+number_by Width Lowest Upper Surrogate = omega arith
+number_by Width Highest Lower Surrogate = omega arith
+number_by Width Highest Upper Surrogate = omega arith
 
 abbrev pub IsAny : {X : Type 0} → X → Type 0
 IsAny x = Unit {0}
@@ -107,15 +133,15 @@ IsAny x = Unit {0}
 pub params_reader : IsReader (IsAny {X = Params}) params_field params_at
 unfolding params_at
 params_reader =
-    reworded (λ (p : Params). Unit {0} × (((0 ≤ number_of p) × (number_of p ≤ 7)) × Unit {0}))
+    reworded (λ (p : Params). Unit {0} × (((0 ≤ number_of p) × (number_of p ≤ 15)) × Unit {0}))
     (λ p. (number_of p ∷ []) ++ []) IsAny params_field _
     (λ p good. refl) (λ p good. tt)
-    (λ p is. (tt, ((omega arith, number_by p.pick p.end p.half), tt)))
-    (joined number_of (λ n. (0 ≤ n) × (n ≤ 7)) (λ n. n ∷ []) (small_at 0 7)
-    (λ p. Unit {0}) (λ p. Unit {0}) (λ p. []) _ (small_reader 0 7)
+    (λ p is. (tt, ((omega arith, number_by p.pick p.end p.half p.base), tt)))
+    (joined number_of (λ n. (0 ≤ n) × (n ≤ 15)) (λ n. n ∷ []) (small_at 0 15)
+    (λ p. Unit {0}) (λ p. Unit {0}) (λ p. []) _ (small_reader 0 15)
     (λ n small. made (λ (p : Params). (Unit {0} × (number_of p ≡ n)) × Unit {0}) (params_of n)
     ((tt, number_is n small.1), tt)
-    (λ p is. sym (params_by p.pick p.end p.half) ∙ ap params_of is.0.1)))
+    (λ p is. sym (params_by p.pick p.end p.half p.base) ∙ ap params_of is.0.1)))
 
 -- ---- races
 

@@ -8,6 +8,7 @@ use Rattle.ug_branch.specs.declared.params.Params.{Params}
 use Rattle.ug_branch.specs.declared.params.Pick.TheVariants.{Place, Width}
 use Rattle.ug_branch.specs.declared.params.End.TheVariants.{Lowest, Highest}
 use Rattle.ug_branch.specs.declared.params.Half.TheVariants.{Lower, Upper}
+use Rattle.ug_branch.specs.declared.params.Base.TheVariants.{Bound, Surrogate}
 use Rattle.ug_fields.specs.Reading.{Reading, ◌>>=◌, small_at, count_at, unsigned_at, bound_at}
 use Rattle.ug_fields.specs.Reading.{long_at, many_at}
 
@@ -24,12 +25,13 @@ params_of n = record {
   pick = if n % 2 == 0 then Place else Width;
   end = if n / 2 % 2 == 0 then Lowest else Highest;
   half = if n / 4 % 2 == 0 then Lower else Upper;
+  base = if n / 8 % 2 == 0 then Bound else Surrogate;
 }
 
 -- params
 unfoldable pub params_at : List ℕ → Reading Params
 params_at bytes = do
-  number ← small_at 0 7 bytes
+  number ← small_at 0 15 bytes
   Ok (params_of number.0, number.1)
 
 -- whether others have the same box

@@ -4,6 +4,7 @@ use crate::start::problem;
 use std::alloc::{AllocError, Global};
 use std::sync::Wait;
 use ug_book::Opening;
+use ug_branch::Base;
 use ug_desk::{Desk, Pass};
 use ug_rules::Settings;
 use ug_worker::Took;
@@ -80,6 +81,7 @@ fn settings() -> Settings
     Settings {
         solvers: 1,
         racing: false,
+        base: Base::Bound,
         low: 1,
         high: 2,
         every: 1,

@@ -7,6 +7,7 @@ ghost use Rattle.ug_image.specs.Images.{IsImage};
 use crate::start::problem;
 use std::alloc::{AllocError, Global};
 use ug_book::{Book, Boxes, Opening};
+use ug_branch::Base;
 use ug_checkpoint::{Saver, load};
 use ug_disk::{MemoryDisk, Script};
 use ug_image::{Image, length};
@@ -116,6 +117,7 @@ fn book_of(alloc: Global, count: u32) -> Result<Book, AllocError> {
     let settings = Settings {
         solvers: 1,
         racing: false,
+        base: Base::Bound,
         low: 1,
         high: 2,
         every: 1,

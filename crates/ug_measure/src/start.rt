@@ -1,5 +1,6 @@
 use std::alloc::{AllocError, Global};
 use ug_book::{Book, Opening};
+use ug_branch::Base;
 use ug_mps::read;
 use ug_problem::Shared;
 use ug_rules::Settings;
@@ -65,6 +66,7 @@ pub fn begin(alloc: Global, problem: &Shared) -> Result<Book, AllocError> {
     let settings = Settings {
         solvers: RANKS,
         racing: false,
+        base: Base::Bound,
         low: 64,
         high: 512,
         every: 1,

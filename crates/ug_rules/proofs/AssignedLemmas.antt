@@ -12,7 +12,7 @@ use Rattle.ug_rules.specs.State.{BookState, ticket_with}
 use Rattle.ug_rules.specs.Ranks.{of_ranks, rank_if, ranks_that}
 use Rattle.ug_ranks.specs.Looks.{is_idle}
 use Rattle.ug_rules.specs.Books.{Keeps}
-use Rattle.ug_rules.specs.Deciding.{assigned, assigned_by, assigned_times, assignments, given_to, params_with}
+use Rattle.ug_rules.specs.Deciding.{assigned, assigned_by, assigned_times, assignments, given_to, usual_params}
 use Rattle.ug_rules.proofs.FirstLemmas.{first_idle}
 use Rattle.ug_rules.proofs.GivenLemmas.{CanBeGiven, given_book, given_stays_sound}
 
@@ -95,7 +95,7 @@ next b some = by (ranks_that is_idle b.ranks) b.pool refl refl
 fewer_left : (b : BookState) (r : ℕ) (e : Entry) (es : List Entry) → CanBeGiven b r e es → (n : ℕ)
     → suc n ≤ assignments b → n ≤ assignments (given_to r e es b)
 fewer_left b r e es can n some =
-    let w : Work = work_of (ticket_with b (b.last + 1)) e.node e.floor (params_with 0) in
+    let w : Work = work_of (ticket_with b (b.last + 1)) e.node e.floor (usual_params b) in
     let ranks = fewer_from 0 b.ranks r w can.there can.idle in
     let pool : length b.pool ≡ length es + 1 =
     ap (λ (xs : List Entry). length xs) can.pool ∙ omega arith in

@@ -22,7 +22,7 @@ use Rattle.ug_ledger.specs.Moves.{HasGiven}
 use Rattle.ug_ledger.proofs.GivenLemmas.{given_ledger, given_sound}
 use Rattle.ug_rules.specs.State.{BookState, current_of, held_nodes, ledger_of, node_at, nodes_in, nodes_of, ticket_with}
 use Rattle.ug_rules.specs.Books.{HasItsFloor, IsBook, IsSoundBook, KeepsItsFloor}
-use Rattle.ug_rules.specs.Deciding.{given_to, params_with}
+use Rattle.ug_rules.specs.Deciding.{given_to, usual_params}
 use Rattle.ug_rules.proofs.OrderLemmas.{given_carried}
 use Rattle.ug_rules.proofs.WorkLemmas.{WorksOn, idle_is_free, others_kept, state_here, state_there, works_at, works_from, works_to}
 use Rattle.ug_rules.proofs.HeldLemmas.{current_by, held_cases, in_pool, in_race, in_work}
@@ -41,7 +41,7 @@ module _ (b : BookState) (r : ℕ) (entry : Entry) (rest : List Entry)
     (can : CanBeGiven b r entry rest) where
   -- the work, and what its ticket is current for
   abbrev its_work : Work
-  its_work = work_of (ticket_with b (b.last + 1)) entry.node entry.floor (params_with 0)
+  its_work = work_of (ticket_with b (b.last + 1)) entry.node entry.floor (usual_params b)
 
   abbrev its_current : Current
   its_current = record { ticket = ticket_with b (b.last + 1); node = entry.node; taken = [] }
@@ -168,7 +168,7 @@ module _ (b : BookState) (r : ℕ) (entry : Entry) (rest : List Entry)
         (λ t. none_there h (set_fewer_races b.ranks r (Active its_work) can.there refl t))
         (none_raced b.raced (λ some. none_there h (some_races b.ranks (h.race.raced some))));
     number = can.number;
-    orders = given_carried b h.run h.problem h.settings.gap h.incumbent r (b.last + 1) (params_with 0)
+    orders = given_carried b h.run h.problem h.settings.gap h.incumbent r (b.last + 1) (usual_params b)
         false entry (omega arith)
         (All-get_or (HasItsFloor b.problem) (entry ∷ rest) 0 entry (omega arith) pool_floors)
         h.orders;

@@ -102,7 +102,7 @@ pub record IsInRace (b : BookState) (entry : Entry) : Type 0 where
 module _ (b : BookState) (r : ℕ) (entry : Entry) (h : IsInRace b entry) (i : IsIdleAt b.ranks r)
     (left : b.last + 1 < 2 ^ 64) where
   abbrev its : Racer
-  its = racer_of (ticket_with b (b.last + 1)) (params_with (r % 8))
+  its = racer_of (ticket_with b (b.last + 1)) (params_with (r % 16))
 
   abbrev its_current : Current
   its_current = record { ticket = ticket_with b (b.last + 1); node = entry.node; taken = [] }
@@ -154,7 +154,7 @@ module _ (b : BookState) (r : ℕ) (entry : Entry) (h : IsInRace b entry) (i : I
     none = nodes_same ∙ h.none;
     number = left;
     orders = given_carried b h.run h.problem h.settings.gap h.incumbent r (b.last + 1)
-        (params_with (r % 8)) true entry (omega arith) h.floor h.orders;
+        (params_with (r % 16)) true entry (omega arith) h.floor h.orders;
   }
 
   after_sound : IsSoundBook b → IsSoundBook after

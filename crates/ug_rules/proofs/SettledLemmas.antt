@@ -18,7 +18,7 @@ use Rattle.ug_rules.specs.declared.told.Told.{Told}
 use Rattle.ug_rules.specs.State.{BookState, cutoff_of_best, held_nodes, nodes_in, raced_node, ticket_with}
 use Rattle.ug_rules.specs.Ranks.{of_ranks, rank_if, ranks_that}
 use Rattle.ug_ranks.specs.Looks.{is_absent, is_idle}
-use Rattle.ug_rules.specs.Deciding.{IsDecided, IsRaceEnded, IsReadied, announced, announced_as, assigned, assigned_by, assigned_times, assignments, below_cutoff, collect_in, collect_out, collected, dropped, given, given_to, handouts, is_race_awaited, is_race_due, params_with, race_begun, race_begun_with, raced_by_all, same_cutoff, stopped_collecting}
+use Rattle.ug_rules.specs.Deciding.{IsDecided, IsRaceEnded, IsReadied, announced, announced_as, assigned, assigned_by, assigned_times, assignments, below_cutoff, collect_in, collect_out, collected, dropped, given, given_to, handouts, is_race_awaited, is_race_due, usual_params, race_begun, race_begun_with, raced_by_all, same_cutoff, stopped_collecting}
 use Rattle.ug_rules.specs.DecidingLaws.{IsBelowCutoff, IsBusy, IsCutOff, IsSettled}
 use Rattle.ug_rules.proofs.PoolLemmas.{picked_old}
 use Rattle.ug_rules.proofs.GivenLemmas.{CanBeGiven}
@@ -103,7 +103,7 @@ collected_cut Nothing b h = h
 one_fewer : (b : BookState) (r : ℕ) (e : Entry) (es : List Entry) → CanBeGiven b r e es → (n : ℕ)
     → suc n ≡ assignments b → n ≡ assignments (given_to r e es b)
 one_fewer b r e es can n some =
-    let w : Work = work_of (ticket_with b (b.last + 1)) e.node e.floor (params_with 0) in
+    let w : Work = work_of (ticket_with b (b.last + 1)) e.node e.floor (usual_params b) in
     let ranks = fewer_from 0 b.ranks r w can.there can.idle in
     let pool : length b.pool ≡ length es + 1 =
     ap (λ (xs : List Entry). length xs) can.pool ∙ omega arith in

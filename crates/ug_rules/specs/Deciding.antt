@@ -7,6 +7,8 @@ use Rattle.ug_branch.specs.declared.params.Params.{Params}
 use Rattle.ug_branch.specs.declared.params.Pick.TheVariants.{Place, Width}
 use Rattle.ug_branch.specs.declared.params.End.TheVariants.{Lowest, Highest}
 use Rattle.ug_branch.specs.declared.params.Half.TheVariants.{Lower, Upper}
+use Rattle.ug_branch.specs.declared.params.Base.TheVariants.{Bound, Surrogate}
+use Rattle.ug_branch.specs.Numbers.{first_params}
 use Rattle.ug_pool.specs.declared.entry.Entry.{Entry}
 use Rattle.ug_pool.specs.Pools.{with_floor_below}
 use Rattle.ug_rules.specs.declared.contender.Contender.{Contender}
@@ -121,13 +123,18 @@ is_race_due b =
     is_race_set b && (nat_eq (length (ranks_that is_absent b.ranks)) 0 && nat_lt 1
     (length (ranks_that is_idle b.ranks)))
 
--- the params with this number, below 8
+-- the params with this number, below 16
 abbrev pub params_with : ℕ → Params
 params_with n = record {
   pick = (if nat_eq (n % 2) 0 then Place else Width);
   end = (if nat_lt (n % 4) 2 then Lowest else Highest);
   half = (if nat_lt (n % 8) 4 then Lower else Upper);
+  base = (if nat_lt (n % 16) 8 then Bound else Surrogate);
 }
+
+-- the params of all work that is no race
+abbrev pub usual_params : BookState → Params
+usual_params b = first_params b.settings.base
 
 -- the order of an assignment
 abbrev pub work_order : BookState → ℕ → ℕ → Params → Bool → Entry → Told
@@ -141,9 +148,9 @@ abbrev pub given_to : ℕ → Entry → List Entry → BookState → BookState
 given_to r entry rest b = record b {
   pool = rest;
   ranks = slice_set b.ranks r
-      (Active (work_of (ticket_with b (b.last + 1)) entry.node entry.floor (params_with 0)));
+      (Active (work_of (ticket_with b (b.last + 1)) entry.node entry.floor (usual_params b)));
   last = b.last + 1;
-  orders = b.orders ++ work_order b r (b.last + 1) (params_with 0) false entry ∷ [];
+  orders = b.orders ++ work_order b r (b.last + 1) (usual_params b) false entry ∷ [];
 }
 
 abbrev pub assigned_by : List ℕ → List Entry → BookState → BookState
@@ -169,9 +176,9 @@ assignments b =
 abbrev pub raced_by : ℕ → Entry → BookState → BookState
 raced_by r entry b = record b {
   ranks = slice_set b.ranks r
-      (Racing (racer_of (ticket_with b (b.last + 1)) (params_with (r % 8))));
+      (Racing (racer_of (ticket_with b (b.last + 1)) (params_with (r % 16))));
   last = b.last + 1;
-  orders = b.orders ++ work_order b r (b.last + 1) (params_with (r % 8)) true entry ∷ [];
+  orders = b.orders ++ work_order b r (b.last + 1) (params_with (r % 16)) true entry ∷ [];
 }
 
 abbrev pub raced_by_all : List ℕ → Entry → BookState → BookState

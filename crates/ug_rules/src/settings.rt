@@ -1,3 +1,5 @@
+use ug_branch::Base;
+
 /// How a coordinator works.
 #[derive(Clone, Copy, PartialEq, Eq)]
 pub struct Settings {
@@ -5,6 +7,8 @@ pub struct Settings {
     pub solvers: u32,
     /// Whether all ranks begin with the root, and one of them wins it.
     pub racing: bool,
+    /// What the work leaves out that is no race.
+    pub base: Base,
     /// Below so many nodes in the pool open nodes are asked for.
     pub low: u32,
     /// So many nodes in the pool are enough; at least `low`.

@@ -39,7 +39,7 @@ pub record HasTakenPart (terms : Terms) (r : ℕ) (changes : List Change) (old n
     : Type 0 where
   pub joined : HasJoinedRace terms r changes old new
   pub ranks : new.ranks ≡ slice_set old.ranks r
-      (Racing (racer_of (ticket_under terms (old.last + 1)) (params_with (r % 8))))
+      (Racing (racer_of (ticket_under terms (old.last + 1)) (params_with (r % 16))))
   pub last : new.last ≡ old.last + 1
   pub orders : new.orders.spare + 1 ≡ old.orders.spare
   pub kept : KeepsPoolAndRace old new

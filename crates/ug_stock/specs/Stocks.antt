@@ -41,4 +41,5 @@ pub record OnlyTells (old new : Stock) : Type 0 where
 pub record AreTermsOf (b : BookState) (terms : Terms) : Type 0 where
   pub run : b.run ≡ terms.run
   pub racing : b.settings.racing ≡ terms.racing
+  pub base : b.settings.base ≡ terms.base
   pub cutoff : cutoff_of_best b ≡ terms.cutoff

@@ -4,9 +4,10 @@ ghost use Rattle.ug_stock.specs.Assigning.{CanBeAssigned, HasAssignedAll, HasAss
 
 use crate::firsts::{first_changes, take_first};
 use crate::stock::Stock;
-use crate::telling::{node_order, params_with};
+use crate::telling::node_order;
 use crate::terms::{Stopped, Terms};
 use std::alloc::AllocError;
+use ug_branch::Params;
 use ug_nodes::Changes;
 use ug_pool::OpenNodes;
 use ug_ranks::Assignment;
@@ -89,7 +90,7 @@ impl Stock {
                 ticket,
                 node: entry.node,
                 floor: entry.floor,
-                params: params_with(0),
+                params: Params::first(terms.base),
             };
             self.ranks.give(rank, given);
         }

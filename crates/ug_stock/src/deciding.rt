@@ -30,6 +30,7 @@ impl Stock {
         let terms = Terms {
             run: run.number,
             racing: run.settings.racing,
+            base: run.settings.base,
             cutoff,
         };
         match self.give_out(run.alloc, terms) {

@@ -68,6 +68,7 @@ impl Stock {
         self.orders
             .push(race_order(terms, rank, self.last, changes));
         let ticket = terms.ticket(self.last);
-        self.ranks.race(rank, ticket, params_with((rank % 8) as u8));
+        self.ranks
+            .race(rank, ticket, params_with((rank % 16) as u8));
     }
 }

@@ -1,4 +1,5 @@
 ghost use Rattle.std.specs.Prelude.{◌≡◌, ◌<◌, ◌%◌, true, false};
+ghost use Rattle.ug_branch.specs.Numbers.{first_params};
 ghost use Rattle.ug_rules.specs.Deciding.{params_with};
 ghost use Rattle.ug_stock.specs.Telling.{told_under};
 
@@ -9,15 +10,15 @@ use ug_nodes::Changes;
 use ug_rules::Told;
 
 /// The order for a rank to work on the box of these changes, under the ticket of this number, with
-/// the first params.
+/// the first params of the base.
 pub fn node_order(terms: Terms, rank: u32, number: u64, changes: Changes) -> Told
-    ensures { result ≡ told_under terms rank number (params_with 0) false changes }
+    ensures { result ≡ told_under terms rank number (first_params terms.base) false changes }
 {
     Told {
         rank,
         order: Order::Work {
             ticket: terms.ticket(number),
-            params: params_with(0),
+            params: Params::first(terms.base),
             race: false,
             cutoff: terms.cutoff,
             changes,
@@ -28,13 +29,13 @@ pub fn node_order(terms: Terms, rank: u32, number: u64, changes: Changes) -> Tol
 /// The order for a rank to race for the box of these changes, under the ticket of this number, with
 /// params of its own.
 pub fn race_order(terms: Terms, rank: u32, number: u64, changes: Changes) -> Told
-    ensures { result ≡ told_under terms rank number (params_with (rank % 8)) true changes }
+    ensures { result ≡ told_under terms rank number (params_with (rank % 16)) true changes }
 {
     Told {
         rank,
         order: Order::Work {
             ticket: terms.ticket(number),
-            params: params_with((rank % 8) as u8),
+            params: params_with((rank % 16) as u8),
             race: true,
             cutoff: terms.cutoff,
             changes,
@@ -44,7 +45,7 @@ pub fn race_order(terms: Terms, rank: u32, number: u64, changes: Changes) -> Tol
 
 /// The params with this number.
 pub fn params_with(number: u8) -> Params
-    requires { number < 8 }
+    requires { number < 16 }
     ensures { result ≡ params_with number }
 {
     Params::new(number)

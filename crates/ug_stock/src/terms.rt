@@ -1,6 +1,7 @@
 ghost use Rattle.std.specs.Prelude.{◌≡◌};
 ghost use Rattle.ug_stock.specs.Telling.{ticket_under};
 
+use ug_branch::Base;
 use ug_nodes::Ticket;
 
 /// What is given out under.
@@ -9,6 +10,8 @@ pub struct Terms {
     pub run: u64,
     /// Whether all ranks begin with the root.
     pub racing: bool,
+    /// What the work leaves out that is no race.
+    pub base: Base,
     /// The incumbent's cutoff.
     pub cutoff: Option<i128>,
 }

@@ -8,6 +8,7 @@ use std::alloc::Global;
 use std::sync::Wait;
 use std::thread::Threads;
 use ug_book::Opening;
+use ug_branch::Base;
 use ug_disk::{MemoryDisk, Script};
 use ug_problem::Shared;
 use ug_restart::{Host, Observer, Outcome, Start, Unobserved, begin};
@@ -22,6 +23,7 @@ pub fn settings(solvers: u32, racing: bool, limit: u64) -> Settings
     Settings {
         solvers: solvers.max(1),
         racing,
+        base: Base::Bound,
         low: 1,
         high: 1,
         every: 1,

@@ -18,7 +18,7 @@ use Rattle.ug_rules.specs.State.{BookState, current_for, current_of, ledger_of, 
 use Rattle.ug_rules.specs.Ranks.{ranks_that}
 use Rattle.ug_ranks.specs.Looks.{is_idle, is_racing}
 use Rattle.ug_rules.specs.Books.{IsBook}
-use Rattle.ug_rules.specs.Deciding.{assigned, assigned_by, assigned_times, given, given_to, is_race_due, params_with, race_begun_with, raced_by, raced_by_all, work_order}
+use Rattle.ug_rules.specs.Deciding.{assigned, assigned_by, assigned_times, given, given_to, is_race_due, params_with, usual_params, race_begun_with, raced_by, raced_by_all, work_order}
 use Rattle.ug_rules.proofs.BegunLemmas.{begin_is}
 use Rattle.ug_rules.proofs.HeldLemmas.{IsOfRacer, current_cases, is_current}
 use Rattle.ug_rules.proofs.RacerLemmas.{are_racing}
@@ -57,13 +57,13 @@ given_carries past sent b r entry rest = record {
   settings = refl;
   known = λ k. record {
     each = λ q c h.
-        let work = work_of (ticket_with b (b.last + 1)) entry.node entry.floor (params_with 0) in
+        let work = work_of (ticket_with b (b.last + 1)) entry.node entry.floor (usual_params b) in
         let orders = (given_to r entry rest b).orders in
         elim (written_current b.raced b.ranks r (Active work) q c h) [
           | inl new ↦
               subst (λ d. IsKnown (root_of b.problem) sent (past ++ orders) d)
               (same_Some (current_for work) c new.1)
-              (new_known past sent b r entry (params_with 0) false)
+              (new_known past sent b r entry (usual_params b) false)
           | inr old ↦
               known_later (root_of b.problem) sent (past ++ b.orders) (past ++ orders) c
               (among_behind past b.orders orders (among_more b.orders _))
@@ -94,14 +94,14 @@ raced_carries past sent b r entry raced = record {
   settings = refl;
   known = λ k. record {
     each = λ q c h.
-        let racer = racer_of (ticket_with b (b.last + 1)) (params_with (r % 8)) in
+        let racer = racer_of (ticket_with b (b.last + 1)) (params_with (r % 16)) in
         let orders = (raced_by r entry b).orders in
         elim (written_current b.raced b.ranks r (Racing racer) q c h) [
           | inl new ↦
               let at = subst (λ o. current_of o (Racing racer) ≡ Some c) raced new.1 in
               subst (λ d. IsKnown (root_of b.problem) sent (past ++ orders) d)
               (same_Some (new_current b entry) c at)
-              (new_known past sent b r entry (params_with (r % 8)) true)
+              (new_known past sent b r entry (params_with (r % 16)) true)
           | inr old ↦
               known_later (root_of b.problem) sent (past ++ b.orders) (past ++ orders) c
               (among_behind past b.orders orders (among_more b.orders _))

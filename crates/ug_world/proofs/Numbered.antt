@@ -22,7 +22,7 @@ use Rattle.ug_rules.specs.declared.told.Told.{Told}
 use Rattle.ug_rules.specs.Ranks.{of_ranks, ranks_that}
 use Rattle.ug_rules.specs.State.{BookState, cutoff_of_best}
 use Rattle.ug_rules.specs.Deaths.{killed, killed_at, lost_by, stop_at, stops_below, with_dead}
-use Rattle.ug_rules.specs.Deciding.{IsDecided, IsRaceEnded, IsReadied, Stands, announced, announced_as, announcement, announcements, assigned, assigned_by, assigned_times, collect_in, collect_out, collected, dropped, given, given_to, handouts, is_race_due, loser_stop, loser_stops, params_with, race_begun_with, race_won, raced_by, raced_by_all, same_cutoff, stopped_collecting, winner_order, work_order}
+use Rattle.ug_rules.specs.Deciding.{IsDecided, IsRaceEnded, IsReadied, Stands, announced, announced_as, announcement, announcements, assigned, assigned_by, assigned_times, collect_in, collect_out, collected, dropped, given, given_to, handouts, is_race_due, loser_stop, loser_stops, params_with, usual_params, race_begun_with, race_won, raced_by, raced_by_all, same_cutoff, stopped_collecting, winner_order, work_order}
 use Rattle.ug_rules.specs.Hearing.{after_hearing, counted, done_at, handed_at, kept}
 use Rattle.ug_rules.proofs.AnswerLemmas.{under_answer}
 
@@ -345,7 +345,7 @@ readied_grows old ready t =
 -- work is ordered under the next number
 given_grows : (r : ℕ) (entry : Entry) (rest : List Entry) (b : BookState) → IsMore b (given_to r entry rest b)
 given_grows r entry rest b = record {
-  more = work_order b r (b.last + 1) (params_with 0) false entry ∷ [];
+  more = work_order b r (b.last + 1) (usual_params b) false entry ∷ [];
   orders = refl;
   numbered = (omega arith, omega arith);
   problem = refl;
@@ -365,7 +365,7 @@ assigned_grows (suc n) b =
 
 raced_grows : (r : ℕ) (entry : Entry) (b : BookState) → IsMore b (raced_by r entry b)
 raced_grows r entry b = record {
-  more = work_order b r (b.last + 1) (params_with (r % 8)) true entry ∷ [];
+  more = work_order b r (b.last + 1) (params_with (r % 16)) true entry ∷ [];
   orders = refl;
   numbered = (omega arith, omega arith);
   problem = refl;

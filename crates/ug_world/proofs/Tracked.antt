@@ -22,7 +22,7 @@ use Rattle.ug_rules.specs.declared.demand.Wanted.{Wanted}
 use Rattle.ug_rules.specs.declared.demand.Wanted.TheVariants.{Ask, Enough, Nothing}
 use Rattle.ug_rules.specs.declared.told.Told.{Told}
 use Rattle.ug_rules.specs.State.{BookState, cutoff_of_best, ticket_with}
-use Rattle.ug_rules.specs.Deciding.{IsDecided, IsRaceEnded, IsReadied, announced, announced_as, announcement, announcements, assigned, assigned_by, assigned_times, collect_in, collect_out, collected, dropped, given, given_to, handouts, is_race_due, loser_stop, loser_stops, params_with, race_begun_with, race_won, raced_by, raced_by_all, ranks_won, same_cutoff, stopped_collecting, winner_order, work_order}
+use Rattle.ug_rules.specs.Deciding.{IsDecided, IsRaceEnded, IsReadied, announced, announced_as, announcement, announcements, assigned, assigned_by, assigned_times, collect_in, collect_out, collected, dropped, given, given_to, handouts, is_race_due, loser_stop, loser_stops, params_with, usual_params, race_begun_with, race_won, raced_by, raced_by_all, ranks_won, same_cutoff, stopped_collecting, winner_order, work_order}
 use Rattle.ug_rules.specs.Ranks.{of_ranks, racers_freed, ranks_that}
 use Rattle.ug_worker.specs.Transcripts.{Ordered, order_of}
 use Rattle.ug_worker.proofs.Counted.{hands_none}
@@ -414,17 +414,17 @@ module _ (left : List Told) (heard : ℕ → List Report) where
   given_so : (r : ℕ) (entry : Entry) (rest : List Entry) (b : BookState) → Is b → Is (given_to r entry rest b)
   given_so r entry rest b t =
       let new = given_to r entry rest b in
-      let more = work_order b r (b.last + 1) (params_with 0) false entry ∷ [] in
+      let more = work_order b r (b.last + 1) (usual_params b) false entry ∷ [] in
       let further : IsFurther (outlook_of b) (outlook_of new) =
       record { problem = refl; gap = refl; best = refl; last = omega arith } in
       tracked_more b new more refl further
-      (next_good b left heard t r (params_with 0) false entry (outlook_of new) further refl)
+      (next_good b left heard t r (usual_params b) false entry (outlook_of new) further refl)
       (λ rank. set_on (IsOn (outlook_of new) ((left ++ b.orders) ++ more) (heard rank)) b.ranks r
-      (Active (work_of (ticket_with b (b.last + 1)) entry.node entry.floor (params_with 0))) rank
-      (λ its. next_work b left heard t r (params_with 0) false entry (outlook_of new) refl rank)
+      (Active (work_of (ticket_with b (b.last + 1)) entry.node entry.floor (usual_params b))) rank
+      (λ its. next_work b left heard t r (usual_params b) false entry (outlook_of new) refl rank)
       (state_on (outlook_of b) (outlook_of new) further (left ++ b.orders) more
-      (next_new b left heard t r (params_with 0) false entry) (heard rank) (state_at b.ranks rank) refl
-      (next_wins b left heard t r (params_with 0) false entry) (t.on rank))) t
+      (next_new b left heard t r (usual_params b) false entry) (heard rank) (state_at b.ranks rank) refl
+      (next_wins b left heard t r (usual_params b) false entry) (t.on rank))) t
 
   assigned_so : (ranks : List ℕ) (pool : List Entry) (b : BookState) → Is b → Is (assigned_by ranks pool b)
   assigned_so [] pool b t = t
@@ -438,7 +438,7 @@ module _ (left : List Told) (heard : ℕ → List Report) where
   raced_so : (r : ℕ) (entry : Entry) (b : BookState) → b.raced ≡ Some entry → Is b → Is (raced_by r entry b)
   raced_so r entry b raced t =
       let new = raced_by r entry b in
-      let params = params_with (r % 8) in
+      let params = params_with (r % 16) in
       let more = work_order b r (b.last + 1) params true entry ∷ [] in
       let further : IsFurther (outlook_of b) (outlook_of new) =
       record { problem = refl; gap = refl; best = refl; last = omega arith } in

@@ -4,6 +4,7 @@ ghost use Rattle.std.specs.Prelude.{IfSome};
 ghost use Rattle.ug_rules.specs.Books.{AreSettings};
 
 use std::alloc::{AllocError, Global};
+use ug_branch::Base;
 use ug_rules::Settings;
 use ug_worker::Visit;
 
@@ -101,6 +102,7 @@ pub fn settings_of(way: Way) -> Option<Settings>
     Some(Settings {
         solvers: way.solvers,
         racing: way.racing,
+        base: Base::Bound,
         low: way.low,
         high: way.high,
         every: 0,

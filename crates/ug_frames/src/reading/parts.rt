@@ -18,7 +18,7 @@ pub fn ticket_at(bytes: &[u8]) -> Result<(Ticket, &[u8]), Fault>
 
 // The params with this number.
 fn params_of(number: u8) -> Params
-    requires { number < 8 }
+    requires { number < 16 }
     ensures { result ≡ params_of number }
 {
     Params::new(number)
@@ -29,7 +29,7 @@ fn params_of(number: u8) -> Params
 pub fn params_at(bytes: &[u8]) -> Result<(Params, &[u8]), Fault>
     ensures { Gives (λ x. (x.0, x.1.now)) result (params_at bytes.now) }
 {
-    let (number, rest) = small_at(bytes, 0, 7)?;
+    let (number, rest) = small_at(bytes, 0, 15)?;
     Ok((params_of(number), rest))
 }
 

@@ -4,6 +4,7 @@ ghost use Rattle.ug_rules.specs.Books.{AreSettings};
 use crate::replay::words::{count, small, word};
 use std::alloc::Global;
 use ug_book::{Book, Opening};
+use ug_branch::Base;
 use ug_mps::read;
 use ug_problem::Shared;
 use ug_rules::Settings;
@@ -60,6 +61,7 @@ fn settings(words: &[&str]) -> Option<Settings>
     Some(Settings {
         solvers,
         racing: word(words, 6) == "1",
+        base: Base::Bound,
         low,
         high,
         every: 1,

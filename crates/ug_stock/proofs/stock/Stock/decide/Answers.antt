@@ -60,6 +60,7 @@ returns-in_default-collect-clause-stands c = λ b under.
     let given_ = c.in-Ok-give_out.ensures.ok b (record {
       run = under.run;
       racing = ap (λ (s : Settings). s.racing) under.settings;
+      base = ap (λ (s : Settings). s.base) under.settings;
       cutoff = under.cutoff;
     }) in
     let count = le_of c.in-Ok-give_out.given _ given_.count in
@@ -85,6 +86,7 @@ returns-in-Ok-collect-clause-decided c = λ b under.
     let given_ = c.in-Ok-give_out.ensures.ok b (record {
       run = under.run;
       racing = ap (λ (s : Settings). s.racing) under.settings;
+      base = ap (λ (s : Settings). s.base) under.settings;
       cutoff = under.cutoff;
     }) in
     all_made b0 b1 b2 b3 cut told ended c.in-Ok-give_out.given b4 _ given_.count given_.given_
@@ -108,6 +110,7 @@ returns-in-Err-clause-stands c = λ b under.
     let given_ = c.in-Err.ensures.err b (record {
       run = under.run;
       racing = ap (λ (s : Settings). s.racing) under.settings;
+      base = ap (λ (s : Settings). s.base) under.settings;
       cutoff = under.cutoff;
     }) in
     let count = lt_of c.in-Err.stopped.steps _ given_.count in

@@ -77,7 +77,7 @@ loop-rank-preserved c =
     one_joins c.args.terms c.args.boxes.items c.loop-rank.boxes.items c.pop.new.self.items
     c.in-Some.changes old now new
     (racer_of (ticket_under c.args.terms (c.loop-rank.self.last + 1))
-    (params_with (c.loop-rank.rank % 8)))
+    (params_with (c.loop-rank.rank % 16)))
     c.loop-rank.rank
     (omega (
       arith,
