@@ -138,6 +138,15 @@ pub record IsLater (old new : WorkState) : Type 0 where
   pub there : AreTrailed (length old.sums.area) more
   pub reach : new.reach ≡ old.reach
 
+-- the working box went over to the rows of a problem, with the number that no span over a whole box
+-- is above; the box and what was changed are the same
+pub record IsOver (p : Instance) (whole : List Interval) (old new : WorkState) : Type 0 where
+  pub area : new.sums.area ≡ old.sums.area
+  pub sums : IsRunning p new.sums
+  pub reach : AreReached p whole new.reach
+  pub bits : HasBits p new.awake
+  pub trail : new.trail ≡ old.trail
+
 -- the last change was undone
 pub record HasUndone (old new : WorkState) : Type 0 where
   pub change : Trailed

@@ -1,4 +1,4 @@
-ghost use Rattle.std.specs.Prelude.{◌≡◌, ℕ, ◌+◌, ◌<◌, ◌≤◌, ◌*◌, ◌^◌, ◌+ℤ◌, ◌-ℤ◌, ◌*ℤ◌, ◌≤ℤ◌, length, slice_set, slice_index_or, take, unsigned_abs, IfOk, MatchOption, [], OnOk};
+ghost use Rattle.std.specs.Prelude.{◌≡◌, ℕ, ◌+◌, ◌<◌, ◌≤◌, ◌*◌, ◌^◌, ◌+ℤ◌, ◌-ℤ◌, ◌*ℤ◌, ◌≤ℤ◌, length, slice_set, slice_index_or, take, unsigned_abs, IfOk, MatchOption, [], OnErr, OnOk};
 ghost use Rattle.ug_rows.specs.Boxes.{HasSmallEnds, interval_at};
 ghost use Rattle.ug_rows.specs.Rows.{IsLinear};
 ghost use Rattle.ug_rows.specs.Sums.{end_of, least_sum, greatest_sum};
@@ -266,6 +266,19 @@ impl Sums {
         let sides = Vec::from_slice(alloc, area.as_slice())?;
         let sums = all_sums(alloc, problem, sides.as_slice())?;
         Ok(Sums { sides, sums })
+    }
+
+    /// Takes the sums of another problem's rows over the same box. After an error nothing was
+    /// changed.
+    pub fn over(&mut self, alloc: Global, problem: &Problem) -> Result<(), AllocError>
+        requires { length self.old.area ≡ length problem.now.columns }
+        ensures area { self.new.area ≡ self.old.area }
+        ensures ok { OnOk result (IsRunning problem.now self.new) }
+        ensures err { OnErr result (self.new ≡ self.old) }
+    {
+        let sums = all_sums(alloc, problem, self.sides.as_slice())?;
+        self.sums = sums;
+        Ok(())
     }
 
     /// Replaces the interval of a column. It touches the rows in which the column stands, and no

@@ -8,7 +8,7 @@ ghost use Rattle.ug_propagate.specs.Awake.{HasBit, IsFound};
 ghost use Rattle.ug_propagate.specs.Cuts.{IsInnerCut, cut_of};
 ghost use Rattle.ug_propagate.specs.Steps.{outcome_of};
 ghost use Rattle.ug_propagate.specs.Running.{IsRunning, extremes_at};
-ghost use Rattle.ug_propagate.specs.Working.{AllRest, AreAwake, AreResting, WakesOthers, AreTrailed, AreFirstReached, AreOnes, AreReached, AreWoken, HasBits, HasChanged, HasUndone, WentBack, IsBox, IsStep, WokeColumn, reach_at};
+ghost use Rattle.ug_propagate.specs.Working.{AllRest, AreAwake, AreResting, WakesOthers, AreTrailed, AreFirstReached, AreOnes, AreReached, AreWoken, HasBits, HasChanged, HasUndone, WentBack, IsBox, IsOver, IsStep, WokeColumn, reach_at};
 
 use crate::awake::{fill, next, rest, wake};
 use crate::cut::Cut;
@@ -177,6 +177,42 @@ impl Working {
             Err(error) => {
                 drop(sums);
                 drop(reach);
+                Err(error)
+            }
+        }
+    }
+
+    /// Goes over to the rows of another problem of the same columns: its sums are taken over the
+    /// box, how far its rows reach over the whole box, and each row is awake. After an error nothing
+    /// was changed.
+    pub fn over(
+        &mut self,
+        alloc: Global,
+        problem: &Problem,
+        whole: &IntBox,
+    ) -> Result<(), AllocError>
+        requires area { length self.old.sums.area ≡ length problem.now.columns }
+        requires whole { length whole.now ≡ length problem.now.columns }
+        ensures ok { OnOk result (IsOver problem.now whole.now self.old self.new) }
+        ensures err { OnErr result (self.new ≡ self.old) }
+    {
+        let reach = all_reach(alloc, problem, whole.as_slice())?;
+        let awake = match all_awake(alloc, problem) {
+            Ok(awake) => awake,
+            Err(error) => {
+                drop(reach);
+                return Err(error);
+            }
+        };
+        match self.sums.over(alloc, problem) {
+            Ok(()) => {
+                self.reach = reach;
+                self.awake = awake;
+                Ok(())
+            }
+            Err(error) => {
+                drop(reach);
+                drop(awake);
                 Err(error)
             }
         }
