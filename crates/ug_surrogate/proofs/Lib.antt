@@ -9,3 +9,4 @@ pub mod Parts
 pub mod Divisors
 pub mod Combined
 pub mod Listed
+pub mod Follows

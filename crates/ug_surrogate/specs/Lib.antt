@@ -4,3 +4,4 @@ pub mod Columns
 pub mod Rounding
 pub mod Implied
 pub mod Guesses
+pub mod Stronger

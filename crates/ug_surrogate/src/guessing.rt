@@ -14,7 +14,16 @@ use ug_rows::{Extreme, IntBox, Interval, Row, Term, end_at};
 
 // The weight of the objective in a guess that begins with nothing: weights of rows are counted in
 // so many parts of one.
-const PARTS: u32 = 65_536;
+const PARTS: u32 = 4_096;
+
+// How many steps in a row a guess makes that bring nothing, before it ends.
+const PATIENCE: u32 = 24;
+
+// Misses of rows are counted in so many parts of one.
+const MISSES: u32 = 65_536;
+
+// So many digits behind the point has the ratio of a step to the greatest miss.
+const RATIO: u32 = 32;
 
 // The greatest weight.
 const MOST: i64 = 4_294_967_295;
@@ -24,7 +33,8 @@ const HALVES: u32 = 16;
 
 // What a guess works on: the weights of the rows, above 0 for a high side and below 0 for a low
 // one, the factors of the columns under them, a point at which the weighted sum is least, by how
-// much each row misses its side there, and the greatest factor of each row, in which misses count.
+// much each row misses its side there, and the logarithm of the greatest factor of each row, in
+// which misses count. Sums and products wrap: a wrong sum makes a poor list, as `bound` will tell.
 #[derive(Drop)]
 struct Guess {
     weights: Vec<i64>,
@@ -32,7 +42,7 @@ struct Guess {
     factors: Vec<i128>,
     point: Vec<i32>,
     misses: Vec<i128>,
-    sizes: Vec<i128>,
+    sizes: Vec<u32>,
 }
 
 impl Guess {
@@ -42,7 +52,7 @@ impl Guess {
         let factors = vec![in alloc; 0i128; columns]?;
         let point = vec![in alloc; 0i32; columns]?;
         let misses = vec![in alloc; 0i128; rows]?;
-        let sizes = vec![in alloc; 1i128; rows]?;
+        let sizes = vec![in alloc; 0u32; rows]?;
         Ok(Guess {
             weights,
             best,
@@ -59,9 +69,9 @@ fn weight_in(weights: &[i64], r: usize) -> i64 {
     weights.get(r).copied().unwrap_or(0)
 }
 
-// The greatest factor of a row, 1 where it is not there.
-fn size_in(sizes: &[i128], r: usize) -> i128 {
-    sizes.get(r).copied().unwrap_or(1)
+// The size of a row, 0 where it is not there.
+fn size_in(sizes: &[u32], r: usize) -> u32 {
+    sizes.get(r).copied().unwrap_or(0)
 }
 
 // Adds weighted terms to the factors of their columns.
@@ -99,7 +109,7 @@ fn least_at(point: &mut [i32], factors: &[i128], area: &[Interval]) -> i128 {
     for j in 0..point.len() {
         if j < factors.len() && j < area.len() {
             point[j] = end_at(Extreme::Least, factors[j], area[j]);
-            sum = sum.saturating_add(factors[j].saturating_mul(i128::from(point[j])));
+            sum = sum.wrapping_add(factors[j].wrapping_mul(i128::from(point[j])));
         }
     }
     sum
@@ -110,7 +120,7 @@ fn sum_at(terms: &[Term], point: &[i32]) -> i128 {
     let mut sum = 0i128;
     for term in terms {
         let value = point.get(term.column as usize).copied().unwrap_or(0);
-        sum = sum.saturating_add(term.factor.saturating_mul(i128::from(value)));
+        sum = sum.wrapping_add(term.factor.wrapping_mul(i128::from(value)));
     }
     sum
 }
@@ -157,7 +167,7 @@ fn sides_weighed(problem: &Problem, weights: &[i64]) -> i128 {
         let weight = weight_in(weights, r);
         if weight != 0 {
             let side = side_for(&named.row, weight);
-            sum = sum.saturating_add(side.saturating_mul(i128::from(weight)));
+            sum = sum.wrapping_add(side.wrapping_mul(i128::from(weight)));
         }
     }
     sum
@@ -172,18 +182,22 @@ fn greatest(terms: &[Term]) -> i128 {
     most
 }
 
-fn size_all(sizes: &mut [i128], problem: &Problem) {
+// The whole part of the logarithm of the greatest factor.
+fn size_of(terms: &[Term]) -> u32 {
+    127u32.saturating_sub(greatest(terms).leading_zeros())
+}
+
+fn size_all(sizes: &mut [u32], problem: &Problem) {
     for (r, named) in problem.rows().iter().enumerate() {
         if r < sizes.len() {
-            sizes[r] = greatest(named.row.terms.as_slice());
+            sizes[r] = size_of(named.row.terms.as_slice());
         }
     }
 }
 
-// A miss counted in parts of the row's greatest factor.
-fn part_of(miss: i128, size: i128) -> i128 {
-    let parts = miss.saturating_mul(i128::from(PARTS));
-    parts.checked_div(size).unwrap_or(0)
+// A miss counted in parts of the row's size.
+fn part_of(miss: i128, size: u32) -> i128 {
+    miss.wrapping_mul(i128::from(MISSES)).wrapping_shr(size)
 }
 
 // By how much each row misses its side, counted so, and the most that one does.
@@ -192,7 +206,7 @@ fn miss_all(
     problem: &Problem,
     weights: &[i64],
     point: &[i32],
-    sizes: &[i128],
+    sizes: &[u32],
 ) -> i128 {
     let mut most = 0i128;
     for (r, named) in problem.rows().iter().enumerate() {
@@ -213,12 +227,14 @@ fn allowed(row: &Row, weight: i64) -> i64 {
     weight.max(low).min(high)
 }
 
-// How far a weight goes: the step times the part of the greatest miss that its row misses by, in
-// weights of the row, which are the lesser the greater its factors are.
-fn change(step: i64, miss: i128, most: i128, size: i128) -> i64 {
-    let part = miss.saturating_mul(i128::from(step)).checked_div(most);
-    let by = part.unwrap_or(0).checked_div(size);
-    i64::try_from(by.unwrap_or(0)).unwrap_or(0)
+// How far the weight of a row goes that misses its side by so much, in weights of the row, which are
+// the lesser the greater its factors are.
+fn change(miss: i128, size: u32, ratio: i128) -> i64 {
+    let by = miss
+        .wrapping_mul(ratio)
+        .wrapping_shr(RATIO)
+        .wrapping_shr(size);
+    i64::try_from(by).unwrap_or(0)
 }
 
 // One step of a weight.
@@ -227,11 +243,11 @@ fn stepped(row: &Row, weight: i64, by: i64) -> i64 {
 }
 
 // One step of all weights.
-fn step_all(weights: &mut [i64], problem: &Problem, misses: &[i128], sizes: &[i128], step: Step) {
+fn step_all(weights: &mut [i64], problem: &Problem, misses: &[i128], sizes: &[u32], ratio: i128) {
     for (r, named) in problem.rows().iter().enumerate() {
-        if r < weights.len() {
-            let miss = misses.get(r).copied().unwrap_or(0);
-            let by = change(step.size, miss, step.most, size_in(sizes, r));
+        let miss = misses.get(r).copied().unwrap_or(0);
+        if miss != 0 && r < weights.len() {
+            let by = change(miss, size_in(sizes, r), ratio);
             weights[r] = stepped(&named.row, weights[r], by);
         }
     }
@@ -289,28 +305,35 @@ impl Guess {
         sum
     }
 
-    fn step(&mut self, problem: &Problem, step: Step) {
+    // A step: so far goes the weight of the row that misses most.
+    fn step(&mut self, problem: &Problem, size: i64, most: i128) {
         let misses = self.misses.as_slice();
         let sizes = self.sizes.as_slice();
-        step_all(self.weights.as_mut_slice(), problem, misses, sizes, step);
+        let whole = i128::from(size).wrapping_shl(RATIO);
+        let ratio = whole.checked_div(most).unwrap_or(0);
+        step_all(self.weights.as_mut_slice(), problem, misses, sizes, ratio);
     }
 
-    // So many steps, which are halved some times on the way.
+    // So many steps at most, which are halved some times on the way. It ends where no row is missed, or
+    // where many steps in a row bring nothing.
     fn search(&mut self, problem: &Problem, area: &[Interval], d: u32, steps: u32) {
         size_all(self.sizes.as_mut_slice(), problem);
         let mut best = i128::MIN;
         let mut step = first_step(problem, d);
+        let mut idle = 0u32;
         let turns = steps / HALVES;
         for k in 0..steps {
             let look = self.look(problem, area, d);
+            idle = if look.sum > best {
+                0
+            } else {
+                idle.saturating_add(1)
+            };
             best = self.keep(best, look.sum);
-            self.step(
-                problem,
-                Step {
-                    size: step,
-                    most: look.most,
-                },
-            );
+            if look.most == 0 || idle >= PATIENCE {
+                return;
+            }
+            self.step(problem, step, look.most);
             if k % (turns + 1) == turns {
                 step /= 2;
             }
@@ -322,13 +345,6 @@ impl Guess {
 #[derive(Clone, Copy)]
 struct Look {
     sum: i128,
-    most: i128,
-}
-
-// A step: how far the weight of the row that misses most goes, and how much that one misses.
-#[derive(Clone, Copy)]
-struct Step {
-    size: i64,
     most: i128,
 }
 
@@ -401,7 +417,8 @@ fn listed(alloc: Global, problem: &Problem, weights: &[i64]) -> Result<Vec<Multi
 
 /// Guesses multipliers over a box: so many steps from these, each of which weighs the rows more
 /// that the point of the least weighted sum misses, and those less that it keeps to with some left.
-/// The steps become smaller. A step costs the pairs of the problem.
+/// The steps become smaller, and fewer are made where they bring nothing. A step costs the pairs of
+/// the problem.
 pub fn improved(
     alloc: Global,
     problem: &Problem,

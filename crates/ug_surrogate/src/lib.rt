@@ -2,11 +2,12 @@
 //! ug_rows and ug_problem. `bound` is at most each feasible value of a box, whatever the weights:
 //! `guessed` ones need no proof. `implied` is the row that each feasible point with a value below a
 //! cutoff keeps to. `rounded` moves the sides of a row inwards to the sums that it can have over a
-//! box. No solver asks any of them yet.
+//! box. `stronger` is the problem with such rows behind its own, which a search may keep to instead.
 #![tactic(auto)]
 
 mod columns;
 mod exact;
+mod further;
 mod guessing;
 mod implying;
 mod laws;
@@ -15,6 +16,7 @@ mod magnitude;
 mod multipliers;
 mod rounding;
 
+pub use further::stronger;
 pub use guessing::{guessed, improved};
 pub use implying::{ImpliedError, implied};
 pub use laws::{bounds_are_below, implied_rows_keep_good_points};

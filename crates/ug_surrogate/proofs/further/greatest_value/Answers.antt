@@ -1,0 +1,30 @@
+use Rattle.std.proofs.Common.{ℤ, ◌+ℤ◌, ◌≤ℤ◌, FitsSigned, List, ap, subst, sym, ◌∙◌, rules}
+use Rattle.std.proofs.lemmas.Int.{to_z-of_z}
+use mir.Syntax.{w128}
+use Rattle.ug_rows.specs.declared.area.Interval.{Interval}
+use Rattle.ug_rows.specs.declared.row.Objective.{Objective}
+use Rattle.ug_rows.specs.declared.row.Term.{Term}
+use Rattle.ug_rows.specs.Boxes.{IsInside}
+use Rattle.ug_rows.specs.Rows.{sum_at}
+use Rattle.ug_surrogate.specs.Stronger.{IsAtMost}
+use Rattle.ug_surrogate.proofs.Follows.{at_most}
+use Rattle.ug_surrogate.proofs.further.greatest_value.Goals as goal
+
+pub returns-clause-most : goal.returns-clause-most
+returns-clause-most c =
+    let p = c.args.problem.now in
+    let area = c.args.area.now in
+    let g : ℤ = c.sum_of_ends-greatest.result in
+    let k : ℤ = c.objective-objective.result.now.constant in
+    let same = c.objective-objective.ensures.value in
+    let fits : FitsSigned w128 g = search rules in
+    let fits_k : FitsSigned w128 k = search rules in
+    let fits_sum : FitsSigned w128 (g +ℤ k) = search rules in
+    let most : (x : List ℤ) → IsInside area x → sum_at p.objective.terms x ≤ℤ g =
+    subst (λ (ts : List Term). (x : List ℤ) → IsInside area x → sum_at ts x ≤ℤ g)
+    (c.as_slice.ensures ∙ ap (λ (o : Objective). o.terms) same)
+    (subst (λ (a : List Interval). (x : List ℤ) → IsInside a x → sum_at c.as_slice.result.now x ≤ℤ g)
+    c.as_slice-2.ensures c.sum_of_ends-greatest.ensures.bound) in
+    rw (to_z-of_z w128 g fits, to_z-of_z w128 k fits_k, to_z-of_z w128 (g +ℤ k) fits_sum)
+    (subst (λ (z : ℤ). IsAtMost p area (g +ℤ z)) (sym (ap (λ (o : Objective). o.constant) same))
+    (at_most p area g most))
