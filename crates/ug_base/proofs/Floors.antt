@@ -5,6 +5,7 @@ use Rattle.std.proofs.lemmas.Bool.{cases_eq, true≢false}
 use Rattle.std.proofs.lemmas.List.{get_or-map, length-map}
 use Rattle.std.proofs.lemmas.List.Elements.{All-contains}
 use Rattle.ug_rows.specs.declared.area.Interval.{Interval}
+use Rattle.ug_rows.specs.declared.row.Objective.{Objective}
 use Rattle.ug_rows.specs.Boxes.{IsBelow, IsInOne, IsInside}
 use Rattle.ug_rows.specs.Sums.{box_floor}
 use Rattle.ug_rows.proofs.AreaLemmas.{below_trans}
@@ -79,11 +80,11 @@ lowest_none parts n None e l = ((λ _. no_parts parts (sym e ∙ l)), (λ _. ref
 lowest_none parts n (Some low) e l = ((λ h. absurd (true≢false h)), (λ h. absurd (omega (arith, l.there, e, ap length h))))
 
 -- the least of the floors is the least floor of the boxes
-pub lowest_of : (p : Instance) (whole : List Interval) (work : WorkState) (parts : List Part) (lowest : Option ℤ)
+lowest_by : (p : Instance) (whole : List Interval) (work : WorkState) (parts : List Part) (lowest : Option ℤ)
     → IsChain p whole work parts → IfSome lowest (IsLeastOf (floors_of parts) (length parts))
     → IfSome lowest (IsLeastFloor p (areas_of work parts))
-lowest_of p whole work parts None chain l = tt
-lowest_of p whole work parts (Some low) chain l =
+lowest_by p whole work parts None chain l = tt
+lowest_by p whole work parts (Some low) chain l =
     let area_at : (k : ℕ) (d : List Interval) → k < length parts
     → slice_index_or (areas_of work parts) k d ≡ area_of work (slice_index_or parts k no_part) =
     λ k d there. get_or-map (area_of work) parts k no_part d there in
@@ -100,6 +101,23 @@ lowest_of p whole work parts (Some low) chain l =
           subst (λ (a : List Interval). low ≤ℤ box_floor p.objective a) (sym (area_at c.0 other there) ∙ c.2)
           (subst (λ (v : ℤ). low ≤ℤ v) (floor_is c.0 there) (l.least c.0 there));
     }
+
+floor_with : (p s : Instance) (boxes : List (List Interval)) (lowest : Option ℤ) → s.objective ≡ p.objective
+    → IfSome lowest (IsLeastFloor s boxes) → IfSome lowest (IsLeastFloor p boxes)
+floor_with p s boxes None same l = tt
+floor_with p s boxes (Some low) same l = record {
+  area = l.area;
+  among = l.among;
+  reached = subst (λ (o : Objective). box_floor o l.area ≡ low) same l.reached;
+  least = λ other c. subst (λ (o : Objective). low ≤ℤ box_floor o other) same (l.least other c);
+}
+
+-- so of a search over s, whose objective is that of p
+pub lowest_of : (p s : Instance) (whole : List Interval) (work : WorkState) (parts : List Part) (lowest : Option ℤ)
+    → s.objective ≡ p.objective → IsChain s whole work parts → IfSome lowest (IsLeastOf (floors_of parts) (length parts))
+    → IfSome lowest (IsLeastFloor p (areas_of work parts))
+lowest_of p s whole work parts lowest same chain l =
+    floor_with p s (areas_of work parts) lowest same (lowest_by s whole work parts lowest chain l)
 
 -- a point in one of the boxes is in a box among them
 box_with : (boxes : List (List Interval)) (x : List ℤ) → IsInOne boxes x → (area : List Interval) × Contains boxes area × IsInside area x

@@ -7,3 +7,5 @@ pub mod StepLemmas
 pub mod HandLemmas
 pub mod TaskLemmas
 pub mod Splits
+pub mod Through
+pub mod Over

@@ -101,8 +101,11 @@ left_one p cutoff area inner x r t o = record {
   left = sym t.value;
   fixed = o.fixed;
   point = o.point;
-  good = t.fixed (below_trans _ _ _ t.below r.below) o.fixed x o.point;
-  alone = λ y h g. same_point inner x y o.fixed o.point (t.kept y h g);
+  keeps = t.kept;
+  only = record {
+    good = t.fixed (below_trans _ _ _ t.below r.below) o.fixed x o.point;
+    alone = λ y h g. same_point inner x y o.fixed o.point (t.kept y h g);
+  };
 }
 
 -- the middle of an open interval is from its low to below its high
@@ -163,9 +166,11 @@ left_halves p cutoff params area inner halves t h =
       branch = h.branch;
       chosen = h.chosen;
       ordered = h.ordered;
-      below_first = subst (λ a. IsBelow a area) (sym h.ordered.first) (ordered_first half inner h.branch (λ a. IsBelow a area) lower upper);
-      below_second = subst (λ a. IsBelow a area) (sym h.ordered.second) (ordered_other half inner h.branch (λ a. IsBelow a area) lower upper);
-      kept = λ y i g. rw (h.ordered.first, h.ordered.second) (ordered_kept half inner h.branch y ((h.parts.halves y).0 (t.kept y i g)));
+      good = record {
+        below_first = subst (λ a. IsBelow a area) (sym h.ordered.first) (ordered_first half inner h.branch (λ a. IsBelow a area) lower upper);
+        below_second = subst (λ a. IsBelow a area) (sym h.ordered.second) (ordered_other half inner h.branch (λ a. IsBelow a area) lower upper);
+        kept = λ y i g. rw (h.ordered.first, h.ordered.second) (ordered_kept half inner h.branch y ((h.parts.halves y).0 (t.kept y i g)));
+      };
       less = subst (λ a. weight_of a + weight_of halves.first < weight_of area) (sym h.ordered.second)
           (subst (λ b. weight_of (other_half half inner h.branch) + weight_of b < weight_of area) (sym h.ordered.first)
           (ordered_less half inner h.branch (weight_of area) (halves_less params inner area h.branch h.some h.chosen t.below)));
@@ -185,6 +190,7 @@ branch_halves p cutoff params area work branch t working h = record {
   });
   branched = h;
   left = sym t.value;
+  keeps = t.kept;
   below = t.below;
   working = working;
 }

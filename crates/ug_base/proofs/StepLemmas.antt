@@ -16,18 +16,19 @@ use Rattle.ug_base.specs.declared.part.Part.{Part}
 use Rattle.ug_base.specs.Chains.{HasSplit, area_of, areas_of}
 use Rattle.ug_base.specs.Halvings.{first_half, other_half}
 use Rattle.ug_base.proofs.Chains.{areas_behind, areas_front}
-use Rattle.ug_problem.specs.Better.{IsGap, IsGood, cutoff_of}
+use Rattle.ug_problem.specs.Better.{HasNoGood, IsGap, IsGood, cutoff_of}
 use Rattle.ug_rows.proofs.AreaLemmas.{below_trans}
-use Rattle.ug_base.specs.Steps.{IsFound, IsPruned, IsSplit}
+use Rattle.ug_base.specs.Steps.{IsFound, IsPruned, IsSplit, Leaves, LeavesNone}
+use Rattle.ug_base.proofs.Through.{IsPointLeft}
 use Rattle.ug_base.specs.Points.{measure_of, weight_of}
 use Rattle.ug_base.specs.Tasks.{AreBelow, IsTask, TaskState}
-use Rattle.ug_base.specs.Looks.{CanLook, Halves, IsSeenBranched, IsSeenHalved, halves_at, IsSeenHopeless, IsSeenSolved}
+use Rattle.ug_base.specs.Looks.{AreGoodHalves, CanLook, Halves, IsBranched, IsOnlyGood, IsSeenBranched, halves_at}
 use Rattle.ug_base.specs.Fronts.{front_of}
 use Rattle.ug_base.proofs.LastBox.{all_last, in_one_behind, in_one_front, in_one_split}
 use Rattle.ug_base.proofs.Measures.{measure_push, measure_push_two}
 
 -- the last box is below the whole box
-last_below : (t : TaskState) (last : List Interval) → IsTask t → t.boxes ≡ front_of t.boxes ++ last ∷ [] → IsBelow last t.whole
+pub last_below : (t : TaskState) (last : List Interval) → IsTask t → t.boxes ≡ front_of t.boxes ++ last ∷ [] → IsBelow last t.whole
 last_below t last task e = all_last (λ (area : List Interval). IsBelow area t.whole) (front_of t.boxes) last
     (subst (AreBelow t.whole) e task.below)
 
@@ -53,15 +54,15 @@ front_below t task = All-take (λ (area : List Interval). IsBelow area t.whole) 
 
 -- without a last box that had no good point
 pub pruned_task : (t : TaskState) (last : List Interval) → IsTask t → t.boxes ≡ front_of t.boxes ++ last ∷ []
-    → IsSeenHopeless t.problem t.cutoff last → IsTask (record t { boxes = front_of t.boxes })
-pruned_task t last task e seen = record {
+    → HasNoGood t.problem t.cutoff last → IsTask (record t { boxes = front_of t.boxes })
+pruned_task t last task e none = record {
   problem = task.problem;
   whole = task.whole;
   cutoff = task.cutoff;
   gap = task.gap;
   below = front_below t task;
   handed_below = task.handed_below;
-  covered = λ x inside good. still_covered t last (front_of t.boxes) x task e inside good (λ a. a) (λ b. absurd (seen.none x b good));
+  covered = λ x inside good. still_covered t last (front_of t.boxes) x task e inside good (λ a. a) (λ b. absurd (none x b good));
 }
 
 less_value : (v w gap : ℤ) → pos 0 ≤ℤ gap → (w +ℤ gap) <ℤ v → w <ℤ v
@@ -72,13 +73,13 @@ less_still None v w h k = tt
 less_still (Some c) v w h k = omega (arith, ints, h, k)
 
 -- a point below the cutoff of a point has a lesser value
-less_than : (p : Instance) (gap : ℤ) (x y : List ℤ) → IsProblem p → IsGap gap → IsGood p (Some (cutoff_of p gap x)) y
+pub less_than : (p : Instance) (gap : ℤ) (x y : List ℤ) → IsProblem p → IsGap gap → IsGood p (Some (cutoff_of p gap x)) y
     → value_of p.objective y <ℤ value_of p.objective x
 less_than p gap x y problem g good =
     less_value (value_of p.objective x) (value_of p.objective y) gap g.low (good_is_less p gap (Some x) y problem good)
 
 -- and is good where that one is
-good_still : (p : Instance) (cutoff : Option ℤ) (x y : List ℤ) → IsGood p cutoff x → Feasible p y
+pub good_still : (p : Instance) (cutoff : Option ℤ) (x y : List ℤ) → IsGood p cutoff x → Feasible p y
     → value_of p.objective y <ℤ value_of p.objective x → IsGood p cutoff y
 good_still p cutoff x y good feasible less = record {
   feasible = feasible;
@@ -90,7 +91,7 @@ not_below_itself p x y e h = let same = ap (value_of p.objective) e in omega (ar
 
 -- without a last box of which one point was good, below whose cutoff there is none in it
 pub found_task : (t : TaskState) (last : List Interval) (x : List ℤ) → IsTask t → t.boxes ≡ front_of t.boxes ++ last ∷ []
-    → IsSeenSolved t.problem t.cutoff last x
+    → IsOnlyGood t.problem t.cutoff last x
     → IsTask (record t { boxes = front_of t.boxes; cutoff = Some (cutoff_of t.problem t.gap x) })
 found_task t last x task e seen = record {
   problem = task.problem;
@@ -108,7 +109,7 @@ found_task t last x task e seen = record {
 
 -- with two halves in the last box's place
 pub split_task : (t : TaskState) (last : List Interval) (halves : Halves) → IsTask t → t.boxes ≡ front_of t.boxes ++ last ∷ []
-    → IsSeenHalved t.problem t.cutoff t.params last halves
+    → AreGoodHalves t.problem t.cutoff last halves
     → IsTask (record t { boxes = front_of t.boxes ++ halves.second ∷ halves.first ∷ [] })
 split_task t last halves task e seen =
     let P : List Interval → Type 0 = λ (area : List Interval). IsBelow area t.whole in
@@ -147,7 +148,7 @@ front_of_fields t before after old new same kept e =
 -- the same of the fields of a task, after a look at the last box
 pub after_hopeless : (t : TaskState) (before after : WorkState) (old new : List Part) (last : Part) → t.boxes ≡ areas_of before old
     → IsTask t → old ≡ front_of old ++ last ∷ [] → areas_of after old ≡ areas_of before old
-    → IsSeenHopeless t.problem t.cutoff (area_of before last) → new ≡ front_of old
+    → HasNoGood t.problem t.cutoff (area_of before last) → new ≡ front_of old
     → IsTask (record t { boxes = areas_of after new })
 after_hopeless t before after old new last same task e kept s dropped =
     subst (λ bs. IsTask (record t { boxes = bs })) (sym (front_of_fields t before after old new same kept dropped))
@@ -155,7 +156,7 @@ after_hopeless t before after old new last same task e kept s dropped =
 
 pub after_solved : (t : TaskState) (before after : WorkState) (old new : List Part) (last : Part) (x : List ℤ) (cutoff : Option ℤ)
     → t.boxes ≡ areas_of before old → IsTask t → old ≡ front_of old ++ last ∷ [] → areas_of after old ≡ areas_of before old
-    → IsSeenSolved t.problem t.cutoff (area_of before last) x → new ≡ front_of old → cutoff ≡ Some (cutoff_of t.problem t.gap x)
+    → IsOnlyGood t.problem t.cutoff (area_of before last) x → new ≡ front_of old → cutoff ≡ Some (cutoff_of t.problem t.gap x)
     → IsTask (record t { boxes = areas_of after new; cutoff = cutoff })
 after_solved t before after old new last x cutoff same task e kept s dropped value =
     subst (λ bs. IsTask (record t { boxes = bs; cutoff = cutoff })) (sym (front_of_fields t before after old new same kept dropped))
@@ -163,43 +164,43 @@ after_solved t before after old new last x cutoff same task e kept s dropped val
     (found_task t (area_of before last) x task (last_of_fields t before old last same e) s))
 
 -- the boxes after the last was halved
-split_boxes : (t : TaskState) (before after : WorkState) (old new : List Part) (branch : Branch) → t.boxes ≡ areas_of before old
-    → areas_of after old ≡ areas_of before old → (h : HasSplit t.problem t.whole after t.params.half branch old new)
+split_boxes : (t : TaskState) (s : Instance) (before after : WorkState) (old new : List Part) (branch : Branch) → t.boxes ≡ areas_of before old
+    → areas_of after old ≡ areas_of before old → (h : HasSplit s t.whole after t.params.half branch old new)
     → areas_of after new ≡ front_of t.boxes ++ other_half t.params.half after.sums.area branch ∷ first_half t.params.half after.sums.area branch ∷ []
-split_boxes t before after old new branch same kept h =
+split_boxes t s before after old new branch same kept h =
     areas_behind after new old (h.second ∷ h.first ∷ []) h.put
     ∙ ap (λ bs. front_of bs ++ area_of after h.second ∷ area_of after h.first ∷ []) (kept ∙ sym same)
     ∙ ap (λ (a : List Interval). front_of t.boxes ++ a ∷ area_of after h.first ∷ []) h.area_second
     ∙ ap (λ (a : List Interval). front_of t.boxes ++ other_half t.params.half after.sums.area branch ∷ a ∷ []) h.area_first
 
-pub after_halved : (t : TaskState) (before after : WorkState) (old new : List Part) (last : Part) (branch : Branch)
+pub after_halved : (t : TaskState) (s : Instance) (before after : WorkState) (old new : List Part) (last : Part) (branch : Branch)
     → t.boxes ≡ areas_of before old → IsTask t → old ≡ front_of old ++ last ∷ [] → areas_of after old ≡ areas_of before old
-    → IsSeenBranched t.problem t.cutoff t.params (area_of before last) after branch
-    → HasSplit t.problem t.whole after t.params.half branch old new
+    → AreGoodHalves t.problem t.cutoff (area_of before last) (halves_at t.params.half after.sums.area branch)
+    → HasSplit s t.whole after t.params.half branch old new
     → IsTask (record t { boxes = areas_of after new })
-after_halved t before after old new last branch same task e kept s h =
-    subst (λ bs. IsTask (record t { boxes = bs })) (sym (split_boxes t before after old new branch same kept h))
+after_halved t s before after old new last branch same task e kept good h =
+    subst (λ bs. IsTask (record t { boxes = bs })) (sym (split_boxes t s before after old new branch same kept h))
     (split_task t (area_of before last) (halves_at t.params.half after.sums.area branch) task
-    (last_of_fields t before old last same e) s.halved)
+    (last_of_fields t before old last same e) good)
 
 -- what a step that pruned the last box did
 pub pruned_step : (t : TaskState) (before after : WorkState) (old new : List Part) (last : Part) → t.boxes ≡ areas_of before old
     → old ≡ front_of old ++ last ∷ [] → areas_of after old ≡ areas_of before old
-    → IsSeenHopeless t.problem t.cutoff (area_of before last) → new ≡ front_of old
+    → LeavesNone t.params.base t.problem t.cutoff (area_of before last) → new ≡ front_of old
     → IsPruned t (record t { boxes = areas_of after new })
-pruned_step t before after old new last same e kept s dropped =
+pruned_step t before after old new last same e kept none dropped =
     let front : areas_of after new ≡ front_of t.boxes = front_of_fields t before after old new same kept dropped in
     record {
       last = area_of before last;
       boxes = last_of_fields t before old last same e ∙ ap (λ bs. bs ++ area_of before last ∷ []) (sym front);
       same = refl;
-      hopeless = s.hopeless;
+      hopeless = none;
     }
 
 -- what a step that found a point did
 pub found_step : (t : TaskState) (before after : WorkState) (old new : List Part) (last : Part) (x : List ℤ) (cutoff : Option ℤ)
     → t.boxes ≡ areas_of before old → old ≡ front_of old ++ last ∷ [] → areas_of after old ≡ areas_of before old
-    → IsSeenSolved t.problem t.cutoff (area_of before last) x → new ≡ front_of old → cutoff ≡ Some (cutoff_of t.problem t.gap x)
+    → IsPointLeft t.params.base t.problem t.cutoff (area_of before last) x → new ≡ front_of old → cutoff ≡ Some (cutoff_of t.problem t.gap x)
     → IsFound t (record t { boxes = areas_of after new; cutoff = cutoff }) x
 found_step t before after old new last x cutoff same e kept solved dropped value =
     let front : areas_of after new ≡ front_of t.boxes = front_of_fields t before after old new same kept dropped in
@@ -215,21 +216,21 @@ found_step t before after old new last x cutoff same e kept solved dropped value
     }
 
 -- what a step that halved the last box did
-pub split_step : (t : TaskState) (before after : WorkState) (old new : List Part) (last : Part) (branch : Branch)
+pub split_step : (t : TaskState) (s : Instance) (before after : WorkState) (old new : List Part) (last : Part) (branch : Branch)
     → t.boxes ≡ areas_of before old → old ≡ front_of old ++ last ∷ [] → areas_of after old ≡ areas_of before old
-    → IsSeenBranched t.problem t.cutoff t.params (area_of before last) after branch
-    → HasSplit t.problem t.whole after t.params.half branch old new
+    → Leaves t.params.base t.problem t.cutoff (area_of before last) after.sums.area → IsBranched t.params after.sums.area branch
+    → HasSplit s t.whole after t.params.half branch old new
     → IsSplit t (record t { boxes = areas_of after new })
-split_step t before after old new last branch same e kept s h = record {
+split_step t s before after old new last branch same e kept left branched h = record {
   before = front_of t.boxes;
   last = area_of before last;
   boxes = last_of_fields t before old last same e;
   inner = after.sums.area;
-  left = s.left;
-  some = s.branched.some;
+  left = left;
+  some = branched.some;
   branch = branch;
-  chosen = s.branched.chosen;
-  same = ap (λ bs. record t { boxes = bs }) (split_boxes t before after old new branch same kept h);
+  chosen = branched.chosen;
+  same = ap (λ bs. record t { boxes = bs }) (split_boxes t s before after old new branch same kept h);
 }
 
 dropped_less : (boxes : List (List Interval)) (last : List Interval) → boxes ≡ front_of boxes ++ last ∷ []
@@ -251,15 +252,15 @@ left_dropped_less t before after old new last same e kept dropped =
     (dropped_less t.boxes (area_of before last) (last_of_fields t before old last same e))
 
 -- and one halved
-pub left_halved_less : (t : TaskState) (before after : WorkState) (old new : List Part) (last : Part) (branch : Branch)
+pub left_halved_less : (t : TaskState) (s : Instance) (before after : WorkState) (old new : List Part) (last : Part) (branch : Branch)
     → t.boxes ≡ areas_of before old → old ≡ front_of old ++ last ∷ [] → areas_of after old ≡ areas_of before old
-    → IsSeenBranched t.problem t.cutoff t.params (area_of before last) after branch
-    → HasSplit t.problem t.whole after t.params.half branch old new
+    → IsSeenBranched s t.cutoff t.params (area_of before last) after branch
+    → HasSplit s t.whole after t.params.half branch old new
     → measure_of (areas_of after new) < measure_of t.boxes
-left_halved_less t before after old new last branch same e kept s h =
-    subst (λ bs. measure_of bs < measure_of t.boxes) (sym (split_boxes t before after old new branch same kept h))
+left_halved_less t s before after old new last branch same e kept seen h =
+    subst (λ bs. measure_of bs < measure_of t.boxes) (sym (split_boxes t s before after old new branch same kept h))
     (halved_less t.boxes (area_of before last) (first_half t.params.half after.sums.area branch)
-    (other_half t.params.half after.sums.area branch) (last_of_fields t before old last same e) s.halved.less)
+    (other_half t.params.half after.sums.area branch) (last_of_fields t before old last same e) seen.halved.less)
 
 -- where there is a last box, there are boxes
 pub some_left : (t : TaskState) (work : WorkState) (old : List Part) (last : Part) → t.boxes ≡ areas_of work old
@@ -269,8 +270,8 @@ some_left t work old last same e none =
     absurd (omega (arith, n, length-append (front_of t.boxes) (area_of work last ∷ [])))
 
 -- what is left of the last box is below the whole one
-pub left_below : (t : TaskState) (before after : WorkState) (old : List Part) (last : Part) (branch : Branch)
+pub left_below : (t : TaskState) (s : Instance) (before after : WorkState) (old : List Part) (last : Part) (branch : Branch)
     → t.boxes ≡ areas_of before old → IsTask t → old ≡ front_of old ++ last ∷ []
-    → IsSeenBranched t.problem t.cutoff t.params (area_of before last) after branch → IsBelow after.sums.area t.whole
-left_below t before after old last branch same task e s =
-    below_trans _ _ _ s.below (last_below t (area_of before last) task (last_of_fields t before old last same e))
+    → IsSeenBranched s t.cutoff t.params (area_of before last) after branch → IsBelow after.sums.area t.whole
+left_below t s before after old last branch same task e seen =
+    below_trans _ _ _ seen.below (last_below t (area_of before last) task (last_of_fields t before old last same e))

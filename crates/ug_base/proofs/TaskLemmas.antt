@@ -8,7 +8,10 @@ use Rattle.ug_rows.specs.Rows.{value_of}
 use Rattle.ug_rows.proofs.AreaLemmas.{below_itself}
 use Rattle.ug_problem.specs.Instances.{Instance, root_of}
 use Rattle.ug_problem.specs.Limits.{IsProblem}
-use Rattle.ug_problem.specs.Better.{IsGap, IsSmallCutoff}
+use Rattle.ug_problem.specs.Better.{IsGap, IsGood, IsSmallCutoff, cutoff_of}
+use Rattle.ug_base.specs.Formulations.{Searches}
+use Rattle.ug_base.proofs.StepLemmas.{good_still, less_than}
+use Rattle.ug_base.proofs.Through.{searches_lower}
 use Rattle.ug_rows.specs.Sums.{box_floor}
 use Rattle.ug_propagate.specs.declared.resting.Rest.TheVariants.{Unknown}
 use Rattle.ug_propagate.specs.declared.working.Trailed.{Trailed}
@@ -98,3 +101,20 @@ pub same_task : (t : TaskState) (before after : WorkState) (parts : List Part) �
     → areas_of after parts ≡ areas_of before parts → IsTask t → IsTask (record t { boxes = areas_of after parts })
 same_task t before after parts same e task =
     subst (λ (bs : List (List Interval)). IsTask (record t { boxes = bs })) (same ∙ sym e) task
+
+-- what is searched stays so below the cutoff of a point that is found
+pub searches_found : (t : TaskState) (s : Instance) (x : List ℤ) (cutoff : Option ℤ) → IsTask t → IsGood t.problem t.cutoff x
+    → cutoff ≡ Some (cutoff_of t.problem t.gap x) → Searches t.params.base t.problem t.whole t.cutoff s
+    → Searches t.params.base t.problem t.whole cutoff s
+searches_found t s x cutoff task good e h =
+    subst (λ (c : Option ℤ). Searches t.params.base t.problem t.whole c s) (sym e)
+    (searches_lower t.params.base t.problem t.whole t.cutoff (Some (cutoff_of t.problem t.gap x)) s
+    (λ y good'. good_still t.problem t.cutoff x y good good'.feasible (less_than t.problem t.gap x y task.problem task.gap good')) h)
+
+-- and below the lesser of its cutoff and another
+pub searches_lowered : (t : TaskState) (s : Instance) (given : ℤ) (cutoff : Option ℤ) → cutoff ≡ Some (lesser_of t.cutoff given)
+    → Searches t.params.base t.problem t.whole t.cutoff s → Searches t.params.base t.problem t.whole cutoff s
+searches_lowered t s given cutoff e h =
+    subst (λ (c : Option ℤ). Searches t.params.base t.problem t.whole c s) (sym e)
+    (searches_lower t.params.base t.problem t.whole t.cutoff (Some (lesser_of t.cutoff given)) s
+    (λ y good. record { feasible = good.feasible; less = below_first t.cutoff given (value_of t.problem.objective y) good.less }) h)

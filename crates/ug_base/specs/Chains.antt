@@ -59,6 +59,10 @@ pub record IsBase (p : Instance) (whole : List Interval) (work : WorkState) : Ty
   pub trail : AreTrailed (length p.columns) work.trail
   pub reach : AreReached p whole work.reach
 
+-- the part, of which it is not known how its parent's rows rested
+abbrev pub unsettled : Part → Part
+unsettled part = record part { rest = Unknown }
+
 -- a part that stands for one that is not there
 abbrev pub no_part : Part
 no_part = record { depth = 0; cut = None; floor = pos 0; rest = Unknown }

@@ -9,3 +9,4 @@ pub mod Views
 pub mod Steps
 pub mod Hands
 pub mod Looks
+pub mod Formulations

@@ -74,6 +74,23 @@ pub record IsSeenHopeless (p : Instance) (cutoff : Option ℤ) (area : List Inte
   pub hopeless : IsHopeless (rounds p cutoff area)
   pub none : HasNoGood p cutoff area
 
+-- each good point of a box is in what is left of it
+abbrev pub KeepsGood : Instance → Option ℤ → List Interval → List Interval → Type 0
+KeepsGood p cutoff area inner = (y : List ℤ) → IsInside area y → IsGood p cutoff y → IsInside inner y
+
+-- x is good, and no other point of the box is
+pub record IsOnlyGood (p : Instance) (cutoff : Option ℤ) (area : List Interval) (x : List ℤ) : Type 0 where
+  pub good : IsGood p cutoff x
+  pub alone : (y : List ℤ) → IsInside area y → IsGood p cutoff y → y ≡ x
+
+-- the halves are below the box and have each good point of it
+pub record AreGoodHalves (p : Instance) (cutoff : Option ℤ) (area : List Interval) (halves : Halves)
+    : Type 0 where
+  pub below_first : IsBelow halves.first area
+  pub below_second : IsBelow halves.second area
+  pub kept : (y : List ℤ) → IsInside area y → IsGood p cutoff y
+      → IsInside halves.first y ⊎ IsInside halves.second y
+
 -- x is good, and no other point of the box is
 pub record IsSeenSolved (p : Instance) (cutoff : Option ℤ) (area : List Interval) (x : List ℤ) :
     Type 0 where
@@ -81,8 +98,8 @@ pub record IsSeenSolved (p : Instance) (cutoff : Option ℤ) (area : List Interv
   pub left : rounds p cutoff area ≡ Kept inner
   pub fixed : IsFixed inner
   pub point : IsInside inner x
-  pub good : IsGood p cutoff x
-  pub alone : (y : List ℤ) → IsInside area y → IsGood p cutoff y → y ≡ x
+  pub keeps : KeepsGood p cutoff area inner
+  pub only : IsOnlyGood p cutoff area x
 
 -- the halves are below the box, have each good point of it, and leave less to search
 pub record IsSeenHalved (p : Instance) (cutoff : Option ℤ) (params : Params) (area : List Interval)
@@ -93,10 +110,7 @@ pub record IsSeenHalved (p : Instance) (cutoff : Option ℤ) (params : Params) (
   pub branch : Branch
   pub chosen : IsChosen params inner branch
   pub ordered : AreOrdered params.half inner branch halves
-  pub below_first : IsBelow halves.first area
-  pub below_second : IsBelow halves.second area
-  pub kept : (y : List ℤ) → IsInside area y → IsGood p cutoff y
-      → IsInside halves.first y ⊎ IsInside halves.second y
+  pub good : AreGoodHalves p cutoff area halves
   pub less : weight_of halves.second + weight_of halves.first < weight_of area
 
 -- the working box is what is left of the box, and has two halves
@@ -105,6 +119,7 @@ pub record IsSeenBranched (p : Instance) (cutoff : Option ℤ) (params : Params)
   pub halved : IsSeenHalved p cutoff params area (halves_at params.half work.sums.area branch)
   pub branched : IsBranched params work.sums.area branch
   pub left : rounds p cutoff area ≡ Kept work.sums.area
+  pub keeps : KeepsGood p cutoff area work.sums.area
   pub below : IsBelow work.sums.area area
   pub working : IsWorking p cutoff work
 

@@ -1,9 +1,12 @@
 -- What a step does: it takes the last box left, and drops it, finds its one point good, or halves
 -- it.
-use Rattle.std.specs.Prelude.{◌≡◌, ℤ, ◌<◌, List, [], ◌∷◌, ◌++◌, Some}
+use Rattle.std.specs.Prelude.{◌≡◌, ℤ, ◌<◌, List, [], ◌∷◌, ◌++◌, Option, Some}
 use Rattle.ug_rows.specs.declared.area.Interval.{Interval}
 use Rattle.ug_rows.specs.Boxes.{IsInside, IsNonEmpty, IsCrossed, IsFixed}
 use Rattle.ug_branch.specs.declared.choice.Branch.{Branch}
+use Rattle.ug_branch.specs.declared.params.Base.{Base}
+use Rattle.ug_branch.specs.declared.params.Base.TheVariants.{Bound, Surrogate}
+use Rattle.ug_problem.specs.Instances.{Instance}
 use Rattle.ug_branch.specs.Choices.{IsChosen}
 use Rattle.ug_propagate.specs.declared.tight.Tight.{Tight}
 use Rattle.ug_propagate.specs.declared.tight.Tight.TheVariants.{Kept, Empty as NothingLeft}
@@ -20,12 +23,23 @@ abbrev pub IsHopeless : Tight → Type 0
 IsHopeless (NothingLeft _) = Unit {0}
 IsHopeless (Kept inner) = IsCrossed inner
 
+-- nothing is left of a box: nothing by bound propagation over the problem's rows, or no good point
+abbrev pub LeavesNone : Base → Instance → Option ℤ → List Interval → Type 0
+LeavesNone Bound p cutoff area = IsHopeless (rounds p cutoff area)
+LeavesNone Surrogate p cutoff area = HasNoGood p cutoff area
+
+-- this is left of a box: what bound propagation over the problem's rows leaves, or a box that has
+-- each good point of it
+abbrev pub Leaves : Base → Instance → Option ℤ → List Interval → List Interval → Type 0
+Leaves Bound p cutoff area inner = rounds p cutoff area ≡ Kept inner
+Leaves Surrogate p cutoff area inner = (x : List ℤ) → IsInside area x → IsGood p cutoff x → IsInside inner x
+
 -- the last box had no good point, and is dropped
 pub record IsPruned (old new : TaskState) : Type 0 where
   pub last : List Interval
   pub boxes : old.boxes ≡ new.boxes ++ last ∷ []
   pub same : new ≡ record old { boxes = new.boxes }
-  pub hopeless : IsHopeless (rounds old.problem old.cutoff last)
+  pub hopeless : LeavesNone old.params.base old.problem old.cutoff last
 
 -- of the last box the point x was left, which is good; the box is dropped, and the cutoff is now
 -- that of x under the gap
@@ -33,7 +47,7 @@ pub record IsFound (old new : TaskState) (x : List ℤ) : Type 0 where
   pub last : List Interval
   pub boxes : old.boxes ≡ new.boxes ++ last ∷ []
   pub inner : List Interval
-  pub left : rounds old.problem old.cutoff last ≡ Kept inner
+  pub left : Leaves old.params.base old.problem old.cutoff last inner
   pub fixed : IsFixed inner
   pub point : IsInside inner x
   pub good : IsGood old.problem old.cutoff x
@@ -46,7 +60,7 @@ pub record IsSplit (old new : TaskState) : Type 0 where
   pub last : List Interval
   pub boxes : old.boxes ≡ before ++ last ∷ []
   pub inner : List Interval
-  pub left : rounds old.problem old.cutoff last ≡ Kept inner
+  pub left : Leaves old.params.base old.problem old.cutoff last inner
   pub some : IsNonEmpty inner
   pub branch : Branch
   pub chosen : IsChosen old.params inner branch

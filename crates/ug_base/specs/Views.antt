@@ -1,12 +1,13 @@
 -- What contracts see of a task.
 use Rattle.ug_base.specs.declared.task.Task.TheInside.{Inside}
 use Rattle.ug_base.specs.Chains.{IsChain, areas_of}
+use Rattle.ug_base.specs.Formulations.{Searches}
 use Rattle.ug_base.specs.Tasks.{TaskState, IsTask}
 
 -- the state that the fields of a task say
 abbrev pub state_of : Inside → TaskState
 state_of t = record {
-  problem = t.problem;
+  problem = t.formulation.problem;
   ticket = t.ticket;
   params = t.params;
   whole = t.whole;
@@ -16,7 +17,8 @@ state_of t = record {
   handed = t.handed.items;
 }
 
--- the fields are those of a task, whose boxes are parts of its working box
+-- the fields are those of a task, whose boxes are parts of its working box over what is searched
 pub record AreOfTask (t : Inside) : Type 0 where
   pub task : IsTask (state_of t)
-  pub chain : IsChain t.problem t.whole t.work t.parts.items
+  pub chain : IsChain t.formulation.searched t.whole t.work t.parts.items
+  pub searched : Searches t.params.base t.formulation.problem t.whole t.cutoff t.formulation.searched

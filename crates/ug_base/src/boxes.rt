@@ -1,8 +1,10 @@
-ghost use Rattle.std.specs.Prelude.{◌≡◌, ◌<◌, ◌++◌, ◌∷◌, [], length, MatchOption, IfOk, OnOk, OnErr};
+ghost use Rattle.std.specs.Prelude.{◌≡◌, ◌<◌, ◌++◌, ◌∷◌, [], length, map, MatchOption, IfOk, OnOk, OnErr};
+ghost use Rattle.ug_base.specs.Chains.{unsettled};
 ghost use Rattle.ug_base.specs.Fronts.{front_of};
 
 use crate::part::Part;
 use std::alloc::AllocError;
+use ug_propagate::Rest;
 
 /// The last part.
 #[tactic(auto, using(crate::proofs::LastBox::last_split, crate::proofs::LastBox::none_last))]
@@ -32,4 +34,14 @@ pub fn replace_last(parts: &mut Vec<Part>, first: Part, second: Part) -> Result<
     parts.push(first)?;
     parts[at] = second;
     Ok(())
+}
+
+/// Of no part is it known any longer how the rows of its parent rested.
+#[tactic(auto, using(crate::proofs::Over::all_unsettled))]
+pub fn unsettle(parts: &mut Vec<Part>)
+    ensures { parts.new.items ≡ map unsettled parts.old.items }
+{
+    for k in 0..parts.len() {
+        parts[k].rest = Rest::Unknown;
+    }
 }

@@ -8,11 +8,12 @@ ghost use Rattle.ug_base.specs.Chains.{IsBase, IsChain, IsCut, IsPart, KeepsBase
 ghost use Rattle.ug_base.specs.Looks.{CanLook, IsInSight, IsSeen};
 ghost use Rattle.ug_base.specs.Fronts.{front_of};
 
+use crate::formulation::Formulation;
 use crate::lows::lows;
 use crate::part::{Narrowing, Part};
 use std::alloc::{AllocError, Global};
 use ug_branch::{Branch, Params, branch_of};
-use ug_problem::{Problem, Shared};
+use ug_problem::Problem;
 use ug_propagate::{Working, propagate};
 use ug_rows::{IntBox, Interval, Point, has_point};
 
@@ -27,9 +28,15 @@ pub enum Seen {
     Halved(Branch),
 }
 
-// Brings the working box to the one at which a part was split off, with the rows awake that may not
-// be at rest.
-fn begin(work: &mut Working, problem: &Problem, whole: &IntBox, part: Part, cutoff: Option<i128>)
+/// Brings the working box to the one at which a part was split off, with the rows awake that may not
+/// be at rest.
+pub fn begin(
+    work: &mut Working,
+    problem: &Problem,
+    whole: &IntBox,
+    part: Part,
+    cutoff: Option<i128>,
+)
     requires whole { IsBelow whole.now (root_of problem.now) }
     requires base { IsBase problem.now whole.now work.old }
     requires part { IsPart problem.now whole.now work.old part }
@@ -166,21 +173,30 @@ pub fn look(
 pub fn look_last(
     alloc: Global,
     work: &mut Working,
-    problem: &Shared,
+    formulation: &Formulation,
     whole: &IntBox,
     params: Params,
     cutoff: Option<i128>,
     parts: &Vec<Part>,
     last: Part,
 ) -> Result<Seen, AllocError>
-    requires whole { IsBelow whole.now (root_of problem.now) }
-    requires can { CanLook problem.now cutoff (area_of work.old last) }
-    requires chain { IsChain problem.now whole.now work.old parts.now.items }
+    requires whole { IsBelow whole.now (root_of formulation.now.searched) }
+    requires below { IsBelow (area_of work.old last) (root_of formulation.now.searched) }
+    requires small { IsSmallCutoff cutoff }
+    requires chain { IsChain formulation.now.searched whole.now work.old parts.now.items }
     requires last { parts.now.items ≡ front_of parts.now.items ++ last ∷ [] }
-    ensures chain { IsChain problem.now whole.now work.new parts.now.items }
+    ensures chain { IsChain formulation.now.searched whole.now work.new parts.now.items }
     ensures areas { areas_of work.new parts.now.items ≡ areas_of work.old parts.now.items }
-    ensures seen { IfOk result (IsSeen problem.now cutoff params (area_of work.old last) work.new) }
+    ensures seen { IfOk result (IsSeen formulation.now.searched cutoff params (area_of work.old last) work.new) }
 {
-    let seen = look(alloc, work, problem.problem(), whole, params, cutoff, last)?;
+    let seen = look(
+        alloc,
+        work,
+        formulation.searched(),
+        whole,
+        params,
+        cutoff,
+        last,
+    )?;
     Ok(seen)
 }

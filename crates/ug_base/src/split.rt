@@ -5,10 +5,11 @@ ghost use Rattle.ug_base.specs.Chains.{HasSplit, IsBase, IsChain, IsPart, area_o
 ghost use Rattle.ug_base.specs.Looks.{IsBranched};
 
 use crate::boxes::replace_last;
+use crate::formulation::Formulation;
 use crate::part::{Narrowing, Part};
 use std::alloc::AllocError;
 use ug_branch::{Branch, Half, Params};
-use ug_problem::{Problem, Shared};
+use ug_problem::Problem;
 use ug_propagate::{Rest, Working, rest_after};
 use ug_rows::{IntBox, Interval};
 
@@ -129,7 +130,7 @@ fn part_with(
 /// last. After an error the parts are as they were.
 pub fn split_last(
     work: &Working,
-    problem: &Shared,
+    formulation: &Formulation,
     whole: &IntBox,
     params: Params,
     cutoff: Option<i128>,
@@ -137,16 +138,16 @@ pub fn split_last(
     parts: &mut Vec<Part>,
 ) -> Result<(), AllocError>
     requires some { 0 < length parts.old.items }
-    requires chain { IsChain problem.now whole.now work.now parts.old.items }
+    requires chain { IsChain formulation.now.searched whole.now work.now parts.old.items }
     requires below { IsBelow work.now.sums.area whole.now }
-    requires working { IsWorking problem.now cutoff work.now }
+    requires working { IsWorking formulation.now.searched cutoff work.now }
     requires branched { IsBranched params work.now.sums.area branch }
     ensures ok { OnOk result
-        (HasSplit problem.now whole.now work.now params.half branch parts.old.items
+        (HasSplit formulation.now.searched whole.now work.now params.half branch parts.old.items
         parts.new.items) }
     ensures err { OnErr result (parts.new.items ≡ parts.old.items) }
 {
-    let problem = problem.problem();
+    let problem = formulation.searched();
     let rest = rest_after(work, problem, cutoff);
     let sides = sides_at(work, params, branch);
     let first = part_with(work, problem, whole, branch.column, sides.first, rest);

@@ -6,23 +6,27 @@ ghost use Rattle.ug_base.specs.declared.step.Step.TheVariants.{Empty};
 ghost use Rattle.ug_rows.specs.Sums.{box_floor};
 ghost use Rattle.ug_propagate.specs.Working.{IsBox};
 ghost use Rattle.ug_propagate.specs.declared.resting.Rest.TheVariants.{Unknown};
+ghost use Rattle.ug_branch.specs.declared.params.Base.TheVariants.{Surrogate};
+ghost use Rattle.ug_surrogate.specs.Stronger.{Follows};
 ghost use Rattle.ug_base.specs.Covers.{AreCovered};
 ghost use Rattle.ug_base.specs.Hands.{DidGive, DidHand, HandsLess};
 ghost use Rattle.ug_base.specs.Steps.{LeavesLess, TookStep};
 ghost use Rattle.ug_base.specs.Tasks.{AreBelow, BoundsTheRest, IsLeastFloor, lesser_of};
 ghost use Rattle.ug_problem.specs.Better.{AreAllHanded, HasNoGood, IsGap, IsSmallCutoff, cutoff_of};
 
-use crate::boxes::{drop_last, last_of};
+use crate::boxes::{drop_last, last_of, unsettle};
+use crate::formulation::Formulation;
 use crate::handed::Handed;
-use crate::look::{Seen, look_last};
+use crate::look::{Seen, begin, look_last};
 use crate::lowest::{lesser, lowest_floor};
-use crate::moving::move_first;
+use crate::moving::{box_of, move_first};
 use crate::part::Part;
+use crate::sharpening::Sharpening;
 use crate::split::split_last;
 use crate::step::Step;
 use std::alloc::{AllocError, Global};
 use std::marker::Model;
-use ug_branch::Params;
+use ug_branch::{Base, Params};
 use ug_nodes::Ticket;
 use ug_problem::{Problem, Shared};
 use ug_propagate::{Rest, Working};
@@ -32,7 +36,7 @@ use ug_rows::{IntBox, Point};
 #[derive(Drop)]
 pub struct Task {
     alloc: Global,
-    problem: Shared,
+    formulation: Formulation,
     ticket: Ticket,
     params: Params,
     whole: IntBox,
@@ -41,6 +45,7 @@ pub struct Task {
     work: Working,
     parts: Vec<Part>,
     handed: Vec<IntBox>,
+    sharpening: Sharpening,
 }
 
 impl Model for Task {
@@ -121,12 +126,12 @@ fn begun(alloc: Global, problem: &Problem, whole: &IntBox) -> Result<Beginning, 
 }
 
 // The cutoff of a point under a gap.
-fn cutoff_at(problem: &Shared, gap: i128, point: &Point) -> Option<i128>
+fn cutoff_at(problem: &Problem, gap: i128, point: &Point) -> Option<i128>
     requires width { length point.now ≡ length problem.now.columns }
     requires gap { IsGap gap }
     ensures { result ≡ Some (cutoff_of problem.now gap point.now) }
 {
-    Some(problem.problem().cutoff(gap, point))
+    Some(problem.cutoff(gap, point))
 }
 
 impl Task {
@@ -157,10 +162,11 @@ impl Task {
     {
         // The problem's type keeps that it is one.
         let _columns = problem.problem().columns();
+        let sharpening = Sharpening::new(alloc, problem.problem(), &whole);
         match begun(alloc, problem.problem(), &whole) {
             Ok(begun) => Ok(Task {
                 alloc,
-                problem,
+                formulation: Formulation::own(problem),
                 ticket,
                 params,
                 whole,
@@ -169,10 +175,12 @@ impl Task {
                 work: begun.work,
                 parts: begun.parts,
                 handed: Vec::new(alloc),
+                sharpening,
             }),
             Err(error) => {
                 drop(problem);
                 drop(whole);
+                drop(sharpening);
                 Err(error)
             }
         }
@@ -187,13 +195,24 @@ impl Task {
         ensures less { IfOk result (LeavesLess self.old self.new) }
         ensures err { OnErr result (self.new ≡ self.old) }
     {
+        self.sharpen()?;
+        self.look_on()
+    }
+
+    // The same, over the formulation that there is.
+    fn look_on(&mut self) -> Result<Step, AllocError>
+        ensures took { IfOk result (TookStep self.old self.new) }
+        ensures empty { IfOk result (λ step. (step ≡ Empty) ↔ (self.old.boxes ≡ [])) }
+        ensures less { IfOk result (LeavesLess self.old self.new) }
+        ensures err { OnErr result (self.new ≡ self.old) }
+    {
         let Some(last) = last_of(&self.parts) else {
             return Ok(Step::Empty);
         };
         match look_last(
             self.alloc,
             &mut self.work,
-            &self.problem,
+            &self.formulation,
             &self.whole,
             self.params,
             self.cutoff,
@@ -205,7 +224,7 @@ impl Task {
                 Ok(Step::Pruned)
             }
             Seen::Solved(point) => {
-                let cutoff = cutoff_at(&self.problem, self.gap, &point);
+                let cutoff = cutoff_at(self.formulation.problem(), self.gap, &point);
                 self.cutoff = cutoff;
                 drop_last(&mut self.parts);
                 Ok(Step::Found(point))
@@ -213,7 +232,7 @@ impl Task {
             Seen::Halved(branch) => {
                 split_last(
                     &self.work,
-                    &self.problem,
+                    &self.formulation,
                     &self.whole,
                     self.params,
                     self.cutoff,
@@ -253,6 +272,79 @@ impl Task {
         let number = self.handed.len() as u64;
         let area = move_first(self.alloc, &self.work, &mut self.parts, &mut self.handed)?;
         Ok(Some(Handed { number, area }))
+    }
+
+    // Counts a step, and takes a stronger formulation where it is due and the params ask for it.
+    fn sharpen(&mut self) -> Result<(), AllocError>
+        ensures { self.new ≡ self.old }
+    {
+        match self.params.base {
+            Base::Bound => Ok(()),
+            Base::Surrogate => {
+                if self.sharpening.is_due(self.cutoff) {
+                    self.take_stronger()
+                } else {
+                    Ok(())
+                }
+            }
+        }
+    }
+
+    // Takes the formulation with the rows that follow from the box of the last part. After an error
+    // the task is as it was.
+    fn take_stronger(&mut self) -> Result<(), AllocError>
+        requires base { self.old.params.base ≡ Surrogate }
+        ensures same { self.new ≡ self.old }
+    {
+        let Some(last) = last_of(&self.parts) else {
+            return Ok(());
+        };
+        let area = box_of(self.alloc, &self.work, last)?;
+        let made = self.sharpening.stronger(
+            self.alloc,
+            self.formulation.problem(),
+            &self.whole,
+            &area,
+            self.cutoff,
+        );
+        drop(area);
+        match made? {
+            Some(stronger) => self.go_over(stronger),
+            None => Ok(()),
+        }
+    }
+
+    // Goes over to a stronger formulation of the problem. What is searched for is the same. After an
+    // error the task is as it was.
+    fn go_over(&mut self, stronger: Problem) -> Result<(), AllocError>
+        requires base { self.old.params.base ≡ Surrogate }
+        requires follows { Follows self.old.problem self.old.whole self.old.cutoff stronger }
+        ensures same { self.new ≡ self.old }
+    {
+        let Some(last) = last_of(&self.parts) else {
+            drop(stronger);
+            return Ok(());
+        };
+        // The problem's type keeps that it is one.
+        let _columns = stronger.columns();
+        begin(
+            &mut self.work,
+            self.formulation.searched(),
+            &self.whole,
+            last,
+            self.cutoff,
+        );
+        match self.work.over(self.alloc, &stronger, &self.whole) {
+            Ok(()) => {
+                unsettle(&mut self.parts);
+                self.formulation.take(stronger);
+                Ok(())
+            }
+            Err(error) => {
+                drop(stronger);
+                Err(error)
+            }
+        }
     }
 
     /// Lowers the cutoff to the given one, unless it is below that already. It takes no memory.
@@ -302,7 +394,7 @@ impl Task {
         ensures value { result.now ≡ self.now.problem }
         ensures problem { IsProblem self.now.problem }
     {
-        self.problem.problem()
+        self.formulation.problem()
     }
 
     /// What the task was given with.

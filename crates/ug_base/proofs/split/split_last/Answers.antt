@@ -22,14 +22,14 @@ part_with-second-requires-clause-inner c =
 
 pub returns-clause-ok : goal.returns-clause-ok
 returns-clause-ok c =
-    let p = c.args.problem.now in
+    let p = c.args.formulation.now.searched in
     let work = c.args.work.now in
     let area = work.sums.area in
     let branch = c.args.branch in
     let first = c.part_with-first.result in
     let second = c.part_with-second.result in
     let put = c.in_ok-replace_last.ensures.ok in
-    let same = c.problem-problem.ensures.value in
+    let same = c.searched-problem.ensures.value in
     record {
       first = first;
       second = second;

@@ -5,12 +5,13 @@ use Rattle.ug_problem.specs.Instances.{Instance}
 use Rattle.ug_problem.specs.Limits.{IsProblem}
 use Rattle.ug_propagate.specs.Working.{IsBox}
 use Rattle.ug_base.proofs.TaskLemmas.{new_chain, new_task}
+use Rattle.ug_base.proofs.Through.{searches_itself}
 use Rattle.ug_base.proofs.task.Task.new.Goals as goal
 
 pub invariant_of-result : goal.invariant_of-result
 invariant_of-result c =
     let work = c.in-Ok.begun.work in
-    record {
+    rw c.own.ensures (record {
       task = new_task _ work c.in-Ok.begun.parts.items c.args.gap _ (subst IsProblem c.problem.ensures.value c.columns-columns.ensures.problem)
           c.requires.below c.requires.cutoff c.requires.gap (search rules) c.in-Ok.ensures.parts c.in-Ok.ensures.trail
           c.in-Ok.ensures.area refl c.new.ensures.items;
@@ -20,6 +21,7 @@ invariant_of-result c =
             cut = None;
             floor = box_floor p.objective work.sums.area;
             rest = Unknown;
-          } ∷ []) c.problem-2.ensures.value c.in-Ok.ensures.parts)
-          (subst (λ (p : Instance). IsBox p work) c.problem-2.ensures.value c.in-Ok.ensures.work) c.in-Ok.ensures.trail c.in-Ok.ensures.area;
-    }
+          } ∷ []) c.problem-3.ensures.value c.in-Ok.ensures.parts)
+          (subst (λ (p : Instance). IsBox p work) c.problem-3.ensures.value c.in-Ok.ensures.work) c.in-Ok.ensures.trail c.in-Ok.ensures.area;
+      searched = searches_itself c.args.params.base c.args.problem c.args.whole c.args.cutoff;
+    })

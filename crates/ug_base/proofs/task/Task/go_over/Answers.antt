@@ -1,0 +1,108 @@
+use Rattle.std.proofs.Common.{◌≡◌, ◌∙◌, sym, ap, subst, List, length}
+use Rattle.std.proofs.lemmas.List.{length-map}
+use Rattle.ug_rows.specs.declared.area.Interval.{Interval}
+use Rattle.ug_rows.specs.Boxes.{IsBelow}
+use Rattle.ug_branch.specs.declared.params.Base.{Base}
+use Rattle.ug_branch.specs.declared.params.Base.TheVariants.{Surrogate}
+use Rattle.ug_problem.specs.declared.column.Column.{Column}
+use Rattle.ug_problem.specs.Instances.{Instance, bounds_of}
+use Rattle.ug_propagate.specs.Working.{WorkState}
+use Rattle.ug_surrogate.specs.Stronger.{Follows}
+use Rattle.ug_base.specs.Chains.{IsBase, IsChain, IsPart, areas_of}
+use Rattle.ug_base.specs.Formulations.{Searches}
+use Rattle.ug_base.specs.Tasks.{IsTask, TaskState}
+use Rattle.ug_base.specs.Views.{state_of}
+use Rattle.ug_base.proofs.Chains.{areas_kept, chain_kept, last_part}
+use Rattle.ug_base.proofs.Over.{areas_over, chain_over}
+use Rattle.ug_base.proofs.Through.{follows_of}
+use Rattle.ug_base.proofs.task.Task.go_over.Goals as goal
+
+pub begin-requires-clause-part : goal.begin-requires-clause-part
+begin-requires-clause-part c =
+    let s = c.self.inside.formulation.searched in
+    subst (λ (q : Instance). IsPart q c.self.inside.whole c.self.inside.work c.in-Some.last) (sym c.searched.ensures.value)
+    (last_part s c.self.inside.whole c.self.inside.work c.self.inside.parts.items c.in-Some.last c.self.invariant.chain c.in-Some.ensures)
+
+pub invariant_of-self : goal.invariant_of-self
+invariant_of-self c =
+    let t = state_of c.self.inside in
+    let s = c.self.inside.formulation.searched in
+    let work = c.self.inside.work in
+    let parts = c.self.inside.parts.items in
+    let begun = c.begin.new.work in
+    let base : IsBase s t.whole begun =
+    subst (λ (q : Instance). IsBase q t.whole begun) c.searched.ensures.value c.begin.ensures.base in
+    let same : areas_of begun parts ≡ areas_of work parts =
+    areas_kept work begun parts c.in-Some.last c.self.invariant.chain.rising c.in-Some.ensures c.begin.ensures.kept in
+    let chain : IsChain s t.whole begun parts =
+    chain_kept s t.whole work begun parts c.in-Some.last c.self.invariant.chain c.in-Some.ensures base c.begin.ensures.kept in
+    let new = c.args.stronger in
+    let follows : Follows t.problem t.whole t.cutoff new =
+    subst (λ (q : TaskState). Follows q.problem q.whole q.cutoff new) (sym c.self.view_is) c.requires.follows in
+    let surrogate : t.params.base ≡ Surrogate =
+    subst (λ (q : TaskState). q.params.base ≡ Surrogate) (sym c.self.view_is) c.requires.base in
+    let f = follows_of t.params.base t.problem t.whole t.cutoff s c.self.invariant.searched in
+    let part = last_part s t.whole work parts c.in-Some.last c.self.invariant.chain c.in-Some.ensures in
+    let below : IsBelow begun.sums.area t.whole = subst (λ (a : List Interval). IsBelow a t.whole) (sym c.begin.ensures.area) part.below in
+    let wide : length t.whole ≡ length new.columns = c.self.invariant.task.whole.width ∙ length-map t.problem.columns bounds_of
+    ∙ ap (λ (cs : List Column). length cs) (sym follows.columns) in
+    let areas : areas_of c.over.new.self c.unsettle.new.parts.items ≡ areas_of work parts =
+    areas_over c.args.stronger t.whole begun c.over.new.self parts c.unsettle.new.parts.items c.in-Ok.ensures.ok c.unsettle.ensures
+    ∙ same in
+    rw c.take.ensures (record {
+      task = subst (λ bs. IsTask (record t { boxes = bs })) (sym areas) c.self.invariant.task;
+      chain = chain_over s new t.whole begun c.over.new.self parts c.unsettle.new.parts.items (follows.columns ∙ sym f.columns)
+          (follows.objective ∙ sym f.objective) c.columns-columns.ensures.problem wide below c.in-Ok.ensures.ok c.unsettle.ensures chain;
+      searched = subst (λ (b : Base). Searches b t.problem t.whole t.cutoff new) (sym surrogate) follows;
+    })
+
+pub invariant_of-self-in-Err : goal.invariant_of-self-in-Err
+invariant_of-self-in-Err c =
+    let t = state_of c.self.inside in
+    let s = c.self.inside.formulation.searched in
+    let work = c.self.inside.work in
+    let parts = c.self.inside.parts.items in
+    let begun = c.begin.new.work in
+    let base : IsBase s t.whole begun =
+    subst (λ (q : Instance). IsBase q t.whole begun) c.searched.ensures.value c.begin.ensures.base in
+    let same : areas_of begun parts ≡ areas_of work parts =
+    areas_kept work begun parts c.in-Some.last c.self.invariant.chain.rising c.in-Some.ensures c.begin.ensures.kept in
+    let chain : IsChain s t.whole begun parts =
+    chain_kept s t.whole work begun parts c.in-Some.last c.self.invariant.chain c.in-Some.ensures base c.begin.ensures.kept in
+    let stays = c.in-Err.ensures.err in
+    record {
+      task = subst (λ bs. IsTask (record t { boxes = bs })) (sym (ap (λ (w : WorkState). areas_of w parts) stays ∙ same)) c.self.invariant.task;
+      chain = subst (λ (w : WorkState). IsChain s t.whole w parts) (sym stays) chain;
+      searched = c.self.invariant.searched;
+    }
+
+pub returns-in-Ok : goal.returns-in-Ok
+returns-in-Ok c =
+    let t = state_of c.self.inside in
+    let s = c.self.inside.formulation.searched in
+    let work = c.self.inside.work in
+    let parts = c.self.inside.parts.items in
+    let begun = c.begin.new.work in
+    let base : IsBase s t.whole begun =
+    subst (λ (q : Instance). IsBase q t.whole begun) c.searched.ensures.value c.begin.ensures.base in
+    let same : areas_of begun parts ≡ areas_of work parts =
+    areas_kept work begun parts c.in-Some.last c.self.invariant.chain.rising c.in-Some.ensures c.begin.ensures.kept in
+    let areas : areas_of c.over.new.self c.unsettle.new.parts.items ≡ areas_of work parts =
+    areas_over c.args.stronger t.whole begun c.over.new.self parts c.unsettle.new.parts.items c.in-Ok.ensures.ok c.unsettle.ensures
+    ∙ same in
+    rw c.take.ensures (record { same = ap (λ bs. record t { boxes = bs }) areas ∙ c.self.view_is })
+
+pub returns-in-Err : goal.returns-in-Err
+returns-in-Err c =
+    let t = state_of c.self.inside in
+    let s = c.self.inside.formulation.searched in
+    let work = c.self.inside.work in
+    let parts = c.self.inside.parts.items in
+    let begun = c.begin.new.work in
+    let base : IsBase s t.whole begun =
+    subst (λ (q : Instance). IsBase q t.whole begun) c.searched.ensures.value c.begin.ensures.base in
+    let same : areas_of begun parts ≡ areas_of work parts =
+    areas_kept work begun parts c.in-Some.last c.self.invariant.chain.rising c.in-Some.ensures c.begin.ensures.kept in
+    record {
+      same = ap (λ bs. record t { boxes = bs }) (ap (λ (w : WorkState). areas_of w parts) c.in-Err.ensures.err ∙ same) ∙ c.self.view_is;
+    }
