@@ -10,7 +10,7 @@ use Rattle.ug_cli.specs.Numbers.{IsGiven, IsGivenOr, IsNumber}
 use Rattle.ug_cli.specs.declared.plan.Asked.{Asked}
 use Rattle.ug_cli.specs.declared.plan.Mode.{Mode}
 use Rattle.ug_cli.specs.declared.plan.Mode.TheVariants.{Threads, Processes}
-use Rattle.ug_cli.specs.Taken.{AreRanks, AreSettings, AskedIn, InOrder, IsMode, Needs, crew_of, needs_of, ranks_of, word_of}
+use Rattle.ug_cli.specs.Taken.{AreRanks, AreSettings, AskedIn, InOrder, IsMode, crew_of, needs_of, ranks_of, word_of}
 
 one_number : (least most : ℕ) (word : Text) (a b : ℕ) → most < 2 ^ 64 → IsNumber least most word a
     → IsNumber least most word b → a ≡ b

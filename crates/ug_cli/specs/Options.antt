@@ -24,11 +24,12 @@ defaulted name word = record (optional name) { defaults = word ∷ [] }
 abbrev pub flag : Text → Rule
 flag name = record (optional name) { action = Some SetTrue }
 
--- how many ranks, and how many open nodes
+-- how many ranks, how they work, and how many open nodes
 abbrev pub ranks_rules : List Rule
 ranks_rules = defaulted (codes "mode") (codes "threads")
     ∷ defaulted (codes "solvers") (codes "1")
     ∷ flag (codes "racing")
+    ∷ defaulted (codes "base") (codes "bound")
     ∷ optional (codes "low")
     ∷ optional (codes "high")
     ∷ []

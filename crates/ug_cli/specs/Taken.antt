@@ -7,6 +7,8 @@ use Rattle.std.specs.Int.{div_ceil}
 use Rattle.clap.specs.Walk.{Row, Text, first_of}
 use Rattle.clap.specs.Simple.{subcommand_of}
 use Rattle.clap.specs.Faults.{fault_of}
+use Rattle.ug_branch.specs.declared.params.Base.{Base}
+use Rattle.ug_branch.specs.declared.params.Base.TheVariants.{Bound, Surrogate}
 use Rattle.ug_cli.specs.declared.plan.Limits.{Limits}
 use Rattle.ug_cli.specs.declared.plan.Gen.{Gen}
 use Rattle.ug_cli.specs.declared.plan.Plan.{Plan}
@@ -32,10 +34,17 @@ texts words = map string_bytes words
 unfoldable pub word_of : Text → List Row → Option Text
 word_of name rows = first_of name rows
 
--- how many solvers there are, whether they race, and how many open nodes the pool is to hold
+-- the word is what the solvers leave out
+abbrev pub IsBase : Option Text → Base → Type 0
+IsBase word Bound = word ≡ Some (codes "bound")
+IsBase word Surrogate = word ≡ Some (codes "surrogate")
+
+-- how many solvers there are, whether they race, what they leave out where they do not, and how many
+-- open nodes the pool is to hold
 pub record AreRanks (rows : List Row) (ranks : Solvers) : Type 0 where
   pub solvers : IsGiven 1 256 (word_of (codes "solvers") rows) ranks.solvers
   pub racing : IsTrue ranks.racing ↔ (word_of (codes "racing") rows ≡ Some (codes "true"))
+  pub base : IsBase (word_of (codes "base") rows) ranks.base
   pub low : IsGivenOr ranks.solvers 1 65536 (word_of (codes "low") rows) ranks.low
   pub high : IsGivenOr (div_ceil (3 * ranks.low) 2) 1 131072 (word_of (codes "high") rows)
       ranks.high

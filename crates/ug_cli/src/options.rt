@@ -83,6 +83,7 @@ fn with_ranks<'a>(
     let command = add(command, defaulted(alloc, "mode", "threads"));
     let command = add(command, defaulted(alloc, "solvers", "1"));
     let command = add(command, flag(alloc, "racing"));
+    let command = add(command, defaulted(alloc, "base", "bound"));
     let command = add(command, optional(alloc, "low"));
     add(command, optional(alloc, "high"))
 }

@@ -1,9 +1,13 @@
-/// How many solvers there are, and how many open nodes the pool is to hold.
+use ug_branch::Base;
+
+/// How many solvers there are, how they work, and how many open nodes the pool is to hold.
 #[derive(Clone, Copy, PartialEq, Eq)]
 pub struct Solvers {
     pub solvers: u32,
     /// Whether the solvers begin with a race.
     pub racing: bool,
+    /// What they leave out where they do not race.
+    pub base: Base,
     /// Below this many open nodes, nodes are collected.
     pub low: u32,
     /// At this many, no more are.
@@ -13,7 +17,8 @@ pub struct Solvers {
 /// How often is saved, and how far is gone.
 #[derive(Clone, Copy, PartialEq, Eq)]
 pub struct Limits {
-    /// A checkpoint is saved at each delivery whose number is a multiple of this.
+    /// A checkpoint is saved at deliveries whose numbers are multiples of this: in processes at each,
+    /// in threads no sooner than eight for each open node of the one before.
     pub every: u32,
     /// After this many deliveries the run ends.
     pub limit: u64,

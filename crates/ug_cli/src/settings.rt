@@ -1,24 +1,43 @@
 ghost use Rattle.std.specs.Prelude.{◌≡◌, ◌≤◌, ℕ, Option, IfSome, IfNone, codes};
 ghost use Rattle.clap.specs.Words.{found_of, rows_of};
 ghost use Rattle.ug_cli.specs.Numbers.{IsGivenIf};
-ghost use Rattle.ug_cli.specs.Taken.{AreBounds, AreRanks, AreSettings, IsMode, usual_every};
+ghost use Rattle.ug_cli.specs.Taken.{AreBounds, AreRanks, AreSettings, IsBase, IsMode, usual_every};
 ghost use Rattle.ug_cli.specs.Taken.{word_of};
 
 use crate::given::{given, given_if, given_or, has_word, text_of};
 use crate::plan::{Asked, Limits, Mode, Solvers};
 use clap::ArgMatches;
+use ug_branch::Base;
+
+// What the solvers leave out.
+fn base_of(matches: &ArgMatches<'_>) -> Option<Base>
+    ensures found { IfSome result
+        (IsBase (word_of (codes "base") (rows_of (found_of matches.now)))) }
+    ensures none { IfNone result ((base : Base)
+        → IsBase (word_of (codes "base") (rows_of (found_of matches.now))) base → ⊥) }
+{
+    if has_word(matches, "base", "bound") {
+        return Some(Base::Bound);
+    }
+    if has_word(matches, "base", "surrogate") {
+        return Some(Base::Surrogate);
+    }
+    None
+}
 
 fn ranks_of(matches: &ArgMatches<'_>) -> Option<Solvers>
     ensures found { IfSome result (AreRanks (rows_of (found_of matches.now))) }
     ensures none { IfNone result ((ranks : Solvers)
         → AreRanks (rows_of (found_of matches.now)) ranks → ⊥) }
 {
+    let base = base_of(matches)?;
     let solvers = given(matches, "solvers", 1, 256)?;
     let low = given_or(matches, "low", 1, 65_536, solvers)?;
     let high = given_or(matches, "high", 1, 131_072, (3 * low).div_ceil(2))?;
     Some(Solvers {
         solvers: solvers as u32,
         racing: has_word(matches, "racing", "true"),
+        base,
         low: low as u32,
         high: high as u32,
     })

@@ -1,6 +1,7 @@
 -- What a plan asks of a run.
 use Rattle.std.specs.Prelude.{ℕ, ◌*◌, ◌<◌, ◌≤◌, ◌^◌, false, IfSome}
 use Rattle.std.specs.Int.{div_ceil}
+use Rattle.ug_branch.specs.declared.params.Base.TheVariants.{Bound}
 use Rattle.ug_problem.specs.Instances.{Instance}
 use Rattle.ug_rules.specs.declared.settings.Settings.{Settings}
 use Rattle.ug_cli.specs.declared.plan.Asked.{Asked}
@@ -16,6 +17,7 @@ abbrev pub settings_for : Asked → Instance → Settings
 settings_for asked p = record {
   solvers = asked.ranks.solvers;
   racing = asked.ranks.racing;
+  base = asked.ranks.base;
   low = asked.ranks.low;
   high = asked.ranks.high;
   every = asked.bounds.every;
@@ -29,6 +31,7 @@ abbrev pub settings_made : ℕ → Settings
 settings_made solvers = record {
   solvers = solvers;
   racing = false;
+  base = Bound;
   low = solvers;
   high = div_ceil (3 * solvers) 2;
   every = 100;

@@ -3,6 +3,7 @@ ghost use Rattle.ug_rules.specs.Books.{AreSettings};
 ghost use Rattle.ug_top.specs.Plans.{IsPlanned, settings_for, settings_made};
 
 use crate::scaled::scaled;
+use ug_branch::Base;
 use ug_cli::Asked;
 use ug_problem::Problem;
 use ug_rules::Settings;
@@ -19,6 +20,7 @@ pub fn settings_for(asked: &Asked<'_>, problem: &Problem) -> Settings
     Settings {
         solvers: asked.ranks.solvers,
         racing: asked.ranks.racing,
+        base: asked.ranks.base,
         low: asked.ranks.low,
         high: asked.ranks.high,
         every: u64::from(asked.bounds.every),
@@ -38,6 +40,7 @@ pub fn settings_made(solvers: u32) -> Settings
     Settings {
         solvers,
         racing: false,
+        base: Base::Bound,
         low: solvers,
         high: (3 * solvers).div_ceil(2),
         every: 100,

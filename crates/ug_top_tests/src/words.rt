@@ -1,6 +1,7 @@
 use crate::expect::{holds, holds_at};
 use crate::running::words_of;
 use std::alloc::Global;
+use ug_branch::Base;
 use ug_cli::{
     Asked, Gen, Limits, Mode, Plan, Restart, Show, Solve, Solvers, Usage, Worker, read_words,
 };
@@ -12,6 +13,7 @@ fn settings_with(solvers: u32, low: u32, high: u32) -> Asked<'static> {
         ranks: Solvers {
             solvers,
             racing: false,
+            base: Base::Bound,
             low,
             high,
         },
@@ -49,8 +51,8 @@ const SOLVED: &[Solved] = &[
     ("solve --low=2 -- --help", "--help", 1, 2, 3),
 ];
 
-const GREATEST: &str = "solve m --mode threads --solvers 256 --racing --low 65536 --high=131072 \
-    --every 4294967295 --limit 0 --box 1000000000 --gap 1000000000000000000 --checkpoint c \
+const GREATEST: &str = "solve m --mode threads --solvers 256 --racing --base surrogate --low 65536 \
+    --high=131072 --every 4294967295 --limit 0 --box 1000000000 --gap 1000000000000000000 --checkpoint c \
     --sockets run";
 
 const ALL: Solve<'static> = Solve {
@@ -61,6 +63,7 @@ const ALL: Solve<'static> = Solve {
         ranks: Solvers {
             solvers: 256,
             racing: true,
+            base: Base::Surrogate,
             low: 65_536,
             high: 131_072,
         },
@@ -103,6 +106,9 @@ const REFUSED: &[&str] = &[
     "solve m --solvers 1 --solvers 1",
     "solve m --racing --racing",
     "solve m --racing=true",
+    "solve m --base",
+    "solve m --base bounds",
+    "solve m --base bound --base surrogate",
     "solve m --low 0",
     "solve m --low 65537",
     "solve m --high 0",
