@@ -37,6 +37,8 @@ mod searches;
 #[cfg(test)]
 mod served;
 #[cfg(test)]
+mod sharpened;
+#[cfg(test)]
 mod tasks;
 #[cfg(test)]
 mod whole;

@@ -186,8 +186,8 @@ fn text(alloc: Global, number: u32) -> Option<String> {
     text.ok()
 }
 
-// The problem of a number.
-fn problem(alloc: Global, number: u32) -> Option<Problem> {
+/// The small problem of a number.
+pub fn problem(alloc: Global, number: u32) -> Option<Problem> {
     let text = text(alloc, number)?;
     let problem = read(alloc, text.as_bytes(), None);
     drop(text);
