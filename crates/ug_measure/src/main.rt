@@ -2,7 +2,8 @@
 //! made messages; `image N` makes the image of a book of N nodes, `save N` saves it to a disk in
 //! memory, `load N` loads it again; `desk N` tells a desk N times what is left; `encode N TIMES`
 //! writes the frame of an order with N changes so often, and `decode N TIMES` reads it; `serve
-//! FILE` serves a worker at a link with the whole problem of a file; with no words it replays the
+//! FILE` serves a worker at a link with the whole problem of a file, and `steps FILE N` counts the
+//! steps of its search under the params of that number; with no words it replays the
 //! schedules of its input, of which some were worked by hand and others by a model that was written
 //! apart from this code. It is proved to be safe and to end, and no more.
 #![tactic(auto)]
@@ -18,6 +19,7 @@ mod replay;
 mod saving;
 mod serving;
 mod start;
+mod steps;
 
 use crate::answers::Answers;
 use crate::calls::{Replies, call_desk};
@@ -26,6 +28,7 @@ use crate::frames::{Way, frame_often};
 use crate::replay::replay;
 use crate::saving::{Size, Stage, save_nodes};
 use crate::serving::{Telling, serve_file};
+use crate::steps::count_steps;
 use std::alloc::AllocError;
 use std::env;
 use std::io::{Eprint, Input, Print};
@@ -48,6 +51,7 @@ enum Wanted<'a> {
     Replay,
     Measure(Task),
     Serve(&'a str),
+    Steps { file: &'a str, params: u8 },
 }
 
 fn stage_of(word: &str) -> Option<Stage> {
@@ -77,6 +81,10 @@ fn asked_by<'a>(words: &'a [String]) -> Option<Wanted<'a>> {
         [] => Some(Wanted::Replay),
         [what, file] if what.as_str() == "serve" => Some(Wanted::Serve(file.as_str())),
         [what, count] => Some(Wanted::Measure(task_of(what.as_str(), count.as_str())?)),
+        [what, file, params] if what.as_str() == "steps" => Some(Wanted::Steps {
+            file: file.as_str(),
+            params: params.parse::<u8>().ok()?,
+        }),
         [what, changes, times] => {
             let way = way_of(what.as_str())?;
             let changes = changes.parse::<u16>().ok()?;
@@ -210,6 +218,20 @@ fn served<R: Print + AllocGlobal + Files + Wait>(rt: &R, file: &str) -> ExitCode
     }
 }
 
+// Counts the steps of a search, and how that ended.
+fn counted<R: Print + AllocGlobal + Files>(rt: &R, file: &str, params: u8) -> ExitCode {
+    match count_steps(rt, rt.alloc(), file, params) {
+        Some(steps) => {
+            let _ = println!(rt; "steps {steps}");
+            ExitCode::from(0)
+        }
+        None => {
+            let _ = println!(rt; "not counted");
+            ExitCode::from(1)
+        }
+    }
+}
+
 // Does what the words ask for.
 fn obey<R>(rt: &R, words: &[String]) -> ExitCode
 where
@@ -219,6 +241,7 @@ where
         Some(Wanted::Replay) => ExitCode::from(u8::from(replay(rt).is_err())),
         Some(Wanted::Measure(task)) => measured(rt, task),
         Some(Wanted::Serve(file)) => served(rt, file),
+        Some(Wanted::Steps { file, params }) => counted(rt, file, params),
         None => misused(rt),
     }
 }
@@ -228,6 +251,7 @@ fn misused<R: Eprint>(rt: &R) -> ExitCode {
     let _ = eprintln!(rt; "usage: ug_measure [book|image|save|load|desk N]");
     let _ = eprintln!(rt; "       ug_measure encode|decode N TIMES");
     let _ = eprintln!(rt; "       ug_measure serve FILE");
+    let _ = eprintln!(rt; "       ug_measure steps FILE N");
     ExitCode::from(2)
 }
 

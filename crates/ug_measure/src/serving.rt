@@ -150,8 +150,8 @@ fn telling_of<R: Wait>(rt: &R, alloc: Global, problem: &Problem) -> Option<Telli
     telling
 }
 
-// The problem of a file.
-fn problem_of<R: Files>(rt: &R, alloc: Global, path: &str) -> Option<Problem> {
+/// The problem of a file, if its text is not refused.
+pub fn problem_of<R: Files>(rt: &R, alloc: Global, path: &str) -> Option<Problem> {
     let mut reader = Reader::new(rt, path);
     let text = gather(alloc, &mut reader);
     drop(reader);

@@ -1,0 +1,59 @@
+use crate::serving::problem_of;
+use std::alloc::Global;
+use std::rt::Files;
+use ug_base::{Step, Task};
+use ug_branch::Params;
+use ug_nodes::Ticket;
+use ug_problem::{Problem, Shared};
+use ug_rows::below;
+
+// The search of all of a problem under the params of a number.
+fn task_of(alloc: Global, problem: Problem, params: u8) -> Option<Task> {
+    if params >= 16 {
+        drop(problem);
+        return None;
+    }
+    let Ok(whole) = problem.root().clone() else {
+        drop(problem);
+        return None;
+    };
+    if !below(&whole, problem.root()) {
+        drop(whole);
+        drop(problem);
+        return None;
+    }
+    let ticket = Ticket { run: 1, number: 1 };
+    Task::new(
+        alloc,
+        Shared::own(problem),
+        ticket,
+        Params::new(params),
+        whole,
+        None,
+        0,
+    )
+    .ok()
+}
+
+// How many steps are made until no box is left.
+fn steps_of(task: &mut Task) -> Option<u64> {
+    for steps in 0..u64::MAX {
+        let step = task.step().ok()?;
+        let is_empty = matches!(step, Step::Empty);
+        drop(step);
+        if is_empty {
+            return Some(steps);
+        }
+    }
+    None
+}
+
+/// How many steps the search of all of the problem of a file takes under the params of a number.
+/// None where the text is refused, memory is wanting or the number is above 15.
+pub fn count_steps<R: Files>(rt: &R, alloc: Global, path: &str, params: u8) -> Option<u64> {
+    let problem = problem_of(rt, alloc, path)?;
+    let mut task = task_of(alloc, problem, params)?;
+    let steps = steps_of(&mut task);
+    drop(task);
+    steps
+}
