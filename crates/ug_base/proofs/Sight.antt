@@ -99,6 +99,7 @@ left_one : (p : Instance) (cutoff : Option ℤ) (area inner : List Interval) (x 
 left_one p cutoff area inner x r t o = record {
   inner = inner;
   left = sym t.value;
+  below = t.below;
   fixed = o.fixed;
   point = o.point;
   keeps = t.kept;

@@ -90,10 +90,14 @@ leaves_none Surrogate p whole cutoff s area h below seen = none_good p whole cut
 
 -- this is left of it
 pub leaves : (base : Base) (p : Instance) (whole : List Interval) (cutoff : Option ℤ) (s : Instance) (area inner : List Interval)
-    → Searches base p whole cutoff s → IsBelow area whole → rounds s cutoff area ≡ Kept inner → KeepsGood s cutoff area inner
-    → Leaves base p cutoff area inner
-leaves Bound p whole cutoff s area inner h below left keeps = subst (λ (q : Instance). rounds q cutoff area ≡ Kept inner) h left
-leaves Surrogate p whole cutoff s area inner h below left keeps = keeps_good p whole cutoff s area h below inner keeps
+    → Searches base p whole cutoff s → IsBelow area whole → rounds s cutoff area ≡ Kept inner → IsBelow inner area
+    → KeepsGood s cutoff area inner → Leaves base p cutoff area inner
+leaves Bound p whole cutoff s area inner h below left inside keeps =
+    subst (λ (q : Instance). rounds q cutoff area ≡ Kept inner) h left
+leaves Surrogate p whole cutoff s area inner h below left inside keeps = record {
+  below = inside;
+  kept = keeps_good p whole cutoff s area h below inner keeps;
+}
 
 -- what is left of a box is fixed, and its point is good
 pub record IsPointLeft (base : Base) (p : Instance) (cutoff : Option ℤ) (area : List Interval) (x : List ℤ) : Type 0 where
@@ -107,7 +111,7 @@ pub point_left : (base : Base) (p : Instance) (whole : List Interval) (cutoff : 
     → Searches base p whole cutoff s → IsBelow area whole → IsSeenSolved s cutoff area x → IsPointLeft base p cutoff area x
 point_left base p whole cutoff s area x h below seen = record {
   inner = seen.inner;
-  left = leaves base p whole cutoff s area seen.inner h below seen.left seen.keeps;
+  left = leaves base p whole cutoff s area seen.inner h below seen.left seen.below seen.keeps;
   fixed = seen.fixed;
   point = seen.point;
   good = good_back p whole cutoff s x (follows_of base p whole cutoff s h) seen.only.good;

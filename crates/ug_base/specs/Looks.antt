@@ -76,10 +76,12 @@ pub record IsSeenHopeless (p : Instance) (cutoff : Option ℤ) (area : List Inte
 
 -- each good point of a box is in what is left of it
 abbrev pub KeepsGood : Instance → Option ℤ → List Interval → List Interval → Type 0
-KeepsGood p cutoff area inner = (y : List ℤ) → IsInside area y → IsGood p cutoff y → IsInside inner y
+KeepsGood p cutoff area inner =
+    (y : List ℤ) → IsInside area y → IsGood p cutoff y → IsInside inner y
 
 -- x is good, and no other point of the box is
-pub record IsOnlyGood (p : Instance) (cutoff : Option ℤ) (area : List Interval) (x : List ℤ) : Type 0 where
+pub record IsOnlyGood (p : Instance) (cutoff : Option ℤ) (area : List Interval) (x : List ℤ) :
+    Type 0 where
   pub good : IsGood p cutoff x
   pub alone : (y : List ℤ) → IsInside area y → IsGood p cutoff y → y ≡ x
 
@@ -96,6 +98,7 @@ pub record IsSeenSolved (p : Instance) (cutoff : Option ℤ) (area : List Interv
     Type 0 where
   pub inner : List Interval
   pub left : rounds p cutoff area ≡ Kept inner
+  pub below : IsBelow inner area
   pub fixed : IsFixed inner
   pub point : IsInside inner x
   pub keeps : KeepsGood p cutoff area inner

@@ -2,7 +2,7 @@
 -- it.
 use Rattle.std.specs.Prelude.{◌≡◌, ℤ, ◌<◌, List, [], ◌∷◌, ◌++◌, Option, Some}
 use Rattle.ug_rows.specs.declared.area.Interval.{Interval}
-use Rattle.ug_rows.specs.Boxes.{IsInside, IsNonEmpty, IsCrossed, IsFixed}
+use Rattle.ug_rows.specs.Boxes.{IsBelow, IsInside, IsNonEmpty, IsCrossed, IsFixed}
 use Rattle.ug_branch.specs.declared.choice.Branch.{Branch}
 use Rattle.ug_branch.specs.declared.params.Base.{Base}
 use Rattle.ug_branch.specs.declared.params.Base.TheVariants.{Bound, Surrogate}
@@ -28,11 +28,16 @@ abbrev pub LeavesNone : Base → Instance → Option ℤ → List Interval → T
 LeavesNone Bound p cutoff area = IsHopeless (rounds p cutoff area)
 LeavesNone Surrogate p cutoff area = HasNoGood p cutoff area
 
--- this is left of a box: what bound propagation over the problem's rows leaves, or a box that has
--- each good point of it
+-- the inner box is below the other, and has each good point of it
+pub record HasAllGood (p : Instance) (cutoff : Option ℤ) (area inner : List Interval) : Type 0 where
+  pub below : IsBelow inner area
+  pub kept : (x : List ℤ) → IsInside area x → IsGood p cutoff x → IsInside inner x
+
+-- this is left of a box: what bound propagation over the problem's rows leaves, or a box below it
+-- that has each good point of it
 abbrev pub Leaves : Base → Instance → Option ℤ → List Interval → List Interval → Type 0
 Leaves Bound p cutoff area inner = rounds p cutoff area ≡ Kept inner
-Leaves Surrogate p cutoff area inner = (x : List ℤ) → IsInside area x → IsGood p cutoff x → IsInside inner x
+Leaves Surrogate p cutoff area inner = HasAllGood p cutoff area inner
 
 -- the last box had no good point, and is dropped
 pub record IsPruned (old new : TaskState) : Type 0 where

@@ -21,4 +21,5 @@ state_of t = record {
 pub record AreOfTask (t : Inside) : Type 0 where
   pub task : IsTask (state_of t)
   pub chain : IsChain t.formulation.searched t.whole t.work t.parts.items
-  pub searched : Searches t.params.base t.formulation.problem t.whole t.cutoff t.formulation.searched
+  pub searched : Searches t.params.base t.formulation.problem t.whole t.cutoff
+      t.formulation.searched

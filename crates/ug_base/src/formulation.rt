@@ -17,7 +17,10 @@ impl Model for Formulation {
 
     ghost Value = { FormulationState };
 
-    ghost view = { λ f. record { problem = f.problem; searched = searched_of f.problem f.stronger } };
+    ghost view = { λ f. record {
+      problem = f.problem;
+      searched = searched_of f.problem f.stronger;
+    } };
 }
 
 impl Formulation {

@@ -187,7 +187,8 @@ pub fn look_last(
     requires last { parts.now.items ≡ front_of parts.now.items ++ last ∷ [] }
     ensures chain { IsChain formulation.now.searched whole.now work.new parts.now.items }
     ensures areas { areas_of work.new parts.now.items ≡ areas_of work.old parts.now.items }
-    ensures seen { IfOk result (IsSeen formulation.now.searched cutoff params (area_of work.old last) work.new) }
+    ensures seen { IfOk result
+        (IsSeen formulation.now.searched cutoff params (area_of work.old last) work.new) }
 {
     let seen = look(
         alloc,

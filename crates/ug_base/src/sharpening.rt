@@ -5,12 +5,11 @@
 ghost use Rattle.std.specs.Prelude.{◌≡◌, length, IfOk, IfSome};
 ghost use Rattle.ug_problem.specs.Better.{IsSmallCutoff};
 ghost use Rattle.ug_surrogate.specs.Stronger.{Follows};
-ghost use Rattle.ug_surrogate.specs.Weights.{AreMultipliers};
 
 use std::alloc::{AllocError, Global};
 use ug_problem::Problem;
 use ug_rows::{IntBox, has_point};
-use ug_surrogate::{Multipliers, bound, guessed, stronger};
+use ug_surrogate::{Multipliers, are_of, bound, guessed, stronger};
 
 // How many steps are made before the first guess, over the box of all bounds and over another: one
 // that was handed over, as most are that end after few steps.
@@ -18,8 +17,14 @@ const FIRST: u64 = 8;
 
 const FIRST_OF_PART: u64 = 128;
 
-// How many steps at least lie between two guesses.
+// How many steps at least lie between two guesses, and later on between rows for two cutoffs.
 const APART: u64 = 16;
+
+// For so many steps rows are made anew at each new cutoff.
+const OFTEN: u64 = 512;
+
+// At how many times the steps the first guess is judged again that was not good yet.
+const PATIENCE: u64 = 4;
 
 // How many lists are kept at most.
 const LISTS: usize = 4;
@@ -36,6 +41,8 @@ const LOOKS: u64 = 1_000_000;
 #[derive(Drop)]
 pub struct Sharpening {
     lists: Vec<Multipliers>,
+    // The first guess, while it is not good. Another over the same box would be the same.
+    first: Option<Multipliers>,
     // How many steps were made, and after how many the next guess is due.
     steps: u64,
     due: u64,
@@ -54,10 +61,11 @@ fn steps_of(problem: &Problem) -> u32 {
 }
 
 // Whether multipliers give a bound over a box that is above the floor of the objective.
-fn is_good(problem: &Problem, area: &IntBox, m: &Multipliers) -> bool
-    requires { AreMultipliers problem.now m.now }
-{
-    if m.list.is_empty() || area.as_slice().len() != problem.columns().len() {
+fn is_good(problem: &Problem, area: &IntBox, m: &Multipliers) -> bool {
+    if m.list.is_empty() || !are_of(problem, m) {
+        return false;
+    }
+    if area.as_slice().len() != problem.columns().len() {
         return false;
     }
     if !has_point(area.as_slice()) {
@@ -90,17 +98,25 @@ impl Sharpening {
         let is_root = problem.root().as_slice() == whole.as_slice();
         Sharpening {
             lists: Vec::new(alloc),
+            first: None,
             steps: 0,
             due: if is_root { FIRST } else { FIRST_OF_PART },
             under: None,
         }
     }
 
+    // Whether rows may be made anew for another cutoff: that costs as much as many steps, and some
+    // searches find better points at each.
+    fn may_renew(&self) -> bool {
+        self.steps <= OFTEN || self.steps % APART == 0
+    }
+
     /// Counts a step, and tells whether rows are to be made anew before it: where a guess is due, or
     /// the cutoff is another.
     pub fn is_due(&mut self, cutoff: Option<i128>) -> bool {
         self.steps = self.steps.saturating_add(1);
-        self.steps > self.due || (!self.lists.is_empty() && self.under != cutoff)
+        let is_other = !self.lists.is_empty() && self.under != cutoff;
+        self.steps > self.due || (is_other && self.may_renew())
     }
 
     // Keeps multipliers, unless they are kept already. Where there are as many as may be, the oldest
@@ -117,8 +133,25 @@ impl Sharpening {
         Ok(())
     }
 
-    // Guesses multipliers: the first over the whole box, and others over the area. They are kept where
-    // they are good over the area; where none are kept then, no more are guessed.
+    // Multipliers to judge: the first guess, which is over the whole box, until some are kept, and
+    // then one over the area.
+    fn guessed(
+        &mut self,
+        alloc: Global,
+        problem: &Problem,
+        whole: &IntBox,
+        area: &IntBox,
+    ) -> Result<Multipliers, AllocError> {
+        if !self.lists.is_empty() {
+            return guessed(alloc, problem, area, steps_of(problem));
+        }
+        match self.first.take() {
+            Some(first) => Ok(first),
+            None => guessed(alloc, problem, whole, steps_of(problem)),
+        }
+    }
+
+    // Guesses multipliers, which are kept where they are good over the area.
     fn guess(
         &mut self,
         alloc: Global,
@@ -126,15 +159,16 @@ impl Sharpening {
         whole: &IntBox,
         area: &IntBox,
     ) -> Result<(), AllocError> {
-        let over = if self.lists.is_empty() { whole } else { area };
-        let m = guessed(alloc, problem, over, steps_of(problem))?;
+        let m = self.guessed(alloc, problem, whole, area)?;
         if is_good(problem, area, &m) {
             self.keep(m)?;
+        } else if self.lists.is_empty() {
+            self.first = Some(m);
         } else {
             drop(m);
         }
         self.due = if self.lists.is_empty() {
-            u64::MAX
+            self.steps.saturating_mul(PATIENCE)
         } else {
             self.steps.saturating_add(self.steps.max(APART))
         };
@@ -155,10 +189,15 @@ impl Sharpening {
         requires cutoff { IsSmallCutoff cutoff }
         ensures { IfOk result (λ made. IfSome made (Follows problem.now whole.now cutoff)) }
     {
+        // Rounded rows depend on the box alone.
+        let is_rounded = self.first.is_some();
         if self.steps > self.due {
             self.guess(alloc, problem, whole, area)?;
         }
         self.under = cutoff;
+        if is_rounded && self.lists.is_empty() {
+            return Ok(None);
+        }
         stronger(alloc, problem, whole, cutoff, self.lists.as_slice())
     }
 }

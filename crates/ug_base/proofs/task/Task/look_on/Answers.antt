@@ -189,7 +189,7 @@ returns-in_ok-split_last-in-Halved-clause-took c =
     subst (λ (q : TaskState). IsSplit q (record t { boxes = areas_of after c.split_last.new.parts.items })) c.self.view_is
     (split_step t s c.self.inside.work after c.self.inside.parts.items c.split_last.new.parts.items c.in-Some.last c.in-Halved.branch
     refl c.in-Some.ensures c.in_ok-look_last.ensures.areas
-    (leaves t.params.base t.problem t.whole t.cutoff s area after.sums.area c.self.invariant.searched below seen.left seen.keeps)
+    (leaves t.params.base t.problem t.whole t.cutoff s area after.sums.area c.self.invariant.searched below seen.left seen.below seen.keeps)
     seen.branched c.in_ok-split_last-in-Halved.ensures.ok)
 
 pub returns-in_ok-split_last-in-Halved-clause-empty : goal.returns-in_ok-split_last-in-Halved-clause-empty
