@@ -10,6 +10,7 @@ mod book;
 mod current;
 mod decide;
 mod done;
+mod floors;
 mod hand;
 mod hear;
 mod held;

@@ -1,4 +1,4 @@
-ghost use Rattle.std.specs.Prelude.{◌≡◌, ◌≢◌, ◌↔◌, ◌<◌, [], length, Contains, IfOk, IfSome, IsTrue, MatchOption};
+ghost use Rattle.std.specs.Prelude.{◌≡◌, ◌≢◌, ◌↔◌, ◌<◌, [], length, Contains, IfOk, IfSome, IsNone, IsTrue, MatchOption};
 ghost use Rattle.std.specs.Option.{option_copied};
 ghost use Rattle.std.specs.List.{AllPairs};
 ghost use Rattle.ug_problem.specs.Instances.{root_of};
@@ -15,6 +15,7 @@ ghost use Rattle.ug_book.specs.Reads.{IsAnswerOf, IsOrderTold};
 ghost use Rattle.ug_ranks.specs.Looks.{is_alive};
 
 use crate::book::Book;
+use crate::floors::least_floor;
 use crate::held::held_nodes;
 use crate::working::is_any_working;
 use std::alloc::AllocError;
@@ -67,6 +68,13 @@ impl Book {
         ensures { result ≡ self.now.heard }
     {
         self.heard
+    }
+
+    /// How many open nodes wait in the pool.
+    pub fn open(&self) -> usize
+        ensures { result ≡ length self.now.pool }
+    {
+        self.stock.pool.len()
     }
 
     pub fn is_alive(&self, rank: u32) -> bool
@@ -123,6 +131,17 @@ impl Book {
             Some(point) => Some(Answered::Optimal(point)),
             None => Some(Answered::Infeasible),
         }
+    }
+
+    /// What no point of the nodes held is better than, by the floors of the pool and what the ranks
+    /// told last: of their truth nothing is said. None where no node is held.
+    pub fn bound(&self) -> Option<i128>
+        ensures { IsNone result ↔ (held_nodes self.now ≡ []) }
+    {
+        if self.is_empty() {
+            return None;
+        }
+        Some(least_floor(&self.stock))
     }
 
     // Whether no node is held.

@@ -130,6 +130,11 @@ impl Desk {
         self.call(rt, pass, |locked, rank| locked.snapshot(rank))
     }
 
+    /// What no point of the nodes held is better than, as the book has it; None where none is held.
+    pub fn bound<R: Wait>(&self, rt: &R, pass: &mut Pass) -> Option<i128> {
+        self.call(rt, pass, |locked, _rank| locked.book().bound())
+    }
+
     /// How many calls were not answered Wait.
     pub fn stirred<R: Wait>(&self, rt: &R) -> u64 {
         *self.stirred.lock(rt)

@@ -1,0 +1,49 @@
+use ug_pool::Entry;
+use ug_ranks::{Racer, State, Work};
+use ug_stock::Stock;
+
+// What a rank told last of its work, and before its first report the floor of its node.
+fn floor_of_work(work: &Work) -> i128 {
+    if work.open == 0 {
+        return work.floor;
+    }
+    work.reported
+}
+
+// Each racer has all of the node that is raced, so the greatest floor that one told is a bound.
+fn floor_with_racer(floor: i128, racer: &Racer) -> i128 {
+    if racer.open == 0 {
+        return floor;
+    }
+    racer.floor.max(floor)
+}
+
+// The floor of the node that is raced, by what racers told last.
+fn floor_of_race(raced: &Entry, states: &[State]) -> i128 {
+    let mut floor = raced.floor;
+    for state in states {
+        if let State::Racing(racer) = state {
+            floor = floor_with_racer(floor, racer);
+        }
+    }
+    floor
+}
+
+/// The least floor of what is held: in the pool, whose first node has the least, with ranks, and in a
+/// race. The greatest number of all where nothing is held.
+pub fn least_floor(stock: &Stock) -> i128 {
+    let states = stock.ranks.as_slice();
+    let mut least = match &stock.raced {
+        Some(raced) => floor_of_race(raced, states),
+        None => i128::MAX,
+    };
+    if let Some(first) = stock.pool.first() {
+        least = first.floor.min(least);
+    }
+    for state in states {
+        if let State::Active(work) = state {
+            least = floor_of_work(work).min(least);
+        }
+    }
+    least
+}
