@@ -7,6 +7,17 @@ pub enum Moment {
     Answered,
 }
 
+/// What a run begins with.
+#[derive(Drop)]
+pub struct Begun {
+    pub columns: usize,
+    pub rows: usize,
+    pub solvers: u32,
+    pub maximise: bool,
+    /// The constant of the objective as it is printed, if memory suffices.
+    pub constant: Option<Vec<u8>>,
+}
+
 /// How a run stands.
 #[derive(Drop)]
 pub struct Progress {
@@ -14,6 +25,9 @@ pub struct Progress {
     pub heard: u64,
     /// The value of the incumbent as it is printed, if there is one.
     pub best: Option<Vec<u8>>,
+    /// The value as it is printed that no point has a better one than, as far as the ranks told what
+    /// is so: the least of the floors of what is held, and of the incumbent's value less the gap.
+    pub bound: Option<Vec<u8>>,
     /// How many nodes are left that have no other above them.
     pub nodes: usize,
 }
@@ -33,8 +47,8 @@ pub trait Observer: Sync {
     /// The worker of a rank has come to a moment.
     fn pass(&self, rank: u32, moment: Moment);
 
-    /// The run begins, on a problem of so many columns and rows and with so many solvers.
-    fn begin(&self, _columns: usize, _rows: usize, _solvers: u32) {}
+    /// The run begins.
+    fn begin(&self, _begun: &Begun) {}
 
     /// Whether it is to be told how the run stands, after so many reports, the last of which was of
     /// a better point or not.
@@ -47,6 +61,13 @@ pub trait Observer: Sync {
 
     /// A rank at the other end of a link is heard no more.
     fn drops(&self, _rank: u32, _why: Dropped) {}
+
+    /// The run ends, after so many reports.
+    fn end(&self, _heard: u64) {}
+
+    /// In the best point that is found when the run ends a column, named so, stands at a bound that
+    /// the text does not have.
+    fn stands_at_box(&self, _column: &[u8]) {}
 }
 
 /// None observes: it does nothing.

@@ -1,39 +1,89 @@
-use crate::observer::{Observer, Progress};
+use crate::observer::{Begun, Observer, Progress};
+use crate::outcome::End;
 use std::alloc::Global;
 use ug_book::Opening;
 use ug_image::Image;
 use ug_problem::Problem;
 use ug_rows::Point;
 
+// No value of a point is greater, and no greater one is printed.
+const MOST: u128 = 100_000_000_000_000_000_000_000_000_000_000_000_000;
+
 /// Tells the observer that a run begins.
-pub fn tell_begin<O: Observer>(observer: &O, opening: &Opening) {
+pub fn tell_begin<O: Observer>(observer: &O, alloc: Global, opening: &Opening) {
     let problem = opening.problem.problem();
-    observer.begin(
-        problem.columns().len(),
-        problem.rows().len(),
-        opening.settings.solvers,
-    );
+    let objective = problem.objective();
+    let begun = Begun {
+        columns: problem.columns().len(),
+        rows: problem.rows().len(),
+        solvers: opening.settings.solvers,
+        maximise: objective.maximise,
+        constant: printed(alloc, problem, objective.constant),
+    };
+    observer.begin(&begun);
+    drop(begun);
 }
 
-/// How a run stands, by an image of it; nothing where memory is wanting for the value of the
-/// incumbent.
-pub fn progress_of(alloc: Global, image: &Image) -> Option<Progress> {
-    let best = match &image.best {
-        Some(best) => Some(value_text(alloc, image.problem.problem(), best)?),
+/// Tells the observer that a run ended.
+pub fn tell_end<O: Observer>(observer: &O, end: &End) {
+    match end {
+        End::Answered(book) | End::Limited(book) | End::Stranded(book) => observer.end(
+            book.count(),
+        ),
+        End::Memory => {}
+    }
+}
+
+/// How a run stands, by an image of it and by the bound that its nodes held had, now or before;
+/// nothing where memory is wanting for the value of the incumbent.
+pub fn progress_of(alloc: Global, image: &Image, held: Option<i128>) -> Option<Progress> {
+    let problem = image.problem.problem();
+    let value = match &image.best {
+        Some(best) => Some(value_of(problem, best)?),
+        None => None,
+    };
+    let best = match value {
+        Some(value) => Some(printed(alloc, problem, value)?),
+        None => None,
+    };
+    let bound = match bound_of(value, image.gap, held) {
+        Some(bound) => printed(alloc, problem, bound),
         None => None,
     };
     Some(Progress {
         heard: image.deliveries,
         best,
+        bound,
         nodes: image.nodes.len(),
     })
 }
 
-// The value of a point, as it is printed.
-fn value_text(alloc: Global, problem: &Problem, point: &Point) -> Option<Vec<u8>> {
+// What no value is better than: that of a node that went for the incumbent is no better than the
+// incumbent's less the gap.
+fn bound_of(value: Option<i128>, gap: i128, held: Option<i128>) -> Option<i128> {
+    let Some(value) = value else {
+        return held;
+    };
+    let near = value.saturating_sub(gap);
+    match held {
+        Some(held) => Some(held.min(near)),
+        None => Some(near),
+    }
+}
+
+// The value of a point of this many columns.
+fn value_of(problem: &Problem, point: &Point) -> Option<i128> {
     if point.as_slice().len() != problem.columns().len() {
         return None;
     }
-    let value = problem.print_value(alloc, problem.value(point)).ok()?;
-    Some(value.into_vec())
+    Some(problem.value(point))
+}
+
+// A value as it is printed, if it is one and memory suffices.
+fn printed(alloc: Global, problem: &Problem, value: i128) -> Option<Vec<u8>> {
+    if value.unsigned_abs() > MOST {
+        return None;
+    }
+    let text = problem.print_value(alloc, value).ok()?;
+    Some(text.into_vec())
 }

@@ -50,10 +50,12 @@ fn send_if_due<R: Wait>(
     }
 }
 
-// How the run stands now, if memory suffices.
+// How the run stands now, if memory suffices. The bound is of the moment before: the incumbent is
+// then no better than it was for the nodes that have gone.
 fn progress<R: Wait>(rt: &R, alloc: Global, desk: &Desk, pass: &mut Pass) -> Option<Progress> {
+    let held = desk.bound(rt, pass);
     let image = desk.snapshot(rt, pass).ok()?.into_image();
-    let progress = progress_of(alloc, &image);
+    let progress = progress_of(alloc, &image, held);
     drop(image);
     progress
 }

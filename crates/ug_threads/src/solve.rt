@@ -48,7 +48,7 @@ pub fn solve_threads<R: Threads + Wait + Sync, D: Disk, O: Observer>(
         (D.seen disk.old).told (D.seen disk.new).told) }
     ensures missed { IsMissedByFaults result (D.seen disk.old) (D.seen disk.new) }
 {
-    tell_begin(host.observer, opening);
+    tell_begin(host.observer, host.alloc, opening);
     match saver {
         None => silently(host, opening),
         Some(saver) => with_saver(host, opening, saver, disk),
