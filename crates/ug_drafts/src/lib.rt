@@ -6,6 +6,7 @@
 #![tactic(auto)]
 
 mod bound;
+mod cause;
 mod column;
 mod fault;
 mod laws;
@@ -19,10 +20,11 @@ mod scaling;
 pub use bound::{
     Amount, Bound, BoundChange, amount_from, infinity, sets, sets_both, sets_lower, sets_upper,
 };
+pub use cause::{Cause, wide_part};
 pub use column::ColumnDraft;
 pub use fault::{Kind, MpsError, MpsFault};
 pub use laws::least_scale;
-pub use made_columns::make_columns;
+pub use made_columns::{column_kind, high_kept, is_infinite, low_kept, make_columns};
 pub use role::Role;
 pub use row::{Factor, RowDraft, RowPart};
 pub use rows_and_objective::{RowsAndObjective, make_rows};

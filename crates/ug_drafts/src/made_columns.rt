@@ -11,22 +11,22 @@ use std::alloc::Global;
 use ug_lists::Text;
 use ug_problem::Column;
 
-// The lower bound of a column: 0 where none was set.
-fn low_kept(draft: &ColumnDraft) -> Bound
+/// The lower bound of a column: 0 where none was set.
+pub fn low_kept(draft: &ColumnDraft) -> Bound
     ensures { result ≡ low_kept draft.now }
 {
     draft.low.unwrap_or(Bound::Finite(0))
 }
 
-// The upper bound of a column: plus infinity where none was set.
-fn high_kept(draft: &ColumnDraft) -> Bound
+/// The upper bound of a column: plus infinity where none was set.
+pub fn high_kept(draft: &ColumnDraft) -> Bound
     ensures { result ≡ high_kept draft.now }
 {
     draft.high.unwrap_or(Bound::Infinite)
 }
 
-// Whether a bound is infinite.
-fn is_infinite(bound: Bound) -> bool
+/// Whether a bound is infinite.
+pub fn is_infinite(bound: Bound) -> bool
     ensures { result ≡ is_infinite bound }
 {
     match bound {
@@ -35,8 +35,8 @@ fn is_infinite(bound: Bound) -> bool
     }
 }
 
-// Why a column is none of a problem, if it is not.
-fn column_kind(boxed: Option<u32>, draft: &ColumnDraft) -> Option<Kind>
+/// Why a column is none of a problem, if it is not.
+pub fn column_kind(boxed: Option<u32>, draft: &ColumnDraft) -> Option<Kind>
     ensures { result ≡ column_kind boxed draft.now }
 {
     if !draft.integer {

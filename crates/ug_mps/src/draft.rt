@@ -3,6 +3,7 @@ mod column_line;
 mod columns;
 mod finish;
 mod header;
+mod kept;
 mod row_line;
 mod rows;
 mod sides_line;

@@ -5,6 +5,7 @@
 //! with bytes that are there.
 #![tactic(auto)]
 
+mod again;
 mod bound_words;
 mod draft;
 mod ending;
@@ -16,7 +17,8 @@ mod names;
 mod pairs;
 mod reading;
 
+pub use again::{FreeEnds, cause_of, free_ends};
 pub use gathering::{GatherError, gather};
 pub use laws::{one_outcome, worked_texts};
 pub use reading::read;
-pub use ug_drafts::{Kind, MpsError, MpsFault};
+pub use ug_drafts::{Cause, Kind, MpsError, MpsFault};

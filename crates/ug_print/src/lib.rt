@@ -24,5 +24,5 @@ pub use counts::push_counts;
 pub use faults::fault_line;
 pub use fixed::{memory, read_fault};
 pub use limited::{incumbent_lines, open_line, stranded_line};
-pub use reasons::reason;
+pub use reasons::{columns_refused, reason};
 pub use refusals::refusal;
