@@ -28,7 +28,7 @@ use Rattle.ug_rules.specs.Ranks.{racers_freed, ranks_that}
 use Rattle.ug_book.specs.declared.opening.Opening.{Opening}
 use Rattle.ug_book.specs.Openings.{opening_book}
 use Rattle.ug_coord.specs.Causes.{HasCause, IsEndOf}
-use Rattle.ug_coord.specs.Deeds.{Broke, Came, Closed, Decided, Deed, Does, Halted, IsCourse, Launched, Lost, Passed, Sent, SetUp, Standing, Took, Unclosed, Unfed, Unread, Unsent, Unwritten}
+use Rattle.ug_coord.specs.Deeds.{Broke, Came, Closed, Decided, Deed, Does, Halted, IsCourse, Kept as Saved, Launched, Lost, Passed, Sent, SetUp, Standing, Took, Unclosed, Unfed, Unread, Unsent, Unwritten}
 use Rattle.ug_coord.specs.Ends.{ranks_of}
 
 -- the rank is alive
@@ -392,6 +392,8 @@ deed_lives old (Unfed other bytes) new rank does alive =
     inl (still old new rank (ap (λ (s : Standing). s.book) does.rest) alive)
 deed_lives old Unread new rank does alive =
     inl (still old new rank (ap (λ (s : Standing). s.book) does.1) alive)
+deed_lives old Saved new rank does alive =
+    inl (still old new rank (ap (λ (s : Standing). s.book) does.rest) alive)
 
 behind : (rank : ℕ) (deed : Deed) (deeds : List Deed) → HasCause rank deeds → HasCause rank (deed ∷ deeds)
 behind rank deed deeds cause =

@@ -9,12 +9,12 @@ use Rattle.ug_io.specs.Crews.{Adds, CrewSeen, IsAlive, IsSilent, told_to}
 use Rattle.ug_io.specs.Outside.{Rose}
 use Rattle.ug_frames.specs.declared.order.Order.TheVariants.{End}
 use Rattle.ug_frames.specs.OrderFrames as orders
-use Rattle.ug_coord.specs.Deeds.{Closed, Closing, Deed, Does, IsToldEnd, Standing, Unclosed}
+use Rattle.ug_coord.specs.Deeds.{Closed, Closing, Deed, Does, IsToldEnd, Standing, Unclosed, saves_in, saves_of}
 use Rattle.ug_coord.specs.Ends.{ranks_of}
 use Rattle.ug_coord.specs.Hubs.{AnyPhase, EndsFrom, HasCome, HasSentTo, HubSeen, IsClosedBelow, IsFit, IsKeptIn, Phase, StaysSound, standing}
 use Rattle.ug_coord.specs.Keeping.{KeptSeen}
 use Rattle.ug_coord.proofs.Coursing.{course_more, frame_of_end, only_faults, said_more}
-use Rattle.ug_coord.proofs.Kept.{sound_more, where_moves}
+use Rattle.ug_coord.proofs.Kept.{saves_joined, sound_more, tried_still, where_moves}
 
 still_told : (rank : ℕ) (deeds : List Deed) (deed : Deed) → IsToldEnd rank deeds
     → IsToldEnd rank (deeds ++ deed ∷ [])
@@ -37,9 +37,9 @@ closes : (from : Standing) (h next : HubSeen) (old new : KeptSeen) (rank : ℕ) 
     → ((said : List Exchange) (phase : Phase)
     → Does (standing said phase h) deed (standing (said ++ more) (closing phase) next))
     → next.crew.lives ≡ h.crew.lives → (IsFit h → IsFit next)
-    → ((deeds : List Deed) → IsToldEnd rank (deeds ++ deed ∷ []))
+    → ((deeds : List Deed) → IsToldEnd rank (deeds ++ deed ∷ [])) → saves_of deed ≡ 0
     → IsClosedBelow rank from h old new → IsClosedBelow (suc rank) from next old new
-closes from h next old new rank deed more adds does lives fits told k =
+closes from h next old new rank deed more adds does lives fits told none k =
     let on = k.kept.on in
     let phase = k.kept.phase in
     let mid : Standing = standing on.said phase h in
@@ -62,6 +62,8 @@ closes from h next old new rank deed more adds does lives fits told k =
             new.saves old.disk new.disk
             (sound_more from on.come.deeds mid now deed on.come.course (does on.said phase)) (λ ours. ours)
             k.kept.moves;
+        tried = tried_still old new (saves_in on.come.deeds) (saves_in (on.come.deeds ++ deed ∷ []))
+            (omega (arith, saves_joined on.come.deeds (deed ∷ []), none)) k.kept.tried;
       };
       closed = λ r below alive. elim (cases_lt r rank) [
         | inl before ↦ still_told r on.come.deeds deed
@@ -90,7 +92,7 @@ closed_on from h next old new rank bytes is alive sent k =
       streams = ap (λ (n : HubSeen). length n.streams) sent.rest ∙ fit.streams
           ∙ sym (ap (λ (n : HubSeen). ranks_of n.book) sent.rest);
     })
-    (λ deeds. inl (Contains-push deeds (Closed rank))) k
+    (λ deeds. inl (Contains-push deeds (Closed rank))) refl k
 
 pub unclosed_on : (from : Standing) (h next : HubSeen) (old new : KeptSeen) (rank : ℕ)
     → IsSilent h.crew next.crew → Rose h.crew.faults next.crew.faults → next ≡ record h { crew = next.crew }
@@ -112,7 +114,7 @@ unclosed_on from h next old new rank silent faults rest k =
       streams = ap (λ (n : HubSeen). length n.streams) same ∙ fit.streams
           ∙ sym (ap (λ (n : HubSeen). ranks_of n.book) same);
     })
-    (λ deeds. inr (Contains-push deeds (Unclosed rank))) k
+    (λ deeds. inr (Contains-push deeds (Unclosed rank))) refl k
 
 -- a rank that does not live is not told
 pub away_on : (from : Standing) (h : HubSeen) (old new : KeptSeen) (rank : ℕ)
@@ -154,8 +156,10 @@ ends_kept from h seen old new n still calm all k =
       come = on.come;
       shown = subst (λ told. IfSome told (λ t. t ≡ on.said)) (sym still) on.shown;
       its = refl;
+      pacing = refl;
       wants = refl;
       faults = sym calm;
       closed = all_closed from h old new n all k;
       moves = k.kept.moves;
+      tried = k.kept.tried;
     }

@@ -23,7 +23,7 @@ use Rattle.ug_rules.specs.Hearing.{after_hearing, counted, counted_under, done_a
 use Rattle.ug_rules.specs.Ranks.{ranks_that}
 use Rattle.ug_book.specs.Reads.{IsOrderTold}
 use Rattle.ug_book.specs.Views.{IsSameRun}
-use Rattle.ug_coord.specs.Deeds.{Broke, Came, Closed, Decided, Deed, Does, Halted, IsCourse, Launched, Lost, Passed, Sent, SetUp, Standing, Took, Unclosed, Unfed, Unread, Unsent, Unwritten}
+use Rattle.ug_coord.specs.Deeds.{Broke, Came, Closed, Decided, Deed, Does, Halted, IsCourse, Kept as Saved, Launched, Lost, Passed, Sent, SetUp, Standing, Took, Unclosed, Unfed, Unread, Unsent, Unwritten}
 use Rattle.ug_coord.specs.Ends.{IsOver}
 use Rattle.ug_coord.specs.Hubs.{HearsOne, IsOneMore, IsQuiet}
 use Rattle.ug_coord.proofs.Kept.{run_on}
@@ -314,6 +314,8 @@ deed_within old (Unfed rank bytes) new does within =
     book_within old new (ap (λ (s : Standing). s.book) does.rest) within
 deed_within old Unread new does within =
     book_within old new (ap (λ (s : Standing). s.book) does.1) within
+deed_within old Saved new does within =
+    book_within old new (ap (λ (s : Standing). s.book) does.rest) within
 
 pub course_within : (old : Standing) (deeds : List Deed) (new : Standing) → IsCourse old deeds new
     → IsWithin old.book → IsWithin new.book

@@ -25,7 +25,9 @@ use Rattle.ug_rules.specs.Deaths.{killed}
 use Rattle.ug_rules.specs.Deciding.{IsDecided, Stands}
 use Rattle.ug_rules.specs.Hearing.{IsDue, after_hearing}
 use Rattle.ug_book.specs.Reads.{IsOrderTold}
-use Rattle.ug_coord.specs.Deeds.{Broke, Came, Decided, Deciding, Deed, Does, Ended, Failed, Halted, Hearing, IsCourse, IsHearing, IsMoreWanted, IsReading, Launched, Lost, MayBeRead, MayDecide, Nonsense, Passed, Reading, Sent, SetUp, Standing, Took, Unfed, Unread, Unsent, Unwritten}
+use Rattle.ug_coord.specs.Deeds.{Broke, Came, Decided, Deciding, Deed, Does, Ended, Failed, Halted, Hearing, IsCourse, IsHearing, IsMoreWanted, IsReading, Kept, Launched, Lost, MayBeRead, MayDecide, Nonsense, Passed, Reading, Sent, SetUp, Standing, Took, Unfed, Unread, Unsent, Unwritten}
+use Rattle.ug_coord.specs.declared.pacing.Pacing.{Pacing}
+use Rattle.ug_coord.specs.Pacing.{IsSaveDue, saved_at}
 use Rattle.ug_coord.specs.Ends.{IsOver, ranks_of}
 use Rattle.ug_stream.specs.declared.next.Next.TheVariants.{BadFrame, Message, NeedMore}
 use Rattle.ug_coord.specs.Reading.{HasBroken, HasFed, HasGone, HasLacked, HasRead}
@@ -131,6 +133,7 @@ failed_on phase b old new rank h on =
       broken = refl;
       wants = ap (λ (h : HubSeen). h.wants) h.rest;
       pace = refl;
+      pacing = ap (λ (h : HubSeen). h.pacing) h.rest;
       book = ap (λ (h : HubSeen). h.book) h.rest;
     })
     (fit_without old new rank lives streams h.ranks on.fit) on
@@ -170,6 +173,7 @@ lost_on phase b old new rank broken there rest ranks on =
       broken = refl;
       wants = ap (λ (h : HubSeen). h.wants) rest;
       pace = refl;
+      pacing = ap (λ (h : HubSeen). h.pacing) rest;
       book = ap (λ (h : HubSeen). h.book) rest;
     })
     (fit_without old new rank lives streams ranks on.fit) on
@@ -288,14 +292,15 @@ set_up_on false phase b old new rank frame alive setup came on = failed_on phase
 
 -- ---- decisions
 
-pub decided_on : (phase : Phase) (b : Standing) (old new : HubSeen) → ¬ IsOver old.book → MayDecide phase.pace
+pub decided_on : (phase : Phase) (b : Standing) (old new : HubSeen) → ¬ IsOver old.book
+    → ¬ IsSaveDue old.pacing old.book → MayDecide phase.pace
     → IsDecided old.book new.book → ranks_of new.book ≡ ranks_of old.book → new ≡ record old { book = new.book }
     → IsOnAs phase b old → IsOnAs (record { broken = phase.broken; pace = Hearing }) b new
-decided_on phase b old new more due is ranks rest on =
+decided_on phase b old new more saved due is ranks rest on =
     let after : Phase = record { broken = phase.broken; pace = Hearing } in
     on_still phase after b old new Decided (ap (λ (h : HubSeen). h.crew.said) rest)
     (λ said. record {
-      deciding = record { more = more; due = due };
+      deciding = record { more = more; due = due; saved = saved };
       is = is;
       rest = ap (λ (h : HubSeen). standing said after h) rest;
     })
@@ -306,14 +311,14 @@ decided_on phase b old new more due is ranks rest on =
 
 -- a decision was cut short
 pub halted_on : (phase : Phase) (b : Standing) (old new : HubSeen) (steps : ℕ) → ¬ IsOver old.book
-    → MayDecide phase.pace → Stands steps old.book new.book → ranks_of new.book ≡ ranks_of old.book
+    → ¬ IsSaveDue old.pacing old.book → MayDecide phase.pace → Stands steps old.book new.book → ranks_of new.book ≡ ranks_of old.book
     → new ≡ record old { wants = true; book = new.book } → IsOnAs phase b old
     → IsOnAs (record { broken = phase.broken; pace = Hearing }) b new
-halted_on phase b old new steps more due is ranks rest on =
+halted_on phase b old new steps more saved due is ranks rest on =
     let after : Phase = record { broken = phase.broken; pace = Hearing } in
     on_still phase after b old new (Halted steps) (ap (λ (h : HubSeen). h.crew.said) rest)
     (λ said. record {
-      deciding = record { more = more; due = due };
+      deciding = record { more = more; due = due; saved = saved };
       is = is;
       rest = ap (λ (h : HubSeen). standing said after h) rest;
     })
@@ -328,9 +333,9 @@ halted_on phase b old new steps more due is ranks rest on =
 pub fed_on : (phase : Phase) (b : Standing) (old new : HubSeen) (rank : ℕ) → ¬ IsOver old.book
     → old.book.orders ≡ [] → phase.pace ≡ Hearing
     → HasFed old.crew new.crew old.streams new.streams rank → new.book ≡ old.book → new.wants ≡ old.wants
-    → IsOnAs phase b old
+    → new.pacing ≡ old.pacing → IsOnAs phase b old
     → IsOnAs (record { broken = phase.broken; pace = Reading }) b new
-fed_on phase b old new rank more told decided h book wants on =
+fed_on phase b old new rank more told decided h book wants pacing on =
     let after : Phase = record { broken = phase.broken; pace = Reading } in
     let ranks = ap (λ (b : BookState). ranks_of b) book in
     on_more phase after b old new (Came rank h.bytes) (heard_from rank h.bytes) h.said
@@ -343,19 +348,27 @@ fed_on phase b old new rank more told decided h book wants on =
           h.faults
           ∙ ap (λ (l : List Waiting). record (standing (said ++ heard_from rank h.bytes) after old) {
             wants = new.wants;
+            pacing = new.pacing;
             streams = l;
             book = new.book;
           })
           h.streams
           ∙ ap (λ (book : BookState). record (standing (said ++ heard_from rank h.bytes) after old) {
             wants = new.wants;
+            pacing = new.pacing;
             streams = slice_set old.streams rank (fed (slice_index_or old.streams rank first) h.bytes);
             book = book;
           }) book
           ∙ ap (λ (w : Bool). record (standing (said ++ heard_from rank h.bytes) after old) {
             wants = w;
+            pacing = new.pacing;
             streams = slice_set old.streams rank (fed (slice_index_or old.streams rank first) h.bytes);
-          }) wants;
+          }) wants
+          ∙ ap (λ (p : Pacing). record (standing (said ++ heard_from rank h.bytes) after old) {
+            wants = old.wants;
+            pacing = p;
+            streams = slice_set old.streams rank (fed (slice_index_or old.streams rank first) h.bytes);
+          }) pacing;
     })
     (record {
       lives = ap (λ (l : List Bool). length l) h.lives ∙ on.fit.lives ∙ sym ranks;
@@ -367,9 +380,9 @@ fed_on phase b old new rank more told decided h book wants on =
 pub lacked_on : (phase : Phase) (b : Standing) (old new : HubSeen) (rank : ℕ) → ¬ IsOver old.book
     → old.book.orders ≡ [] → phase.pace ≡ Hearing
     → HasLacked old.crew new.crew old.streams new.streams rank → new.book ≡ old.book → new.wants ≡ true
-    → IsOnAs phase b old
+    → new.pacing ≡ old.pacing → IsOnAs phase b old
     → IsOnAs (record { broken = phase.broken; pace = Reading }) b new
-lacked_on phase b old new rank more told decided h book wants on =
+lacked_on phase b old new rank more told decided h book wants pacing on =
     let after : Phase = record { broken = phase.broken; pace = Reading } in
     let ranks = ap (λ (b : BookState). ranks_of b) book in
     on_more phase after b old new (Unfed rank h.bytes) (heard_from rank h.bytes) h.said
@@ -382,19 +395,27 @@ lacked_on phase b old new rank more told decided h book wants on =
           h.faults
           ∙ ap (λ (l : List Waiting). record (standing (said ++ heard_from rank h.bytes) after old) {
             wants = new.wants;
+            pacing = new.pacing;
             streams = l;
             book = new.book;
           })
           h.streams
           ∙ ap (λ (book : BookState). record (standing (said ++ heard_from rank h.bytes) after old) {
             wants = new.wants;
+            pacing = new.pacing;
             streams = slice_set old.streams rank (shut (slice_index_or old.streams rank first));
             book = book;
           }) book
           ∙ ap (λ (w : Bool). record (standing (said ++ heard_from rank h.bytes) after old) {
             wants = w;
+            pacing = new.pacing;
             streams = slice_set old.streams rank (shut (slice_index_or old.streams rank first));
-          }) wants;
+          }) wants
+          ∙ ap (λ (p : Pacing). record (standing (said ++ heard_from rank h.bytes) after old) {
+            wants = true;
+            pacing = p;
+            streams = slice_set old.streams rank (shut (slice_index_or old.streams rank first));
+          }) pacing;
     })
     (record {
       lives = ap (λ (l : List Bool). length l) h.lives ∙ on.fit.lives ∙ sym ranks;
@@ -460,6 +481,7 @@ nonsense_on phase b old mid new rank stream at bad step lost ranks there more to
       broken = refl;
       wants = ap (λ (h : HubSeen). h.wants) both;
       pace = refl;
+      pacing = ap (λ (h : HubSeen). h.pacing) both;
       book = ap (λ (h : HubSeen). h.book) both;
     })
     (record {
@@ -475,9 +497,9 @@ pub gone_on : (phase : Phase) (b : Standing) (old new : HubSeen) (rank : ℕ)
     → Adds old.crew.said new.crew.said (Gone rank ∷ []) → Rose old.crew.faults new.crew.faults
     → new.crew.lives ≡ slice_set old.crew.lives rank false → new.streams ≡ old.streams
     → new.book ≡ killed rank old.book → ranks_of new.book ≡ ranks_of old.book → new.wants ≡ old.wants
-    → ¬ IsOver old.book → old.book.orders ≡ [] → phase.pace ≡ Hearing → IsOnAs phase b old
+    → new.pacing ≡ old.pacing → ¬ IsOver old.book → old.book.orders ≡ [] → phase.pace ≡ Hearing → IsOnAs phase b old
     → IsOnAs (record { broken = phase.broken; pace = Deciding }) b new
-gone_on phase b old new rank there alive adds faults lives streams book ranks wants more told decided on =
+gone_on phase b old new rank there alive adds faults lives streams book ranks wants pacing more told decided on =
     on_more phase (record { broken = phase.broken; pace = Deciding }) b old new (Lost rank Ended) (Gone rank ∷ []) adds
     (λ said. record {
       there = there;
@@ -492,6 +514,7 @@ gone_on phase b old new rank there alive adds faults lives streams book ranks wa
       broken = refl;
       wants = wants;
       pace = refl;
+      pacing = pacing;
       book = book;
     })
     (fit_without old new rank lives streams ranks on.fit) on
@@ -578,33 +601,33 @@ unread_by b old new more told rest streams (phase, may, on) =
 -- bytes came
 pub fed_by : (b : Standing) (old new : HubSeen) (rank : ℕ) → ¬ IsOver old.book → old.book.orders ≡ []
     → HasFed old.crew new.crew old.streams new.streams rank → new.book ≡ old.book → new.wants ≡ old.wants
-    → IsOnIn (is_next Hearing) b old → IsOnIn (is_next Reading) b new
-fed_by b old new rank more told h book wants (phase, decided, on) = (
+    → new.pacing ≡ old.pacing → IsOnIn (is_next Hearing) b old → IsOnIn (is_next Reading) b new
+fed_by b old new rank more told h book wants pacing (phase, decided, on) = (
   record { broken = phase.broken; pace = Reading },
   refl,
-  fed_on phase b old new rank more told decided h book wants on,
+  fed_on phase b old new rank more told decided h book wants pacing on,
 )
 
 -- and memory was wanting to keep them
 pub lacked_by : (b : Standing) (old new : HubSeen) (rank : ℕ) → ¬ IsOver old.book → old.book.orders ≡ []
     → HasLacked old.crew new.crew old.streams new.streams rank → new.book ≡ old.book → new.wants ≡ true
-    → IsOnIn (is_next Hearing) b old → IsOnIn (is_next Reading) b new
-lacked_by b old new rank more told h book wants (phase, decided, on) = (
+    → new.pacing ≡ old.pacing → IsOnIn (is_next Hearing) b old → IsOnIn (is_next Reading) b new
+lacked_by b old new rank more told h book wants pacing (phase, decided, on) = (
   record { broken = phase.broken; pace = Reading },
   refl,
-  lacked_on phase b old new rank more told decided h book wants on,
+  lacked_on phase b old new rank more told decided h book wants pacing on,
 )
 
 -- word that a rank is gone
 pub gone_by : (b : Standing) (old new : HubSeen) (rank : ℕ) → ¬ IsOver old.book → old.book.orders ≡ []
     → HasGone old.crew new.crew old.streams new.streams rank → new.book ≡ killed rank old.book
-    → ranks_of new.book ≡ ranks_of old.book → new.wants ≡ old.wants → IsOnIn (is_next Hearing) b old
-    → IsOnIn (is_next Deciding) b new
-gone_by b old new rank more told h book ranks wants (phase, decided, on) = (
+    → ranks_of new.book ≡ ranks_of old.book → new.wants ≡ old.wants → new.pacing ≡ old.pacing
+    → IsOnIn (is_next Hearing) b old → IsOnIn (is_next Deciding) b new
+gone_by b old new rank more told h book ranks wants pacing (phase, decided, on) = (
   record { broken = phase.broken; pace = Deciding },
   refl,
   gone_on phase b old new rank (omega (arith, h.lost.alive.there, on.fit.lives)) h.lost.alive.lives h.lost.said
-      h.lost.faults h.lost.lives h.streams book ranks wants more told decided on,
+      h.lost.faults h.lost.lives h.streams book ranks wants pacing more told decided on,
 )
 
 pub only_faults : (a c : CrewSeen) → IsSilent a c → c ≡ record a { faults = c.faults }
@@ -615,14 +638,15 @@ only_faults a c silent =
 -- it failed
 pub broke_by : (b : Standing) (old new : HubSeen) → ¬ IsOver old.book → old.book.orders ≡ []
     → HasBroken old.crew new.crew old.streams new.streams → new.book ≡ old.book → new.wants ≡ old.wants
-    → IsOnIn (is_next Hearing) b old → IsOnIn IsBrokenOff b new
-broke_by b old new more told h book wants (phase, decided, on) = (
+    → new.pacing ≡ old.pacing → IsOnIn (is_next Hearing) b old → IsOnIn IsBrokenOff b new
+broke_by b old new more told h book wants pacing (phase, decided, on) = (
   record { broken = true; pace = Deciding },
   record { broken = refl; due = refl },
   broke_on phase b old new more told decided h.faults
       (ap (λ (l : List Waiting). record new { streams = l }) h.streams
       ∙ ap (λ (w : Bool). record new { wants = w; streams = old.streams }) wants
-      ∙ ap (λ (book : BookState). record old { crew = new.crew; book = book }) book
+      ∙ ap (λ (book : BookState). record old { crew = new.crew; pacing = new.pacing; book = book }) book
+      ∙ ap (λ (p : Pacing). record old { crew = new.crew; pacing = p }) pacing
       ∙ ap (λ (crew : CrewSeen). record old { crew = crew }) (only_faults old.crew new.crew h.silent)) on,
 )
 
@@ -634,24 +658,33 @@ lost_in b old new rank there rest ranks (phase, is, on) =
 
 -- ---- decisions
 
-pub decided_by : (b : Standing) (old new : HubSeen) → ¬ IsOver old.book → IsDecided old.book new.book
+pub decided_by : (b : Standing) (old new : HubSeen) → ¬ IsOver old.book → ¬ IsSaveDue old.pacing old.book
+    → IsDecided old.book new.book
     → ranks_of new.book ≡ ranks_of old.book → new ≡ record old { book = new.book } → IsOnIn IsRested b old
     → IsOnIn (is_next Hearing) b new
-decided_by b old new more is ranks rest (phase, due, on) = (
+decided_by b old new more saved is ranks rest (phase, due, on) = (
   record { broken = phase.broken; pace = Hearing },
   refl,
-  decided_on phase b old new more due is ranks rest on,
+  decided_on phase b old new more saved due is ranks rest on,
 )
 
 pub halted_by : (b : Standing) (old new : HubSeen) (steps : ℕ) → ¬ IsOver old.book
-    → Stands steps old.book new.book → ranks_of new.book ≡ ranks_of old.book
+    → ¬ IsSaveDue old.pacing old.book → Stands steps old.book new.book → ranks_of new.book ≡ ranks_of old.book
     → new ≡ record old { wants = true; book = new.book } → IsOnIn IsRested b old
     → IsOnIn (is_next Hearing) b new
-halted_by b old new steps more is ranks rest (phase, due, on) = (
+halted_by b old new steps more saved is ranks rest (phase, due, on) = (
   record { broken = phase.broken; pace = Hearing },
   refl,
-  halted_on phase b old new steps more due is ranks rest on,
+  halted_on phase b old new steps more saved due is ranks rest on,
 )
+
+-- the book was saved
+pub kept_on : (phase : Phase) (b : Standing) (old : HubSeen) → IsSaveDue old.pacing old.book → IsOnAs phase b old
+    → IsOnAs phase b (record old { pacing = saved_at old.book })
+kept_on phase b old due on =
+    on_still phase phase b old (record old { pacing = saved_at old.book }) Kept refl
+    (λ said. record { due = due; rest = refl })
+    (record { lives = on.fit.lives; streams = on.fit.streams }) on
 
 -- an order could not be put into bytes
 pub unwritten_on : (phase : Phase) (b : Standing) (before : BookState) (h : HubSeen) (told : Told)
@@ -709,8 +742,9 @@ reading_reads b h (phase, is, on) = (phase, subst MayBeRead (sym is) tt, on)
 -- ---- the beginning
 
 pub begun_on : (b : BookState) (h : HubSeen) → IsFresh h.crew (ranks_of b) → h.book ≡ b
-    → h.streams ≡ replicate (ranks_of b) first → h.wants ≡ false → IsOnIn IsRested (beginning b h.crew.faults) h
-begun_on b h fresh book streams wants = (
+    → h.streams ≡ replicate (ranks_of b) first → h.wants ≡ false → h.pacing ≡ record { since = b.heard; apart = 0 }
+    → IsOnIn IsRested (beginning b h.crew.faults) h
+begun_on b h fresh book streams wants pacing = (
   record { broken = false; pace = Deciding },
   tt,
   record {
@@ -723,7 +757,8 @@ begun_on b h fresh book streams wants = (
             lives = replicate (ranks_of b) false;
             streams = l;
           }) streams
-          ∙ ap (λ (w : Bool). record (beginning b h.crew.faults) { wants = w; book = h.book }) wants
+          ∙ ap (λ (w : Bool). record (beginning b h.crew.faults) { wants = w; pacing = h.pacing; book = h.book }) wants
+          ∙ ap (λ (p : Pacing). record (beginning b h.crew.faults) { pacing = p; book = h.book }) pacing
           ∙ ap (λ (own : BookState). record (beginning b h.crew.faults) { book = own }) book;
     };
     shown = fresh.said;

@@ -21,10 +21,12 @@ use Rattle.ug_restart.specs.Moments.{FindsIn, IsFoundNow, IsOfRun}
 use Rattle.ug_restart.specs.Going.{time}
 use Rattle.ug_restart.specs.Outcomes.{HasFeasible, IfAnswered, IfBook, IfLimited, IsLastSave, IsRight, IsSavedOrCounted}
 use Rattle.ug_restart.proofs.Outcomes.{none_missed, saved_or_counted, still_covered, still_found, time_covered, time_found, time_missed}
-use Rattle.ug_coord.specs.Deeds.{Standing}
+use Rattle.ug_coord.specs.Deeds.{Standing, saves_in}
+use Rattle.ug_coord.specs.declared.pacing.Pacing.{Pacing}
+use Rattle.ug_coord.specs.Pacing.{IsSaveDue}
 use Rattle.ug_coord.specs.Ends.{IsAtLimit, is_ended, ranks_of}
 use Rattle.ug_coord.specs.Hubs.{EndsFrom, HasCoordinated, HubSeen, IsFresh, StaysSound, beginning}
-use Rattle.ug_coord.specs.Keeping.{Begins, HasConcluded, HasKept, AreEachSaved, HasTriedEach, IsBegun, IsEachSaved, IsKeptSafe, IsNothing, IsOurs, KeptSeen, Moves, end_kept, missed_by, moves, savers, unsaved_by}
+use Rattle.ug_coord.specs.Keeping.{Begins, HasConcluded, HasKept, AreEachSaved, IsBegun, IsEachSaved, IsKeptSafe, IsNothing, IsOurs, KeptSeen, Moves, end_kept, missed_by, moves, savers, unsaved_by}
 use Rattle.ug_coord.proofs.Causes.{AreAlive, dead_has_cause}
 use Rattle.ug_coord.proofs.Counts.{IsWithin, course_within}
 use Rattle.ug_coord.proofs.Kept.{moves_on, sound_last}
@@ -58,9 +60,14 @@ none_lives n rank = elim (cases_lt rank n) [
   | inr past ↦ get_or_past (replicate n false) rank false (omega (arith, past, length-replicate n false))
 ]
 
+each_nothing : (saver : Option Saver) (outcome : Outcome) (disk : DiskSeen) → IsNothing outcome
+    → AreEachSaved saver outcome disk 0
+each_nothing None outcome disk none = tt
+each_nothing (Some saver) outcome disk none = no_book (IsEachSaved saver 0 outcome disk.told) outcome.end none.ended
+
 pub nothing_coordinated : (b : BookState) (seen : CrewSeen) (saver : Option Saver) (outcome : Outcome)
     (disk : DiskSeen) → IsFresh seen (ranks_of b) → AreAlive b → IsNothing outcome
-    → HasCoordinated b seen.faults seen outcome.end (IsKeptSafe saver disk disk)
+    → HasCoordinated b seen.faults seen outcome.end (AreEachSaved saver outcome disk) (IsKeptSafe saver disk disk)
 nothing_coordinated b seen saver outcome disk fresh alive none = record {
   now = beginning b seen.faults;
   come = record { deeds = []; course = refl };
@@ -70,11 +77,13 @@ nothing_coordinated b seen saver outcome disk fresh alive none = record {
   ended = ended_nothing outcome.end b none.ended;
   failed = refl;
   wants = no_book (λ book. false ≡ false) outcome.end none.ended;
+  saved = no_book (λ book. ¬ IsSaveDue (record { since = b.heard; apart = 0 }) book) outcome.end none.ended;
   same = no_book (IsSameRun b) outcome.end none.ended;
   feasible = no_book HasFeasible outcome.end none.ended;
   limited = no_limit outcome.end none.ended;
   causes = λ rank there dead. absurd (false≢true (sym dead ∙ alive rank there));
   right = no_answer (λ book. IsSoundBook book → IsRight book) outcome.end none.ended;
+  tried = each_nothing saver outcome disk none;
   safe = λ sound. safe_still saver disk;
 }
 
@@ -89,11 +98,6 @@ found_nothing : (b : BookState) (saver : Option Saver) (disk : DiskSeen)
     → IfSome saver (λ s. IsFoundNow (IsOfRun b) s disk.told → Leaves (FindsIn (IsOfRun b)) disk.told disk.told)
 found_nothing b None disk = tt
 found_nothing b (Some saver) disk = λ now. still_found (IsOfRun b) saver disk.told disk.told refl now
-
-pub each_nothing : (saver : Option Saver) (outcome : Outcome) (disk : DiskSeen) → IsNothing outcome
-    → AreEachSaved saver outcome disk
-each_nothing None outcome disk none = tt
-each_nothing (Some saver) outcome disk none = no_book (IsEachSaved saver outcome disk.told) outcome.end none.ended
 
 pub nothing_kept : (b : BookState) (saver : Option Saver) (outcome : Outcome) (disk : DiskSeen)
     → IsNothing outcome → HasKept b saver outcome disk disk
@@ -151,10 +155,11 @@ pub record IsEndingBook (b : BookState) (end : End) (wants : Bool) (book : BookS
 
 pub solved_coordinated : (b : BookState) (faults : ℕ) (h : HubSeen) (old mid : KeptSeen) (disk : DiskSeen)
     (outcome : Outcome) → EndsFrom (beginning b faults) h old mid → IsEndingBook b outcome.end h.wants h.book
-    → IsOurs mid h.book
+    → IsOurs mid h.book → ¬ IsSaveDue h.pacing h.book → (o : Opening) → IfSome old.saves (IsBegun o)
     → HasConcluded outcome mid disk
-    → HasCoordinated b faults h.crew outcome.end (IsKeptSafe (savers old.saves) old.disk disk)
-solved_coordinated b faults h old mid disk outcome e is ours c = record {
+    → HasCoordinated b faults h.crew outcome.end (AreEachSaved (savers old.saves) outcome disk)
+    (IsKeptSafe (savers old.saves) old.disk disk)
+solved_coordinated b faults h old mid disk outcome e is ours saved o own c = record {
   now = e.now;
   come = e.come;
   made = inl is.made;
@@ -163,6 +168,8 @@ solved_coordinated b faults h old mid disk outcome e is ours c = record {
   ended = subst (is_ended outcome.end) (sym e.its) is.ended;
   failed = e.faults;
   wants = subst (λ (w : Bool). IfBook outcome.end (λ own. w ≡ false)) (sym e.wants) is.lacks;
+  saved = book_has (λ book. ¬ IsSaveDue e.now.pacing book) outcome.end h.book is.ended
+      (subst (λ (p : Pacing). ¬ IsSaveDue p h.book) (sym e.pacing) saved);
   same = book_has (IsSameRun b) outcome.end h.book is.ended is.same;
   feasible = is.feasible;
   limited = at_limit outcome.end h.book is.ended (subst IsWithin e.its
@@ -170,6 +177,8 @@ solved_coordinated b faults h old mid disk outcome e is ours c = record {
   causes = λ rank there dead.
       dead_has_cause (beginning b faults) e.come.deeds e.now rank e.come.course (is.alive rank there) dead;
   right = is.right;
+  tried = each_saved (IfBook outcome.end IsSoundBook) (IfBook outcome.end (IsOurs mid)) o outcome (saves_in e.come.deeds)
+      old.saves mid.saves c.saves mid.disk disk own e.tried c.became c.moves c.missed c.unsaved;
   safe = λ sound. safe_moved (StaysSound (beginning b faults) e.now e.come) old.saves c.saves old.disk disk
       (all_moved (beginning b faults) h old mid disk outcome e is.ended ours c) sound;
 }
@@ -224,13 +233,6 @@ solved_kept o from h old mid disk outcome e is ours own c =
     (some_saver (StaysSound from e.now e.come) (Unit {0}) old.saves mid.saves old.disk mid.disk
     (IsSavedOrCounted outcome disk.told) e.moves
     (saved_end outcome mid.saves c.saves mid.disk disk c.became c.missed c.unsaved))
-
-pub solved_each : (o : Opening) (book : BookState) (old mid : KeptSeen) (disk : DiskSeen) (outcome : Outcome)
-    → is_ended outcome.end book → IfSome old.saves (IsBegun o) → HasTriedEach (opening_book o) book old mid
-    → HasConcluded outcome mid disk → AreEachSaved (savers old.saves) outcome disk
-solved_each o book old mid disk outcome is own each c =
-    each_saved (IfBook outcome.end IsSoundBook) (IfBook outcome.end (IsOurs mid)) o outcome book old.saves
-    mid.saves c.saves old.disk mid.disk disk own each is c.became c.moves c.missed c.unsaved
 
 -- ---- the saver that there was
 

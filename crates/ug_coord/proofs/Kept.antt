@@ -1,7 +1,8 @@
 -- How what is saved goes on beside the deeds.
-use Rattle.std.proofs.Common.{◌≡◌, List, [], ◌∷◌, ◌++◌, length, Option, None, Some, IfSome, refl, sym, ap, subst, ◌∙◌}
+use Rattle.std.proofs.Common.{◌≡◌, ℕ, ◌+◌, ◌≤◌, List, [], ◌∷◌, ◌++◌, length, Option, None, Some, IfSome, refl, sym, ap, subst, ◌∙◌, arith}
 use Rattle.ug_disk.specs.Histories.{DiskSeen}
 use Rattle.ug_rules.specs.State.{BookState}
+use Rattle.ug_rules.specs.declared.settings.Settings.{Settings}
 use Rattle.ug_rules.specs.Books.{IsSoundBook}
 use Rattle.ug_book.specs.Openings.{opening_book}
 use Rattle.ug_book.specs.Views.{IsSameRun}
@@ -10,9 +11,12 @@ use Rattle.ug_restart.specs.Saves.{book_of}
 use Rattle.ug_restart.specs.Going.{time}
 use Rattle.ug_restart.proofs.Going.{goes_nowhere, goes_on, goes_where}
 use Rattle.ug_coord.proofs.Coursing.{course_more}
-use Rattle.ug_coord.specs.Deeds.{AreSound, Deed, Does, IsCourse, Standing}
+use Rattle.ug_coord.specs.Deeds.{AreSound, Broke, Came, Closed, Decided, Deed, Does, Halted, IsCourse, Kept as Saved, Launched, Lost, Passed, Sent, SetUp, Standing, Took, Unclosed, Unfed, Unread, Unsent, Unwritten, saves_in, saves_of}
+use Rattle.ug_coord.specs.declared.pacing.Pacing.{Pacing}
+use Rattle.ug_coord.specs.Pacing.{IsSaveDue, is_due, saved_at}
+use Rattle.ug_coord.proofs.Tries.{tried_none, tried_on}
 use Rattle.ug_coord.specs.Hubs.{AnyPhase, EndsFrom, HasCome, HubSeen, IsKeptIn, IsOnIn, Phase, StaysSound, standing}
-use Rattle.ug_coord.specs.Keeping.{IsOurs, KeptSeen, Moves, moves}
+use Rattle.ug_coord.specs.Keeping.{HasTried, IsOurs, KeptSeen, Moves, moves}
 
 -- ---- courses
 
@@ -113,16 +117,94 @@ pub ours_on : (Covers Ours : Type 0) (old new : KeptSeen) (b c : BookState) → 
 ours_on Covers Ours old new b c one same ours =
     ours_same new.saves b c same (ours_moved Covers Ours old.saves new.saves old.disk new.disk b one ours)
 
+-- ---- how many deeds are saves
+
+pub saves_joined : (deeds more : List Deed) → saves_in (deeds ++ more) ≡ saves_in deeds + saves_in more
+saves_joined [] more = omega arith
+saves_joined (deed ∷ deeds) more = omega (arith, saves_joined deeds more)
+
+-- with each save the count of reports that it was made at rises, and with no other deed
+deed_saves : (old : Standing) (deed : Deed) (new : Standing) → Does old deed new
+    → old.pacing.since + saves_of deed ≤ new.pacing.since
+deed_saves old (Launched rank) new does = omega (arith, ap (λ (s : Standing). s.pacing.since) does.1)
+deed_saves old (SetUp rank bytes) new does = omega (arith, ap (λ (s : Standing). s.pacing.since) does.rest)
+deed_saves old (Closed rank) new does = omega (arith, ap (λ (s : Standing). s.pacing.since) does.rest)
+deed_saves old (Came rank bytes) new does = omega (arith, ap (λ (s : Standing). s.pacing.since) does.rest)
+deed_saves old (Took rank report answer) new does = omega (arith, ap (λ (s : Standing). s.pacing.since) does.rest)
+deed_saves old (Lost rank cause) new does = omega (arith, ap (λ (p : Pacing). p.since) does.pacing)
+deed_saves old Decided new does = omega (arith, ap (λ (s : Standing). s.pacing.since) does.rest)
+deed_saves old (Sent rank order) new does = omega (arith, ap (λ (s : Standing). s.pacing.since) does.rest)
+deed_saves old (Unsent rank order) new does = omega (arith, ap (λ (s : Standing). s.pacing.since) does.rest)
+deed_saves old (Passed rank order) new does = omega (arith, ap (λ (s : Standing). s.pacing.since) does.rest)
+deed_saves old Broke new does = omega (arith, ap (λ (s : Standing). s.pacing.since) does.rest)
+deed_saves old (Unclosed rank) new does = omega (arith, ap (λ (s : Standing). s.pacing.since) does.rest)
+deed_saves old (Halted steps) new does = omega (arith, ap (λ (s : Standing). s.pacing.since) does.rest)
+deed_saves old (Unwritten rank order) new does = omega (arith, ap (λ (s : Standing). s.pacing.since) does.rest)
+deed_saves old (Unfed rank bytes) new does = omega (arith, ap (λ (s : Standing). s.pacing.since) does.rest)
+deed_saves old Unread new does = omega (arith, ap (λ (s : Standing). s.pacing.since) does.1)
+deed_saves old Saved new does = omega (arith, ap (λ (s : Standing). s.pacing.since) does.rest, does.due.may.since)
+
+course_saves : (old : Standing) (deeds : List Deed) (new : Standing) → IsCourse old deeds new
+    → old.pacing.since + saves_in deeds ≤ new.pacing.since
+course_saves old [] new same = omega (arith, ap (λ (s : Standing). s.pacing.since) same)
+course_saves old (deed ∷ deeds) new (mid, does, more) =
+    omega (arith, deed_saves old deed mid does, course_saves mid deeds new more)
+
+-- so where it is the same, nothing was saved
+pub none_saved : (old : Standing) (deeds : List Deed) (new : Standing) → IsCourse old deeds new
+    → new.pacing ≡ old.pacing → saves_in deeds ≡ 0
+none_saved old deeds new course same =
+    omega (arith, course_saves old deeds new course, ap (λ (p : Pacing). p.since) same)
+
+-- a save is not due where it was not, and no report was heard
+pub unsaved : (old new : BookState) (a b : Pacing) → new.settings ≡ old.settings → new.heard ≡ old.heard → b ≡ a
+    → ¬ IsSaveDue a old → ¬ IsSaveDue b new
+unsaved old new a b settings heard same none due = none (record {
+  may = record {
+    since = omega (arith, due.may.since, heard, ap (λ (p : Pacing). p.since) same);
+    apart = omega (arith, due.may.apart, heard, ap (λ (p : Pacing). p.since) same, ap (λ (p : Pacing). p.apart) same);
+  };
+  due = ap (λ (n : ℕ). is_due old.settings.every n) (sym heard)
+      ∙ ap (λ (s : Settings). is_due s.every new.heard) (sym settings) ∙ due.due;
+})
+
+-- nor right behind one
+pub just_saved : (b : BookState) → ¬ IsSaveDue (saved_at b) b
+just_saved b due = absurd (omega (arith, due.may.since))
+
+pub tried_still : (old new : KeptSeen) (m n : ℕ) → n ≡ m → HasTried m old new → HasTried n old new
+tried_still old new m n same tried = subst (λ (k : ℕ). HasTried k old new) (sym same) tried
+
 -- ---- beside the deeds
 
+-- it may be said to begin where it stands
+pub onto : (P : Phase → Type 0) (from : Standing) (h : HubSeen) → IsOnIn P from h
+    → (mid : Standing) × (h.pacing ≡ mid.pacing) × IsOnIn P mid h
+onto P from h (phase, is, on) = (
+  standing on.said phase h,
+  refl,
+  (
+    phase,
+    is,
+    record {
+      said = on.said;
+      come = record { deeds = []; course = refl };
+      shown = on.shown;
+      fit = on.fit;
+    },
+  ),
+)
+
 -- nothing was saved yet
-pub kept_first : (P : Phase → Type 0) (from : Standing) (h : HubSeen) (k : KeptSeen) → IsOnIn P from h
-    → IsKeptIn P from h k k
-kept_first P from h k (phase, is, on) = record {
+pub kept_first : (P : Phase → Type 0) (from : Standing) (h : HubSeen) (k : KeptSeen) → h.pacing ≡ from.pacing
+    → IsOnIn P from h → IsKeptIn P from h k k
+kept_first P from h k same (phase, is, on) = record {
   phase = phase;
   is = is;
   on = on;
   moves = nowhere (StaysSound from (standing on.said phase h) on.come) (Unit {0}) k.saves k.disk;
+  tried = tried_still k k 0 (saves_in on.come.deeds)
+      (none_saved from on.come.deeds (standing on.said phase h) on.come.course same) (tried_none k.saves);
 }
 
 pub is_on : (P : Phase → Type 0) (from : Standing) (h : HubSeen) (old new : KeptSeen) → IsKeptIn P from h old new
@@ -131,13 +213,13 @@ is_on P from h old new k = (k.phase, k.is, k.on)
 
 pub any_kept : (P : Phase → Type 0) (from : Standing) (h : HubSeen) (old new : KeptSeen)
     → IsKeptIn P from h old new → IsKeptIn AnyPhase from h old new
-any_kept P from h old new k = record { phase = k.phase; is = tt; on = k.on; moves = k.moves }
+any_kept P from h old new k = record { phase = k.phase; is = tt; on = k.on; moves = k.moves; tried = k.tried }
 
 -- more was done, and nothing saved
 pub keeps_on : (P Q : Phase → Type 0) (from : Standing) (h next : HubSeen) (old new : KeptSeen)
-    → ((mid : Standing) → IsOnIn P mid h → IsOnIn Q mid next) → IsKeptIn P from h old new
+    → next.pacing ≡ h.pacing → ((mid : Standing) → IsOnIn P mid h → IsOnIn Q mid next) → IsKeptIn P from h old new
     → IsKeptIn Q from next old new
-keeps_on P Q from h next old new goes k =
+keeps_on P Q from h next old new same goes k =
     let mid : Standing = standing k.on.said k.phase h in
     let after = goes mid (
       k.phase,
@@ -163,21 +245,47 @@ keeps_on P Q from h next old new goes k =
           (Unit {0}) (Unit {0}) old.saves new.saves old.disk new.disk
           (sound_front from k.on.come.deeds mid on.come.deeds (standing on.said after.0 next)
           k.on.come.course on.come.course) (λ ours. ours) k.moves;
+      tried = tried_still old new (saves_in k.on.come.deeds) (saves_in (k.on.come.deeds ++ on.come.deeds))
+          (omega (
+            arith,
+            saves_joined k.on.come.deeds on.come.deeds,
+            none_saved mid on.come.deeds (standing on.said after.0 next) on.come.course same,
+          )) k.tried;
     }
 
 -- the book was saved
 pub keeps_saved : (P : Phase → Type 0) (from : Standing) (h : HubSeen) (old mid new : KeptSeen)
-    → IsOurs mid h.book
-    → Moves (IsSoundBook h.book) (IsOurs mid h.book) mid new → IsKeptIn P from h old mid
-    → IsKeptIn P from h old new
-keeps_saved P from h old mid new ours saved k = record {
-  phase = k.phase;
-  is = k.is;
-  on = k.on;
-  moves = moves_on (IsSoundBook h.book) (StaysSound from (standing k.on.said k.phase h) k.on.come)
-      (IsOurs mid h.book) (Unit {0}) old mid new
-      (sound_last from k.on.come.deeds (standing k.on.said k.phase h) k.on.come.course) (λ none. ours) k.moves saved;
-}
+    → IsSaveDue h.pacing h.book → IsOurs mid h.book
+    → Moves (IsSoundBook h.book) (IsOurs mid h.book) mid new → HasTried 1 mid new → IsKeptIn P from h old mid
+    → IsKeptIn P from (record h { pacing = saved_at h.book }) old new
+keeps_saved P from h old mid new due ours saved tried k =
+    let now : Standing = standing k.on.said k.phase h in
+    let next : HubSeen = record h { pacing = saved_at h.book } in
+    let after : Standing = standing k.on.said k.phase next in
+    let does : Does now Saved after = record { due = due; rest = refl } in
+    let come : HasCome from after = record {
+      deeds = k.on.come.deeds ++ Saved ∷ [];
+      course = course_more from k.on.come.deeds now after Saved k.on.come.course does;
+    } in
+    record {
+      phase = k.phase;
+      is = k.is;
+      on = record {
+        said = k.on.said;
+        come = come;
+        shown = k.on.shown;
+        fit = record { lives = k.on.fit.lives; streams = k.on.fit.streams };
+      };
+      moves = moves_on (IsSoundBook h.book) (StaysSound from after come) (IsOurs mid h.book) (Unit {0}) old mid new
+          (λ sound. sound_last from k.on.come.deeds now k.on.come.course
+          (sound_more from k.on.come.deeds now after Saved k.on.come.course does sound)) (λ none. ours)
+          (where_moves (StaysSound from now k.on.come) (StaysSound from after come) (Unit {0}) (Unit {0}) old.saves mid.saves
+          old.disk mid.disk (sound_more from k.on.come.deeds now after Saved k.on.come.course does) (λ none. none) k.moves)
+          saved;
+      tried = tried_still old new (saves_in k.on.come.deeds + 1) (saves_in (k.on.come.deeds ++ Saved ∷ []))
+          (saves_joined k.on.come.deeds (Saved ∷ []))
+          (tried_on (saves_in k.on.come.deeds) 1 old.saves mid.saves new.saves k.tried tried);
+    }
 
 -- what is saved is still of the run
 pub kept_ours : (P : Phase → Type 0) (from : Standing) (h : HubSeen) (old new : KeptSeen) (b c : BookState)

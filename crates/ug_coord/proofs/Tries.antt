@@ -22,7 +22,7 @@ use Rattle.ug_restart.specs.Saves.{IsLastWith, IsOfBook, missed_of, saver_of, se
 use Rattle.ug_restart.proofs.Covering.{finds_more}
 use Rattle.ug_coord.specs.Ends.{is_ended}
 use Rattle.ug_coord.specs.Hubs.{IsOneMore, IsQuiet}
-use Rattle.ug_coord.specs.Keeping.{AreEachSaved, HasTried, HasTriedEach, IsBegun, IsEachSaved, KeptSeen, Tries, end_kept, has_tried, is_due, missed_by, moves, saves_due, savers, unsaved_by}
+use Rattle.ug_coord.specs.Keeping.{AreEachSaved, IsBegun, IsEachSaved, Tries, end_kept, has_tried, missed_by, moves, savers, unsaved_by}
 
 -- ---- one save
 
@@ -81,7 +81,7 @@ tries_on m n a b c one two = record {
   unsaved = omega (arith, one.unsaved, two.unsaved);
 }
 
-tried_on : (m n : ℕ) (a b c : Option Saves) → has_tried m a b → has_tried n b c → has_tried (m + n) a c
+pub tried_on : (m n : ℕ) (a b c : Option Saves) → has_tried m a b → has_tried n b c → has_tried (m + n) a c
 tried_on m n None None None one two = tt
 tried_on m n None None (Some c) one two = absurd two
 tried_on m n None (Some b) c one two = absurd one
@@ -89,82 +89,13 @@ tried_on m n (Some a) None c one two = absurd one
 tried_on m n (Some a) (Some b) None one two = absurd two
 tried_on m n (Some a) (Some b) (Some c) one two = tries_on m n a b c one two
 
-tried_none : (a : Option Saves) → has_tried 0 a a
+pub tried_none : (a : Option Saves) → has_tried 0 a a
 tried_none None = tt
 tried_none (Some a) = record {
   more = inl (omega arith);
   missed = omega arith;
   unsaved = omega arith;
 }
-
--- ---- for each report that asks for one
-
-pub each_on : (a b c : BookState) (k l m : KeptSeen) → HasTriedEach a b k l → HasTriedEach b c l m
-    → HasTriedEach a c k m
-each_on a b c k l m one two = record {
-  count = one.count + two.count;
-  due = omega (arith, one.due, two.due);
-  tried = tried_on one.count two.count k.saves l.saves m.saves one.tried two.tried;
-}
-
--- no report was heard, and nothing saved
-pub each_none : (a b : BookState) (k : KeptSeen) → b.settings ≡ a.settings → b.heard ≡ a.heard
-    → HasTriedEach a b k k
-each_none a b k settings heard = record {
-  count = 0;
-  due = ap (λ (heard : ℕ). saves_due b.settings.every heard) heard
-      ∙ ap (λ (s : Settings). saves_due s.every a.heard) settings ∙ omega arith;
-  tried = tried_none k.saves;
-}
-
--- one at most was heard, and one was
-pub rose : (old new : ℕ) → IsOneMore old new → new ≢ old → new ≡ old + 1
-rose old new one other = elim one [
-  | inl same ↦ absurd (other same)
-  | inr more ↦ more
-]
-
-pub each_quiet : (a b : BookState) (k : KeptSeen) → IsQuiet a b → HasTriedEach a b k k
-each_quiet a b k quiet = each_none a b k quiet.run.settings quiet.heard
-
-due_by : (due : Bool) (count : ℕ) → due ≡ true
-    → (if due then count + 1 else count) ≡ count + 1
-due_by true count is = refl
-due_by false count is = absurd cc
-
-not_due_by : (due : Bool) (count : ℕ) → due ≡ false → (if due then count + 1 else count) ≡ count + 0
-not_due_by false count is = omega arith
-not_due_by true count is = absurd cc
-
--- one report more was heard, which asks for a save, and that was tried
-pub each_due : (a b : BookState) (k l : KeptSeen) → b.settings ≡ a.settings → b.heard ≡ a.heard + 1
-    → is_due b.settings.every b.heard ≡ true → HasTried 1 k l → HasTriedEach a b k l
-each_due a b k l settings heard due tried =
-    let every = b.settings.every in
-    let next : b.heard ≡ suc a.heard = omega (arith, heard) in
-    record {
-      count = 1;
-      due = ap (λ (n : ℕ). saves_due every n) next
-          ∙ due_by (is_due every (suc a.heard)) (saves_due every a.heard)
-          (ap (λ (n : ℕ). is_due every n) (sym next) ∙ due)
-          ∙ ap (λ (s : Settings). saves_due s.every a.heard + 1) settings;
-      tried = tried;
-    }
-
--- one that asks for none
-pub each_undue : (a b : BookState) (k : KeptSeen) → b.settings ≡ a.settings → b.heard ≡ a.heard + 1
-    → is_due b.settings.every b.heard ≡ false → HasTriedEach a b k k
-each_undue a b k settings heard due =
-    let every = b.settings.every in
-    let next : b.heard ≡ suc a.heard = omega (arith, heard) in
-    record {
-      count = 0;
-      due = ap (λ (n : ℕ). saves_due every n) next
-          ∙ not_due_by (is_due every (suc a.heard)) (saves_due every a.heard)
-          (ap (λ (n : ℕ). is_due every n) (sym next) ∙ due)
-          ∙ ap (λ (s : Settings). saves_due s.every a.heard + 0) settings;
-      tried = tried_none k.saves;
-    }
 
 -- ---- at the end
 
@@ -189,17 +120,17 @@ last_found own last b c y z is same =
     same is in
     finds_more z.told (IsLastWith (IsOfBook own) c) (IsImageOf own (sequence_at c)) (last_image own c) saved.0
 
-one_each : (o : Opening) (outcome : Outcome) (own : BookState) (a b c : Saves) (x y z : DiskSeen) → IsBegun o a
-    → HasTriedEach (opening_book o) own (record { saves = Some a; disk = x }) (record { saves = Some b; disk = y })
+one_each : (o : Opening) (outcome : Outcome) (own : BookState) (count : ℕ) (a b c : Saves) (y z : DiskSeen)
+    → IsBegun o a → Tries count a b
     → IsSomeAnd outcome.last (λ attempt. IsAttempted (IsOfBook own) attempt (time b y) (time c z))
     → NoneFell b c → outcome.missed ≡ missed_of c → outcome.unsaved ≡ unsaved_of c
-    → IsEachSaved (saver_of a) outcome z.told own
-one_each o outcome own a b c x y z begun each became rises missed unsaved =
-    let all = tries_on each.count 1 a b c each.tried (last_tries (IsOfBook own) outcome.last b c y z became rises) in
+    → IsEachSaved (saver_of a) count outcome z.told own
+one_each o outcome own count a b c y z begun tried became rises missed unsaved =
+    let all = tries_on count 1 a b c tried (last_tries (IsOfBook own) outcome.last b c y z became rises) in
     record {
       sequence = sequence_at c;
       tried = elim all.more [
-        | inl more ↦ inl (omega (arith, more, each.due, begun.missed, begun.unsaved, missed, unsaved))
+        | inl more ↦ inl (omega (arith, more, begun.missed, begun.unsaved, missed, unsaved))
         | inr full ↦ inr (elim full [
           | inl most ↦ inl (omega (arith, most, missed))
           | inr most ↦ inr (omega (arith, most, unsaved))
@@ -208,41 +139,28 @@ one_each o outcome own a b c x y z begun each became rises missed unsaved =
       found = last_found own outcome.last b c y z became;
     }
 
--- of the book with which it ended
-its_each : (o : Opening) (own book : BookState) (a b : Saves) (x y : DiskSeen) → own ≡ book
-    → HasTriedEach (opening_book o) book (record { saves = Some a; disk = x }) (record { saves = Some b; disk = y })
-    → HasTriedEach (opening_book o) own (record { saves = Some a; disk = x }) (record { saves = Some b; disk = y })
-its_each o own book a b x y same each =
-    subst (λ (k : BookState). HasTriedEach (opening_book o) k (record { saves = Some a; disk = x })
-    (record { saves = Some b; disk = y })) (sym same) each
-
-each_at : (o : Opening) (outcome : Outcome) (end : End) (book : BookState) (a b c : Saves) (x y z : DiskSeen)
-    → IsBegun o a
-    → HasTriedEach (opening_book o) book (record { saves = Some a; disk = x }) (record { saves = Some b; disk = y })
-    → is_ended end book
+each_at : (o : Opening) (outcome : Outcome) (end : End) (count : ℕ) (a b c : Saves) (y z : DiskSeen)
+    → IsBegun o a → Tries count a b
     → IfBook end (λ own. IsSomeAnd outcome.last
     (λ attempt. IsAttempted (IsOfBook own) attempt (time b y) (time c z)))
     → NoneFell b c → outcome.missed ≡ missed_of c → outcome.unsaved ≡ unsaved_of c
-    → IfBook end (IsEachSaved (saver_of a) outcome z.told)
-each_at o outcome (Answered own) book a b c x y z begun each is became rises missed unsaved =
-    one_each o outcome own a b c x y z begun (its_each o own book a b x y is.0 each) became rises missed unsaved
-each_at o outcome (Limited own) book a b c x y z begun each is became rises missed unsaved =
-    one_each o outcome own a b c x y z begun (its_each o own book a b x y is.0 each) became rises missed unsaved
-each_at o outcome (Stranded own) book a b c x y z begun each is became rises missed unsaved =
-    one_each o outcome own a b c x y z begun (its_each o own book a b x y is.0 each) became rises missed unsaved
-each_at o outcome Memory book a b c x y z begun each is became rises missed unsaved = tt
+    → IfBook end (IsEachSaved (saver_of a) count outcome z.told)
+each_at o outcome (Answered own) count a b c y z begun tried became rises missed unsaved =
+    one_each o outcome own count a b c y z begun tried became rises missed unsaved
+each_at o outcome (Limited own) count a b c y z begun tried became rises missed unsaved =
+    one_each o outcome own count a b c y z begun tried became rises missed unsaved
+each_at o outcome (Stranded own) count a b c y z begun tried became rises missed unsaved =
+    one_each o outcome own count a b c y z begun tried became rises missed unsaved
+each_at o outcome Memory count a b c y z begun tried became rises missed unsaved = tt
 
-pub each_saved : (Covers Ours : Type 0) (o : Opening) (outcome : Outcome) (book : BookState)
-    (a b c : Option Saves) (x y z : DiskSeen) → IfSome a (IsBegun o)
-    → HasTriedEach (opening_book o) book (record { saves = a; disk = x }) (record { saves = b; disk = y })
-    → is_ended outcome.end book → end_kept outcome.end outcome.last b y c z → moves Covers Ours b y c z
+pub each_saved : (Covers Ours : Type 0) (o : Opening) (outcome : Outcome) (count : ℕ)
+    (a b c : Option Saves) (y z : DiskSeen) → IfSome a (IsBegun o) → has_tried count a b
+    → end_kept outcome.end outcome.last b y c z → moves Covers Ours b y c z
     → outcome.missed ≡ missed_by c → outcome.unsaved ≡ unsaved_by c
-    → AreEachSaved (savers a) outcome z
-each_saved Covers Ours o outcome book None b c x y z begun each is became goes missed unsaved = tt
-each_saved Covers Ours o outcome book (Some a) None c x y z begun each is became goes missed unsaved =
-    absurd each.tried
-each_saved Covers Ours o outcome book (Some a) (Some b) None x y z begun each is became goes missed unsaved =
-    absurd became
-each_saved Covers Ours o outcome book (Some a) (Some b) (Some c) x y z begun each is became goes missed unsaved =
-    each_at o outcome outcome.end book a b c x y z begun each is became
-    (none_fell Covers Ours (time b y) (time c z) goes) missed unsaved
+    → AreEachSaved (savers a) outcome z count
+each_saved Covers Ours o outcome count None b c y z begun tried became goes missed unsaved = tt
+each_saved Covers Ours o outcome count (Some a) None c y z begun tried became goes missed unsaved = absurd tried
+each_saved Covers Ours o outcome count (Some a) (Some b) None y z begun tried became goes missed unsaved = absurd became
+each_saved Covers Ours o outcome count (Some a) (Some b) (Some c) y z begun tried became goes missed unsaved =
+    each_at o outcome outcome.end count a b c y z begun tried became (none_fell Covers Ours (time b y) (time c z) goes)
+    missed unsaved

@@ -2,7 +2,7 @@
 use Rattle.std.specs.Prelude.{◌≡◌, ℕ, true, List}
 use Rattle.std.specs.List.{Contains}
 use Rattle.ug_rules.specs.Hearing.{is_deadly}
-use Rattle.ug_coord.specs.Deeds.{Broke, Came, Closed, Decided, Deed, Halted, Launched, Lost, Passed}
+use Rattle.ug_coord.specs.Deeds.{Broke, Came, Closed, Decided, Deed, Halted, Kept, Launched, Lost, Passed}
 use Rattle.ug_coord.specs.Deeds.{Sent, SetUp, Took, Unclosed, Unfed, Unread, Unsent, Unwritten}
 
 -- with the deed the rank is taken for gone: the crew says so, a call for it or a turn failed, or what
@@ -24,6 +24,7 @@ IsEndOf rank (Halted steps) = ⊥
 IsEndOf rank (Unwritten other order) = ⊥
 IsEndOf rank (Unfed other bytes) = ⊥
 IsEndOf rank Unread = ⊥
+IsEndOf rank Kept = ⊥
 
 -- one of the deeds is such
 pub record HasCause (rank : ℕ) (deeds : List Deed) : Type 0 where

@@ -1,6 +1,6 @@
 -- What happens between a coordinator and its crew, and what the coordinator does at each piece of
 -- it.
-use Rattle.std.specs.Prelude.{◌≡◌, ◌≢◌, ◌⊎◌, ℕ, ◌<◌, Bool, true, false, List, [], ◌∷◌, ◌++◌, length}
+use Rattle.std.specs.Prelude.{◌≡◌, ◌≢◌, ◌⊎◌, ℕ, ◌+◌, ◌<◌, Bool, true, false, List, [], ◌∷◌, ◌++◌, length}
 use Rattle.std.specs.Prelude.{slice_index_or, slice_set}
 use Rattle.std.specs.List.{Contains}
 use Rattle.ug_io.specs.declared.crew.Exchange.{Exchange}
@@ -22,7 +22,9 @@ use Rattle.ug_rules.specs.Deaths.{killed}
 use Rattle.ug_rules.specs.Deciding.{IsDecided, Stands}
 use Rattle.ug_rules.specs.Hearing.{IsDue, after_hearing}
 use Rattle.ug_book.specs.Reads.{IsOrderTold}
+use Rattle.ug_coord.specs.declared.pacing.Pacing.{Pacing}
 use Rattle.ug_coord.specs.Ends.{IsOver}
+use Rattle.ug_coord.specs.Pacing.{IsSaveDue, saved_at}
 
 -- what a coordinator does next: it decides; or it was decided, and it hears what comes; or something
 -- came, and it reads what that is; or it tells the end, and nothing else any more
@@ -47,8 +49,8 @@ MayBeRead Reading = Unit {0}
 MayBeRead Closing = ⊥
 
 -- what was heard and told and who is gone; who lives; how often the crew failed, and whether a turn
--- did; whether memory was wanting; what comes next; the bytes of each rank of which no report was
--- taken yet; and the book
+-- did; whether memory was wanting; what comes next; when the next save may come; the bytes of each
+-- rank of which no report was taken yet; and the book
 pub record Standing : Type 0 where
   pub said : List Exchange
   pub lives : List Bool
@@ -56,6 +58,7 @@ pub record Standing : Type 0 where
   pub broken : Bool
   pub wants : Bool
   pub pace : Pace
+  pub pacing : Pacing
   pub streams : List Waiting
   pub book : BookState
 
@@ -71,7 +74,7 @@ pub data Cause : Type 0 where
 -- order of the book was told to its rank, or could not be, or was passed over; a turn failed; the
 -- end could not be told; and memory was wanting: so many steps of a decision stand, an order of the
 -- book could not be put into bytes, the bytes that came from a rank could not be kept, or a report
--- could not be read.
+-- could not be read. Or the book was saved, if it is to be.
 pub data Deed : Type 0 where
   Launched : ℕ → Deed
   SetUp : ℕ → List ℕ → Deed
@@ -89,6 +92,7 @@ pub data Deed : Type 0 where
   Unwritten : ℕ → Order → Deed
   Unfed : ℕ → List ℕ → Deed
   Unread : Deed
+  Kept : Deed
 
 abbrev pub lives_at : Standing → ℕ → Bool
 lives_at s rank = slice_index_or s.lives rank false
@@ -111,10 +115,11 @@ pub record IsReading (old : Standing) : Type 0 where
   pub settled : IsSettled old
   pub decided : MayBeRead old.pace
 
--- a decision is due, and no end
+-- a decision is due, and no end, nor a save: so a save comes right behind the report that asks for it
 pub record IsDeciding (old : Standing) : Type 0 where
   pub more : ¬ IsOver old.book
   pub due : MayDecide old.pace
+  pub saved : ¬ IsSaveDue old.pacing old.book
 
 -- the problem's order, with the book's gap
 pub record IsSetUp (old new : Standing) (rank : ℕ) (bytes : List ℕ) : Type 0 where
@@ -188,6 +193,7 @@ pub record IsLost (old new : Standing) (rank : ℕ) (cause : Cause) : Type 0 whe
   pub broken : new.broken ≡ old.broken
   pub wants : new.wants ≡ old.wants
   pub pace : new.pace ≡ next_after cause old.pace
+  pub pacing : new.pacing ≡ old.pacing
   pub book : new.book ≡ killed rank old.book
 
 -- the earliest order of the book was told to its rank
@@ -272,6 +278,11 @@ pub record HasBroken (old new : Standing) : Type 0 where
   pub faults : Rose old.faults new.faults
   pub rest : new ≡ record old { faults = new.faults; broken = true; pace = Deciding }
 
+-- a save was due, and was tried
+pub record IsKept (old new : Standing) : Type 0 where
+  pub due : IsSaveDue old.pacing old.book
+  pub rest : new ≡ record old { pacing = saved_at old.book }
+
 -- what a deed does
 abbrev pub Does : Standing → Deed → Standing → Type 0
 Does old (Launched rank) new = (lives_at old rank ≡ false)
@@ -291,10 +302,36 @@ Does old (Halted steps) new = HasDecided (Stands steps) true old new
 Does old (Unwritten rank order) new = IsUnwritten old new rank order
 Does old (Unfed rank bytes) new = IsUnfed old new rank bytes
 Does old Unread new = IsReading old × (new ≡ record old { wants = true; pace = Deciding })
+Does old Kept new = IsKept old new
 
 -- the end was told to the rank in one of the deeds, or that failed
 abbrev pub IsToldEnd : ℕ → List Deed → Type 0
 IsToldEnd rank deeds = Contains deeds (Closed rank) ⊎ Contains deeds (Unclosed rank)
+
+-- how many saves a deed is
+abbrev pub saves_of : Deed → ℕ
+saves_of (Launched rank) = 0
+saves_of (SetUp rank bytes) = 0
+saves_of (Closed rank) = 0
+saves_of (Came rank bytes) = 0
+saves_of (Took rank report answer) = 0
+saves_of (Lost rank cause) = 0
+saves_of Decided = 0
+saves_of (Sent rank order) = 0
+saves_of (Unsent rank order) = 0
+saves_of (Passed rank order) = 0
+saves_of Broke = 0
+saves_of (Unclosed rank) = 0
+saves_of (Halted steps) = 0
+saves_of (Unwritten rank order) = 0
+saves_of (Unfed rank bytes) = 0
+saves_of Unread = 0
+saves_of Kept = 1
+
+-- how many of the deeds are saves
+abbrev pub saves_in : List Deed → ℕ
+saves_in [] = 0
+saves_in (deed ∷ deeds) = saves_of deed + saves_in deeds
 
 -- the deeds lead from one standing to the other
 abbrev pub IsCourse : Standing → List Deed → Standing → Type 0

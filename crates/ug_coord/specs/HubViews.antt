@@ -8,6 +8,7 @@ abbrev pub hub_seen : {R O C : Type 0} → (C → CrewSeen) → Hub R O C → Hu
 hub_seen seen hub = record {
   crew = seen hub.crew;
   wants = hub.wants;
+  pacing = hub.pacing;
   streams = hub.streams.items;
   book = hub.book;
 }

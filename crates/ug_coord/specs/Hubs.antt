@@ -19,11 +19,13 @@ use Rattle.ug_restart.specs.declared.outcome.End.{End}
 use Rattle.ug_restart.specs.Outcomes.{HasFeasible, IfAnswered, IfBook, IfLimited, IsRight}
 use Rattle.ug_coord.specs.Ends.{IsAtLimit, is_ended, ranks_of}
 use Rattle.ug_coord.specs.Deeds.{AreSound, Deciding, Deed, IsCourse, IsMoreWanted, IsToldEnd, MayBeRead}
-use Rattle.ug_coord.specs.Deeds.{MayDecide, Pace, Standing, lives_at}
+use Rattle.ug_coord.specs.Deeds.{MayDecide, Pace, Standing, lives_at, saves_in}
+use Rattle.ug_coord.specs.declared.pacing.Pacing.{Pacing}
+use Rattle.ug_coord.specs.Pacing.{IsSaveDue}
 use Rattle.ug_ranks.specs.Looks.{is_alive}
 use Rattle.ug_ranks.specs.States.{state_at}
 use Rattle.ug_coord.specs.Causes.{HasCause}
-use Rattle.ug_coord.specs.Keeping.{KeptSeen, Moves}
+use Rattle.ug_coord.specs.Keeping.{HasTried, KeptSeen, Moves}
 
 -- with a crew of which nothing was said yet, no rank of which lives
 abbrev pub beginning : BookState → ℕ → Standing
@@ -34,6 +36,7 @@ beginning b faults = record {
   broken = false;
   wants = false;
   pace = Deciding;
+  pacing = record { since = b.heard; apart = 0 };
   streams = replicate (ranks_of b) first;
   book = b;
 }
@@ -47,11 +50,12 @@ pub record HasCome (from now : Standing) : Type 0 where
 abbrev pub StaysSound : (from now : Standing) → HasCome from now → Type 0
 StaysSound from now come = AreSound from come.deeds now come.course
 
--- what is seen of a coordinator: its crew, whether memory was wanting, the bytes of each rank of
--- which no report was taken yet, and its book
+-- what is seen of a coordinator: its crew, whether memory was wanting, when the next save may come,
+-- the bytes of each rank of which no report was taken yet, and its book
 pub record HubSeen : Type 0 where
   pub crew : CrewSeen
   pub wants : Bool
+  pub pacing : Pacing
   pub streams : List Waiting
   pub book : BookState
 
@@ -110,6 +114,7 @@ standing said phase h = record {
   broken = phase.broken;
   wants = h.wants;
   pace = phase.pace;
+  pacing = h.pacing;
   streams = h.streams;
   book = h.book;
 }
@@ -145,13 +150,15 @@ pub record IsBrokenOff (phase : Phase) : Type 0 where
 abbrev pub AnyPhase : Phase → Type 0
 AnyPhase phase = Unit {0}
 
--- and what is saved went on beside them: where each book of them was sound, all stays Covered
+-- and what is saved went on beside them, a save tried in each deed that is one: where each book of
+-- them was sound, all stays Covered
 pub record IsKeptIn (P : Phase → Type 0) (from : Standing) (h : HubSeen) (old new : KeptSeen)
     : Type 0 where
   pub phase : Phase
   pub is : P phase
   pub on : IsOnAs phase from h
   pub moves : Moves (StaysSound from (standing on.said phase h) on.come) (Unit {0}) old new
+  pub tried : HasTried (saves_in on.come.deeds) old new
 
 -- the end was told to each rank below n that lives, or that failed
 pub record IsClosedBelow (n : ℕ) (from : Standing) (h : HubSeen) (old new : KeptSeen) : Type 0 where
@@ -173,24 +180,27 @@ pub record IsFresh (seen : CrewSeen) (ranks : ℕ) : Type 0 where
 
 -- Deeds led from that standing to one with this book, and memory was wanting or not. The crew, where
 -- it tells what was said, tells the same, and has failed as often. Each rank that lives was told the
--- end, or that failed. What is saved went on beside them.
+-- end, or that failed. What is saved went on beside them, a save tried in each deed that is one.
 pub record EndsFrom (from : Standing) (h : HubSeen) (old new : KeptSeen) : Type 0 where
   pub now : Standing
   pub come : HasCome from now
   pub shown : IfSome h.crew.said (λ told. told ≡ now.said)
   pub its : now.book ≡ h.book
+  pub pacing : now.pacing ≡ h.pacing
   pub wants : now.wants ≡ h.wants
   pub faults : now.faults ≡ h.crew.faults
   pub closed : (rank : ℕ) → lives_at now rank ≡ true → IsToldEnd rank come.deeds
   pub moves : Moves (StaysSound from now come) (Unit {0}) old new
+  pub tried : HasTried (saves_in come.deeds) old new
 
 -- How the work ended: deeds led from the beginning with this book and a crew that had failed so often
 -- to the end, none where memory was wanting for the book itself. The crew, where it tells what was
 -- said, tells the same, and has failed as often. Each rank that lives was told the end, or that
--- failed. Memory was wanting in none of the deeds where there is a book. Where each book of them was
--- sound, it was safe.
-pub record HasCoordinated (b : BookState) (faults : ℕ) (seen : CrewSeen) (end : End) (Safe : Type 0)
-    : Type 0 where
+-- failed. Memory was wanting in none of the deeds where there is a book, and no save is due any more.
+-- So many saves were tried as there are deeds that are one. Where each book of them was sound, it was
+-- safe.
+pub record HasCoordinated (b : BookState) (faults : ℕ) (seen : CrewSeen) (end : End)
+    (Tried : ℕ → Type 0) (Safe : Type 0) : Type 0 where
   pub now : Standing
   pub come : HasCome (beginning b faults) now
   pub made : IsBook b ⊎ (come.deeds ≡ [])
@@ -199,12 +209,14 @@ pub record HasCoordinated (b : BookState) (faults : ℕ) (seen : CrewSeen) (end 
   pub ended : is_ended end now.book
   pub failed : now.faults ≡ seen.faults
   pub wants : IfBook end (λ book. now.wants ≡ false)
+  pub saved : IfBook end (λ book. ¬ IsSaveDue now.pacing book)
   pub same : IfBook end (IsSameRun b)
   pub feasible : IfBook end HasFeasible
   pub limited : IfLimited end IsAtLimit
   pub causes : (rank : ℕ) → rank < ranks_of b → is_alive (state_at now.book.ranks rank) ≡ false
       → HasCause rank come.deeds
   pub right : IfAnswered end (λ book. IsSoundBook book → IsRight book)
+  pub tried : Tried (saves_in come.deeds)
   pub safe : StaysSound (beginning b faults) now come → Safe
 
 -- none, or one more

@@ -1,6 +1,6 @@
 -- What is saved of a coordinator's book, if it is to be saved, and how that goes on.
-use Rattle.std.specs.Prelude.{◌≡◌, ◌⊎◌, ◌≤◌, ◌+◌, ◌-◌, ◌^◌, ◌%◌, ℕ, zero, suc, Bool, false, nat_eq}
-use Rattle.std.specs.Prelude.{if◌then◌else◌, Option, None, Some, IfSome, IsNone, IsSomeAnd}
+use Rattle.std.specs.Prelude.{◌≡◌, ◌⊎◌, ◌≤◌, ◌+◌, ◌-◌, ◌^◌, ℕ, Option, None, Some, IfSome, IsNone}
+use Rattle.std.specs.Prelude.{IsSomeAnd}
 use Rattle.ug_disk.specs.Crashes.{Leaves}
 use Rattle.ug_disk.specs.Histories.{DiskSeen, History}
 use Rattle.ug_rules.specs.State.{BookState}
@@ -56,16 +56,6 @@ end_kept end last (Some before) old (Some after) new = IfBook end (λ b.
 abbrev pub IsEndKept : End → Option Attempt → KeptSeen → KeptSeen → Type 0
 IsEndKept end last old new = end_kept end last old.saves old.disk new.saves new.disk
 
--- whether the report of this number asks for a save: it is a multiple of `every`, which is not 0
-abbrev pub is_due : ℕ → ℕ → Bool
-is_due every count = (if nat_eq every 0 then false else nat_eq (count % every) 0)
-
--- how many of the first reports ask for one
-abbrev pub saves_due : ℕ → ℕ → ℕ
-saves_due every zero = 0
-saves_due every (suc count) =
-    (if is_due every (suc count) then saves_due every count + 1 else saves_due every count)
-
 -- how many saves were tried: those that were acknowledged, each under the next sequence, those
 -- missed, and those for which memory was wanting
 abbrev pub tried_of : Saves → ℕ
@@ -91,12 +81,6 @@ has_tried count (Some before) (Some after) = Tries count before after
 
 abbrev pub HasTried : ℕ → KeptSeen → KeptSeen → Type 0
 HasTried count old new = has_tried count old.saves new.saves
-
--- from one book to the other a save was tried for each report that asks for one
-pub record HasTriedEach (from to : BookState) (old new : KeptSeen) : Type 0 where
-  pub count : ℕ
-  pub due : saves_due to.settings.every to.heard ≡ saves_due from.settings.every from.heard + count
-  pub tried : HasTried count old new
 
 -- how many saves were missed, and how many were not made for want of memory
 abbrev pub missed_by : Option Saves → ℕ
@@ -130,21 +114,20 @@ abbrev pub IsKeptSafe : Option Saver → DiskSeen → DiskSeen → Type 0
 IsKeptSafe saver old new =
     IfSome saver (λ s. IsCoveredNow s old.told → AllCovered old.told new.told)
 
--- A save was tried on each delivery whose number is a multiple of `every`, and one of the ending
--- book: each that succeeded has the next sequence, and the others are counted. Where the last one
--- succeeded, recovery finds the ending book's image under that sequence.
-pub record IsEachSaved (saver : Saver) (outcome : Outcome) (told : Option History) (b : BookState)
-    : Type 0 where
+-- So many saves were tried while it worked, and one of the ending book: each that succeeded has the
+-- next sequence, and the others are counted. Where the last one succeeded, recovery finds the ending
+-- book's image under that sequence.
+pub record IsEachSaved (saver : Saver) (count : ℕ) (outcome : Outcome) (told : Option History)
+    (b : BookState) : Type 0 where
   pub sequence : ℕ
-  pub tried : (sequence + outcome.missed + outcome.unsaved
-      ≡ sequence_of saver + saves_due b.settings.every b.heard + 1)
+  pub tried : (sequence + outcome.missed + outcome.unsaved ≡ sequence_of saver + count + 1)
       ⊎ IsFull outcome.missed outcome.unsaved
   pub found : outcome.last ≡ Some Saved → FindsOne (IsImageOf b sequence) told
 
 -- so it was, if there is a saver, and the run ended with a book
-abbrev pub AreEachSaved : Option Saver → Outcome → DiskSeen → Type 0
-AreEachSaved saver outcome new =
-    IfSome saver (λ s. IfBook outcome.end (IsEachSaved s outcome new.told))
+abbrev pub AreEachSaved : Option Saver → Outcome → DiskSeen → ℕ → Type 0
+AreEachSaved saver outcome new count =
+    IfSome saver (λ s. IfBook outcome.end (IsEachSaved s count outcome new.told))
 
 -- What stands on the disk at the end. Without a saver it was not touched. With one the ending book
 -- is saved, or that is counted; where recovery found an image of the run, it does so at each moment;

@@ -1,6 +1,7 @@
 pub mod Causes
 pub mod Deeds
 pub mod Ends
+pub mod Pacing
 pub mod Hubs
 pub mod HubViews
 pub mod Keeping

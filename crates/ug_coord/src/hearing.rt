@@ -28,6 +28,7 @@ impl<'a, R: Wait, O: Observer, C: Crew + Drop> Hub<'a, R, O, C> {
         ensures on { (from : Standing) → IsOnIn (is_next Hearing) from (hub_seen C.seen self.old)
             → IsOnIn IsRested from (hub_seen C.seen self.new) }
         ensures hears { HearsOne self.old.book self.new.book }
+        ensures pacing { self.new.pacing ≡ self.old.pacing }
     {
         match self.last {
             Some(rank) if (rank as usize) < self.streams.len() => {
@@ -47,6 +48,7 @@ impl<'a, R: Wait, O: Observer, C: Crew + Drop> Hub<'a, R, O, C> {
         ensures on { (from : Standing) → IsOnIn (is_next Hearing) from (hub_seen C.seen self.old)
             → IsOnIn IsRested from (hub_seen C.seen self.new) }
         ensures hears { HearsOne self.old.book self.new.book }
+        ensures pacing { self.new.pacing ≡ self.old.pacing }
     {
         match take_turn(&mut self.crew, &mut self.streams, &mut self.input) {
             Turn::Fed { rank } => {
@@ -73,6 +75,7 @@ impl<'a, R: Wait, O: Observer, C: Crew + Drop> Hub<'a, R, O, C> {
             → IsOnAs phase from (hub_seen C.seen self.new)) }
         ensures hears { HearsOne self.old.book self.new.book }
         ensures nothing { result ≡ false → self.new.book ≡ self.old.book }
+        ensures pacing { self.new.pacing ≡ self.old.pacing }
     {
         match next_of(self.host.alloc, &mut self.streams, rank) {
             Ok(Next::Message(report)) => {
@@ -103,6 +106,7 @@ impl<'a, R: Wait, O: Observer, C: Crew + Drop> Hub<'a, R, O, C> {
         ensures heard { HasHeardReport (hub_seen C.seen self.old) (hub_seen C.seen self.new) rank
             report }
         ensures hears { HearsOne self.old.book self.new.book }
+        ensures pacing { self.new.pacing ≡ self.old.pacing }
     {
         let is_point = is_point(&report);
         let was_alive = self.book.is_alive(rank);
@@ -122,7 +126,7 @@ impl<'a, R: Wait, O: Observer, C: Crew + Drop> Hub<'a, R, O, C> {
         let Ok(image) = image_of(self.host.alloc, &self.book, 1) else {
             return;
         };
-        if let Some(progress) = progress_of(self.host.alloc, &image) {
+        if let Some(progress) = progress_of(self.host.alloc, &image, self.book.bound()) {
             self.host.observer.tell(&progress);
             drop(progress);
         }
@@ -135,6 +139,7 @@ impl<'a, R: Wait, O: Observer, C: Crew + Drop> Hub<'a, R, O, C> {
         ensures on { (from : Standing) → IsOnIn IsBrokenOff from (hub_seen C.seen self.old)
             → IsOnIn IsBrokenOff from (hub_seen C.seen self.new) }
         ensures quiet { IsQuiet self.old.book self.new.book }
+        ensures pacing { self.new.pacing ≡ self.old.pacing }
     {
         for rank in 0..self.book.settings().solvers {
             self.lose(rank);

@@ -6,10 +6,12 @@ ghost use Rattle.ug_coord.specs.Deeds.{Hearing, Standing};
 ghost use Rattle.ug_coord.specs.Ends.{AllDead, IsAnswered, IsOver};
 ghost use Rattle.ug_coord.specs.Hubs.{AnyPhase, EndsFrom, HearsOne, IsKeptIn, IsOnIn, IsQuiet};
 ghost use Rattle.ug_coord.specs.Hubs.{IsRested, IsSetUpFrame, is_next};
-ghost use Rattle.ug_coord.specs.Keeping.{HasTriedEach, KeptSeen, IsKeptBy, IsOurs, is_due};
+ghost use Rattle.ug_coord.specs.Keeping.{KeptSeen, IsKeptBy, IsOurs};
+ghost use Rattle.ug_coord.specs.Pacing.{IsSaveDue};
 ghost use Rattle.ug_coord.specs.Keepers.{kept_seen};
 
 use crate::keeper::Keeper;
+use crate::pacing::Pacing;
 use std::sync::Wait;
 use ug_book::Book;
 use ug_disk::Disk;
@@ -31,6 +33,8 @@ pub struct Hub<'a, R, O, C> {
     pub last: Option<u32>,
     /// Whether memory was wanting.
     pub wants: bool,
+    /// When the next save may come.
+    pub pacing: Pacing,
     pub host: &'a Host<'a, R, O>,
     pub crew: C,
     ghost room: { 0 < length input.items },
@@ -44,16 +48,17 @@ impl<'a, R: Wait, O: Observer, C: Crew + Drop> Hub<'a, R, O, C> {
     pub fn run<D: Disk>(&mut self, keeper: &mut Keeper, disk: &mut D)
         requires on { (from : Standing) × IsOnIn IsRested from (hub_seen C.seen self.old) }
         requires frame { IsSetUpFrame self.old.book self.old.frame.items }
+        requires saved { ¬ IsSaveDue self.old.pacing self.old.book }
         requires kept { IsKeptBy (kept_seen keeper.old (D.seen disk.old)) }
         requires ours { IsOurs (kept_seen keeper.old (D.seen disk.old)) self.old.book }
         ensures ends { (from : Standing) → IsOnIn IsRested from (hub_seen C.seen self.old)
+            → from.pacing ≡ self.old.pacing
             → EndsFrom from (hub_seen C.seen self.new)
             (kept_seen keeper.old (D.seen disk.old)) (kept_seen keeper.new (D.seen disk.new)) }
         ensures over { self.new.wants ≡ false → IsOver self.new.book }
         ensures kept { IsKeptBy (kept_seen keeper.new (D.seen disk.new)) }
+        ensures saved { ¬ IsSaveDue self.new.pacing self.new.book }
         ensures same { IsSameRun self.old.book self.new.book }
-        ensures tried { HasTriedEach self.old.book self.new.book
-            (kept_seen keeper.old (D.seen disk.old)) (kept_seen keeper.new (D.seen disk.new)) }
     {
         self.start_all();
         self.go_on(keeper, disk);
@@ -63,9 +68,11 @@ impl<'a, R: Wait, O: Observer, C: Crew + Drop> Hub<'a, R, O, C> {
     // Decides.
     fn decide(&mut self)
         requires more { ¬ IsOver self.old.book }
+        requires saved { ¬ IsSaveDue self.old.pacing self.old.book }
         ensures on { (from : Standing) → IsOnIn IsRested from (hub_seen C.seen self.old)
             → IsOnIn (is_next Hearing) from (hub_seen C.seen self.new) }
         ensures quiet { IsQuiet self.old.book self.new.book }
+        ensures pacing { self.new.pacing ≡ self.old.pacing }
     {
         match self.book.decide() {
             Ok(()) => {}
@@ -112,6 +119,7 @@ impl<'a, R: Wait, O: Observer, C: Crew + Drop> Hub<'a, R, O, C> {
     fn step(&mut self) -> bool
         requires on { (from : Standing) × IsOnIn IsRested from (hub_seen C.seen self.old) }
         requires more { ¬ IsOver self.old.book }
+        requires saved { ¬ IsSaveDue self.old.pacing self.old.book }
         ensures on { MatchBool result
             ((from : Standing) → IsOnIn IsRested from (hub_seen C.seen self.old)
             → IsOnIn IsRested from (hub_seen C.seen self.new))
@@ -119,6 +127,7 @@ impl<'a, R: Wait, O: Observer, C: Crew + Drop> Hub<'a, R, O, C> {
             → IsOnIn AnyPhase from (hub_seen C.seen self.new)) }
         ensures hears { MatchBool result (HearsOne self.old.book self.new.book)
             (IsQuiet self.old.book self.new.book) }
+        ensures pacing { self.new.pacing ≡ self.old.pacing }
         ensures over { result ≡ false → self.new.wants ≡ false → IsOver self.new.book }
     {
         self.decide();
@@ -133,10 +142,29 @@ impl<'a, R: Wait, O: Observer, C: Crew + Drop> Hub<'a, R, O, C> {
         true
     }
 
+    // Saves the book, which is due.
+    fn save<D: Disk>(&mut self, keeper: &mut Keeper, disk: &mut D)
+        requires due { IsSaveDue self.old.pacing self.old.book }
+        requires kept { IsKeptBy (kept_seen keeper.old (D.seen disk.old)) }
+        requires ours { IsOurs (kept_seen keeper.old (D.seen disk.old)) self.old.book }
+        ensures on { (from : Standing) (first : KeptSeen)
+            → IsKeptIn IsRested from (hub_seen C.seen self.old) first
+            (kept_seen keeper.old (D.seen disk.old))
+            → IsKeptIn IsRested from (hub_seen C.seen self.new) first
+            (kept_seen keeper.new (D.seen disk.new)) }
+        ensures kept { IsKeptBy (kept_seen keeper.new (D.seen disk.new)) }
+        ensures book { self.new.book ≡ self.old.book }
+        ensures saved { ¬ IsSaveDue self.new.pacing self.new.book }
+    {
+        keeper.keep(disk, &self.book);
+        self.pacing = Pacing::saved(&self.book);
+    }
+
     // A step, and a save where one is due for what was heard in it.
     fn advance<D: Disk>(&mut self, keeper: &mut Keeper, disk: &mut D) -> bool
         requires on { (from : Standing) × IsOnIn IsRested from (hub_seen C.seen self.old) }
         requires more { ¬ IsOver self.old.book }
+        requires saved { ¬ IsSaveDue self.old.pacing self.old.book }
         requires kept { IsKeptBy (kept_seen keeper.old (D.seen disk.old)) }
         requires ours { IsOurs (kept_seen keeper.old (D.seen disk.old)) self.old.book }
         ensures on { MatchBool result
@@ -152,20 +180,14 @@ impl<'a, R: Wait, O: Observer, C: Crew + Drop> Hub<'a, R, O, C> {
             (kept_seen keeper.new (D.seen disk.new))) }
         ensures kept { IsKeptBy (kept_seen keeper.new (D.seen disk.new)) }
         ensures same { IsSameRun self.old.book self.new.book }
-        ensures tried { HasTriedEach self.old.book self.new.book
-            (kept_seen keeper.old (D.seen disk.old)) (kept_seen keeper.new (D.seen disk.new)) }
+        ensures saved { ¬ IsSaveDue self.new.pacing self.new.book }
         ensures over { result ≡ false → self.new.wants ≡ false → IsOver self.new.book }
     {
-        let before = self.book.count();
         if !self.step() {
             return false;
         }
-        let count = self.book.count();
-        if count == before {
-            return true;
-        }
-        if is_save_due(self.book.settings().every, count) {
-            keeper.keep(disk, &self.book);
+        if self.pacing.is_due(&self.book) {
+            self.save(keeper, disk);
         }
         true
     }
@@ -173,6 +195,7 @@ impl<'a, R: Wait, O: Observer, C: Crew + Drop> Hub<'a, R, O, C> {
     // Goes on until an end is due, or memory is wanting.
     fn go_on<D: Disk>(&mut self, keeper: &mut Keeper, disk: &mut D)
         requires on { (from : Standing) × IsOnIn IsRested from (hub_seen C.seen self.old) }
+        requires saved { ¬ IsSaveDue self.old.pacing self.old.book }
         requires kept { IsKeptBy (kept_seen keeper.old (D.seen disk.old)) }
         requires ours { IsOurs (kept_seen keeper.old (D.seen disk.old)) self.old.book }
         ensures on { (from : Standing) (first : KeptSeen)
@@ -182,9 +205,8 @@ impl<'a, R: Wait, O: Observer, C: Crew + Drop> Hub<'a, R, O, C> {
             (kept_seen keeper.new (D.seen disk.new)) }
         ensures over { self.new.wants ≡ false → IsOver self.new.book }
         ensures kept { IsKeptBy (kept_seen keeper.new (D.seen disk.new)) }
+        ensures saved { ¬ IsSaveDue self.new.pacing self.new.book }
         ensures same { IsSameRun self.old.book self.new.book }
-        ensures tried { HasTriedEach self.old.book self.new.book
-            (kept_seen keeper.old (D.seen disk.old)) (kept_seen keeper.new (D.seen disk.new)) }
     {
         for _ in self.host.rt.forever() {
             if self.has_stopped() {
@@ -208,11 +230,4 @@ fn is_any_alive(book: &Book) -> bool
         }
     }
     false
-}
-
-// Whether the report of this number asks for a save.
-fn is_save_due(every: u64, count: u64) -> bool
-    ensures { result ≡ is_due every count }
-{
-    every != 0 && count % every == 0
 }

@@ -8,6 +8,7 @@
 mod hearing;
 mod hub;
 mod keeper;
+mod pacing;
 mod solving;
 mod streams;
 mod telling;

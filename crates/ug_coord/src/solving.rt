@@ -14,6 +14,7 @@ ghost use Rattle.ug_coord.specs.Keepers.{kept_seen};
 
 use crate::hub::Hub;
 use crate::keeper::Keeper;
+use crate::pacing::Pacing;
 use std::alloc::{AllocError, Global};
 use std::sync::Wait;
 use ug_book::{Book, Opening};
@@ -50,19 +51,18 @@ pub fn coordinate<R: Wait, D: Disk, O: Observer, C: Crew + Drop>(
     requires kept { IfSome saver (λ s. IsKept s (D.seen disk.old).told) }
     requires fresh { IsFresh (C.seen crew) (ranks_of (opening_book opening.now)) }
 
-    // The book at the end comes from the opening's by the rules.
+    // The book at the end comes from the opening's by the rules. A save was tried in each deed that
+    // is one, right behind the report that asks for it, and one at the end.
     ensures coordinated { HasCoordinated (opening_book opening.now) (C.seen crew).faults
         (C.seen result.crew) result.outcome.end
+        (AreEachSaved saver result.outcome (D.seen disk.new))
         (IsKeptSafe saver (D.seen disk.old) (D.seen disk.new)) }
 
     // What stands on the disk.
     ensures kept { HasKept (opening_book opening.now) saver result.outcome
         (D.seen disk.old) (D.seen disk.new) }
-
-    // A save was tried on each delivery whose number asks for one, and one at the end.
-    ensures each { AreEachSaved saver result.outcome (D.seen disk.new) }
 {
-    tell_begin(host.observer, opening);
+    tell_begin(host.observer, host.alloc, opening);
     match keeper_of(host.alloc, opening, saver) {
         Ok(keeper) => solve(host, opening, keeper, disk, crew),
         Err(_) => Coordinated {
@@ -117,10 +117,10 @@ fn solve<R: Wait, D: Disk, O: Observer, C: Crew + Drop>(
     requires fresh { IsFresh (C.seen crew) (ranks_of (opening_book opening.now)) }
     ensures coordinated { HasCoordinated (opening_book opening.now) (C.seen crew).faults
         (C.seen result.crew) result.outcome.end
+        (AreEachSaved (savers keeper.saves) result.outcome (D.seen disk.new))
         (IsKeptSafe (savers keeper.saves) (D.seen disk.old) (D.seen disk.new)) }
     ensures kept { HasKept (opening_book opening.now) (savers keeper.saves) result.outcome
         (D.seen disk.old) (D.seen disk.new) }
-    ensures each { AreEachSaved (savers keeper.saves) result.outcome (D.seen disk.new) }
 {
     let parts = match parts_of(host.alloc, opening) {
         Ok(parts) => parts,
@@ -138,6 +138,7 @@ fn solve<R: Wait, D: Disk, O: Observer, C: Crew + Drop>(
         input,
         setup,
     } = parts;
+    let pacing = Pacing::new(book.count());
     let mut hub = Hub {
         host,
         book,
@@ -147,6 +148,7 @@ fn solve<R: Wait, D: Disk, O: Observer, C: Crew + Drop>(
         frame: setup,
         last: None,
         wants: false,
+        pacing,
     };
     hub.run(&mut keeper, disk);
     let Hub {

@@ -31,6 +31,7 @@ impl<'a, R: Wait, O: Observer, C: Crew + Drop> Hub<'a, R, O, C> {
         ensures seen { hub_seen C.seen self.new ≡ without rank (hub_seen C.seen self.old) }
         ensures quiet { IsQuiet self.old.book self.new.book }
         ensures frame { self.new.frame ≡ self.old.frame }
+        ensures pacing { self.new.pacing ≡ self.old.pacing }
     {
         if self.crew.is_alive(rank) {
             self.crew.shut(rank);
@@ -46,6 +47,7 @@ impl<'a, R: Wait, O: Observer, C: Crew + Drop> Hub<'a, R, O, C> {
             rank self.old.frame.items }
         ensures quiet { IsQuiet self.old.book self.new.book }
         ensures frame { self.new.frame ≡ self.old.frame }
+        ensures pacing { self.new.pacing ≡ self.old.pacing }
     {
         if self.crew.send(rank, &self.frame).is_ok() {
             return true;
@@ -62,6 +64,7 @@ impl<'a, R: Wait, O: Observer, C: Crew + Drop> Hub<'a, R, O, C> {
             (hub_seen C.seen self.new) rank }
         ensures quiet { IsQuiet self.old.book self.new.book }
         ensures frame { self.new.frame ≡ self.old.frame }
+        ensures pacing { self.new.pacing ≡ self.old.pacing }
     {
         if self.crew.launch(rank).is_ok() {
             return true;
@@ -79,6 +82,7 @@ impl<'a, R: Wait, O: Observer, C: Crew + Drop> Hub<'a, R, O, C> {
             → IsOnAs phase from (hub_seen C.seen self.new) }
         ensures frame { IsSetUpFrame self.new.book self.new.frame.items }
         ensures quiet { IsQuiet self.old.book self.new.book }
+        ensures pacing { self.new.pacing ≡ self.old.pacing }
     {
         if self.crew.is_alive(rank) {
             return;
@@ -95,6 +99,7 @@ impl<'a, R: Wait, O: Observer, C: Crew + Drop> Hub<'a, R, O, C> {
         ensures on { (phase : Phase) (from : Standing) → IsOnAs phase from (hub_seen C.seen self.old)
             → IsOnAs phase from (hub_seen C.seen self.new) }
         ensures quiet { IsQuiet self.old.book self.new.book }
+        ensures pacing { self.new.pacing ≡ self.old.pacing }
     {
         for rank in 0..self.book.settings().solvers {
             self.start(rank);
@@ -112,6 +117,7 @@ impl<'a, R: Wait, O: Observer, C: Crew + Drop> Hub<'a, R, O, C> {
             → IsOrderTold before self.old.book told
             → IsOnAs phase from (hub_seen C.seen self.new) }
         ensures quiet { IsQuiet self.old.book self.new.book }
+        ensures pacing { self.new.pacing ≡ self.old.pacing }
     {
         let rank = told.rank;
         if !self.crew.is_alive(rank) {
@@ -138,6 +144,7 @@ impl<'a, R: Wait, O: Observer, C: Crew + Drop> Hub<'a, R, O, C> {
             → IsOnAs phase from (hub_seen C.seen self.new) }
         ensures quiet { IsQuiet self.old.book self.new.book }
         ensures none { result ≡ false → self.new.book.orders ≡ [] }
+        ensures pacing { self.new.pacing ≡ self.old.pacing }
     {
         // Each order of a book has a frame.
         let _problem = self.book.problem();
@@ -157,6 +164,7 @@ impl<'a, R: Wait, O: Observer, C: Crew + Drop> Hub<'a, R, O, C> {
             → IsOnAs phase from (hub_seen C.seen self.new) }
         ensures quiet { IsQuiet self.old.book self.new.book }
         ensures all { self.new.wants ≡ false → self.new.book.orders ≡ [] }
+        ensures pacing { self.new.pacing ≡ self.old.pacing }
     {
         for _ in self.host.rt.forever() {
             if self.wants {
@@ -175,6 +183,7 @@ impl<'a, R: Wait, O: Observer, C: Crew + Drop> Hub<'a, R, O, C> {
             → IsClosedBelow rank from (hub_seen C.seen self.old) old new
             → IsClosedBelow (suc rank) from (hub_seen C.seen self.new) old new }
         ensures same { (self.new.book ≡ self.old.book) × (self.new.wants ≡ self.old.wants) }
+        ensures pacing { self.new.pacing ≡ self.old.pacing }
     {
         if self.crew.is_alive(rank) {
             match self.crew.send(rank, END) {
@@ -190,6 +199,7 @@ impl<'a, R: Wait, O: Observer, C: Crew + Drop> Hub<'a, R, O, C> {
             → IsKeptIn AnyPhase from (hub_seen C.seen self.old) old new
             → EndsFrom from (hub_seen C.seen self.new) old new }
         ensures same { (self.new.book ≡ self.old.book) × (self.new.wants ≡ self.old.wants) }
+        ensures pacing { self.new.pacing ≡ self.old.pacing }
     {
         for rank in 0..self.book.settings().solvers {
             self.end(rank);

@@ -16,6 +16,7 @@ use Rattle.ug_rules.specs.Hearing.{is_deadly}
 use Rattle.ug_coord.specs.Causes.{HasCause, IsEndOf}
 use Rattle.ug_coord.specs.Deeds.{Broke, Came, Cause, Closed, Decided, Deed, Does, Ended, Failed, Halted, IsCause, IsCourse, Launched, Lost, Nonsense, Passed}
 use Rattle.ug_coord.specs.Deeds.{Sent, SetUp, Standing, Took, Unclosed, Unfed, Unread, Unsent, Unwritten, stream_at}
+use Rattle.ug_coord.specs.Deeds.{Kept as Saved}
 use Rattle.ug_coord.specs.Ends.{ranks_of}
 use Rattle.ug_coord.specs.Hubs.{HasCome, beginning}
 use Rattle.ug_coord.proofs.Coursing.{course_more}
@@ -47,6 +48,7 @@ IsQuietDeed (Halted steps) = ⊥
 IsQuietDeed (Unwritten rank order) = ⊥
 IsQuietDeed (Unfed rank bytes) = ⊥
 IsQuietDeed Unread = ⊥
+IsQuietDeed Saved = Unit {0}
 
 abbrev pub AreQuiet : List Deed → Type 0
 AreQuiet deeds = (deed : Deed) → Contains deeds deed → IsQuietDeed deed
@@ -93,6 +95,7 @@ faults_up old (Halted steps) new does = same_faults old new (ap (λ (s : Standin
 faults_up old (Unwritten rank order) new does = same_faults old new (ap (λ (s : Standing). s.faults) does.rest)
 faults_up old (Unfed rank bytes) new does = same_faults old new (ap (λ (s : Standing). s.faults) does.rest)
 faults_up old Unread new does = same_faults old new (ap (λ (s : Standing). s.faults) does.1)
+faults_up old Saved new does = same_faults old new (ap (λ (s : Standing). s.faults) does.rest)
 
 course_up : (old : Standing) (deeds : List Deed) (new : Standing) → IsCourse old deeds new → old.faults ≤ new.faults
 course_up old [] new same = same_faults old new (ap (λ (s : Standing). s.faults) same)
@@ -123,6 +126,7 @@ wants_back old (Unwritten rank order) new does none =
     wanted old new (ap (λ (s : Standing). s.wants) does.rest) none
 wants_back old (Unfed rank bytes) new does none = wanted old new (ap (λ (s : Standing). s.wants) does.rest) none
 wants_back old Unread new does none = wanted old new (ap (λ (s : Standing). s.wants) does.1) none
+wants_back old Saved new does none = sym (ap (λ (s : Standing). s.wants) does.rest) ∙ none
 
 course_wants : (old : Standing) (deeds : List Deed) (new : Standing) → IsCourse old deeds new → new.wants ≡ false
     → old.wants ≡ false
@@ -240,6 +244,8 @@ goes_on old (Unfed rank bytes) new does c readable fine =
     absurd (false≢true (sym c.memory ∙ ap (λ (s : Standing). s.wants) does.rest))
 goes_on old Unread new does c readable fine =
     absurd (false≢true (sym c.memory ∙ ap (λ (s : Standing). s.wants) does.1))
+goes_on old Saved new does c readable fine =
+    (tt, still_fine old new (ap (λ (s : Standing). s.broken) does.rest) (ap (λ (s : Standing). s.streams) does.rest) fine)
 
 -- ---- a course
 
@@ -308,6 +314,7 @@ by_answer rank deeds (Halted steps) among ends quiet = absurd ends
 by_answer rank deeds (Unwritten other order) among ends quiet = absurd ends
 by_answer rank deeds (Unfed other bytes) among ends quiet = absurd ends
 by_answer rank deeds Unread among ends quiet = absurd ends
+by_answer rank deeds Saved among ends quiet = absurd ends
 
 fine_first : (b : BookState) (faults : ℕ) → IsFine (beginning b faults)
 fine_first b faults = record {

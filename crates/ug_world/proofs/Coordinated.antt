@@ -17,6 +17,7 @@ use Rattle.ug_rules.specs.Deaths.{killed}
 use Rattle.ug_book.specs.Reads.{IsOrderTold}
 use Rattle.ug_coord.specs.Deeds.{AreSound, Broke, Came, Closed, Decided, Deed, Does, Halted, IsCourse, Launched, Lost, Passed}
 use Rattle.ug_coord.specs.Deeds.{Sent, SetUp, Standing, Took, Unclosed, Unfed, Unread, Unsent, Unwritten, IsTaken, IsUnsent}
+use Rattle.ug_coord.specs.Deeds.{Kept as Saved}
 use Rattle.ug_coord.specs.Hubs.{beginning}
 use Rattle.ug_world.specs.declared.event.Event.TheVariants.{Send, Hear, Gone, Decide, Tell}
 use Rattle.ug_world.specs.Worlds.{World, opening, told_first}
@@ -167,6 +168,8 @@ deed_holds n old mid past (Unfed rank bytes) does now honest k =
     same_holds n old.book mid.book past (ap (λ (s : Standing). s.book) does.rest) k
 deed_holds n old mid past Unread (reading, rest) now honest k =
     same_holds n old.book mid.book past (ap (λ (s : Standing). s.book) rest) k
+deed_holds n old mid past Saved does now honest k =
+    same_holds n old.book mid.book past (ap (λ (s : Standing). s.book) does.rest) k
 
 course_keeps : (n : ℕ) (old : Standing) (past : Past) (deeds : List Deed) (new : Standing)
     → (course : IsCourse old deeds new) → StaysHonest old past deeds new course

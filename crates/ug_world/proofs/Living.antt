@@ -17,6 +17,7 @@ use Rattle.ug_rules.specs.Hearing.{after_hearing, is_deadly}
 use Rattle.ug_book.specs.Reads.{IsOrderTold}
 use Rattle.ug_coord.specs.Deeds.{Broke, Came, Closed, Decided, Deed, Does, Halted, IsCourse, IsTaken, Launched, Lost, Passed}
 use Rattle.ug_coord.specs.Deeds.{Sent, SetUp, Standing, Took, Unclosed, Unfed, Unread, Unsent, Unwritten}
+use Rattle.ug_coord.specs.Deeds.{Kept as Saved}
 use Rattle.ug_coord.specs.Hubs.{beginning}
 use Rattle.ug_coord.proofs.Coursing.{course_more}
 use Rattle.ug_worker.specs.Staffs.{AreAlwaysWorked, AreWorked}
@@ -86,6 +87,8 @@ deed_away old (Halted steps) new does quiet harmless rank none absent = absurd q
 deed_away old (Unwritten q order) new does quiet harmless rank none absent = absurd quiet
 deed_away old (Unfed q bytes) new does quiet harmless rank none absent = absurd quiet
 deed_away old Unread new does quiet harmless rank none absent = absurd quiet
+deed_away old Saved new does quiet harmless rank none absent =
+    same_ranks old new rank (ap (λ (s : Standing). s.book.ranks) does.rest) absent
 
 both_nil : (rs ts : List Report) → rs ++ ts ≡ [] → (rs ≡ []) × (ts ≡ [])
 both_nil [] ts none = (refl, none)
@@ -230,6 +233,8 @@ tracked_more done old (Halted steps) new does quiet harmless fair t = absurd qui
 tracked_more done old (Unwritten q order) new does quiet harmless fair t = absurd quiet
 tracked_more done old (Unfed q bytes) new does quiet harmless fair t = absurd quiet
 tracked_more done old Unread new does quiet harmless fair t = absurd quiet
+tracked_more done old Saved new does quiet harmless fair t =
+    silent done old Saved new t old.book refl refl (ap (λ (s : Standing). s.book) does.rest) t
 
 -- ---- a course from the beginning
 
@@ -257,6 +262,7 @@ module _ (b : BookState) (faults : ℕ) (unused : IsUnused b) where
   fair_deed done old (Unwritten q order) mid so does worked away t = tt
   fair_deed done old (Unfed q bytes) mid so does worked away t = tt
   fair_deed done old Unread mid so does worked away t = tt
+  fair_deed done old Saved mid so does worked away t = tt
 
   harmless_deed : (old : Standing) (deed : Deed) (mid : Standing) → Does old deed mid → IsFairDeed old deed
       → IsHarmlessDeed deed
@@ -276,6 +282,7 @@ module _ (b : BookState) (faults : ℕ) (unused : IsUnused b) where
   harmless_deed old (Unwritten q order) mid does fair = tt
   harmless_deed old (Unfed q bytes) mid does fair = tt
   harmless_deed old Unread mid does fair = tt
+  harmless_deed old Saved mid does fair = tt
 
   all_harmless : (said : List Exchange) → AreAlwaysWorked said → (done : List Deed) (old : Standing)
       (deeds : List Deed) (new : Standing) → IsCourse (beginning b faults) done old

@@ -9,6 +9,7 @@ use Rattle.ug_rules.specs.declared.told.Told.{Told}
 use Rattle.ug_rules.specs.State.{BookState}
 use Rattle.ug_coord.specs.Deeds.{Broke, Came, Cause, Closed, Closing, Decided, Deed, Does, Ended, Failed, Halted, Hearing, IsCourse, IsLost, Launched, Lost, MayBeRead, MayDecide, Nonsense, Pace, Passed}
 use Rattle.ug_coord.specs.Deeds.{Sent, SetUp, Standing, Took, Unclosed, Unfed, Unread, Unsent, Unwritten}
+use Rattle.ug_coord.specs.Deeds.{Kept as Saved}
 use Rattle.ug_coord.specs.Hubs.{beginning}
 use Rattle.ug_worker.proofs.Honesty.{nothing_in}
 use Rattle.ug_worker.proofs.Told.{in_front}
@@ -55,6 +56,7 @@ stays_closing old (Unwritten rank order) new does closes = ap (λ (s : Standing)
 stays_closing old (Unfed rank bytes) new does closes =
     absurd (not_hearing old.pace does.hearing.decided closes)
 stays_closing old Unread new does closes = absurd (not_read old.pace does.0.decided closes)
+stays_closing old Saved new does closes = ap (λ (s : Standing). s.pace) does.rest ∙ closes
 
 all_closing : (old : Standing) (deeds : List Deed) (new : Standing) → IsCourse old deeds new → Closes old
     → Closes new
@@ -90,6 +92,7 @@ end_closes gap r old (Halted steps) new does none there = absurd (nothing_in End
 end_closes gap r old (Unwritten rank order) new does none there = absurd (nothing_in End there)
 end_closes gap r old (Unfed rank bytes) new does none there = absurd (nothing_in End there)
 end_closes gap r old Unread new does none there = absurd (nothing_in End there)
+end_closes gap r old Saved new does none there = absurd (nothing_in End there)
 
 closed_by : (gap : ℤ) (r : ℕ) (old : Standing) (deeds : List Deed) (new : Standing) → IsCourse old deeds new
     → NoneEnds (left_of deeds) → Contains (orders_to gap r deeds) End → Closes new

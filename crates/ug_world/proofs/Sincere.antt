@@ -24,6 +24,7 @@ use Rattle.ug_rules.specs.declared.told.Told.{Told}
 use Rattle.ug_rules.specs.State.{BookState}
 use Rattle.ug_coord.specs.Deeds.{Broke, Came, Closed, Decided, Deed, Halted, IsCourse, IsTaken, Launched, Lost, Passed}
 use Rattle.ug_coord.specs.Deeds.{Sent, SetUp, Standing, Took, Unclosed, Unfed, Unread, Unsent, Unwritten}
+use Rattle.ug_coord.specs.Deeds.{Kept as Saved}
 use Rattle.ug_coord.specs.Hubs.{beginning}
 use Rattle.ug_worker.specs.Staffs.{IsWorked}
 use Rattle.ug_worker.specs.Transcripts.{order_of}
@@ -76,6 +77,7 @@ gap_in gap r own bytes (Halted steps) none there = absurd (nothing_in _ there)
 gap_in gap r own bytes (Unwritten q order) none there = absurd (nothing_in _ there)
 gap_in gap r own bytes (Unfed q heard) none there = absurd (nothing_in _ there)
 gap_in gap r own bytes Unread none there = absurd (nothing_in _ there)
+gap_in gap r own bytes Saved none there = absurd (nothing_in _ there)
 
 gap_sent : (gap : ℤ) (r : ℕ) (own : ℤ) (bytes : List ℕ) (deeds : List Deed) → NoneSets (left_of deeds)
     → Contains (orders_to gap r deeds) (Setup own bytes) → own ≡ gap

@@ -74,8 +74,8 @@ dead_anyway b rank dead = elim (cases_lt rank (length b.ranks)) [
   | inr past ↦ ap is_alive (get_or_past b.ranks rank (Dead Died) past)
 ]
 
-module _ (o : Opening) (end : End) (before : ℕ) (after : CrewSeen) (said : List Exchange) (Safe : Type 0)
-    (h : HasCoordinated (opening_book o) before after end Safe) (told : after.said ≡ Some said) where
+module _ (o : Opening) (end : End) (before : ℕ) (after : CrewSeen) (said : List Exchange) (Tried : ℕ → Type 0) (Safe : Type 0)
+    (h : HasCoordinated (opening_book o) before after end Tried Safe) (told : after.said ≡ Some said) where
   -- what was heard and told in the deeds is what the crew tells
   was_said : AreAlwaysWorked said → AreAlwaysWorked h.now.said
   was_said worked = subst AreAlwaysWorked
@@ -96,8 +96,8 @@ module _ (o : Opening) (end : End) (before : ℕ) (after : CrewSeen) (said : Lis
       (dead_anyway h.now.book 0 (stranded_dead end h.now.book h.ended stranded)))
 
 module _ (o : Opening) (end : End) (before : ℕ) (after : CrewSeen) (said : List Exchange) (saver : Option Saver)
-    (old new : DiskSeen)
-    (h : HasCoordinated (opening_book o) before after end (IsKeptSafe saver old new)) (told : after.said ≡ Some said)
+    (old new : DiskSeen) (Tried : ℕ → Type 0)
+    (h : HasCoordinated (opening_book o) before after end Tried (IsKeptSafe saver old new)) (told : after.said ≡ Some said)
   where
     -- what was said is worked
     pub has_solved : CoordinatorsOfWorkersLoseNothing → IsCoveredOpening o → AreAlwaysWorked said
@@ -106,7 +106,7 @@ module _ (o : Opening) (end : End) (before : ℕ) (after : CrewSeen) (said : Lis
         let sound : IsSoundBook (opening_book o) =
         (start_is_sound o.problem o.run o.best o.boxes o.settings).1 covered in
         let all = law (opening_book o) before h.now h.come h.made sound (record { last = refl; orders = refl })
-        (was_said o end before after said (IsKeptSafe saver old new) h told worked) in
+        (was_said o end before after said Tried (IsKeptSafe saver old new) h told worked) in
         record {
           same = h.same;
           sound = book_loses end h.now.book h.ended all.1;

@@ -25,6 +25,7 @@ use Rattle.ug_rules.specs.State.{BookState}
 use Rattle.ug_rules.specs.Deaths.{killed}
 use Rattle.ug_coord.specs.Deeds.{Broke, Came, Cause, Closed, Decided, Deed, Does, Ended, Failed, Halted, IsCourse, IsLost, IsTaken, IsUnsent, Launched, Lost, Nonsense, Passed}
 use Rattle.ug_coord.specs.Deeds.{Sent, SetUp, Standing, Took, Unclosed, Unfed, Unread, Unsent, Unwritten, lives_at, stream_at}
+use Rattle.ug_coord.specs.Deeds.{Kept as Saved}
 use Rattle.ug_worker.specs.Staffs.{heard_at, told_at}
 use Rattle.ug_worker.proofs.Heard.{one_way}
 use Rattle.ug_worker.proofs.Honesty.{nothing_in}
@@ -547,6 +548,10 @@ deed_step gap r old Unread new is fit (reading, rest) =
     silent r old new None (ap (λ (s : Standing). s.said) rest) (ap (λ (s : Standing). s.streams) rest)
     (ap (λ (s : Standing). length s.lives) rest) fit
     (same_grows old.book new.book (ap (λ (s : Standing). s.book) rest))
+deed_step gap r old Saved new is fit does =
+    silent r old new None (ap (λ (s : Standing). s.said) does.rest) (ap (λ (s : Standing). s.streams) does.rest)
+    (ap (λ (s : Standing). length s.lives) does.rest) fit
+    (same_grows old.book new.book (ap (λ (s : Standing). s.book) does.rest))
 
 -- ---- a course
 

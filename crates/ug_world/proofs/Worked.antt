@@ -21,6 +21,7 @@ use Rattle.ug_rules.specs.declared.told.Told.{Told}
 use Rattle.ug_rules.specs.State.{BookState}
 use Rattle.ug_coord.specs.Deeds.{Broke, Came, Closed, Decided, Deed, Does, Halted, IsCourse, Launched, Lost, Passed}
 use Rattle.ug_coord.specs.Deeds.{Sent, SetUp, Standing, Took, Unclosed, Unfed, Unread, Unsent, Unwritten}
+use Rattle.ug_coord.specs.Deeds.{Kept as Saved}
 use Rattle.ug_coord.specs.Ends.{ranks_of}
 use Rattle.ug_coord.specs.Hubs.{beginning}
 use Rattle.ug_coord.proofs.Coursing.{course_more}
@@ -174,6 +175,7 @@ rising_to gap r (Unwritten q order ∷ deeds) a b h =
     left_rising a b order (orders_to gap r deeds) h.0 (rising_to gap r deeds (number_after a order) b h.1)
 rising_to gap r (Unfed q bytes ∷ deeds) a b h = rising_to gap r deeds a b h
 rising_to gap r (Unread ∷ deeds) a b h = rising_to gap r deeds a b h
+rising_to gap r (Saved ∷ deeds) a b h = rising_to gap r deeds a b h
 
 rising_above : (a : ℕ) (os : List Order) (t : Ticket) → AreRising a os → Contains (tickets_sent os) t
     → a < t.number
@@ -394,6 +396,7 @@ is_after (Halted steps) past = record { told = same_told past; heard = same_hear
 is_after (Unwritten rank order) past = record { told = refl; heard = same_heard past }
 is_after (Unfed rank bytes) past = record { told = same_told past; heard = same_heard past }
 is_after Unread past = record { told = same_told past; heard = same_heard past }
+is_after Saved past = record { told = same_told past; heard = same_heard past }
 
 pub left_push : (done : List Deed) (deed : Deed)
     → left_of (done ++ deed ∷ []) ≡ left_of done ++ option_to_list (left_in deed)
@@ -468,6 +471,7 @@ now_by old mid past (Halted steps) does h = tt
 now_by old mid past (Unwritten rank order) does h = tt
 now_by old mid past (Unfed rank bytes) does h = tt
 now_by old mid past Unread does h = tt
+now_by old mid past Saved does h = tt
 
 module _ (b : BookState) (faults : ℕ) (unused : IsUnused b) (said : List Exchange)
     (worked : AreAlwaysWorked said) where

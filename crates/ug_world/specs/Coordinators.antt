@@ -9,6 +9,7 @@ use Rattle.ug_rules.specs.Books.{IsBook, IsSoundBook}
 use Rattle.ug_coord.specs.Deeds.{Broke, Came, Closed, Decided, Deed, Halted, IsCourse}
 use Rattle.ug_coord.specs.Deeds.{Launched, Lost, Passed, Sent, SetUp, Standing, Took, Unclosed, Unfed}
 use Rattle.ug_coord.specs.Deeds.{Unread, Unsent, Unwritten}
+use Rattle.ug_coord.specs.Deeds.{Kept as Saved}
 use Rattle.ug_coord.specs.Hubs.{HasCome, StaysSound, beginning}
 use Rattle.ug_world.specs.Honest.{IsGivenWith}
 use Rattle.ug_world.specs.Laws.{LosesNothing}
@@ -50,6 +51,7 @@ after (Halted steps) past = past
 after (Unwritten rank order) past = with_order past (record { rank = rank; order = order })
 after (Unfed rank bytes) past = past
 after Unread past = past
+after Saved past = past
 
 -- what was heard is honest, of the tickets in orders that left the queue or wait
 abbrev pub IsHonestSo : BookState → List Told → List Report → Type 0
@@ -74,6 +76,7 @@ honest_at old past (Halted steps) = Unit {0}
 honest_at old past (Unwritten rank order) = Unit {0}
 honest_at old past (Unfed rank bytes) = Unit {0}
 honest_at old past Unread = Unit {0}
+honest_at old past Saved = Unit {0}
 
 -- so it is through all of the deeds
 abbrev pub StaysHonest : (old : Standing) → Past → (deeds : List Deed) → (new : Standing)

@@ -5,8 +5,8 @@ ghost use Rattle.ug_io.specs.Outside.{IsCalm};
 ghost use Rattle.ug_checkpoint.specs.Savers.{IsKept};
 ghost use Rattle.ug_book.specs.Openings.{IsCoveredOpening, IsOpening, opening_book};
 ghost use Rattle.ug_restart.specs.Outcomes.{IsStranded};
-ghost use Rattle.ug_coord.specs.Hubs.{IsFresh};
-ghost use Rattle.ug_coord.specs.Keeping.{AreEachSaved, HasKept};
+ghost use Rattle.ug_coord.specs.Hubs.{HasCoordinated, IsFresh};
+ghost use Rattle.ug_coord.specs.Keeping.{AreEachSaved, HasKept, IsKeptSafe};
 ghost use Rattle.ug_worker.specs.WorkerCrews.{crew_seen};
 ghost use Rattle.ug_world.specs.Workers.{HasSolved};
 
@@ -40,7 +40,10 @@ pub fn solve_by_workers<'a, R: Wait, D: Disk, O: Observer>(
         → ¬ IsStranded result.outcome.end }
     ensures kept { HasKept (opening_book opening.now) saver result.outcome
         (D.seen disk.old) (D.seen disk.new) }
-    ensures each { AreEachSaved saver result.outcome (D.seen disk.new) }
+    ensures coordinated { HasCoordinated (opening_book opening.now) (crew_seen crew.entry).faults
+        (crew_seen result.crew) result.outcome.end
+        (AreEachSaved saver result.outcome (D.seen disk.new))
+        (IsKeptSafe saver (D.seen disk.old) (D.seen disk.new)) }
 {
     coordinators_of_workers_lose_nothing();
     calm_workers_live();

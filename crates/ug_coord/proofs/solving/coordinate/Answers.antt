@@ -3,7 +3,7 @@ use Rattle.ug_book.specs.Openings.{opening_book}
 use Rattle.ug_coord.specs.Hubs.{HasCoordinated}
 use Rattle.ug_coord.specs.Keeping.{AreEachSaved, HasKept, IsKeptSafe}
 use Rattle.ug_coord.proofs.Causes.{opening_alive}
-use Rattle.ug_coord.proofs.Ends.{begun_so, each_nothing, its_saver, nothing_coordinated, nothing_kept}
+use Rattle.ug_coord.proofs.Ends.{begun_so, its_saver, nothing_coordinated, nothing_kept}
 use Rattle.ug_coord.proofs.solving.coordinate.Goals as goal
 
 pub solve-requires-clause-begun : goal.solve-requires-clause-begun
@@ -12,7 +12,8 @@ solve-requires-clause-begun g c κs within = begun_so c.args.opening.now c.args.
 pub returns-in-Ok-clause-coordinated : goal.returns-in-Ok-clause-coordinated
 returns-in-Ok-clause-coordinated g c =
     subst (λ s. HasCoordinated (opening_book c.args.opening.now) (g.C.Crew.seen c.args.crew).faults
-    (g.C.Crew.seen c.solve.result.crew) c.solve.result.outcome.end (IsKeptSafe s (g.D.Disk.seen c.args.disk.now) (g.D.Disk.seen c.solve.new.disk)))
+    (g.C.Crew.seen c.solve.result.crew) c.solve.result.outcome.end
+    (AreEachSaved s c.solve.result.outcome (g.D.Disk.seen c.solve.new.disk)) (IsKeptSafe s (g.D.Disk.seen c.args.disk.now) (g.D.Disk.seen c.solve.new.disk)))
     (sym (its_saver c.args.opening.now c.args.saver _ c.in-Ok.ensures)) c.solve.ensures.coordinated
 
 pub returns-in-Ok-clause-kept : goal.returns-in-Ok-clause-kept
@@ -30,12 +31,3 @@ pub returns-in-Err-clause-kept : goal.returns-in-Err-clause-kept
 returns-in-Err-clause-kept g c =
     nothing_kept (opening_book c.args.opening.now) c.args.saver c.nothing.result
     (g.D.Disk.seen c.args.disk.now) c.nothing.ensures
-
-pub returns-in-Ok-clause-each : goal.returns-in-Ok-clause-each
-returns-in-Ok-clause-each g c =
-    subst (λ s. AreEachSaved s c.solve.result.outcome (g.D.Disk.seen c.solve.new.disk))
-    (sym (its_saver c.args.opening.now c.args.saver _ c.in-Ok.ensures)) c.solve.ensures.each
-
-pub returns-in-Err-clause-each : goal.returns-in-Err-clause-each
-returns-in-Err-clause-each g c =
-    each_nothing c.args.saver c.nothing.result (g.D.Disk.seen c.args.disk.now) c.nothing.ensures

@@ -1,4 +1,4 @@
-use Rattle.std.proofs.Common.{◌≡◌, false, refl, sym, ap, subst, ◌∙◌, arith}
+use Rattle.std.proofs.Common.{◌≡◌, false, refl, rules, sym, ap, subst, ◌∙◌, arith}
 use Rattle.std.specs.Prelude.{replicate}
 use Rattle.ug_stream.specs.Streams.{first}
 use Rattle.ug_rules.specs.State.{BookState}
@@ -8,13 +8,20 @@ use Rattle.ug_restart.specs.Outcomes.{HasFeasible, IfAnswered, IfBook, IsRight}
 use Rattle.ug_coord.specs.Ends.{is_ended, ranks_of}
 use Rattle.ug_coord.specs.Hubs.{beginning}
 use Rattle.ug_coord.specs.HubViews.{hub_seen}
-use Rattle.ug_coord.specs.Keeping.{HasTriedEach, savers}
+use Rattle.ug_coord.specs.declared.pacing.Pacing.{Pacing}
+use Rattle.ug_coord.specs.Keeping.{savers}
 use Rattle.ug_coord.specs.Keepers.{kept_seen}
 use Rattle.ug_coord.proofs.Coursing.{begun_on}
 use Rattle.ug_coord.proofs.Causes.{opening_alive}
-use Rattle.ug_coord.proofs.Ends.{begun_ours, each_nothing, nothing_coordinated, nothing_kept, solved_coordinated, solved_each, solved_kept}
+use Rattle.ug_coord.proofs.Ends.{begun_ours, nothing_coordinated, nothing_kept, solved_coordinated, solved_kept}
 use Rattle.ug_coord.proofs.Kept.{ends_ours, run_on, same_of}
 use Rattle.ug_coord.proofs.solving.solve.Goals as goal
+
+-- no save is due at the begin
+begun_pacing : (b own : BookState) (p : Pacing) → b ≡ own → p ≡ record { since = b.heard; apart = 0 }
+    → p ≡ record { since = own.heard; apart = 0 }
+begun_pacing b own p same is =
+    is ∙ ap (λ (k : BookState). record { since = k.heard; apart = 0 }) same
 
 pub returns-in-Err-clause-coordinated : goal.returns-in-Err-clause-coordinated
 returns-in-Err-clause-coordinated g c =
@@ -30,7 +37,7 @@ pub run-requires-clause-on : goal.run-requires-clause-on
 run-requires-clause-on g c κs within = (
   beginning (opening_book c.args.opening.now) (g.C.Crew.seen c.args.crew).faults,
   begun_on (opening_book c.args.opening.now) _ c.requires.fresh c.in-Ok.ensures.book
-      (c.in-Ok.ensures.streams ∙ ap (λ (b : BookState). replicate (ranks_of b) first) c.in-Ok.ensures.book) refl,
+      (c.in-Ok.ensures.streams ∙ ap (λ (b : BookState). replicate (ranks_of b) first) c.in-Ok.ensures.book) refl (begun_pacing c.in-Ok.parts.book (opening_book c.args.opening.now) _ c.in-Ok.ensures.book (search rules)),
 )
 
 pub run-requires-clause-ours : goal.run-requires-clause-ours
@@ -44,7 +51,7 @@ returns-clause-coordinated g c =
     let mid = kept_seen c.run.new.keeper (g.D.Disk.seen c.run.new.disk) in
     let ends = c.run.ensures.ends (beginning b faults)
     (begun_on (opening_book c.args.opening.now) _ c.requires.fresh c.in-Ok.ensures.book
-    (c.in-Ok.ensures.streams ∙ ap (λ (b : BookState). replicate (ranks_of b) first) c.in-Ok.ensures.book) refl) in
+    (c.in-Ok.ensures.streams ∙ ap (λ (b : BookState). replicate (ranks_of b) first) c.in-Ok.ensures.book) refl (begun_pacing c.in-Ok.parts.book (opening_book c.args.opening.now) _ c.in-Ok.ensures.book (search rules))) (sym (begun_pacing c.in-Ok.parts.book (opening_book c.args.opening.now) _ c.in-Ok.ensures.book (search rules))) in
     solved_coordinated b faults (hub_seen g.C.Crew.seen c.run.new.self) old mid
     (g.D.Disk.seen c.conclude-outcome.new.disk) c.conclude-outcome.result ends
     (record {
@@ -63,7 +70,7 @@ returns-clause-coordinated g c =
     (ends_ours (beginning b faults) (hub_seen g.C.Crew.seen c.run.new.self) old mid _ _ ends
     c.run.ensures.same
     (begun_ours c.args.opening.now c.args.keeper.saves _ c.requires.begun c.in-Ok.ensures.book))
-    c.conclude-outcome.ensures.concluded
+    c.run.ensures.saved c.args.opening.now c.requires.begun c.conclude-outcome.ensures.concluded
 
 pub returns-clause-kept : goal.returns-clause-kept
 returns-clause-kept g c =
@@ -73,7 +80,7 @@ returns-clause-kept g c =
     let mid = kept_seen c.run.new.keeper (g.D.Disk.seen c.run.new.disk) in
     let ends = c.run.ensures.ends (beginning b faults)
     (begun_on (opening_book c.args.opening.now) _ c.requires.fresh c.in-Ok.ensures.book
-    (c.in-Ok.ensures.streams ∙ ap (λ (b : BookState). replicate (ranks_of b) first) c.in-Ok.ensures.book) refl) in
+    (c.in-Ok.ensures.streams ∙ ap (λ (b : BookState). replicate (ranks_of b) first) c.in-Ok.ensures.book) refl (begun_pacing c.in-Ok.parts.book (opening_book c.args.opening.now) _ c.in-Ok.ensures.book (search rules))) (sym (begun_pacing c.in-Ok.parts.book (opening_book c.args.opening.now) _ c.in-Ok.ensures.book (search rules))) in
     solved_kept c.args.opening.now (beginning b faults) (hub_seen g.C.Crew.seen c.run.new.self) old mid
     (g.D.Disk.seen c.conclude-outcome.new.disk) c.conclude-outcome.result ends
     (subst (λ e. is_ended e c.run.new.self.book) (sym c.conclude-outcome.ensures.end) c.end_of-end.ensures.ended)
@@ -81,18 +88,3 @@ returns-clause-kept g c =
     c.run.ensures.same
     (begun_ours c.args.opening.now c.args.keeper.saves _ c.requires.begun c.in-Ok.ensures.book))
     c.requires.begun c.conclude-outcome.ensures.concluded
-
-pub returns-in-Err-clause-each : goal.returns-in-Err-clause-each
-returns-in-Err-clause-each g c =
-    each_nothing (savers c.args.keeper.saves) c.nothing.result (g.D.Disk.seen c.args.disk.now) c.nothing.ensures
-
-pub returns-clause-each : goal.returns-clause-each
-returns-clause-each g c =
-    let old = kept_seen c.args.keeper (g.D.Disk.seen c.args.disk.now) in
-    let mid = kept_seen c.run.new.keeper (g.D.Disk.seen c.run.new.disk) in
-    solved_each c.args.opening.now c.run.new.self.book old mid (g.D.Disk.seen c.conclude-outcome.new.disk)
-    c.conclude-outcome.result
-    (subst (λ e. is_ended e c.run.new.self.book) (sym c.conclude-outcome.ensures.end) c.end_of-end.ensures.ended)
-    c.requires.begun
-    (subst (λ (k : BookState). HasTriedEach k c.run.new.self.book old mid) c.in-Ok.ensures.book c.run.ensures.tried)
-    c.conclude-outcome.ensures.concluded

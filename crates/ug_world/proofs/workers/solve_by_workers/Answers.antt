@@ -3,7 +3,7 @@ use Rattle.std.proofs.lemmas.List.{length-replicate}
 use Rattle.ug_ranks.specs.declared.state.State.TheVariants.{Absent}
 use Rattle.ug_book.specs.Openings.{opening_book}
 use Rattle.ug_coord.specs.Hubs.{IsFresh}
-use Rattle.ug_coord.specs.Keeping.{IsKeptSafe}
+use Rattle.ug_coord.specs.Keeping.{AreEachSaved, IsKeptSafe}
 use Rattle.ug_worker.specs.WorkerCrews.{crew_seen, exchanged_of}
 use Rattle.ug_world.proofs.Solved.{has_solved, never_stranded}
 use Rattle.ug_world.proofs.workers.solve_by_workers.Goals as goal
@@ -18,6 +18,7 @@ returns-clause-solved g c covered =
     let crew = c.coordinate-outcome.result.crew in
     has_solved c.args.opening.now c.coordinate-outcome.result.outcome.end (crew_seen c.args.crew).faults (crew_seen crew)
     (exchanged_of crew) c.args.saver (g.D.Disk.seen c.args.disk.now) (g.D.Disk.seen c.coordinate-outcome.new.disk)
+    (AreEachSaved c.args.saver c.coordinate-outcome.result.outcome (g.D.Disk.seen c.coordinate-outcome.new.disk))
     c.coordinate-outcome.ensures.coordinated refl
     c.coordinators_of_workers_lose_nothing.ensures covered c.is_worked.ensures
 
@@ -26,6 +27,7 @@ returns-clause-calm g c calm =
     let crew = c.coordinate-outcome.result.crew in
     never_stranded c.args.opening.now c.coordinate-outcome.result.outcome.end (crew_seen c.args.crew).faults
     (crew_seen crew) (exchanged_of crew)
+    (AreEachSaved c.args.saver c.coordinate-outcome.result.outcome (g.D.Disk.seen c.coordinate-outcome.new.disk))
     (IsKeptSafe c.args.saver (g.D.Disk.seen c.args.disk.now) (g.D.Disk.seen c.coordinate-outcome.new.disk))
     c.coordinate-outcome.ensures.coordinated refl
     c.calm_workers_live.ensures c.requires.opening c.is_worked.ensures calm

@@ -9,6 +9,7 @@ loop-rank-init g c = record {
   closed = λ from old new k. none_closed from (hub_seen g.C.Crew.seen c.args.self.now) old new k;
   book = search rules;
   wants = search rules;
+  pacing = search rules;
 }
 
 pub loop-rank-preserved : goal.loop-rank-preserved
@@ -18,6 +19,7 @@ loop-rank-preserved g c = record {
       (c.end.ensures.closed from old new (c.loop-rank.invariant.closed from old new k));
   book = c.end.ensures.same.0 ∙ c.loop-rank.invariant.book;
   wants = c.end.ensures.same.1 ∙ c.loop-rank.invariant.wants;
+  pacing = c.end.ensures.pacing ∙ c.loop-rank.invariant.pacing;
 }
 
 pub returns-clause-ends : goal.returns-clause-ends

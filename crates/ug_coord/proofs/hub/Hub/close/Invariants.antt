@@ -12,4 +12,5 @@ invariant-loop-rank g l = record {
       → IsClosedBelow l.rank from (hub_seen g.C.Crew.seen l.self) old new;
   book : l.self.book ≡ l.initial.self.book;
   wants : l.self.wants ≡ l.initial.self.wants;
+  pacing : l.self.pacing ≡ l.initial.self.pacing;
 }

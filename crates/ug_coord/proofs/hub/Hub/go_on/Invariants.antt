@@ -2,7 +2,8 @@ use Rattle.ug_book.specs.Views.{IsSameRun}
 use Rattle.ug_coord.specs.Deeds.{Standing}
 use Rattle.ug_coord.specs.Hubs.{IsKeptIn, IsRested}
 use Rattle.ug_coord.specs.HubViews.{hub_seen}
-use Rattle.ug_coord.specs.Keeping.{HasTriedEach, IsKeptBy, KeptSeen}
+use Rattle.ug_coord.specs.Keeping.{IsKeptBy, KeptSeen}
+use Rattle.ug_coord.specs.Pacing.{IsSaveDue}
 use Rattle.ug_coord.specs.Keepers.{kept_seen}
 use Rattle.ug_coord.proofs.hub.Hub.go_on.Given as goal
 
@@ -14,6 +15,5 @@ invariant-loop g l = record {
       → IsKeptIn IsRested from (hub_seen g.C.Crew.seen l.self) first (kept_seen l.keeper (g.D.Disk.seen l.disk));
   kept : IsKeptBy (kept_seen l.keeper (g.D.Disk.seen l.disk));
   same : IsSameRun l.initial.self.book l.self.book;
-  tried : HasTriedEach l.initial.self.book l.self.book (kept_seen l.initial.keeper (g.D.Disk.seen l.initial.disk))
-      (kept_seen l.keeper (g.D.Disk.seen l.disk));
+  saved : ¬ IsSaveDue l.self.pacing l.self.book;
 }

@@ -1,3 +1,4 @@
+use Rattle.std.proofs.Common.{◌≡◌}
 use Rattle.ug_coord.specs.Deeds.{Standing}
 use Rattle.ug_coord.specs.Hubs.{IsBrokenOff, IsOnIn, IsQuiet}
 use Rattle.ug_coord.specs.HubViews.{hub_seen}
@@ -8,4 +9,5 @@ invariant-loop-rank g l = record {
   on : (from : Standing) → IsOnIn IsBrokenOff from (hub_seen g.C.Crew.seen l.initial.self)
       → IsOnIn IsBrokenOff from (hub_seen g.C.Crew.seen l.self);
   quiet : IsQuiet l.initial.self.book l.self.book;
+  pacing : l.self.pacing ≡ l.initial.self.pacing;
 }

@@ -3,11 +3,10 @@ use Rattle.ug_coord.specs.Ends.{IsOver}
 use Rattle.ug_coord.specs.HubViews.{hub_seen}
 use Rattle.ug_coord.specs.Hubs.{IsRested}
 use Rattle.ug_coord.proofs.Coursing.{stays_in}
-use Rattle.ug_coord.proofs.Kept.{kept_first, ours_same}
-use Rattle.ug_coord.specs.Keepers.{kept_seen}
-use Rattle.ug_coord.specs.Keeping.{HasTriedEach}
+use Rattle.ug_coord.proofs.Kept.{kept_first, ours_same, unsaved}
 use Rattle.ug_rules.specs.State.{BookState}
-use Rattle.ug_coord.proofs.Tries.{each_on, each_quiet}
+use Rattle.ug_coord.specs.declared.pacing.Pacing.{Pacing}
+use Rattle.ug_coord.specs.Pacing.{IsSaveDue}
 use Rattle.ug_coord.proofs.hub.Hub.run.Goals as goal
 
 pub go_on-requires-clause-on : goal.go_on-requires-clause-on
@@ -24,9 +23,9 @@ go_on-requires-clause-ours g c κs within =
     c.requires.ours
 
 pub returns-clause-ends : goal.returns-clause-ends
-returns-clause-ends g c from on =
+returns-clause-ends g c from on same =
     c.close.ensures.ends from _ _ (c.go_on.ensures.on from _ (kept_first IsRested from
-    (hub_seen g.C.Crew.seen c.start_all.new.self) _
+    (hub_seen g.C.Crew.seen c.start_all.new.self) _ (c.start_all.ensures.pacing ∙ sym same)
     (stays_in IsRested from (hub_seen g.C.Crew.seen c.args.self.now) (hub_seen g.C.Crew.seen c.start_all.new.self)
     (λ phase on. c.start_all.ensures.on phase from on) on)))
 
@@ -34,10 +33,12 @@ pub returns-clause-over : goal.returns-clause-over
 returns-clause-over g c wants =
     subst IsOver (sym c.close.ensures.same.0) (c.go_on.ensures.over (sym c.close.ensures.same.1 ∙ wants))
 
-pub returns-clause-tried : goal.returns-clause-tried
-returns-clause-tried g c =
-    let k = kept_seen c.args.keeper.now (g.D.Disk.seen c.args.disk.now) in
-    let l = kept_seen c.go_on.new.keeper (g.D.Disk.seen c.go_on.new.disk) in
-    subst (λ (b : BookState). HasTriedEach c.args.self.now.book b k l) (sym c.close.ensures.same.0)
-    (each_on c.args.self.now.book c.start_all.new.self.book c.go_on.new.self.book k k l
-    (each_quiet c.args.self.now.book c.start_all.new.self.book k c.start_all.ensures.quiet) c.go_on.ensures.tried)
+pub go_on-requires-clause-saved : goal.go_on-requires-clause-saved
+go_on-requires-clause-saved g c κs within =
+    unsaved c.args.self.now.book c.start_all.new.self.book c.args.self.now.pacing c.start_all.new.self.pacing
+    c.start_all.ensures.quiet.run.settings c.start_all.ensures.quiet.heard c.start_all.ensures.pacing c.requires.saved
+
+pub returns-clause-saved : goal.returns-clause-saved
+returns-clause-saved g c =
+    subst (λ (p : Pacing). ¬ IsSaveDue p c.close.new.self.book) (sym c.close.ensures.pacing)
+    (subst (λ (b : BookState). ¬ IsSaveDue c.go_on.new.self.pacing b) (sym c.close.ensures.same.0) c.go_on.ensures.saved)

@@ -1,3 +1,4 @@
+use Rattle.std.proofs.Common.{◌≡◌}
 use Rattle.ug_coord.specs.Deeds.{Standing}
 use Rattle.ug_coord.specs.Hubs.{IsOnAs, IsQuiet, Phase}
 use Rattle.ug_coord.specs.HubViews.{hub_seen}
@@ -9,4 +10,5 @@ invariant-loop g l = record {
   on : (phase : Phase) (from : Standing) → IsOnAs phase from (hub_seen g.C.Crew.seen l.initial.self)
       → IsOnAs phase from (hub_seen g.C.Crew.seen l.self);
   quiet : IsQuiet l.initial.self.book l.self.book;
+  pacing : l.self.pacing ≡ l.initial.self.pacing;
 }

@@ -25,7 +25,7 @@ lose_all-requires-clause-on g c κs within =
       c.requires.on.0,
       broke_by c.requires.on.0 (hub_seen g.C.Crew.seen c.args.self.now) _ c.requires.more c.requires.told
           (broken_whole c.args.self.now.streams.len (g.C.Crew.seen c.args.self.now.crew) (g.C.Crew.seen c.take_turn.new.crew)
-          c.args.self.now.streams.items c.take_turn.new.streams (search rules) broken) refl refl c.requires.on.1,
+          c.args.self.now.streams.items c.take_turn.new.streams (search rules) broken) refl refl refl c.requires.on.1,
     )
 
 pub hear_next-requires-clause-on : goal.hear_next-requires-clause-on
@@ -36,7 +36,7 @@ hear_next-requires-clause-on g c κs within =
       any_in (is_next Reading) c.requires.on.0 _
           (fed_by c.requires.on.0 (hub_seen g.C.Crew.seen c.args.self.now) _ c.in-Fed.rank c.requires.more c.requires.told
           (fed_whole c.args.self.now.streams.len (g.C.Crew.seen c.args.self.now.crew) (g.C.Crew.seen c.take_turn.new.crew)
-          c.args.self.now.streams.items c.take_turn.new.streams c.in-Fed.rank (search rules) fed) refl refl c.requires.on.1),
+          c.args.self.now.streams.items c.take_turn.new.streams c.in-Fed.rank (search rules) fed) refl refl refl c.requires.on.1),
     )
 
 pub returns-in-Fed-clause-on : goal.returns-in-Fed-clause-on
@@ -46,7 +46,7 @@ returns-in-Fed-clause-on g c from on =
     read_rests c.hear_next.result from _ (hub_seen g.C.Crew.seen c.hear_next.new.self) c.hear_next.ensures.on
     (fed_by from (hub_seen g.C.Crew.seen c.args.self.now) _ c.in-Fed.rank c.requires.more c.requires.told
     (fed_whole c.args.self.now.streams.len (g.C.Crew.seen c.args.self.now.crew) (g.C.Crew.seen c.take_turn.new.crew)
-    c.args.self.now.streams.items c.take_turn.new.streams c.in-Fed.rank (search rules) fed) refl refl on)
+    c.args.self.now.streams.items c.take_turn.new.streams c.in-Fed.rank (search rules) fed) refl refl refl on)
 
 pub returns-in-Gone-clause-on : goal.returns-in-Gone-clause-on
 returns-in-Gone-clause-on g c from on =
@@ -56,7 +56,7 @@ returns-in-Gone-clause-on g c from on =
     c.requires.told
     (gone_whole c.args.self.now.streams.len (g.C.Crew.seen c.args.self.now.crew) (g.C.Crew.seen c.take_turn.new.crew)
     c.args.self.now.streams.items c.take_turn.new.streams c.in-Gone.rank (search rules) gone) c.gone.ensures.done
-    c.gone.ensures.same.wide refl on)
+    c.gone.ensures.same.wide refl refl on)
 
 pub returns-in-Failed-clause-on : goal.returns-in-Failed-clause-on
 returns-in-Failed-clause-on g c from on =
@@ -65,7 +65,7 @@ returns-in-Failed-clause-on g c from on =
     broken_rests from (hub_seen g.C.Crew.seen c.lose_all.new.self) (c.lose_all.ensures.on from
     (broke_by from (hub_seen g.C.Crew.seen c.args.self.now) _ c.requires.more c.requires.told
     (broken_whole c.args.self.now.streams.len (g.C.Crew.seen c.args.self.now.crew) (g.C.Crew.seen c.take_turn.new.crew)
-    c.args.self.now.streams.items c.take_turn.new.streams (search rules) broken) refl refl on))
+    c.args.self.now.streams.items c.take_turn.new.streams (search rules) broken) refl refl refl on))
 
 pub returns-in-Wanting-clause-on : goal.returns-in-Wanting-clause-on
 returns-in-Wanting-clause-on g c from on =
@@ -74,7 +74,7 @@ returns-in-Wanting-clause-on g c from on =
     reading_rests from _ (lacked_by from (hub_seen g.C.Crew.seen c.args.self.now) _ c.in-Wanting.rank c.requires.more
     c.requires.told
     (lacked_whole c.args.self.now.streams.len (g.C.Crew.seen c.args.self.now.crew) (g.C.Crew.seen c.take_turn.new.crew)
-    c.args.self.now.streams.items c.take_turn.new.streams c.in-Wanting.rank (search rules) lacked) refl refl on)
+    c.args.self.now.streams.items c.take_turn.new.streams c.in-Wanting.rank (search rules) lacked) refl refl refl on)
 
 pub returns-in-Gone-clause-hears : goal.returns-in-Gone-clause-hears
 returns-in-Gone-clause-hears g c =
