@@ -10,6 +10,7 @@ use std::io;
 use std::io::ErrorKind;
 use std::net::Net;
 use std::rt::Files;
+use std::thread::sleep;
 use std::time::{Clock, Duration, Instant};
 
 /// How many events a wait takes note of at most.
@@ -17,6 +18,10 @@ const EVENTS: usize = 256;
 
 /// After how many milliseconds a child that is to end soon is looked at again.
 const SOON: u64 = 10;
+
+/// For how many microseconds more is let come once something came. To be woken for each report alone
+/// would cost more than most reports do.
+const GATHER: u64 = 100;
 
 /// How many milliseconds the end of a child is waited for once all were told to end.
 const PATIENCE: u64 = 10_000;
@@ -293,13 +298,15 @@ impl<'a, R: Files + Clock> Herd<'a, R> {
 
     // Begins a round. It looks what has become of all children, so that one that never stops talking
     // keeps no other from coming, being heard or being told, and waits, so many milliseconds at
-    // most, where there is nothing to hear.
+    // most, where there is nothing to hear, and then a little longer.
     fn look(&mut self, clock: &R, most: Option<u64>) -> io::Result<()> {
         self.next = 0;
         if is_any_stirred(&self.peers) {
             self.wait(clock, Some(0))
         } else {
-            self.wait(clock, most)
+            self.wait(clock, most)?;
+            sleep(clock, Duration::from_micros(GATHER));
+            Ok(())
         }
     }
 

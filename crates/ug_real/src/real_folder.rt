@@ -60,6 +60,14 @@ impl<'a, R: Files<File = File>> RealFolder<'a, R> {
             access: Access::Reading(SlotCopies::new(rt, alloc, path)),
         }
     }
+
+    /// How many images were saved here.
+    pub fn saves(&self) -> u64 {
+        match &self.access {
+            Access::Writing(files) => files.saves(),
+            Access::Reading(_) => 0,
+        }
+    }
 }
 
 impl<R: Files<File = File> + Eprint> Folder for RealFolder<'_, R> {

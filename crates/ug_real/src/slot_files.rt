@@ -11,6 +11,9 @@ use std::rt::Files;
 use std::{fs, io};
 use ug_disk::Slot;
 
+// What is written at a slot's front when all behind it is on the disk: its gate, open.
+const OPEN: &[u8] = &[1];
+
 // The name of the slot's file.
 fn name_of(slot: Slot) -> &'static str {
     match slot {
@@ -50,6 +53,12 @@ pub struct SlotFiles<'a, R: Files<File = File>> {
     has_saved: bool,
     // How many writes and syncs failed since.
     failures: u64,
+    // Whether the last save failed.
+    fails: bool,
+    // Whether the gate of a slot was opened and is not on the disk yet, which ends a save.
+    opens: bool,
+    // How many saves there were.
+    saves: u64,
     folder: Option<File>,
     kept: Kept<File>,
 }
@@ -138,9 +147,17 @@ impl<'a, R: Files<File = File>> SlotFiles<'a, R> {
             stage,
             has_saved: false,
             failures: 0,
+            fails: false,
+            opens: false,
+            saves: 0,
             folder: None,
             kept: Kept::new(),
         }
+    }
+
+    /// How many images were saved.
+    pub fn saves(&self) -> u64 {
+        self.saves
     }
 
     // Whether what is not there is made.
@@ -284,7 +301,9 @@ impl<R: Files<File = File> + Eprint> SlotFiles<'_, R> {
         let Err(error) = got else {
             return Ok(());
         };
+        self.opens = false;
         if self.has_saved {
+            self.fails = true;
             self.failures = self.failures.saturating_add(1);
             let count = self.failures;
             if count.is_power_of_two() {
@@ -296,6 +315,26 @@ impl<R: Files<File = File> + Eprint> SlotFiles<'_, R> {
         Err(error)
     }
 
+    // What was written is on the disk, and where that was an opened gate an image is saved. Says so on
+    // standard error where the last save had failed.
+    fn settled(&mut self) {
+        self.has_saved = true;
+        if !self.opens {
+            return;
+        }
+        self.opens = false;
+        self.saves = self.saves.saturating_add(1);
+        if self.fails {
+            self.fails = false;
+            let path = self.path;
+            let count = self.failures;
+            let saves = if count == 1 { "save" } else { "saves" };
+            let _ = eprintln!(self.rt;
+                "ug: {path}: saved again, after {count} {saves} that failed"
+            );
+        }
+    }
+
     /// Writes all of the bytes from a place on. Where a run begins, what the slots had is kept
     /// before the first of them is written.
     pub fn write(&mut self, slot: Slot, at: u64, bytes: &[u8]) -> io::Result<()> {
@@ -304,6 +343,7 @@ impl<R: Files<File = File> + Eprint> SlotFiles<'_, R> {
         }
         self.stage = Stage::Writes;
         let got = self.put(slot, at, bytes);
+        self.opens = at == 0 && bytes == OPEN;
         self.noted(got)
     }
 
@@ -319,7 +359,7 @@ impl<R: Files<File = File> + Eprint> SlotFiles<'_, R> {
         let got = self.sync_folder();
         match self.unless_missing(got) {
             Ok(()) => {
-                self.has_saved = true;
+                self.settled();
                 Ok(())
             }
             Err(error) => self.noted(Err(error)),
