@@ -40,7 +40,7 @@ use std::{env, io};
 use ug_cli::{Asked, Mode, Plan, Usage, crossed_is_not_taken, read_words, words_tell_the_needs};
 use ug_disk::Disk;
 use ug_io::{Crew, Link, Sink, Source};
-use ug_print::reason;
+use ug_print::{columns_refused, reason};
 use ug_real::{Children, FileDisk, ProcessCrew, Reader, RealFolder, SocketLink, Writer};
 use ug_restart::{Host, Observer};
 use ug_top::{Objects, Ran, Refusal, Status, run, tell_unread};
@@ -161,6 +161,17 @@ where
         Purpose::GoOn => RealFolder::going_on(rt, alloc, paths.folder),
         Purpose::Show => RealFolder::reading(rt, alloc, paths.folder),
     })
+}
+
+// How many images were saved in the folder of the plan; None where it names none.
+fn saves_of<R>(disk: &FileDisk<RealFolder<'_, R>>, paths: Paths<'_>) -> Option<u64>
+where
+    R: Files<File = File> + Eprint + AllocGlobal,
+{
+    if paths.folder.is_empty() {
+        return None;
+    }
+    Some(disk.folder().saves())
 }
 
 // The crew of a solve in processes, whose children are this program.
@@ -310,6 +321,7 @@ where
         is_told,
     };
     let status = carry_out(&host, job, &mut objects, &mut out);
+    observer.tell_end(saves_of(&objects.disk, paths));
     Worked {
         status,
         objects,
@@ -374,9 +386,16 @@ fn tell_best<R: Eprint>(rt: &R, lines: &[u8]) {
 
 // Says what is the matter with the text of this file, which was refused, and what helps.
 fn explain_refusal<R: Eprint>(rt: &R, file: &str, refusal: Option<Refusal>) {
-    if let Some(Refusal { line, kind }) = refusal {
-        let reason = reason(kind);
-        let _ = eprintln!(rt; "ug: {file}: line {line}: {reason}");
+    if let Some(Refusal { line, cause }) = refusal {
+        let reason = reason(cause);
+        match columns_refused(cause) {
+            Some(count) if count > 1 => {
+                let _ = eprintln!(rt; "ug: {file}: line {line}: {reason}; {count} columns are so");
+            }
+            _ => {
+                let _ = eprintln!(rt; "ug: {file}: line {line}: {reason}");
+            }
+        }
     }
 }
 

@@ -20,7 +20,7 @@ use Rattle.ug_threads.specs.Ends.{IsReplayOf}
 use Rattle.ug_threads.proofs.Outcomes.{same_run}
 use Rattle.ug_coord.specs.Ends.{is_ended, ranks_of}
 use Rattle.ug_coord.specs.Hubs.{HasCoordinated, IsFresh}
-use Rattle.ug_coord.specs.Keeping.{HasKept, IsKeptSafe, IsNothing}
+use Rattle.ug_coord.specs.Keeping.{AreEachSaved, HasKept, IsKeptSafe, IsNothing}
 use Rattle.ug_coord.proofs.Causes.{AreAlive}
 use Rattle.ug_coord.proofs.Ends.{nothing_coordinated}
 use Rattle.ug_coord.proofs.Kept.{sound_last}
@@ -84,9 +84,10 @@ solved_right law (Some crew) given end h unused trusted sound =
 -- ---- what was said of a solve by a crew
 
 -- but for what is safe
-abbrev unsafely : (given : BookState) (faults : ℕ) (crew : CrewSeen) (end : End) (Safe : Type 0)
-    → HasCoordinated given faults crew end Safe → HasCoordinated given faults crew end (Unit {0})
-unsafely given faults crew end Safe h = record {
+abbrev unsafely : (given : BookState) (faults : ℕ) (crew : CrewSeen) (end : End) (Tried : ℕ → Type 0) (Safe : Type 0)
+    → HasCoordinated given faults crew end Tried Safe
+    → HasCoordinated given faults crew end (λ count. Unit {0}) (Unit {0})
+unsafely given faults crew end Tried Safe h = record {
   now = h.now;
   come = h.come;
   made = h.made;
@@ -95,19 +96,21 @@ unsafely given faults crew end Safe h = record {
   ended = h.ended;
   failed = h.failed;
   wants = h.wants;
+  saved = h.saved;
   same = h.same;
   feasible = h.feasible;
   limited = h.limited;
   causes = h.causes;
   right = h.right;
+  tried = tt;
   safe = λ sound. tt;
 }
 
 pub crew_safely : CoordinatorsLoseNothing → (given : BookState) (faults : ℕ) (crew : CrewSeen) (end : End)
-    (Safe : Type 0) → given.last ≡ 0 → HasCoordinated given faults crew end Safe
+    (Tried : ℕ → Type 0) (Safe : Type 0) → given.last ≡ 0 → HasCoordinated given faults crew end Tried Safe
     → HasSolvedSafely (Some crew) given end Safe
-crew_safely law given faults crew end Safe unused h = record {
-  solved = (faults, unsafely given faults crew end Safe h);
+crew_safely law given faults crew end Tried Safe unused h = record {
+  solved = (faults, unsafely given faults crew end Tried Safe h);
   safe = λ trusted sound. h.safe (law given faults h.now h.come h.made sound unused trusted).0;
 }
 
@@ -137,7 +140,7 @@ nobody_solved None given outcome solvers fits alive none ranks =
 nobody_solved (Some crew) given outcome solvers fits alive none ranks =
     let disk : DiskSeen = record { told = None; faults = 0 } in (
       crew.faults,
-      unsafely given crew.faults crew outcome.end (IsKeptSafe None disk disk)
+      unsafely given crew.faults crew outcome.end (AreEachSaved None outcome disk) (IsKeptSafe None disk disk)
           (nothing_coordinated given crew None outcome disk (subst (IsFresh crew) ranks fits) alive none),
     )
 

@@ -15,7 +15,8 @@ use Rattle.ug_world.specs.Coordinators.{IsHonestFrom}
 -- failed some number of times before
 abbrev pub HasSolved : Option CrewSeen → BookState → End → Type 0
 HasSolved None given end = HasEnded given end
-HasSolved (Some crew) given end = (faults : ℕ) × HasCoordinated given faults crew end (Unit {0})
+HasSolved (Some crew) given end = (faults : ℕ) × HasCoordinated given faults crew end (λ count. Unit {0})
+    (Unit {0})
 
 -- nothing is to be trusted of threads; of a crew, that what was heard of it is honest
 abbrev pub IsTrusted : (by : Option CrewSeen) (given : BookState) (end : End) → HasSolved by given end → Type 0

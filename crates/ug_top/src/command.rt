@@ -9,6 +9,7 @@ ghost use Rattle.ug_top.specs.Outcomes.{TellsRun};
 ghost use Rattle.ug_top.specs.Solved.{FitsCrew, IsStillThere, KeepsCoveredBy};
 ghost use Rattle.ug_top.specs.Unread.{HasStopped};
 
+use crate::boxes::{Stated, tell_boxes};
 use crate::ended::Ended;
 use crate::made::run_made;
 use crate::objects::Objects;
@@ -23,7 +24,6 @@ use std::thread::Threads;
 use ug_cli::{Asked, Plan, Restart, Solve};
 use ug_disk::Disk;
 use ug_io::{Crew, Link, Source};
-use ug_problem::Shared;
 use ug_restart::{Host, Observer};
 
 /// Does what the plan asks for, up to the lines, which it does not write: it reads the source,
@@ -83,14 +83,14 @@ fn run_solve<
     ensures crew { IsStillThere (seen_if C.seen objects.old.crew) (seen_if C.seen objects.new.crew) }
 {
     let boxed = solve.settings.bounds.boxed;
-    let problem = match read_problem(host.alloc, boxed, &mut objects.input) {
-        Ok(problem) => problem,
+    let stated = match read_problem(host.alloc, boxed, &mut objects.input) {
+        Ok(stated) => stated,
         Err(ended) => return ended,
     };
     let Objects { disk, crew, .. } = objects;
     match solve.checkpoint {
-        None => run_alone(host, &solve.settings, problem, disk, crew),
-        Some(_) => run_saved(host, &solve.settings, problem, disk, crew),
+        None => run_alone(host, &solve.settings, stated, disk, crew),
+        Some(_) => run_saved(host, &solve.settings, stated, disk, crew),
     }
 }
 
@@ -116,36 +116,39 @@ fn run_restart<
     ensures crew { IsStillThere (seen_if C.seen objects.old.crew) (seen_if C.seen objects.new.crew) }
 {
     let boxed = restart.settings.bounds.boxed;
-    let problem = match read_problem(host.alloc, boxed, &mut objects.input) {
-        Ok(problem) => problem,
+    let stated = match read_problem(host.alloc, boxed, &mut objects.input) {
+        Ok(stated) => stated,
         Err(ended) => return ended,
     };
     let Objects { disk, crew, .. } = objects;
-    run_on(host, &restart.settings, problem, disk, crew)
+    run_on(host, &restart.settings, stated, disk, crew)
 }
 
 // Solves the problem without a checkpoint.
 fn run_alone<R: Threads + Wait + Sync, D: Disk, O: Observer, C: Crew + Drop>(
     host: &Host<'_, R, O>,
     asked: &Asked<'_>,
-    problem: Shared,
+    stated: Stated,
     disk: &mut D,
     crew: &mut Option<C>,
 ) -> Ended
     requires planned { IsPlanned asked.now }
     requires fits { FitsCrew asked.now.ranks.solvers (seen_if C.seen crew.old) }
     ensures run { TellsRun
-        (HasRunAlone (seen_if C.seen crew.new) asked.now (D.seen disk.old) (D.seen disk.new) problem)
-        (BeginsAlways problem) asked.now.bounds.gap result }
+        (HasRunAlone (seen_if C.seen crew.new) asked.now (D.seen disk.old) (D.seen disk.new)
+        stated.problem)
+        (BeginsAlways stated.problem) asked.now.bounds.gap result }
     ensures stored { IsStored
         (KeepsCoveredBy (seen_if C.seen crew.new) (D.seen disk.old) (D.seen disk.new))
         (D.seen disk.old) (D.seen disk.new) (status_of result) }
     ensures alone { IsLeftAlone (D.seen disk.old) (D.seen disk.new) }
     ensures crew { IsStillThere (seen_if C.seen crew.old) (seen_if C.seen crew.new) }
 {
+    let Stated { problem, ends } = stated;
     let settings = settings_for(asked, problem.problem());
     let outcome = solve_new(host, crew, problem, settings, disk);
     let ended = tell_outcome(host.alloc, &outcome, asked.bounds.gap);
+    tell_boxes(host.observer, &outcome.end, ends);
     drop(outcome);
     ended
 }
@@ -154,28 +157,35 @@ fn run_alone<R: Threads + Wait + Sync, D: Disk, O: Observer, C: Crew + Drop>(
 fn run_saved<R: Threads + Wait + Sync, D: Disk, O: Observer, C: Crew + Drop>(
     host: &Host<'_, R, O>,
     asked: &Asked<'_>,
-    problem: Shared,
+    stated: Stated,
     disk: &mut D,
     crew: &mut Option<C>,
 ) -> Ended
     requires planned { IsPlanned asked.now }
     requires fits { FitsCrew asked.now.ranks.solvers (seen_if C.seen crew.old) }
     ensures run { TellsRun
-        (HasRunSaved (seen_if C.seen crew.new) asked.now (D.seen disk.old) (D.seen disk.new) problem)
-        (HasNotBegun asked.now (D.seen disk.old) (D.seen disk.new) problem) asked.now.bounds.gap result }
+        (HasRunSaved (seen_if C.seen crew.new) asked.now (D.seen disk.old) (D.seen disk.new)
+        stated.problem)
+        (HasNotBegun asked.now (D.seen disk.old) (D.seen disk.new) stated.problem)
+        asked.now.bounds.gap result }
     ensures stored { IsStored
         (KeepsCoveredBy (seen_if C.seen crew.new) (D.seen disk.old) (D.seen disk.new))
         (D.seen disk.old) (D.seen disk.new) (status_of result) }
     ensures crew { IsStillThere (seen_if C.seen crew.old) (seen_if C.seen crew.new) }
 {
+    let Stated { problem, ends } = stated;
     let settings = settings_for(asked, problem.problem());
     match solve_saved(host, crew, problem, settings, disk) {
         Ok(outcome) => {
             let ended = tell_outcome(host.alloc, &outcome, asked.bounds.gap);
+            tell_boxes(host.observer, &outcome.end, ends);
             drop(outcome);
             ended
         }
-        Err(fault) => tell_fault(host.alloc, &fault),
+        Err(fault) => {
+            drop(ends);
+            tell_fault(host.alloc, &fault)
+        }
     }
 }
 
@@ -183,27 +193,34 @@ fn run_saved<R: Threads + Wait + Sync, D: Disk, O: Observer, C: Crew + Drop>(
 fn run_on<R: Threads + Wait + Sync, D: Disk, O: Observer, C: Crew + Drop>(
     host: &Host<'_, R, O>,
     asked: &Asked<'_>,
-    problem: Shared,
+    stated: Stated,
     disk: &mut D,
     crew: &mut Option<C>,
 ) -> Ended
     requires planned { IsPlanned asked.now }
     requires fits { FitsCrew asked.now.ranks.solvers (seen_if C.seen crew.old) }
     ensures run { TellsRun
-        (HasRunOn (seen_if C.seen crew.new) asked.now (D.seen disk.old) (D.seen disk.new) problem)
-        (HasNotGoneOn asked.now (D.seen disk.old) (D.seen disk.new) problem) asked.now.bounds.gap result }
+        (HasRunOn (seen_if C.seen crew.new) asked.now (D.seen disk.old) (D.seen disk.new)
+        stated.problem)
+        (HasNotGoneOn asked.now (D.seen disk.old) (D.seen disk.new) stated.problem)
+        asked.now.bounds.gap result }
     ensures stored { IsStored
         (KeepsCoveredBy (seen_if C.seen crew.new) (D.seen disk.old) (D.seen disk.new))
         (D.seen disk.old) (D.seen disk.new) (status_of result) }
     ensures crew { IsStillThere (seen_if C.seen crew.old) (seen_if C.seen crew.new) }
 {
+    let Stated { problem, ends } = stated;
     let settings = settings_for(asked, problem.problem());
     match go_on(host, crew, problem, settings, disk) {
         Ok(outcome) => {
             let ended = tell_outcome(host.alloc, &outcome, asked.bounds.gap);
+            tell_boxes(host.observer, &outcome.end, ends);
             drop(outcome);
             ended
         }
-        Err(fault) => tell_fault(host.alloc, &fault),
+        Err(fault) => {
+            drop(ends);
+            tell_fault(host.alloc, &fault)
+        }
     }
 }

@@ -5,6 +5,7 @@
 //! each comes. A run is new or goes on; with a disk recovery's images stay Covered all along it.
 #![tactic(auto)]
 
+mod boxes;
 mod command;
 mod ended;
 mod made;

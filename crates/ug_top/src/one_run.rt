@@ -18,7 +18,7 @@ use ug_book::Opening;
 use ug_disk::Disk;
 use ug_io::Crew;
 use ug_problem::Shared;
-use ug_restart::{End, Host, Observer, Outcome, Start, StartFault, begin, restart};
+use ug_restart::{End, Host, Observer, Outcome, Start, StartFault, begin, restart, tell_end};
 use ug_rules::Settings;
 use ug_world::coordinators_lose_nothing;
 
@@ -48,6 +48,7 @@ pub fn solve_new<R: Threads + Wait + Sync, D: Disk, O: Observer, C: Crew + Drop>
     };
     let outcome = solve_by(host, crew, &opening, None, disk);
     drop(opening);
+    tell_end(host.observer, &outcome.end);
     outcome
 }
 
@@ -136,5 +137,6 @@ fn solve_from<R: Threads + Wait + Sync, D: Disk, O: Observer, C: Crew + Drop>(
     let Start { opening, saver } = start;
     let outcome = solve_by(host, crew, &opening, Some(saver), disk);
     drop(opening);
+    tell_end(host.observer, &outcome.end);
     outcome
 }

@@ -1,12 +1,12 @@
 use crate::status::Status;
-use ug_drafts::Kind;
+use ug_drafts::Cause;
 
 /// Why a text is refused: of its first fault the line, counted from 1, or 0 for an empty text, and
-/// the kind.
+/// the cause.
 #[derive(Clone, Copy)]
 pub struct Refusal {
     pub line: u64,
-    pub kind: Kind,
+    pub cause: Cause,
 }
 
 /// How a run of the program ended, and why its text was refused, where it was. Of a best point that

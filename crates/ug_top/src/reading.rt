@@ -5,12 +5,13 @@ ghost use Rattle.ug_mps.specs.Enough.{StopsAtEnd};
 ghost use Rattle.ug_top.specs.Lines.{States};
 ghost use Rattle.ug_top.specs.Unread.{HasStopped, IsTextUnread, IsUnread, unread_cause};
 
+use crate::boxes::{Stated, ends_for};
 use crate::ended::Ended;
 use crate::ran::Refusal;
 use std::alloc::{AllocError, Global};
 use ug_drafts::MpsError;
 use ug_io::Source;
-use ug_mps::{GatherError, gather, read};
+use ug_mps::{GatherError, cause_of, gather, read};
 use ug_print::refusal;
 use ug_problem::{Problem, Shared};
 
@@ -20,9 +21,10 @@ pub fn read_problem<S: Source>(
     alloc: Global,
     boxed: Option<u32>,
     input: &mut S,
-) -> Result<Shared, Ended>
+) -> Result<Stated, Ended>
     requires { IfSome boxed (λ u. u ≤ 10 ^ 9) }
-    ensures states { IfOk result (States (S.seen input.old).left boxed) }
+    ensures states { IfOk result (λ stated.
+        States (S.seen input.old).left boxed stated.problem) }
     ensures unread { IfErr result (IsUnread boxed (S.seen input.old).left) }
     ensures stops { OnOk result (StopsAtEnd (S.seen input.old).left (S.seen input.new).left) }
     ensures stopped { IfErr result
@@ -32,7 +34,10 @@ pub fn read_problem<S: Source>(
 {
     match gather(alloc, input) {
         Ok(text) => match problem_of(alloc, &text, boxed) {
-            Ok(problem) => Ok(Shared::own(problem)),
+            Ok(problem) => Ok(Stated {
+                problem: Shared::own(problem),
+                ends: ends_for(alloc, &text, boxed),
+            }),
             Err(ended) => Err(ended),
         },
         Err(GatherError::Memory) => Err(Ended::Memory),
@@ -50,12 +55,12 @@ fn problem_of(alloc: Global, text: &[u8], boxed: Option<u32>) -> Result<Problem,
         Ok(problem) => Ok(problem),
         Err(MpsError::Memory) => Err(Ended::Memory),
         Err(MpsError::Fault(fault)) => match refusal(alloc, &fault) {
-            Ok(text) => Err(Ended::Refused {
+            Ok(line) => Err(Ended::Refused {
                 refusal: Refusal {
                     line: fault.line,
-                    kind: fault.kind,
+                    cause: cause_of(alloc, text, boxed, &fault),
                 },
-                text,
+                text: line,
             }),
             Err(AllocError) => Err(Ended::Memory),
         },

@@ -15,11 +15,11 @@ returns-clause-run g c =
     ∙ ap (λ (p : Instance). settings_for c.args.asked.now p) c.problem.ensures.value in
     tells_outcome
     (HasRunAlone (seen_if g.C.Crew.seen c.solve_new-outcome.new.crew) c.args.asked.now (g.D.Disk.seen c.args.disk.now)
-    (g.D.Disk.seen c.solve_new-outcome.new.disk) c.args.problem)
-    (BeginsAlways c.args.problem)
+    (g.D.Disk.seen c.solve_new-outcome.new.disk) c.args.stated.problem)
+    (BeginsAlways c.args.stated.problem)
     c.args.asked.now.bounds.gap c.solve_new-outcome.result c.tell_outcome-ended.result
     (record {
-      ran = subst (λ (s : Settings). IsNewRun (seen_if g.C.Crew.seen c.solve_new-outcome.new.crew) c.args.problem s c.solve_new-outcome.result) is
+      ran = subst (λ (s : Settings). IsNewRun (seen_if g.C.Crew.seen c.solve_new-outcome.new.crew) c.args.stated.problem s c.solve_new-outcome.result) is
           c.solve_new-outcome.ensures.ran;
       untouched = c.solve_new-outcome.ensures.untouched;
     })

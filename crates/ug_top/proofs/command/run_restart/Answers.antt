@@ -19,4 +19,4 @@ returns-clause-lines g c =
       crew = seen_if g.C.Crew.seen c.run_on.new.crew;
       link = seen_if g.L.Link.seen c.args.objects.now.link;
     })
-    c.in-Ok.problem c.in-Ok.ensures.states c.run_on.result c.run_on.ensures.run
+    c.in-Ok.stated.problem c.in-Ok.ensures.states c.run_on.result c.run_on.ensures.run

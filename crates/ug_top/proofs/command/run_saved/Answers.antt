@@ -19,13 +19,13 @@ returns-in-Ok-clause-run g c =
     let is = c.settings_for-settings.ensures.value
     ∙ ap (λ (p : Instance). settings_for c.args.asked.now p) c.problem.ensures.value in
     tells_outcome
-    (HasRunSaved (seen_if g.C.Crew.seen c.solve_saved.new.crew) c.args.asked.now old new c.args.problem)
-    (HasNotBegun c.args.asked.now old new c.args.problem)
+    (HasRunSaved (seen_if g.C.Crew.seen c.solve_saved.new.crew) c.args.asked.now old new c.args.stated.problem)
+    (HasNotBegun c.args.asked.now old new c.args.stated.problem)
     c.args.asked.now.bounds.gap c.in-Ok.outcome c.tell_outcome-ended.result
     (record {
-      ran = subst (λ (s : Settings). IsSavedRun (seen_if g.C.Crew.seen c.solve_saved.new.crew) c.args.problem s old.told c.in-Ok.outcome) is
+      ran = subst (λ (s : Settings). IsSavedRun (seen_if g.C.Crew.seen c.solve_saved.new.crew) c.args.stated.problem s old.told c.in-Ok.outcome) is
           c.in-Ok.ensures.ran;
-      kept = subst (λ (s : Settings). IsKeptOn (IsBegun c.args.problem s old.told) c.in-Ok.outcome
+      kept = subst (λ (s : Settings). IsKeptOn (IsBegun c.args.stated.problem s old.told) c.in-Ok.outcome
           old new) is c.in-Ok.ensures.kept;
     })
     c.tell_outcome-ended.ensures
@@ -41,20 +41,20 @@ returns-in-Err-clause-run g c =
     let new = g.D.Disk.seen c.solve_saved.new.disk in
     let is = c.settings_for-settings.ensures.value
     ∙ ap (λ (p : Instance). settings_for c.args.asked.now p) c.problem.ensures.value in
-    let settings = settings_for c.args.asked.now c.args.problem in
-    let safe : Leaves (IsSafeStart old.told (IsBegun c.args.problem settings old.told)) old.told
+    let settings = settings_for c.args.asked.now c.args.stated.problem in
+    let safe : Leaves (IsSafeStart old.told (IsBegun c.args.stated.problem settings old.told)) old.told
     new.told =
     subst (λ (s : Settings).
-    Leaves (IsSafeStart old.told (IsBegun c.args.problem s old.told)) old.told new.told) is
+    Leaves (IsSafeStart old.told (IsBegun c.args.stated.problem s old.told)) old.told new.told) is
     c.in-Err.ensures.safe in
     tells_fault
-    (HasRunSaved (seen_if g.C.Crew.seen c.solve_saved.new.crew) c.args.asked.now old new c.args.problem)
-    (HasNotBegun c.args.asked.now old new c.args.problem)
+    (HasRunSaved (seen_if g.C.Crew.seen c.solve_saved.new.crew) c.args.asked.now old new c.args.stated.problem)
+    (HasNotBegun c.args.asked.now old new c.args.stated.problem)
     c.args.asked.now.bounds.gap c.in-Err.fault c.tell_fault.result
     (record {
       why = c.in-Err.ensures.refused;
       safe = safe;
-      kept = keeps_image (IsBegun c.args.problem settings old.told) old.told new.told safe;
+      kept = keeps_image (IsBegun c.args.stated.problem settings old.told) old.told new.told safe;
     })
     c.tell_fault.ensures
 

@@ -39,5 +39,5 @@ coordinate-outcome-requires-clause-fresh g c κs within =
 pub returns-in-Some-clause-solved : goal.returns-in-Some-clause-solved
 returns-in-Some-clause-solved g c =
     crew_safely c.coordinators_lose_nothing.ensures (opening_book c.args.opening.now) _
-    (g.C.Crew.seen c.coordinate-outcome.result.crew) c.coordinate-outcome.result.outcome.end _ refl
+    (g.C.Crew.seen c.coordinate-outcome.result.crew) c.coordinate-outcome.result.outcome.end _ _ refl
     c.coordinate-outcome.ensures.coordinated
