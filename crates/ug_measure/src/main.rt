@@ -2,10 +2,10 @@
 //! made messages; `image N` makes the image of a book of N nodes, `save N` saves it to a disk in
 //! memory, `load N` loads it again; `desk N` tells a desk N times what is left; `encode N TIMES`
 //! writes the frame of an order with N changes so often, and `decode N TIMES` reads it; `serve
-//! FILE` serves a worker at a link with the whole problem of a file, and `steps FILE N` counts the
-//! steps of its search under the params of that number; with no words it replays the
-//! schedules of its input, of which some were worked by hand and others by a model that was written
-//! apart from this code. It is proved to be safe and to end, and no more.
+//! FILE` serves a worker at a link with the whole problem of a file, and `steps FILE N` searches it
+//! under the params of that number, and says in how many steps and what was found; with no words it
+//! replays the schedules of its input, of which some were worked by hand and others by a model that
+//! was written apart from this code. It is proved to be safe and to end, and no more.
 #![tactic(auto)]
 
 mod answers;
@@ -28,7 +28,7 @@ use crate::frames::{Way, frame_often};
 use crate::replay::replay;
 use crate::saving::{Size, Stage, save_nodes};
 use crate::serving::{Telling, serve_file};
-use crate::steps::count_steps;
+use crate::steps::{Searched, search_file};
 use std::alloc::AllocError;
 use std::env;
 use std::io::{Eprint, Input, Print};
@@ -218,11 +218,20 @@ fn served<R: Print + AllocGlobal + Files + Wait>(rt: &R, file: &str) -> ExitCode
     }
 }
 
-// Counts the steps of a search, and how that ended.
+// Searches, and says in how many steps, and what was found.
 fn counted<R: Print + AllocGlobal + Files>(rt: &R, file: &str, params: u8) -> ExitCode {
-    match count_steps(rt, rt.alloc(), file, params) {
-        Some(steps) => {
-            let _ = println!(rt; "steps {steps}");
+    match search_file(rt, rt.alloc(), file, params) {
+        Some(
+            Searched {
+                steps,
+                best: Some(best),
+            },
+        ) => {
+            let _ = println!(rt; "steps {steps} best {best}");
+            ExitCode::from(0)
+        }
+        Some(Searched { steps, best: None }) => {
+            let _ = println!(rt; "steps {steps} infeasible");
             ExitCode::from(0)
         }
         None => {

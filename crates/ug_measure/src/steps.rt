@@ -35,25 +35,35 @@ fn task_of(alloc: Global, problem: Problem, params: u8) -> Option<Task> {
     .ok()
 }
 
-// How many steps are made until no box is left.
-fn steps_of(task: &mut Task) -> Option<u64> {
+/// A search to its end.
+#[derive(Clone, Copy)]
+pub struct Searched {
+    pub steps: u64,
+    /// The least value, multiplied by ten to the objective's scale. None where no point is feasible.
+    pub best: Option<i128>,
+}
+
+// Makes steps until no box is left.
+fn search(task: &mut Task) -> Option<Searched> {
     for steps in 0..u64::MAX {
         let step = task.step().ok()?;
         let is_empty = matches!(step, Step::Empty);
         drop(step);
         if is_empty {
-            return Some(steps);
+            // Without a gap the cutoff is the value of the last point found.
+            let best = task.cutoff();
+            return Some(Searched { steps, best });
         }
     }
     None
 }
 
-/// How many steps the search of all of the problem of a file takes under the params of a number.
-/// None where the text is refused, memory is wanting or the number is above 15.
-pub fn count_steps<R: Files>(rt: &R, alloc: Global, path: &str, params: u8) -> Option<u64> {
+/// Searches all of the problem of a file under the params of a number. None where the text is
+/// refused, memory is wanting or the number is above 15.
+pub fn search_file<R: Files>(rt: &R, alloc: Global, path: &str, params: u8) -> Option<Searched> {
     let problem = problem_of(rt, alloc, path)?;
     let mut task = task_of(alloc, problem, params)?;
-    let steps = steps_of(&mut task);
+    let searched = search(&mut task);
     drop(task);
-    steps
+    searched
 }

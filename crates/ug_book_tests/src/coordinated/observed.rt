@@ -5,7 +5,7 @@ use crate::coordinated::{Case, Way, comes_so};
 use crate::expect::holds;
 use std::sync::atomic::{AtomicU64, Ordering};
 use ug_io::Piece;
-use ug_restart::{Dropped, Moment, Observer, Progress};
+use ug_restart::{Begun, Dropped, Moment, Observer, Progress};
 
 /// Keeps what it was told: of what a run began, after how many reports it stood how, and which rank
 /// was dropped last for which cause, and how many.
@@ -44,9 +44,10 @@ impl Notes {
 impl Observer for Notes {
     fn pass(&self, _rank: u32, _moment: Moment) {}
 
-    fn begin(&self, columns: usize, rows: usize, solvers: u32) {
-        if columns == 1 && rows == 0 {
-            self.begun.store(solvers as u64, Ordering::SeqCst);
+    fn begin(&self, begun: &Begun) {
+        let is_minimised = !begun.maximise && begun.constant.as_deref() == Some(b"0".as_slice());
+        if begun.columns == 1 && begun.rows == 0 && is_minimised {
+            self.begun.store(begun.solvers as u64, Ordering::SeqCst);
         }
     }
 
@@ -55,7 +56,9 @@ impl Observer for Notes {
     }
 
     fn tell(&self, progress: &Progress) {
-        if progress.best.as_deref() == Some(b"2".as_slice()) && progress.nodes == 1 {
+        let is_best = progress.best.as_deref() == Some(b"2".as_slice());
+        let is_bound = progress.bound.as_deref() == Some(b"2".as_slice());
+        if is_best && is_bound && progress.nodes == 1 {
             self.told.store(progress.heard, Ordering::SeqCst);
         }
     }

@@ -1,0 +1,164 @@
+//! Bounds beside a count over all points of the box.
+
+use crate::bounds::bound_of;
+use crate::bounds::cases::{CASES, Case, multipliers};
+use crate::expect::holds_at;
+use std::alloc::Global;
+use ug_mps::read;
+use ug_problem::Problem;
+use ug_rows::{Interval, Point, Term};
+use ug_surrogate::{Multiplier, Multipliers, Side};
+
+// The sum of terms at these values, which are small.
+fn plain_sum(terms: &[Term], values: &[i32]) -> i128 {
+    let mut sum = 0i128;
+    for term in terms {
+        let value = values.get(term.column as usize).copied().unwrap_or(0);
+        sum = sum.wrapping_add(term.factor.wrapping_mul(i128::from(value)));
+    }
+    sum
+}
+
+// By how much the values miss the side of the row, times the weight.
+fn weighted_miss(problem: &Problem, multiplier: Multiplier, values: &[i32]) -> i128 {
+    let Some(named) = problem.rows().get(multiplier.row as usize) else {
+        return 0;
+    };
+    let sum = plain_sum(named.row.terms.as_slice(), values);
+    let miss = match multiplier.side {
+        Side::Low => named.row.low.unwrap_or(0).wrapping_sub(sum),
+        Side::High => sum.wrapping_sub(named.row.high.unwrap_or(0)),
+    };
+    miss.wrapping_mul(i128::from(multiplier.weight))
+}
+
+// The value of an objective at these values.
+fn plain_value(problem: &Problem, values: &[i32]) -> i128 {
+    let objective = problem.objective();
+    plain_sum(objective.terms.as_slice(), values).wrapping_add(objective.constant)
+}
+
+// The weighted sum at these values.
+fn plain_weighted(problem: &Problem, m: &Multipliers, values: &[i32]) -> i128 {
+    let mut sum = plain_value(problem, values).wrapping_mul(i128::from(m.d));
+    for multiplier in m.list.as_slice() {
+        sum = sum.wrapping_add(weighted_miss(problem, *multiplier, values));
+    }
+    sum
+}
+
+// How many values a column has, if they are few.
+fn width(side: Interval) -> u32 {
+    side.high
+        .wrapping_sub(side.low)
+        .wrapping_add(1)
+        .unsigned_abs()
+}
+
+// Point number so many of the box, if it has as many.
+fn point(alloc: Global, sides: &[Interval], number: u32) -> Option<Vec<i32>> {
+    let mut values = Vec::new(alloc);
+    let mut left = number;
+    for side in sides {
+        let digit = left.checked_rem(width(*side)).unwrap_or(0);
+        left = left.checked_div(width(*side)).unwrap_or(0);
+        values
+            .push(side.low.wrapping_add(i32::try_from(digit).unwrap_or(0)))
+            .ok()?;
+    }
+    if left == 0 { Some(values) } else { None }
+}
+
+// The least of two numbers, if there are any.
+fn least(first: Option<i128>, second: i128) -> Option<i128> {
+    match first {
+        Some(first) if first < second => Some(first),
+        _ => Some(second),
+    }
+}
+
+// The least weighted sum and the least feasible value over all points of a box.
+#[derive(Clone, Copy)]
+struct Counted {
+    weighted: Option<i128>,
+    value: Option<i128>,
+}
+
+// With one point more.
+fn with_point(counted: Counted, problem: &Problem, m: &Multipliers, values: Vec<i32>) -> Counted {
+    let weighted = least(
+        counted.weighted,
+        plain_weighted(problem, m, values.as_slice()),
+    );
+    let own = plain_value(problem, values.as_slice());
+    let point = Point::from_vec(values);
+    let is_feasible = problem.first_broken(&point).is_none();
+    drop(point);
+    Counted {
+        weighted,
+        value: if is_feasible {
+            least(counted.value, own)
+        } else {
+            counted.value
+        },
+    }
+}
+
+fn count(alloc: Global, problem: &Problem, m: &Multipliers) -> Counted {
+    let mut counted = Counted {
+        weighted: None,
+        value: None,
+    };
+    for number in 0..2_000 {
+        if let Some(values) = point(alloc, problem.root().as_slice(), number) {
+            counted = with_point(counted, problem, m, values);
+        }
+    }
+    counted
+}
+
+// A number divided by another, rounded up.
+fn divided_up(number: i128, divisor: u32) -> i128 {
+    let down = number
+        .wrapping_neg()
+        .checked_div_euclid(i128::from(divisor));
+    down.unwrap_or(0).wrapping_neg()
+}
+
+// Whether the bound is the least weighted sum, divided and rounded up, and not above a feasible
+// value.
+fn is_counted(told: i128, counted: Counted, d: u32) -> bool {
+    let is_least = counted.weighted.map(|least| divided_up(least, d)) == Some(told);
+    is_least && counted.value.is_none_or(|value| told <= value)
+}
+
+fn agrees(alloc: Global, problem: &Problem, m: &Multipliers) -> bool {
+    match bound_of(problem, m) {
+        Some(Ok(told)) => is_counted(told, count(alloc, problem, m), m.d),
+        _ => false,
+    }
+}
+
+// Whether the bound of the case is what is counted.
+fn is_so_by_count(alloc: Global, case: &Case) -> bool {
+    let Ok(problem) = read(alloc, case.0, None) else {
+        return false;
+    };
+    let Some(m) = multipliers(alloc, case) else {
+        drop(problem);
+        return false;
+    };
+    let agrees = agrees(alloc, &problem, &m);
+    drop(m);
+    drop(problem);
+    agrees
+}
+
+#[test]
+fn bounds_are_the_least_over_all_points(rt: HostRuntime) {
+    for (k, case) in CASES.iter().enumerate() {
+        if k < 9 {
+            holds_at(&rt, is_so_by_count(rt.alloc(), case), &k);
+        }
+    }
+}

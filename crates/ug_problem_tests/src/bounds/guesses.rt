@@ -1,0 +1,41 @@
+//! What guessed multipliers reach.
+
+use crate::bounds::bound_of;
+use crate::bounds::texts::{COVER, KNAPSACK, RANGED};
+use crate::expect::holds_at;
+use crate::tasks::SQUARE;
+use std::alloc::Global;
+use ug_mps::read;
+use ug_problem::Problem;
+use ug_surrogate::guessed;
+
+// Problems, and a bound that guessed multipliers of them give at least.
+const GUESSES: &[(&[u8], i128)] = &[(SQUARE, 5), (COVER, 2), (KNAPSACK, -14), (RANGED, -4)];
+
+fn reaches(alloc: Global, problem: &Problem, least: i128) -> bool {
+    let Ok(m) = guessed(alloc, problem, problem.root(), 200) else {
+        return false;
+    };
+    let told = bound_of(problem, &m);
+    drop(m);
+    match told {
+        Some(Ok(told)) => least <= told,
+        _ => false,
+    }
+}
+
+fn guess_reaches(alloc: Global, text: &[u8], least: i128) -> bool {
+    let Ok(problem) = read(alloc, text, None) else {
+        return false;
+    };
+    let reaches = reaches(alloc, &problem, least);
+    drop(problem);
+    reaches
+}
+
+#[test]
+fn guesses_bound_well(rt: HostRuntime) {
+    for (text, least) in GUESSES {
+        holds_at(&rt, guess_reaches(rt.alloc(), text, *least), least);
+    }
+}
