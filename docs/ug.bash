@@ -8,7 +8,7 @@ _ug() {
     [ "$before" = = ] && before=${COMP_WORDS[at - 2]}
     [ "$word" = = ] && before=${COMP_WORDS[at - 1]} word=
     case $at:${COMP_WORDS[1]}:$before:$word in
-    1:*) words=$(compgen -W 'solve restart show gen worker' -- "$word") ;;
+    1:*) words=$(compgen -W 'solve restart show gen worker help version' -- "$word") ;;
     *:--checkpoint:* | *:--sockets:*) words=$(compgen -d -- "$word") ;;
     *:--mode:*) words=$(compgen -W 'threads processes' -- "$word") ;;
     *:--base:*) words=$(compgen -W 'bound surrogate' -- "$word") ;;
