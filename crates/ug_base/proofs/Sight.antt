@@ -9,7 +9,7 @@ use Rattle.ug_branch.specs.declared.params.Params.{Params}
 use Rattle.ug_branch.specs.declared.params.Half.{Half}
 use Rattle.ug_branch.specs.declared.params.Half.TheVariants.{Lower, Upper}
 use Rattle.ug_branch.specs.declared.choice.Branch.{Branch}
-use Rattle.ug_branch.specs.Choices.{IsChosen, lower_half, upper_half, HasNoneOpen}
+use Rattle.ug_branch.specs.Choices.{lower_half, upper_half, HasNoneOpen}
 use Rattle.ug_propagate.specs.declared.tight.Tight.TheVariants.{Kept, Empty}
 use Rattle.ug_propagate.specs.declared.tight.Reason.{Reason}
 use Rattle.ug_propagate.specs.Claims.{CanTighten, IsTightened}
@@ -23,7 +23,8 @@ use Rattle.ug_base.specs.declared.look.Seen.{Seen}
 use Rattle.ug_base.specs.declared.look.Seen.TheVariants.{Hopeless, Solved, Halved}
 use Rattle.ug_base.specs.Points.{points_of, weight_of}
 use Rattle.ug_base.specs.Steps.{IsHopeless}
-use Rattle.ug_base.specs.Halvings.{first_half, other_half}
+use Rattle.ug_base.specs.declared.halving.Halving.{Halving}
+use Rattle.ug_base.specs.Halvings.{IsMidway, first_half, other_half}
 use Rattle.ug_base.specs.Looks.{AreHalved, CanLook, Halves, IsBranched, IsInSight, IsOnly, IsSeen, IsSeenBranched, IsSeenHalved, halves_at, IsSeenHopeless, IsSeenSolved, lows_of}
 use Rattle.ug_rows.proofs.AreaLemmas.{below_trans}
 use Rattle.ug_base.proofs.Measures.{count_halves, points_below, points_halves, points_set_some, weights_fall}
@@ -120,9 +121,9 @@ next_within : (m high : ℤ) → m <ℤ high → (m +ℤ pos 1) ≤ℤ high
 next_within m high h = omega (arith, ints)
 
 -- the halves leave less to search than the box
-halves_less : (params : Params) (inner area : List Interval) (branch : Branch) → IsNonEmpty inner → IsChosen params inner branch
+halves_less : (inner area : List Interval) (branch : Branch) → IsNonEmpty inner → IsMidway inner branch
     → IsBelow inner area → weight_of (lower_half inner branch) + weight_of (upper_half inner branch) < weight_of area
-halves_less params inner area branch some chosen below =
+halves_less inner area branch some chosen below =
     let side = interval_at inner branch.column in
     let low : side.low ≤ℤ branch.middle = middle_low side.low side.high branch.middle chosen.open_.open_ chosen.middle.high in
     let high : branch.middle <ℤ side.high = middle_high side.low side.high branch.middle chosen.open_.open_ chosen.middle.low in
@@ -157,35 +158,37 @@ ordered_less Upper inner branch n h = h
 left_halves : (p : Instance) (cutoff : Option ℤ) (params : Params) (area inner : List Interval) (halves : Halves)
     → IsTightened p cutoff area (Kept inner) → AreHalved params inner halves → IsSeenHalved p cutoff params area halves
 left_halves p cutoff params area inner halves t h =
-    let half = params.half in
-    let lower : IsBelow (lower_half inner h.branch) area = below_trans _ _ _ h.parts.lower t.below in
-    let upper : IsBelow (upper_half inner h.branch) area = below_trans _ _ _ h.parts.upper t.below in
+    let half = h.halving.first in
+    let branch = h.halving.branch in
+    let lower : IsBelow (lower_half inner branch) area = below_trans _ _ _ h.parts.lower t.below in
+    let upper : IsBelow (upper_half inner branch) area = below_trans _ _ _ h.parts.upper t.below in
     record {
       inner = inner;
       left = sym t.value;
       some = h.some;
-      branch = h.branch;
-      chosen = h.chosen;
+      halving = h.halving;
+      may = h.may;
       ordered = h.ordered;
       good = record {
-        below_first = subst (λ a. IsBelow a area) (sym h.ordered.first) (ordered_first half inner h.branch (λ a. IsBelow a area) lower upper);
-        below_second = subst (λ a. IsBelow a area) (sym h.ordered.second) (ordered_other half inner h.branch (λ a. IsBelow a area) lower upper);
-        kept = λ y i g. rw (h.ordered.first, h.ordered.second) (ordered_kept half inner h.branch y ((h.parts.halves y).0 (t.kept y i g)));
+        below_first = subst (λ a. IsBelow a area) (sym h.ordered.first) (ordered_first half inner branch (λ a. IsBelow a area) lower upper);
+        below_second = subst (λ a. IsBelow a area) (sym h.ordered.second) (ordered_other half inner branch (λ a. IsBelow a area) lower upper);
+        kept = λ y i g. rw (h.ordered.first, h.ordered.second) (ordered_kept half inner branch y ((h.parts.halves y).0 (t.kept y i g)));
       };
       less = subst (λ a. weight_of a + weight_of halves.first < weight_of area) (sym h.ordered.second)
-          (subst (λ b. weight_of (other_half half inner h.branch) + weight_of b < weight_of area) (sym h.ordered.first)
-          (ordered_less half inner h.branch (weight_of area) (halves_less params inner area h.branch h.some h.chosen t.below)));
+          (subst (λ b. weight_of (other_half half inner branch) + weight_of b < weight_of area) (sym h.ordered.first)
+          (ordered_less half inner branch (weight_of area) (halves_less inner area branch h.some h.midway t.below)));
     }
 
 -- the halves at a branch
-branch_halves : (p : Instance) (cutoff : Option ℤ) (params : Params) (area : List Interval) (work : WorkState) (branch : Branch)
-    → IsTightened p cutoff area (Kept work.sums.area) → IsWorking p cutoff work → IsBranched params work.sums.area branch
-    → IsSeenBranched p cutoff params area work branch
-branch_halves p cutoff params area work branch t working h = record {
-  halved = left_halves p cutoff params area work.sums.area (halves_at params.half work.sums.area branch) t (record {
+branch_halves : (p : Instance) (cutoff : Option ℤ) (params : Params) (area : List Interval) (work : WorkState) (halving : Halving)
+    → IsTightened p cutoff area (Kept work.sums.area) → IsWorking p cutoff work → IsBranched params work.sums.area halving
+    → IsSeenBranched p cutoff params area work halving
+branch_halves p cutoff params area work halving t working h = record {
+  halved = left_halves p cutoff params area work.sums.area (halves_at halving.first work.sums.area halving.branch) t (record {
     some = h.some;
-    branch = branch;
-    chosen = h.chosen;
+    halving = halving;
+    may = h.may;
+    midway = h.midway;
     parts = h.parts;
     ordered = record { first = refl; second = refl };
   });
@@ -202,7 +205,7 @@ pub seen_inside : (p : Instance) (cutoff : Option ℤ) (params : Params) (area :
     → IsInSight params work.sums.area seen → IsSeen p cutoff params area work seen
 seen_inside p cutoff params area work Hopeless r t w s = left_crossed p cutoff area work.sums.area t s
 seen_inside p cutoff params area work (Solved x) r t w s = left_one p cutoff area work.sums.area x r t s
-seen_inside p cutoff params area work (Halved branch) r t w s = branch_halves p cutoff params area work branch t w s
+seen_inside p cutoff params area work (Halved halving) r t w s = branch_halves p cutoff params area work halving t w s
 
 -- what the rounds leave of a box with a point
 pub tightened_as : (p : Instance) (cutoff : Option ℤ) (area : List Interval) (tight : Tight) → CanLook p cutoff area → IsNonEmpty area

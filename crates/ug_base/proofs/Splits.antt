@@ -9,13 +9,16 @@ use Rattle.ug_branch.specs.declared.choice.Branch.{Branch}
 use Rattle.ug_branch.specs.declared.params.Half.{Half}
 use Rattle.ug_branch.specs.declared.params.Half.TheVariants.{Lower, Upper}
 use Rattle.ug_branch.specs.declared.params.Params.{Params}
+use Rattle.ug_base.specs.declared.halving.Halving.{Halving}
 use Rattle.ug_problem.specs.Instances.{Instance}
 use Rattle.ug_propagate.specs.declared.working.Trailed.{Trailed}
 use Rattle.ug_propagate.specs.Working.{AllRest, WorkState, undone}
 use Rattle.ug_base.specs.declared.part.Part.{Part}
 use Rattle.ug_base.specs.Chains.{IsCut, IsPart, area_of, base_of, first_side, narrowed, other_side}
-use Rattle.ug_base.specs.Halvings.{first_half, other_half}
 use Rattle.ug_base.specs.Looks.{IsBranched}
+use Rattle.ug_branch.specs.Choices.{AreHalves}
+use Rattle.ug_branch.proofs.HalfLemmas.{are_halves}
+use Rattle.ug_base.specs.Halvings.{IsMidway, first_half, other_half}
 use Rattle.ug_base.proofs.Sight.{middle_high, middle_low}
 
 lower_inner : (side : Interval) (m : ℤ) → side.low ≤ℤ m → m <ℤ side.high → IsClosedWithin (record { low = side.low; high = m }) side
@@ -33,22 +36,28 @@ other_within : (half : Half) (side : Interval) (m : ℤ) → side.low ≤ℤ m �
 other_within Lower side m low high = upper_inner side m low high
 other_within Upper side m low high = lower_inner side m low high
 
--- the halves of a branch's interval are within it
-pub first_inner : (params : Params) (area : List Interval) (branch : Branch) → IsBranched params area branch
-    → IsClosedWithin (first_side params.half (interval_at area branch.column) branch.middle) (interval_at area branch.column)
-first_inner params area branch h =
-    let side : Interval = interval_at area branch.column in
-    first_within params.half side branch.middle
-    (middle_low side.low side.high branch.middle h.chosen.open_.open_ h.chosen.middle.high)
-    (middle_high side.low side.high branch.middle h.chosen.open_.open_ h.chosen.middle.low)
+-- a box halved midway has two halves
+pub midway_halves : (area : List Interval) (branch : Branch) → IsMidway area branch → AreHalves area branch
+midway_halves area branch m = are_halves area branch m.open_ m.middle
 
-pub second_inner : (params : Params) (area : List Interval) (branch : Branch) → IsBranched params area branch
-    → IsClosedWithin (other_side params.half (interval_at area branch.column) branch.middle) (interval_at area branch.column)
-second_inner params area branch h =
+-- the halves of a branch's interval are within it
+pub first_inner : (params : Params) (area : List Interval) (halving : Halving) → IsBranched params area halving
+    → IsClosedWithin (first_side halving.first (interval_at area halving.branch.column) halving.branch.middle) (interval_at area halving.branch.column)
+first_inner params area halving h =
+    let branch = halving.branch in
     let side : Interval = interval_at area branch.column in
-    other_within params.half side branch.middle
-    (middle_low side.low side.high branch.middle h.chosen.open_.open_ h.chosen.middle.high)
-    (middle_high side.low side.high branch.middle h.chosen.open_.open_ h.chosen.middle.low)
+    first_within halving.first side branch.middle
+    (middle_low side.low side.high branch.middle h.midway.open_.open_ h.midway.middle.high)
+    (middle_high side.low side.high branch.middle h.midway.open_.open_ h.midway.middle.low)
+
+pub second_inner : (params : Params) (area : List Interval) (halving : Halving) → IsBranched params area halving
+    → IsClosedWithin (other_side halving.first (interval_at area halving.branch.column) halving.branch.middle) (interval_at area halving.branch.column)
+second_inner params area halving h =
+    let branch = halving.branch in
+    let side : Interval = interval_at area branch.column in
+    other_within halving.first side branch.middle
+    (middle_low side.low side.high branch.middle h.midway.open_.open_ h.midway.middle.high)
+    (middle_high side.low side.high branch.middle h.midway.open_.open_ h.midway.middle.low)
 
 pub first_half_is : (half : Half) (area : List Interval) (branch : Branch)
     → set area branch.column (first_side half (interval_at area branch.column) branch.middle) ≡ first_half half area branch

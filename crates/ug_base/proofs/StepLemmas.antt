@@ -11,7 +11,7 @@ use Rattle.ug_problem.specs.Feasible.{Feasible}
 use Rattle.ug_problem.specs.Limits.{IsProblem}
 use Rattle.ug_problem.proofs.Cutoffs.{cutoff_small, good_is_less}
 use Rattle.ug_propagate.specs.Working.{WorkState}
-use Rattle.ug_branch.specs.declared.choice.Branch.{Branch}
+use Rattle.ug_base.specs.declared.halving.Halving.{Halving}
 use Rattle.ug_base.specs.declared.part.Part.{Part}
 use Rattle.ug_base.specs.Chains.{HasSplit, area_of, areas_of}
 use Rattle.ug_base.specs.Halvings.{first_half, other_half}
@@ -164,23 +164,23 @@ after_solved t before after old new last x cutoff same task e kept s dropped val
     (found_task t (area_of before last) x task (last_of_fields t before old last same e) s))
 
 -- the boxes after the last was halved
-split_boxes : (t : TaskState) (s : Instance) (before after : WorkState) (old new : List Part) (branch : Branch) → t.boxes ≡ areas_of before old
-    → areas_of after old ≡ areas_of before old → (h : HasSplit s t.whole after t.params.half branch old new)
-    → areas_of after new ≡ front_of t.boxes ++ other_half t.params.half after.sums.area branch ∷ first_half t.params.half after.sums.area branch ∷ []
-split_boxes t s before after old new branch same kept h =
+split_boxes : (t : TaskState) (s : Instance) (before after : WorkState) (old new : List Part) (halving : Halving) → t.boxes ≡ areas_of before old
+    → areas_of after old ≡ areas_of before old → (h : HasSplit s t.whole after halving.first halving.branch old new)
+    → areas_of after new ≡ front_of t.boxes ++ other_half halving.first after.sums.area halving.branch ∷ first_half halving.first after.sums.area halving.branch ∷ []
+split_boxes t s before after old new halving same kept h =
     areas_behind after new old (h.second ∷ h.first ∷ []) h.put
     ∙ ap (λ bs. front_of bs ++ area_of after h.second ∷ area_of after h.first ∷ []) (kept ∙ sym same)
     ∙ ap (λ (a : List Interval). front_of t.boxes ++ a ∷ area_of after h.first ∷ []) h.area_second
-    ∙ ap (λ (a : List Interval). front_of t.boxes ++ other_half t.params.half after.sums.area branch ∷ a ∷ []) h.area_first
+    ∙ ap (λ (a : List Interval). front_of t.boxes ++ other_half halving.first after.sums.area halving.branch ∷ a ∷ []) h.area_first
 
-pub after_halved : (t : TaskState) (s : Instance) (before after : WorkState) (old new : List Part) (last : Part) (branch : Branch)
+pub after_halved : (t : TaskState) (s : Instance) (before after : WorkState) (old new : List Part) (last : Part) (halving : Halving)
     → t.boxes ≡ areas_of before old → IsTask t → old ≡ front_of old ++ last ∷ [] → areas_of after old ≡ areas_of before old
-    → AreGoodHalves t.problem t.cutoff (area_of before last) (halves_at t.params.half after.sums.area branch)
-    → HasSplit s t.whole after t.params.half branch old new
+    → AreGoodHalves t.problem t.cutoff (area_of before last) (halves_at halving.first after.sums.area halving.branch)
+    → HasSplit s t.whole after halving.first halving.branch old new
     → IsTask (record t { boxes = areas_of after new })
-after_halved t s before after old new last branch same task e kept good h =
-    subst (λ bs. IsTask (record t { boxes = bs })) (sym (split_boxes t s before after old new branch same kept h))
-    (split_task t (area_of before last) (halves_at t.params.half after.sums.area branch) task
+after_halved t s before after old new last halving same task e kept good h =
+    subst (λ bs. IsTask (record t { boxes = bs })) (sym (split_boxes t s before after old new halving same kept h))
+    (split_task t (area_of before last) (halves_at halving.first after.sums.area halving.branch) task
     (last_of_fields t before old last same e) good)
 
 -- what a step that pruned the last box did
@@ -216,21 +216,21 @@ found_step t before after old new last x cutoff same e kept solved dropped value
     }
 
 -- what a step that halved the last box did
-pub split_step : (t : TaskState) (s : Instance) (before after : WorkState) (old new : List Part) (last : Part) (branch : Branch)
+pub split_step : (t : TaskState) (s : Instance) (before after : WorkState) (old new : List Part) (last : Part) (halving : Halving)
     → t.boxes ≡ areas_of before old → old ≡ front_of old ++ last ∷ [] → areas_of after old ≡ areas_of before old
-    → Leaves t.params.base t.problem t.cutoff (area_of before last) after.sums.area → IsBranched t.params after.sums.area branch
-    → HasSplit s t.whole after t.params.half branch old new
+    → Leaves t.params.base t.problem t.cutoff (area_of before last) after.sums.area → IsBranched t.params after.sums.area halving
+    → HasSplit s t.whole after halving.first halving.branch old new
     → IsSplit t (record t { boxes = areas_of after new })
-split_step t s before after old new last branch same e kept left branched h = record {
+split_step t s before after old new last halving same e kept left branched h = record {
   before = front_of t.boxes;
   last = area_of before last;
   boxes = last_of_fields t before old last same e;
   inner = after.sums.area;
   left = left;
   some = branched.some;
-  branch = branch;
-  chosen = branched.chosen;
-  same = ap (λ bs. record t { boxes = bs }) (split_boxes t s before after old new branch same kept h);
+  halving = halving;
+  may = branched.may;
+  same = ap (λ bs. record t { boxes = bs }) (split_boxes t s before after old new halving same kept h);
 }
 
 dropped_less : (boxes : List (List Interval)) (last : List Interval) → boxes ≡ front_of boxes ++ last ∷ []
@@ -252,15 +252,15 @@ left_dropped_less t before after old new last same e kept dropped =
     (dropped_less t.boxes (area_of before last) (last_of_fields t before old last same e))
 
 -- and one halved
-pub left_halved_less : (t : TaskState) (s : Instance) (before after : WorkState) (old new : List Part) (last : Part) (branch : Branch)
+pub left_halved_less : (t : TaskState) (s : Instance) (before after : WorkState) (old new : List Part) (last : Part) (halving : Halving)
     → t.boxes ≡ areas_of before old → old ≡ front_of old ++ last ∷ [] → areas_of after old ≡ areas_of before old
-    → IsSeenBranched s t.cutoff t.params (area_of before last) after branch
-    → HasSplit s t.whole after t.params.half branch old new
+    → IsSeenBranched s t.cutoff t.params (area_of before last) after halving
+    → HasSplit s t.whole after halving.first halving.branch old new
     → measure_of (areas_of after new) < measure_of t.boxes
-left_halved_less t s before after old new last branch same e kept seen h =
-    subst (λ bs. measure_of bs < measure_of t.boxes) (sym (split_boxes t s before after old new branch same kept h))
-    (halved_less t.boxes (area_of before last) (first_half t.params.half after.sums.area branch)
-    (other_half t.params.half after.sums.area branch) (last_of_fields t before old last same e) seen.halved.less)
+left_halved_less t s before after old new last halving same e kept seen h =
+    subst (λ bs. measure_of bs < measure_of t.boxes) (sym (split_boxes t s before after old new halving same kept h))
+    (halved_less t.boxes (area_of before last) (first_half halving.first after.sums.area halving.branch)
+    (other_half halving.first after.sums.area halving.branch) (last_of_fields t before old last same e) seen.halved.less)
 
 -- where there is a last box, there are boxes
 pub some_left : (t : TaskState) (work : WorkState) (old : List Part) (last : Part) → t.boxes ≡ areas_of work old
@@ -270,8 +270,8 @@ some_left t work old last same e none =
     absurd (omega (arith, n, length-append (front_of t.boxes) (area_of work last ∷ [])))
 
 -- what is left of the last box is below the whole one
-pub left_below : (t : TaskState) (s : Instance) (before after : WorkState) (old : List Part) (last : Part) (branch : Branch)
+pub left_below : (t : TaskState) (s : Instance) (before after : WorkState) (old : List Part) (last : Part) (halving : Halving)
     → t.boxes ≡ areas_of before old → IsTask t → old ≡ front_of old ++ last ∷ []
-    → IsSeenBranched s t.cutoff t.params (area_of before last) after branch → IsBelow after.sums.area t.whole
-left_below t s before after old last branch same task e seen =
+    → IsSeenBranched s t.cutoff t.params (area_of before last) after halving → IsBelow after.sums.area t.whole
+left_below t s before after old last halving same task e seen =
     below_trans _ _ _ seen.below (last_below t (area_of before last) task (last_of_fields t before old last same e))

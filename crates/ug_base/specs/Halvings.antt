@@ -1,10 +1,15 @@
--- Which half of a box is looked at first.
-use Rattle.std.specs.Prelude.{List}
+-- How a box is halved: where, and which half is looked at first.
+use Rattle.std.specs.Prelude.{◌≡◌, List}
 use Rattle.ug_rows.specs.declared.area.Interval.{Interval}
+use Rattle.ug_rows.specs.Boxes.{interval_at}
+use Rattle.ug_branch.specs.declared.params.Base.{Base}
+use Rattle.ug_branch.specs.declared.params.Base.TheVariants.{Bound, Surrogate}
 use Rattle.ug_branch.specs.declared.params.Half.{Half}
 use Rattle.ug_branch.specs.declared.params.Half.TheVariants.{Lower, Upper}
+use Rattle.ug_branch.specs.declared.params.Params.{Params}
 use Rattle.ug_branch.specs.declared.choice.Branch.{Branch}
-use Rattle.ug_branch.specs.Choices.{lower_half, upper_half}
+use Rattle.ug_branch.specs.Choices.{IsChosen, IsMiddle, IsOpen, lower_half, upper_half}
+use Rattle.ug_base.specs.declared.halving.Halving.{Halving}
 
 -- the half that is looked at first
 abbrev pub first_half : Half → List Interval → Branch → List Interval
@@ -15,3 +20,19 @@ first_half Upper area branch = upper_half area branch
 abbrev pub other_half : Half → List Interval → Branch → List Interval
 other_half Lower area branch = upper_half area branch
 other_half Upper area branch = lower_half area branch
+
+-- the column is open, and the value is its middle
+pub record IsMidway (area : List Interval) (branch : Branch) : Type 0 where
+  pub open_ : IsOpen area branch.column
+  pub middle : IsMiddle (interval_at area branch.column) branch.middle
+
+-- the column and the half are those that the params choose
+pub record IsByParams (params : Params) (area : List Interval) (halving : Halving) : Type 0 where
+  pub chosen : IsChosen params area halving.branch
+  pub first : halving.first ≡ params.half
+
+-- a box may be halved so: as the params choose, or where the base takes rows that follow, at any open
+-- column with either half first
+abbrev pub MayHalve : Base → Params → List Interval → Halving → Type 0
+MayHalve Bound params area halving = IsByParams params area halving
+MayHalve Surrogate params area halving = IsMidway area halving.branch

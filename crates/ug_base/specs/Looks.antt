@@ -7,7 +7,7 @@ use Rattle.ug_problem.specs.Limits.{IsProblem}
 use Rattle.ug_branch.specs.declared.params.Params.{Params}
 use Rattle.ug_branch.specs.declared.params.Half.{Half}
 use Rattle.ug_branch.specs.declared.choice.Branch.{Branch}
-use Rattle.ug_branch.specs.Choices.{AreHalves, IsChosen}
+use Rattle.ug_branch.specs.Choices.{AreHalves}
 use Rattle.ug_propagate.specs.declared.tight.Tight.TheVariants.{Kept}
 use Rattle.ug_propagate.specs.Rounds.{rounds}
 use Rattle.ug_propagate.specs.Working.{IsWorking, WorkState}
@@ -16,7 +16,8 @@ use Rattle.ug_base.specs.declared.look.Seen.TheVariants.{Hopeless, Solved, Halve
 use Rattle.ug_problem.specs.Better.{IsGood, HasNoGood, IsSmallCutoff}
 use Rattle.ug_base.specs.Points.{weight_of}
 use Rattle.ug_base.specs.Steps.{IsHopeless}
-use Rattle.ug_base.specs.Halvings.{first_half, other_half}
+use Rattle.ug_base.specs.declared.halving.Halving.{Halving}
+use Rattle.ug_base.specs.Halvings.{IsMidway, MayHalve, first_half, other_half}
 
 -- a box below the problem's root box, and a cutoff that is not too large
 pub record CanLook (p : Instance) (cutoff : Option ℤ) (area : List Interval) : Type 0 where
@@ -52,22 +53,24 @@ pub record IsOnly (area : List Interval) (x : List ℤ) : Type 0 where
 -- the box has a point, and these are its halves
 pub record AreHalved (params : Params) (area : List Interval) (halves : Halves) : Type 0 where
   pub some : IsNonEmpty area
-  pub branch : Branch
-  pub chosen : IsChosen params area branch
-  pub parts : AreHalves area branch
-  pub ordered : AreOrdered params.half area branch halves
+  pub halving : Halving
+  pub may : MayHalve params.base params area halving
+  pub midway : IsMidway area halving.branch
+  pub parts : AreHalves area halving.branch
+  pub ordered : AreOrdered halving.first area halving.branch halves
 
 -- the box has a point and an open column, at which it is halved
-pub record IsBranched (params : Params) (area : List Interval) (branch : Branch) : Type 0 where
+pub record IsBranched (params : Params) (area : List Interval) (halving : Halving) : Type 0 where
   pub some : IsNonEmpty area
-  pub chosen : IsChosen params area branch
-  pub parts : AreHalves area branch
+  pub may : MayHalve params.base params area halving
+  pub midway : IsMidway area halving.branch
+  pub parts : AreHalves area halving.branch
 
 -- what is seen in what is left of a box
 abbrev pub IsInSight : Params → List Interval → Seen → Type 0
 IsInSight params area Hopeless = IsCrossed area
 IsInSight params area (Solved x) = IsOnly area x
-IsInSight params area (Halved branch) = IsBranched params area branch
+IsInSight params area (Halved halving) = IsBranched params area halving
 
 -- no point of the box is good
 pub record IsSeenHopeless (p : Instance) (cutoff : Option ℤ) (area : List Interval) : Type 0 where
@@ -110,17 +113,18 @@ pub record IsSeenHalved (p : Instance) (cutoff : Option ℤ) (params : Params) (
   pub inner : List Interval
   pub left : rounds p cutoff area ≡ Kept inner
   pub some : IsNonEmpty inner
-  pub branch : Branch
-  pub chosen : IsChosen params inner branch
-  pub ordered : AreOrdered params.half inner branch halves
+  pub halving : Halving
+  pub may : MayHalve params.base params inner halving
+  pub ordered : AreOrdered halving.first inner halving.branch halves
   pub good : AreGoodHalves p cutoff area halves
   pub less : weight_of halves.second + weight_of halves.first < weight_of area
 
 -- the working box is what is left of the box, and has two halves
 pub record IsSeenBranched (p : Instance) (cutoff : Option ℤ) (params : Params)
-    (area : List Interval) (work : WorkState) (branch : Branch) : Type 0 where
-  pub halved : IsSeenHalved p cutoff params area (halves_at params.half work.sums.area branch)
-  pub branched : IsBranched params work.sums.area branch
+    (area : List Interval) (work : WorkState) (halving : Halving) : Type 0 where
+  pub halved : IsSeenHalved p cutoff params area
+      (halves_at halving.first work.sums.area halving.branch)
+  pub branched : IsBranched params work.sums.area halving
   pub left : rounds p cutoff area ≡ Kept work.sums.area
   pub keeps : KeepsGood p cutoff area work.sums.area
   pub below : IsBelow work.sums.area area
@@ -130,4 +134,5 @@ pub record IsSeenBranched (p : Instance) (cutoff : Option ℤ) (params : Params)
 abbrev pub IsSeen : Instance → Option ℤ → Params → List Interval → WorkState → Seen → Type 0
 IsSeen p cutoff params area work Hopeless = IsSeenHopeless p cutoff area
 IsSeen p cutoff params area work (Solved x) = IsSeenSolved p cutoff area x
-IsSeen p cutoff params area work (Halved branch) = IsSeenBranched p cutoff params area work branch
+IsSeen p cutoff params area work (Halved halving) =
+    IsSeenBranched p cutoff params area work halving

@@ -3,18 +3,17 @@
 use Rattle.std.specs.Prelude.{◌≡◌, ℤ, ◌<◌, List, [], ◌∷◌, ◌++◌, Option, Some}
 use Rattle.ug_rows.specs.declared.area.Interval.{Interval}
 use Rattle.ug_rows.specs.Boxes.{IsBelow, IsInside, IsNonEmpty, IsCrossed, IsFixed}
-use Rattle.ug_branch.specs.declared.choice.Branch.{Branch}
 use Rattle.ug_branch.specs.declared.params.Base.{Base}
 use Rattle.ug_branch.specs.declared.params.Base.TheVariants.{Bound, Surrogate}
 use Rattle.ug_problem.specs.Instances.{Instance}
-use Rattle.ug_branch.specs.Choices.{IsChosen}
 use Rattle.ug_propagate.specs.declared.tight.Tight.{Tight}
 use Rattle.ug_propagate.specs.declared.tight.Tight.TheVariants.{Kept, Empty as NothingLeft}
 use Rattle.ug_problem.specs.Better.{AreAllHanded, HasNoGood, IsGood, cutoff_of}
 use Rattle.ug_propagate.specs.Rounds.{rounds}
 use Rattle.ug_base.specs.declared.step.Step.{Step}
 use Rattle.ug_base.specs.declared.step.Step.TheVariants.{Pruned, Found, Split, Empty}
-use Rattle.ug_base.specs.Halvings.{first_half, other_half}
+use Rattle.ug_base.specs.declared.halving.Halving.{Halving}
+use Rattle.ug_base.specs.Halvings.{MayHalve, first_half, other_half}
 use Rattle.ug_base.specs.Points.{measure_of}
 use Rattle.ug_base.specs.Tasks.{TaskState}
 
@@ -67,11 +66,11 @@ pub record IsSplit (old new : TaskState) : Type 0 where
   pub inner : List Interval
   pub left : Leaves old.params.base old.problem old.cutoff last inner
   pub some : IsNonEmpty inner
-  pub branch : Branch
-  pub chosen : IsChosen old.params inner branch
+  pub halving : Halving
+  pub may : MayHalve old.params.base old.params inner halving
   pub same : new ≡ record old {
-    boxes = before ++ other_half old.params.half inner branch
-        ∷ first_half old.params.half inner branch ∷ [];
+    boxes = before ++ other_half halving.first inner halving.branch
+        ∷ first_half halving.first inner halving.branch ∷ [];
   }
 
 -- no box was left, so each good point of the whole box lies in a box handed, and none is good where

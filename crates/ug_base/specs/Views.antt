@@ -9,7 +9,7 @@ abbrev pub state_of : Inside → TaskState
 state_of t = record {
   problem = t.formulation.problem;
   ticket = t.ticket;
-  params = t.params;
+  params = t.guide;
   whole = t.whole;
   cutoff = t.cutoff;
   gap = t.gap;
@@ -21,5 +21,5 @@ state_of t = record {
 pub record AreOfTask (t : Inside) : Type 0 where
   pub task : IsTask (state_of t)
   pub chain : IsChain t.formulation.searched t.whole t.work t.parts.items
-  pub searched : Searches t.params.base t.formulation.problem t.whole t.cutoff
+  pub searched : Searches t.guide.base t.formulation.problem t.whole t.cutoff
       t.formulation.searched

@@ -9,6 +9,8 @@
 
 mod boxes;
 mod formulation;
+mod guide;
+mod halving;
 mod handed;
 mod look;
 mod lowest;

@@ -9,10 +9,11 @@ ghost use Rattle.ug_base.specs.Looks.{CanLook, IsInSight, IsSeen};
 ghost use Rattle.ug_base.specs.Fronts.{front_of};
 
 use crate::formulation::Formulation;
+use crate::guide::Guide;
+use crate::halving::Halving;
 use crate::lows::lows;
 use crate::part::{Narrowing, Part};
 use std::alloc::{AllocError, Global};
-use ug_branch::{Branch, Params, branch_of};
 use ug_problem::Problem;
 use ug_propagate::{Working, propagate};
 use ug_rows::{IntBox, Interval, Point, has_point};
@@ -25,7 +26,7 @@ pub enum Seen {
     /// One good point.
     Solved(Point),
     /// Two halves of what is left of it in the working box.
-    Halved(Branch),
+    Halved(Halving),
 }
 
 /// Brings the working box to the one at which a part was split off, with the rows awake that may not
@@ -108,13 +109,13 @@ fn enter(
 
 // What is seen in what is left of a box.
 #[tactic(auto, using(crate::proofs::Sight::only_point))]
-fn see(alloc: Global, params: Params, sides: &[Interval]) -> Result<Seen, AllocError>
+fn see(alloc: Global, guide: &Guide, sides: &[Interval]) -> Result<Seen, AllocError>
     requires few { length sides.now ≤ 10 ^ 4 }
     requires some { IsNonEmpty sides.now }
-    ensures { IfOk result (IsInSight params sides.now) }
+    ensures { IfOk result (IsInSight guide.now sides.now) }
 {
-    match branch_of(params, sides) {
-        Some(branch) => Ok(Seen::Halved(branch)),
+    match guide.halving(sides) {
+        Some(halving) => Ok(Seen::Halved(halving)),
         None => Ok(Seen::Solved(lows(alloc, sides)?)),
     }
 }
@@ -124,19 +125,19 @@ fn look_inside(
     alloc: Global,
     work: &mut Working,
     problem: &Problem,
-    params: Params,
+    guide: &Guide,
     cutoff: Option<i128>,
 ) -> Result<Seen, AllocError>
     requires can { CanLook problem.now cutoff work.old.sums.area }
     requires some { IsNonEmpty work.old.sums.area }
     requires working { IsWorking problem.now cutoff work.old }
     ensures went { WentOn problem.now cutoff work.old work.new }
-    ensures seen { IfOk result (IsSeen problem.now cutoff params work.old.sums.area work.new) }
+    ensures seen { IfOk result (IsSeen problem.now cutoff guide.now work.old.sums.area work.new) }
 {
     match propagate(work, problem, cutoff)? {
         Some(_) => Ok(Seen::Hopeless),
         None => {
-            let seen = see(alloc, params, work.sides())?;
+            let seen = see(alloc, guide, work.sides())?;
             Ok(seen)
         }
     }
@@ -149,7 +150,7 @@ pub fn look(
     work: &mut Working,
     problem: &Problem,
     whole: &IntBox,
-    params: Params,
+    guide: &Guide,
     cutoff: Option<i128>,
     part: Part,
 ) -> Result<Seen, AllocError>
@@ -159,10 +160,10 @@ pub fn look(
     requires part { IsPart problem.now whole.now work.old part }
     ensures base { IsBase problem.now whole.now work.new }
     ensures kept { KeepsBases part.depth work.old work.new }
-    ensures seen { IfOk result (IsSeen problem.now cutoff params (area_of work.old part) work.new) }
+    ensures seen { IfOk result (IsSeen problem.now cutoff guide.now (area_of work.old part) work.new) }
 {
     if enter(work, problem, whole, part, cutoff)? {
-        let seen = look_inside(alloc, work, problem, params, cutoff)?;
+        let seen = look_inside(alloc, work, problem, guide, cutoff)?;
         Ok(seen)
     } else {
         Ok(Seen::Hopeless)
@@ -175,7 +176,7 @@ pub fn look_last(
     work: &mut Working,
     formulation: &Formulation,
     whole: &IntBox,
-    params: Params,
+    guide: &Guide,
     cutoff: Option<i128>,
     parts: &Vec<Part>,
     last: Part,
@@ -188,14 +189,14 @@ pub fn look_last(
     ensures chain { IsChain formulation.now.searched whole.now work.new parts.now.items }
     ensures areas { areas_of work.new parts.now.items ≡ areas_of work.old parts.now.items }
     ensures seen { IfOk result
-        (IsSeen formulation.now.searched cutoff params (area_of work.old last) work.new) }
+        (IsSeen formulation.now.searched cutoff guide.now (area_of work.old last) work.new) }
 {
     let seen = look(
         alloc,
         work,
         formulation.searched(),
         whole,
-        params,
+        guide,
         cutoff,
         last,
     )?;

@@ -20,6 +20,9 @@ const FIRST_OF_PART: u64 = 128;
 // How many steps at least lie between two guesses, and later on between rows for two cutoffs.
 const APART: u64 = 16;
 
+// A guess is due again when the steps are more by this part of them.
+const OFTENER: u64 = 2;
+
 // For so many steps rows are made anew at each new cutoff.
 const OFTEN: u64 = 512;
 
@@ -27,7 +30,7 @@ const OFTEN: u64 = 512;
 const PATIENCE: u64 = 4;
 
 // How many lists are kept at most.
-const LISTS: usize = 4;
+const LISTS: usize = 8;
 
 // How many steps a guess has at most, and at least where a step looks at many pairs.
 const MOST_STEPS: u64 = 64;
@@ -170,9 +173,14 @@ impl Sharpening {
         self.due = if self.lists.is_empty() {
             self.steps.saturating_mul(PATIENCE)
         } else {
-            self.steps.saturating_add(self.steps.max(APART))
+            self.steps.saturating_add((self.steps / OFTENER).max(APART))
         };
         Ok(())
+    }
+
+    /// The list that was kept last.
+    pub fn latest(&self) -> Option<&Multipliers> {
+        self.lists.as_slice().last()
     }
 
     /// The problem with the rows that follow over the whole box under a cutoff, if there are any.

@@ -6,9 +6,11 @@ ghost use Rattle.ug_base.specs.Looks.{IsBranched};
 
 use crate::boxes::replace_last;
 use crate::formulation::Formulation;
+use crate::guide::Guide;
+use crate::halving::Halving;
 use crate::part::{Narrowing, Part};
 use std::alloc::AllocError;
-use ug_branch::{Branch, Half, Params};
+use ug_branch::Half;
 use ug_problem::Problem;
 use ug_propagate::{Rest, Working, rest_after};
 use ug_rows::{IntBox, Interval};
@@ -73,17 +75,17 @@ struct Sides {
 }
 
 // The halves of the interval of the branch's column.
-fn sides_at(work: &Working, params: Params, branch: Branch) -> Sides
-    requires { IsBranched params work.now.sums.area branch }
-    ensures first { result.first
-        ≡ first_side params.half (interval_at work.now.sums.area branch.column) branch.middle }
-    ensures second { result.second
-        ≡ other_side params.half (interval_at work.now.sums.area branch.column) branch.middle }
+fn sides_at(work: &Working, guide: &Guide, halving: Halving) -> Sides
+    requires { IsBranched guide.now work.now.sums.area halving }
+    ensures first { result.first ≡ first_side halving.first
+        (interval_at work.now.sums.area halving.branch.column) halving.branch.middle }
+    ensures second { result.second ≡ other_side halving.first
+        (interval_at work.now.sums.area halving.branch.column) halving.branch.middle }
 {
-    let side = work.sides()[branch.column as usize];
+    let side = work.sides()[halving.branch.column as usize];
     Sides {
-        first: first_of(params.half, side, branch.middle),
-        second: other_of(params.half, side, branch.middle),
+        first: first_of(halving.first, side, halving.branch.middle),
+        second: other_of(halving.first, side, halving.branch.middle),
     }
 }
 
@@ -132,26 +134,26 @@ pub fn split_last(
     work: &Working,
     formulation: &Formulation,
     whole: &IntBox,
-    params: Params,
+    guide: &Guide,
     cutoff: Option<i128>,
-    branch: Branch,
+    halving: Halving,
     parts: &mut Vec<Part>,
 ) -> Result<(), AllocError>
     requires some { 0 < length parts.old.items }
     requires chain { IsChain formulation.now.searched whole.now work.now parts.old.items }
     requires below { IsBelow work.now.sums.area whole.now }
     requires working { IsWorking formulation.now.searched cutoff work.now }
-    requires branched { IsBranched params work.now.sums.area branch }
-    ensures ok { OnOk result
-        (HasSplit formulation.now.searched whole.now work.now params.half branch parts.old.items
-        parts.new.items) }
+    requires branched { IsBranched guide.now work.now.sums.area halving }
+    ensures ok { OnOk result (HasSplit formulation.now.searched whole.now work.now halving.first
+        halving.branch parts.old.items parts.new.items) }
     ensures err { OnErr result (parts.new.items ≡ parts.old.items) }
 {
     let problem = formulation.searched();
     let rest = rest_after(work, problem, cutoff);
-    let sides = sides_at(work, params, branch);
-    let first = part_with(work, problem, whole, branch.column, sides.first, rest);
-    let second = part_with(work, problem, whole, branch.column, sides.second, rest);
+    let sides = sides_at(work, guide, halving);
+    let column = halving.branch.column;
+    let first = part_with(work, problem, whole, column, sides.first, rest);
+    let second = part_with(work, problem, whole, column, sides.second, rest);
     replace_last(parts, first, second)?;
     Ok(())
 }

@@ -16,6 +16,7 @@ ghost use Rattle.ug_problem.specs.Better.{AreAllHanded, HasNoGood, IsGap, IsSmal
 
 use crate::boxes::{drop_last, last_of, unsettle};
 use crate::formulation::Formulation;
+use crate::guide::Guide;
 use crate::handed::Handed;
 use crate::look::{Seen, begin, look_last};
 use crate::lowest::{lesser, lowest_floor};
@@ -38,7 +39,7 @@ pub struct Task {
     alloc: Global,
     formulation: Formulation,
     ticket: Ticket,
-    params: Params,
+    guide: Guide,
     whole: IntBox,
     cutoff: Option<i128>,
     gap: i128,
@@ -168,7 +169,7 @@ impl Task {
                 alloc,
                 formulation: Formulation::own(problem),
                 ticket,
-                params,
+                guide: Guide::plain(alloc, params),
                 whole,
                 cutoff,
                 gap,
@@ -214,7 +215,7 @@ impl Task {
             &mut self.work,
             &self.formulation,
             &self.whole,
-            self.params,
+            &self.guide,
             self.cutoff,
             &self.parts,
             last,
@@ -229,14 +230,14 @@ impl Task {
                 drop_last(&mut self.parts);
                 Ok(Step::Found(point))
             }
-            Seen::Halved(branch) => {
+            Seen::Halved(halving) => {
                 split_last(
                     &self.work,
                     &self.formulation,
                     &self.whole,
-                    self.params,
+                    &self.guide,
                     self.cutoff,
-                    branch,
+                    halving,
                     &mut self.parts,
                 )?;
                 Ok(Step::Split)
@@ -278,7 +279,7 @@ impl Task {
     fn sharpen(&mut self) -> Result<(), AllocError>
         ensures { self.new ≡ self.old }
     {
-        match self.params.base {
+        match self.guide.params().base {
             Base::Bound => Ok(()),
             Base::Surrogate => {
                 if self.sharpening.is_due(self.cutoff) {
@@ -309,7 +310,23 @@ impl Task {
         );
         drop(area);
         match made? {
-            Some(stronger) => self.go_over(stronger),
+            Some(stronger) => match self.follow() {
+                Ok(()) => self.go_over(stronger),
+                Err(error) => {
+                    drop(stronger);
+                    Err(error)
+                }
+            },
+            None => Ok(()),
+        }
+    }
+
+    // Halves by the list of multipliers that was kept last.
+    fn follow(&mut self) -> Result<(), AllocError>
+        ensures { self.new ≡ self.old }
+    {
+        match self.sharpening.latest() {
+            Some(m) => self.guide.follow(self.alloc, self.formulation.problem(), m),
             None => Ok(()),
         }
     }
@@ -425,7 +442,7 @@ impl Task {
     pub fn params(&self) -> Params
         ensures { result ≡ self.now.params }
     {
-        self.params
+        self.guide.params()
     }
 
     /// The value below which points are searched for, if there is one.

@@ -38,6 +38,6 @@ returns-in_ok-seen-in-None-clause-seen c =
     ≡ last_round p c.args.cutoff (rounds_of 32 p c.args.cutoff (Kept area)) in
     let t = tightened_as p c.args.cutoff area (Kept inner) c.requires.can c.requires.some
     (subst P c.in-None.is c.in_ok-propagate.ensures.value) in
-    let Q : List Interval → Type 0 = λ (a : List Interval). IsInSight c.args.params a c.in_ok-seen-in-None.seen in
-    seen_inside p c.args.cutoff c.args.params area c.propagate.new.work c.in_ok-seen-in-None.seen c.requires.can t
+    let Q : List Interval → Type 0 = λ (a : List Interval). IsInSight c.args.guide.now a c.in_ok-seen-in-None.seen in
+    seen_inside p c.args.cutoff c.args.guide.now area c.propagate.new.work c.in_ok-seen-in-None.seen c.requires.can t
     c.propagate.ensures.went.working (subst Q c.sides.ensures c.in_ok-seen-in-None.ensures)

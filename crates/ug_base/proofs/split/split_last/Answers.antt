@@ -11,21 +11,21 @@ use Rattle.ug_base.proofs.split.split_last.Goals as goal
 pub part_with-first-requires-clause-inner : goal.part_with-first-requires-clause-inner
 part_with-first-requires-clause-inner c =
     let area = c.args.work.now.sums.area in
-    subst (λ (s : Interval). IsClosedWithin s (interval_at area c.args.branch.column)) (sym c.sides_at-sides.ensures.first)
-    (first_inner c.args.params area c.args.branch c.requires.branched)
+    subst (λ (s : Interval). IsClosedWithin s (interval_at area c.args.halving.branch.column)) (sym c.sides_at-sides.ensures.first)
+    (first_inner c.args.guide.now area c.args.halving c.requires.branched)
 
 pub part_with-second-requires-clause-inner : goal.part_with-second-requires-clause-inner
 part_with-second-requires-clause-inner c =
     let area = c.args.work.now.sums.area in
-    subst (λ (s : Interval). IsClosedWithin s (interval_at area c.args.branch.column)) (sym c.sides_at-sides.ensures.second)
-    (second_inner c.args.params area c.args.branch c.requires.branched)
+    subst (λ (s : Interval). IsClosedWithin s (interval_at area c.args.halving.branch.column)) (sym c.sides_at-sides.ensures.second)
+    (second_inner c.args.guide.now area c.args.halving c.requires.branched)
 
 pub returns-clause-ok : goal.returns-clause-ok
 returns-clause-ok c =
     let p = c.args.formulation.now.searched in
     let work = c.args.work.now in
     let area = work.sums.area in
-    let branch = c.args.branch in
+    let branch = c.args.halving.branch in
     let first = c.part_with-first.result in
     let second = c.part_with-second.result in
     let put = c.in_ok-replace_last.ensures.ok in
@@ -35,9 +35,9 @@ returns-clause-ok c =
       second = second;
       put = put;
       area_first = c.part_with-first.ensures.area ∙ ap (λ (s : Interval). set area branch.column s) c.sides_at-sides.ensures.first
-          ∙ first_half_is c.args.params.half area branch;
+          ∙ first_half_is c.args.halving.first area branch;
       area_second = c.part_with-second.ensures.area ∙ ap (λ (s : Interval). set area branch.column s) c.sides_at-sides.ensures.second
-          ∙ other_half_is c.args.params.half area branch;
+          ∙ other_half_is c.args.halving.first area branch;
       chain = subst (λ (ps : List Part). IsChain p c.args.whole.now work ps) (sym put)
           (chain_split p c.args.whole.now work c.args.parts.now.items first second c.requires.chain
           (subst (λ (q : Instance). IsPart q c.args.whole.now work first) same c.part_with-first.ensures.part)

@@ -80,7 +80,7 @@ split_last-requires-clause-below c =
     let s = c.self.inside.formulation.searched in
     let after = c.look_last.new.work in
     let P : Seen → Type 0 = λ (seen : Seen). IsSeen s t.cutoff t.params (area_of c.self.inside.work c.in-Some.last) after seen in
-    left_below t s c.self.inside.work after c.self.inside.parts.items c.in-Some.last c.in-Halved.branch refl c.self.invariant.task
+    left_below t s c.self.inside.work after c.self.inside.parts.items c.in-Some.last c.in-Halved.halving refl c.self.invariant.task
     c.in-Some.ensures (subst P c.in-Halved.is c.in_ok-look_last.ensures.seen)
 
 pub invariant_of-self-in_err-split_last-in-Halved : goal.invariant_of-self-in_err-split_last-in-Halved
@@ -108,9 +108,9 @@ invariant_of-self-in-Halved c =
     (last_of_fields t c.self.inside.work c.self.inside.parts.items c.in-Some.last refl c.in-Some.ensures) in
     let seen = subst P c.in-Halved.is c.in_ok-look_last.ensures.seen in
     record {
-      task = after_halved t s c.self.inside.work after c.self.inside.parts.items _ c.in-Some.last c.in-Halved.branch refl
+      task = after_halved t s c.self.inside.work after c.self.inside.parts.items _ c.in-Some.last c.in-Halved.halving refl
           c.self.invariant.task c.in-Some.ensures c.in_ok-look_last.ensures.areas
-          (good_halves t.problem t.whole t.cutoff s area f below (halves_at t.params.half after.sums.area c.in-Halved.branch) seen.halved.good)
+          (good_halves t.problem t.whole t.cutoff s area f below (halves_at c.in-Halved.halving.first after.sums.area c.in-Halved.halving.branch) seen.halved.good)
           c.in_ok-split_last-in-Halved.ensures.ok;
       chain = c.in_ok-split_last-in-Halved.ensures.ok.chain;
       searched = c.self.invariant.searched;
@@ -187,7 +187,7 @@ returns-in_ok-split_last-in-Halved-clause-took c =
     (last_of_fields t c.self.inside.work c.self.inside.parts.items c.in-Some.last refl c.in-Some.ensures) in
     let seen = subst P c.in-Halved.is c.in_ok-look_last.ensures.seen in
     subst (λ (q : TaskState). IsSplit q (record t { boxes = areas_of after c.split_last.new.parts.items })) c.self.view_is
-    (split_step t s c.self.inside.work after c.self.inside.parts.items c.split_last.new.parts.items c.in-Some.last c.in-Halved.branch
+    (split_step t s c.self.inside.work after c.self.inside.parts.items c.split_last.new.parts.items c.in-Some.last c.in-Halved.halving
     refl c.in-Some.ensures c.in_ok-look_last.ensures.areas
     (leaves t.params.base t.problem t.whole t.cutoff s area after.sums.area c.self.invariant.searched below seen.left seen.below seen.keeps)
     seen.branched c.in_ok-split_last-in-Halved.ensures.ok)
@@ -207,5 +207,5 @@ returns-in_ok-split_last-in-Halved-clause-less c =
     let P : Seen → Type 0 = λ (seen : Seen). IsSeen s t.cutoff t.params (area_of c.self.inside.work c.in-Some.last) after seen in
     subst (λ (q : TaskState). measure_of (areas_of after c.split_last.new.parts.items) < measure_of q.boxes) c.self.view_is
     (left_halved_less t s c.self.inside.work after c.self.inside.parts.items c.split_last.new.parts.items c.in-Some.last
-    c.in-Halved.branch refl c.in-Some.ensures c.in_ok-look_last.ensures.areas
+    c.in-Halved.halving refl c.in-Some.ensures c.in_ok-look_last.ensures.areas
     (subst P c.in-Halved.is c.in_ok-look_last.ensures.seen) c.in_ok-split_last-in-Halved.ensures.ok)

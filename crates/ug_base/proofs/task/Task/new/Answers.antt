@@ -11,7 +11,7 @@ use Rattle.ug_base.proofs.task.Task.new.Goals as goal
 pub invariant_of-result : goal.invariant_of-result
 invariant_of-result c =
     let work = c.in-Ok.begun.work in
-    rw c.own.ensures (record {
+    rw (c.own.ensures, c.plain.ensures) (record {
       task = new_task _ work c.in-Ok.begun.parts.items c.args.gap _ (subst IsProblem c.problem.ensures.value c.columns-columns.ensures.problem)
           c.requires.below c.requires.cutoff c.requires.gap (search rules) c.in-Ok.ensures.parts c.in-Ok.ensures.trail
           c.in-Ok.ensures.area refl c.new.ensures.items;

@@ -1,0 +1,5 @@
+use Rattle.ug_base.proofs.Splits.{midway_halves}
+use Rattle.ug_base.proofs.guide.Guide.halving.Goals as goal
+
+pub returns-in-Some-clause-halves : goal.returns-in-Some-clause-halves
+returns-in-Some-clause-halves c = midway_halves _ _ c.in-Some.ensures
