@@ -104,6 +104,16 @@ first_wins params area n c h first within = record {
   ];
 }
 
+-- the best of so many columns or more is the best of all
+pub best_of_all : (params : Params) (area : List Interval) (n : ℕ) (best : Option ℕ) → IsBest params area n best → length area ≤ n
+    → IsBest params area (length area) best
+best_of_all params area n None h all = λ j k. h j (omega (arith, k, all))
+best_of_all params area n (Some c) h all = record {
+  below = h.open_.there;
+  open_ = h.open_;
+  ahead = λ j k o. h.ahead j (omega (arith, k, all)) o;
+}
+
 -- the best of all columns, with its middle, is chosen
 pub is_chosen : (params : Params) (area : List Interval) (c : ℕ) (branch : Branch) → IsBestOf params area (length area) c
     → branch.column ≡ c → IsMiddle (interval_at area c) branch.middle → IsChosen params area branch

@@ -23,6 +23,10 @@ pub record IsOpen (area : List Interval) (c : ℕ) : Type 0 where
   pub there : c < length area
   pub open_ : (interval_at area c).low <ℤ (interval_at area c).high
 
+-- none of the first n columns of the box is open
+abbrev pub AreClosed : ℕ → List Interval → Type 0
+AreClosed n area = (j : ℕ) → j < n → (interval_at area j).high ≤ℤ (interval_at area j).low
+
 -- no column of the box is open
 abbrev pub HasNoneOpen : List Interval → Type 0
 HasNoneOpen area = (j : ℕ) → j < length area → (interval_at area j).high ≤ℤ (interval_at area j).low

@@ -1,6 +1,6 @@
 ghost use Rattle.std.specs.Prelude.{◌≡◌, ◌↔◌, ℕ, ℤ, pos, ◌+ℤ◌, ◌*ℤ◌, ◌+◌, ◌^◌, ◌<◌, ◌≤◌, ◌≤ℤ◌, ◌<ℤ◌, length, IfSome, IsNone, IsTrue, MatchBool, true};
 ghost use Rattle.ug_rows.specs.Boxes.{interval_at};
-ghost use Rattle.ug_branch.specs.Choices.{width_of, IsOpen, HasNoneOpen, IsAhead, IsFirstAhead, IsMiddle, IsBest, IsChosen, AreHalves};
+ghost use Rattle.ug_branch.specs.Choices.{width_of, IsOpen, HasNoneOpen, AreClosed, IsAhead, IsFirstAhead, IsMiddle, IsBest, IsChosen, AreHalves};
 
 use crate::params::{End, Params, Pick};
 use ug_rows::{IntBox, Interval};
@@ -24,14 +24,25 @@ pub fn choose(params: Params, area: &IntBox) -> Option<Branch>
 }
 
 /// The same of the box with these intervals.
-#[tactic(auto, using(crate::proofs::ChoiceLemmas::is_chosen, crate::proofs::ChoiceLemmas::is_not_fixed))]
 pub fn branch_of(params: Params, sides: &[Interval]) -> Option<Branch>
     requires { length sides.now ≤ 10 ^ 4 }
     ensures none { IsNone result ↔ HasNoneOpen sides.now }
     ensures chosen { IfSome result (IsChosen params sides.now) }
     ensures halves { IfSome result (AreHalves sides.now) }
 {
-    match best_column(params, sides) {
+    branch_from(params, sides, 0)
+}
+
+/// The same where the first columns are known to be closed, so many: they are not looked at.
+#[tactic(auto, using(crate::proofs::ChoiceLemmas::is_chosen, crate::proofs::ChoiceLemmas::is_not_fixed))]
+pub fn branch_from(params: Params, sides: &[Interval], first: usize) -> Option<Branch>
+    requires few { length sides.now ≤ 10 ^ 4 }
+    requires closed { AreClosed first sides.now }
+    ensures none { IsNone result ↔ HasNoneOpen sides.now }
+    ensures chosen { IfSome result (IsChosen params sides.now) }
+    ensures halves { IfSome result (AreHalves sides.now) }
+{
+    match best_column(params, sides, first) {
         Some(column) => Some(branch_at(sides, column)),
         None => None,
     }
@@ -63,12 +74,13 @@ fn middle(side: Interval) -> i32
 // The open column that is ahead of all open ones, if there is one. Where the place decides and the
 // lowest wins it is the first open one, and the columns behind it, thousands in a wide box, are not
 // looked at.
-#[tactic(auto, using(crate::proofs::ChoiceLemmas::first_wins))]
-fn best_column(params: Params, sides: &[Interval]) -> Option<usize>
+#[tactic(auto, using(crate::proofs::ChoiceLemmas::first_wins, crate::proofs::ChoiceLemmas::best_of_all))]
+fn best_column(params: Params, sides: &[Interval], first: usize) -> Option<usize>
+    requires { AreClosed first sides.now }
     ensures { IsBest params sides.now (length sides.now) result }
 {
     let mut best = None;
-    for c in 0..sides.len() {
+    for c in first..sides.len() {
         best = best_with(params, sides, best, c);
         if best.is_some() && is_first_ahead(params) {
             return best;

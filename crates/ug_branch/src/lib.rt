@@ -8,5 +8,5 @@
 mod choice;
 mod params;
 
-pub use choice::{Branch, branch_of, choose};
+pub use choice::{Branch, branch_from, branch_of, choose};
 pub use params::{Base, End, Half, Params, Pick};
