@@ -10,6 +10,7 @@ use Rattle.ug_propagate.specs.declared.working.Trailed.{Trailed}
 use Rattle.ug_propagate.specs.Running.{IsRunning}
 use Rattle.ug_propagate.specs.Working.{AllRest, AreTrailed, AreReached, AreResting, HasBits, IsBox, IsLater, IsWorking, WentBack, WorkState, undone}
 use Rattle.ug_propagate.proofs.Stepping.{reach_below, undone_append}
+use Rattle.ug_branch.specs.Choices.{AreClosed}
 use Rattle.ug_base.specs.declared.part.Part.{Part}
 use Rattle.ug_base.specs.Chains.{IsBase, IsChain, IsCut, IsPart, KeepsBases, Rise, area_of, areas_of, base_of, narrowed}
 use Rattle.ug_base.specs.Fronts.{front_of}
@@ -165,6 +166,7 @@ part_kept p whole depth old new part within h is =
       cut = subst (λ (a : List Interval). IsCut p a part.cut) same is.cut;
       rest = subst (λ (a : List Interval). AllRest p part.rest a) same is.rest;
       floor = subst (λ (a : List Interval). part.floor ≡ box_floor p.objective (narrowed part.cut a)) same is.floor;
+      closed = subst (λ (a : List Interval). AreClosed part.closed (narrowed part.cut a)) same is.closed;
     }
 
 all_kept : (p : Instance) (whole : List Interval) (depth : ℕ) (old new : WorkState) (parts : List Part) → KeepsBases depth old new

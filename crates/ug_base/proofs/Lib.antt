@@ -2,6 +2,7 @@ pub mod Measures
 pub mod Sight
 pub mod LastBox
 pub mod Chains
+pub mod Closed
 pub mod Floors
 pub mod StepLemmas
 pub mod HandLemmas

@@ -13,6 +13,7 @@ use Rattle.ug_problem.specs.Limits.{IsProblem}
 use Rattle.ug_propagate.specs.declared.working.Trailed.{Trailed}
 use Rattle.ug_propagate.specs.Working.{AreTrailed, IsOver, WorkState, undone}
 use Rattle.ug_propagate.proofs.Stepping.{reach_below}
+use Rattle.ug_branch.specs.Choices.{AreClosed}
 use Rattle.ug_base.specs.declared.part.Narrowing.{Narrowing}
 use Rattle.ug_base.specs.declared.part.Part.{Part}
 use Rattle.ug_base.specs.Chains.{IsChain, IsCut, IsPart, Rise, area_of, areas_of, base_of, narrowed, no_part, unsettled}
@@ -93,6 +94,7 @@ part_over p s whole old new part columns objective over is =
       rest = tt;
       floor = subst (λ (o : Objective). part.floor ≡ box_floor o (area_of new part)) (sym objective)
           (subst (λ (a : List Interval). part.floor ≡ box_floor p.objective (narrowed part.cut a)) same is.floor);
+      closed = subst (λ (a : List Interval). AreClosed part.closed (narrowed part.cut a)) same is.closed;
     }
 
 parts_over : (p s : Instance) (whole : List Interval) (old new : WorkState) (parts : List Part) → s.columns ≡ p.columns

@@ -10,6 +10,7 @@ use Rattle.ug_branch.specs.declared.params.Half.{Half}
 use Rattle.ug_branch.specs.declared.params.Half.TheVariants.{Lower, Upper}
 use Rattle.ug_branch.specs.declared.params.Params.{Params}
 use Rattle.ug_base.specs.declared.halving.Halving.{Halving}
+use Rattle.ug_branch.specs.Choices.{AreClosed}
 use Rattle.ug_problem.specs.Instances.{Instance}
 use Rattle.ug_propagate.specs.declared.working.Trailed.{Trailed}
 use Rattle.ug_propagate.specs.Working.{AllRest, WorkState, undone}
@@ -79,8 +80,8 @@ pub part_here : (p : Instance) (whole : List Interval) (work : WorkState) (part 
     → part.depth ≡ length work.trail → part.cut ≡ Some (record { column = column; side = side }) → column < length p.columns
     → IsBelow work.sums.area whole → IsClosedWithin side (interval_at work.sums.area column) → IsNonEmpty work.sums.area
     → AllRest p part.rest work.sums.area → part.floor ≡ box_floor p.objective (set work.sums.area column side)
-    → IsPart p whole work part
-part_here p whole work part column side deep cut there below inner some rest floor =
+    → AreClosed part.closed (set work.sums.area column side) → IsPart p whole work part
+part_here p whole work part column side deep cut there below inner some rest floor closed =
     let same : work.sums.area ≡ base_of work part = sym (base_here work part deep) in
     let area : set work.sums.area column side ≡ area_of work part =
     ap (λ (a : List Interval). set a column side) same ∙ ap (λ c. narrowed c (base_of work part)) (sym cut) in
@@ -92,6 +93,7 @@ part_here p whole work part column side deep cut there below inner some rest flo
           (record { there = there; inner = inner; some = some }));
       rest = subst (λ (a : List Interval). AllRest p part.rest a) same rest;
       floor = floor ∙ ap (λ (a : List Interval). box_floor p.objective a) area;
+      closed = subst (AreClosed part.closed) area closed;
     }
 
 pub area_here : (work : WorkState) (part : Part) (column : ℕ) (side : Interval) → part.depth ≡ length work.trail

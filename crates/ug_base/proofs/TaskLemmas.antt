@@ -24,7 +24,7 @@ use Rattle.ug_base.proofs.Floors.{lesser_is}
 -- a task with the whole box left and none handed
 pub new_task : (t : TaskState) (work : WorkState) (parts : List Part) (gap floor : ℤ) → IsProblem t.problem
     → IsBelow t.whole (root_of t.problem) → IsSmallCutoff t.cutoff → IsGap gap → t.gap ≡ gap
-    → parts ≡ record { depth = 0; cut = None; floor = floor; rest = Unknown } ∷ [] → work.trail ≡ [] → work.sums.area ≡ t.whole
+    → parts ≡ record { depth = 0; cut = None; floor = floor; rest = Unknown; closed = 0 } ∷ [] → work.trail ≡ [] → work.sums.area ≡ t.whole
     → t.boxes ≡ areas_of work parts → t.handed ≡ [] → IsTask t
 new_task t work parts gap floor problem below small g same e none area left handed =
     let P : List Interval → Type 0 = λ (a : List Interval). IsBelow a t.whole in
@@ -42,10 +42,10 @@ new_task t work parts gap floor problem below small g same e none area left hand
 
 -- and its one part
 pub new_chain : (p : Instance) (whole : List Interval) (work : WorkState) (parts : List Part)
-    → parts ≡ record { depth = 0; cut = None; floor = box_floor p.objective work.sums.area; rest = Unknown } ∷ []
+    → parts ≡ record { depth = 0; cut = None; floor = box_floor p.objective work.sums.area; rest = Unknown; closed = 0 } ∷ []
     → IsBox p work → work.trail ≡ [] → work.sums.area ≡ whole → IsChain p whole work parts
 new_chain p whole work parts e box none area =
-    let only : Part = record { depth = 0; cut = None; floor = box_floor p.objective work.sums.area; rest = Unknown } in
+    let only : Part = record { depth = 0; cut = None; floor = box_floor p.objective work.sums.area; rest = Unknown; closed = 0 } in
     let C : Trailed → Type 0 = λ (change : Trailed). change.column < length p.columns in
     let base : base_of work only ≡ work.sums.area =
     ap (λ (trail : List Trailed). undone work.sums.area (drop 0 trail)) none in
@@ -55,6 +55,7 @@ new_chain p whole work parts e box none area =
       cut = tt;
       rest = tt;
       floor = ap (λ (a : List Interval). box_floor p.objective a) (sym base);
+      closed = λ j less. absurd (omega arith);
     } in
     subst (λ (ps : List Part). IsChain p whole work ps) (sym e) (record {
       base = record {

@@ -1,13 +1,14 @@
 -- Boxes left as chains: each is the working box as it was after some of its changes, with one
 -- column narrowed.
-use Rattle.std.specs.Prelude.{◌≡◌, ℕ, ℤ, pos, ◌+ℤ◌, ◌<◌, ◌≤◌, List, [], ◌∷◌, ◌++◌, length, drop}
-use Rattle.std.specs.Prelude.{map, slice_set, All, Option, Some, None}
+use Rattle.std.specs.Prelude.{◌≡◌, ℕ, ℤ, pos, ◌+ℤ◌, ◌-◌, ◌<◌, ◌≤◌, List, [], ◌∷◌, ◌++◌, length, drop}
+use Rattle.std.specs.Prelude.{map, slice_index_or, slice_set, All, Option, Some, None}
 use Rattle.ug_rows.specs.declared.area.Interval.{Interval}
 use Rattle.ug_rows.specs.Boxes.{IsBelow, IsClosedWithin, IsNonEmpty, interval_at}
 use Rattle.ug_rows.specs.Sums.{box_floor}
 use Rattle.ug_branch.specs.declared.params.Half.{Half}
 use Rattle.ug_branch.specs.declared.params.Half.TheVariants.{Lower, Upper}
 use Rattle.ug_branch.specs.declared.choice.Branch.{Branch}
+use Rattle.ug_branch.specs.Choices.{AreClosed}
 use Rattle.ug_problem.specs.Instances.{Instance}
 use Rattle.ug_propagate.specs.declared.resting.Rest.TheVariants.{Unknown}
 use Rattle.ug_propagate.specs.Working.{AllRest, AreTrailed, AreReached, IsBox, WorkState, undone}
@@ -52,6 +53,7 @@ pub record IsPart (p : Instance) (whole : List Interval) (work : WorkState) (par
   pub cut : IsCut p (base_of work part) part.cut
   pub rest : AllRest p part.rest (base_of work part)
   pub floor : part.floor ≡ box_floor p.objective (area_of work part)
+  pub closed : AreClosed part.closed (area_of work part)
 
 -- what the working box keeps in the search of a whole box
 pub record IsBase (p : Instance) (whole : List Interval) (work : WorkState) : Type 0 where
@@ -65,7 +67,11 @@ unsettled part = record part { rest = Unknown }
 
 -- a part that stands for one that is not there
 abbrev pub no_part : Part
-no_part = record { depth = 0; cut = None; floor = pos 0; rest = Unknown }
+no_part = record { depth = 0; cut = None; floor = pos 0; rest = Unknown; closed = 0 }
+
+-- how many of the first columns are known to be closed in the last part's box
+abbrev pub closed_of : List Part → ℕ
+closed_of parts = (slice_index_or parts (length parts - 1) no_part).closed
 
 -- each part has no fewer changes than those before it
 abbrev pub Rise : List Part → Type 0

@@ -4,14 +4,14 @@
 //! is searched for does not depend on it.
 
 ghost use Rattle.std.specs.Prelude.{◌≡◌, ◌↔◌, ◌≤◌, ◌^◌, length, IfSome, IsNone};
-ghost use Rattle.ug_branch.specs.Choices.{AreHalves, HasNoneOpen};
+ghost use Rattle.ug_branch.specs.Choices.{AreClosed, AreHalves, HasNoneOpen};
 ghost use Rattle.ug_base.specs.Halvings.{IsByParams, IsMidway, MayHalve};
 
 use crate::halving::Halving;
 use std::alloc::{AllocError, Global};
 use std::marker::Model;
 use std::mem;
-use ug_branch::{Base, Branch, End, Half, Params, Pick, branch_of};
+use ug_branch::{Base, Branch, End, Half, Params, Pick, branch_from, branch_of};
 use ug_problem::Problem;
 use ug_rows::{Interval, Row};
 use ug_surrogate::{ImpliedError, Multipliers, are_of, implied};
@@ -202,15 +202,17 @@ impl Guide {
         None
     }
 
-    /// How the box with these intervals is halved, or none if no column is open.
-    pub fn halving(&self, sides: &[Interval]) -> Option<Halving>
-        requires { length sides.now ≤ 10 ^ 4 }
+    /// How the box with these intervals is halved, or none if no column is open. The first columns,
+    /// of which so many are known to be closed, are not looked at.
+    pub fn halving(&self, sides: &[Interval], closed: usize) -> Option<Halving>
+        requires few { length sides.now ≤ 10 ^ 4 }
+        requires closed { AreClosed closed sides.now }
         ensures none { IsNone result ↔ HasNoneOpen sides.now }
         ensures may { IfSome result (MayHalve self.now.base self.now sides.now) }
         ensures midway { IfSome result (λ halving. IsMidway sides.now halving.branch) }
         ensures halves { IfSome result (λ halving. AreHalves sides.now halving.branch) }
     {
-        let branch = branch_of(self.params, sides)?;
+        let branch = branch_from(self.params, sides, closed)?;
         match self.params.base {
             Base::Bound => Some(by_params(self.params, branch)),
             Base::Surrogate => match self.by_leanings(sides) {

@@ -1,5 +1,6 @@
 ghost use Rattle.std.specs.Prelude.{◌≡◌, ◌++◌, ◌∷◌, [], ◌≤◌, ◌^◌, length, IfOk, IfSome, OnOk, MatchBool};
 ghost use Rattle.ug_rows.specs.Boxes.{IsBelow, IsNonEmpty, IsCrossed};
+ghost use Rattle.ug_branch.specs.Choices.{AreClosed};
 ghost use Rattle.ug_problem.specs.Better.{IsSmallCutoff};
 ghost use Rattle.ug_problem.specs.Instances.{root_of};
 ghost use Rattle.ug_propagate.specs.Waiting.{WentOn};
@@ -27,6 +28,13 @@ pub enum Seen {
     Solved(Point),
     /// Two halves of what is left of it in the working box.
     Halved(Halving),
+}
+
+// By what a box is halved, of which so many of the first columns are known to be closed.
+#[derive(Clone, Copy)]
+struct Choosing<'a> {
+    guide: &'a Guide,
+    closed: usize,
 }
 
 /// Brings the working box to the one at which a part was split off, with the rows awake that may not
@@ -109,12 +117,13 @@ fn enter(
 
 // What is seen in what is left of a box.
 #[tactic(auto, using(crate::proofs::Sight::only_point))]
-fn see(alloc: Global, guide: &Guide, sides: &[Interval]) -> Result<Seen, AllocError>
+fn see(alloc: Global, choosing: Choosing, sides: &[Interval]) -> Result<Seen, AllocError>
     requires few { length sides.now ≤ 10 ^ 4 }
     requires some { IsNonEmpty sides.now }
-    ensures { IfOk result (IsInSight guide.now sides.now) }
+    requires closed { AreClosed choosing.closed sides.now }
+    ensures { IfOk result (IsInSight choosing.entry.guide.now sides.now) }
 {
-    match guide.halving(sides) {
+    match choosing.guide.halving(sides, choosing.closed) {
         Some(halving) => Ok(Seen::Halved(halving)),
         None => Ok(Seen::Solved(lows(alloc, sides)?)),
     }
@@ -125,19 +134,21 @@ fn look_inside(
     alloc: Global,
     work: &mut Working,
     problem: &Problem,
-    guide: &Guide,
+    choosing: Choosing,
     cutoff: Option<i128>,
 ) -> Result<Seen, AllocError>
     requires can { CanLook problem.now cutoff work.old.sums.area }
     requires some { IsNonEmpty work.old.sums.area }
+    requires closed { AreClosed choosing.closed work.old.sums.area }
     requires working { IsWorking problem.now cutoff work.old }
     ensures went { WentOn problem.now cutoff work.old work.new }
-    ensures seen { IfOk result (IsSeen problem.now cutoff guide.now work.old.sums.area work.new) }
+    ensures seen { IfOk result
+        (IsSeen problem.now cutoff choosing.entry.guide.now work.old.sums.area work.new) }
 {
     match propagate(work, problem, cutoff)? {
         Some(_) => Ok(Seen::Hopeless),
         None => {
-            let seen = see(alloc, guide, work.sides())?;
+            let seen = see(alloc, choosing, work.sides())?;
             Ok(seen)
         }
     }
@@ -162,8 +173,10 @@ pub fn look(
     ensures kept { KeepsBases part.depth work.old work.new }
     ensures seen { IfOk result (IsSeen problem.now cutoff guide.now (area_of work.old part) work.new) }
 {
+    let closed = part.closed;
     if enter(work, problem, whole, part, cutoff)? {
-        let seen = look_inside(alloc, work, problem, guide, cutoff)?;
+        let choosing = Choosing { guide, closed };
+        let seen = look_inside(alloc, work, problem, choosing, cutoff)?;
         Ok(seen)
     } else {
         Ok(Seen::Hopeless)

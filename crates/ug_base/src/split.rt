@@ -1,7 +1,8 @@
 ghost use Rattle.std.specs.Prelude.{◌≡◌, ◌<◌, ◌<ℤ◌, ◌+ℤ◌, ◌++◌, ◌∷◌, [], pos, length, slice_set, Some, OnOk, OnErr};
 ghost use Rattle.ug_rows.specs.Boxes.{IsBelow, IsClosedWithin, IsNonEmpty, interval_at};
 ghost use Rattle.ug_propagate.specs.Working.{AllRest, IsWorking};
-ghost use Rattle.ug_base.specs.Chains.{HasSplit, IsBase, IsChain, IsPart, area_of, first_side, other_side};
+ghost use Rattle.ug_branch.specs.Choices.{AreClosed};
+ghost use Rattle.ug_base.specs.Chains.{HasSplit, IsBase, IsChain, IsPart, area_of, closed_of, first_side, other_side};
 ghost use Rattle.ug_base.specs.Looks.{IsBranched};
 
 use crate::boxes::replace_last;
@@ -89,19 +90,51 @@ fn sides_at(work: &Working, guide: &Guide, halving: Halving) -> Sides
     }
 }
 
-fn part_of(depth: usize, column: u32, side: Interval, floor: i128, rest: Rest) -> Part
+// What is known of a box that is split, and then of its halves: how its rows rest, and that so many
+// of its first columns are closed.
+#[derive(Clone, Copy)]
+struct Known {
+    rest: Rest,
+    closed: usize,
+}
+
+// How many of the first columns are known to be closed in the last part's box.
+fn closed_last(parts: &Vec<Part>) -> usize
+    requires { 0 < length parts.now.items }
+    ensures { result ≡ closed_of parts.now.items }
+{
+    parts[parts.len() - 1].closed
+}
+
+// How many of the first columns are closed, where so many are known to be.
+#[tactic(auto, using(crate::proofs::Closed::closed_more))]
+fn closed_from(sides: &[Interval], known: usize) -> usize
+    requires { AreClosed known sides.now }
+    ensures { AreClosed result sides.now }
+{
+    for c in known..sides.len() {
+        if sides[c].low < sides[c].high {
+            return c;
+        }
+    }
+    known
+}
+
+fn part_of(depth: usize, column: u32, side: Interval, floor: i128, known: Known) -> Part
     ensures { result ≡ record {
       depth = depth;
       cut = Some (record { column = column; side = side });
       floor = floor;
-      rest = rest;
+      rest = known.rest;
+      closed = known.closed;
     } }
 {
     Part {
         depth,
         cut: Some(Narrowing { column, side }),
         floor,
-        rest,
+        rest: known.rest,
+        closed: known.closed,
     }
 }
 
@@ -112,20 +145,21 @@ fn part_with(
     whole: &IntBox,
     column: u32,
     side: Interval,
-    rest: Rest,
+    known: Known,
 ) -> Part
     requires there { column < length problem.now.columns }
     requires base { IsBase problem.now whole.now work.now }
     requires below { IsBelow work.now.sums.area whole.now }
     requires inner { IsClosedWithin side (interval_at work.now.sums.area column) }
     requires some { IsNonEmpty work.now.sums.area }
-    requires rest { AllRest problem.now rest work.now.sums.area }
+    requires rest { AllRest problem.now known.rest work.now.sums.area }
+    requires closed { AreClosed known.closed work.now.sums.area }
     ensures part { IsPart problem.now whole.now work.now result }
     ensures area { area_of work.now result ≡ slice_set work.now.sums.area column side }
     ensures depth { result.depth ≡ length work.now.trail }
 {
     let floor = work.floor_with(problem, column, side);
-    part_of(work.trail_len(), column, side, floor, rest)
+    part_of(work.trail_len(), column, side, floor, known)
 }
 
 /// Puts two halves of the working box in the last part's place, the one that is looked at first the
@@ -144,16 +178,20 @@ pub fn split_last(
     requires below { IsBelow work.now.sums.area whole.now }
     requires working { IsWorking formulation.now.searched cutoff work.now }
     requires branched { IsBranched guide.now work.now.sums.area halving }
+    requires closed { AreClosed (closed_of parts.old.items) work.now.sums.area }
     ensures ok { OnOk result (HasSplit formulation.now.searched whole.now work.now halving.first
         halving.branch parts.old.items parts.new.items) }
     ensures err { OnErr result (parts.new.items ≡ parts.old.items) }
 {
     let problem = formulation.searched();
-    let rest = rest_after(work, problem, cutoff);
+    let known = Known {
+        rest: rest_after(work, problem, cutoff),
+        closed: closed_from(work.sides(), closed_last(parts)),
+    };
     let sides = sides_at(work, guide, halving);
     let column = halving.branch.column;
-    let first = part_with(work, problem, whole, column, sides.first, rest);
-    let second = part_with(work, problem, whole, column, sides.second, rest);
+    let first = part_with(work, problem, whole, column, sides.first, known);
+    let second = part_with(work, problem, whole, column, sides.second, known);
     replace_last(parts, first, second)?;
     Ok(())
 }

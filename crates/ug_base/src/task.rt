@@ -69,6 +69,7 @@ fn only_part(work: &Working, problem: &Problem) -> Part
       cut = None;
       floor = box_floor problem.now.objective work.now.sums.area;
       rest = Unknown;
+      closed = 0;
     } }
 {
     Part {
@@ -76,6 +77,7 @@ fn only_part(work: &Working, problem: &Problem) -> Part
         cut: None,
         floor: work.floor(problem),
         rest: Rest::Unknown,
+        closed: 0,
     }
 }
 
@@ -88,6 +90,7 @@ fn only_left(alloc: Global, work: &Working, problem: &Problem) -> Result<Vec<Par
           cut = None;
           floor = box_floor problem.now.objective work.now.sums.area;
           rest = Unknown;
+          closed = 0;
         } ∷ []) }
 {
     let mut parts = Vec::new(alloc);
@@ -114,6 +117,7 @@ fn begun(alloc: Global, problem: &Problem, whole: &IntBox) -> Result<Beginning, 
           cut = None;
           floor = box_floor problem.now.objective b.work.sums.area;
           rest = Unknown;
+          closed = 0;
         } ∷ []) }
 {
     let work = Working::new(alloc, problem, whole)?;

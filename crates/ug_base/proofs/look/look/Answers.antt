@@ -1,10 +1,15 @@
-use Rattle.std.proofs.Common.{Bool, List, MatchBool, subst}
+use Rattle.std.proofs.Common.{Bool, List, MatchBool, subst, sym}
 use Rattle.ug_rows.specs.declared.area.Interval.{Interval}
 use Rattle.ug_rows.specs.Boxes.{IsCrossed, IsNonEmpty}
+use Rattle.ug_branch.specs.Choices.{AreClosed}
 use Rattle.ug_base.specs.Chains.{area_of}
 use Rattle.ug_base.proofs.Chains.{bases_later, bases_trans}
 use Rattle.ug_base.proofs.Sight.{crossed_hopeless}
 use Rattle.ug_base.proofs.look.look.Goals as goal
+
+pub look_inside-requires-clause-closed : goal.look_inside-requires-clause-closed
+look_inside-requires-clause-closed c =
+    subst (AreClosed c.args.part.closed) (sym c.in_ok-enter.ensures.area) c.requires.part.closed
 
 pub returns-in_err-seen-clause-kept : goal.returns-in_err-seen-clause-kept
 returns-in_err-seen-clause-kept c =

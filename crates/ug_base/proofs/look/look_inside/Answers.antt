@@ -5,7 +5,9 @@ use Rattle.ug_propagate.specs.declared.tight.Reason.{Reason}
 use Rattle.ug_propagate.specs.declared.tight.Tight.TheVariants.{Kept}
 use Rattle.ug_propagate.specs.Rounds.{last_round, rounds_of}
 use Rattle.ug_propagate.specs.Steps.{outcome_of}
+use Rattle.ug_branch.specs.Choices.{AreClosed}
 use Rattle.ug_base.specs.Looks.{IsInSight}
+use Rattle.ug_base.proofs.Closed.{closed_below}
 use Rattle.ug_base.proofs.Sight.{below_some, nothing_left, seen_inside, tightened_as}
 use Rattle.ug_base.proofs.look.look_inside.Goals as goal
 
@@ -29,6 +31,18 @@ see-requires-clause-some c =
     (subst P c.in-None.is c.in_ok-propagate.ensures.value) in
     subst IsNonEmpty (sym c.sides.ensures) (below_some inner area t.below c.requires.some)
 
+pub see-requires-clause-closed : goal.see-requires-clause-closed
+see-requires-clause-closed c =
+    let p = c.args.problem.now in
+    let area = c.args.work.now.sums.area in
+    let inner = c.propagate.new.work.sums.area in
+    let P : Option Reason → Type 0 = λ (told : Option Reason). outcome_of told inner
+    ≡ last_round p c.args.cutoff (rounds_of 32 p c.args.cutoff (Kept area)) in
+    let t = tightened_as p c.args.cutoff area (Kept inner) c.requires.can c.requires.some
+    (subst P c.in-None.is c.in_ok-propagate.ensures.value) in
+    subst (AreClosed c.args.choosing.closed) (sym c.sides.ensures)
+    (closed_below c.args.choosing.closed inner area t.below c.requires.closed)
+
 pub returns-in_ok-seen-in-None-clause-seen : goal.returns-in_ok-seen-in-None-clause-seen
 returns-in_ok-seen-in-None-clause-seen c =
     let p = c.args.problem.now in
@@ -38,6 +52,6 @@ returns-in_ok-seen-in-None-clause-seen c =
     ≡ last_round p c.args.cutoff (rounds_of 32 p c.args.cutoff (Kept area)) in
     let t = tightened_as p c.args.cutoff area (Kept inner) c.requires.can c.requires.some
     (subst P c.in-None.is c.in_ok-propagate.ensures.value) in
-    let Q : List Interval → Type 0 = λ (a : List Interval). IsInSight c.args.guide.now a c.in_ok-seen-in-None.seen in
-    seen_inside p c.args.cutoff c.args.guide.now area c.propagate.new.work c.in_ok-seen-in-None.seen c.requires.can t
+    let Q : List Interval → Type 0 = λ (a : List Interval). IsInSight c.args.choosing.guide.now a c.in_ok-seen-in-None.seen in
+    seen_inside p c.args.cutoff c.args.choosing.guide.now area c.propagate.new.work c.in_ok-seen-in-None.seen c.requires.can t
     c.propagate.ensures.went.working (subst Q c.sides.ensures c.in_ok-seen-in-None.ensures)

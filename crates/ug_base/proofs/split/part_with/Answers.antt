@@ -1,8 +1,10 @@
-use Rattle.std.proofs.Common.{◌∙◌, ap, sym, subst, arith}
+use Rattle.std.proofs.Common.{◌∙◌, ap, sym, subst, set, ℕ, arith}
 use Rattle.std.proofs.lemmas.Int.{ints}
 use Rattle.ug_propagate.specs.declared.resting.Rest.{Rest}
 use Rattle.ug_propagate.specs.Working.{AllRest}
 use Rattle.ug_base.specs.declared.part.Part.{Part}
+use Rattle.ug_branch.specs.Choices.{AreClosed}
+use Rattle.ug_base.proofs.Closed.{closed_set}
 use Rattle.ug_base.proofs.Splits.{part_here}
 use Rattle.ug_base.proofs.split.part_with.Goals as goal
 
@@ -16,3 +18,6 @@ returns-clause-part c =
     c.requires.below c.requires.inner c.requires.some
     (subst (λ (r : Rest). AllRest p r work.sums.area) (sym (ap (λ (q : Part). q.rest) is)) c.requires.rest)
     (ap (λ (q : Part). q.floor) is ∙ omega (arith, ints, c.floor_with-floor.ensures))
+    (subst (λ (n : ℕ). AreClosed n (set work.sums.area c.args.column c.args.side)) (sym (ap (λ (q : Part). q.closed) is))
+    (closed_set c.args.known.closed work.sums.area c.args.column c.args.side c.requires.some
+    (omega (arith, c.requires.there, c.requires.base.box.sums.width)) c.requires.inner c.requires.closed))

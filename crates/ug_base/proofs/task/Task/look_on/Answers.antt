@@ -10,6 +10,7 @@ use Rattle.ug_base.specs.declared.step.Step.TheVariants.{Found, Split, Empty}
 use Rattle.ug_base.specs.Tasks.{IsTask, TaskState}
 use Rattle.ug_base.specs.Views.{state_of}
 use Rattle.ug_base.proofs.Chains.{chain_front}
+use Rattle.ug_base.proofs.Closed.{left_closed}
 use Rattle.ug_base.proofs.StepLemmas.{after_halved, after_hopeless, after_solved, found_step, last_below, last_of_fields, last_ready, left_below, left_dropped_less, left_halved_less, pruned_step, some_left, split_step}
 use Rattle.ug_base.proofs.TaskLemmas.{same_task, searches_found}
 use Rattle.ug_base.proofs.Through.{follows_of, good_halves, leaves, leaves_none, none_good, only_good, point_left, root_same}
@@ -82,6 +83,15 @@ split_last-requires-clause-below c =
     let P : Seen → Type 0 = λ (seen : Seen). IsSeen s t.cutoff t.params (area_of c.self.inside.work c.in-Some.last) after seen in
     left_below t s c.self.inside.work after c.self.inside.parts.items c.in-Some.last c.in-Halved.halving refl c.self.invariant.task
     c.in-Some.ensures (subst P c.in-Halved.is c.in_ok-look_last.ensures.seen)
+
+pub split_last-requires-clause-closed : goal.split_last-requires-clause-closed
+split_last-requires-clause-closed c =
+    let t = state_of c.self.inside in
+    let s = c.self.inside.formulation.searched in
+    let after = c.look_last.new.work in
+    let P : Seen → Type 0 = λ (seen : Seen). IsSeen s t.cutoff t.params (area_of c.self.inside.work c.in-Some.last) after seen in
+    left_closed s t.whole t.cutoff t.params c.self.inside.work after c.self.inside.parts.items c.in-Some.last c.in-Halved.halving
+    c.self.invariant.chain c.in-Some.ensures (subst P c.in-Halved.is c.in_ok-look_last.ensures.seen)
 
 pub invariant_of-self-in_err-split_last-in-Halved : goal.invariant_of-self-in_err-split_last-in-Halved
 invariant_of-self-in_err-split_last-in-Halved c =

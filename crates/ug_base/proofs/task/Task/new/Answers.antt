@@ -21,6 +21,7 @@ invariant_of-result c =
             cut = None;
             floor = box_floor p.objective work.sums.area;
             rest = Unknown;
+            closed = 0;
           } ∷ []) c.problem-3.ensures.value c.in-Ok.ensures.parts)
           (subst (λ (p : Instance). IsBox p work) c.problem-3.ensures.value c.in-Ok.ensures.work) c.in-Ok.ensures.trail c.in-Ok.ensures.area;
       searched = searches_itself c.args.params.base c.args.problem c.args.whole c.args.cutoff;
