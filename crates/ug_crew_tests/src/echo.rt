@@ -1,3 +1,4 @@
+use std::alloc::AllocGlobal;
 use std::net::Net;
 use std::thread;
 use std::time::{Clock, Duration};
@@ -5,7 +6,7 @@ use ug_io::{Got, Link};
 use ug_real::SocketLink;
 
 // Writes all of the bytes.
-fn tell<R: Net>(link: &mut SocketLink<'_, R>, bytes: &[u8]) -> bool {
+fn tell<R: Net + Clock>(link: &mut SocketLink<'_, R>, bytes: &[u8]) -> bool {
     let mut at = 0usize;
     for _ in 0..u64::MAX {
         let rest = bytes.get(at..).unwrap_or(&[]);
@@ -26,7 +27,7 @@ fn stay<R: Clock>(rt: &R) {
 }
 
 // Says the bytes 'a' to 'g' over and over, until its link ends.
-fn talk<R: Net>(link: &mut SocketLink<'_, R>) {
+fn talk<R: Net + Clock>(link: &mut SocketLink<'_, R>) {
     let mut bytes = [0u8; 3500];
     for (at, byte) in bytes.iter_mut().enumerate() {
         *byte = b'a' + (at % 7) as u8;
@@ -42,8 +43,8 @@ fn talk<R: Net>(link: &mut SocketLink<'_, R>) {
 /// begins with 'h' it closes its link and stays, and where one does with 's' it stays and takes
 /// nothing, and where one does with 't' it talks on without an end: so such a byte is told once all
 /// before it was said back.
-pub fn echo<R: Net + Clock>(rt: &R, path: &str) {
-    let mut link = SocketLink::new(rt, path);
+pub fn echo<R: Net + Clock + AllocGlobal>(rt: &R, path: &str) {
+    let mut link = SocketLink::new(rt, rt.alloc(), path);
     let mut buffer = [0u8; 4096];
     for _ in 0..u64::MAX {
         let count = match link.read(&mut buffer, true) {

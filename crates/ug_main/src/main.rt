@@ -223,11 +223,13 @@ where
 }
 
 // The link of a solver that works for a coordinator.
-fn link_of<'a, R: Net>(rt: &'a R, plan: Option<Plan<'a>>) -> Option<SocketLink<'a, R>>
+fn link_of<'a, R>(rt: &'a R, plan: Option<Plan<'a>>) -> Option<SocketLink<'a, R>>
+where
+    R: Net + Clock + AllocGlobal,
     ensures { IfSome plan.entry (λ p. HasLinkFor (needs_of p).link (seen_if link_seen result)) }
 {
     match plan {
-        Some(Plan::Worker(worker)) => Some(SocketLink::new(rt, worker.socket)),
+        Some(Plan::Worker(worker)) => Some(SocketLink::new(rt, rt.alloc(), worker.socket)),
         Some(Plan::Solve(_) | Plan::Restart(_) | Plan::Show(_) | Plan::Gen(_)) | None => None,
     }
 }

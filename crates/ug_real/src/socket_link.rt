@@ -2,40 +2,62 @@ ghost use Rattle.std.specs.Prelude.{◌≡◌, ◌≤◌, None, true, false, len
 
 use crate::again;
 use crate::faults::Faults;
+use std::alloc::Global;
 use std::io;
-use std::io::ErrorKind;
+use std::io::{BufWriter, ErrorKind, Write};
 use std::net::Net;
 use std::os::unix::net::UnixStream;
+use std::time::{Clock, Duration, Instant};
 use ug_io::{Failed, Got, Link};
 
+/// How many bytes may wait to be written.
+const HELD: usize = 8_192;
+
+/// For how many microseconds what is written may wait for more, and what came is not looked for
+/// again. A round of a small problem takes a few, and a call of the system as many.
+const GATHER: u64 = 100;
+
 /// A worker's end of a Unix socket as a link. It connects at the first call; a failed connecting is
-/// a fault of that call.
+/// a fault of that call. What is written goes at the next read that waits, or that is the first in a
+/// while: to tell the system of each report would cost more than most reports do. Where it cannot go,
+/// that is a fault of the read.
 #[derive(Drop)]
 pub struct SocketLink<'a, R> {
     has_ended: bool,
     faults: Faults,
+    wire: Wire<'a, R>,
+}
+
+// A socket's path, and the connection to it once there is one.
+#[derive(Drop)]
+struct Wire<'a, R> {
     line: Option<Line>,
     path: &'a str,
+    alloc: Global,
     rt: &'a R,
 }
 
-// A connection, and whether its calls wait.
+// A connection, whether its calls wait, and when it was last looked at.
 #[derive(Drop)]
 struct Line {
-    stream: UnixStream,
+    stream: BufWriter<UnixStream, Global>,
     waits: bool,
+    looked: Option<Instant>,
 }
 
-impl<'a, R: Net> SocketLink<'a, R> {
-    /// The socket of this path. No call has failed yet.
-    pub fn new(rt: &'a R, path: &'a str) -> SocketLink<'a, R>
+impl<'a, R: Net + Clock> SocketLink<'a, R> {
+    /// The socket of this path. No call has failed yet. It takes memory once it connects.
+    pub fn new(rt: &'a R, alloc: Global, path: &'a str) -> SocketLink<'a, R>
         ensures ended { result.has_ended ≡ false }
         ensures faults { result.faults.count ≡ 0 }
     {
         SocketLink {
-            rt,
-            path,
-            line: None,
+            wire: Wire {
+                rt,
+                alloc,
+                path,
+                line: None,
+            },
             has_ended: false,
             faults: Faults::new(),
         }
@@ -51,10 +73,34 @@ impl Line {
     // Has its calls wait from now on, or not.
     fn set(&mut self, waits: bool) -> io::Result<()> {
         if waits != self.waits {
-            self.stream.set_nonblocking(!waits)?;
+            self.stream.get_ref().set_nonblocking(!waits)?;
             self.waits = waits;
         }
         Ok(())
+    }
+
+    // Whether some time has passed since the last look, which is noted then. Without a clock it has.
+    fn is_due(&mut self, clock: &impl Clock) -> bool {
+        let now = Instant::now(clock).ok();
+        if let (Some(looked), Some(now)) = (self.looked, now) {
+            if now.duration_since(looked) < Duration::from_micros(GATHER) {
+                return false;
+            }
+        }
+        self.looked = now;
+        true
+    }
+
+    // Writes what waits to be written, and waits where none can go.
+    fn flush(&mut self) -> io::Result<()> {
+        match self.stream.flush() {
+            Err(error) if error.kind() == ErrorKind::WouldBlock => {
+                drop(error);
+                self.set(true)?;
+                self.stream.flush()
+            }
+            got => got,
+        }
     }
 
     // Reads some bytes, and waits where none is there. What is there is read as the mode has it,
@@ -62,11 +108,12 @@ impl Line {
     fn wait(&mut self, buffer: &mut [u8]) -> io::Result<usize>
         ensures { IfOk result (λ n. n ≤ length buffer.new) }
     {
-        match again::read(&mut self.stream, buffer) {
+        self.flush()?;
+        match again::read(self.stream.get_mut(), buffer) {
             Err(error) if error.kind() == ErrorKind::WouldBlock => {
                 drop(error);
                 self.set(true)?;
-                again::read(&mut self.stream, buffer)
+                again::read(self.stream.get_mut(), buffer)
             }
             got => got,
         }
@@ -76,8 +123,9 @@ impl Line {
     fn look(&mut self, buffer: &mut [u8]) -> io::Result<Option<usize>>
         ensures { IfOk result (λ got. IfSome got (λ n. n ≤ length buffer.new)) }
     {
+        self.flush()?;
         self.set(false)?;
-        match again::read(&mut self.stream, buffer) {
+        match again::read(self.stream.get_mut(), buffer) {
             Ok(n) => Ok(Some(n)),
             Err(error) if error.kind() == ErrorKind::WouldBlock => {
                 drop(error);
@@ -87,7 +135,7 @@ impl Line {
         }
     }
 
-    // Writes some bytes, and waits where none can go.
+    // Takes some bytes to be written, and writes what waits where there is no room for them.
     fn write(&mut self, bytes: &[u8]) -> io::Result<usize>
         ensures { IfOk result (λ n. n ≤ length bytes.now) }
     {
@@ -102,63 +150,61 @@ impl Line {
     }
 }
 
-// The connection, made where it is not.
-fn connected<'a, R: Net>(
-    rt: &R,
-    path: &str,
-    line: &'a mut Option<Line>,
-) -> io::Result<&'a mut Line> {
-    match line {
-        Some(line) => Ok(line),
-        None => match UnixStream::connect(rt, path) {
-            Ok(stream) => Ok(line.insert(Line {
-                stream,
-                waits: true,
-            })),
+// A connection to the socket of a path.
+fn connected<R: Net>(rt: &R, alloc: Global, path: &str) -> io::Result<Line> {
+    let stream = UnixStream::connect(rt, path)?;
+    Ok(Line {
+        stream: BufWriter::with_capacity(alloc, HELD, stream)?,
+        waits: true,
+        looked: None,
+    })
+}
+
+impl<R: Net + Clock> Wire<'_, R> {
+    // The connection, made where it is not.
+    fn line(&mut self) -> io::Result<&mut Line> {
+        match &mut self.line {
+            Some(line) => Ok(line),
+            none => match connected(self.rt, self.alloc, self.path) {
+                Ok(line) => Ok(none.insert(line)),
+                Err(error) => Err(error),
+            },
+        }
+    }
+
+    // Reads some bytes, or none where it is not to wait and none is there, or where it looked a
+    // moment ago.
+    fn read(&mut self, buffer: &mut [u8], wait: bool) -> io::Result<Option<usize>>
+        ensures count { IfOk result (λ got. IfSome got (λ n. n ≤ length buffer.new)) }
+        ensures waits { IfOk result (λ got. wait ≡ true → IsSome got) }
+    {
+        let clock = self.rt;
+        let line = self.line()?;
+        if wait {
+            line.wait(buffer).map(Some)
+        } else if line.is_due(clock) {
+            line.look(buffer)
+        } else {
+            Ok(None)
+        }
+    }
+
+    // Takes some bytes to be written.
+    fn write(&mut self, bytes: &[u8]) -> io::Result<usize>
+        ensures { IfOk result (λ n. n ≤ length bytes.now) }
+    {
+        match self.line() {
+            Ok(line) => line.write(bytes),
             Err(error) => Err(error),
-        },
+        }
     }
 }
 
-// Reads some bytes of the connection, or none where none is there and it is not to wait.
-fn read_some<R: Net>(
-    rt: &R,
-    path: &str,
-    line: &mut Option<Line>,
-    buffer: &mut [u8],
-    wait: bool,
-) -> io::Result<Option<usize>>
-    ensures count { IfOk result (λ got. IfSome got (λ n. n ≤ length buffer.new)) }
-    ensures waits { IfOk result (λ got. wait ≡ true → IsSome got) }
-{
-    let line = connected(rt, path, line)?;
-    if wait {
-        line.wait(buffer).map(Some)
-    } else {
-        line.look(buffer)
-    }
-}
-
-// Writes some bytes to the connection.
-fn write_some<R: Net>(
-    rt: &R,
-    path: &str,
-    line: &mut Option<Line>,
-    bytes: &[u8],
-) -> io::Result<usize>
-    ensures { IfOk result (λ n. n ≤ length bytes.now) }
-{
-    match connected(rt, path, line) {
-        Ok(line) => line.write(bytes),
-        Err(error) => Err(error),
-    }
-}
-
-impl<R: Net> Link for SocketLink<'_, R> {
+impl<R: Net + Clock> Link for SocketLink<'_, R> {
     ghost seen = { λ l. record { said = None; ended = l.has_ended; faults = l.faults.count } };
 
     fn read(&mut self, buffer: &mut [u8], wait: bool) -> Result<Got, Failed> {
-        match read_some(self.rt, self.path, &mut self.line, buffer, wait) {
+        match self.wire.read(buffer, wait) {
             Ok(Some(0)) => {
                 self.has_ended = true;
                 Ok(Got::End)
@@ -170,7 +216,7 @@ impl<R: Net> Link for SocketLink<'_, R> {
     }
 
     fn write(&mut self, bytes: &[u8]) -> Result<usize, Failed> {
-        match write_some(self.rt, self.path, &mut self.line, bytes) {
+        match self.wire.write(bytes) {
             Ok(0) if !bytes.is_empty() => {
                 Err(self.faults.add(io::Error::from(ErrorKind::WriteZero)))
             }
