@@ -1,5 +1,5 @@
 -- Handing keeps what every task is.
-use Rattle.std.proofs.Common.{◌≡◌, inl, inr, List, [], ◌∷◌, ◌++◌, sym, ap, ◌∙◌, subst}
+use Rattle.std.proofs.Common.{◌≡◌, inl, inr, List, [], ◌∷◌, ◌++◌, sym, ◌∙◌, subst}
 use Rattle.std.proofs.lemmas.List.Elements.{All-append, All-cons, All-head, All-nil, All-tail}
 use Rattle.ug_rows.specs.declared.area.Interval.{Interval}
 use Rattle.ug_rows.specs.Boxes.{IsBelow, IsInOne}
@@ -50,12 +50,11 @@ pub handed_task : (t : TaskState) (work : WorkState) (old new : List Part) (hand
     → IsTask (record t { boxes = areas_of work new; handed = handed })
 handed_task t work old new handed area same task m =
     handed_task_by t (areas_of work new) handed area task (record {
-      first = same ∙ ap (areas_of work) m.first ∙ ap (λ (a : List Interval). a ∷ areas_of work new) (sym m.area_is);
+      first = same ∙ m.boxes;
       last = m.last;
     })
 
 -- the first of the boxes left is handed
 pub handed_first : (work : WorkState) (old new : List Part) (handed_old handed_new : List (List Interval)) (area : List Interval)
     → IsMoved work old new handed_old handed_new area → areas_of work old ≡ area ∷ areas_of work new
-handed_first work old new handed_old handed_new area m =
-    ap (areas_of work) m.first ∙ ap (λ (a : List Interval). a ∷ areas_of work new) (sym m.area_is)
+handed_first work old new handed_old handed_new area m = m.boxes

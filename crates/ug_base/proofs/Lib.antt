@@ -1,6 +1,7 @@
 pub mod Measures
 pub mod Sight
 pub mod LastBox
+pub mod Leasts
 pub mod Chains
 pub mod Closed
 pub mod Floors

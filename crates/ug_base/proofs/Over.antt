@@ -17,6 +17,7 @@ use Rattle.ug_branch.specs.Choices.{AreClosed}
 use Rattle.ug_base.specs.declared.part.Narrowing.{Narrowing}
 use Rattle.ug_base.specs.declared.part.Part.{Part}
 use Rattle.ug_base.specs.Chains.{IsChain, IsCut, IsPart, Rise, area_of, areas_of, base_of, narrowed, no_part, unsettled}
+use Rattle.ug_base.proofs.Leasts.{leasts_unsettled}
 
 -- the first k parts are unsettled, and the others are as they were
 pub record AreUnsettledTo (k : ℕ) (old new : List Part) : Type 0 where
@@ -137,4 +138,5 @@ chain_over p s whole old new parts after columns objective problem wide below ov
       };
       each = parts_over p s whole old new parts columns objective over chain.each;
       rising = rise_over parts chain.rising;
+      leasts = leasts_unsettled None parts chain.leasts;
     })

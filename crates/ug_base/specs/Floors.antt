@@ -1,7 +1,8 @@
 -- The least of the floors of boxes.
-use Rattle.std.specs.Prelude.{◌≡◌, ℕ, ℤ, pos, ◌<◌, ◌≤ℤ◌, List, map, slice_index_or, Option, Some}
-use Rattle.std.specs.Prelude.{None}
+use Rattle.std.specs.Prelude.{◌≡◌, ℕ, ℤ, pos, ◌<◌, ◌≤ℤ◌, List, [], ◌∷◌, map, slice_index_or, Option}
+use Rattle.std.specs.Prelude.{Some, None}
 use Rattle.ug_base.specs.declared.part.Part.{Part}
+use Rattle.ug_base.specs.Tasks.{lesser_of}
 
 -- the floors that are kept beside the boxes
 abbrev pub floors_of : List Part → List ℤ
@@ -22,3 +23,24 @@ pub record IsLeastOf (floors : List ℤ) (n : ℕ) (low : ℤ) : Type 0 where
 abbrev pub IsLeastSoFar : List ℤ → ℕ → Option ℤ → Type 0
 IsLeastSoFar floors n None = n ≡ 0
 IsLeastSoFar floors n (Some low) = IsLeastOf floors n low
+
+-- the part, with the lesser of a floor, if there is one, and its own as the least
+abbrev pub with_least : Option ℤ → Part → Part
+with_least before part = record part { least = lesser_of before part.floor }
+
+-- the parts, each with the lesser of the least before it, if there is one, and its own floor
+abbrev pub renewed : Option ℤ → List Part → List Part
+renewed before [] = []
+renewed before (part ∷ parts) =
+    with_least before part ∷ renewed (Some (lesser_of before part.floor)) parts
+
+-- the least of each part is the lesser of the least before it, if there is one, and its own floor
+abbrev pub AreLeasts : Option ℤ → List Part → Type 0
+AreLeasts before [] = Unit {0}
+AreLeasts before (part ∷ parts) =
+    (part.least ≡ lesser_of before part.floor) × AreLeasts (Some part.least) parts
+
+-- the least of the last part, or what was before the first
+abbrev pub least_of : Option ℤ → List Part → Option ℤ
+least_of before [] = before
+least_of before (part ∷ parts) = least_of (Some part.least) parts

@@ -5,16 +5,19 @@ use Rattle.ug_rows.specs.declared.area.Interval.{Interval}
 use Rattle.ug_base.specs.declared.handed.Handed.{Handed}
 use Rattle.ug_base.specs.declared.part.Part.{Part}
 use Rattle.ug_propagate.specs.Working.{WorkState}
-use Rattle.ug_base.specs.Chains.{area_of}
+use Rattle.ug_base.specs.Chains.{areas_of}
+use Rattle.ug_base.specs.Floors.{renewed}
 use Rattle.ug_base.specs.Points.{measure_of}
 use Rattle.ug_base.specs.Tasks.{TaskState}
 
--- the box of the first part is moved behind other boxes
+-- the box of the first part is moved behind other boxes, and the other parts are renewed
 pub record IsMoved (work : WorkState) (old new : List Part)
     (others_old others_new : List (List Interval)) (area : List Interval) : Type 0 where
   pub part : Part
-  pub first : old ≡ part ∷ new
-  pub area_is : area ≡ area_of work part
+  pub rest : List Part
+  pub first : old ≡ part ∷ rest
+  pub left : new ≡ renewed None rest
+  pub boxes : areas_of work old ≡ area ∷ areas_of work new
   pub last : others_new ≡ others_old ++ area ∷ []
 
 -- the first of the boxes left is handed, and its number is its place among the boxes handed;

@@ -1,7 +1,9 @@
-ghost use Rattle.std.specs.Prelude.{◌≡◌, ◌<◌, ◌++◌, ◌∷◌, [], length, map, MatchOption, IfOk, OnOk, OnErr};
+ghost use Rattle.std.specs.Prelude.{◌≡◌, ◌<◌, ◌++◌, ◌∷◌, [], length, map, None, MatchOption, IfOk, OnOk, OnErr};
 ghost use Rattle.ug_base.specs.Chains.{unsettled};
+ghost use Rattle.ug_base.specs.Floors.{least_of, renewed};
 ghost use Rattle.ug_base.specs.Fronts.{front_of};
 
+use crate::lowest::{least_before_last, renewed_part};
 use crate::part::Part;
 use std::alloc::AllocError;
 use ug_propagate::Rest;
@@ -22,15 +24,18 @@ pub fn drop_last(parts: &mut Vec<Part>)
     parts.pop();
 }
 
-/// Puts two parts in the last one's place, the first the last. After an error the parts are as they
-/// were.
-#[tactic(auto, using(crate::proofs::LastBox::halves_put))]
+/// Puts two parts in the last one's place, the first the last, each with the least floor up to it.
+/// After an error the parts are as they were.
+#[tactic(auto, using(crate::proofs::Leasts::halves_renewed))]
 pub fn replace_last(parts: &mut Vec<Part>, first: Part, second: Part) -> Result<(), AllocError>
     requires { 0 < length parts.old.items }
-    ensures ok { OnOk result (parts.new.items ≡ front_of parts.old.items ++ second ∷ first ∷ []) }
+    ensures ok { OnOk result (parts.new.items ≡ front_of parts.old.items
+        ++ renewed (least_of None (front_of parts.old.items)) (second ∷ first ∷ [])) }
     ensures err { OnErr result (parts.new.items ≡ parts.old.items) }
 {
     let at = parts.len() - 1;
+    let second = renewed_part(least_before_last(parts), second);
+    let first = renewed_part(Some(second.least), first);
     parts.push(first)?;
     parts[at] = second;
     Ok(())

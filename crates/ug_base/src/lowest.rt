@@ -1,7 +1,9 @@
-ghost use Rattle.std.specs.Prelude.{◌≡◌, ◌<◌, ◌+◌, ◌↔◌, [], IsNone, IfSome, length};
-ghost use Rattle.ug_base.specs.Floors.{IsLeastOf, IsLeastSoFar, floors_of};
+ghost use Rattle.std.specs.Prelude.{◌≡◌, ◌<◌, ◌+◌, ◌↔◌, [], None, IsNone, IfSome, length};
+ghost use Rattle.ug_base.specs.Floors.{AreLeasts, IsLeastOf, floors_of, least_of, renewed, with_least};
+ghost use Rattle.ug_base.specs.Fronts.{front_of};
 ghost use Rattle.ug_base.specs.Tasks.{lesser_of};
 
+use crate::boxes::last_of;
 use crate::part::Part;
 
 /// The lesser of a number, if there is one, and another.
@@ -14,33 +16,59 @@ pub fn lesser(before: Option<i128>, given: i128) -> i128
     }
 }
 
-// The least floor of the parts up to part k.
-#[tactic(auto, using(crate::proofs::Floors::lowest_next))]
-fn lowest_with(parts: &[Part], lowest: Option<i128>, k: usize) -> i128
-    requires there { k < length parts.now }
-    requires so_far { IsLeastSoFar (floors_of parts.now) k lowest }
-    ensures { IsLeastOf (floors_of parts.now) (k + 1) result }
+// The least floor of the parts up to this one.
+fn least_up_to(part: Part) -> i128
+    ensures { result ≡ part.least }
 {
-    lesser(lowest, parts[k].floor)
+    part.least
 }
 
-// The least floor of the parts, if there is one.
-#[tactic(auto, using(crate::proofs::Floors::lowest_none))]
-fn least_floor(parts: &[Part]) -> Option<i128>
-    ensures none { IsNone result ↔ (parts.now ≡ []) }
-    ensures some { IfSome result (IsLeastOf (floors_of parts.now) (length parts.now)) }
+/// A part with the lesser of the least floor before it, if there is one, and its own.
+pub fn renewed_part(before: Option<i128>, part: Part) -> Part
+    ensures { result ≡ with_least before part }
 {
-    let mut lowest = None;
-    for k in 0..parts.len() {
-        lowest = Some(lowest_with(parts, lowest, k));
+    Part {
+        least: lesser(before, part.floor),
+        ..part
     }
-    lowest
 }
 
-/// The least floor of the parts, if there is one. It takes no memory.
+/// The least floor of the parts before the last, if there is one.
+pub fn least_before_last(parts: &Vec<Part>) -> Option<i128>
+    requires { 0 < length parts.now.items }
+    ensures { result ≡ least_of None (front_of parts.now.items) }
+{
+    let last = parts.len() - 1;
+    if last > 0 {
+        Some(least_up_to(parts[last - 1]))
+    } else {
+        None
+    }
+}
+
+/// Takes the least floor up to each part anew. It passes all parts, and takes no memory.
+#[tactic(auto, using(crate::proofs::Leasts::none_renewed, crate::proofs::Leasts::all_renewed))]
+pub fn renew(parts: &mut Vec<Part>)
+    ensures { parts.new.items ≡ renewed None parts.old.items }
+{
+    let mut before = None;
+    for k in 0..parts.len() {
+        let part = renewed_part(before, parts[k]);
+        parts[k] = part;
+        before = Some(least_up_to(part));
+    }
+}
+
+/// The least floor of the parts, if there is one. It takes no memory, and looks at the last part
+/// alone.
+#[tactic(auto, using(crate::proofs::Floors::some_parts))]
 pub fn lowest_floor(parts: &Vec<Part>) -> Option<i128>
+    requires { AreLeasts None parts.now.items }
     ensures none { IsNone result ↔ (parts.now.items ≡ []) }
     ensures some { IfSome result (IsLeastOf (floors_of parts.now.items) (length parts.now.items)) }
 {
-    least_floor(parts.as_slice())
+    match last_of(parts) {
+        Some(last) => Some(least_up_to(last)),
+        None => None,
+    }
 }

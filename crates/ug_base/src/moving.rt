@@ -3,6 +3,7 @@ ghost use Rattle.ug_propagate.specs.Working.{undone};
 ghost use Rattle.ug_base.specs.Chains.{area_of, areas_of, narrowed, no_part};
 ghost use Rattle.ug_base.specs.Hands.{IsMoved};
 
+use crate::lowest::renew;
 use crate::part::{Narrowing, Part};
 use std::alloc::{AllocError, Global};
 use ug_propagate::{Trailed, Working};
@@ -44,6 +45,14 @@ pub fn box_of(alloc: Global, work: &Working, part: Part) -> Result<IntBox, Alloc
     Ok(IntBox::from_vec(sides))
 }
 
+// A copy of a box.
+fn copy_of(area: &IntBox) -> Result<IntBox, AllocError>
+    ensures { IfOk result (λ copy. copy ≡ area.now) }
+{
+    let copy = area.clone()?;
+    Ok(copy)
+}
+
 /// Moves the box of the first part behind other boxes, and gives a copy of it. After an error all
 /// are as they were.
 pub fn move_first(
@@ -62,9 +71,10 @@ pub fn move_first(
     let first = 0;
     // All memory is taken before a box is moved.
     let area = box_of(alloc, work, parts[first])?;
-    let copy = area.clone()?;
+    let copy = copy_of(&area)?;
     others.reserve(1)?;
     others.push_reserved(area);
     parts.remove(first);
+    renew(parts);
     Ok(copy)
 }

@@ -125,6 +125,7 @@ fn part_of(depth: usize, column: u32, side: Interval, floor: i128, known: Known)
       depth = depth;
       cut = Some (record { column = column; side = side });
       floor = floor;
+      least = floor;
       rest = known.rest;
       closed = known.closed;
     } }
@@ -133,6 +134,8 @@ fn part_of(depth: usize, column: u32, side: Interval, floor: i128, known: Known)
         depth,
         cut: Some(Narrowing { column, side }),
         floor,
+        // Where it is put among others, that of those before it counts too.
+        least: floor,
         rest: known.rest,
         closed: known.closed,
     }

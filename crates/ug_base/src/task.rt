@@ -68,14 +68,17 @@ fn only_part(work: &Working, problem: &Problem) -> Part
       depth = 0;
       cut = None;
       floor = box_floor problem.now.objective work.now.sums.area;
+      least = box_floor problem.now.objective work.now.sums.area;
       rest = Unknown;
       closed = 0;
     } }
 {
+    let floor = work.floor(problem);
     Part {
         depth: 0,
         cut: None,
-        floor: work.floor(problem),
+        floor,
+        least: floor,
         rest: Rest::Unknown,
         closed: 0,
     }
@@ -89,6 +92,7 @@ fn only_left(alloc: Global, work: &Working, problem: &Problem) -> Result<Vec<Par
           depth = 0;
           cut = None;
           floor = box_floor problem.now.objective work.now.sums.area;
+          least = box_floor problem.now.objective work.now.sums.area;
           rest = Unknown;
           closed = 0;
         } ∷ []) }
@@ -116,6 +120,7 @@ fn begun(alloc: Global, problem: &Problem, whole: &IntBox) -> Result<Beginning, 
           depth = 0;
           cut = None;
           floor = box_floor problem.now.objective b.work.sums.area;
+          least = box_floor problem.now.objective b.work.sums.area;
           rest = Unknown;
           closed = 0;
         } ∷ []) }
@@ -390,8 +395,8 @@ impl Task {
         self.parts.len() as u64
     }
 
-    /// The least value that the objective could have in a box left. It takes no memory: the floor
-    /// of a box is kept beside it.
+    /// The least value that the objective could have in a box left. It takes no memory: the least
+    /// floor of the boxes up to each is kept beside it.
     pub fn lowest(&mut self) -> Option<i128>
         ensures same { self.new ≡ self.old }
         ensures none { IsNone result ↔ (self.old.boxes ≡ []) }

@@ -10,7 +10,7 @@ invariant_of-self-2 c =
     let m = c.in_ok-area.ensures.ok in
     record {
       task = handed_task t c.self.inside.work c.self.inside.parts.items _ _ c.in_ok-area.area refl c.self.invariant.task m;
-      chain = chain_rest c.self.inside.formulation.searched c.self.inside.whole c.self.inside.work m.part c.self.inside.parts.items _
-          c.self.invariant.chain m.first;
+      chain = chain_rest c.self.inside.formulation.searched c.self.inside.whole c.self.inside.work m.part c.self.inside.parts.items m.rest _
+          c.self.invariant.chain m.first m.left;
       searched = c.self.invariant.searched;
     }

@@ -1,4 +1,6 @@
-use Rattle.std.proofs.Common.{◌≡◌, ◌↔◌, ◌<◌, List, [], refl, rules, subst, sym}
+use Rattle.std.proofs.Common.{◌≡◌, ◌∙◌, ◌↔◌, ◌<◌, List, [], ap, length, refl, rules, subst, sym}
+use Rattle.std.proofs.lemmas.List.{length-map}
+use Rattle.ug_problem.specs.Instances.{Instance, bounds_of}
 use Rattle.ug_base.specs.declared.look.Seen.{Seen}
 use Rattle.ug_base.specs.declared.part.Part.{Part}
 use Rattle.ug_base.specs.Chains.{IsChain, area_of, areas_of}
@@ -13,7 +15,7 @@ use Rattle.ug_base.proofs.Chains.{chain_front}
 use Rattle.ug_base.proofs.Closed.{left_closed}
 use Rattle.ug_base.proofs.StepLemmas.{after_halved, after_hopeless, after_solved, found_step, last_below, last_of_fields, last_ready, left_below, left_dropped_less, left_halved_less, pruned_step, some_left, split_step}
 use Rattle.ug_base.proofs.TaskLemmas.{same_task, searches_found}
-use Rattle.ug_base.proofs.Through.{follows_of, good_halves, leaves, leaves_none, none_good, only_good, point_left, root_same}
+use Rattle.ug_base.proofs.Through.{follows_of, good_back, good_halves, leaves, leaves_none, none_good, only_good, point_left, root_same}
 use Rattle.ug_base.proofs.task.Task.look_on.Goals as goal
 
 pub look_last-requires-clause-below : goal.look_last-requires-clause-below
@@ -74,6 +76,19 @@ invariant_of-self-in-Solved c =
       searched = searches_found t s c.in-Solved.point c.cutoff_at-cutoff.result c.self.invariant.task only.good (search rules)
           c.self.invariant.searched;
     }
+
+pub cutoff_at-cutoff-requires-clause-width : goal.cutoff_at-cutoff-requires-clause-width
+cutoff_at-cutoff-requires-clause-width c =
+    let t = state_of c.self.inside in
+    let s = c.self.inside.formulation.searched in
+    let after = c.look_last.new.work in
+    let area = area_of c.self.inside.work c.in-Some.last in
+    let P : Seen → Type 0 = λ (seen : Seen). IsSeen s t.cutoff t.params area after seen in
+    let seen = subst P c.in-Solved.is c.in_ok-look_last.ensures.seen in
+    let good = good_back t.problem t.whole t.cutoff s c.in-Solved.point
+    (follows_of t.params.base t.problem t.whole t.cutoff s c.self.invariant.searched) seen.only.good in
+    good.feasible.inside.width ∙ length-map t.problem.columns bounds_of
+    ∙ ap (λ (p : Instance). length p.columns) (sym c.problem.ensures.value)
 
 pub split_last-requires-clause-below : goal.split_last-requires-clause-below
 split_last-requires-clause-below c =

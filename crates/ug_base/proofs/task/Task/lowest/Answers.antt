@@ -3,6 +3,9 @@ use Rattle.ug_base.proofs.Through.{follows_of}
 use Rattle.ug_base.proofs.Floors.{lowest_bounds, lowest_of, lowest_small}
 use Rattle.ug_base.proofs.task.Task.lowest.Goals as goal
 
+pub lowest_floor-requires : goal.lowest_floor-requires
+lowest_floor-requires c = c.self.invariant.chain.leasts
+
 pub returns-clause-some : goal.returns-clause-some
 returns-clause-some c = rw (← c.self.view_is)
     (lowest_of c.self.inside.formulation.problem c.self.inside.formulation.searched c.self.inside.whole c.self.inside.work c.self.inside.parts.items _

@@ -20,6 +20,7 @@ invariant_of-result c =
             depth = 0;
             cut = None;
             floor = box_floor p.objective work.sums.area;
+            least = box_floor p.objective work.sums.area;
             rest = Unknown;
             closed = 0;
           } ∷ []) c.problem-3.ensures.value c.in-Ok.ensures.parts)
