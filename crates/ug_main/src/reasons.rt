@@ -3,6 +3,7 @@ use std::io;
 use std::io::{Eprint, Write};
 use std::net::Net;
 use std::rt::Files;
+use std::time::Clock;
 use ug_real::{FileDisk, Reader, RealFolder, SocketLink, Writer};
 
 /// What keeps why a call on it failed.
@@ -29,7 +30,7 @@ impl<R: Files<File = File> + Eprint> Reasons for FileDisk<RealFolder<'_, R>> {
     }
 }
 
-impl<R: Net> Reasons for SocketLink<'_, R> {
+impl<R: Net + Clock> Reasons for SocketLink<'_, R> {
     fn reason(&self) -> Option<&io::Error> {
         self.error()
     }

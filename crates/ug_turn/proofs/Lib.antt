@@ -1,0 +1,7 @@
+mod Lists
+mod Keeping
+mod Putting
+mod Sharing
+mod Ends
+mod Making
+pub mod Calling

@@ -1,0 +1,26 @@
+//! A lock by turns round one value, which tells the history that it stands for.
+//! Who wants the value draws a number, waits for it to be served, and passes the turn on.
+//! The history stands in proofs alone: what each seat has seen of it is a beginning of it, and the
+//! entries of each pass are the pass's own calls, each once. Beside the lock stands a cutoff, which
+//! only falls and is read without a turn.
+#![tactic(auto)]
+
+mod bells;
+mod closing;
+mod held;
+mod lasting;
+mod notes;
+mod opening;
+mod plays;
+mod reading;
+mod rule;
+mod seat;
+mod steps;
+mod taking;
+mod turn;
+mod view;
+
+pub use lasting::Lasting;
+pub use seat::{Seat, SeatOf};
+pub use turn::Turn;
+pub use view::{Ended, View};
