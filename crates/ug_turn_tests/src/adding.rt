@@ -1,0 +1,144 @@
+ghost use Rattle.std.specs.Prelude.{◌≡◌, ◌+◌, ◌<◌, length, IfSome};
+ghost use mathlib.Core.List.{IsPrefix};
+ghost use Rattle.ug_turn.specs.Locks.{id_of};
+ghost use Rattle.ug_turn.specs.Seats.{IsAtRestAt, view_of};
+ghost use Rattle.ug_turn_tests.specs.Passes.{ArePasses, HasOut, IsPass};
+
+use crate::chronicle::{Chronicle, Entry};
+use std::sync::Wait;
+use std::thread::{Threads, join, sleep};
+use std::time::{Clock, Duration};
+use ug_turn::{SeatOf, Turn};
+
+/// The last of the seats that stand by the numbers of their passes.
+pub fn last_seat(
+    turn: &Turn<Chronicle>,
+    seats: &mut Vec<SeatOf<Chronicle>>,
+) -> Option<SeatOf<Chronicle>>
+    requires { ArePasses (id_of turn.now) seats.old.items }
+    ensures last { IfSome result (IsPass (id_of turn.now) (length seats.new.items)) }
+    ensures others { ArePasses (id_of turn.now) seats.new.items }
+    ensures count { IfSome result (λ _. length seats.new.items + 1 ≡ length seats.old.items) }
+{
+    let _turn = turn;
+    seats.pop()
+}
+
+/// The last two of the seats, by their order.
+pub fn last_two(
+    turn: &Turn<Chronicle>,
+    seats: &mut Vec<SeatOf<Chronicle>>,
+) -> Option<(SeatOf<Chronicle>, SeatOf<Chronicle>)>
+    requires { ArePasses (id_of turn.now) seats.old.items }
+    ensures first { IfSome result (λ two.
+        IsPass (id_of turn.now) (length seats.new.items) two.0) }
+    ensures second { IfSome result (λ two.
+        IsPass (id_of turn.now) (length seats.new.items + 1) two.1) }
+    ensures others { ArePasses (id_of turn.now) seats.new.items }
+    ensures count { IfSome result (λ _. length seats.new.items + 2 ≡ length seats.old.items) }
+{
+    let second = last_seat(turn, seats)?;
+    let first = last_seat(turn, seats)?;
+    Some((first, second))
+}
+
+/// Waits for the seat's turn and takes the value.
+pub fn take_out<R: Wait>(
+    rt: &R,
+    turn: &Turn<Chronicle>,
+    seat: &mut SeatOf<Chronicle>,
+) -> Chronicle
+    requires { IsAtRestAt (id_of turn.now) seat.old }
+    ensures out { HasOut (id_of turn.now) (view_of seat.old).pass seat.new result }
+    ensures begins { IsPrefix (view_of seat.old).seen (view_of seat.new).seen }
+{
+    turn.take(rt, seat)
+}
+
+/// Puts the value home with one entry more, and says whether there was memory for it.
+pub fn put_home(
+    turn: &Turn<Chronicle>,
+    seat: &mut SeatOf<Chronicle>,
+    mut value: Chronicle,
+    entry: Entry,
+) -> bool
+    requires { HasOut (id_of turn.now) entry.pass seat.old value }
+    ensures pass { IsPass (id_of turn.now) entry.pass seat.new }
+    ensures begins { IsPrefix (view_of seat.old).seen (view_of seat.new).seen }
+{
+    if value.entries.push(entry).is_err() {
+        turn.put(seat, value, None);
+        return false;
+    }
+    turn.put(seat, value, Some(entry));
+    true
+}
+
+/// Adds an entry in a turn of its own, and says whether there was memory for it.
+pub fn add<R: Wait>(
+    rt: &R,
+    turn: &Turn<Chronicle>,
+    seat: &mut SeatOf<Chronicle>,
+    entry: Entry,
+) -> bool
+    requires { IsPass (id_of turn.now) entry.pass seat.old }
+    ensures pass { IsPass (id_of turn.now) entry.pass seat.new }
+    ensures begins { IsPrefix (view_of seat.old).seen (view_of seat.new).seen }
+{
+    let value = take_out(rt, turn, seat);
+    put_home(turn, seat, value, entry)
+}
+
+/// Adds so many entries, and says whether there was memory.
+pub fn add_all<R: Wait>(
+    rt: &R,
+    turn: &Turn<Chronicle>,
+    mut seat: SeatOf<Chronicle>,
+    pass: u32,
+    count: u32,
+) -> bool
+    requires { IsPass (id_of turn.now) pass seat }
+{
+    for number in 0..count {
+        if !add(rt, turn, &mut seat, Entry { pass, number }) {
+            return false;
+        }
+    }
+    true
+}
+
+/// Keeps the value for a while, puts it home with one entry more, and says whether there was memory.
+pub fn hold<R: Clock>(
+    rt: &R,
+    turn: &Turn<Chronicle>,
+    mut seat: SeatOf<Chronicle>,
+    value: Chronicle,
+    entry: Entry,
+) -> bool
+    requires { HasOut (id_of turn.now) entry.pass seat value }
+{
+    sleep(rt, Duration::from_millis(100));
+    put_home(turn, &mut seat, value, entry)
+}
+
+/// Adds so many entries for each of two passes, in a thread each.
+pub fn add_by_two<R: Threads + Wait + Sync>(
+    rt: &R,
+    turn: &Turn<Chronicle>,
+    seats: (SeatOf<Chronicle>, SeatOf<Chronicle>),
+    pass: u32,
+    count: u32,
+) -> bool
+    requires small { pass < 100 }
+    requires first { IsPass (id_of turn.now) pass seats.0 }
+    requires second { IsPass (id_of turn.now) (pass + 1) seats.1 }
+{
+    let (one, two) = seats;
+    let next = pass + 1;
+    let (first, second) = join(
+        rt,
+        || add_all(rt, turn, one, pass, count),
+        || add_all(rt, turn, two, next, count),
+    );
+    first && second
+}
