@@ -43,11 +43,7 @@ pub fn last_two(
 }
 
 /// Waits for the seat's turn and takes the value.
-pub fn take_out<R: Wait>(
-    rt: &R,
-    turn: &Turn<Chronicle>,
-    seat: &mut SeatOf<Chronicle>,
-) -> Chronicle
+pub fn take_out<R: Wait>(rt: &R, turn: &Turn<Chronicle>, seat: &mut SeatOf<Chronicle>) -> Chronicle
     requires { IsAtRestAt (id_of turn.now) seat.old }
     ensures out { HasOut (id_of turn.now) (view_of seat.old).pass seat.new result }
     ensures begins { IsPrefix (view_of seat.old).seen (view_of seat.new).seen }

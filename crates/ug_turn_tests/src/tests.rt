@@ -13,6 +13,7 @@ use std::time::Clock;
 use ug_turn::{SeatOf, Turn};
 
 const TURNS: u32 = 20_000;
+
 const MORE_TURNS: u32 = 25_000;
 
 // A lock round a value without entries, and its seats.
@@ -85,15 +86,11 @@ fn crowd<R: Threads + Wait + Sync>(rt: &R, alloc: Global) -> Result<([u32; 4], u
         rt,
         || -> bool
             requires { IsPass (id_of shared.now) 0 first.0 × IsPass (id_of shared.now) 1 first.1 }
-        {
-            add_by_two(rt, shared, first, 0, MORE_TURNS)
-        },
+        { add_by_two(rt, shared, first, 0, MORE_TURNS) },
         || -> bool
             requires { IsPass (id_of shared.now) 2 second.0
                 × IsPass (id_of shared.now) 3 second.1 }
-        {
-            add_by_two(rt, shared, second, 2, MORE_TURNS)
-        },
+        { add_by_two(rt, shared, second, 2, MORE_TURNS) },
     );
     let value = take_out(rt, shared, &mut five);
     let entries = value.entries.as_slice();
