@@ -103,7 +103,7 @@ pub fn add_all<R: Wait>(
     true
 }
 
-/// Keeps the value for a while, puts it home with one entry more, and says whether there was memory.
+/// Keeps the value for a while and puts it home with one entry more, if there is memory for it.
 pub fn hold<R: Clock>(
     rt: &R,
     turn: &Turn<Chronicle>,
