@@ -31,8 +31,8 @@ pub record IsByParams (params : Params) (area : List Interval) (halving : Halvin
   pub chosen : IsChosen params area halving.branch
   pub first : halving.first ≡ params.half
 
--- a box may be halved so: as the params choose, or where the base takes rows that follow, at any open
--- column with either half first
+-- a box may be halved so: as the params choose, or where the base takes rows that follow, at any
+-- open column with either half first
 abbrev pub MayHalve : Base → Params → List Interval → Halving → Type 0
 MayHalve Bound params area halving = IsByParams params area halving
 MayHalve Surrogate params area halving = IsMidway area halving.branch

@@ -1,7 +1,7 @@
-//! How boxes are halved: by params, and in a search over more rows by the list of multipliers that was
-//! taken last. In the row that it implies, a column with a great factor costs most where it leaves the
-//! end at which its product is least: halved first, its other half is soon without a good point. What
-//! is searched for does not depend on it.
+//! How boxes are halved: by params, and in a search over more rows by the list of multipliers that
+//! was taken last. In the row that it implies, a column with a great factor costs most where it
+//! leaves the end at which its product is least: halved first, its other half is soon without a good
+//! point. What is searched for does not depend on it.
 
 ghost use Rattle.std.specs.Prelude.{◌≡◌, ◌↔◌, ◌≤◌, ◌^◌, length, IfSome, IsNone};
 ghost use Rattle.ug_branch.specs.Choices.{AreClosed, AreHalves, HasNoneOpen};
@@ -16,8 +16,8 @@ use ug_problem::Problem;
 use ug_rows::{Interval, Row};
 use ug_surrogate::{ImpliedError, Multipliers, are_of, implied};
 
-// A column as a list weighs it: how great its factor is, and the half at which its product is least,
-// if it has a factor.
+// A column as a list weighs it: how great its factor is, and the half at which its product is
+// least, if it has a factor.
 #[derive(Clone, Copy)]
 struct Leaning {
     column: usize,
@@ -84,8 +84,8 @@ fn row_of(alloc: Global, problem: &Problem, m: &Multipliers) -> Result<Option<Ro
     }
 }
 
-// The leanings of the columns under multipliers, the greatest factors first, or none where the row that
-// they imply is not within the limits.
+// The leanings of the columns under multipliers, the greatest factors first, or none where the row
+// that they imply is not within the limits.
 fn leanings_of(
     alloc: Global,
     problem: &Problem,
@@ -168,8 +168,8 @@ impl Guide {
         self.params
     }
 
-    /// Halves by these multipliers from now on, where the params let it. After an error all is as it
-    /// was.
+    /// Halves by these multipliers from now on, where the params let it. After an error all is as
+    /// it was.
     pub fn follow(
         &mut self,
         alloc: Global,
@@ -183,7 +183,7 @@ impl Guide {
         Ok(())
     }
 
-    // The halving at the open column with the greatest factor, if the params follow leanings to one.
+    // The halving at the open column with the greatest factor, if the params follow leanings.
     fn by_leanings(&self, sides: &[Interval]) -> Option<Halving>
         requires { length sides.now ≤ 10 ^ 4 }
         ensures { IfSome result (λ halving. IsMidway sides.now halving.branch) }

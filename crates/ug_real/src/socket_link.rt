@@ -18,9 +18,9 @@ const HELD: usize = 8_192;
 const GATHER: u64 = 100;
 
 /// A worker's end of a Unix socket as a link. It connects at the first call; a failed connecting is
-/// a fault of that call. What is written goes at the next read that waits, or that is the first in a
-/// while: to tell the system of each report would cost more than most reports do. Where it cannot go,
-/// that is a fault of the read.
+/// a fault of that call. What is written goes at the next read that waits, or that is the first in
+/// a while: to tell the system of each report would cost more than most reports do. Where it cannot
+/// go, that is a fault of the read.
 #[derive(Drop)]
 pub struct SocketLink<'a, R> {
     has_ended: bool,
