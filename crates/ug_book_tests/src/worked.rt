@@ -21,7 +21,7 @@ use ug_disk::{MemoryDisk, Script};
 use ug_mps::read;
 use ug_problem::{Problem, Shared};
 use ug_restart::{Host, Outcome, Unobserved};
-use ug_worker::{Visit, WorkerCrew};
+use ug_serve::{Visit, WorkerCrew};
 use ug_world::solve_by_workers;
 
 /// A disk on which nothing is.

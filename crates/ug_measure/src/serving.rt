@@ -11,7 +11,7 @@ use ug_problem::Problem;
 use ug_real::Reader;
 use ug_records::to_record;
 use ug_rows::Point;
-use ug_worker::{Served, serve};
+use ug_serve::{Served, serve};
 
 /// The longest record that a frame has room for.
 const LONGEST: usize = 67_108_843;

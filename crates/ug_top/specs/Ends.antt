@@ -21,10 +21,10 @@ use Rattle.ug_print.specs.Lines.{memory_line, read_fault_line}
 use Rattle.ug_print.specs.Faults.{fault_line}
 use Rattle.ug_print.specs.Checkpoints.{AreCheckpointLines}
 use Rattle.ug_gen.specs.Stated.{instance}
-use Rattle.ug_worker.specs.declared.served.Served.{Served}
-use Rattle.ug_worker.specs.declared.served.Served.TheVariants as service
-use Rattle.ug_worker.specs.Serving.{HasServed}
-use Rattle.ug_worker.specs.Courses as links
+use Rattle.ug_serve.specs.declared.served.Served.{Served}
+use Rattle.ug_serve.specs.declared.served.Served.TheVariants as service
+use Rattle.ug_serve.specs.Serving.{HasServed}
+use Rattle.ug_serve.specs.Courses as links
 use Rattle.ug_coord.specs.Hubs as crews
 use Rattle.clap.specs.Walk.{Text}
 use Rattle.ug_cli.specs.Taken.{TakenWords, needs_of}

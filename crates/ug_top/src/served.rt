@@ -1,5 +1,5 @@
 ghost use Rattle.std.specs.Prelude.{◌≡◌, [], true, IsSomeAnd};
-ghost use Rattle.ug_worker.specs.Courses.{IsFresh};
+ghost use Rattle.ug_serve.specs.Courses.{IsFresh};
 ghost use Rattle.ug_top.specs.Ends.{AreWorkerLines, HasLinkFor, status_of, text_of};
 ghost use Rattle.ug_top.specs.Outside.{seen_if};
 
@@ -9,7 +9,7 @@ use std::sync::Wait;
 use std::thread::Threads;
 use ug_io::Link;
 use ug_restart::{Host, Observer};
-use ug_worker::{Served, Service, serve};
+use ug_serve::{Served, Service, serve};
 
 /// Works for the coordinator at the other end of the link, until it orders the end.
 pub fn run_worker<R: Threads + Wait + Sync, O: Observer, L: Link + Drop>(

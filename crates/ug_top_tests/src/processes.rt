@@ -5,7 +5,7 @@ ghost use Rattle.std.specs.Prelude.{IfOk, IfSome};
 ghost use Rattle.ug_cli.specs.Taken.{needs_of};
 ghost use Rattle.ug_top.specs.Ends.{HasCrewFor};
 ghost use Rattle.ug_top.specs.Outside.{seen_if};
-ghost use Rattle.ug_worker.specs.WorkerCrews.{crew_seen};
+ghost use Rattle.ug_serve.specs.WorkerCrews.{crew_seen};
 
 use crate::commands::{KNAPSACK, RUNS, is_open_or, shows_its_number, tells};
 use crate::expect::{holds_at, same_at};
@@ -23,8 +23,8 @@ use ug_cli::{Plan, Usage, crossed_is_not_taken, read_words, words_tell_the_needs
 use ug_disk::MemoryDisk;
 use ug_io::{MemoryLink, MemorySink, MemorySource, Piece, Script};
 use ug_restart::{Host, Unobserved};
+use ug_serve::{Visit, WorkerCrew};
 use ug_top::{Objects, Ran, run};
-use ug_worker::{Visit, WorkerCrew};
 
 /// The objects of a run over workers.
 type Workers<'a> = Objects<MemorySource<'a>, MemoryDisk, WorkerCrew<'a>, MemoryLink<'a>>;

@@ -1,17 +1,3 @@
 pub mod Renewals
 pub mod Engagements
 pub mod Workers
-pub mod Deeds
-pub mod Courses
-pub mod Tellings
-pub mod Serving
-pub mod Keeping
-pub mod Seats
-pub mod SeatViews
-pub mod Servers
-pub mod Queues
-pub mod Staffs
-pub mod WorkerCrews
-pub mod Transcripts
-pub mod Laws
-pub mod CrewLaws

@@ -20,10 +20,10 @@ use Rattle.ug_coord.specs.Deeds.{Kept as Saved}
 use Rattle.ug_coord.specs.Ends.{ranks_of}
 use Rattle.ug_coord.specs.Hubs.{HasCome, beginning}
 use Rattle.ug_coord.proofs.Coursing.{course_more}
-use Rattle.ug_worker.specs.Staffs.{AreAlwaysWorked}
-use Rattle.ug_worker.proofs.Honesty.{nothing_in}
-use Rattle.ug_worker.proofs.Told.{first_or}
-use Rattle.ug_worker.proofs.Wires.{fed_fine}
+use Rattle.ug_serve.specs.Staffs.{AreAlwaysWorked}
+use Rattle.ug_serve.proofs.Honesty.{nothing_in}
+use Rattle.ug_serve.proofs.Told.{first_or}
+use Rattle.ug_serve.proofs.Wires.{fed_fine}
 use Rattle.ug_world.specs.Calm.{IsCalmCourse}
 use Rattle.ug_world.specs.Workers.{IsUnused}
 use Rattle.ug_world.proofs.Readable.{never_bad}

@@ -18,13 +18,13 @@ use Rattle.ug_rules.specs.Hearing.{is_deadly, ready_answer}
 use Rattle.ug_coord.specs.Deeds.{Deed, IsCourse, IsTaken, Standing, Took}
 use Rattle.ug_coord.specs.Hubs.{beginning}
 use Rattle.ug_coord.proofs.Coursing.{course_more}
-use Rattle.ug_worker.specs.CrewLaws.{AreReportsAt, reports_of}
-use Rattle.ug_worker.specs.Deeds as worker
-use Rattle.ug_worker.specs.Staffs.{IsWorked}
-use Rattle.ug_worker.proofs.Crewed.{IsSentTo, taken_of, told_kept, took_turned}
-use Rattle.ug_worker.proofs.Honesty.{nothing_in}
-use Rattle.ug_worker.proofs.Spoken.{IsSpoken, spoken}
-use Rattle.ug_worker.proofs.Told.{in_front}
+use Rattle.ug_serve.specs.CrewLaws.{AreReportsAt, reports_of}
+use Rattle.ug_serve.specs.Deeds as worker
+use Rattle.ug_serve.specs.Staffs.{IsWorked}
+use Rattle.ug_serve.proofs.Crewed.{IsSentTo, taken_of, told_kept, took_turned}
+use Rattle.ug_serve.proofs.Honesty.{nothing_in}
+use Rattle.ug_serve.proofs.Spoken.{IsSpoken, spoken}
+use Rattle.ug_serve.proofs.Told.{in_front}
 use Rattle.ug_world.specs.Workers.{IsUnused}
 use Rattle.ug_world.proofs.Fair.{IsFair}
 use Rattle.ug_world.proofs.Running.{none_told}

@@ -33,9 +33,9 @@ use Rattle.ug_rules.specs.declared.told.Told.{Told}
 use Rattle.ug_rules.specs.State.{BookState}
 use Rattle.ug_rules.specs.Hearing.{IsDue, IsDueUnder, IsHandDue, IsSolutionDue, after_hearing, done_at, handed_at, is_deadly, kept}
 use Rattle.ug_rules.specs.Ranks.{racers_freed}
-use Rattle.ug_worker.proofs.Counted.{cases_ticket, hands_on, hands_under, is_itself, is_ticket}
-use Rattle.ug_worker.proofs.Honesty.{nothing_in}
-use Rattle.ug_worker.proofs.Told.{first_or}
+use Rattle.ug_serve.proofs.Counted.{cases_ticket, hands_on, hands_under, is_itself, is_ticket}
+use Rattle.ug_serve.proofs.Honesty.{nothing_in}
+use Rattle.ug_serve.proofs.Told.{first_or}
 use Rattle.ug_world.proofs.Fair.{IsFair, IsFairHand}
 use Rattle.ug_world.proofs.Outlooks.{AreGoodOrders, AreNamed, ArePointsBacked, IsBacked, IsFurther, IsOn, IsOrderBacked, IsReportNamed, IsTracked, IsWorkOn, Outlook, freed, freed_at, freed_on, orders_on, outlook_of, set_on}
 use Rattle.ug_world.proofs.Tracked.{IsTrackedBy}

@@ -20,9 +20,9 @@ use Rattle.ug_coord.specs.Deeds.{Sent, SetUp, Standing, Took, Unclosed, Unfed, U
 use Rattle.ug_coord.specs.Deeds.{Kept as Saved}
 use Rattle.ug_coord.specs.Hubs.{beginning}
 use Rattle.ug_coord.proofs.Coursing.{course_more}
-use Rattle.ug_worker.specs.Staffs.{AreAlwaysWorked, AreWorked}
-use Rattle.ug_worker.proofs.Honesty.{nothing_in}
-use Rattle.ug_worker.proofs.Told.{behind, first_or, in_front}
+use Rattle.ug_serve.specs.Staffs.{AreAlwaysWorked, AreWorked}
+use Rattle.ug_serve.proofs.Honesty.{nothing_in}
+use Rattle.ug_serve.proofs.Told.{behind, first_or, in_front}
 use Rattle.ug_world.specs.Calm.{CalmWorkersLive}
 use Rattle.ug_world.specs.Workers.{IsUnused}
 use Rattle.ug_world.proofs.Calm.{AreQuiet, IsQuietDeed, answer_of_cause, course_quiet}

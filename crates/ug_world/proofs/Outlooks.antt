@@ -20,8 +20,8 @@ use Rattle.ug_ledger.specs.Dones.{IsBackedBy}
 use Rattle.ug_rules.specs.declared.told.Told.{Told}
 use Rattle.ug_rules.specs.Ranks.{racers_freed}
 use Rattle.ug_rules.specs.State.{BookState}
-use Rattle.ug_worker.specs.Transcripts.{Ordered, order_of}
-use Rattle.ug_worker.proofs.Counted.{hands_under}
+use Rattle.ug_serve.specs.Transcripts.{Ordered, order_of}
+use Rattle.ug_serve.proofs.Counted.{hands_under}
 
 -- what matters of a book here
 pub record Outlook : Type 0 where

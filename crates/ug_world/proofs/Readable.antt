@@ -17,13 +17,13 @@ use Rattle.ug_frames.specs.Spelling.{framed}
 use Rattle.ug_frames.proofs.Fronts.{framed_long, told_is, unique}
 use Rattle.ug_frames.specs.ReportReading.{report_in}
 use Rattle.ug_frames.proofs.ReportReaders.{body_of, report_small, report_whole}
-use Rattle.ug_worker.specs.Courses.{IsCourse, Standing, beginning}
-use Rattle.ug_worker.specs.Deeds.{Deed, Came, Took, Told}
-use Rattle.ug_worker.specs.Queues.{told_in}
-use Rattle.ug_worker.specs.Serving.{IsPartTold}
-use Rattle.ug_worker.specs.Staffs.{IsWorked, heard_at}
-use Rattle.ug_worker.proofs.Heard.{front_of, one_way}
-use Rattle.ug_worker.proofs.Queues.{told_more, told_still}
+use Rattle.ug_serve.specs.Courses.{IsCourse, Standing, beginning}
+use Rattle.ug_serve.specs.Deeds.{Deed, Came, Took, Told}
+use Rattle.ug_serve.specs.Queues.{told_in}
+use Rattle.ug_serve.specs.Serving.{IsPartTold}
+use Rattle.ug_serve.specs.Staffs.{IsWorked, heard_at}
+use Rattle.ug_serve.proofs.Heard.{front_of, one_way}
+use Rattle.ug_serve.proofs.Queues.{told_more, told_still}
 
 -- a front of a frame that is shorter than it is cut short
 pub front_cut : (bytes tail text rest : List ℕ) → IsLength (length text)

@@ -11,8 +11,8 @@ use Rattle.ug_coord.specs.Deeds.{Broke, Came, Cause, Closed, Closing, Decided, D
 use Rattle.ug_coord.specs.Deeds.{Sent, SetUp, Standing, Took, Unclosed, Unfed, Unread, Unsent, Unwritten}
 use Rattle.ug_coord.specs.Deeds.{Kept as Saved}
 use Rattle.ug_coord.specs.Hubs.{beginning}
-use Rattle.ug_worker.proofs.Honesty.{nothing_in}
-use Rattle.ug_worker.proofs.Told.{in_front}
+use Rattle.ug_serve.proofs.Honesty.{nothing_in}
+use Rattle.ug_serve.proofs.Told.{in_front}
 use Rattle.ug_world.specs.Workers.{IsUnused}
 use Rattle.ug_world.proofs.Traffic.{left_in, left_of, only_there, orders_to, sent_in, to_rank}
 use Rattle.ug_world.proofs.Worked.{none_ends}

@@ -26,11 +26,11 @@ use Rattle.ug_coord.specs.Deeds.{Broke, Came, Closed, Decided, Deed, Halted, IsC
 use Rattle.ug_coord.specs.Deeds.{Sent, SetUp, Standing, Took, Unclosed, Unfed, Unread, Unsent, Unwritten}
 use Rattle.ug_coord.specs.Deeds.{Kept as Saved}
 use Rattle.ug_coord.specs.Hubs.{beginning}
-use Rattle.ug_worker.specs.Staffs.{IsWorked}
-use Rattle.ug_worker.specs.Transcripts.{order_of}
-use Rattle.ug_worker.proofs.Counted.{IsCutoffKnown, IsDoneSpoken, IsHandSpoken, IsUnderSent, done_spoken, hand_spoken, hands_under, under_spoken}
-use Rattle.ug_worker.proofs.Honesty.{nothing_in}
-use Rattle.ug_worker.proofs.Spoken.{IsSpoken}
+use Rattle.ug_serve.specs.Staffs.{IsWorked}
+use Rattle.ug_serve.specs.Transcripts.{order_of}
+use Rattle.ug_serve.proofs.Counted.{IsCutoffKnown, IsDoneSpoken, IsHandSpoken, IsUnderSent, done_spoken, hand_spoken, hands_under, under_spoken}
+use Rattle.ug_serve.proofs.Honesty.{nothing_in}
+use Rattle.ug_serve.proofs.Spoken.{IsSpoken}
 use Rattle.ug_world.specs.Workers.{IsUnused}
 use Rattle.ug_world.proofs.Fair.{IsFair, IsFairDone, IsFairHand}
 use Rattle.ug_world.proofs.Fairness.{IsOfWork, spoken_then}

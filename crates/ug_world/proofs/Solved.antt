@@ -23,7 +23,7 @@ use Rattle.ug_restart.specs.Outcomes.{IfAnswered, IfBook, IfLimited, IsLimited, 
 use Rattle.ug_coord.specs.Ends.{AllDead, is_ended}
 use Rattle.ug_coord.specs.Hubs.{HasCoordinated}
 use Rattle.ug_coord.specs.Keeping.{IsKeptSafe}
-use Rattle.ug_worker.specs.Staffs.{AreAlwaysWorked}
+use Rattle.ug_serve.specs.Staffs.{AreAlwaysWorked}
 use Rattle.ug_world.specs.Calm.{CalmWorkersLive}
 use Rattle.ug_world.specs.Laws.{LosesNothing}
 use Rattle.ug_world.specs.Workers.{CoordinatorsOfWorkersLoseNothing, HasSolved}

@@ -24,10 +24,10 @@ use Rattle.ug_rules.specs.declared.told.Told.{Told}
 use Rattle.ug_rules.specs.State.{BookState, cutoff_of_best, ticket_with}
 use Rattle.ug_rules.specs.Deciding.{IsDecided, IsRaceEnded, IsReadied, announced, announced_as, announcement, announcements, assigned, assigned_by, assigned_times, collect_in, collect_out, collected, dropped, given, given_to, handouts, is_race_due, loser_stop, loser_stops, params_with, usual_params, race_begun_with, race_won, raced_by, raced_by_all, ranks_won, same_cutoff, stopped_collecting, winner_order, work_order}
 use Rattle.ug_rules.specs.Ranks.{of_ranks, racers_freed, ranks_that}
-use Rattle.ug_worker.specs.Transcripts.{Ordered, order_of}
-use Rattle.ug_worker.proofs.Counted.{hands_none}
-use Rattle.ug_worker.proofs.Honesty.{nothing_in}
-use Rattle.ug_worker.proofs.Told.{first_or}
+use Rattle.ug_serve.specs.Transcripts.{Ordered, order_of}
+use Rattle.ug_serve.proofs.Counted.{hands_none}
+use Rattle.ug_serve.proofs.Honesty.{nothing_in}
+use Rattle.ug_serve.proofs.Told.{first_or}
 use Rattle.ug_world.proofs.Outlooks.{AreGoodOrders, AreNew, IsBacked, IsFurther, IsGivenNumber, IsGoodOrder, IsNewOrder, IsOn, IsOrderNamed, IsRacerOn, IsTracked, IsWorkOn, NoneWins, Outlook, freed_at, freed_on, named_on, orders_on, outlook_of, set_on, state_on, winner_on, work_on}
 
 -- the states of a book, with all orders that left its queue or wait there, and what was heard

@@ -26,12 +26,12 @@ use Rattle.ug_rules.specs.Deaths.{killed}
 use Rattle.ug_coord.specs.Deeds.{Broke, Came, Cause, Closed, Decided, Deed, Does, Ended, Failed, Halted, IsCourse, IsLost, IsTaken, IsUnsent, Launched, Lost, Nonsense, Passed}
 use Rattle.ug_coord.specs.Deeds.{Sent, SetUp, Standing, Took, Unclosed, Unfed, Unread, Unsent, Unwritten, lives_at, stream_at}
 use Rattle.ug_coord.specs.Deeds.{Kept as Saved}
-use Rattle.ug_worker.specs.Staffs.{heard_at, told_at}
-use Rattle.ug_worker.proofs.Heard.{one_way}
-use Rattle.ug_worker.proofs.Honesty.{nothing_in}
-use Rattle.ug_worker.proofs.Staffs.{heard_by, heard_its, heard_others, heard_same, heard_told, told_at_on, told_heard, told_its, told_others, told_same}
-use Rattle.ug_worker.proofs.Told.{first_or, in_front}
-use Rattle.ug_worker.proofs.Wires.{fed_so}
+use Rattle.ug_serve.specs.Staffs.{heard_at, told_at}
+use Rattle.ug_serve.proofs.Heard.{one_way}
+use Rattle.ug_serve.proofs.Honesty.{nothing_in}
+use Rattle.ug_serve.proofs.Staffs.{heard_by, heard_its, heard_others, heard_same, heard_told, told_at_on, told_heard, told_its, told_others, told_same}
+use Rattle.ug_serve.proofs.Told.{first_or, in_front}
+use Rattle.ug_serve.proofs.Wires.{fed_so}
 use Rattle.ug_world.proofs.Numbered.{Grows, decided_grows, grows_both, grows_itself, grows_left, heard_grows, killed_grows, stands_grows}
 
 -- ---- what a deed tells and hears

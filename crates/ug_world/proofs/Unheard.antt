@@ -21,7 +21,7 @@ use Rattle.ug_rules.specs.Deciding.{IsDecided, IsRaceEnded, IsReadied, announced
 use Rattle.ug_rules.specs.Hearing.{after_hearing, done_at, handed_at, is_deadly, kept}
 use Rattle.ug_rules.specs.Ranks.{racers_freed, ranks_that}
 use Rattle.ug_rules.proofs.FirstLemmas.{passes}
-use Rattle.ug_worker.proofs.Told.{behind, in_front}
+use Rattle.ug_serve.proofs.Told.{behind, in_front}
 
 -- the rank has not joined yet, or is none
 abbrev pub IsAway : State → Type 0

@@ -25,13 +25,13 @@ use Rattle.ug_coord.specs.Deeds.{Kept as Saved}
 use Rattle.ug_coord.specs.Ends.{ranks_of}
 use Rattle.ug_coord.specs.Hubs.{beginning}
 use Rattle.ug_coord.proofs.Coursing.{course_more}
-use Rattle.ug_worker.specs.CrewLaws.{AreReportsAt}
-use Rattle.ug_worker.specs.Staffs.{AreAlwaysWorked, AreWorked}
-use Rattle.ug_worker.specs.Transcripts.{Ordered, order_of, work_of}
-use Rattle.ug_worker.specs.Laws.{AreOnce}
-use Rattle.ug_worker.proofs.Crewed.{IsSentTo, crew_honest, tickets_sent}
-use Rattle.ug_worker.proofs.Honesty.{nothing_in, same_work}
-use Rattle.ug_worker.proofs.Told.{first_or, in_front}
+use Rattle.ug_serve.specs.CrewLaws.{AreReportsAt}
+use Rattle.ug_serve.specs.Staffs.{AreAlwaysWorked, AreWorked}
+use Rattle.ug_serve.specs.Transcripts.{Ordered, order_of, work_of}
+use Rattle.ug_serve.specs.Laws.{AreOnce}
+use Rattle.ug_serve.proofs.Crewed.{IsSentTo, crew_honest, tickets_sent}
+use Rattle.ug_serve.proofs.Honesty.{nothing_in, same_work}
+use Rattle.ug_serve.proofs.Told.{first_or, in_front}
 use Rattle.ug_world.specs.Honest.{IsGivenWith}
 use Rattle.ug_world.specs.Coordinators.{IsHonestSo, Past, StaysHonest, after, honest_at, nothing}
 use Rattle.ug_world.specs.Workers.{CoordinatorsOfWorkersLoseNothing, IsUnused}

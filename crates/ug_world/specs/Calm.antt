@@ -8,7 +8,7 @@ use Rattle.ug_rules.specs.State.{BookState}
 use Rattle.ug_coord.specs.Causes.{HasCause}
 use Rattle.ug_coord.specs.Deeds.{Standing}
 use Rattle.ug_coord.specs.Hubs.{HasCome, beginning}
-use Rattle.ug_worker.specs.Staffs.{AreAlwaysWorked}
+use Rattle.ug_serve.specs.Staffs.{AreAlwaysWorked}
 use Rattle.ug_world.specs.Workers.{IsUnused}
 
 -- From a book that has given no ticket, and no rank of which has joined: the count of faults is the same

@@ -13,7 +13,7 @@ use Rattle.ug_coord.specs.Deeds.{Standing}
 use Rattle.ug_coord.specs.Ends.{IsAtLimit}
 use Rattle.ug_coord.specs.Hubs.{HasCome, StaysSound, beginning}
 use Rattle.ug_coord.specs.Keeping.{IsKeptSafe}
-use Rattle.ug_worker.specs.Staffs.{AreAlwaysWorked}
+use Rattle.ug_serve.specs.Staffs.{AreAlwaysWorked}
 use Rattle.ug_world.specs.Laws.{LosesNothing}
 
 -- the book has given no ticket, and no order waits

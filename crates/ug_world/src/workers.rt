@@ -7,7 +7,7 @@ ghost use Rattle.ug_book.specs.Openings.{IsCoveredOpening, IsOpening, opening_bo
 ghost use Rattle.ug_restart.specs.Outcomes.{IsStranded};
 ghost use Rattle.ug_coord.specs.Hubs.{HasCoordinated, IsFresh};
 ghost use Rattle.ug_coord.specs.Keeping.{AreEachSaved, HasKept, IsKeptSafe};
-ghost use Rattle.ug_worker.specs.WorkerCrews.{crew_seen};
+ghost use Rattle.ug_serve.specs.WorkerCrews.{crew_seen};
 ghost use Rattle.ug_world.specs.Workers.{HasSolved};
 
 use crate::law::{calm_workers_live, coordinators_of_workers_lose_nothing};
@@ -17,7 +17,7 @@ use ug_checkpoint::Saver;
 use ug_coord::{Coordinated, coordinate};
 use ug_disk::Disk;
 use ug_restart::{Host, Observer};
-use ug_worker::WorkerCrew;
+use ug_serve::WorkerCrew;
 
 /// Solves what the opening has left, by a crew of workers in memory of which none was started yet.
 /// With a saver the book is saved, and at last the ending one. Whatever the schedule of their visits,

@@ -19,7 +19,7 @@ use ug_io::{Came, Crew, Failed};
 use ug_mps::read;
 use ug_problem::Shared;
 use ug_restart::{End, Host, Unobserved};
-use ug_worker::{Visit, WorkerCrew};
+use ug_serve::{Visit, WorkerCrew};
 
 /// What is wrong with a crew of workers.
 #[derive(Clone, Copy)]
@@ -45,7 +45,7 @@ struct WrongCrew<'a> {
 }
 
 impl<'a> WrongCrew<'a> {
-    ghost use Rattle.ug_worker.specs.WorkerCrews.{crew_seen};
+    ghost use Rattle.ug_serve.specs.WorkerCrews.{crew_seen};
 
     fn new(workers: WorkerCrew<'a>, wrong: Wrong) -> WrongCrew<'a>
         ensures { result.workers ≡ workers.entry }
@@ -105,7 +105,7 @@ impl<'a> WrongCrew<'a> {
 
 impl Crew for WrongCrew<'_> {
     ghost use Rattle.std.specs.Prelude.{None};
-    ghost use Rattle.ug_worker.specs.WorkerCrews.{crew_seen};
+    ghost use Rattle.ug_serve.specs.WorkerCrews.{crew_seen};
 
     ghost seen = { λ c. record {
       said = None;

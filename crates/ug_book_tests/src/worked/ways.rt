@@ -6,7 +6,7 @@ ghost use Rattle.ug_rules.specs.Books.{AreSettings};
 use std::alloc::{AllocError, Global};
 use ug_branch::Base;
 use ug_rules::Settings;
-use ug_worker::Visit;
+use ug_serve::Visit;
 
 /// How workers are visited before each is visited in its turn, with all that there is.
 #[derive(Clone, Copy)]

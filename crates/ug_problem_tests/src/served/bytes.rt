@@ -5,7 +5,7 @@ use crate::frames::bytes::bytes_of;
 use crate::served::link::{Calls, SOUND, told_of};
 use std::alloc::{AllocError, Global};
 use std::sync::Wait;
-use ug_worker::Served;
+use ug_serve::Served;
 
 /// What comes over the link, in pieces, the calls that fail, and what is told and how it ends.
 struct Case {

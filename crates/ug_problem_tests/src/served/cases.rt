@@ -6,7 +6,7 @@ use crate::served::words::{Ordered, Reported, add_order, add_report, setup_of};
 use std::alloc::{AllocError, Global};
 use std::process::Abort;
 use std::sync::Wait;
-use ug_worker::Served;
+use ug_serve::Served;
 
 /// What is ordered behind a problem under a gap, piece by piece, what is then told, and how it
 /// ends.

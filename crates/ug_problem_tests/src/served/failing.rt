@@ -9,7 +9,7 @@ use crate::tasks::SQUARE;
 use std::alloc::Global;
 use std::process::Abort;
 use std::sync::Wait;
-use ug_worker::Served;
+use ug_serve::Served;
 
 /// A run of which no call fails: how many bytes a call moves at most, and how many are made.
 #[derive(Clone, Copy)]

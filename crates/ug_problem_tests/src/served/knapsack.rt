@@ -3,7 +3,7 @@
 use crate::served::cases::{Case, GAP, each_is_served_so};
 use crate::served::staffed::crew_tells_the_same;
 use crate::served::words::{FIRST, Ordered, Reported, Work};
-use ug_worker::Served;
+use ug_serve::Served;
 
 // 5 a + 4 b + 3 c is maximised, so its negative is what is minimised.
 const KNAPSACK: &[u8] = b"OBJSENSE MAX

@@ -3,7 +3,7 @@
 use std::alloc::{AllocError, Global};
 use std::sync::Wait;
 use ug_io::{MemoryLink, Said, Script};
-use ug_worker::{Served, serve};
+use ug_serve::{Served, serve};
 
 /// What was told over a link, and how its service ended.
 #[derive(Drop)]

@@ -7,7 +7,7 @@ use crate::served::cases::{Case, GAP, each_is_served_so};
 use crate::served::words::{FIRST, NEXT_RUN, Ordered, Reported, SECOND, Work};
 use crate::tasks::SQUARE;
 use ug_nodes::Change;
-use ug_worker::Served;
+use ug_serve::Served;
 
 const WHOLE: Work = Work {
     ticket: FIRST,

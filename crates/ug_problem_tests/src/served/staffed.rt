@@ -10,7 +10,7 @@ use std::alloc::{AllocError, Global};
 use std::process::Abort;
 use std::sync::Wait;
 use ug_io::{Came, Crew, zeros};
-use ug_worker::{Visit, WorkerCrew};
+use ug_serve::{Visit, WorkerCrew};
 
 /// How the bytes of a worker go: so many visits, each with so many bytes of orders and of reports
 /// at most, and then with all that there is; and how many bytes are heard at once, one at least.

@@ -24,7 +24,7 @@ use crate::served::stairs::consts::{
     COLLECT_5, DONE_4, FIRST_ROUND, FOURTH, LEAST, LOW, MIDDLE, ONE_LEFT, ROOT, SECOND_ROUND, THIRD,
 };
 use crate::served::words::{Ordered, Reported};
-use ug_worker::Served;
+use ug_serve::Served;
 
 /// Steps of a, each with b and c below it.
 pub const STAIRS: &[u8] = b"ROWS

@@ -9,7 +9,7 @@ use crate::served::stairs::consts::{
 };
 use crate::served::stairs::{MORE, STAIRS};
 use crate::served::words::{FIRST, NEXT_RUN, Ordered, Reported, SECOND};
-use ug_worker::Served;
+use ug_serve::Served;
 
 const ASKED: &[Case] = &[
     MORE,

@@ -7,7 +7,7 @@ use crate::served::stairs::consts::{
     SECOND_ROUND, THREE_LEFT,
 };
 use crate::served::words::{FIRST, Ordered, Reported, SECOND};
-use ug_worker::Served;
+use ug_serve::Served;
 
 const BETWEEN: &[Case] = &[
     Case {

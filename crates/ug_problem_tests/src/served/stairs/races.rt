@@ -8,7 +8,7 @@ use crate::served::stairs::consts::{
     SECOND_TASK, THREE_LEFT,
 };
 use crate::served::words::{FIRST, NEXT_RUN, Ordered, Reported, SECOND};
-use ug_worker::Served;
+use ug_serve::Served;
 
 const RACES: &[Case] = &[
     Case {

@@ -4,7 +4,7 @@ use Rattle.ug_ranks.specs.declared.state.State.TheVariants.{Absent}
 use Rattle.ug_book.specs.Openings.{opening_book}
 use Rattle.ug_coord.specs.Hubs.{IsFresh}
 use Rattle.ug_coord.specs.Keeping.{AreEachSaved, IsKeptSafe}
-use Rattle.ug_worker.specs.WorkerCrews.{crew_seen, exchanged_of}
+use Rattle.ug_serve.specs.WorkerCrews.{crew_seen, exchanged_of}
 use Rattle.ug_world.proofs.Solved.{has_solved, never_stranded}
 use Rattle.ug_world.proofs.workers.solve_by_workers.Goals as goal
 

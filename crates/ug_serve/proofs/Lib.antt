@@ -1,0 +1,14 @@
+pub mod Tellings
+pub mod Wires
+pub mod Seating
+pub mod Servers
+pub mod Queues
+pub mod Staffs
+pub mod Carried
+pub mod Told
+pub mod Transcribed
+pub mod Honesty
+pub mod Heard
+pub mod Crewed
+pub mod Spoken
+pub mod Counted

@@ -1,0 +1,23 @@
+use Rattle.std.proofs.Common.{refl, sym, ap}
+use Rattle.std.proofs.Common.{List, length}
+use Rattle.ug_rows.specs.declared.area.Interval.{Interval}
+use Rattle.ug_serve.specs.Deeds.{Busy, Free}
+use Rattle.ug_serve.specs.Seats.{basis_of}
+use Rattle.ug_serve.proofs.link_seat.LinkSeatSeat.done.Goals as goal
+
+pub returns : goal.returns
+returns g c tally e seated done = record {
+  gap = seated.gap;
+  agrees = tt;
+  stands = c.tell.ensures (Busy (basis_of c.args.self.now.kept) tally e)
+      (Free (basis_of c.args.self.now.kept) tally) (
+        record {
+          task = c.args.task;
+          its = sym seated.agrees.ticket;
+          done = done;
+          under = c.cutoff-cutoff.ensures.value;
+          counted = ap (λ (boxes : List (List Interval)). length boxes) c.handed.ensures.value;
+        },
+        refl,
+      ) seated.stands;
+}

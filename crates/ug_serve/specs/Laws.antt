@@ -1,0 +1,66 @@
+-- The laws of workers at links: what each tells is true, and what all tell is honest.
+use Rattle.std.specs.Prelude.{◌≡◌, ◌⊎◌, ℤ, List, [], ◌∷◌, ◌++◌, All, Contains, Option, None, Some}
+use Rattle.ug_rows.specs.declared.area.Interval.{Interval}
+use Rattle.ug_problem.specs.Instances.{Instance, root_of}
+use Rattle.ug_nodes.specs.declared.name.Ticket.{Ticket}
+use Rattle.ug_nodes.specs.Changes.{area_by}
+use Rattle.ug_frames.specs.declared.report.Report.{Report}
+use Rattle.ug_frames.specs.Honest.{AreHonest}
+use Rattle.ug_serve.specs.Deeds.{Deed, Came, Took, Told}
+use Rattle.ug_serve.specs.Courses.{IsCourse, Standing, beginning}
+use Rattle.ug_serve.specs.Transcripts.{IsSetUpWith, IsTranscript, Ordered, order_of, reports_in}
+use Rattle.ug_serve.specs.Transcripts.{turned, work_of}
+
+-- what a worker does from the beginning, whatever it hears, is a transcript
+abbrev pub CoursesAreTranscripts : Type 0
+CoursesAreTranscripts = (deeds : List Deed) (now : Standing) → IsCourse beginning deeds now
+    → IsTranscript (turned [] deeds)
+
+-- the ticket of an order of work, if it is one
+abbrev pub tickets_of : Option Ordered → List Ticket
+tickets_of None = []
+tickets_of (Some work) = work.ticket ∷ []
+
+-- the tickets of the orders of work that were taken
+abbrev pub tickets_in : List Deed → List Ticket
+tickets_in [] = []
+tickets_in (Came bytes ∷ past) = tickets_in past
+tickets_in (Took order ∷ past) = tickets_of (work_of order) ++ tickets_in past
+tickets_in (Told report ∷ past) = tickets_in past
+
+-- by all of these workers
+abbrev pub tickets_by : List (List Deed) → List Ticket
+tickets_by [] = []
+tickets_by (past ∷ pasts) = tickets_in past ++ tickets_by pasts
+
+-- what all of them told
+abbrev pub told_by : List (List Deed) → List Report
+told_by [] = []
+told_by (past ∷ pasts) = reports_in past ++ told_by pasts
+
+-- none stands twice
+abbrev pub AreOnce : List Ticket → Type 0
+AreOnce [] = Unit {0}
+AreOnce (ticket ∷ tickets) = (¬ Contains tickets ticket) × AreOnce tickets
+
+-- one of them took an order to search the box under the ticket
+pub record IsOrderedTo (p : Instance) (pasts : List (List Deed)) (ticket : Ticket)
+    (area : List Interval) : Type 0 where
+  pub past : List Deed
+  pub among : Contains pasts past
+  pub work : Ordered
+  pub taken : Contains past (Took (order_of work))
+  pub its : work.ticket ≡ ticket
+  pub box : area ≡ area_by (root_of p) work.changes
+
+-- a worker was set up with no other problem than this
+abbrev pub IsSetUpFor : Instance → List Deed → Type 0
+IsSetUpFor p past = (reports_in past ≡ [])
+    ⊎ ((gap : ℤ) × IsSetUpWith past (record { problem = p; gap = gap }))
+
+-- What workers at links tell is honest, whatever they hear, where they were set up with one problem
+-- and no ticket was ordered twice.
+abbrev pub WorkersAreHonest : Type 0
+WorkersAreHonest = (p : Instance) (pasts : List (List Deed)) → All IsTranscript pasts
+    → All (IsSetUpFor p) pasts → AreOnce (tickets_by pasts)
+    → AreHonest p (IsOrderedTo p pasts) (told_by pasts)

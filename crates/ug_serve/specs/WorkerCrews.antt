@@ -1,0 +1,25 @@
+-- What a crew of workers shows, and what a visit of one of them comes to.
+use Rattle.std.specs.Prelude.{◌≡◌, ℕ, List, Some}
+use Rattle.ug_io.specs.declared.crew.Exchange.{Exchange}
+use Rattle.ug_io.specs.Crews.{CrewSeen, HasTurned}
+use Rattle.ug_serve.specs.declared.crew.Visited.{Visited}
+use Rattle.ug_serve.specs.declared.crew.Visited.TheVariants.{Came, Moved, Still}
+use Rattle.ug_serve.specs.declared.crew.WorkerCrew.{WorkerCrew}
+
+-- what was heard and told, and who is gone
+abbrev pub exchanged_of : WorkerCrew → List Exchange
+exchanged_of c = c.staff
+
+-- what is seen of it
+abbrev pub crew_seen : WorkerCrew → CrewSeen
+crew_seen c = record {
+  said = Some (exchanged_of c);
+  lives = c.lives.items;
+  faults = c.faults;
+}
+
+-- something came, or nothing changed
+abbrev pub HasVisited : CrewSeen → CrewSeen → List ℕ → Visited → Type 0
+HasVisited old new buffer (Came came) = HasTurned old new buffer came
+HasVisited old new buffer Moved = new ≡ old
+HasVisited old new buffer Still = new ≡ old

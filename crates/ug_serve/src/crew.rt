@@ -1,0 +1,307 @@
+//! A crew in memory that is made of workers.
+
+ghost use Rattle.std.specs.Prelude.{◌≡◌, ◌<◌, ℕ, List, [], Some, false, replicate, IfOk, OnErr};
+ghost use Rattle.ug_io.specs.Outside.{Rose};
+ghost use Rattle.ug_io.specs.Crews.{HasTurned, IsAlive, IsSilent};
+ghost use Rattle.ug_io.specs.declared.crew.Came.TheVariants.{Bytes};
+
+use crate::server::Progress;
+use crate::staff::Staff;
+use std::alloc::{AllocError, Global};
+use ug_io::{Came, Crew, Exchange, Failed, zeros};
+
+/// How many bytes a worker reads at once.
+const READ: usize = 4_096;
+
+/// A rank that is visited: its worker hears so many more bytes of its orders at most, makes a step,
+/// and so many bytes of its reports are heard at most.
+#[derive(Clone, Copy, PartialEq, Eq)]
+pub struct Visit {
+    pub rank: u32,
+    pub orders: usize,
+    pub reports: usize,
+}
+
+/// What a visit came to.
+#[derive(Clone, Copy)]
+pub enum Visited {
+    /// Something came, or the rank is gone.
+    Came(Came),
+    /// Nothing did, but its worker has something to do.
+    Moved,
+    /// Nothing did, nor will before something is told to it.
+    Still,
+}
+
+/// Workers as a crew, which are visited as a schedule says, and where it is over each in its turn,
+/// with all that there is. A rank is gone where its worker has ended, in whatever way. A turn fails
+/// where each worker waits and nothing is on its way, a launch where the rank was launched before,
+/// and each call where memory is wanting.
+#[derive(Drop)]
+pub struct WorkerCrew<'a> {
+    alloc: Global,
+    faults: u64,
+    // Whose turn it is behind the schedule.
+    next: u32,
+    lives: Vec<bool>,
+    staff: Staff,
+    // What is left of the schedule.
+    schedule: &'a [Visit],
+}
+
+impl<'a> WorkerCrew<'a> {
+    ghost use Rattle.ug_serve.specs.Staffs.{AreAlwaysWorked};
+    ghost use Rattle.ug_serve.specs.WorkerCrews.{HasVisited, crew_seen, exchanged_of};
+
+    /// A crew of so many ranks, none of which lives yet.
+    pub fn new(
+        alloc: Global,
+        ranks: u32,
+        schedule: &'a [Visit],
+    ) -> Result<WorkerCrew<'a>, AllocError>
+        ensures { IfOk result (λ crew. crew_seen crew
+            ≡ record { said = Some []; lives = replicate ranks false; faults = 0 }) }
+    {
+        let lives = vec![in alloc; false; ranks as usize]?;
+        let staff = match Staff::new(alloc, ranks) {
+            Ok(staff) => staff,
+            Err(error) => {
+                drop(lives);
+                return Err(error);
+            }
+        };
+        Ok(WorkerCrew {
+            alloc,
+            staff,
+            lives,
+            schedule,
+            next: 0,
+            faults: 0,
+        })
+    }
+
+    /// What was heard and told, and who is gone.
+    pub fn exchanged(&self) -> &[Exchange]
+        ensures { result.now ≡ exchanged_of self.now }
+    {
+        self.staff.exchanged()
+    }
+
+    /// How often a call failed, up to the end of the count.
+    pub fn faults(&self) -> u64
+        ensures { result ≡ (crew_seen self.now).faults }
+    {
+        self.faults
+    }
+
+    /// At each moment what was heard from each rank was what a worker tells that hears what was told
+    /// to it by then.
+    pub fn is_worked(&self)
+        ensures { AreAlwaysWorked (exchanged_of self.now) }
+    {
+        self.staff.is_worked();
+    }
+
+    // One fault more.
+    fn fail(&mut self)
+        ensures faults { Rose (crew_seen self.old).faults (crew_seen self.new).faults }
+        ensures silent { IsSilent (crew_seen self.old) (crew_seen self.new) }
+    {
+        self.faults = self.faults.saturating_add(1);
+    }
+
+    // Visits a rank.
+    fn visit(&mut self, visit: Visit, buffer: &mut [u8]) -> Result<Visited, Failed>
+        ensures visited { IfOk result
+            (HasVisited (crew_seen self.old) (crew_seen self.new) buffer.new) }
+        ensures kept { OnErr result (IsSilent (crew_seen self.old) (crew_seen self.new)) }
+        ensures cause { OnErr result (Rose (crew_seen self.old).faults (crew_seen self.new).faults) }
+    {
+        let rank = visit.rank;
+        if !self.is_alive(rank) {
+            return Ok(Visited::Still);
+        }
+        let progress = self.staff.step(rank, visit.orders);
+        match self.hear(rank, visit.reports, buffer)? {
+            0 => self.leave(rank, progress),
+            count => Ok(Visited::Came(Came::Bytes { rank, count })),
+        }
+    }
+
+    // Hears the rank.
+    #[tactic(auto, using(crate::proofs::Staffs::heard_none))]
+    fn hear(&mut self, rank: u32, most: usize, buffer: &mut [u8]) -> Result<usize, Failed>
+        requires { IsAlive (crew_seen self.old) rank }
+        ensures came { IfOk result (λ count. 0 < count
+            → HasTurned (crew_seen self.old) (crew_seen self.new) buffer.new (Bytes rank count)) }
+        ensures none { IfOk result (λ count. count ≡ 0
+            → crew_seen self.new ≡ crew_seen self.old) }
+        ensures kept { OnErr result (IsSilent (crew_seen self.old) (crew_seen self.new)) }
+        ensures cause { OnErr result (Rose (crew_seen self.old).faults (crew_seen self.new).faults) }
+    {
+        match self.staff.hear(rank, most, buffer) {
+            Ok(count) => Ok(count),
+            Err(_) => {
+                self.fail();
+                Err(Failed)
+            }
+        }
+    }
+
+    // Leaves a rank from which nothing came.
+    fn leave(&mut self, rank: u32, progress: Progress) -> Result<Visited, Failed>
+        requires { IsAlive (crew_seen self.old) rank }
+        ensures visited { (buffer : List ℕ) → IfOk result
+            (HasVisited (crew_seen self.old) (crew_seen self.new) buffer) }
+        ensures kept { OnErr result (IsSilent (crew_seen self.old) (crew_seen self.new)) }
+        ensures cause { OnErr result (Rose (crew_seen self.old).faults (crew_seen self.new).faults) }
+    {
+        match progress {
+            Progress::GoesOn => Ok(Visited::Moved),
+            Progress::Waits => Ok(Visited::Still),
+            Progress::Ended(_) => {
+                if self.staff.is_full(rank) {
+                    return Ok(Visited::Moved);
+                }
+                self.lose(rank)
+            }
+        }
+    }
+
+    // Loses a rank.
+    fn lose(&mut self, rank: u32) -> Result<Visited, Failed>
+        requires { IsAlive (crew_seen self.old) rank }
+        ensures visited { (buffer : List ℕ) → IfOk result
+            (HasVisited (crew_seen self.old) (crew_seen self.new) buffer) }
+        ensures kept { OnErr result (IsSilent (crew_seen self.old) (crew_seen self.new)) }
+        ensures cause { OnErr result (Rose (crew_seen self.old).faults (crew_seen self.new).faults) }
+    {
+        self.fail();
+        if self.staff.lose(rank).is_err() {
+            return Err(Failed);
+        }
+        self.lives[rank as usize] = false;
+        Ok(Visited::Came(Came::Gone { rank }))
+    }
+
+    // Visits ranks as the schedule says, until something comes or it is over.
+    fn follow(&mut self, buffer: &mut [u8]) -> Result<Visited, Failed>
+        ensures visited { IfOk result
+            (HasVisited (crew_seen self.old) (crew_seen self.new) buffer.new) }
+        ensures kept { OnErr result (IsSilent (crew_seen self.old) (crew_seen self.new)) }
+        ensures cause { OnErr result (Rose (crew_seen self.old).faults (crew_seen self.new).faults) }
+    {
+        for _ in 0..self.schedule.len() {
+            let Some(visit) = self.scheduled() else {
+                return Ok(Visited::Moved);
+            };
+            if let Visited::Came(came) = self.visit(visit, buffer)? {
+                return Ok(Visited::Came(came));
+            }
+        }
+        Ok(Visited::Moved)
+    }
+
+    // The next visit of the schedule, unless it is over.
+    fn scheduled(&mut self) -> Option<Visit>
+        ensures { crew_seen self.new ≡ crew_seen self.old }
+    {
+        let (visit, rest) = self.schedule.split_first()?;
+        self.schedule = rest;
+        Some(*visit)
+    }
+
+    // Visits each rank once, with all that there is, until something comes.
+    fn go_round(&mut self, buffer: &mut [u8]) -> Result<Visited, Failed>
+        ensures visited { IfOk result
+            (HasVisited (crew_seen self.old) (crew_seen self.new) buffer.new) }
+        ensures kept { OnErr result (IsSilent (crew_seen self.old) (crew_seen self.new)) }
+        ensures cause { OnErr result (Rose (crew_seen self.old).faults (crew_seen self.new).faults) }
+    {
+        let mut moved = false;
+        for _ in 0..self.lives.len() {
+            let visit = self.next_visit();
+            match self.visit(visit, buffer)? {
+                Visited::Came(came) => return Ok(Visited::Came(came)),
+                Visited::Moved => moved = true,
+                Visited::Still => {}
+            }
+        }
+        if moved {
+            return Ok(Visited::Moved);
+        }
+        Ok(Visited::Still)
+    }
+
+    // The rank whose turn it is, with all that there is.
+    fn next_visit(&mut self) -> Visit
+        ensures { crew_seen self.new ≡ crew_seen self.old }
+    {
+        let rank = self.next;
+        let after = rank.saturating_add(1);
+        self.next = if (after as usize) < self.lives.len() {
+            after
+        } else {
+            0
+        };
+        Visit {
+            rank,
+            orders: usize::MAX,
+            reports: usize::MAX,
+        }
+    }
+}
+
+impl Crew for WorkerCrew<'_> {
+    ghost use Rattle.ug_serve.specs.WorkerCrews.{crew_seen};
+
+    ghost seen = { crew_seen };
+
+    fn is_alive(&self, rank: u32) -> bool {
+        let at = rank as usize;
+        at < self.lives.len() && self.lives[at]
+    }
+
+    fn launch(&mut self, rank: u32) -> Result<(), Failed> {
+        let Ok(input) = zeros(self.alloc, READ) else {
+            self.fail();
+            return Err(Failed);
+        };
+        if !self.staff.man(rank, input) {
+            self.fail();
+            return Err(Failed);
+        }
+        self.lives[rank as usize] = true;
+        Ok(())
+    }
+
+    fn turn(&mut self, buffer: &mut [u8]) -> Result<Came, Failed> {
+        if let Visited::Came(came) = self.follow(buffer)? {
+            return Ok(came);
+        }
+        for _ in 0..u64::MAX {
+            match self.go_round(buffer)? {
+                Visited::Came(came) => return Ok(came),
+                Visited::Moved => {}
+                Visited::Still => break,
+            }
+        }
+        self.fail();
+        Err(Failed)
+    }
+
+    fn send(&mut self, rank: u32, bytes: &[u8]) -> Result<(), Failed> {
+        if self.staff.tell(rank, bytes).is_err() {
+            self.fail();
+            return Err(Failed);
+        }
+        Ok(())
+    }
+
+    fn shut(&mut self, rank: u32) {
+        self.lives[rank as usize] = false;
+    }
+
+    // There is nobody to wait for.
+    fn finish(&mut self) {}
+}

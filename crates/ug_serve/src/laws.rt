@@ -1,0 +1,19 @@
+ghost use Rattle.ug_serve.specs.CrewLaws.{WorkersAreHeard};
+ghost use Rattle.ug_serve.specs.Laws.{CoursesAreTranscripts, WorkersAreHonest};
+
+/// What a worker at a link tells is true by what it heard and told before, whatever comes: it is in
+/// order, and an end of a task is told only where the whole box was searched but for what was handed.
+pub fn courses_are_transcripts()
+    ensures { CoursesAreTranscripts }
+{}
+
+/// What such workers tell is honest, where no ticket was ordered twice.
+pub fn workers_are_honest()
+    ensures { WorkersAreHonest }
+{}
+
+/// What is heard from a rank of a crew of workers, whatever the schedule, is what a worker tells that
+/// hears a front of what was told to the rank.
+pub fn workers_are_heard()
+    ensures { WorkersAreHeard }
+{}

@@ -1,0 +1,152 @@
+//! Workers at links in memory, each a rank.
+
+ghost use Rattle.std.specs.Prelude.{◌≡◌, ◌<◌, ◌≤◌, ◌++◌, ◌∷◌, [], length, take, IfOk, OnOk, OnErr};
+ghost use Rattle.ug_io.specs.declared.crew.Exchange.TheVariants.{Gone};
+ghost use Rattle.ug_io.specs.Crews.{heard_from, told_to};
+ghost use Rattle.ug_serve.specs.Staffs.{AreAlwaysWorked, AreEmpty};
+
+use crate::places::{hear, is_full, man, step, tell};
+use crate::queue_link::QueueLink;
+use crate::server::{Progress, Server};
+use std::alloc::{AllocError, Global};
+use std::marker::Model;
+use ug_io::Exchange;
+
+/// Workers at links in memory, each a rank, and all that went between them and their coordinator.
+#[derive(Drop)]
+pub struct Staff {
+    alloc: Global,
+    places: Vec<Option<Server<QueueLink>>>,
+    exchanged: Vec<Exchange>,
+}
+
+impl Model for Staff {
+    ghost use Rattle.std.specs.Prelude.{List};
+    ghost use Rattle.ug_io.specs.declared.crew.Exchange.{Exchange};
+    ghost use Rattle.ug_serve.specs.Staffs.{IsStaff};
+
+    ghost Value = { List Exchange };
+
+    ghost view = { λ s. s.exchanged.items };
+
+    ghost invariant = { λ s. IsStaff s.exchanged.items s.places.items };
+}
+
+impl Staff {
+    /// Places for so many ranks, none of which has a worker yet.
+    #[tactic(auto, using(crate::proofs::Staffs::staff_empty))]
+    pub fn new(alloc: Global, ranks: u32) -> Result<Staff, AllocError>
+        ensures { IfOk result (λ staff. staff ≡ []) }
+    {
+        let places = empty(alloc, ranks)?;
+        Ok(Staff {
+            alloc,
+            places,
+            exchanged: Vec::new(alloc),
+        })
+    }
+
+    /// All that went between, and who is gone.
+    pub fn exchanged(&self) -> &[Exchange]
+        ensures { result.now ≡ self.now }
+    {
+        self.exchanged.as_slice()
+    }
+
+    /// At each moment what was heard from each rank was what a worker tells that hears what was told
+    /// to it by then.
+    pub fn is_worked(&self)
+        ensures { AreAlwaysWorked self.now }
+    {
+        let _places = &self.places;
+    }
+
+    /// Places a worker at the rank, where there is a place and none has it. It reads into this buffer.
+    pub fn man(&mut self, rank: u32, input: Vec<u8>) -> bool
+        requires { 0 < length input.items }
+        ensures { self.new ≡ self.old }
+    {
+        let at = rank as usize;
+        if self.places.len() <= at {
+            return false;
+        }
+        man(self.alloc, &mut self.places[at], input)
+    }
+
+    /// Tells all of the bytes to the rank's worker, which may not hear them yet.
+    pub fn tell(&mut self, rank: u32, bytes: &[u8]) -> Result<(), AllocError>
+        ensures ok { OnOk result (self.new ≡ self.old ++ told_to rank bytes.now) }
+        ensures err { OnErr result (self.new ≡ self.old) }
+    {
+        let at = rank as usize;
+        if self.places.len() <= at {
+            return Err(AllocError);
+        }
+        tell(
+            self.alloc,
+            &mut self.places[at],
+            &mut self.exchanged,
+            rank,
+            bytes,
+        )
+    }
+
+    /// Lets the rank's worker hear so many more of its bytes, or all, and make a step.
+    pub fn step(&mut self, rank: u32, most: usize) -> Progress
+        ensures { self.new ≡ self.old }
+    {
+        let at = rank as usize;
+        if self.places.len() <= at {
+            return Progress::Waits;
+        }
+        step(&mut self.places[at], most)
+    }
+
+    /// Hears some bytes of the rank's worker, at most so many and as many as the buffer holds.
+    pub fn hear(&mut self, rank: u32, most: usize, buffer: &mut [u8]) -> Result<usize, AllocError>
+        ensures within { IfOk result (λ count. count ≤ length buffer.new) }
+        ensures heard { IfOk result (λ count.
+            self.new ≡ self.old ++ heard_from rank (take count buffer.new)) }
+        ensures err { OnErr result (self.new ≡ self.old) }
+    {
+        let at = rank as usize;
+        if self.places.len() <= at {
+            return Ok(0);
+        }
+        hear(
+            &mut self.places[at],
+            &mut self.exchanged,
+            rank,
+            most,
+            buffer,
+        )
+    }
+
+    /// Whether bytes of the rank's worker wait to be heard.
+    pub fn is_full(&self, rank: u32) -> bool {
+        let at = rank as usize;
+        at < self.places.len() && is_full(&self.places[at])
+    }
+
+    /// Keeps that the rank is gone.
+    pub fn lose(&mut self, rank: u32) -> Result<(), AllocError>
+        ensures ok { OnOk result (self.new ≡ self.old ++ Gone rank ∷ []) }
+        ensures err { OnErr result (self.new ≡ self.old) }
+    {
+        match self.exchanged.push(Exchange::Gone { rank }) {
+            Ok(()) => Ok(()),
+            Err(_) => Err(AllocError),
+        }
+    }
+}
+
+// So many places with no worker.
+fn empty(alloc: Global, ranks: u32) -> Result<Vec<Option<Server<QueueLink>>>, AllocError>
+    ensures { IfOk result (λ places. AreEmpty places.items) }
+{
+    let mut places = Vec::new(alloc);
+    for _ in 0..ranks {
+        places.push(None)?;
+    }
+    Ok(places)
+}

@@ -1,5 +1,0 @@
-use Rattle.ug_worker.proofs.Heard.{workers_are_heard}
-use Rattle.ug_worker.proofs.laws.workers_are_heard.Goals as goal
-
-pub returns : goal.returns
-returns c = workers_are_heard
