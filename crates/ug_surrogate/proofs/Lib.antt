@@ -10,3 +10,4 @@ pub mod Divisors
 pub mod Combined
 pub mod Listed
 pub mod Follows
+pub mod Same

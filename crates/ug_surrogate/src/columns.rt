@@ -66,7 +66,6 @@ fn weight_at(rows: usize, m: &Multipliers, row: u32) -> i64
 }
 
 // A total and one weighted factor more.
-#[tactic(auto, using(crate::proofs::Machine::sizes))]
 fn add_weighted(total: i128, weight: i64, factor: i128) -> i128
     requires total { unsigned_abs total ≤ 9 * 10 ^ 37 }
     requires weight { unsigned_abs weight ≤ 2 ^ 33 }
@@ -78,7 +77,6 @@ fn add_weighted(total: i128, weight: i64, factor: i128) -> i128
 }
 
 // The factors of a column where it stands, each times the weight of its row.
-#[tactic(auto, using(crate::proofs::Stands::weighed_more))]
 fn weigh(rows: usize, m: &Multipliers, standings: &[Standing]) -> i128
     requires multipliers { AreRising m.now.list }
     requires standings { AreFew standings.now }
@@ -105,7 +103,6 @@ pub fn factor(problem: &Problem, m: &Multipliers, column: usize) -> i128
 }
 
 // A total less the weighted side of a row.
-#[tactic(auto, using(crate::proofs::Sizes::signed_size, crate::proofs::Machine::sizes))]
 fn less_side(problem: &Problem, total: i128, multiplier: Multiplier) -> i128
     requires side { HasSide problem.now multiplier }
     requires small { unsigned_abs total + weighted_side_size problem.now multiplier ≤ 10 ^ 38 }
@@ -128,7 +125,6 @@ fn objective_constant(problem: &Problem, m: &Multipliers) -> i128
 }
 
 /// What no column changes in the weighted sum. It takes no memory.
-#[tactic(auto, using(crate::proofs::Sizes::side_fits, crate::proofs::Sizes::next_side, crate::proofs::Sizes::next_size, crate::proofs::Sizes::first_side, crate::proofs::Sizes::first_size, crate::proofs::Sizes::last_side, crate::proofs::Sizes::constant_within))]
 pub fn constant(problem: &Problem, m: &Multipliers) -> i128
     requires multipliers { AreMultipliers problem.now m.now }
     requires small { IsSomewhereSmall problem.now m.now }

@@ -23,7 +23,6 @@ pub fn minus(a: i128, b: i128) -> i128
 }
 
 /// A product of two numbers.
-#[tactic(auto, using(crate::proofs::Machine::fits))]
 pub fn times(a: i128, b: i128) -> i128
     requires { unsigned_abs a * unsigned_abs b ≤ 10 ^ 38 }
     ensures { result ≡ a *ℤ b }

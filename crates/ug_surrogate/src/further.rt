@@ -250,7 +250,6 @@ fn push_all_implied(
 }
 
 // Puts the rows behind the others that follow from the box and the cutoff.
-#[tactic(auto, using(crate::proofs::Follows::more_under))]
 fn push_all(
     alloc: Global,
     rows: &mut Vec<NamedRow>,
@@ -268,39 +267,17 @@ fn push_all(
     push_all_implied(alloc, rows, problem, area, cutoff, lists)
 }
 
-fn push_column(copies: &mut Vec<Column>, column: &Column) -> Result<(), AllocError>
-    ensures { OnOk result (copies.new.items ≡ copies.old.items ++ column.now ∷ []) }
-{
-    let copy = column.clone()?;
-    copies.push(copy)?;
-    Ok(())
-}
-
 fn copied_columns(alloc: Global, columns: &[Column]) -> Result<Columns, AllocError>
     ensures { IfOk result (λ copy. copy ≡ columns.now) }
 {
-    let mut copies = Vec::with_capacity(alloc, columns.len())?;
-    for column in columns {
-        push_column(&mut copies, column)?;
-    }
+    let copies = columns.to_vec(alloc)?;
     Ok(Items::from_vec(copies))
-}
-
-fn push_row(copies: &mut Vec<NamedRow>, row: &NamedRow) -> Result<(), AllocError>
-    ensures { OnOk result (copies.new.items ≡ copies.old.items ++ row.now ∷ []) }
-{
-    let copy = row.clone()?;
-    copies.push(copy)?;
-    Ok(())
 }
 
 fn copied_rows(alloc: Global, rows: &[NamedRow]) -> Result<Vec<NamedRow>, AllocError>
     ensures { IfOk result (λ copy. copy.items ≡ rows.now) }
 {
-    let mut copies = Vec::with_capacity(alloc, rows.len())?;
-    for row in rows {
-        push_row(&mut copies, row)?;
-    }
+    let copies = rows.to_vec(alloc)?;
     Ok(copies)
 }
 

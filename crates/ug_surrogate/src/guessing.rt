@@ -368,7 +368,6 @@ fn push(list: &mut Vec<Multiplier>, multiplier: Multiplier) -> Result<(), AllocE
 }
 
 // Adds the multiplier of a row, if the row has the side.
-#[tactic(auto, using(crate::proofs::Listed::none_added, crate::proofs::Listed::one_added))]
 fn push_listed(
     list: &mut Vec<Multiplier>,
     problem: &Problem,

@@ -73,7 +73,6 @@ pub fn side_under(problem: &Problem, multiplier: Multiplier) -> i128
 }
 
 // The size of the row of a multiplier, with its side.
-#[tactic(auto, using(crate::proofs::Parts::row_linear))]
 fn row_size(problem: &Problem, multiplier: Multiplier, area: &[Interval]) -> u128
     requires side { HasSide problem.now multiplier }
     requires width { length area.now ≡ length problem.now.columns }

@@ -5,8 +5,12 @@ use Rattle.std.proofs.lemmas.Int.{to_z-of_z}
 use mir.Syntax.{w128}
 use Rattle.ug_problem.specs.Instances.{Instance}
 use Rattle.ug_surrogate.specs.Stronger.{AreMoreRows, Follows}
-use Rattle.ug_surrogate.proofs.Follows.{follows_over}
+use Rattle.ug_surrogate.proofs.Follows.{follows_over, more_formed}
 use Rattle.ug_surrogate.proofs.further.stronger.Goals as goal
+
+pub with_rows-requires : goal.with_rows-requires
+with_rows-requires c =
+    more_formed c.args.problem.now c.args.area.now _ c.in_ok-rows.rows.items c.rows.ensures.problem c.in_ok-rows.ensures
 
 pub returns : goal.returns
 returns c =
