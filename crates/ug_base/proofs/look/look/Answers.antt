@@ -3,7 +3,8 @@ use Rattle.ug_rows.specs.declared.area.Interval.{Interval}
 use Rattle.ug_rows.specs.Boxes.{IsCrossed, IsNonEmpty}
 use Rattle.ug_branch.specs.Choices.{AreClosed}
 use Rattle.ug_base.specs.Chains.{area_of}
-use Rattle.ug_base.proofs.Chains.{bases_later, bases_trans}
+use Rattle.ug_base.specs.Looks.{CanLook, IsSeen}
+use Rattle.ug_base.proofs.Chains.{base_later, bases_later, bases_trans}
 use Rattle.ug_base.proofs.Sight.{crossed_hopeless}
 use Rattle.ug_base.proofs.look.look.Goals as goal
 
@@ -29,3 +30,22 @@ returns-else-branch-clause-seen c =
     let P : Bool → Type 0 = λ (b : Bool). MatchBool b (IsNonEmpty area) (IsCrossed area) in
     crossed_hopeless c.args.problem.now c.args.cutoff (area_of c.args.work.now c.args.part)
     (subst (λ (a : List Interval). IsCrossed a) c.in_ok-enter.ensures.area (subst P c.if-branch.false c.in_ok-enter.ensures.some))
+
+pub look_inside-requires-clause-can : goal.look_inside-requires-clause-can
+look_inside-requires-clause-can c =
+    subst (λ (a : List Interval). CanLook c.args.problem.now c.args.cutoff a) (sym c.in_ok-enter.ensures.area) c.requires.can
+
+pub returns-in_err-seen-clause-base : goal.returns-in_err-seen-clause-base
+returns-in_err-seen-clause-base c =
+    base_later c.args.problem.now c.args.whole.now c.enter.new.work c.look_inside.new.work c.enter.ensures.base
+    c.look_inside.ensures.went.later c.look_inside.ensures.went.working.box
+
+pub returns-in_ok-seen-clause-base : goal.returns-in_ok-seen-clause-base
+returns-in_ok-seen-clause-base c =
+    base_later c.args.problem.now c.args.whole.now c.enter.new.work c.look_inside.new.work c.enter.ensures.base
+    c.look_inside.ensures.went.later c.look_inside.ensures.went.working.box
+
+pub returns-in_ok-seen-clause-seen : goal.returns-in_ok-seen-clause-seen
+returns-in_ok-seen-clause-seen c =
+    subst (λ (a : List Interval). IsSeen c.args.problem.now c.args.cutoff c.args.guide.now a c.look_inside.new.work c.in_ok-seen.seen)
+    c.in_ok-enter.ensures.area c.in_ok-seen.ensures.seen

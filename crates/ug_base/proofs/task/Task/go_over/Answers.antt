@@ -5,7 +5,7 @@ use Rattle.ug_rows.specs.Boxes.{IsBelow}
 use Rattle.ug_branch.specs.declared.params.Base.{Base}
 use Rattle.ug_branch.specs.declared.params.Base.TheVariants.{Surrogate}
 use Rattle.ug_problem.specs.declared.column.Column.{Column}
-use Rattle.ug_problem.specs.Instances.{Instance, bounds_of}
+use Rattle.ug_problem.specs.Instances.{Instance, bounds_of, root_of}
 use Rattle.ug_propagate.specs.Working.{WorkState}
 use Rattle.ug_surrogate.specs.Stronger.{Follows}
 use Rattle.ug_base.specs.Chains.{IsBase, IsChain, IsPart, areas_of}
@@ -14,7 +14,7 @@ use Rattle.ug_base.specs.Tasks.{IsTask, TaskState}
 use Rattle.ug_base.specs.Views.{state_of}
 use Rattle.ug_base.proofs.Chains.{areas_kept, chain_kept, last_part}
 use Rattle.ug_base.proofs.Over.{areas_over, chain_over}
-use Rattle.ug_base.proofs.Through.{follows_of}
+use Rattle.ug_base.proofs.Through.{follows_of, root_same}
 use Rattle.ug_base.proofs.task.Task.go_over.Goals as goal
 
 pub begin-requires-clause-part : goal.begin-requires-clause-part
@@ -106,3 +106,15 @@ returns-in-Err c =
     record {
       same = ap (λ bs. record t { boxes = bs }) (ap (λ (w : WorkState). areas_of w parts) c.in-Err.ensures.err ∙ same) ∙ c.self.view_is;
     }
+
+pub begin-requires-clause-whole : goal.begin-requires-clause-whole
+begin-requires-clause-whole c =
+    let t = state_of c.self.inside in
+    let s = c.self.inside.formulation.searched in
+    let f = follows_of t.params.base t.problem t.whole t.cutoff s c.self.invariant.searched in
+    subst (λ (q : Instance). IsBelow t.whole (root_of q)) (sym c.searched.ensures.value)
+    (subst (λ a. IsBelow t.whole a) (sym (root_same t.problem t.whole t.cutoff s f)) c.self.invariant.task.whole)
+
+pub begin-requires-clause-base : goal.begin-requires-clause-base
+begin-requires-clause-base c =
+    subst (λ (q : Instance). IsBase q c.self.inside.whole c.self.inside.work) (sym c.searched.ensures.value) c.self.invariant.chain.base

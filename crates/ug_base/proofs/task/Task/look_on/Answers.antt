@@ -1,4 +1,4 @@
-use Rattle.std.proofs.Common.{◌≡◌, ◌∙◌, ◌↔◌, ◌<◌, List, [], ap, length, refl, rules, subst, sym}
+use Rattle.std.proofs.Common.{◌≡◌, ◌∙◌, ◌↔◌, ◌<◌, Result, Ok, Err, OnErr, List, [], ap, length, refl, rules, subst, sym}
 use Rattle.std.proofs.lemmas.List.{length-map}
 use Rattle.ug_problem.specs.Instances.{Instance, bounds_of}
 use Rattle.ug_base.specs.declared.look.Seen.{Seen}
@@ -234,3 +234,32 @@ returns-in_ok-split_last-in-Halved-clause-less c =
     (left_halved_less t s c.self.inside.work after c.self.inside.parts.items c.split_last.new.parts.items c.in-Some.last
     c.in-Halved.halving refl c.in-Some.ensures c.in_ok-look_last.ensures.areas
     (subst P c.in-Halved.is c.in_ok-look_last.ensures.seen) c.in_ok-split_last-in-Halved.ensures.ok)
+
+-- what holds anyhow holds after an error
+after_error : {T E P : Type 0} (r : Result T E) → P → OnErr r P
+after_error (Ok x) h = tt
+after_error (Err e) h = h
+
+pub invariant_of-self : goal.invariant_of-self
+invariant_of-self c =
+    let t = state_of c.self.inside in
+    record {
+      task = same_task t c.self.inside.work c.look_last.new.work c.self.inside.parts.items refl c.look_last.ensures.areas
+          c.self.invariant.task;
+      chain = c.look_last.ensures.chain;
+      searched = c.self.invariant.searched;
+    }
+
+pub returns-in_err-look_last-clause-err : goal.returns-in_err-look_last-clause-err
+returns-in_err-look_last-clause-err c =
+    let t = state_of c.self.inside in
+    after_error c.from_residual.result (ap (λ bs. record t { boxes = bs }) c.look_last.ensures.areas ∙ c.self.view_is)
+
+pub returns-in_err-split_last-in-Halved-clause-err : goal.returns-in_err-split_last-in-Halved-clause-err
+returns-in_err-split_last-in-Halved-clause-err c =
+    let t = state_of c.self.inside in
+    let after = c.look_last.new.work in
+    after_error c.from_residual-in_err-split_last-in-Halved.result
+    (ap (λ bs. record t { boxes = bs })
+    (ap (λ (ps : List Part). areas_of after ps) c.in_err-split_last-in-Halved.ensures.err ∙ c.in_ok-look_last.ensures.areas)
+    ∙ c.self.view_is)
