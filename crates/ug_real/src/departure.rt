@@ -3,7 +3,7 @@ use std::process::ExitStatus;
 use std::{fmt, io};
 
 /// Why a rank of a crew is gone.
-#[derive(Debug, Drop)]
+#[derive(Drop)]
 pub enum Departure {
     /// It could not be started, or its connection could not be taken.
     Unstarted(io::Error),

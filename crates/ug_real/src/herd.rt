@@ -2,14 +2,13 @@ ghost use Rattle.std.specs.Prelude.{◌≤◌, length, IfOk, IfSome, OnOk};
 ghost use Rattle.slab.specs.Slab.{HasRoomFor};
 
 use crate::departure::Watcher;
-use crate::peer::Peer;
+use crate::peer::{Peer, Sought};
 use mio::{Events, Poll, Registry, Token};
 use slab::Slab;
 use std::alloc::Global;
 use std::io;
 use std::io::ErrorKind;
 use std::net::Net;
-use std::rt::Files;
 use std::thread::sleep;
 use std::time::{Clock, Duration, Instant};
 
@@ -26,20 +25,29 @@ const GATHER: u64 = 100;
 /// How many milliseconds the end of a child is waited for once all were told to end.
 const PATIENCE: u64 = 10_000;
 
-/// So many bytes came from a rank, or, where there are none, it is gone.
+/// So many bytes came from a rank, or, where there are none, it is gone. The key is that of the
+/// child.
 #[derive(Clone, Copy)]
 pub struct Heard {
+    pub key: usize,
     pub rank: u32,
     pub count: usize,
 }
 
 /// Children, and the poll that tells of them.
 #[derive(Drop)]
-pub struct Herd<'a, R: Files> {
+pub struct Herd<F: Drop> {
     // The key whose turn in this round it is.
     next: usize,
-    poll: Option<(Poll, Events)>,
-    peers: Slab<Peer<'a, R>>,
+    watch: Option<Watch>,
+    peers: Slab<Peer<F>>,
+}
+
+// The poll, and where it notes events.
+#[derive(Drop)]
+struct Watch {
+    poll: Poll,
+    events: Events,
 }
 
 // Why a call has no child, or no poll, to work with.
@@ -48,10 +56,10 @@ fn missing() -> io::Error {
 }
 
 // A poll, and where it notes events.
-fn new_poll(net: &impl Net, alloc: Global) -> io::Result<(Poll, Events)> {
+fn new_watch(net: &impl Net, alloc: Global) -> io::Result<Watch> {
     let poll = Poll::new(net)?;
     match Events::with_capacity(alloc, EVENTS) {
-        Ok(events) => Ok((poll, events)),
+        Ok(events) => Ok(Watch { poll, events }),
         Err(error) => {
             drop(poll);
             Err(error.into())
@@ -59,38 +67,18 @@ fn new_poll(net: &impl Net, alloc: Global) -> io::Result<(Poll, Events)> {
     }
 }
 
-// The key of the child that is this rank.
-fn key_of<R: Files>(peers: &Slab<Peer<'_, R>>, rank: u32) -> Option<usize> {
+// The key of a child that is what is looked for.
+fn key_of<F: Drop>(peers: &Slab<Peer<F>>, sought: Sought) -> Option<usize> {
     for (key, peer) in peers.iter() {
-        if peer.rank() == rank && !peer.is_shut() {
+        if peer.is(sought) {
             return Some(key);
         }
     }
     None
 }
 
-// Whether a child is to end soon, of which no event need tell.
-fn is_any_leaving<R: Files>(peers: &Slab<Peer<'_, R>>) -> bool {
-    for (_, peer) in peers.iter() {
-        if peer.is_leaving() {
-            return true;
-        }
-    }
-    false
-}
-
-// Whether there may be something to hear of a child.
-fn is_any_stirred<R: Files>(peers: &Slab<Peer<'_, R>>) -> bool {
-    for (_, peer) in peers.iter() {
-        if peer.is_stirred() {
-            return true;
-        }
-    }
-    false
-}
-
 // Has each child take note of what an event tells of it.
-fn stir_all<R: Files>(peers: &mut Slab<Peer<'_, R>>, registry: &Registry, events: &Events) {
+fn stir_all<F: Drop>(peers: &mut Slab<Peer<F>>, registry: &Registry, events: &Events) {
     for event in events {
         let Token(key) = event.token();
         if let Some(peer) = peers.get_mut(key) {
@@ -100,10 +88,10 @@ fn stir_all<R: Files>(peers: &mut Slab<Peer<'_, R>>, registry: &Registry, events
 }
 
 // Looks at the children that are to end soon.
-fn hurry_all<R: Files>(peers: &mut Slab<Peer<'_, R>>, registry: &Registry, now: Option<Instant>) {
+fn hurry_all<F: Drop>(peers: &mut Slab<Peer<F>>, registry: &Registry, now: Option<Instant>) {
     for key in 0..peers.capacity() {
         if let Some(peer) = peers.get_mut(key) {
-            if peer.is_leaving() {
+            if peer.is(Sought::Leaving) {
                 peer.stir(registry, Token(key), true);
                 peer.hurry(now);
             }
@@ -112,31 +100,29 @@ fn hurry_all<R: Files>(peers: &mut Slab<Peer<'_, R>>, registry: &Registry, now: 
 }
 
 // Hears one of the children at these keys. One that was shut and has ended is let go.
-fn hear_among<R: Files>(
-    peers: &mut Slab<Peer<'_, R>>,
+fn hear_among<F: Drop>(
+    peers: &mut Slab<Peer<F>>,
     first: usize,
     end: usize,
     buffer: &mut [u8],
-) -> Option<(usize, Heard)>
-    ensures { IfSome result (λ heard. heard.1.count ≤ length buffer.new) }
+) -> Option<Heard>
+    ensures { IfSome result (λ heard. heard.count ≤ length buffer.new) }
 {
     for key in first..end {
         if let Some(heard) = hear_at(peers, key, buffer) {
-            return Some((key, heard));
+            return Some(heard);
         }
     }
     None
 }
 
-// Hears a child, if there is something to hear.
-fn hear_of<R: Files>(peer: &mut Peer<'_, R>, buffer: &mut [u8]) -> Option<Heard>
+// Hears the child at this key, if there is something to hear.
+fn hear_of<F: Drop>(peer: &mut Peer<F>, key: usize, buffer: &mut [u8]) -> Option<Heard>
     ensures { IfSome result (λ heard. heard.count ≤ length buffer.new) }
 {
-    if !peer.is_stirred() {
-        return None;
-    }
     match peer.hear(buffer) {
         Some(count) => Some(Heard {
+            key,
             rank: peer.rank(),
             count,
         }),
@@ -152,54 +138,19 @@ fn is_over(heard: Option<Heard>, is_shut: bool) -> bool {
     }
 }
 
-// Hears the child at this key, if there is something to hear.
-fn hear_at<R: Files>(peers: &mut Slab<Peer<'_, R>>, key: usize, buffer: &mut [u8]) -> Option<Heard>
+// Hears the child at this key, if there is one. One that is over is let go.
+fn hear_at<F: Drop>(peers: &mut Slab<Peer<F>>, key: usize, buffer: &mut [u8]) -> Option<Heard>
     ensures { IfSome result (λ heard. heard.count ≤ length buffer.new) }
 {
     let Some(peer) = peers.get_mut(key) else {
         return None;
     };
-    let heard = hear_of(peer, buffer);
+    let heard = hear_of(peer, key, buffer);
     if is_over(heard, peer.is_shut()) {
         drop(peers.try_remove(key));
         return None;
     }
     heard
-}
-
-// Tells the bytes to the child that is this rank.
-fn send_to<R: Files>(
-    peers: &mut Slab<Peer<'_, R>>,
-    registry: &Registry,
-    rank: u32,
-    bytes: &[u8],
-) -> io::Result<()> {
-    let Some(key) = key_of(peers, rank) else {
-        return Err(missing());
-    };
-    match peers.get_mut(key) {
-        Some(peer) => Ok(peer.send(registry, Token(key), bytes)?),
-        None => Err(missing()),
-    }
-}
-
-// Lets the child at this key go, and tells why.
-fn part_at<R: Files, W: Watcher>(peers: &mut Slab<Peer<'_, R>>, key: usize, watcher: &mut W) {
-    if let Some(peer) = peers.get_mut(key) {
-        let why = peer.departure();
-        watcher.gone(peer.rank(), &why);
-        drop(why);
-        drop(peers.try_remove(key));
-    }
-}
-
-// Closes the connection to the child that is this rank, and kills it.
-fn shut_at<R: Files>(peers: &mut Slab<Peer<'_, R>>, rank: u32) {
-    if let Some(key) = key_of(peers, rank) {
-        if let Some(peer) = peers.get_mut(key) {
-            peer.shut();
-        }
-    }
 }
 
 // Whether this time is past, since which a child ended. Without a clock it is.
@@ -211,7 +162,7 @@ fn is_past<R: Clock>(rt: &R, since: Option<Instant>) -> bool {
 }
 
 // Lets those go that have not come.
-fn dismiss_awaited<R: Files>(peers: &mut Slab<Peer<'_, R>>, registry: &Registry) {
+fn dismiss_awaited<F: Drop>(peers: &mut Slab<Peer<F>>, registry: &Registry) {
     for key in 0..peers.capacity() {
         if let Some(peer) = peers.get_mut(key) {
             peer.stir(registry, Token(key), false);
@@ -222,12 +173,12 @@ fn dismiss_awaited<R: Files>(peers: &mut Slab<Peer<'_, R>>, registry: &Registry)
     }
 }
 
-impl<'a, R: Files + Clock> Herd<'a, R> {
+impl<F: Drop> Herd<F> {
     /// None, and no poll yet.
-    pub fn new(alloc: Global) -> Herd<'a, R> {
+    pub fn new(alloc: Global) -> Herd<F> {
         Herd {
             next: 0,
-            poll: None,
+            watch: None,
             peers: Slab::new(alloc),
         }
     }
@@ -237,12 +188,12 @@ impl<'a, R: Files + Clock> Herd<'a, R> {
         ensures { OnOk result (HasRoomFor self.new.peers 1) }
     {
         self.peers.reserve(1)?;
-        if self.poll.is_some() {
+        if self.watch.is_some() {
             return Ok(());
         }
-        match new_poll(net, alloc) {
-            Ok(poll) => {
-                drop(self.poll.replace(poll));
+        match new_watch(net, alloc) {
+            Ok(watch) => {
+                drop(self.watch.replace(watch));
                 Ok(())
             }
             Err(error) => Err(error),
@@ -250,15 +201,15 @@ impl<'a, R: Files + Clock> Herd<'a, R> {
     }
 
     // Has what becomes of the child told by the poll.
-    fn register(&self, peer: &mut Peer<'a, R>, key: usize) -> io::Result<()> {
-        match &self.poll {
-            Some((poll, _)) => peer.register(poll.registry(), Token(key)),
+    fn register(&self, peer: &mut Peer<F>, key: usize) -> io::Result<()> {
+        match &self.watch {
+            Some(watch) => peer.register(watch.poll.registry(), Token(key)),
             None => Err(missing()),
         }
     }
 
     /// Takes in a child, for which there is room.
-    pub fn admit(&mut self, mut peer: Peer<'a, R>) -> io::Result<()>
+    pub fn admit(&mut self, mut peer: Peer<F>) -> io::Result<()>
         requires { HasRoomFor self.old.peers 1 }
     {
         let key = self.peers.vacant_key();
@@ -276,32 +227,43 @@ impl<'a, R: Files + Clock> Herd<'a, R> {
 
     /// Tells the bytes to the rank, now or as soon as they can go.
     pub fn send(&mut self, rank: u32, bytes: &[u8]) -> io::Result<()> {
-        match &self.poll {
-            Some((poll, _)) => send_to(&mut self.peers, poll.registry(), rank, bytes),
+        let (Some(watch), Some(key)) = (&self.watch, key_of(&self.peers, Sought::Rank(rank))) else {
+            return Err(missing());
+        };
+        match self.peers.get_mut(key) {
+            Some(peer) => Ok(peer.send(watch.poll.registry(), Token(key), bytes)?),
             None => Err(missing()),
         }
     }
 
     /// Closes the connection to the rank, and kills it.
     pub fn shut(&mut self, rank: u32) {
-        shut_at(&mut self.peers, rank);
+        if let Some(key) = key_of(&self.peers, Sought::Rank(rank)) {
+            if let Some(peer) = self.peers.get_mut(key) {
+                peer.shut();
+            }
+        }
     }
 
     // Hears one of the children whose turn in this round is still to come, if there is something to
     // hear.
-    fn hear(&mut self, buffer: &mut [u8]) -> Option<(usize, Heard)>
-        ensures { IfSome result (λ heard. heard.1.count ≤ length buffer.new) }
+    fn hear(&mut self, buffer: &mut [u8]) -> Option<Heard>
+        ensures { IfSome result (λ heard. heard.count ≤ length buffer.new) }
     {
         let end = self.peers.capacity();
-        hear_among(&mut self.peers, self.next, end, buffer)
+        let heard = hear_among(&mut self.peers, self.next, end, buffer);
+        if let Some(Heard { key, .. }) = heard {
+            self.next = key.saturating_add(1);
+        }
+        heard
     }
 
     // Begins a round. It looks what has become of all children, so that one that never stops talking
     // keeps no other from coming, being heard or being told, and waits, so many milliseconds at
     // most, where there is nothing to hear, and then a little longer.
-    fn look(&mut self, clock: &R, most: Option<u64>) -> io::Result<()> {
+    fn look<R: Clock>(&mut self, clock: &R, most: Option<u64>) -> io::Result<()> {
         self.next = 0;
-        if is_any_stirred(&self.peers) {
+        if key_of(&self.peers, Sought::Stirred).is_some() {
             self.wait(clock, Some(0))
         } else {
             self.wait(clock, most)?;
@@ -311,8 +273,8 @@ impl<'a, R: Files + Clock> Herd<'a, R> {
     }
 
     // Waits until there may be something to hear or to send, so many milliseconds at most.
-    fn wait(&mut self, clock: &R, most: Option<u64>) -> io::Result<()> {
-        let is_any_leaving = is_any_leaving(&self.peers);
+    fn wait<R: Clock>(&mut self, clock: &R, most: Option<u64>) -> io::Result<()> {
+        let is_any_leaving = key_of(&self.peers, Sought::Leaving).is_some();
         let most = if is_any_leaving {
             Some(most.unwrap_or(SOON).min(SOON))
         } else {
@@ -325,31 +287,32 @@ impl<'a, R: Files + Clock> Herd<'a, R> {
 
     // Waits until the poll tells of something, so many milliseconds at most.
     fn wait_for_events(&mut self, most: Option<u64>) -> io::Result<()> {
-        match &mut self.poll {
-            Some((poll, events)) => poll.poll(events, most.map(Duration::from_millis)),
+        match &mut self.watch {
+            Some(watch) => watch
+                .poll
+                .poll(&mut watch.events, most.map(Duration::from_millis)),
             None => Err(missing()),
         }
     }
 
     // Has the children take note of what the poll told, and looks at those that are to end soon.
-    fn heed(&mut self, clock: &R, is_any_leaving: bool) {
-        if let Some((poll, events)) = &self.poll {
-            stir_all(&mut self.peers, poll.registry(), events);
+    fn heed<R: Clock>(&mut self, clock: &R, is_any_leaving: bool) {
+        if let Some(watch) = &self.watch {
+            stir_all(&mut self.peers, watch.poll.registry(), &watch.events);
             if is_any_leaving {
                 let now = Instant::now(clock).ok();
-                hurry_all(&mut self.peers, poll.registry(), now);
+                hurry_all(&mut self.peers, watch.poll.registry(), now);
             }
         }
     }
 
-    /// Waits until bytes come from a child, or one is gone. The key is then that of the child.
-    pub fn turn(&mut self, clock: &R, buffer: &mut [u8]) -> io::Result<(usize, Heard)>
-        ensures { IfOk result (λ heard. heard.1.count ≤ length buffer.new) }
+    /// Waits until bytes come from a child, or one is gone.
+    pub fn turn<R: Clock>(&mut self, clock: &R, buffer: &mut [u8]) -> io::Result<Heard>
+        ensures { IfOk result (λ heard. heard.count ≤ length buffer.new) }
     {
         for _ in 0..u64::MAX {
-            if let Some((key, heard)) = self.hear(buffer) {
-                self.next = key.saturating_add(1);
-                return Ok((key, heard));
+            if let Some(heard) = self.hear(buffer) {
+                return Ok(heard);
             }
             self.look(clock, None)?;
         }
@@ -358,7 +321,12 @@ impl<'a, R: Files + Clock> Herd<'a, R> {
 
     /// Lets the child at this key go, and tells why.
     pub fn part<W: Watcher>(&mut self, key: usize, watcher: &mut W) {
-        part_at(&mut self.peers, key, watcher);
+        if let Some(peer) = self.peers.get_mut(key) {
+            let why = peer.departure();
+            watcher.gone(peer.rank(), &why);
+            drop(why);
+            drop(self.peers.try_remove(key));
+        }
     }
 
     // Hears what the children say in the rest of this round, and lets those go that have ended.
@@ -366,15 +334,15 @@ impl<'a, R: Files + Clock> Herd<'a, R> {
         let mut buffer = [0u8; 4096];
         for _ in 0..u64::MAX {
             match self.hear(&mut buffer) {
-                Some((key, heard)) if heard.count == 0 => drop(self.peers.try_remove(key)),
-                Some((key, _)) => self.next = key.saturating_add(1),
+                Some(Heard { key, count: 0, .. }) => drop(self.peers.try_remove(key)),
+                Some(_) => {}
                 None => return,
             }
         }
     }
 
     // Waits until each child has ended, so long at most behind the one before, or a wait fails.
-    fn see_off(&mut self, clock: &R) {
+    fn see_off<R: Clock>(&mut self, clock: &R) {
         let mut since = Instant::now(clock).ok();
         for _ in 0..u64::MAX {
             let count = self.peers.len();
@@ -395,9 +363,9 @@ impl<'a, R: Files + Clock> Herd<'a, R> {
 
     /// Lets all go out that was told, and waits until each child has ended. One that has not come
     /// to its socket is killed, and so is one that goes on for too long.
-    pub fn finish(&mut self, clock: &R) {
-        if let Some((poll, _)) = &self.poll {
-            dismiss_awaited(&mut self.peers, poll.registry());
+    pub fn finish<R: Clock>(&mut self, clock: &R) {
+        if let Some(watch) = &self.watch {
+            dismiss_awaited(&mut self.peers, watch.poll.registry());
             self.see_off(clock);
         }
         self.peers.clear();

@@ -1,9 +1,9 @@
 ghost use Rattle.std.specs.Prelude.{◌≤◌, length, IfOk};
 
-use crate::departure::{Departure, Watcher};
+use crate::departure::Watcher;
 use crate::herd::{Heard, Herd};
 use crate::peer::Peer;
-use crate::sockets::{Door, Sockets};
+use crate::sockets::{Door, SocketFile, Sockets};
 use crate::ward::Ward;
 use std::alloc::Global;
 use std::fs::File;
@@ -26,17 +26,17 @@ pub struct Children<'a> {
 #[derive(Drop)]
 pub struct Pack<'a, R: Files<File = File>, W: Drop> {
     starter: Starter<'a, R>,
-    herd: Herd<'a, R>,
-    watcher: W,
+    pub herd: Herd<SocketFile<'a, R>>,
+    pub watcher: W,
 }
 
 // What starts the children.
 #[derive(Drop)]
-struct Starter<'a, R: Files<File = File>> {
+struct Starter<'a, R> {
     alloc: Global,
     program: &'a str,
     rt: &'a R,
-    sockets: Sockets<'a, R>,
+    sockets: Sockets<'a>,
 }
 
 // A child of this program and rank that is to come to the door.
@@ -45,8 +45,8 @@ fn start_at<'a, R: Files + Processes<Started = SystemProcess>>(
     alloc: Global,
     program: &str,
     rank: u32,
-    door: Door<'a, R>,
-) -> io::Result<Peer<'a, R>> {
+    door: Door<SocketFile<'a, R>>,
+) -> io::Result<Peer<SocketFile<'a, R>>> {
     match Ward::start(rt, alloc, program, door.file.path()) {
         Ok(child) => Ok(Peer::new(alloc, rank, door, child)),
         Err(error) => {
@@ -61,8 +61,8 @@ where
     R: Files<File = File> + Net + Processes<Started = SystemProcess>,
 {
     // A child that is to come to the socket of the rank.
-    fn start(&mut self, rank: u32) -> io::Result<Peer<'a, R>> {
-        match self.sockets.bind(rank) {
+    fn start(&mut self, rank: u32) -> io::Result<Peer<SocketFile<'a, R>>> {
+        match self.sockets.bind(self.rt, rank) {
             Ok(door) => start_at(self.rt, self.alloc, self.program, rank, door),
             Err(error) => Err(error),
         }
@@ -80,16 +80,11 @@ where
                 alloc,
                 program: children.program,
                 rt,
-                sockets: Sockets::new(rt, alloc, children.sockets),
+                sockets: Sockets::new(alloc, children.sockets),
             },
             herd: Herd::new(alloc),
             watcher,
         }
-    }
-
-    /// Tells why a rank is gone.
-    pub fn tell(&mut self, rank: u32, why: &Departure) {
-        self.watcher.gone(rank, why);
     }
 
     /// Starts the child that is this rank.
@@ -101,24 +96,14 @@ where
         }
     }
 
-    /// Tells the bytes to the rank, now or as soon as they can go.
-    pub fn send(&mut self, rank: u32, bytes: &[u8]) -> io::Result<()> {
-        self.herd.send(rank, bytes)
-    }
-
-    /// Closes the connection to the rank, and kills it.
-    pub fn shut(&mut self, rank: u32) {
-        self.herd.shut(rank);
-    }
-
     /// Waits until bytes come from a rank, or one is gone.
     pub fn turn(&mut self, buffer: &mut [u8]) -> io::Result<Heard>
         ensures { IfOk result (λ heard. heard.count ≤ length buffer.new) }
     {
         match self.herd.turn(self.starter.rt, buffer) {
-            Ok((key, heard)) => {
+            Ok(heard) => {
                 if heard.count == 0 {
-                    self.herd.part(key, &mut self.watcher);
+                    self.herd.part(heard.key, &mut self.watcher);
                 }
                 Ok(heard)
             }

@@ -9,16 +9,15 @@ use mio::net::UnixStream;
 use mio::{Interest, Registry, Token};
 use std::alloc::{AllocError, Global};
 use std::io::ErrorKind;
-use std::rt::Files;
 use std::time::{Duration, Instant};
 use std::{io, mem};
 
 /// How many milliseconds a child has to end once it has hung up.
 const GRACE: u64 = 1000;
 
-/// A child of a crew, and the connection to it.
+/// A child of a crew, and the connection to it. Until it comes there is a file of its socket.
 #[derive(Drop)]
-pub struct Peer<'a, R: Files> {
+pub struct Peer<F: Drop> {
     rank: u32,
     // There may be something to hear of it.
     is_stirred: bool,
@@ -31,22 +30,33 @@ pub struct Peer<'a, R: Files> {
     // Since when its end is waited for.
     since: Option<Instant>,
     outbox: Outbox,
-    line: Line<'a, R>,
+    line: Line<F>,
     child: Ward,
 }
 
 // The connection to a child.
 #[derive(Drop)]
-enum Line<'a, R: Files> {
+enum Line<F: Drop> {
     // It has not come yet.
-    Awaited(Door<'a, R>),
+    Awaited(Door<F>),
     Open(UnixStream),
     Closed,
 }
 
-impl<'a, R: Files> Peer<'a, R> {
+/// What is looked for among children.
+#[derive(Clone, Copy)]
+pub enum Sought {
+    /// One that is this rank, and is not shut.
+    Rank(u32),
+    /// One of which there may be something to hear.
+    Stirred,
+    /// One that is to end soon, of which no event need tell.
+    Leaving,
+}
+
+impl<F: Drop> Peer<F> {
     /// A child that is to come to this door.
-    pub fn new(alloc: Global, rank: u32, door: Door<'a, R>, child: Ward) -> Peer<'a, R> {
+    pub fn new(alloc: Global, rank: u32, door: Door<F>, child: Ward) -> Peer<F> {
         Peer {
             rank,
             line: Line::Awaited(door),
@@ -64,10 +74,6 @@ impl<'a, R: Files> Peer<'a, R> {
         self.rank
     }
 
-    pub fn is_stirred(&self) -> bool {
-        self.is_stirred
-    }
-
     pub fn is_shut(&self) -> bool {
         self.is_shut
     }
@@ -80,11 +86,20 @@ impl<'a, R: Files> Peer<'a, R> {
         }
     }
 
-    /// Whether it is to end soon, of which no event need tell.
-    pub fn is_leaving(&self) -> bool {
+    // Whether it is to end soon, of which no event need tell.
+    fn is_leaving(&self) -> bool {
         match &self.line {
             Line::Closed => !self.child.has_ended(),
             Line::Awaited(_) | Line::Open(_) => self.is_ending && !self.child.has_ended(),
+        }
+    }
+
+    /// Whether it is what is looked for.
+    pub fn is(&self, sought: Sought) -> bool {
+        match sought {
+            Sought::Rank(rank) => self.rank == rank && !self.is_shut,
+            Sought::Stirred => self.is_stirred,
+            Sought::Leaving => self.is_leaving(),
         }
     }
 
@@ -102,7 +117,10 @@ impl<'a, R: Files> Peer<'a, R> {
             return;
         };
         match door.listener.accept() {
-            Ok((stream, _)) => self.open(registry, token, stream),
+            Ok((stream, address)) => {
+                drop(address);
+                self.open(registry, token, stream);
+            }
             Err(error) => match error.kind() {
                 // A connection that was given up is none.
                 ErrorKind::WouldBlock | ErrorKind::Interrupted | ErrorKind::ConnectionAborted => {
@@ -133,11 +151,7 @@ impl<'a, R: Files> Peer<'a, R> {
     fn give_up(&mut self, why: Departure) {
         self.close();
         self.child.kill();
-        if self.why.is_none() {
-            drop(self.why.replace(why));
-        } else {
-            drop(why);
-        }
+        self.why.get_or_insert(why);
     }
 
     // Closes its connection.
@@ -204,7 +218,6 @@ impl<'a, R: Files> Peer<'a, R> {
                 let waits = error.kind() == ErrorKind::WouldBlock && !self.child.has_ended();
                 drop(error);
                 if waits {
-                    self.is_stirred = false;
                     return None;
                 }
             }
@@ -219,6 +232,9 @@ impl<'a, R: Files> Peer<'a, R> {
     pub fn hear(&mut self, buffer: &mut [u8]) -> Option<usize>
         ensures { IfSome result (λ n. n ≤ length buffer.new) }
     {
+        if !self.is_stirred {
+            return None;
+        }
         if let Some(count) = self.take(buffer) {
             return Some(count);
         }

@@ -86,7 +86,9 @@ where
                 Ok(())
             }
             Err(error) => {
-                self.pack.tell(rank, &Departure::Unstarted(error));
+                let why = Departure::Unstarted(error);
+                self.pack.watcher.gone(rank, &why);
+                drop(why);
                 Err(self.faults.rise())
             }
         }
@@ -97,7 +99,7 @@ where
             return Err(self.faults.add(nobody()));
         }
         match self.pack.turn(buffer) {
-            Ok(Heard { rank, count }) if self.is_alive(rank) => {
+            Ok(Heard { rank, count, .. }) if self.is_alive(rank) => {
                 if count > 0 {
                     return Ok(Came::Bytes { rank, count });
                 }
@@ -111,17 +113,19 @@ where
     }
 
     fn send(&mut self, rank: u32, bytes: &[u8]) -> Result<(), Failed> {
-        match self.pack.send(rank, bytes) {
+        match self.pack.herd.send(rank, bytes) {
             Ok(()) => Ok(()),
             Err(error) => {
-                self.pack.tell(rank, &Departure::Untold(error));
+                let why = Departure::Untold(error);
+                self.pack.watcher.gone(rank, &why);
+                drop(why);
                 Err(self.faults.rise())
             }
         }
     }
 
     fn shut(&mut self, rank: u32) {
-        self.pack.shut(rank);
+        self.pack.herd.shut(rank);
         self.lives[rank as usize] = false;
     }
 

@@ -31,7 +31,7 @@ fn before_name_of(slot: Slot) -> &'static str {
 }
 
 /// What is done with the slots of a folder.
-#[derive(Clone, Copy, PartialEq, Eq)]
+#[derive(Clone, Copy)]
 pub enum Stage {
     /// They are looked at, and nothing is made: a file that is not there is an empty slot.
     Looks,
@@ -162,7 +162,7 @@ impl<'a, R: Files<File = File>> SlotFiles<'a, R> {
 
     // Whether what is not there is made.
     fn makes(&self) -> bool {
-        self.stage != Stage::Looks
+        !matches!(&self.stage, Stage::Looks)
     }
 
     // The folder, locked where it is not.
@@ -338,7 +338,7 @@ impl<R: Files<File = File> + Eprint> SlotFiles<'_, R> {
     /// Writes all of the bytes from a place on. Where a run begins, what the slots had is kept
     /// before the first of them is written.
     pub fn write(&mut self, slot: Slot, at: u64, bytes: &[u8]) -> io::Result<()> {
-        if self.stage == Stage::Begins {
+        if matches!(&self.stage, Stage::Begins) {
             self.keep_before()?;
         }
         self.stage = Stage::Writes;

@@ -14,18 +14,17 @@ const LONGEST: usize = 107;
 /// The folder in which the children of a crew come to their sockets. It is locked from the first
 /// call on, so that no other crew takes its sockets away.
 #[derive(Drop)]
-pub struct Sockets<'a, R: Files<File = File>> {
+pub struct Sockets<'a> {
     alloc: Global,
     folder: &'a str,
     lock: Option<File>,
-    rt: &'a R,
 }
 
-/// A socket to which a child is to come.
+/// A socket to which a child is to come, and what removes its file.
 #[derive(Drop)]
-pub struct Door<'a, R: Files> {
+pub struct Door<F: Drop> {
     pub listener: UnixListener,
-    pub file: SocketFile<'a, R>,
+    pub file: F,
 }
 
 /// The file of a socket, which is removed where this is dropped.
@@ -140,11 +139,10 @@ fn address_of(path: &str) -> io::Result<SocketAddr> {
     SocketAddr::from_pathname(path)
 }
 
-impl<'a, R: Files<File = File> + Net> Sockets<'a, R> {
+impl<'a> Sockets<'a> {
     /// A folder that is not looked at yet.
-    pub fn new(rt: &'a R, alloc: Global, folder: &'a str) -> Sockets<'a, R> {
+    pub fn new(alloc: Global, folder: &'a str) -> Sockets<'a> {
         Sockets {
-            rt,
             alloc,
             folder,
             lock: None,
@@ -152,9 +150,9 @@ impl<'a, R: Files<File = File> + Net> Sockets<'a, R> {
     }
 
     // Opens the folder where it is not open.
-    fn open(&mut self) -> io::Result<()> {
+    fn open<R: Files<File = File>>(&mut self, rt: &R) -> io::Result<()> {
         if self.lock.is_none() {
-            match open_folder(self.rt, self.folder) {
+            match open_folder(rt, self.folder) {
                 Ok(folder) => drop(self.lock.replace(folder)),
                 Err(error) => return Err(error),
             }
@@ -164,10 +162,14 @@ impl<'a, R: Files<File = File> + Net> Sockets<'a, R> {
 
     /// Makes the socket of a rank, which this user alone can come to. A file that lies there is
     /// removed.
-    pub fn bind(&mut self, rank: u32) -> io::Result<Door<'a, R>> {
+    pub fn bind<'r, R: Files<File = File> + Net>(
+        &mut self,
+        rt: &'r R,
+        rank: u32,
+    ) -> io::Result<Door<SocketFile<'r, R>>> {
         let path = path_of(self.alloc, self.folder, rank)?;
-        match self.listen(path.as_str()) {
-            Ok(listener) => self.guarded(listener, path),
+        match self.listen(rt, path.as_str()) {
+            Ok(listener) => self.guarded(rt, listener, path),
             Err(error) => {
                 drop(path);
                 Err(error)
@@ -176,18 +178,27 @@ impl<'a, R: Files<File = File> + Net> Sockets<'a, R> {
     }
 
     // A socket at this path. A file that lies there is removed.
-    fn listen(&mut self, path: &str) -> io::Result<UnixListener> {
+    fn listen<R: Files<File = File> + Net>(
+        &mut self,
+        rt: &R,
+        path: &str,
+    ) -> io::Result<UnixListener> {
         let address = address_of(path)?;
-        match self.open() {
-            Ok(()) => listen_at(self.rt, path, &address),
+        match self.open(rt) {
+            Ok(()) => listen_at(rt, path, &address),
             Err(error) => Err(error),
         }
     }
 
     // A socket at this path to which this user alone can come.
-    fn guarded(&self, listener: UnixListener, path: String) -> io::Result<Door<'a, R>> {
-        let file = SocketFile { rt: self.rt, path };
-        match self.guard(file.path()) {
+    fn guarded<'r, R: Files>(
+        &self,
+        rt: &'r R,
+        listener: UnixListener,
+        path: String,
+    ) -> io::Result<Door<SocketFile<'r, R>>> {
+        let file = SocketFile { rt, path };
+        match self.guard(rt, file.path()) {
             Ok(()) => Ok(Door { listener, file }),
             Err(error) => {
                 drop(file);
@@ -198,10 +209,10 @@ impl<'a, R: Files<File = File> + Net> Sockets<'a, R> {
     }
 
     // Lets this user alone use the file, in a folder of this user.
-    fn guard(&self, file: &str) -> io::Result<()> {
-        fs::set_permissions(self.rt, file, Permissions::from_mode(0o600))?;
+    fn guard<R: Files>(&self, rt: &R, file: &str) -> io::Result<()> {
+        fs::set_permissions(rt, file, Permissions::from_mode(0o600))?;
         match &self.lock {
-            Some(folder) => own_folder(self.rt, folder, file),
+            Some(folder) => own_folder(rt, folder, file),
             None => Err(not_own()),
         }
     }
