@@ -11,6 +11,10 @@ use Rattle.ug_coord.specs.Reading.{HasBroken, HasFed, HasGone, HasLacked, HasRea
 abbrev pub lent : ℕ → List Waiting → List Waiting → List Waiting
 lent n old new = take n (new ++ drop (length new) old)
 
+-- the vector is as long as the slice that it is lent as
+pub as_long : {slice items : List Waiting} {n : ℕ} → slice ≡ items → length slice ≡ n → length items ≡ n
+as_long same is = ap (λ (l : List Waiting). length l) (sym same) ∙ is
+
 whole : (n : ℕ) (old new : List Waiting) → length old ≡ n → length new ≡ length old → lent n old new ≡ new
 whole n old new long same = take_at new (drop (length new) old) n (same ∙ long)
 

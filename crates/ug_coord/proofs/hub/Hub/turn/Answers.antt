@@ -1,11 +1,12 @@
-use Rattle.std.proofs.Common.{Bool, true, false, refl, rules}
+use Rattle.std.proofs.Common.{Bool, List, true, false, refl, subst}
 use Rattle.std.specs.Prelude.{MatchBool}
+use Rattle.ug_stream.specs.Streams.{Waiting}
 use Rattle.ug_coord.specs.Deeds.{Deciding, Reading, Standing}
 use Rattle.ug_coord.specs.HubViews.{hub_seen}
 use Rattle.ug_coord.specs.Hubs.{HubSeen, IsOnAs, IsOnIn, IsRested, MayRead, Phase, is_next}
 use Rattle.ug_coord.specs.Reading.{HasBroken, HasFed, HasGone, HasLacked}
 use Rattle.ug_coord.proofs.Coursing.{any_in, broke_by, broken_rests, deciding_rests, fed_by, gone_by, lacked_by, reading_reads, reading_rests, stays_in}
-use Rattle.ug_coord.proofs.Whole.{broken_whole, fed_whole, gone_whole, lacked_whole}
+use Rattle.ug_coord.proofs.Whole.{as_long, broken_whole, fed_whole, gone_whole, lacked_whole}
 use Rattle.ug_coord.proofs.Counts.{lost_quiet, quiet_one}
 use Rattle.ug_coord.proofs.hub.Hub.turn.Goals as goal
 
@@ -21,60 +22,78 @@ read_rests false from h new goes on =
 pub lose_all-requires-clause-on : goal.lose_all-requires-clause-on
 lose_all-requires-clause-on g c κs within =
     let broken : HasBroken (g.C.Crew.seen c.args.self.now.crew) (g.C.Crew.seen c.take_turn.new.crew)
-    c.args.self.now.streams.items c.take_turn.new.streams = search rules in (
+    c.args.self.now.streams.items c.take_turn.new.streams =
+    subst (λ (l : List Waiting). HasBroken (g.C.Crew.seen c.args.self.now.crew)
+    (g.C.Crew.seen c.take_turn.new.crew) l c.take_turn.new.streams) c.deref_mut.ensures.value
+    c.in-Failed.ensures in (
       c.requires.on.0,
       broke_by c.requires.on.0 (hub_seen g.C.Crew.seen c.args.self.now) _ c.requires.more c.requires.told
           (broken_whole c.args.self.now.streams.len (g.C.Crew.seen c.args.self.now.crew) (g.C.Crew.seen c.take_turn.new.crew)
-          c.args.self.now.streams.items c.take_turn.new.streams (search rules) broken) refl refl refl c.requires.on.1,
+          c.args.self.now.streams.items c.take_turn.new.streams (as_long c.deref_mut.ensures.value c.deref_mut.ensures.len) broken) refl refl refl c.requires.on.1,
     )
 
 pub hear_next-requires-clause-on : goal.hear_next-requires-clause-on
 hear_next-requires-clause-on g c κs within =
     let fed : HasFed (g.C.Crew.seen c.args.self.now.crew) (g.C.Crew.seen c.take_turn.new.crew)
-    c.args.self.now.streams.items c.take_turn.new.streams c.in-Fed.rank = search rules in (
+    c.args.self.now.streams.items c.take_turn.new.streams c.in-Fed.rank =
+    subst (λ (l : List Waiting). HasFed (g.C.Crew.seen c.args.self.now.crew)
+    (g.C.Crew.seen c.take_turn.new.crew) l c.take_turn.new.streams c.in-Fed.rank) c.deref_mut.ensures.value
+    c.in-Fed.ensures in (
       c.requires.on.0,
       any_in (is_next Reading) c.requires.on.0 _
           (fed_by c.requires.on.0 (hub_seen g.C.Crew.seen c.args.self.now) _ c.in-Fed.rank c.requires.more c.requires.told
           (fed_whole c.args.self.now.streams.len (g.C.Crew.seen c.args.self.now.crew) (g.C.Crew.seen c.take_turn.new.crew)
-          c.args.self.now.streams.items c.take_turn.new.streams c.in-Fed.rank (search rules) fed) refl refl refl c.requires.on.1),
+          c.args.self.now.streams.items c.take_turn.new.streams c.in-Fed.rank (as_long c.deref_mut.ensures.value c.deref_mut.ensures.len) fed) refl refl refl c.requires.on.1),
     )
 
 pub returns-in-Fed-clause-on : goal.returns-in-Fed-clause-on
 returns-in-Fed-clause-on g c from on =
     let fed : HasFed (g.C.Crew.seen c.args.self.now.crew) (g.C.Crew.seen c.take_turn.new.crew)
-    c.args.self.now.streams.items c.take_turn.new.streams c.in-Fed.rank = search rules in
+    c.args.self.now.streams.items c.take_turn.new.streams c.in-Fed.rank =
+    subst (λ (l : List Waiting). HasFed (g.C.Crew.seen c.args.self.now.crew)
+    (g.C.Crew.seen c.take_turn.new.crew) l c.take_turn.new.streams c.in-Fed.rank) c.deref_mut.ensures.value
+    c.in-Fed.ensures in
     read_rests c.hear_next.result from _ (hub_seen g.C.Crew.seen c.hear_next.new.self) c.hear_next.ensures.on
     (fed_by from (hub_seen g.C.Crew.seen c.args.self.now) _ c.in-Fed.rank c.requires.more c.requires.told
     (fed_whole c.args.self.now.streams.len (g.C.Crew.seen c.args.self.now.crew) (g.C.Crew.seen c.take_turn.new.crew)
-    c.args.self.now.streams.items c.take_turn.new.streams c.in-Fed.rank (search rules) fed) refl refl refl on)
+    c.args.self.now.streams.items c.take_turn.new.streams c.in-Fed.rank (as_long c.deref_mut.ensures.value c.deref_mut.ensures.len) fed) refl refl refl on)
 
 pub returns-in-Gone-clause-on : goal.returns-in-Gone-clause-on
 returns-in-Gone-clause-on g c from on =
     let gone : HasGone (g.C.Crew.seen c.args.self.now.crew) (g.C.Crew.seen c.take_turn.new.crew)
-    c.args.self.now.streams.items c.take_turn.new.streams c.in-Gone.rank = search rules in
+    c.args.self.now.streams.items c.take_turn.new.streams c.in-Gone.rank =
+    subst (λ (l : List Waiting). HasGone (g.C.Crew.seen c.args.self.now.crew)
+    (g.C.Crew.seen c.take_turn.new.crew) l c.take_turn.new.streams c.in-Gone.rank) c.deref_mut.ensures.value
+    c.in-Gone.ensures in
     deciding_rests from _ (gone_by from (hub_seen g.C.Crew.seen c.args.self.now) _ c.in-Gone.rank c.requires.more
     c.requires.told
     (gone_whole c.args.self.now.streams.len (g.C.Crew.seen c.args.self.now.crew) (g.C.Crew.seen c.take_turn.new.crew)
-    c.args.self.now.streams.items c.take_turn.new.streams c.in-Gone.rank (search rules) gone) c.gone.ensures.done
+    c.args.self.now.streams.items c.take_turn.new.streams c.in-Gone.rank (as_long c.deref_mut.ensures.value c.deref_mut.ensures.len) gone) c.gone.ensures.done
     c.gone.ensures.same.wide refl refl on)
 
 pub returns-in-Failed-clause-on : goal.returns-in-Failed-clause-on
 returns-in-Failed-clause-on g c from on =
     let broken : HasBroken (g.C.Crew.seen c.args.self.now.crew) (g.C.Crew.seen c.take_turn.new.crew)
-    c.args.self.now.streams.items c.take_turn.new.streams = search rules in
+    c.args.self.now.streams.items c.take_turn.new.streams =
+    subst (λ (l : List Waiting). HasBroken (g.C.Crew.seen c.args.self.now.crew)
+    (g.C.Crew.seen c.take_turn.new.crew) l c.take_turn.new.streams) c.deref_mut.ensures.value
+    c.in-Failed.ensures in
     broken_rests from (hub_seen g.C.Crew.seen c.lose_all.new.self) (c.lose_all.ensures.on from
     (broke_by from (hub_seen g.C.Crew.seen c.args.self.now) _ c.requires.more c.requires.told
     (broken_whole c.args.self.now.streams.len (g.C.Crew.seen c.args.self.now.crew) (g.C.Crew.seen c.take_turn.new.crew)
-    c.args.self.now.streams.items c.take_turn.new.streams (search rules) broken) refl refl refl on))
+    c.args.self.now.streams.items c.take_turn.new.streams (as_long c.deref_mut.ensures.value c.deref_mut.ensures.len) broken) refl refl refl on))
 
 pub returns-in-Wanting-clause-on : goal.returns-in-Wanting-clause-on
 returns-in-Wanting-clause-on g c from on =
     let lacked : HasLacked (g.C.Crew.seen c.args.self.now.crew) (g.C.Crew.seen c.take_turn.new.crew)
-    c.args.self.now.streams.items c.take_turn.new.streams c.in-Wanting.rank = search rules in
+    c.args.self.now.streams.items c.take_turn.new.streams c.in-Wanting.rank =
+    subst (λ (l : List Waiting). HasLacked (g.C.Crew.seen c.args.self.now.crew)
+    (g.C.Crew.seen c.take_turn.new.crew) l c.take_turn.new.streams c.in-Wanting.rank) c.deref_mut.ensures.value
+    c.in-Wanting.ensures in
     reading_rests from _ (lacked_by from (hub_seen g.C.Crew.seen c.args.self.now) _ c.in-Wanting.rank c.requires.more
     c.requires.told
     (lacked_whole c.args.self.now.streams.len (g.C.Crew.seen c.args.self.now.crew) (g.C.Crew.seen c.take_turn.new.crew)
-    c.args.self.now.streams.items c.take_turn.new.streams c.in-Wanting.rank (search rules) lacked) refl refl refl on)
+    c.args.self.now.streams.items c.take_turn.new.streams c.in-Wanting.rank (as_long c.deref_mut.ensures.value c.deref_mut.ensures.len) lacked) refl refl refl on)
 
 pub returns-in-Gone-clause-hears : goal.returns-in-Gone-clause-hears
 returns-in-Gone-clause-hears g c =
