@@ -11,6 +11,7 @@ pub mod Rooms
 pub mod Running
 pub mod Measures
 pub mod Machine
+pub mod Words
 pub mod Bits
 pub mod Stepping
 pub mod Fresh
