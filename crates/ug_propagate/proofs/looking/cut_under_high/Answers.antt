@@ -1,6 +1,7 @@
-use Rattle.std.proofs.Common.{◌∙◌, sym, length, arith}
-use Rattle.std.proofs.lemmas.Int.{ints}
-use Rattle.ug_propagate.proofs.Machine.{room_plus, wider}
+use Rattle.std.proofs.Common.{◌∙◌, FitsSigned, sym, length, arith, rules}
+use Rattle.std.proofs.lemmas.Int.{ints, to_z-of_z}
+use mir.Syntax.{w128}
+use Rattle.ug_propagate.proofs.Machine.{room_plus, room_same, wider}
 use Rattle.ug_propagate.proofs.Rooms.{high_taken}
 use Rattle.ug_propagate.proofs.Still.{high_still}
 use Rattle.ug_propagate.proofs.looking.cut_under_high.Goals as goal
@@ -17,3 +18,17 @@ returns-clause-value c =
     c.span.result _ c.requires.row c.requires.room c.span.ensures.small (omega (arith, ints))
     (room_plus c.plus-most.result c.args.room.high c.product.result _ c.requires.room.high_size
     (wider c.product.result c.product.ensures.small) c.plus-most.ensures.value c.product.ensures.value))
+
+pub plus-most-requires : goal.plus-most-requires
+plus-most-requires c =
+    let fits : FitsSigned w128 c.product.result = search rules in
+    rw (to_z-of_z w128 c.product.result fits, room_same c.args.room.high c.requires.room.high_size)
+    (omega (arith, c.product.ensures.small, c.requires.room.high_size))
+
+pub cut_at_most-requires-clause-most : goal.cut_at_most-requires-clause-most
+cut_at_most-requires-clause-most c =
+    let fits : FitsSigned w128 c.product.result = search rules in
+    let fits_most : FitsSigned w128 c.plus-most.result = search rules in
+    let small = rw (to_z-of_z w128 c.product.result fits, room_same c.args.room.high c.requires.room.high_size) at c.plus-most.ensures.small in
+    rw (to_z-of_z w128 c.plus-most.result fits_most)
+    (omega (arith, small, c.product.ensures.small, c.requires.room.high_size))
