@@ -15,6 +15,8 @@ pub mod Words
 pub mod Bits
 pub mod Stepping
 pub mod Fresh
+pub mod Woken
+pub mod Cutoffs
 pub mod Waiting
 pub mod Objectives
 pub mod Snug

@@ -7,7 +7,7 @@ use Rattle.ug_propagate.specs.Steps.{IsRoomOf, looked_of, row_of}
 use Rattle.ug_propagate.specs.Working.{FitsWhereSame, IsSame, WorkState}
 use Rattle.ug_propagate.specs.declared.tight.Tight.TheVariants.{Kept}
 use Rattle.ug_rows.specs.Rows.{term_at}
-use Rattle.ug_propagate.proofs.Bodies.{terms_go, terms_stop}
+use Rattle.ug_propagate.proofs.Bodies.{terms_end, terms_go, terms_stop}
 use Rattle.ug_propagate.proofs.Snug.{AreSnug, snug_first, snug_more, snug_rests, snug_same}
 use Rattle.ug_propagate.proofs.Stepping.{IsUnchanged, lookable_later, step_same, step_trans, unchanged_first, unchanged_more}
 use Rattle.ug_propagate.proofs.Shorts.{short_room_is, short_room_named}
@@ -107,3 +107,28 @@ returns-then-changed-clause-snug c one =
 pub returns-else-changed-clause-fit : goal.returns-else-changed-clause-fit
 returns-else-changed-clause-fit c k there =
     (c.loop-term.invariant.same c.if-changed.false).fit k (omega (arith, there, c.loop-term-test.false))
+
+pub tighten_term-requires-clause-row : goal.tighten_term-requires-clause-row
+tighten_term-requires-clause-row c =
+    lookable_later c.args.problem.now c.args.work.now c.loop-term.work c.args.look c.args.terms.now c.requires.work
+    c.loop-term.invariant.step c.requires.row
+
+pub room_of-now-requires-clause-row : goal.room_of-now-requires-clause-row
+room_of-now-requires-clause-row c =
+    lookable_later c.args.problem.now c.loop-term.work c.tighten_term.new.work c.args.look c.args.terms.now
+    c.loop-term.invariant.step.box c.tighten_term.ensures.step
+    (lookable_later c.args.problem.now c.args.work.now c.loop-term.work c.args.look c.args.terms.now c.requires.work
+    c.loop-term.invariant.step c.requires.row)
+
+pub returns-then-changed-clause-value : goal.returns-then-changed-clause-value
+returns-then-changed-clause-value c =
+    terms_end c.args.look.row (row_of c.args.look c.args.terms.now) c.args.terms.now c.loop-term.term-index
+    c.loop-term.work.sums.area _ (omega (arith, c.loop-term-test.false)) c.loop-term.invariant.so_far
+
+pub returns-else-changed-clause-value : goal.returns-else-changed-clause-value
+returns-else-changed-clause-value c =
+    terms_end c.args.look.row (row_of c.args.look c.args.terms.now) c.args.terms.now c.loop-term.term-index
+    c.loop-term.work.sums.area _ (omega (arith, c.loop-term-test.false)) c.loop-term.invariant.so_far
+
+pub returns-else-changed-clause-same : goal.returns-else-changed-clause-same
+returns-else-changed-clause-same c = (c.loop-term.invariant.same c.if-changed.false).work
