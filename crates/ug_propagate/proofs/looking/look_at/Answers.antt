@@ -6,7 +6,7 @@ use Rattle.ug_rows.proofs.Replaced.{sum_small}
 use Rattle.ug_propagate.proofs.Cutoffs.{at_most_true}
 use Rattle.ug_propagate.proofs.Machine.{room_same}
 use Rattle.ug_propagate.proofs.Still.{row_above, row_below}
-use Rattle.ug_propagate.proofs.Stepping.{reach_rests, rest_is}
+use Rattle.ug_propagate.proofs.Stepping.{reach_rests, rest_is, step_same}
 use Rattle.ug_propagate.proofs.Words.{less_false, less_true}
 use Rattle.ug_propagate.proofs.looking.look_at.Goals as goal
 
@@ -55,3 +55,12 @@ tighten_terms-requires-clause-high c =
 pub tighten_terms-requires-clause-low : goal.tighten_terms-requires-clause-low
 tighten_terms-requires-clause-low c =
     less_false _ _ (rw (room_same c.room_of-room.result.low c.room_of-room.ensures.low_size) at c.if-room-lt0-2.false)
+
+pub returns-then-room-lt0-clause-step : goal.returns-then-room-lt0-clause-step
+returns-then-room-lt0-clause-step c = step_same c.args.problem.now c.args.work.now c.requires.work
+
+pub returns-then-room-lt0-2-clause-step : goal.returns-then-room-lt0-2-clause-step
+returns-then-room-lt0-2-clause-step c = step_same c.args.problem.now c.args.work.now c.requires.work
+
+pub returns-then-reach-room-2-clause-step : goal.returns-then-reach-room-2-clause-step
+returns-then-reach-room-2-clause-step c = step_same c.args.problem.now c.args.work.now c.requires.work

@@ -48,3 +48,15 @@ returns-then-has_one_side-clause-went c =
     (subst R c.terms_at.ensures.value (subst Q c.look_under-look.ensures.value
     (subst S c.in-Changed.is c.in_ok-reason.ensures.snug (c.has_one_side.ensures c.if-has_one_side.true))))
     c.rest.ensures.bit c.rest.ensures.others c.rest.ensures.width
+
+pub returns-in_err-reason-clause-went : goal.returns-in_err-reason-clause-went
+returns-in_err-reason-clause-went c =
+    went_step c.args.problem.now c.args.cutoff c.args.work.now c.look_at.new.work c.requires.work c.look_at.ensures.step
+
+pub returns-in-Emptied-clause-went : goal.returns-in-Emptied-clause-went
+returns-in-Emptied-clause-went c =
+    went_step c.args.problem.now c.args.cutoff c.args.work.now c.look_at.new.work c.requires.work c.look_at.ensures.step
+
+pub returns-else-has_one_side-clause-went : goal.returns-else-has_one_side-clause-went
+returns-else-has_one_side-clause-went c =
+    went_step c.args.problem.now c.args.cutoff c.args.work.now c.look_at.new.work c.requires.work c.look_at.ensures.step
