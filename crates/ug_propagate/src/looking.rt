@@ -130,7 +130,6 @@ fn tighten_over_low(
 }
 
 // One term that may tighten: under the high side, then over the low side.
-#[tactic(auto, using(crate::proofs::Stepping::step_trans, crate::proofs::Stepping::lookable_later, crate::proofs::Stepping::term_later))]
 fn tighten_both(
     work: &mut Working,
     problem: &Problem,
@@ -169,7 +168,6 @@ fn fits_wide(term: Term, room: Room, area: &[Interval]) -> bool
 }
 
 // The same in 64 bits, where the span is of 64 bits.
-#[tactic(auto, using(crate::proofs::Shorts::short_fits))]
 fn fits(term: Term, room: Room, most: i64, area: &[Interval]) -> bool
     requires term { IsTermOf (length area.now) term }
     requires most { IsShortRoom room most }

@@ -35,7 +35,6 @@ pub struct Moves {
 }
 
 /// A sum of two numbers.
-#[tactic(auto, using(crate::proofs::Bodies::sizes))]
 pub fn plus(a: i128, b: i128) -> i128
     requires { unsigned_abs a + unsigned_abs b ≤ 10 ^ 38 }
     ensures value { result ≡ a +ℤ b }
@@ -45,7 +44,6 @@ pub fn plus(a: i128, b: i128) -> i128
 }
 
 /// A difference of two numbers.
-#[tactic(auto, using(crate::proofs::Bodies::sizes))]
 pub fn minus(a: i128, b: i128) -> i128
     requires { unsigned_abs a + unsigned_abs b ≤ 10 ^ 38 }
     ensures value { result ≡ a -ℤ b }
@@ -63,7 +61,6 @@ fn apart(near: i32, far: i32) -> i64
 }
 
 // The product of a factor and a number of 33 bits.
-#[tactic(auto, using(crate::proofs::Machine::products))]
 fn times(factor: i128, width: i64) -> i128
     requires factor { unsigned_abs factor ≤ 10 ^ 24 }
     requires width { unsigned_abs width ≤ 2 ^ 32 }
@@ -121,7 +118,6 @@ pub fn span(term: Term, area: &[Interval]) -> i128
 const MOST_SHORT_FACTOR: i128 = 2_147_483_647;
 
 // The product of a factor and a number of 33 bits, in 64 bits.
-#[tactic(auto, using(crate::proofs::Shorts::short_products))]
 fn short_times(factor: i64, width: i64) -> i64
     requires factor { unsigned_abs factor < 2 ^ 31 }
     requires width { unsigned_abs width ≤ 2 ^ 32 }
@@ -223,7 +219,6 @@ pub fn measure(terms: &[Term], area: &[Interval]) -> Ends
 const MOST_SHORT: i128 = 9_223_372_036_854_775_807;
 
 // The number in 64 bits, or the end of their range that it is beyond.
-#[tactic(auto, using(crate::proofs::Shorts::short_above, crate::proofs::Shorts::short_below, crate::proofs::Shorts::short_same))]
 fn short(number: i128) -> i64
     ensures { IsShort number result }
 {

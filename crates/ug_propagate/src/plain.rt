@@ -16,7 +16,6 @@ use ug_problem::Problem;
 use ug_rows::{Extreme, IntBox, Interval, Term, add_end, has_point, sum_of_ends};
 
 // The least or the greatest sum of the other terms.
-#[tactic(auto, using(crate::proofs::Bodies::sizes))]
 fn ends_of_others(extreme: Extreme, terms: &[Term], term: Term, sides: &[Interval]) -> i128
     requires terms { IsLinear (length sides.now) terms.now }
     requires term { IsTermOf (length sides.now) term }
@@ -28,7 +27,6 @@ fn ends_of_others(extreme: Extreme, terms: &[Term], term: Term, sides: &[Interva
 }
 
 // A side of a row less the least or the greatest sum of the other terms.
-#[tactic(auto, using(crate::proofs::Bodies::sizes))]
 fn less_others(extreme: Extreme, side: i128, terms: &[Term], term: Term, sides: &[Interval]) -> i128
     requires terms { IsLinear (length sides.now) terms.now }
     requires term { IsTermOf (length sides.now) term }

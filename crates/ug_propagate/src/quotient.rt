@@ -15,7 +15,6 @@ fn divide(number: i128, divisor: i128) -> i128
 }
 
 /// `number` / `divisor`, rounded down.
-#[tactic(auto, using(crate::proofs::Quotients::quotients))]
 pub fn floor_div(number: i128, divisor: i128) -> i128
     requires nonzero { divisor ≢ pos 0 }
     requires number { unsigned_abs number ≤ 10 ^ 38 }

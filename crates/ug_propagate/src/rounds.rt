@@ -43,7 +43,6 @@ fn tighten_rows(problem: &Problem, area: &mut [Interval]) -> Looked
 }
 
 // The objective, where there is a cutoff.
-#[tactic(auto, using(crate::proofs::Bodies::ready_objective))]
 fn tighten_objective(problem: &Problem, cutoff: Option<i128>, area: &mut [Interval]) -> Looked
     requires { CanTighten problem.now cutoff area.old }
     ensures value { looked_of result area.new

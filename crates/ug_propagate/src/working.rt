@@ -82,7 +82,6 @@ fn wake_column(problem: &Problem, column: usize, awake: &mut Vec<u64>)
 }
 
 // So many words in which each bit is 1.
-#[tactic(auto, using(crate::proofs::Fresh::all_ones))]
 fn ones(alloc: Global, words: usize) -> Result<Vec<u64>, AllocError>
     ensures { IfOk result (λ awake. AreOnes words awake.items) }
 {
