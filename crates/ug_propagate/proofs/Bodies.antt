@@ -12,7 +12,7 @@ use Rattle.ug_rows.specs.declared.area.Interval.{Interval}
 use Rattle.ug_rows.specs.declared.row.Term.{Term}
 use Rattle.ug_rows.specs.declared.row.Row.{Row}
 use Rattle.ug_rows.specs.Rows.{no_term, term_at}
-use Rattle.ug_rows.proofs.Products.{abs_add, abs_sub}
+use Rattle.ug_rows.proofs.Products.{abs_sub}
 use Rattle.ug_problem.specs.declared.column.NamedRow.{NamedRow}
 use Rattle.ug_problem.specs.Instances.{Instance, IsRow, no_row, row_at}
 use Rattle.ug_problem.specs.Limits.{IsProblem}
@@ -23,9 +23,6 @@ use Rattle.ug_propagate.specs.declared.tight.Tight.TheVariants.{Kept, Empty}
 use Rattle.ug_propagate.specs.declared.tight.Reason.{Reason}
 use Rattle.ug_propagate.specs.Rounds.{keep_at_least, keep_at_most, lower_high, raise_low, floor_quotient, ceiling_quotient, over_rows, over_terms, over_objective, row_step, term_step, round, rounds, rounds_of, last_round, crossed, are_crossed, are_fixed}
 use Rattle.ug_propagate.specs.Steps.{IsLookable, IsTermOf}
-
--- sums and differences fit where their parts are small
-pub ruleset sizes = (abs_sub, abs_add)
 
 pub most_pos : (reason : Reason) (f : ℤ) (j : ℕ) (s : ℤ) (area : List Interval) → pos 0 <ℤ f
     → keep_at_most reason f j s area ≡ lower_high reason j (floor_quotient s f) area

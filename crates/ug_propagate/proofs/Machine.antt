@@ -110,6 +110,3 @@ pub scaled_small : (f v r : ℤ) → unsigned_abs f ≤ 10 ^ 24 → unsigned_abs
     → unsigned_abs (to_z w128 (of_z w128 (to_z w128 (of_z w128 f) *ℤ to_z w128 (of_z w128 r)))) ≤ 10 ^ 24 * 2 ^ 32
 scaled_small f v r small short f_fits v_fits e =
     rw (scaled f v r small short f_fits v_fits e) (abs_scaled f v small short)
-
--- for `times`
-pub ruleset products = (abs_scaled, scaled_fits, to_z-of_z)

@@ -104,9 +104,6 @@ short_changed f p w a b f_fits short a_fits b_fits small e g =
     to_z-of_z w64 p p_fits ∙ e ∙ ap (λ (v : ℤ). v *ℤ to_z w64 (of_z w64 w)) (to_z-of_z w64 f f_fits)
     ∙ ap (λ (v : ℤ). f *ℤ v) (to_z-of_z w64 w w_fits ∙ w_is) ∙ times_difference f a b
 
--- for `short_times`
-pub ruleset short_products = (abs_short, short_fits_in, to_z-of_z)
-
 -- the difference of the products at both ends is the span, whatever name the factor and the ends have
 spanned : (f same again r near far low high : ℤ) (side : Interval) → same ≡ f → again ≡ f → low ≡ near → high ≡ far
     → r ≡ (again *ℤ high) -ℤ (again *ℤ low) → near ≡ end_of Least same side → far ≡ end_of Greatest same side
