@@ -19,8 +19,8 @@ loop-rest-preserved g c =
     let new = g.L.Link.seen c.write.new.self in
     record {
       went = subst (λ (l : List ℕ). Went old new c.args.bytes.now l) (sym c.split_at.ensures.back)
-          (went_more old (g.L.Link.seen c.loop-rest.link) new c.args.bytes.now c.loop-rest.rest.now c.in_ok-n.n
-          c.loop-rest.invariant.went c.in_ok-n.ensures.told);
+          (went_more old (g.L.Link.seen c.loop-rest.link) new c.args.bytes.now c.loop-rest.rest.now
+          c.in_ok-n.n c.loop-rest.invariant.went c.in_ok-n.ensures.told);
       calm = c.in_ok-n.ensures.cause ∙ c.loop-rest.invariant.calm;
     }
 

@@ -21,13 +21,16 @@ pub returns-in-Ok-made : goal.returns-in-Ok-made
 returns-in-Ok-made g c =
     let same = c.root.ensures.value ∙ ap root_of c.problem-problem.ensures.value in
     record {
-      valid = subst (λ (root : List Interval). AreChangesOf root c.args.changes.now) same c.in-Ok.ensures.outcome.valid;
+      valid = subst (λ (root : List Interval). AreChangesOf root c.args.changes.now) same
+          c.in-Ok.ensures.outcome.valid;
       same = c.in-Ok-made.ensures
           ∙ ap (task_of (basis_of c.args.self.now.kept) c.args.ticket c.args.params c.args.cutoff)
-          (c.in-Ok.ensures.value ∙ ap (λ (root : List Interval). area_by root c.args.changes.now) same);
+          (c.in-Ok.ensures.value
+          ∙ ap (λ (root : List Interval). area_by root c.args.changes.now) same);
     }
 
 pub returns-in-Err-made : goal.returns-in-Err-made
 returns-in-Err-made g c =
     subst (λ (root : List Interval). AreChangesOf root c.args.changes.now)
-    (c.root.ensures.value ∙ ap root_of c.problem-problem.ensures.value) c.in-Ok.ensures.outcome.valid
+    (c.root.ensures.value ∙ ap root_of c.problem-problem.ensures.value)
+    c.in-Ok.ensures.outcome.valid

@@ -11,14 +11,17 @@ none_of (Some x) not = absurd (false≢true (sym not))
 pub returns-in-Ok-clause-heard : goal.returns-in-Ok-clause-heard
 returns-in-Ok-clause-heard g c stage running on =
     let none = none_of c.args.self.now.end (sym c.is_some.ensures ∙ c.if-is_some.false) in
-    subst (λ (end : Option Served). stands_as end (g.L.Link.seen c.hear.new.link) c.hear.new.orders stage) (sym none)
+    subst (λ (end : Option Served).
+    stands_as end (g.L.Link.seen c.hear.new.link) c.hear.new.orders stage) (sym none)
     (c.in-Ok.ensures.heard stage running
-    (subst (λ (end : Option Served). stands_as end (g.L.Link.seen c.args.self.now.link) c.args.self.now.orders stage)
+    (subst (λ (end : Option Served).
+    stands_as end (g.L.Link.seen c.args.self.now.link) c.args.self.now.orders stage)
     none on))
 
 pub returns-in-Err-clause-heard : goal.returns-in-Err-clause-heard
 returns-in-Err-clause-heard g c stage running on =
     let none = none_of c.args.self.now.end (sym c.is_some.ensures ∙ c.if-is_some.false) in
     c.in-Err.ensures.heard stage running
-    (subst (λ (end : Option Served). stands_as end (g.L.Link.seen c.args.self.now.link) c.args.self.now.orders stage)
+    (subst (λ (end : Option Served).
+    stands_as end (g.L.Link.seen c.args.self.now.link) c.args.self.now.orders stage)
     none on)
