@@ -8,7 +8,8 @@ use crate::listening::{
     Tally, hears, is_clean, listen, over_and_over, start, start_again, start_three, tell,
     tell_three,
 };
-use crate::notes::Notes;
+use crate::notes::{Notes, are_lines};
+use std::alloc::Global;
 use std::fs;
 use std::fs::Files;
 use std::os::unix::fs::MetadataExt;
@@ -34,11 +35,13 @@ fn is_private<R: Files>(rt: &R, folder: &str) -> bool {
 }
 
 // Three ranks are told much before they come, and each says all of it back.
-fn says_it_back<C: Crew>(rt: &impl Abort, crew: &mut C, many: &[u8])
+fn says_it_back<C: Crew>(rt: &impl Abort, alloc: Global, crew: &mut C)
     requires { 2 < length (C.seen crew.old).lives }
 {
+    let many = over_and_over(alloc, TIMES).expect(rt, "memory");
     holds(rt, start_three(crew));
-    holds(rt, tell_three(crew, many));
+    holds(rt, tell_three(crew, &many));
+    drop(many);
     holds(rt, hears(crew, [MANY; 3], 0));
     holds(rt, tell_three(crew, b"q"));
     crew.finish();
@@ -52,20 +55,17 @@ fn three_children_are_told_before_they_come_and_say_all_of_it_back(rt: HostRunti
         sockets: "new/sockets",
         ..ECHO
     };
-    let many = over_and_over(alloc, TIMES).expect(&rt, "memory");
     let mut lines = Vec::new(alloc);
     let notes = Notes {
         alloc,
         lines: &mut lines,
     };
     let mut crew = ProcessCrew::new(&rt, alloc, 3, children, notes).expect(&rt, "memory");
-    says_it_back(&rt, &mut crew, &many);
+    says_it_back(&rt, alloc, &mut crew);
     holds(&rt, is_private(&rt, "new/sockets"));
     holds(&rt, is_clean(&rt, "new/sockets"));
     drop(crew);
-    drop(many);
-    holds(&rt, lines.is_empty());
-    drop(lines);
+    holds(&rt, are_lines(lines, &[]));
 }
 
 // One hangs up and is gone, and one that is shut is started again.
@@ -82,9 +82,11 @@ fn goes_on_without<C: Crew>(rt: &impl Abort, crew: &mut C)
 }
 
 // One takes nothing of the much that it is told, and another is heard.
-fn is_not_held_up<C: Crew>(rt: &impl Abort, crew: &mut C, many: &[u8]) {
+fn is_not_held_up<C: Crew>(rt: &impl Abort, alloc: Global, crew: &mut C) {
+    let many = over_and_over(alloc, TIMES).expect(rt, "memory");
     holds(rt, tell(crew, 2, b"s"));
-    holds(rt, tell(crew, 2, many));
+    holds(rt, tell(crew, 2, &many));
+    drop(many);
     holds(rt, tell(crew, 1, b"ab"));
     holds(rt, hears(crew, [0, 2, 0], 0));
 }
@@ -93,7 +95,6 @@ fn is_not_held_up<C: Crew>(rt: &impl Abort, crew: &mut C, many: &[u8]) {
 fn a_child_that_hangs_up_or_is_shut_or_takes_nothing_is_ended_and_holds_up_nobody(rt: HostRuntime) {
     let alloc = rt.alloc();
     holds(&rt, make_echo(&rt).is_ok());
-    let many = over_and_over(alloc, TIMES).expect(&rt, "memory");
     let mut lines = Vec::new(alloc);
     let notes = Notes {
         alloc,
@@ -101,16 +102,11 @@ fn a_child_that_hangs_up_or_is_shut_or_takes_nothing_is_ended_and_holds_up_nobod
     };
     let mut crew = ProcessCrew::new(&rt, alloc, 3, ECHO, notes).expect(&rt, "memory");
     goes_on_without(&rt, &mut crew);
-    is_not_held_up(&rt, &mut crew, &many);
+    is_not_held_up(&rt, alloc, &mut crew);
     drop(crew);
-    drop(many);
     holds(&rt, is_clean(&rt, "sockets"));
-    holds(&rt, lines.len() == 1);
-    holds(
-        &rt,
-        lines[0].as_str() == "0 closed its connection and did not end",
-    );
-    drop(lines);
+    let wanted = ["0 closed its connection and did not end"];
+    holds(&rt, are_lines(lines, &wanted));
 }
 
 // One talks on. Two others come, and are heard byte by byte, so that it is always ahead.

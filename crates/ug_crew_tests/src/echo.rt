@@ -6,7 +6,7 @@ use ug_io::{Got, Link};
 use ug_real::SocketLink;
 
 // Writes all of the bytes.
-fn tell<R: Net + Clock>(link: &mut SocketLink<'_, R>, bytes: &[u8]) -> bool {
+fn tell(link: &mut impl Link, bytes: &[u8]) -> bool {
     let mut at = 0usize;
     for _ in 0..u64::MAX {
         let rest = bytes.get(at..).unwrap_or(&[]);
@@ -22,12 +22,12 @@ fn tell<R: Net + Clock>(link: &mut SocketLink<'_, R>, bytes: &[u8]) -> bool {
 }
 
 // Stays for a long time.
-fn stay<R: Clock>(rt: &R) {
+fn stay(rt: &impl Clock) {
     thread::sleep(rt, Duration::from_secs(1000));
 }
 
 // Says the bytes 'a' to 'g' over and over, until its link ends.
-fn talk<R: Net + Clock>(link: &mut SocketLink<'_, R>) {
+fn talk(link: &mut impl Link) {
     let mut bytes = [0u8; 3500];
     for (at, byte) in bytes.iter_mut().enumerate() {
         *byte = b'a' + (at % 7) as u8;
@@ -39,39 +39,43 @@ fn talk<R: Net + Clock>(link: &mut SocketLink<'_, R>) {
     }
 }
 
+// Says back what it hears, as `echo` does. Whether it is to stay once its link is closed.
+fn serve(rt: &impl Clock, link: &mut impl Link) -> bool {
+    let mut buffer = [0u8; 4096];
+    for _ in 0..u64::MAX {
+        let Ok(Got::Bytes(count)) = link.read(&mut buffer, true) else {
+            return false;
+        };
+        let bytes = buffer.get(..count).unwrap_or(&[]);
+        match bytes.first() {
+            Some(b'q') | None => return false,
+            Some(b'h') => return true,
+            Some(b's') => {
+                stay(rt);
+                return false;
+            }
+            Some(b't') => {
+                talk(link);
+                return false;
+            }
+            Some(_) => {}
+        }
+        if !tell(link, bytes) {
+            return false;
+        }
+    }
+    false
+}
+
 /// Says back what it hears until its link ends, or a piece of it begins with a byte 'q'. Where one
 /// begins with 'h' it closes its link and stays, and where one does with 's' it stays and takes
 /// nothing, and where one does with 't' it talks on without an end: so such a byte is told once all
 /// before it was said back.
 pub fn echo<R: Net + Clock + AllocGlobal>(rt: &R, path: &str) {
     let mut link = SocketLink::new(rt, rt.alloc(), path);
-    let mut buffer = [0u8; 4096];
-    for _ in 0..u64::MAX {
-        let count = match link.read(&mut buffer, true) {
-            Ok(Got::Bytes(count)) => count,
-            _ => break,
-        };
-        let bytes = buffer.get(..count).unwrap_or(&[]);
-        match bytes.first() {
-            Some(b'q') | None => break,
-            Some(b'h') => {
-                drop(link);
-                stay(rt);
-                return;
-            }
-            Some(b's') => {
-                stay(rt);
-                break;
-            }
-            Some(b't') => {
-                talk(&mut link);
-                break;
-            }
-            Some(_) => {}
-        }
-        if !tell(&mut link, bytes) {
-            break;
-        }
-    }
+    let is_to_stay = serve(rt, &mut link);
     drop(link);
+    if is_to_stay {
+        stay(rt);
+    }
 }

@@ -5,7 +5,7 @@ ghost use Rattle.std.specs.Prelude.{◌<◌, length};
 use crate::child::make_child;
 use crate::expect::holds;
 use crate::listening::{hears, is_clean, start, tell};
-use crate::notes::Notes;
+use crate::notes::{Notes, are_lines};
 use std::alloc::{AllocGlobal, Global};
 use std::fs::{File, Files, Permissions};
 use std::net::Net;
@@ -59,15 +59,12 @@ fn of_children_that_end_by_a_signal_or_before_they_come_each_is_gone_once(rt: Ho
     loses_two(&rt, &mut crew);
     holds(&rt, is_clean(&rt, "sockets"));
     drop(crew);
-    holds(&rt, lines.sort().is_ok());
-    holds(&rt, lines.len() == 2);
-    holds(&rt, lines[0].as_str() == "1 killed by signal 9");
-    holds(&rt, lines[1].as_str() == "2 ended with status 3");
-    drop(lines);
+    let wanted = ["1 killed by signal 9", "2 ended with status 3"];
+    holds(&rt, are_lines(lines, &wanted));
 }
 
 // A program, and a folder for its socket, with which no child can be started, and why.
-const CASES: [(&str, &str, &str); 5] = [
+const CASES: &[(&str, &str, &str)] = &[
     (
         "./child",
         "others",
@@ -120,8 +117,7 @@ where
         }
         Err(_) => false,
     };
-    let is_told = lines.len() == 1 && lines[0].as_str() == why;
-    drop(lines);
+    let is_told = are_lines(lines, &[why]);
     so && is_told && is_clean(rt, children.sockets)
 }
 
@@ -138,7 +134,7 @@ fn is_not_started<C: Crew>(crew: &mut C) -> bool
 fn a_child_that_cannot_be_started_leaves_nothing(rt: HostRuntime) {
     holds(&rt, make_child(&rt).is_ok());
     holds(&rt, make_bad_folders(&rt).is_ok());
-    for (program, sockets, why) in CASES {
+    for &(program, sockets, why) in CASES {
         let children = Children { program, sockets };
         holds(&rt, leaves_nothing(&rt, rt.alloc(), children, why));
     }

@@ -15,3 +15,23 @@ impl Watcher for Notes<'_> {
         }
     }
 }
+
+// Whether the lines are these.
+fn is_same(lines: &[String], wanted: &[&str]) -> bool {
+    if lines.len() != wanted.len() {
+        return false;
+    }
+    for (line, it) in lines.iter().zip(wanted) {
+        if line.as_str() != *it {
+            return false;
+        }
+    }
+    true
+}
+
+/// Whether the lines are these, once they are sorted.
+pub fn are_lines(mut lines: Vec<String>, wanted: &[&str]) -> bool {
+    let so = lines.sort().is_ok() && is_same(&lines, wanted);
+    drop(lines);
+    so
+}
