@@ -9,7 +9,6 @@ ghost use Rattle.ug_coord.specs.Hubs.{IsOnIn, IsQuiet, IsRested, MayRead, Phase,
 
 use crate::hub::Hub;
 use crate::streams::{Turn, next_of, take_turn};
-use std::sync::Wait;
 use ug_frames::Report;
 use ug_io::Crew;
 use ug_restart::{Dropped, Observer, progress_of};
@@ -17,7 +16,7 @@ use ug_rules::Heard;
 use ug_snapshot::image_of;
 use ug_stream::Next;
 
-impl<'a, R: Wait, O: Observer, C: Crew + Drop> Hub<'a, R, O, C> {
+impl<R, O: Observer, C: Crew> Hub<'_, R, O, C> {
     ghost use Rattle.ug_coord.specs.HubViews.{hub_seen};
 
     /// Hears a report that is there, or waits until something comes.
@@ -132,6 +131,10 @@ impl<'a, R: Wait, O: Observer, C: Crew + Drop> Hub<'a, R, O, C> {
         }
         drop(image);
     }
+}
+
+impl<R, O, C: Crew> Hub<'_, R, O, C> {
+    ghost use Rattle.ug_coord.specs.HubViews.{hub_seen};
 
     // A turn failed, so all ranks are gone.
     fn lose_all(&mut self)

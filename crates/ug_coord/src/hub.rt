@@ -3,13 +3,14 @@
 ghost use Rattle.std.specs.Prelude.{◌≡◌, ◌<◌, true, false, length, MatchBool};
 ghost use Rattle.ug_book.specs.Views.{IsSameRun};
 ghost use Rattle.ug_coord.specs.Deeds.{Hearing, Standing};
-ghost use Rattle.ug_coord.specs.Ends.{AllDead, IsAnswered, IsOver};
+ghost use Rattle.ug_coord.specs.Ends.{IsOver};
 ghost use Rattle.ug_coord.specs.Hubs.{AnyPhase, EndsFrom, HearsOne, IsKeptIn, IsOnIn, IsQuiet};
 ghost use Rattle.ug_coord.specs.Hubs.{IsRested, IsSetUpFrame, is_next};
 ghost use Rattle.ug_coord.specs.Keeping.{KeptSeen, IsKeptBy, IsOurs};
 ghost use Rattle.ug_coord.specs.Pacing.{IsSaveDue};
 ghost use Rattle.ug_coord.specs.Keepers.{kept_seen};
 
+use crate::ending::is_over;
 use crate::keeper::Keeper;
 use crate::pacing::Pacing;
 use std::sync::Wait;
@@ -40,7 +41,57 @@ pub struct Hub<'a, R, O, C> {
     ghost room: { 0 < length input.items },
 }
 
-impl<'a, R: Wait, O: Observer, C: Crew + Drop> Hub<'a, R, O, C> {
+impl<R, O, C> Hub<'_, R, O, C> {
+    // Whether memory was wanting, or an end is due.
+    fn has_stopped(&self) -> bool
+        ensures stopped { result ≡ true → self.now.wants ≡ false → IsOver self.now.book }
+        ensures on { result ≡ false → (self.now.wants ≡ false) × ¬ IsOver self.now.book }
+    {
+        if self.wants {
+            return true;
+        }
+        is_over(&self.book)
+    }
+}
+
+impl<R, O, C: Crew> Hub<'_, R, O, C> {
+    ghost use Rattle.ug_coord.specs.HubViews.{hub_seen};
+
+    // Decides.
+    fn decide(&mut self)
+        requires more { ¬ IsOver self.old.book }
+        requires saved { ¬ IsSaveDue self.old.pacing self.old.book }
+        ensures on { (from : Standing) → IsOnIn IsRested from (hub_seen C.seen self.old)
+            → IsOnIn (is_next Hearing) from (hub_seen C.seen self.new) }
+        ensures quiet { IsQuiet self.old.book self.new.book }
+        ensures pacing { self.new.pacing ≡ self.old.pacing }
+    {
+        match self.book.decide() {
+            Ok(()) => {}
+            Err(_) => self.wants = true,
+        }
+    }
+
+    // Saves the book, which is due.
+    fn save<D: Disk>(&mut self, keeper: &mut Keeper, disk: &mut D)
+        requires due { IsSaveDue self.old.pacing self.old.book }
+        requires kept { IsKeptBy (kept_seen keeper.old (D.seen disk.old)) }
+        requires ours { IsOurs (kept_seen keeper.old (D.seen disk.old)) self.old.book }
+        ensures on { (from : Standing) (first : KeptSeen)
+            → IsKeptIn IsRested from (hub_seen C.seen self.old) first
+            (kept_seen keeper.old (D.seen disk.old))
+            → IsKeptIn IsRested from (hub_seen C.seen self.new) first
+            (kept_seen keeper.new (D.seen disk.new)) }
+        ensures kept { IsKeptBy (kept_seen keeper.new (D.seen disk.new)) }
+        ensures book { self.new.book ≡ self.old.book }
+        ensures saved { ¬ IsSaveDue self.new.pacing self.new.book }
+    {
+        keeper.keep(disk, &self.book);
+        self.pacing = Pacing::saved(&self.book);
+    }
+}
+
+impl<R: Wait, O: Observer, C: Crew> Hub<'_, R, O, C> {
     ghost use Rattle.ug_coord.specs.HubViews.{hub_seen};
 
     /// Starts the crew, goes on until an end is due, and tells it the end. The book is saved as
@@ -63,55 +114,6 @@ impl<'a, R: Wait, O: Observer, C: Crew + Drop> Hub<'a, R, O, C> {
         self.start_all();
         self.go_on(keeper, disk);
         self.close();
-    }
-
-    // Decides.
-    fn decide(&mut self)
-        requires more { ¬ IsOver self.old.book }
-        requires saved { ¬ IsSaveDue self.old.pacing self.old.book }
-        ensures on { (from : Standing) → IsOnIn IsRested from (hub_seen C.seen self.old)
-            → IsOnIn (is_next Hearing) from (hub_seen C.seen self.new) }
-        ensures quiet { IsQuiet self.old.book self.new.book }
-        ensures pacing { self.new.pacing ≡ self.old.pacing }
-    {
-        match self.book.decide() {
-            Ok(()) => {}
-            Err(_) => self.wants = true,
-        }
-    }
-
-    // Whether an end is due.
-    fn is_over(&self) -> bool
-        ensures { MatchBool result (IsOver self.now.book) (¬ IsOver self.now.book) }
-    {
-        if self.is_answered() {
-            return true;
-        }
-        if self.book.settings().limit <= self.book.count() {
-            return true;
-        }
-        !is_any_alive(&self.book)
-    }
-
-    // Whether no node is held.
-    fn is_answered(&self) -> bool
-        ensures { MatchBool result (IsAnswered self.now.book) (¬ IsAnswered self.now.book) }
-    {
-        match self.book.answer() {
-            Some(_) => true,
-            None => false,
-        }
-    }
-
-    // Whether memory was wanting, or an end is due.
-    fn has_stopped(&self) -> bool
-        ensures stopped { result ≡ true → self.now.wants ≡ false → IsOver self.now.book }
-        ensures on { result ≡ false → (self.now.wants ≡ false) × ¬ IsOver self.now.book }
-    {
-        if self.wants {
-            return true;
-        }
-        self.is_over()
     }
 
     // Decides, tells the orders, and hears the next report, or waits until something comes. An end
@@ -140,24 +142,6 @@ impl<'a, R: Wait, O: Observer, C: Crew + Drop> Hub<'a, R, O, C> {
         }
         self.listen();
         true
-    }
-
-    // Saves the book, which is due.
-    fn save<D: Disk>(&mut self, keeper: &mut Keeper, disk: &mut D)
-        requires due { IsSaveDue self.old.pacing self.old.book }
-        requires kept { IsKeptBy (kept_seen keeper.old (D.seen disk.old)) }
-        requires ours { IsOurs (kept_seen keeper.old (D.seen disk.old)) self.old.book }
-        ensures on { (from : Standing) (first : KeptSeen)
-            → IsKeptIn IsRested from (hub_seen C.seen self.old) first
-            (kept_seen keeper.old (D.seen disk.old))
-            → IsKeptIn IsRested from (hub_seen C.seen self.new) first
-            (kept_seen keeper.new (D.seen disk.new)) }
-        ensures kept { IsKeptBy (kept_seen keeper.new (D.seen disk.new)) }
-        ensures book { self.new.book ≡ self.old.book }
-        ensures saved { ¬ IsSaveDue self.new.pacing self.new.book }
-    {
-        keeper.keep(disk, &self.book);
-        self.pacing = Pacing::saved(&self.book);
     }
 
     // A step, and a save where one is due for what was heard in it.
@@ -218,16 +202,4 @@ impl<'a, R: Wait, O: Observer, C: Crew + Drop> Hub<'a, R, O, C> {
         }
         unreachable!()
     }
-}
-
-// Whether some rank is alive.
-fn is_any_alive(book: &Book) -> bool
-    ensures { MatchBool result (¬ AllDead book.now) (AllDead book.now) }
-{
-    for rank in 0..book.settings().solvers {
-        if book.is_alive(rank) {
-            return true;
-        }
-    }
-    false
 }

@@ -5,6 +5,7 @@
 //! What it did is a course of deeds by the rules of the book, which the crew's bytes show.
 #![tactic(auto)]
 
+mod ending;
 mod hearing;
 mod hub;
 mod keeper;

@@ -1,17 +1,18 @@
 //! The coordinator's loop, from the start of the crew to its end.
 
-ghost use Rattle.std.specs.Prelude.{◌≡◌, ◌<◌, false, true, length, replicate, IfOk, IfSome, MatchBool};
+ghost use Rattle.std.specs.Prelude.{◌≡◌, ◌<◌, false, length, replicate, IfOk, IfSome};
 ghost use Rattle.ug_rules.specs.Books.{IsBook, IsSoundBook};
 ghost use Rattle.ug_restart.specs.Outcomes.{HasFeasible, IfAnswered, IfBook, IsRight};
 ghost use Rattle.ug_stream.specs.Streams.{first};
 ghost use Rattle.ug_checkpoint.specs.Savers.{IsKept};
 ghost use Rattle.ug_book.specs.Openings.{IsOpening, opening_book};
-ghost use Rattle.ug_coord.specs.Ends.{IsAnswered, IsOver, is_ended, ranks_of};
+ghost use Rattle.ug_coord.specs.Ends.{IsOver, is_ended, ranks_of};
 ghost use Rattle.ug_coord.specs.Hubs.{HasCoordinated, IsFresh, IsSetUpFrame};
 ghost use Rattle.ug_coord.specs.Keeping.{AreEachSaved, Begins, HasConcluded, HasKept, IsBegun};
 ghost use Rattle.ug_coord.specs.Keeping.{IsKeptBy, IsKeptSafe, IsNothing, savers};
 ghost use Rattle.ug_coord.specs.Keepers.{kept_seen};
 
+use crate::ending::is_answered;
 use crate::hub::Hub;
 use crate::keeper::Keeper;
 use crate::pacing::Pacing;
@@ -286,15 +287,4 @@ fn end_of(book: Book, wants: bool) -> End
         return End::Limited(book);
     }
     End::Stranded(book)
-}
-
-// Whether no node is held. The answer of a sound book is then right.
-fn is_answered(book: &Book) -> bool
-    ensures none { MatchBool result (IsAnswered book.now) (¬ IsAnswered book.now) }
-    ensures right { result ≡ true → IsSoundBook book.now → IsRight book.now }
-{
-    match book.answer() {
-        Some(_) => true,
-        None => false,
-    }
 }

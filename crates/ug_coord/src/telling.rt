@@ -16,13 +16,12 @@ use crate::hub::Hub;
 use std::sync::Wait;
 use ug_frames::encode_order;
 use ug_io::Crew;
-use ug_restart::Observer;
 use ug_rules::Told;
 
 // The frame of the order to end.
 const END: &[u8] = &[0, 0, 0, 1, 8];
 
-impl<'a, R: Wait, O: Observer, C: Crew + Drop> Hub<'a, R, O, C> {
+impl<R, O, C: Crew> Hub<'_, R, O, C> {
     ghost use Rattle.ug_coord.specs.HubViews.{hub_seen};
 
     /// The rank is gone: it is heard no more, and the book takes it for dead.
@@ -157,26 +156,6 @@ impl<'a, R: Wait, O: Observer, C: Crew + Drop> Hub<'a, R, O, C> {
         }
     }
 
-    /// Tells all orders that wait.
-    pub fn tell_all(&mut self)
-        requires on { (from : Standing) × IsOnIn AnyPhase from (hub_seen C.seen self.old) }
-        ensures on { (phase : Phase) (from : Standing) → IsOnAs phase from (hub_seen C.seen self.old)
-            → IsOnAs phase from (hub_seen C.seen self.new) }
-        ensures quiet { IsQuiet self.old.book self.new.book }
-        ensures all { self.new.wants ≡ false → self.new.book.orders ≡ [] }
-        ensures pacing { self.new.pacing ≡ self.old.pacing }
-    {
-        for _ in self.host.rt.forever() {
-            if self.wants {
-                return;
-            }
-            if !self.tell_next() {
-                return;
-            }
-        }
-        unreachable!()
-    }
-
     // Tells the end to the rank, if it lives.
     fn end(&mut self, rank: u32)
         ensures closed { (from : Standing) (old new : KeptSeen)
@@ -205,5 +184,29 @@ impl<'a, R: Wait, O: Observer, C: Crew + Drop> Hub<'a, R, O, C> {
             self.end(rank);
         }
         self.crew.finish();
+    }
+}
+
+impl<R: Wait, O, C: Crew> Hub<'_, R, O, C> {
+    ghost use Rattle.ug_coord.specs.HubViews.{hub_seen};
+
+    /// Tells all orders that wait.
+    pub fn tell_all(&mut self)
+        requires on { (from : Standing) × IsOnIn AnyPhase from (hub_seen C.seen self.old) }
+        ensures on { (phase : Phase) (from : Standing) → IsOnAs phase from (hub_seen C.seen self.old)
+            → IsOnAs phase from (hub_seen C.seen self.new) }
+        ensures quiet { IsQuiet self.old.book self.new.book }
+        ensures all { self.new.wants ≡ false → self.new.book.orders ≡ [] }
+        ensures pacing { self.new.pacing ≡ self.old.pacing }
+    {
+        for _ in self.host.rt.forever() {
+            if self.wants {
+                return;
+            }
+            if !self.tell_next() {
+                return;
+            }
+        }
+        unreachable!()
     }
 }

@@ -14,7 +14,7 @@ returns-then-not-step-clause-saved g c =
     c.if-not-step.ensures.hears.run.settings c.if-not-step.ensures.hears.heard c.step.ensures.pacing c.requires.saved
 
 pub save-requires-clause-ours : goal.save-requires-clause-ours
-save-requires-clause-ours g c κs within =
+save-requires-clause-ours g c =
     ours_same c.args.keeper.now.saves c.args.self.now.book c.step.new.self.book c.if-not-step.ensures.hears.run
     c.requires.ours
 

@@ -5,11 +5,13 @@ use Rattle.ug_coord.proofs.Coursing.{any_in, stays_in}
 use Rattle.ug_coord.proofs.Counts.{hears_after, quiet_on}
 use Rattle.ug_coord.proofs.hub.Hub.step.Goals as goal
 
-pub tell_all-requires-clause-on : goal.tell_all-requires-clause-on
-tell_all-requires-clause-on g c κs within = (
-  c.requires.on.0,
-  any_in (is_next Hearing) c.requires.on.0 _ (c.decide.ensures.on c.requires.on.0 c.requires.on.1),
-)
+pub tell_all-requires : goal.tell_all-requires
+tell_all-requires g c = record {
+  on = (
+    c.requires.on.0,
+    any_in (is_next Hearing) c.requires.on.0 _ (c.decide.ensures.on c.requires.on.0 c.requires.on.1),
+  );
+}
 
 pub returns-then-has_stopped-clause-on : goal.returns-then-has_stopped-clause-on
 returns-then-has_stopped-clause-on g c from on = any_in (is_next Hearing) from _ (c.decide.ensures.on from on)

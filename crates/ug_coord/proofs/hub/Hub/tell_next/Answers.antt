@@ -4,7 +4,7 @@ use Rattle.ug_coord.proofs.Coursing.{first_order}
 use Rattle.ug_coord.proofs.hub.Hub.tell_next.Goals as goal
 
 pub tell-requires-clause-order : goal.tell-requires-clause-order
-tell-requires-clause-order g c κs within =
+tell-requires-clause-order g c =
     first_order c.args.self.now.book c.next_order.new.self c.in-Some.told c.problem-problem.ensures.book c.in-Some.ensures.told
 
 pub returns-in-Some-clause-on : goal.returns-in-Some-clause-on

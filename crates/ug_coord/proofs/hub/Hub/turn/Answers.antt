@@ -19,18 +19,20 @@ read_rests true from h new goes on = deciding_rests from new (goes from (reading
 read_rests false from h new goes on =
     reading_rests from new (stays_in (is_next Reading) from h new (λ phase is. goes phase from is) on)
 
-pub lose_all-requires-clause-on : goal.lose_all-requires-clause-on
-lose_all-requires-clause-on g c κs within =
+pub lose_all-requires : goal.lose_all-requires
+lose_all-requires g c =
     let broken : HasBroken (g.C.Crew.seen c.args.self.now.crew) (g.C.Crew.seen c.take_turn.new.crew)
     c.args.self.now.streams.items c.take_turn.new.streams =
     subst (λ (l : List Waiting). HasBroken (g.C.Crew.seen c.args.self.now.crew)
     (g.C.Crew.seen c.take_turn.new.crew) l c.take_turn.new.streams) c.deref_mut.ensures.value
-    c.in-Failed.ensures in (
-      c.requires.on.0,
-      broke_by c.requires.on.0 (hub_seen g.C.Crew.seen c.args.self.now) _ c.requires.more c.requires.told
-          (broken_whole c.args.self.now.streams.len (g.C.Crew.seen c.args.self.now.crew) (g.C.Crew.seen c.take_turn.new.crew)
-          c.args.self.now.streams.items c.take_turn.new.streams (as_long c.deref_mut.ensures.value c.deref_mut.ensures.len) broken) refl refl refl c.requires.on.1,
-    )
+    c.in-Failed.ensures in record {
+      on = (
+        c.requires.on.0,
+        broke_by c.requires.on.0 (hub_seen g.C.Crew.seen c.args.self.now) _ c.requires.more c.requires.told
+            (broken_whole c.args.self.now.streams.len (g.C.Crew.seen c.args.self.now.crew) (g.C.Crew.seen c.take_turn.new.crew)
+            c.args.self.now.streams.items c.take_turn.new.streams (as_long c.deref_mut.ensures.value c.deref_mut.ensures.len) broken) refl refl refl c.requires.on.1,
+      );
+    }
 
 pub hear_next-requires-clause-on : goal.hear_next-requires-clause-on
 hear_next-requires-clause-on g c κs within =
