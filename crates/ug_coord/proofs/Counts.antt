@@ -26,7 +26,7 @@ use Rattle.ug_book.specs.Views.{IsSameRun}
 use Rattle.ug_coord.specs.Deeds.{Broke, Came, Closed, Decided, Deed, Does, Halted, IsCourse, Kept as Saved, Launched, Lost, Passed, Sent, SetUp, Standing, Took, Unclosed, Unfed, Unread, Unsent, Unwritten}
 use Rattle.ug_coord.specs.Ends.{IsOver}
 use Rattle.ug_coord.specs.Hubs.{HearsOne, IsOneMore, IsQuiet}
-use Rattle.ug_coord.proofs.Kept.{run_on}
+use Rattle.ug_coord.proofs.Kept.{run_on, same_of}
 
 -- how many reports were heard, and the settings
 record Tally : Type 0 where
@@ -239,6 +239,9 @@ heard_by answer r report old new run is = record {
   heard = subst (λ (b : BookState). IsOneMore old.heard b.heard) (sym is)
       (heard_one answer r report old).heard;
 }
+
+pub quiet_none : (b : BookState) → IsQuiet b b
+quiet_none b = quiet_by b b (same_of b b refl) refl
 
 pub quiet_on : (a b c : BookState) → IsQuiet a b → IsQuiet b c → IsQuiet a c
 quiet_on a b c one two = record { run = run_on a b c one.run two.run; heard = two.heard ∙ one.heard }

@@ -1,7 +1,8 @@
 -- A slice of a vector that was lent whole.
-use Rattle.std.proofs.Common.{◌≡◌, ℕ, List, ◌++◌, length, take, drop, sym, ap, subst, ◌∙◌}
-use Rattle.std.proofs.lemmas.List.{length-set, take_at}
-use Rattle.std.specs.Prelude.{slice_index_or}
+use Rattle.std.proofs.Common.{◌≡◌, ℕ, ◌<◌, List, ◌++◌, length, take, drop, sym, ap, subst, ◌∙◌}
+use Rattle.std.proofs.lemmas.List.{length-set, take_at, with_items_is}
+use Rattle.std.specs.Prelude.{Vec, slice_index_or}
+use Rattle.std.specs.Vec.{with_items}
 use Rattle.ug_io.specs.Crews.{CrewSeen}
 use Rattle.ug_stream.specs.Streams.{Waiting, fed, first, shut}
 use Rattle.ug_frames.specs.declared.report.Report.{Report}
@@ -53,3 +54,10 @@ lacked_whole n a c old new rank long h =
 pub same_whole : (n : ℕ) (old new : List Waiting) → length old ≡ n → new ≡ old → lent n old new ≡ old
 same_whole n old new long same =
     whole n old new long (ap (λ (l : List Waiting). length l) same) ∙ same
+
+-- a buffer that was lent has the room that it had
+pub room_whole : {X Z : Type 0} (v : Vec X Z) (slice new : List X) → slice ≡ v.items → length slice ≡ v.len
+    → length new ≡ length slice → 0 < length v.items → 0 < length (with_items v new).items
+room_whole {X} v slice new value long same room =
+    subst (λ (l : List X). 0 < length l) (sym (with_items_is v new (same ∙ long)))
+    (subst (λ (n : ℕ). 0 < n) (ap (λ (l : List X). length l) (sym value) ∙ sym same) room)

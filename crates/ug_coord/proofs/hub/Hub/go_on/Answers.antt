@@ -2,7 +2,7 @@ use Rattle.std.proofs.Common.{refl}
 use Rattle.ug_coord.specs.HubViews.{hub_seen}
 use Rattle.ug_coord.specs.Hubs.{IsRested}
 use Rattle.ug_coord.specs.Keepers.{kept_seen}
-use Rattle.ug_coord.proofs.Kept.{any_kept, is_on, kept_first, kept_ours, onto, run_on}
+use Rattle.ug_coord.proofs.Kept.{any_kept, is_on, kept_first, kept_ours, onto, run_on, same_of}
 use Rattle.ug_coord.proofs.hub.Hub.go_on.Goals as goal
 
 pub advance-requires-clause-on : goal.advance-requires-clause-on
@@ -45,3 +45,44 @@ loop-preserved g c = record {
 
 pub returns-then-not-advance-clause-over : goal.returns-then-not-advance-clause-over
 returns-then-not-advance-clause-over g c wants = c.if-not-advance.ensures.over refl wants
+
+pub loop-init : goal.loop-init
+loop-init g c = record {
+  next = (tt, tt);
+  on = λ from first k. k;
+  kept = c.requires.kept;
+  same = same_of c.args.self.now.book c.args.self.now.book refl;
+  saved = c.requires.saved;
+}
+
+pub returns-then-has_stopped-clause-over : goal.returns-then-has_stopped-clause-over
+returns-then-has_stopped-clause-over g c wants = c.if-has_stopped.ensures.stopped refl wants
+
+pub returns-then-has_stopped-clause-kept : goal.returns-then-has_stopped-clause-kept
+returns-then-has_stopped-clause-kept g c = c.loop.invariant.kept
+
+pub returns-then-has_stopped-clause-saved : goal.returns-then-has_stopped-clause-saved
+returns-then-has_stopped-clause-saved g c = c.loop.invariant.saved
+
+pub returns-then-has_stopped-clause-same : goal.returns-then-has_stopped-clause-same
+returns-then-has_stopped-clause-same g c = c.loop.invariant.same
+
+pub advance-requires-clause-more : goal.advance-requires-clause-more
+advance-requires-clause-more g c κs within = (c.if-has_stopped.ensures.on refl).1
+
+pub advance-requires-clause-saved : goal.advance-requires-clause-saved
+advance-requires-clause-saved g c κs within = c.loop.invariant.saved
+
+pub advance-requires-clause-kept : goal.advance-requires-clause-kept
+advance-requires-clause-kept g c κs within = c.loop.invariant.kept
+
+pub returns-then-not-advance-clause-kept : goal.returns-then-not-advance-clause-kept
+returns-then-not-advance-clause-kept g c = c.advance.ensures.kept
+
+pub returns-then-not-advance-clause-saved : goal.returns-then-not-advance-clause-saved
+returns-then-not-advance-clause-saved g c = c.advance.ensures.saved
+
+pub returns-then-not-advance-clause-same : goal.returns-then-not-advance-clause-same
+returns-then-not-advance-clause-same g c =
+    run_on c.args.self.now.book c.loop.self.book c.advance.new.self.book c.loop.invariant.same
+    c.advance.ensures.same

@@ -1,6 +1,19 @@
 use Rattle.ug_coord.proofs.Counts.{lost_quiet}
+use Rattle.std.proofs.Common.{refl}
 use Rattle.ug_coord.proofs.hub.Hub.lose.Goals as goal
 
 pub returns-clause-quiet : goal.returns-clause-quiet
 returns-clause-quiet g c =
     lost_quiet c.args.rank c.args.self.now.book c.gone.new.self c.gone.ensures.same c.gone.ensures.done
+
+pub gone-requires : goal.gone-requires
+gone-requires g c = c.requires
+
+pub invariant_of-self : goal.invariant_of-self
+invariant_of-self g c = record { room = c.args.self.now.room }
+
+pub returns-clause-frame : goal.returns-clause-frame
+returns-clause-frame g c = refl
+
+pub returns-clause-pacing : goal.returns-clause-pacing
+returns-clause-pacing g c = refl

@@ -1,4 +1,4 @@
-use Rattle.std.proofs.Common.{Bool, List, true, false, refl, subst}
+use Rattle.std.proofs.Common.{Bool, List, true, false, refl, subst, ◌<◌, ℕ, length, sym, ap, ◌∙◌}
 use Rattle.std.specs.Prelude.{MatchBool}
 use Rattle.ug_stream.specs.Streams.{Waiting}
 use Rattle.ug_coord.specs.Deeds.{Deciding, Reading, Standing}
@@ -6,8 +6,8 @@ use Rattle.ug_coord.specs.HubViews.{hub_seen}
 use Rattle.ug_coord.specs.Hubs.{HubSeen, IsOnAs, IsOnIn, IsRested, MayRead, Phase, is_next}
 use Rattle.ug_coord.specs.Reading.{HasBroken, HasFed, HasGone, HasLacked}
 use Rattle.ug_coord.proofs.Coursing.{any_in, broke_by, broken_rests, deciding_rests, fed_by, gone_by, lacked_by, reading_reads, reading_rests, stays_in}
-use Rattle.ug_coord.proofs.Whole.{as_long, broken_whole, fed_whole, gone_whole, lacked_whole}
-use Rattle.ug_coord.proofs.Counts.{lost_quiet, quiet_one}
+use Rattle.ug_coord.proofs.Whole.{as_long, broken_whole, fed_whole, gone_whole, lacked_whole, room_whole}
+use Rattle.ug_coord.proofs.Counts.{lost_quiet, quiet_one, quiet_none}
 use Rattle.ug_coord.proofs.hub.Hub.turn.Goals as goal
 
 pub read_rests : (result : Bool) (from : Standing) (h new : HubSeen)
@@ -103,3 +103,68 @@ returns-in-Gone-clause-hears g c =
 
 pub returns-in-Failed-clause-hears : goal.returns-in-Failed-clause-hears
 returns-in-Failed-clause-hears g c = quiet_one c.args.self.now.book _ c.lose_all.ensures.quiet
+
+pub take_turn-requires-clause-room : goal.take_turn-requires-clause-room
+take_turn-requires-clause-room g c =
+    subst (λ (l : List ℕ). 0 < length l) (sym c.deref_mut-2.ensures.value) c.args.self.now.room
+
+pub take_turn-requires-clause-fit : goal.take_turn-requires-clause-fit
+take_turn-requires-clause-fit g c =
+    c.requires.on.1.2.fit.lives ∙ sym c.requires.on.1.2.fit.streams
+    ∙ ap (λ (l : List Waiting). length l) (sym c.deref_mut.ensures.value)
+
+pub invariant_of-self : goal.invariant_of-self
+invariant_of-self g c = record {
+  room = room_whole c.args.self.now.input c.deref_mut-2.result.now c.take_turn.new.buffer c.deref_mut-2.ensures.value
+      c.deref_mut-2.ensures.len c.take_turn.auto.buffer c.args.self.now.room;
+}
+
+pub invariant_of-self-in-Gone : goal.invariant_of-self-in-Gone
+invariant_of-self-in-Gone g c = record {
+  room = room_whole c.args.self.now.input c.deref_mut-2.result.now c.take_turn.new.buffer c.deref_mut-2.ensures.value
+      c.deref_mut-2.ensures.len c.take_turn.auto.buffer c.args.self.now.room;
+}
+
+pub invariant_of-self-in-Failed : goal.invariant_of-self-in-Failed
+invariant_of-self-in-Failed g c = record {
+  room = room_whole c.args.self.now.input c.deref_mut-2.result.now c.take_turn.new.buffer c.deref_mut-2.ensures.value
+      c.deref_mut-2.ensures.len c.take_turn.auto.buffer c.args.self.now.room;
+}
+
+pub invariant_of-self-in-Wanting : goal.invariant_of-self-in-Wanting
+invariant_of-self-in-Wanting g c = record {
+  room = room_whole c.args.self.now.input c.deref_mut-2.result.now c.take_turn.new.buffer c.deref_mut-2.ensures.value
+      c.deref_mut-2.ensures.len c.take_turn.auto.buffer c.args.self.now.room;
+}
+
+pub hear_next-requires-clause-there : goal.hear_next-requires-clause-there
+hear_next-requires-clause-there g c κs within =
+    subst (λ (n : ℕ). c.in-Fed.rank < n) c.requires.on.1.2.fit.lives c.in-Fed.ensures.alive.there
+
+pub hear_next-requires-clause-more : goal.hear_next-requires-clause-more
+hear_next-requires-clause-more g c κs within = c.requires.more
+
+pub hear_next-requires-clause-told : goal.hear_next-requires-clause-told
+hear_next-requires-clause-told g c κs within = c.requires.told
+
+pub gone-requires : goal.gone-requires
+gone-requires g c =
+    subst (λ (n : ℕ). c.in-Gone.rank < n) c.requires.on.1.2.fit.lives c.in-Gone.ensures.lost.alive.there
+
+pub returns-in-Fed-clause-hears : goal.returns-in-Fed-clause-hears
+returns-in-Fed-clause-hears g c = c.hear_next.ensures.hears
+
+pub returns-in-Fed-clause-pacing : goal.returns-in-Fed-clause-pacing
+returns-in-Fed-clause-pacing g c = c.hear_next.ensures.pacing
+
+pub returns-in-Gone-clause-pacing : goal.returns-in-Gone-clause-pacing
+returns-in-Gone-clause-pacing g c = refl
+
+pub returns-in-Failed-clause-pacing : goal.returns-in-Failed-clause-pacing
+returns-in-Failed-clause-pacing g c = c.lose_all.ensures.pacing
+
+pub returns-in-Wanting-clause-hears : goal.returns-in-Wanting-clause-hears
+returns-in-Wanting-clause-hears g c = quiet_one c.args.self.now.book _ (quiet_none c.args.self.now.book)
+
+pub returns-in-Wanting-clause-pacing : goal.returns-in-Wanting-clause-pacing
+returns-in-Wanting-clause-pacing g c = refl

@@ -1,0 +1,42 @@
+use Rattle.std.proofs.Common.{refl, ◌∙◌}
+use Rattle.ug_coord.proofs.Counts.{quiet_none, quiet_on}
+use Rattle.ug_coord.proofs.hub.Hub.start_all.Goals as goal
+
+pub loop-rank-init : goal.loop-rank-init
+loop-rank-init g c = record {
+  on = λ phase from on. on;
+  frame = c.requires.frame;
+  quiet = quiet_none c.args.self.now.book;
+  pacing = refl;
+}
+
+pub start-requires-clause-on : goal.start-requires-clause-on
+start-requires-clause-on g c = (
+  c.requires.on.0,
+  (
+    c.requires.on.1.0,
+    tt,
+    c.loop-rank.invariant.on c.requires.on.1.0 c.requires.on.0 c.requires.on.1.2,
+  ),
+)
+
+pub start-requires-clause-frame : goal.start-requires-clause-frame
+start-requires-clause-frame g c = c.loop-rank.invariant.frame
+
+pub loop-rank-preserved : goal.loop-rank-preserved
+loop-rank-preserved g c = record {
+  on = λ phase from on. c.start.ensures.on phase from (c.loop-rank.invariant.on phase from on);
+  frame = c.start.ensures.frame;
+  quiet = quiet_on c.args.self.now.book c.loop-rank.self.book c.start.new.self.book c.loop-rank.invariant.quiet
+      c.start.ensures.quiet;
+  pacing = c.start.ensures.pacing ∙ c.loop-rank.invariant.pacing;
+}
+
+pub returns-clause-on : goal.returns-clause-on
+returns-clause-on g c = c.loop-rank.invariant.on
+
+pub returns-clause-quiet : goal.returns-clause-quiet
+returns-clause-quiet g c = c.loop-rank.invariant.quiet
+
+pub returns-clause-pacing : goal.returns-clause-pacing
+returns-clause-pacing g c = c.loop-rank.invariant.pacing
