@@ -2,10 +2,10 @@
 use Rattle.std.proofs.Common.{◌≡◌, ◌≢◌, inl, inr, ℕ, ◌<◌, Bool, true, false, List, [], ◌∷◌, ◌++◌, length, Option, Some, None, IfSome, refl, sym, ap, subst, ◌∙◌, arith}
 use Rattle.std.proofs.lemmas.Bool.{cases_Bool, cases_lt, false≢true}
 use Rattle.std.proofs.lemmas.List.{get_or-set_same, get_or_past, length-replicate, length-set, set-get_or}
-use Rattle.std.specs.Prelude.{replicate, slice_index_or, slice_set}
+use Rattle.std.specs.Prelude.{Vec, replicate, slice_index_or, slice_set}
 use Rattle.ug_io.specs.declared.crew.Exchange.{Exchange}
 use Rattle.ug_io.specs.declared.crew.Exchange.TheVariants.{Gone}
-use Rattle.ug_io.specs.Crews.{Adds, CrewSeen, IsAlive, IsSilent, heard_from, told_to}
+use Rattle.ug_io.specs.Crews.{Adds, CrewSeen, HasSent, IsAlive, IsSetTo, IsSilent, heard_from, told_to}
 use Rattle.ug_io.specs.Outside.{Rose}
 use Rattle.ug_frames.specs.declared.order.Order.TheVariants.{End, Setup}
 use Rattle.ug_frames.specs.declared.report.Report.{Report}
@@ -25,6 +25,7 @@ use Rattle.ug_rules.specs.Deaths.{killed}
 use Rattle.ug_rules.specs.Deciding.{IsDecided, Stands}
 use Rattle.ug_rules.specs.Hearing.{IsDue, after_hearing}
 use Rattle.ug_book.specs.Reads.{IsOrderTold}
+use Rattle.ug_book.specs.Views.{IsSameRun}
 use Rattle.ug_coord.specs.Deeds.{Broke, Came, Decided, Deciding, Deed, Does, Ended, Failed, Halted, Hearing, IsCourse, IsHearing, IsMoreWanted, IsReading, Kept, Launched, Lost, MayBeRead, MayDecide, Nonsense, Passed, Reading, Sent, SetUp, Standing, Took, Unfed, Unread, Unsent, Unwritten}
 use Rattle.ug_coord.specs.declared.pacing.Pacing.{Pacing}
 use Rattle.ug_coord.specs.Pacing.{IsSaveDue, saved_at}
@@ -117,6 +118,50 @@ fit_without old new rank lives streams ranks fit = record {
   lives = ap (λ (l : List Bool). length l) lives ∙ length-set old.crew.lives rank false ∙ fit.lives ∙ sym ranks;
   streams = ap (λ (l : List Waiting). length l) streams ∙ fit.streams ∙ sym ranks;
 }
+
+-- ---- a call of the crew
+
+-- the rank lives from now on, or does no longer
+pub set_by : (alive : Bool) (old : HubSeen) (crew : CrewSeen) (rank : ℕ) → IsSetTo alive old.crew crew rank
+    → crew.faults ≡ old.crew.faults
+    → record old { crew = crew } ≡ record old { crew = record old.crew { lives = slice_set old.crew.lives rank alive } }
+set_by alive old crew rank set calm =
+    ap (λ (s : Option (List Exchange)). record old { crew = record crew { said = s } }) set.said
+    ∙ ap (λ (l : List Bool). record old { crew = record old.crew { lives = l; faults = crew.faults } }) set.lives
+    ∙ ap (λ (n : ℕ). record old {
+      crew = record old.crew { lives = slice_set old.crew.lives rank alive; faults = n };
+    }) calm
+
+-- bytes were told to it
+pub sent_by : (old : HubSeen) (crew : CrewSeen) (rank : ℕ) (bytes : List ℕ) → HasSent old.crew crew rank bytes
+    → crew.faults ≡ old.crew.faults → HasSentTo old (record old { crew = crew }) rank bytes
+sent_by old crew rank bytes sent calm = record {
+  said = sent.said;
+  rest = ap (λ (l : List Bool). record old { crew = record crew { lives = l } }) sent.lives
+      ∙ ap (λ (n : ℕ). record old { crew = record old.crew { said = crew.said; faults = n } }) calm;
+}
+
+pub only_faults : (a c : CrewSeen) → IsSilent a c → c ≡ record a { faults = c.faults }
+only_faults a c silent =
+    ap (λ (s : Option (List Exchange)). record { said = s; lives = c.lives; faults = c.faults }) silent.said
+    ∙ ap (λ (l : List Bool). record { said = a.said; lives = l; faults = c.faults }) silent.lives
+
+-- it failed, and so the rank was lost
+pub failed_by : (old : HubSeen) (crew : CrewSeen) (new : HubSeen) (rank : ℕ) → IsSilent old.crew crew
+    → Rose old.crew.faults crew.faults → rank < ranks_of old.book → new ≡ without rank (record old { crew = crew })
+    → ranks_of new.book ≡ ranks_of old.book → HasFailed old new rank
+failed_by old crew new rank silent faults there lost ranks =
+    let calm : new.crew.faults ≡ crew.faults = ap (λ (h : HubSeen). h.crew.faults) lost in
+    record {
+      there = there;
+      faults = subst (λ (n : ℕ). Rose old.crew.faults n) (sym calm) faults;
+      ranks = ranks;
+      rest = lost ∙ ap (λ (c : CrewSeen). without rank (record old { crew = c })) (only_faults old.crew crew silent)
+          ∙ ap (λ (n : ℕ). record old {
+            crew = record old.crew { lives = slice_set old.crew.lives rank false; faults = n };
+            book = killed rank old.book;
+          }) (sym calm);
+    }
 
 -- ---- a call failed
 
@@ -531,6 +576,12 @@ setup_still old new before after problem settings frame h = record {
   frame = frame ∙ h.frame ∙ ap (λ (s : Settings). orders.spelled (Setup s.gap h.bytes)) (sym settings);
 }
 
+pub frame_still : {Z : Type 0} (old new : BookState) (before after : Vec ℕ Z) → IsSameRun old new → after ≡ before
+    → IsSetUpFrame old before.items → IsSetUpFrame new after.items
+frame_still {Z} old new before after run frame h =
+    setup_still old new before.items after.items run.problem run.settings
+    (ap (λ (v : Vec ℕ Z). v.items) frame) h
+
 -- a rank was started, and told the problem or not
 pub started_on : (sent : Bool) (phase : Phase) (b : Standing) (old mid new : HubSeen) (rank : ℕ) (frame : List ℕ)
     → slice_index_or old.crew.lives rank false ≡ false → rank < length old.crew.lives
@@ -629,11 +680,6 @@ gone_by b old new rank more told h book ranks wants pacing (phase, decided, on) 
   gone_on phase b old new rank (omega (arith, h.lost.alive.there, on.fit.lives)) h.lost.alive.lives h.lost.said
       h.lost.faults h.lost.lives h.streams book ranks wants pacing more told decided on,
 )
-
-pub only_faults : (a c : CrewSeen) → IsSilent a c → c ≡ record a { faults = c.faults }
-only_faults a c silent =
-    ap (λ (s : Option (List Exchange)). record { said = s; lives = c.lives; faults = c.faults }) silent.said
-    ∙ ap (λ (l : List Bool). record { said = a.said; lives = l; faults = c.faults }) silent.lives
 
 -- it failed
 pub broke_by : (b : Standing) (old new : HubSeen) → ¬ IsOver old.book → old.book.orders ≡ []

@@ -48,11 +48,13 @@ impl<R, O, C: Crew> Hub<'_, R, O, C> {
         ensures frame { self.new.frame ≡ self.old.frame }
         ensures pacing { self.new.pacing ≡ self.old.pacing }
     {
-        if self.crew.send(rank, &self.frame).is_ok() {
-            return true;
+        match self.crew.send(rank, &self.frame) {
+            Ok(()) => true,
+            Err(_) => {
+                self.lose(rank);
+                false
+            }
         }
-        self.lose(rank);
-        false
     }
 
     // Starts the rank, which does not live. Where that fails it is gone, and false is answered.
@@ -65,11 +67,13 @@ impl<R, O, C: Crew> Hub<'_, R, O, C> {
         ensures frame { self.new.frame ≡ self.old.frame }
         ensures pacing { self.new.pacing ≡ self.old.pacing }
     {
-        if self.crew.launch(rank).is_ok() {
-            return true;
+        match self.crew.launch(rank) {
+            Ok(()) => true,
+            Err(_) => {
+                self.lose(rank);
+                false
+            }
         }
-        self.lose(rank);
-        false
     }
 
     // Starts the rank, and tells it the problem, which the frame is.

@@ -18,3 +18,27 @@ pub returns-else-is_alive-clause-closed : goal.returns-else-is_alive-clause-clos
 returns-else-is_alive-clause-closed g c from old new k =
     away_on from (hub_seen g.C.Crew.seen c.args.self.now) old new c.args.rank
     (away_is (g.C.Crew.seen c.args.self.now.crew) c.args.rank c.if-is_alive.ensures) k
+
+pub send-requires : goal.send-requires
+send-requires g c = c.if-is_alive.ensures
+
+pub invariant_of-self : goal.invariant_of-self
+invariant_of-self g c = record { room = c.args.self.now.room }
+
+pub returns-in-Ok-clause-same : goal.returns-in-Ok-clause-same
+returns-in-Ok-clause-same g c = (refl, refl)
+
+pub returns-in-Ok-clause-pacing : goal.returns-in-Ok-clause-pacing
+returns-in-Ok-clause-pacing g c = refl
+
+pub returns-in-Err-clause-same : goal.returns-in-Err-clause-same
+returns-in-Err-clause-same g c = (refl, refl)
+
+pub returns-in-Err-clause-pacing : goal.returns-in-Err-clause-pacing
+returns-in-Err-clause-pacing g c = refl
+
+pub returns-else-is_alive-clause-same : goal.returns-else-is_alive-clause-same
+returns-else-is_alive-clause-same g c = (refl, refl)
+
+pub returns-else-is_alive-clause-pacing : goal.returns-else-is_alive-clause-pacing
+returns-else-is_alive-clause-pacing g c = refl

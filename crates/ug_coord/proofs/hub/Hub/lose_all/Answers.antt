@@ -1,12 +1,30 @@
-use Rattle.std.proofs.Common.{rules, ◌∙◌}
+use Rattle.std.proofs.Common.{rules, ◌∙◌, refl}
 use Rattle.ug_coord.specs.HubViews.{hub_seen}
 use Rattle.ug_coord.proofs.Coursing.{lost_in}
+use Rattle.ug_coord.proofs.Counts.{quiet_none, quiet_on}
 use Rattle.ug_coord.proofs.hub.Hub.lose_all.Goals as goal
 
 pub loop-rank-preserved : goal.loop-rank-preserved
 loop-rank-preserved g c = record {
   on = λ from on. lost_in from (hub_seen g.C.Crew.seen c.loop-rank.self) (hub_seen g.C.Crew.seen c.lose.new.self)
       c.loop-rank.rank (search rules) c.lose.ensures.seen c.lose.ensures.quiet.run.wide (c.loop-rank.invariant.on from on);
-  quiet = search rules;
+  quiet = quiet_on c.args.self.now.book c.loop-rank.self.book c.lose.new.self.book c.loop-rank.invariant.quiet
+      c.lose.ensures.quiet;
   pacing = c.lose.ensures.pacing ∙ c.loop-rank.invariant.pacing;
 }
+
+pub loop-rank-init : goal.loop-rank-init
+loop-rank-init g c = record {
+  on = λ from on. on;
+  quiet = quiet_none c.args.self.now.book;
+  pacing = refl;
+}
+
+pub returns-clause-on : goal.returns-clause-on
+returns-clause-on g c = c.loop-rank.invariant.on
+
+pub returns-clause-quiet : goal.returns-clause-quiet
+returns-clause-quiet g c = c.loop-rank.invariant.quiet
+
+pub returns-clause-pacing : goal.returns-clause-pacing
+returns-clause-pacing g c = c.loop-rank.invariant.pacing

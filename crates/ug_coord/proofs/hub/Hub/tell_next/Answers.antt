@@ -1,6 +1,7 @@
-use Rattle.std.proofs.Common.{rules}
+use Rattle.std.proofs.Common.{rules, sym}
 use Rattle.ug_coord.proofs.Counts.{left_quiet, quiet_on}
 use Rattle.ug_coord.proofs.Coursing.{first_order}
+use Rattle.std.proofs.lemmas.Bool.{false≢true}
 use Rattle.ug_coord.proofs.hub.Hub.tell_next.Goals as goal
 
 pub tell-requires-clause-order : goal.tell-requires-clause-order
@@ -16,3 +17,16 @@ returns-in-Some-clause-quiet g c =
     quiet_on c.args.self.now.book c.next_order.new.self c.tell.new.self.book
     (left_quiet c.args.self.now.book c.next_order.new.self c.in-Some.told (search rules) c.in-Some.ensures.told)
     c.tell.ensures.quiet
+
+pub tell-requires-clause-on : goal.tell-requires-clause-on
+tell-requires-clause-on g c =
+    (c.requires.on.0, c.args.self.now.book, c.requires.on.1, c.in-Some.ensures.told)
+
+pub returns-in-Some-clause-none : goal.returns-in-Some-clause-none
+returns-in-Some-clause-none g c same = absurd (false≢true (sym same))
+
+pub returns-in-Some-clause-pacing : goal.returns-in-Some-clause-pacing
+returns-in-Some-clause-pacing g c = c.tell.ensures.pacing
+
+pub invariant_of-self : goal.invariant_of-self
+invariant_of-self g c = record { room = c.args.self.now.room }

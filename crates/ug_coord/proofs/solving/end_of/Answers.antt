@@ -1,0 +1,35 @@
+use Rattle.std.proofs.Common.{refl}
+use Rattle.ug_coord.proofs.solving.end_of.Goals as goal
+
+pub returns-then-wants-clause-ended : goal.returns-then-wants-clause-ended
+returns-then-wants-clause-ended c = tt
+
+pub returns-then-wants-clause-lacks : goal.returns-then-wants-clause-lacks
+returns-then-wants-clause-lacks c = tt
+
+pub returns-then-wants-clause-feasible : goal.returns-then-wants-clause-feasible
+returns-then-wants-clause-feasible c = tt
+
+pub returns-then-wants-clause-right : goal.returns-then-wants-clause-right
+returns-then-wants-clause-right c = tt
+
+pub returns-then-is_answered-clause-ended : goal.returns-then-is_answered-clause-ended
+returns-then-is_answered-clause-ended c = (refl, c.if-is_answered.ensures.none)
+
+pub returns-then-is_answered-clause-lacks : goal.returns-then-is_answered-clause-lacks
+returns-then-is_answered-clause-lacks c = c.if-wants.false
+
+pub returns-then-is_answered-clause-right : goal.returns-then-is_answered-clause-right
+returns-then-is_answered-clause-right c = c.if-is_answered.ensures.right refl
+
+pub returns-then-settings-count-clause-lacks : goal.returns-then-settings-count-clause-lacks
+returns-then-settings-count-clause-lacks c = c.if-wants.false
+
+pub returns-then-settings-count-clause-right : goal.returns-then-settings-count-clause-right
+returns-then-settings-count-clause-right c = tt
+
+pub returns-clause-lacks : goal.returns-clause-lacks
+returns-clause-lacks c = c.if-wants.false
+
+pub returns-clause-right : goal.returns-clause-right
+returns-clause-right c = tt
