@@ -1,11 +1,13 @@
 //! What a coordinator hears of its crew, a report at a time.
 
 ghost use Rattle.std.specs.Prelude.{◌≡◌, ◌<◌, [], false, MatchBool};
+ghost use Rattle.ug_stream.specs.declared.next.Next.TheVariants.{NeedMore};
 ghost use Rattle.ug_rules.specs.Hearing.{IsHearable};
 ghost use Rattle.ug_coord.specs.Deeds.{Deciding, Hearing, Standing};
 ghost use Rattle.ug_coord.specs.Ends.{IsOver, ranks_of};
 ghost use Rattle.ug_coord.specs.Hubs.{AnyPhase, HasHeardReport, HearsOne, IsBrokenOff, IsOnAs};
 ghost use Rattle.ug_coord.specs.Hubs.{IsOnIn, IsQuiet, IsRested, MayRead, Phase, is_next};
+ghost use Rattle.ug_coord.specs.Reading.{HasRead};
 
 use crate::hub::Hub;
 use crate::streams::{Turn, next_of, take_turn};
@@ -74,6 +76,8 @@ impl<R, O: Observer, C: Crew> Hub<'_, R, O, C> {
             → IsOnAs phase from (hub_seen C.seen self.new)) }
         ensures hears { HearsOne self.old.book self.new.book }
         ensures nothing { result ≡ false → self.new.book ≡ self.old.book }
+        ensures short { result ≡ false
+            → HasRead self.old.streams.items self.new.streams.items rank NeedMore }
         ensures pacing { self.new.pacing ≡ self.old.pacing }
     {
         match next_of(self.host.alloc, &mut self.streams, rank) {

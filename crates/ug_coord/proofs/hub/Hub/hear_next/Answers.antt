@@ -97,3 +97,18 @@ returns-in-Err-clause-nothing g c same = refl
 
 pub returns-in-Err-clause-pacing : goal.returns-in-Err-clause-pacing
 returns-in-Err-clause-pacing g c = refl
+
+pub returns-in-Ok-Message-clause-short : goal.returns-in-Ok-Message-clause-short
+returns-in-Ok-Message-clause-short g c same = absurd (false≢true (sym same))
+
+pub returns-in-Ok-NeedMore-clause-short : goal.returns-in-Ok-NeedMore-clause-short
+returns-in-Ok-NeedMore-clause-short g c same =
+    let read : HasRead c.args.self.now.streams.items c.next_of.new.streams c.args.rank NeedMore = search rules in
+    read_whole c.args.self.now.streams.len c.args.self.now.streams.items c.next_of.new.streams c.args.rank _
+    (as_long c.deref_mut.ensures.value c.deref_mut.ensures.len) read
+
+pub returns-in-Ok-BadFrame-clause-short : goal.returns-in-Ok-BadFrame-clause-short
+returns-in-Ok-BadFrame-clause-short g c same = absurd (false≢true (sym same))
+
+pub returns-in-Err-clause-short : goal.returns-in-Err-clause-short
+returns-in-Err-clause-short g c same = absurd (false≢true (sym same))
