@@ -2,6 +2,7 @@ pub mod Causes
 pub mod Closing
 pub mod Counts
 pub mod Coursing
+pub mod Deaths
 pub mod Ends
 pub mod Kept
 pub mod Room

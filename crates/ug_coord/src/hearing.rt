@@ -4,7 +4,7 @@ ghost use Rattle.std.specs.Prelude.{◌≡◌, ◌<◌, [], false, MatchBool};
 ghost use Rattle.ug_stream.specs.declared.next.Next.TheVariants.{NeedMore};
 ghost use Rattle.ug_rules.specs.Hearing.{IsHearable};
 ghost use Rattle.ug_coord.specs.Deeds.{Deciding, Hearing, Standing};
-ghost use Rattle.ug_coord.specs.Ends.{IsOver, ranks_of};
+ghost use Rattle.ug_coord.specs.Ends.{AllDead, IsOver, ranks_of};
 ghost use Rattle.ug_coord.specs.Hubs.{AnyPhase, HasHeardReport, HearsOne, IsBrokenOff, IsOnAs};
 ghost use Rattle.ug_coord.specs.Hubs.{IsOnIn, IsQuiet, IsRested, MayRead, Phase, is_next};
 ghost use Rattle.ug_coord.specs.Reading.{HasRead};
@@ -145,6 +145,7 @@ impl<R, O, C: Crew> Hub<'_, R, O, C> {
         requires on { (from : Standing) × IsOnIn IsBrokenOff from (hub_seen C.seen self.old) }
         ensures on { (from : Standing) → IsOnIn IsBrokenOff from (hub_seen C.seen self.old)
             → IsOnIn IsBrokenOff from (hub_seen C.seen self.new) }
+        ensures all { AllDead self.new.book }
         ensures quiet { IsQuiet self.old.book self.new.book }
         ensures pacing { self.new.pacing ≡ self.old.pacing }
     {

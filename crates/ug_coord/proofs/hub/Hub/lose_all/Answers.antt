@@ -1,5 +1,8 @@
-use Rattle.std.proofs.Common.{rules, ◌∙◌, refl}
+use Rattle.std.proofs.Common.{rules, ◌∙◌, refl, ap, arith}
+use Rattle.ug_rules.specs.declared.settings.Settings.{Settings}
 use Rattle.ug_coord.specs.HubViews.{hub_seen}
+use Rattle.ug_coord.specs.Hubs.{HubSeen}
+use Rattle.ug_coord.proofs.Deaths.{dead_below}
 use Rattle.ug_coord.proofs.Coursing.{lost_in}
 use Rattle.ug_coord.proofs.Counts.{quiet_none, quiet_on}
 use Rattle.ug_coord.proofs.hub.Hub.lose_all.Goals as goal
@@ -8,6 +11,8 @@ pub loop-rank-preserved : goal.loop-rank-preserved
 loop-rank-preserved g c = record {
   on = λ from on. lost_in from (hub_seen g.C.Crew.seen c.loop-rank.self) (hub_seen g.C.Crew.seen c.lose.new.self)
       c.loop-rank.rank (search rules) c.lose.ensures.seen c.lose.ensures.quiet.run.wide (c.loop-rank.invariant.on from on);
+  all = dead_below c.loop-rank.rank c.loop-rank.self.book c.lose.new.self.book
+      (ap (λ (h : HubSeen). h.book) c.lose.ensures.seen) c.loop-rank.invariant.all;
   quiet = quiet_on c.args.self.now.book c.loop-rank.self.book c.lose.new.self.book c.loop-rank.invariant.quiet
       c.lose.ensures.quiet;
   pacing = c.lose.ensures.pacing ∙ c.loop-rank.invariant.pacing;
@@ -16,6 +21,7 @@ loop-rank-preserved g c = record {
 pub loop-rank-init : goal.loop-rank-init
 loop-rank-init g c = record {
   on = λ from on. on;
+  all = λ rank less. absurd (omega (arith, less));
   quiet = quiet_none c.args.self.now.book;
   pacing = refl;
 }
@@ -28,3 +34,14 @@ returns-clause-quiet g c = c.loop-rank.invariant.quiet
 
 pub returns-clause-pacing : goal.returns-clause-pacing
 returns-clause-pacing g c = c.loop-rank.invariant.pacing
+
+pub returns-clause-all : goal.returns-clause-all
+returns-clause-all g c rank there =
+    c.loop-rank.invariant.all rank (omega (
+      arith,
+      there,
+      c.settings.ensures.ranks,
+      ap (λ (s : Settings). s.solvers) c.settings.ensures.value,
+      c.loop-rank.invariant.quiet.run.wide,
+      c.loop-rank-test.false,
+    ))
