@@ -1,5 +1,5 @@
 -- How a solve by a crew ends.
-use Rattle.std.proofs.Common.{◌≡◌, inl, inr, ℕ, Bool, false, [], arith, Option, None, Some, IfSome, refl, sym, ap, subst, ◌∙◌}
+use Rattle.std.proofs.Common.{◌≡◌, ◌<◌, inl, inr, ℕ, Bool, false, [], arith, Option, None, Some, IfSome, refl, sym, ap, subst, ◌∙◌}
 use Rattle.std.proofs.lemmas.Bool.{cases_lt, false≢true}
 use Rattle.std.proofs.lemmas.List.{get_or-replicate, get_or_past, length-replicate}
 use Rattle.std.specs.Prelude.{IsSomeAnd, replicate, slice_index_or}
@@ -24,7 +24,7 @@ use Rattle.ug_restart.proofs.Outcomes.{none_missed, saved_or_counted, still_cove
 use Rattle.ug_coord.specs.Deeds.{Standing, saves_in}
 use Rattle.ug_coord.specs.declared.pacing.Pacing.{Pacing}
 use Rattle.ug_coord.specs.Pacing.{IsSaveDue}
-use Rattle.ug_coord.specs.Ends.{IsAtLimit, is_ended, ranks_of}
+use Rattle.ug_coord.specs.Ends.{IsAnswered, IsAtLimit, IsOver, IsStranded, is_ended, ranks_of}
 use Rattle.ug_coord.specs.Hubs.{EndsFrom, HasCoordinated, HubSeen, IsFresh, StaysSound, beginning}
 use Rattle.ug_coord.specs.Keeping.{Begins, HasConcluded, HasKept, AreEachSaved, IsBegun, IsEachSaved, IsKeptSafe, IsNothing, IsOurs, KeptSeen, Moves, end_kept, missed_by, moves, savers, unsaved_by}
 use Rattle.ug_coord.proofs.Causes.{AreAlive, dead_has_cause}
@@ -32,9 +32,11 @@ use Rattle.ug_coord.proofs.Counts.{IsWithin, course_within}
 use Rattle.ug_coord.proofs.Kept.{moves_on, sound_last}
 use Rattle.ug_coord.proofs.Tries.{each_saved}
 
--- what each book's incumbent is
-pub book_feasible : (b : BookState) → IsBook b → HasFeasible b
-book_feasible b is = is.incumbent
+-- where an end is due for neither of the others, no rank is alive
+pub stranded : (b : BookState) → ¬ IsAnswered b → b.heard < b.settings.limit → IsOver b → IsStranded b
+stranded b held more (inl answered) = absurd (held answered)
+stranded b held more (inr (inl spent)) = absurd (omega (arith, more, spent))
+stranded b held more (inr (inr dead)) = record { held = held; more = more; dead = dead }
 
 -- ---- memory was wanting at once
 

@@ -233,13 +233,18 @@ fn parts_of(alloc: Global, opening: &Opening) -> Result<Parts, AllocError>
 }
 
 // So many streams, at their begin.
-#[tactic(auto, using(std::proofs::lemmas::List::replicate_more))]
 fn streams_of(alloc: Global, count: u32) -> Result<Vec<Assembler>, AllocError>
     ensures { IfOk result (λ streams. streams.items ≡ replicate count first) }
 {
     let mut streams = Vec::new(alloc);
     for _ in 0..count {
-        streams.push(Assembler::new(alloc))?;
+        match streams.push(Assembler::new(alloc)) {
+            Ok(()) => {}
+            Err(_) => {
+                drop(streams);
+                return Err(AllocError);
+            }
+        }
     }
     Ok(streams)
 }
@@ -266,7 +271,6 @@ fn setup_of(alloc: Global, book: &Book) -> Result<Vec<u8>, AllocError>
 }
 
 // How a run ends whose end is due, unless memory was wanting.
-#[tactic(auto, using(crate::proofs::Ends::book_feasible))]
 fn end_of(book: Book, wants: bool) -> End
     requires { wants ≡ false → IsOver book }
     ensures ended { is_ended result book }

@@ -1,4 +1,6 @@
-use Rattle.std.proofs.Common.{refl}
+use Rattle.std.proofs.Common.{refl, ap, arith}
+use Rattle.ug_rules.specs.declared.settings.Settings.{Settings}
+use Rattle.ug_coord.proofs.Ends.{stranded}
 use Rattle.ug_coord.proofs.solving.end_of.Goals as goal
 
 pub returns-then-wants-clause-ended : goal.returns-then-wants-clause-ended
@@ -33,3 +35,39 @@ returns-clause-lacks c = c.if-wants.false
 
 pub returns-clause-right : goal.returns-clause-right
 returns-clause-right c = tt
+
+pub returns-then-is_answered-clause-feasible : goal.returns-then-is_answered-clause-feasible
+returns-then-is_answered-clause-feasible c = c.problem-problem.ensures.book.incumbent
+
+pub returns-then-settings-count-clause-ended : goal.returns-then-settings-count-clause-ended
+returns-then-settings-count-clause-ended c = (
+  refl,
+  record {
+    held = c.if-is_answered.ensures.none;
+    spent = omega (
+      arith,
+      c.if-settings-count.true,
+      c.count.ensures,
+      ap (λ (s : Settings). s.limit) c.settings.ensures.value,
+    );
+  },
+)
+
+pub returns-then-settings-count-clause-feasible : goal.returns-then-settings-count-clause-feasible
+returns-then-settings-count-clause-feasible c = c.problem-problem.ensures.book.incumbent
+
+pub returns-clause-ended : goal.returns-clause-ended
+returns-clause-ended c = (
+  refl,
+  stranded c.args.book c.if-is_answered.ensures.none
+      (omega (
+        arith,
+        c.if-settings-count.false,
+        c.count.ensures,
+        ap (λ (s : Settings). s.limit) c.settings.ensures.value,
+      ))
+      (c.requires c.if-wants.false),
+)
+
+pub returns-clause-feasible : goal.returns-clause-feasible
+returns-clause-feasible c = c.problem-problem.ensures.book.incumbent
