@@ -1,13 +1,11 @@
 -- How many saves were tried.
-use Rattle.std.proofs.Common.{◌≡◌, ◌≢◌, inl, inr, ℕ, ◌+◌, ◌-◌, ◌≤◌, ◌^◌, Bool, true, false, Option, None, Some, IfSome, refl, sym, ap, subst, ◌∙◌, arith}
+use Rattle.std.proofs.Common.{◌≡◌, inl, inr, ℕ, ◌+◌, ◌-◌, ◌≤◌, ◌^◌, Option, None, Some, IfSome, sym, ap, subst, ◌∙◌, arith}
 use Rattle.std.proofs.lemmas.Bool.{cases_lt}
-use Rattle.std.specs.Prelude.{if◌then◌else◌, IsSomeAnd, suc}
+use Rattle.std.specs.Prelude.{IsSomeAnd}
 use Rattle.ug_disk.specs.Histories.{DiskSeen}
 use Rattle.ug_image.specs.declared.image.Image.{Image}
 use Rattle.ug_rules.specs.State.{BookState}
-use Rattle.ug_rules.specs.declared.settings.Settings.{Settings}
 use Rattle.ug_book.specs.declared.opening.Opening.{Opening}
-use Rattle.ug_book.specs.Openings.{opening_book}
 use Rattle.ug_snapshot.specs.Moments.{IsImageOf}
 use Rattle.ug_restart.specs.declared.outcome.Attempt.{Attempt}
 use Rattle.ug_restart.specs.declared.outcome.Attempt.TheVariants.{Missed, Saved, Unsaved}
@@ -20,8 +18,6 @@ use Rattle.ug_restart.specs.Moments.{FindsOne}
 use Rattle.ug_restart.specs.Outcomes.{IfBook}
 use Rattle.ug_restart.specs.Saves.{IsLastWith, IsOfBook, missed_of, saver_of, sequence_at, unsaved_of}
 use Rattle.ug_restart.proofs.Covering.{finds_more}
-use Rattle.ug_coord.specs.Ends.{is_ended}
-use Rattle.ug_coord.specs.Hubs.{IsOneMore, IsQuiet}
 use Rattle.ug_coord.specs.Keeping.{AreEachSaved, IsBegun, IsEachSaved, Tries, end_kept, has_tried, missed_by, moves, savers, unsaved_by}
 
 -- ---- one save

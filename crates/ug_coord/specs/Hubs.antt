@@ -1,5 +1,5 @@
 -- How a coordinator stands to its crew, and how its work ends.
-use Rattle.std.specs.Prelude.{◌≡◌, ◌⊎◌, ◌+◌, ℕ, ◌<◌, ◌≤◌, Bool, true, false, List, [], length}
+use Rattle.std.specs.Prelude.{◌≡◌, ◌⊎◌, ◌+◌, ℕ, ◌<◌, Bool, true, false, List, [], length}
 use Rattle.std.specs.Prelude.{replicate, slice_index_or, slice_set, IfSome}
 use Rattle.ug_io.specs.declared.crew.Exchange.{Exchange}
 use Rattle.ug_io.specs.Crews.{Adds, CrewSeen, told_to}
