@@ -122,18 +122,23 @@ fit_without old new rank lives streams ranks fit = record {
 -- ---- a call of the crew
 
 -- the rank lives from now on, or does no longer
-pub set_by : (alive : Bool) (old : HubSeen) (crew : CrewSeen) (rank : ℕ) → IsSetTo alive old.crew crew rank
+pub set_by : (alive : Bool) (old : HubSeen) (crew : CrewSeen) (rank : ℕ)
+    → IsSetTo alive old.crew crew rank
     → crew.faults ≡ old.crew.faults
-    → record old { crew = crew } ≡ record old { crew = record old.crew { lives = slice_set old.crew.lives rank alive } }
+    → record old { crew = crew }
+    ≡ record old { crew = record old.crew { lives = slice_set old.crew.lives rank alive } }
 set_by alive old crew rank set calm =
     ap (λ (s : Option (List Exchange)). record old { crew = record crew { said = s } }) set.said
-    ∙ ap (λ (l : List Bool). record old { crew = record old.crew { lives = l; faults = crew.faults } }) set.lives
+    ∙ ap (λ (l : List Bool). record old {
+      crew = record old.crew { lives = l; faults = crew.faults };
+    }) set.lives
     ∙ ap (λ (n : ℕ). record old {
       crew = record old.crew { lives = slice_set old.crew.lives rank alive; faults = n };
     }) calm
 
 -- bytes were told to it
-pub sent_by : (old : HubSeen) (crew : CrewSeen) (rank : ℕ) (bytes : List ℕ) → HasSent old.crew crew rank bytes
+pub sent_by : (old : HubSeen) (crew : CrewSeen) (rank : ℕ) (bytes : List ℕ)
+    → HasSent old.crew crew rank bytes
     → crew.faults ≡ old.crew.faults → HasSentTo old (record old { crew = crew }) rank bytes
 sent_by old crew rank bytes sent calm = record {
   said = sent.said;
@@ -147,8 +152,10 @@ only_faults a c silent =
     ∙ ap (λ (l : List Bool). record { said = a.said; lives = l; faults = c.faults }) silent.lives
 
 -- it failed, and so the rank was lost
-pub failed_by : (old : HubSeen) (crew : CrewSeen) (new : HubSeen) (rank : ℕ) → IsSilent old.crew crew
-    → Rose old.crew.faults crew.faults → rank < ranks_of old.book → new ≡ without rank (record old { crew = crew })
+pub failed_by : (old : HubSeen) (crew : CrewSeen) (new : HubSeen) (rank : ℕ)
+    → IsSilent old.crew crew
+    → Rose old.crew.faults crew.faults → rank < ranks_of old.book
+    → new ≡ without rank (record old { crew = crew })
     → ranks_of new.book ≡ ranks_of old.book → HasFailed old new rank
 failed_by old crew new rank silent faults there lost ranks =
     let calm : new.crew.faults ≡ crew.faults = ap (λ (h : HubSeen). h.crew.faults) lost in
@@ -156,7 +163,9 @@ failed_by old crew new rank silent faults there lost ranks =
       there = there;
       faults = subst (λ (n : ℕ). Rose old.crew.faults n) (sym calm) faults;
       ranks = ranks;
-      rest = lost ∙ ap (λ (c : CrewSeen). without rank (record old { crew = c })) (only_faults old.crew crew silent)
+      rest = lost
+          ∙ ap (λ (c : CrewSeen). without rank (record old { crew = c }))
+          (only_faults old.crew crew silent)
           ∙ ap (λ (n : ℕ). record old {
             crew = record old.crew { lives = slice_set old.crew.lives rank false; faults = n };
             book = killed rank old.book;
@@ -576,7 +585,8 @@ setup_still old new before after problem settings frame h = record {
   frame = frame ∙ h.frame ∙ ap (λ (s : Settings). orders.spelled (Setup s.gap h.bytes)) (sym settings);
 }
 
-pub frame_still : {Z : Type 0} (old new : BookState) (before after : Vec ℕ Z) → IsSameRun old new → after ≡ before
+pub frame_still : {Z : Type 0} (old new : BookState) (before after : Vec ℕ Z) → IsSameRun old new
+    → after ≡ before
     → IsSetUpFrame old before.items → IsSetUpFrame new after.items
 frame_still {Z} old new before after run frame h =
     setup_still old new before.items after.items run.problem run.settings

@@ -43,7 +43,8 @@ called_stays line [] rank dead = dead
 called_stays line (state ∷ states) zero dead = off_stays line state dead
 called_stays line (state ∷ states) (suc rank) dead = called_stays line states rank dead
 
-lost_stays : (ranks : List ℕ) (raced : Option Entry) (b : BookState) (rank : ℕ) → IsDead b.ranks rank
+lost_stays : (ranks : List ℕ) (raced : Option Entry) (b : BookState) (rank : ℕ)
+    → IsDead b.ranks rank
     → IsDead (lost_by ranks raced b).ranks rank
 lost_stays (r ∷ rs) raced b rank dead = dead
 lost_stays [] None b rank dead = dead
@@ -56,7 +57,8 @@ killed_so Idle r rank b dead was = dead
 killed_so (Racing racer) r rank b dead was =
     let mid : BookState = with_dead r b in
     lost_stays (ranks_that is_racing mid.ranks) mid.raced mid rank dead
-killed_so (Active work) r rank b dead was = called_stays work.node.line (with_dead r b).ranks rank dead
+killed_so (Active work) r rank b dead was =
+    called_stays work.node.line (with_dead r b).ranks rank dead
 killed_so (Dead how) r rank b dead was = was refl
 
 killed_dead : (r : ℕ) (b : BookState) → IsDead (killed r b).ranks r
@@ -68,9 +70,11 @@ dead_stays r rank b dead =
 
 -- once each rank below n was, and n is
 pub dead_below : (n : ℕ) (old new : BookState) → new ≡ killed n old
-    → ((rank : ℕ) → rank < n → IsDead old.ranks rank) → (rank : ℕ) → rank < n + 1 → IsDead new.ranks rank
+    → ((rank : ℕ) → rank < n → IsDead old.ranks rank) → (rank : ℕ) → rank < n + 1
+    → IsDead new.ranks rank
 dead_below n old new is below rank less =
     subst (λ (b : BookState). IsDead b.ranks rank) (sym is) (elim (cases_lt rank n) [
       | inl before ↦ dead_stays n rank old (below rank before)
-      | inr past ↦ subst (λ (r : ℕ). IsDead (killed n old).ranks r) (omega (arith, past, less)) (killed_dead n old)
+      | inr past ↦ subst (λ (r : ℕ). IsDead (killed n old).ranks r) (omega (arith, past, less))
+          (killed_dead n old)
     ])

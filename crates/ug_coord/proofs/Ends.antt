@@ -33,7 +33,8 @@ use Rattle.ug_coord.proofs.Kept.{moves_on, sound_last}
 use Rattle.ug_coord.proofs.Tries.{each_saved}
 
 -- where an end is due for neither of the others, no rank is alive
-pub stranded : (b : BookState) → ¬ IsAnswered b → b.heard < b.settings.limit → IsOver b → IsStranded b
+pub stranded : (b : BookState) → ¬ IsAnswered b → b.heard < b.settings.limit → IsOver b
+    → IsStranded b
 stranded b held more (inl answered) = absurd (held answered)
 stranded b held more (inr (inl spent)) = absurd (omega (arith, more, spent))
 stranded b held more (inr (inr dead)) = record { held = held; more = more; dead = dead }

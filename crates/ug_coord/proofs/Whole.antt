@@ -56,7 +56,8 @@ same_whole n old new long same =
     whole n old new long (ap (λ (l : List Waiting). length l) same) ∙ same
 
 -- a buffer that was lent has the room that it had
-pub room_whole : {X Z : Type 0} (v : Vec X Z) (slice new : List X) → slice ≡ v.items → length slice ≡ v.len
+pub room_whole : {X Z : Type 0} (v : Vec X Z) (slice new : List X) → slice ≡ v.items
+    → length slice ≡ v.len
     → length new ≡ length slice → 0 < length v.items → 0 < length (with_items v new).items
 room_whole {X} v slice new value long same room =
     subst (λ (l : List X). 0 < length l) (sym (with_items_is v new (same ∙ long)))

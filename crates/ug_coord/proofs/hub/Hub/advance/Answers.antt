@@ -58,7 +58,8 @@ returns-then-is_due-clause-kept g c = c.save.ensures.kept
 
 pub returns-then-is_due-clause-same : goal.returns-then-is_due-clause-same
 returns-then-is_due-clause-same g c =
-    subst (λ (b : BookState). IsSameRun c.args.self.now.book b) (sym c.save.ensures.book) c.if-not-step.ensures.hears.run
+    subst (λ (b : BookState). IsSameRun c.args.self.now.book b) (sym c.save.ensures.book)
+    c.if-not-step.ensures.hears.run
 
 pub returns-then-is_due-clause-saved : goal.returns-then-is_due-clause-saved
 returns-then-is_due-clause-saved g c = c.save.ensures.saved

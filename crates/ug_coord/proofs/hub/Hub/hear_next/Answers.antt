@@ -72,7 +72,8 @@ pub returns-in-Ok-Message-clause-pacing : goal.returns-in-Ok-Message-clause-paci
 returns-in-Ok-Message-clause-pacing g c = c.hear.ensures.pacing
 
 pub returns-in-Ok-NeedMore-clause-hears : goal.returns-in-Ok-NeedMore-clause-hears
-returns-in-Ok-NeedMore-clause-hears g c = quiet_one c.args.self.now.book _ (quiet_none c.args.self.now.book)
+returns-in-Ok-NeedMore-clause-hears g c =
+    quiet_one c.args.self.now.book _ (quiet_none c.args.self.now.book)
 
 pub returns-in-Ok-NeedMore-clause-nothing : goal.returns-in-Ok-NeedMore-clause-nothing
 returns-in-Ok-NeedMore-clause-nothing g c same = refl
@@ -104,7 +105,8 @@ returns-in-Ok-Message-clause-short g c same = absurd (false≢true (sym same))
 pub returns-in-Ok-NeedMore-clause-short : goal.returns-in-Ok-NeedMore-clause-short
 returns-in-Ok-NeedMore-clause-short g c same =
     let read : HasRead c.args.self.now.streams.items c.next_of.new.streams c.args.rank NeedMore = search rules in
-    read_whole c.args.self.now.streams.len c.args.self.now.streams.items c.next_of.new.streams c.args.rank _
+    read_whole c.args.self.now.streams.len c.args.self.now.streams.items c.next_of.new.streams
+    c.args.rank _
     (as_long c.deref_mut.ensures.value c.deref_mut.ensures.len) read
 
 pub returns-in-Ok-BadFrame-clause-short : goal.returns-in-Ok-BadFrame-clause-short

@@ -9,7 +9,8 @@ launch-requires g c = c.requires.away
 
 pub returns-in-Ok-clause-launched : goal.returns-in-Ok-clause-launched
 returns-in-Ok-clause-launched g c =
-    set_by true (hub_seen g.C.Crew.seen c.args.self.now) (g.C.Crew.seen c.launch.new.self) c.args.rank
+    set_by true (hub_seen g.C.Crew.seen c.args.self.now) (g.C.Crew.seen c.launch.new.self)
+    c.args.rank
     c.in-Ok.ensures.launched c.in-Ok.ensures.cause
 
 pub returns-in-Ok-clause-quiet : goal.returns-in-Ok-clause-quiet
@@ -24,7 +25,8 @@ returns-in-Ok-clause-pacing g c = refl
 pub returns-in-Err-clause-launched : goal.returns-in-Err-clause-launched
 returns-in-Err-clause-launched g c =
     failed_by (hub_seen g.C.Crew.seen c.args.self.now) (g.C.Crew.seen c.launch.new.self)
-    (hub_seen g.C.Crew.seen c.lose.new.self) c.args.rank c.in-Err.ensures.kept c.in-Err.ensures.cause c.requires.there
+    (hub_seen g.C.Crew.seen c.lose.new.self) c.args.rank c.in-Err.ensures.kept
+    c.in-Err.ensures.cause c.requires.there
     c.lose.ensures.seen c.lose.ensures.quiet.run.wide
 
 pub returns-in-Err-clause-quiet : goal.returns-in-Err-clause-quiet

@@ -30,15 +30,18 @@ returns-else-not-hear_next-clause-on g c from on =
 
 pub turn-requires-clause-more : goal.turn-requires-clause-more
 turn-requires-clause-more g c κs within =
-    subst (λ (b : BookState). ¬ IsOver b) (sym (c.if-not-hear_next.ensures.nothing refl)) c.requires.more
+    subst (λ (b : BookState). ¬ IsOver b) (sym (c.if-not-hear_next.ensures.nothing refl))
+    c.requires.more
 
 pub turn-requires-clause-told : goal.turn-requires-clause-told
 turn-requires-clause-told g c κs within =
-    subst (λ (b : BookState). b.orders ≡ []) (sym (c.if-not-hear_next.ensures.nothing refl)) c.requires.told
+    subst (λ (b : BookState). b.orders ≡ []) (sym (c.if-not-hear_next.ensures.nothing refl))
+    c.requires.told
 
 pub returns-then-not-hear_next-clause-hears : goal.returns-then-not-hear_next-clause-hears
 returns-then-not-hear_next-clause-hears g c =
-    subst (λ (b : BookState). HearsOne b c.turn.new.self.book) (c.if-not-hear_next.ensures.nothing refl)
+    subst (λ (b : BookState). HearsOne b c.turn.new.self.book)
+    (c.if-not-hear_next.ensures.nothing refl)
     c.turn.ensures.hears
 
 pub returns-then-not-hear_next-clause-pacing : goal.returns-then-not-hear_next-clause-pacing

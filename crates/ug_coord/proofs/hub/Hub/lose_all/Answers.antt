@@ -13,7 +13,8 @@ loop-rank-preserved g c = record {
       c.loop-rank.rank (search rules) c.lose.ensures.seen c.lose.ensures.quiet.run.wide (c.loop-rank.invariant.on from on);
   all = dead_below c.loop-rank.rank c.loop-rank.self.book c.lose.new.self.book
       (ap (λ (h : HubSeen). h.book) c.lose.ensures.seen) c.loop-rank.invariant.all;
-  quiet = quiet_on c.args.self.now.book c.loop-rank.self.book c.lose.new.self.book c.loop-rank.invariant.quiet
+  quiet = quiet_on c.args.self.now.book c.loop-rank.self.book c.lose.new.self.book
+      c.loop-rank.invariant.quiet
       c.lose.ensures.quiet;
   pacing = c.lose.ensures.pacing ∙ c.loop-rank.invariant.pacing;
 }

@@ -12,7 +12,8 @@ pub returns-in-Ok-clause-sent : goal.returns-in-Ok-clause-sent
 returns-in-Ok-clause-sent g c =
     sent_by (hub_seen g.C.Crew.seen c.args.self.now) (g.C.Crew.seen c.send.new.self) c.args.rank
     c.args.self.now.frame.items
-    (subst (λ (l : List ℕ). HasSent (g.C.Crew.seen c.args.self.now.crew) (g.C.Crew.seen c.send.new.self) c.args.rank l)
+    (subst (λ (l : List ℕ). HasSent (g.C.Crew.seen c.args.self.now.crew)
+    (g.C.Crew.seen c.send.new.self) c.args.rank l)
     c.deref.ensures.value c.in-Ok.ensures.told) c.in-Ok.ensures.cause
 
 pub returns-in-Ok-clause-quiet : goal.returns-in-Ok-clause-quiet
@@ -27,7 +28,8 @@ returns-in-Ok-clause-pacing g c = refl
 pub returns-in-Err-clause-sent : goal.returns-in-Err-clause-sent
 returns-in-Err-clause-sent g c =
     failed_by (hub_seen g.C.Crew.seen c.args.self.now) (g.C.Crew.seen c.send.new.self)
-    (hub_seen g.C.Crew.seen c.lose.new.self) c.args.rank c.in-Err.ensures.kept c.in-Err.ensures.cause c.requires.there
+    (hub_seen g.C.Crew.seen c.lose.new.self) c.args.rank c.in-Err.ensures.kept
+    c.in-Err.ensures.cause c.requires.there
     c.lose.ensures.seen c.lose.ensures.quiet.run.wide
 
 pub returns-in-Err-clause-quiet : goal.returns-in-Err-clause-quiet

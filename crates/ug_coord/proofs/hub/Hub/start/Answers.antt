@@ -45,20 +45,24 @@ send-requires-clause-there g c =
 
 pub returns-then-launch-clause-frame : goal.returns-then-launch-clause-frame
 returns-then-launch-clause-frame g c =
-    frame_still c.args.self.now.book c.send.new.self.book c.args.self.now.frame c.send.new.self.frame
-    (run_on c.args.self.now.book c.launch.new.self.book c.send.new.self.book c.launch.ensures.quiet.run
+    frame_still c.args.self.now.book c.send.new.self.book c.args.self.now.frame
+    c.send.new.self.frame
+    (run_on c.args.self.now.book c.launch.new.self.book c.send.new.self.book
+    c.launch.ensures.quiet.run
     c.send.ensures.quiet.run) (c.send.ensures.frame ∙ c.launch.ensures.frame) c.requires.frame
 
 pub returns-then-launch-clause-quiet : goal.returns-then-launch-clause-quiet
 returns-then-launch-clause-quiet g c =
-    quiet_on c.args.self.now.book c.launch.new.self.book c.send.new.self.book c.launch.ensures.quiet c.send.ensures.quiet
+    quiet_on c.args.self.now.book c.launch.new.self.book c.send.new.self.book
+    c.launch.ensures.quiet c.send.ensures.quiet
 
 pub returns-then-launch-clause-pacing : goal.returns-then-launch-clause-pacing
 returns-then-launch-clause-pacing g c = c.send.ensures.pacing ∙ c.launch.ensures.pacing
 
 pub returns-else-launch-clause-frame : goal.returns-else-launch-clause-frame
 returns-else-launch-clause-frame g c =
-    frame_still c.args.self.now.book c.launch.new.self.book c.args.self.now.frame c.launch.new.self.frame
+    frame_still c.args.self.now.book c.launch.new.self.book c.args.self.now.frame
+    c.launch.new.self.frame
     c.launch.ensures.quiet.run c.launch.ensures.frame c.requires.frame
 
 pub returns-else-launch-clause-quiet : goal.returns-else-launch-clause-quiet

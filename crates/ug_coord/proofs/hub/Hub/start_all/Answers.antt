@@ -27,7 +27,8 @@ pub loop-rank-preserved : goal.loop-rank-preserved
 loop-rank-preserved g c = record {
   on = λ phase from on. c.start.ensures.on phase from (c.loop-rank.invariant.on phase from on);
   frame = c.start.ensures.frame;
-  quiet = quiet_on c.args.self.now.book c.loop-rank.self.book c.start.new.self.book c.loop-rank.invariant.quiet
+  quiet = quiet_on c.args.self.now.book c.loop-rank.self.book c.start.new.self.book
+      c.loop-rank.invariant.quiet
       c.start.ensures.quiet;
   pacing = c.start.ensures.pacing ∙ c.loop-rank.invariant.pacing;
 }

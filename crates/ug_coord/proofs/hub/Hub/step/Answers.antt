@@ -11,7 +11,8 @@ pub tell_all-requires : goal.tell_all-requires
 tell_all-requires g c = record {
   on = (
     c.requires.on.0,
-    any_in (is_next Hearing) c.requires.on.0 _ (c.decide.ensures.on c.requires.on.0 c.requires.on.1),
+    any_in (is_next Hearing) c.requires.on.0 _
+        (c.decide.ensures.on c.requires.on.0 c.requires.on.1),
   );
 }
 
@@ -62,16 +63,19 @@ pub returns-then-has_stopped-2-clause-pacing : goal.returns-then-has_stopped-2-c
 returns-then-has_stopped-2-clause-pacing g c = c.tell_all.ensures.pacing ∙ c.decide.ensures.pacing
 
 pub returns-then-has_stopped-2-clause-over : goal.returns-then-has_stopped-2-clause-over
-returns-then-has_stopped-2-clause-over g c same wants = c.if-has_stopped-2.ensures.stopped refl wants
+returns-then-has_stopped-2-clause-over g c same wants =
+    c.if-has_stopped-2.ensures.stopped refl wants
 
 pub listen-requires-clause-more : goal.listen-requires-clause-more
 listen-requires-clause-more g c κs within = (c.if-has_stopped-2.ensures.on refl).1
 
 pub listen-requires-clause-told : goal.listen-requires-clause-told
-listen-requires-clause-told g c κs within = c.tell_all.ensures.all (c.if-has_stopped-2.ensures.on refl).0
+listen-requires-clause-told g c κs within =
+    c.tell_all.ensures.all (c.if-has_stopped-2.ensures.on refl).0
 
 pub returns-clause-pacing : goal.returns-clause-pacing
-returns-clause-pacing g c = c.listen.ensures.pacing ∙ c.tell_all.ensures.pacing ∙ c.decide.ensures.pacing
+returns-clause-pacing g c =
+    c.listen.ensures.pacing ∙ c.tell_all.ensures.pacing ∙ c.decide.ensures.pacing
 
 pub returns-clause-over : goal.returns-clause-over
 returns-clause-over g c same wants = absurd (false≢true (sym same))

@@ -10,7 +10,8 @@ pub tell_next-requires : goal.tell_next-requires
 tell_next-requires g c = record {
   on = (
     c.requires.on.0,
-    stays_in AnyPhase c.requires.on.0 (hub_seen g.C.Crew.seen c.args.self.now) (hub_seen g.C.Crew.seen c.loop.self)
+    stays_in AnyPhase c.requires.on.0 (hub_seen g.C.Crew.seen c.args.self.now)
+        (hub_seen g.C.Crew.seen c.loop.self)
         (λ phase on. c.loop.invariant.on phase c.requires.on.0 on) c.requires.on.1,
   );
 }
@@ -54,7 +55,8 @@ pub loop-preserved : goal.loop-preserved
 loop-preserved g c = record {
   next = (tt, tt);
   on = λ phase from on. c.tell_next.ensures.on phase from (c.loop.invariant.on phase from on);
-  quiet = quiet_on c.args.self.now.book c.loop.self.book c.tell_next.new.self.book c.loop.invariant.quiet
+  quiet = quiet_on c.args.self.now.book c.loop.self.book c.tell_next.new.self.book
+      c.loop.invariant.quiet
       c.tell_next.ensures.quiet;
   pacing = c.tell_next.ensures.pacing ∙ c.loop.invariant.pacing;
 }

@@ -28,9 +28,13 @@ lose_all-requires g c =
     c.in-Failed.ensures in record {
       on = (
         c.requires.on.0,
-        broke_by c.requires.on.0 (hub_seen g.C.Crew.seen c.args.self.now) _ c.requires.more c.requires.told
-            (broken_whole c.args.self.now.streams.len (g.C.Crew.seen c.args.self.now.crew) (g.C.Crew.seen c.take_turn.new.crew)
-            c.args.self.now.streams.items c.take_turn.new.streams (as_long c.deref_mut.ensures.value c.deref_mut.ensures.len) broken) refl refl refl c.requires.on.1,
+        broke_by c.requires.on.0 (hub_seen g.C.Crew.seen c.args.self.now) _ c.requires.more
+            c.requires.told
+            (broken_whole c.args.self.now.streams.len (g.C.Crew.seen c.args.self.now.crew)
+            (g.C.Crew.seen c.take_turn.new.crew)
+            c.args.self.now.streams.items c.take_turn.new.streams
+            (as_long c.deref_mut.ensures.value c.deref_mut.ensures.len) broken) refl refl refl
+            c.requires.on.1,
       );
     }
 
@@ -115,25 +119,29 @@ take_turn-requires-clause-fit g c =
 
 pub invariant_of-self : goal.invariant_of-self
 invariant_of-self g c = record {
-  room = room_whole c.args.self.now.input c.deref_mut-2.result.now c.take_turn.new.buffer c.deref_mut-2.ensures.value
+  room = room_whole c.args.self.now.input c.deref_mut-2.result.now c.take_turn.new.buffer
+      c.deref_mut-2.ensures.value
       c.deref_mut-2.ensures.len c.take_turn.auto.buffer c.args.self.now.room;
 }
 
 pub invariant_of-self-in-Gone : goal.invariant_of-self-in-Gone
 invariant_of-self-in-Gone g c = record {
-  room = room_whole c.args.self.now.input c.deref_mut-2.result.now c.take_turn.new.buffer c.deref_mut-2.ensures.value
+  room = room_whole c.args.self.now.input c.deref_mut-2.result.now c.take_turn.new.buffer
+      c.deref_mut-2.ensures.value
       c.deref_mut-2.ensures.len c.take_turn.auto.buffer c.args.self.now.room;
 }
 
 pub invariant_of-self-in-Failed : goal.invariant_of-self-in-Failed
 invariant_of-self-in-Failed g c = record {
-  room = room_whole c.args.self.now.input c.deref_mut-2.result.now c.take_turn.new.buffer c.deref_mut-2.ensures.value
+  room = room_whole c.args.self.now.input c.deref_mut-2.result.now c.take_turn.new.buffer
+      c.deref_mut-2.ensures.value
       c.deref_mut-2.ensures.len c.take_turn.auto.buffer c.args.self.now.room;
 }
 
 pub invariant_of-self-in-Wanting : goal.invariant_of-self-in-Wanting
 invariant_of-self-in-Wanting g c = record {
-  room = room_whole c.args.self.now.input c.deref_mut-2.result.now c.take_turn.new.buffer c.deref_mut-2.ensures.value
+  room = room_whole c.args.self.now.input c.deref_mut-2.result.now c.take_turn.new.buffer
+      c.deref_mut-2.ensures.value
       c.deref_mut-2.ensures.len c.take_turn.auto.buffer c.args.self.now.room;
 }
 
@@ -149,7 +157,8 @@ hear_next-requires-clause-told g c κs within = c.requires.told
 
 pub gone-requires : goal.gone-requires
 gone-requires g c =
-    subst (λ (n : ℕ). c.in-Gone.rank < n) c.requires.on.1.2.fit.lives c.in-Gone.ensures.lost.alive.there
+    subst (λ (n : ℕ). c.in-Gone.rank < n) c.requires.on.1.2.fit.lives
+    c.in-Gone.ensures.lost.alive.there
 
 pub returns-in-Fed-clause-hears : goal.returns-in-Fed-clause-hears
 returns-in-Fed-clause-hears g c = c.hear_next.ensures.hears
@@ -164,7 +173,8 @@ pub returns-in-Failed-clause-pacing : goal.returns-in-Failed-clause-pacing
 returns-in-Failed-clause-pacing g c = c.lose_all.ensures.pacing
 
 pub returns-in-Wanting-clause-hears : goal.returns-in-Wanting-clause-hears
-returns-in-Wanting-clause-hears g c = quiet_one c.args.self.now.book _ (quiet_none c.args.self.now.book)
+returns-in-Wanting-clause-hears g c =
+    quiet_one c.args.self.now.book _ (quiet_none c.args.self.now.book)
 
 pub returns-in-Wanting-clause-pacing : goal.returns-in-Wanting-clause-pacing
 returns-in-Wanting-clause-pacing g c = refl
