@@ -67,9 +67,12 @@ fn rise(alloc: Global, told: &[Told]) -> Option<bool> {
 // Whether these are the changes.
 fn are(changes: &Changes, told: &[Told]) -> bool {
     let changes = changes.as_slice();
+    for (change, told) in changes.iter().zip(told) {
+        if (change.column, change.low, change.high) != *told {
+            return false;
+        }
+    }
     changes.len() == told.len()
-        && changes.iter().zip(told).all(|(change, told)| (change.column, change.low, change.high)
-            == *told)
 }
 
 // Whether the changes spell this box.
@@ -112,21 +115,29 @@ fn refused(rt: &impl Abort, alloc: Global, told: &[Told]) -> Option<AreaError> {
     error
 }
 
-// Changes, and the column of the first that is none.
-const FIRST_BAD: &[(&[Told], Option<u32>)] = &[
-    (&[(0, 4, 7), (1, 0, 7)], Some(1)),
-    (&[(0, 5, 4), (2, 0, 1)], Some(0)),
-    (&[(2, 0, 1)], Some(2)),
-    (&[(0, 1, 7), (1, 1, 8)], Some(1)),
-    (&[(0, -1, 7)], Some(0)),
+// Changes, and the first that is none, by its column.
+const FIRST_BAD: &[(&[Told], Option<AreaError>)] = &[
+    (
+        &[(0, 4, 7), (1, 0, 7)],
+        Some(AreaError::Outside { column: 1 }),
+    ),
+    (
+        &[(0, 5, 4), (2, 0, 1)],
+        Some(AreaError::Outside { column: 0 }),
+    ),
+    (&[(2, 0, 1)], Some(AreaError::Outside { column: 2 })),
+    (
+        &[(0, 1, 7), (1, 1, 8)],
+        Some(AreaError::Outside { column: 1 }),
+    ),
+    (&[(0, -1, 7)], Some(AreaError::Outside { column: 0 })),
     (&[(0, 1, 7), (1, 7, 7)], None),
 ];
 
 #[test]
 fn names_the_first_change_that_is_none(rt: HostRuntime) {
-    for (told, column) in FIRST_BAD {
-        let error = column.map(|column| AreaError::Outside { column });
-        same(&rt, &refused(&rt, rt.alloc(), told), &error);
+    for (told, error) in FIRST_BAD {
+        same(&rt, &refused(&rt, rt.alloc(), told), error);
     }
 }
 

@@ -134,7 +134,12 @@ fn prints(alloc: Global, value: i128, maximise: bool, scale: u8, text: &str) -> 
     };
     let printed = problem.print_value(alloc, value);
     drop(problem);
-    printed.is_ok_and(|printed| printed.as_slice() == text.as_bytes())
+    let is_so = match &printed {
+        Ok(printed) => printed.as_slice() == text.as_bytes(),
+        Err(_) => false,
+    };
+    drop(printed);
+    is_so
 }
 
 // A value, whether it is maximised, its scale, and what is printed of it.

@@ -4,16 +4,14 @@
 //! of c, drops the 30 boxes left of it, halves a from 6..8 to 8 and then b four times: 64 steps, and
 //! seven boxes are left.
 
-use crate::expect::same_at;
+use crate::expect::holds_at;
 use crate::served::stairs::STAIRS;
-use crate::tasks::whole_of;
+use crate::tasks::task_of;
 use std::alloc::{AllocError, Global};
 use std::sync::Wait;
 use ug_base::Task;
 use ug_branch::Params;
 use ug_mps::read;
-use ug_nodes::Ticket;
-use ug_problem::Shared;
 use ug_rows::{IntBox, Interval, Point};
 use ug_worker::{Renewal, Reply, Seat, Took, Untaken, work};
 
@@ -159,13 +157,7 @@ fn are_by_hand(handed: &[IntBox]) -> bool {
 
 // The task of all of the stairs, upper halves first.
 fn task(alloc: Global) -> Option<Task> {
-    let problem = Shared::own(read(alloc, STAIRS, None).ok()?);
-    let Some(whole) = whole_of(problem.problem()) else {
-        drop(problem);
-        return None;
-    };
-    let ticket = Ticket { run: 1, number: 3 };
-    Task::new(alloc, problem, ticket, Params::new(4), whole, None, 0).ok()
+    task_of(alloc, read(alloc, STAIRS, None).ok()?, 3, Params::new(4), 0)
 }
 
 // A task that is renewed after so many rounds at the least, and whatever part of all they are; after
@@ -214,10 +206,13 @@ const CASES: &[Case] = &[
     },
 ];
 
-// What a worker tells that searches the stairs, if there is memory for them.
-fn told<R: Wait>(rt: &R, alloc: Global, case: &Case) -> Option<Notebook> {
+// Whether a worker that searches the stairs tells that, and hands these boxes.
+fn is_so<R: Wait>(rt: &R, alloc: Global, case: &Case) -> bool {
+    let Some(task) = task(alloc) else {
+        return false;
+    };
     let mut seat = Notebook {
-        task: Some(task(alloc)?),
+        task: Some(task),
         race: case.race,
         states: 0,
         refused: case.refused,
@@ -229,19 +224,14 @@ fn told<R: Wait>(rt: &R, alloc: Global, case: &Case) -> Option<Notebook> {
         part: 1,
     };
     work(rt, &mut seat, Some(renewal));
-    Some(seat)
+    let is_so = seat.told.as_slice() == case.told && seat.is_handed == case.is_handed;
+    drop(seat);
+    is_so
 }
 
 #[test]
 fn renews_where_it_is_due(rt: HostRuntime) {
     for case in CASES {
-        match told(&rt, rt.alloc(), case) {
-            Some(seat) => {
-                same_at(&rt, &seat.told.as_slice(), &case.told, &case.told);
-                same_at(&rt, &seat.is_handed, &case.is_handed, &case.told);
-                drop(seat);
-            }
-            None => panic!(rt; "no memory"),
-        }
+        holds_at(&rt, is_so(&rt, rt.alloc(), case), &case.told);
     }
 }

@@ -170,9 +170,12 @@ const NO_VALUE: Reason = Reason {
 
 // Whether these are the intervals.
 fn are(sides: &[Interval], wanted: &[(i32, i32)]) -> bool {
+    for (side, (low, high)) in sides.iter().zip(wanted) {
+        if side.low != *low || side.high != *high {
+            return false;
+        }
+    }
     sides.len() == wanted.len()
-        && sides.iter().zip(wanted).all(|(side, (low, high))| side.low == *low
-            && side.high == *high)
 }
 
 // Whether this is what was wanted.

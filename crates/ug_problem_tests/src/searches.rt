@@ -4,20 +4,25 @@
 ghost use Rattle.ug_problem.specs.Better.{IsGap};
 
 use crate::expect::holds_at;
-use crate::tasks::whole_of;
+use crate::tasks::{task_of, whole_of};
 use crate::whole::{Whole, hand, lower, lowest, step};
-use std::alloc::{AllocError, Global};
+use std::alloc::Global;
 use std::process::Abort;
 use ug_base::{Handed, Step, Task};
 use ug_branch::Params;
 use ug_mps::read;
-use ug_nodes::Ticket;
-use ug_problem::{Problem, Shared};
+use ug_problem::Problem;
 use ug_rows::IntBox;
 
 const ROWS: &[&str] = &["P", "Q", "R"];
 
 const COLUMNS: &[&str] = &["X", "Y", "W"];
+
+// The numbers that are drawn.
+const NUMBERS: &[&str] = &[
+    "-4", "-3", "-2", "-1", "0", "1", "2", "3", "4", "5", "6", "7", "8", "9", "10", "11", "12",
+    "13", "14", "15",
+];
 
 // The next draw of up to so many numbers.
 fn drawn(state: &mut u64, count: u32) -> u32 {
@@ -27,171 +32,127 @@ fn drawn(state: &mut u64, count: u32) -> u32 {
     ((*state >> 33) as u32).checked_rem(count).unwrap_or(0)
 }
 
-// A draw of so many numbers from the least on, as text.
-fn spelled(alloc: Global, state: &mut u64, least: i32, count: u32) -> Result<String, AllocError> {
-    let number = i64::from(least) + i64::from(drawn(state, count));
-    format!(in alloc; "{number}")
+// A draw of so many numbers from this place on.
+fn spelled(state: &mut u64, place: u32, count: u32) -> &'static str {
+    let drawn = place.saturating_add(drawn(state, count));
+    NUMBERS.get(drawn as usize).copied().unwrap_or("")
 }
 
-// Appends the words of a line, each behind a blank.
-fn push_line(text: &mut String, words: &[&str]) -> Result<(), AllocError> {
+// Appends the words of a line, each behind a blank. Whether there was memory for them, as of each
+// call here.
+fn push_line(text: &mut Vec<u8>, words: &[&str]) -> bool {
+    let mut so = true;
     for word in words {
-        text.push_str(" ")?;
-        text.push_str(word)?;
+        so = so && push(text, " ") && push(text, word);
     }
-    text.push_str("\n")
+    so && push(text, "\n")
+}
+
+fn push(text: &mut Vec<u8>, word: &str) -> bool {
+    text.extend_from_slice(word.as_bytes()).is_ok()
 }
 
 /// What a text says of its rows, and of its columns, section by section, without their headers.
 #[derive(Drop)]
 struct Sections {
-    rows: String,
-    columns: String,
-    sides: String,
-    ranges: String,
-    bounds: String,
+    rows: Vec<u8>,
+    columns: Vec<u8>,
+    sides: Vec<u8>,
+    ranges: Vec<u8>,
+    bounds: Vec<u8>,
 }
 
 impl Sections {
     fn new(alloc: Global) -> Sections {
         Sections {
-            rows: String::new(alloc),
-            columns: String::new(alloc),
-            sides: String::new(alloc),
-            ranges: String::new(alloc),
-            bounds: String::new(alloc),
+            rows: Vec::new(alloc),
+            columns: Vec::new(alloc),
+            sides: Vec::new(alloc),
+            ranges: Vec::new(alloc),
+            bounds: Vec::new(alloc),
         }
     }
 
-    // A row of this type, or one with two sides.
-    fn push_row(&mut self, row: &str, drawn: u32) -> Result<(), AllocError> {
-        if drawn > 2 {
-            push_line(&mut self.ranges, &[row, "3"])?;
-        }
+    // A row with a side from -4 on, or with two.
+    fn add_row(&mut self, row: &'static str, state: &mut u64) -> bool {
+        let side = spelled(state, 0, 20);
+        let drawn = drawn(state, 4);
         let kind = match drawn {
             0 => "L",
             1 => "E",
             _ => "G",
         };
-        push_line(&mut self.rows, &[kind, row])
+        push_line(&mut self.sides, &[row, side])
+            && push_line(&mut self.rows, &[kind, row])
+            && (drawn < 3 || push_line(&mut self.ranges, &[row, "3"]))
     }
 
-    fn add_side(&mut self, alloc: Global, row: &str, state: &mut u64) -> Result<(), AllocError> {
-        let side = spelled(alloc, state, -4, 20)?;
-        let pushed = push_line(&mut self.sides, &[row, &side]);
-        drop(side);
-        pushed
-    }
-
-    fn add_row(&mut self, alloc: Global, row: &str, state: &mut u64) -> Result<(), AllocError> {
-        self.add_side(alloc, row, state)?;
-        self.push_row(row, drawn(state, 4))
-    }
-
-    // A factor of the column in the row.
-    fn add_factor(
-        &mut self,
-        alloc: Global,
-        column: &str,
-        row: &str,
-        state: &mut u64,
-    ) -> Result<(), AllocError> {
-        let factor = spelled(alloc, state, -4, 10)?;
-        let pushed = push_line(&mut self.columns, &[column, row, &factor]);
-        drop(factor);
-        pushed
-    }
-
-    fn push_bound(&mut self, kind: &str, column: &str, bound: &str) -> Result<(), AllocError> {
-        push_line(&mut self.bounds, &[kind, "D", column, bound])
-    }
-
-    // Its bounds.
-    fn add_bounds(
-        &mut self,
-        alloc: Global,
-        column: &str,
-        state: &mut u64,
-    ) -> Result<(), AllocError> {
-        self.push_bound("LO", column, "-1")?;
-        let high = spelled(alloc, state, 0, 9)?;
-        let pushed = self.push_bound("UP", column, &high);
-        drop(high);
-        pushed
-    }
-
-    // Its factors in most of the rows.
-    fn add_factors(
-        &mut self,
-        alloc: Global,
-        column: &str,
-        state: &mut u64,
-    ) -> Result<(), AllocError> {
-        for row in ROWS {
-            if drawn(state, 6) > 0 {
-                self.add_factor(alloc, column, row, state)?;
-            }
-        }
-        Ok(())
+    // A factor of the column in the row, from -4 on.
+    fn add_factor(&mut self, column: &'static str, row: &'static str, state: &mut u64) -> bool {
+        let factor = spelled(state, 0, 10);
+        push_line(&mut self.columns, &[column, row, factor])
     }
 
     // A column from -1 on, in the objective and in most of the rows.
-    fn add_column(
-        &mut self,
-        alloc: Global,
-        column: &str,
-        state: &mut u64,
-    ) -> Result<(), AllocError> {
-        self.add_factor(alloc, column, "Z", state)?;
-        self.add_factors(alloc, column, state)?;
-        self.add_bounds(alloc, column, state)
-    }
-
-    fn add_rows(&mut self, alloc: Global, state: &mut u64) -> Result<(), AllocError> {
+    fn add_column(&mut self, column: &'static str, state: &mut u64) -> bool {
+        let mut so = self.add_factor(column, "Z", state);
         for row in ROWS {
-            self.add_row(alloc, row, state)?;
+            if drawn(state, 6) > 0 {
+                so = self.add_factor(column, row, state) && so;
+            }
         }
-        Ok(())
+        let high = spelled(state, 4, 9);
+        so && push_line(&mut self.bounds, &["LO", "D", column, "-1"])
+            && push_line(&mut self.bounds, &["UP", "D", column, high])
     }
 
-    fn add_columns(&mut self, alloc: Global, state: &mut u64) -> Result<(), AllocError> {
-        for column in COLUMNS {
-            self.add_column(alloc, column, state)?;
+    // The rows and the columns of a number, three each.
+    fn add(&mut self, number: u32) -> bool {
+        let mut state = u64::from(number);
+        let mut so = true;
+        for row in ROWS {
+            so = self.add_row(row, &mut state) && so;
         }
-        Ok(())
+        for column in COLUMNS {
+            so = self.add_column(column, &mut state) && so;
+        }
+        so
     }
 
     // All of them behind their headers.
-    fn text(&self, alloc: Global) -> Result<String, AllocError> {
-        format!(in alloc;
-            "ROWS\n N Z\n{}COLUMNS\n M 'MARKER' 'INTORG'\n{}RHS\n Z -2\n{}RANGES\n{}BOUNDS\n{}\
-            ENDATA\n",
-            self.rows, self.columns, self.sides, self.ranges, self.bounds
-        )
-    }
-
-    // The text of a number: three rows over three columns.
-    fn text_of(&mut self, alloc: Global, number: u32) -> Result<String, AllocError> {
-        let mut state = u64::from(number);
-        self.add_rows(alloc, &mut state)?;
-        self.add_columns(alloc, &mut state)?;
-        self.text(alloc)
+    fn push_all(&self, text: &mut Vec<u8>) -> bool {
+        push(text, "ROWS\n N Z\n")
+            && text.extend_from_slice(&self.rows).is_ok()
+            && push(text, "COLUMNS\n M 'MARKER' 'INTORG'\n")
+            && text.extend_from_slice(&self.columns).is_ok()
+            && push(text, "RHS\n Z -2\n")
+            && text.extend_from_slice(&self.sides).is_ok()
+            && push(text, "RANGES\n")
+            && text.extend_from_slice(&self.ranges).is_ok()
+            && push(text, "BOUNDS\n")
+            && text.extend_from_slice(&self.bounds).is_ok()
+            && push(text, "ENDATA\n")
     }
 }
 
-fn text(alloc: Global, number: u32) -> Option<String> {
+// Appends the text of a number.
+fn push_text(alloc: Global, text: &mut Vec<u8>, number: u32) -> bool {
     let mut sections = Sections::new(alloc);
-    let text = sections.text_of(alloc, number);
+    let so = sections.add(number) && sections.push_all(text);
     drop(sections);
-    text.ok()
+    so
 }
 
 /// The small problem of a number.
 pub fn problem(alloc: Global, number: u32) -> Option<Problem> {
-    let text = text(alloc, number)?;
-    let problem = read(alloc, text.as_bytes(), None);
+    let mut text = Vec::new(alloc);
+    let problem = if push_text(alloc, &mut text, number) {
+        read(alloc, &text, None).ok()
+    } else {
+        None
+    };
     drop(text);
-    problem.ok()
+    problem
 }
 
 /// The params and the gap of both searches, and what is done between their steps: a box handed at
@@ -208,13 +169,7 @@ struct Course {
 fn task(alloc: Global, problem: &Problem, course: &Course) -> Option<Task>
     requires gap { IsGap course.now.gap }
 {
-    let own = Shared::own(problem.copy().ok()?);
-    let Some(whole) = whole_of(own.problem()) else {
-        drop(own);
-        return None;
-    };
-    let ticket = Ticket { run: 1, number: 1 };
-    Task::new(alloc, own, ticket, course.params, whole, None, course.gap).ok()
+    task_of(alloc, problem.copy().ok()?, 1, course.params, course.gap)
 }
 
 // The slow search of it.
@@ -352,21 +307,18 @@ fn steps_to_end(
 }
 
 // The same of a task of the problem beside a slow search of it.
-fn steps_beside(alloc: Global, problem: &Problem, course: &Course, whole: &mut Whole) -> Option<u32>
-    requires gap { IsGap course.now.gap }
-{
-    let mut task = task(alloc, problem, course)?;
-    let steps = steps_to_end(alloc, &mut task, problem, course, whole);
-    drop(task);
-    steps
-}
-
-// The same of a problem.
 fn steps_of(alloc: Global, problem: &Problem, course: &Course) -> Option<u32>
     requires gap { IsGap course.now.gap }
 {
-    let mut whole = search(alloc, problem)?;
-    let steps = steps_beside(alloc, problem, course, &mut whole);
+    let Some(mut whole) = search(alloc, problem) else {
+        return None;
+    };
+    let Some(mut task) = task(alloc, problem, course) else {
+        drop(whole);
+        return None;
+    };
+    let steps = steps_to_end(alloc, &mut task, problem, course, &mut whole);
+    drop(task);
     drop(whole);
     steps
 }

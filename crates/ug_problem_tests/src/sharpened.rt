@@ -5,15 +5,14 @@ ghost use Rattle.std.specs.Prelude.{◌≤◌, ◌<◌};
 
 use crate::expect::{holds_at, same_at};
 use crate::searches::problem;
-use crate::tasks::whole_of;
+use crate::tasks::task_of;
 use std::alloc::Global;
 use std::process::Abort;
 use ug_base::{Step, Task};
 use ug_branch::Params;
 use ug_gen::make;
 use ug_mps::read;
-use ug_nodes::Ticket;
-use ug_problem::{Problem, Shared};
+use ug_problem::Problem;
 
 // Sums of even factors are to be odd.
 const ODD: &[u8] = b"ROWS
@@ -61,25 +60,11 @@ fn ended_of(task: &mut Task) -> Option<Ended> {
     None
 }
 
-// The task of a problem under the params of a number.
-fn task(alloc: Global, problem: Problem, params: u8) -> Option<Task>
-    requires { params < 16 }
-{
-    let own = Shared::own(problem);
-    let Some(whole) = whole_of(own.problem()) else {
-        drop(own);
-        return None;
-    };
-    let ticket = Ticket { run: 1, number: 1 };
-    Task::new(alloc, own, ticket, Params::new(params), whole, None, 0).ok()
-}
-
 // A search of a copy of a problem to its end.
 fn searched(alloc: Global, problem: &Problem, params: u8) -> Option<Ended>
     requires { params < 16 }
 {
-    let copy = problem.copy().ok()?;
-    let mut task = task(alloc, copy, params)?;
+    let mut task = task_of(alloc, problem.copy().ok()?, 1, Params::new(params), 0)?;
     let ended = ended_of(&mut task);
     drop(task);
     ended

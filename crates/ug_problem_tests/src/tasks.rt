@@ -41,27 +41,37 @@ pub fn whole_of(problem: &Problem) -> Option<IntBox>
     }
 }
 
+/// The task of a problem, with this number in its ticket.
+pub fn task_of(
+    alloc: Global,
+    problem: Problem,
+    number: u64,
+    params: Params,
+    gap: i128,
+) -> Option<Task>
+    requires { IsGap gap }
+{
+    let own = Shared::own(problem);
+    let Some(whole) = whole_of(own.problem()) else {
+        drop(own);
+        return None;
+    };
+    let ticket = Ticket { run: 1, number };
+    Task::new(alloc, own, ticket, params, whole, None, gap).ok()
+}
+
 // The task of all of the square, with these params and this gap.
 fn task(alloc: Global, number: u8, gap: i128) -> Option<Task>
     requires number { number < 8 }
     requires gap { IsGap gap }
 {
-    let problem = Shared::own(read(alloc, SQUARE, None).ok()?);
-    let Some(whole) = whole_of(problem.problem()) else {
-        drop(problem);
-        return None;
-    };
-    let ticket = Ticket { run: 1, number: 3 };
-    Task::new(
+    task_of(
         alloc,
-        problem,
-        ticket,
+        read(alloc, SQUARE, None).ok()?,
+        3,
         Params::new(number),
-        whole,
-        None,
         gap,
     )
-    .ok()
 }
 
 // A letter for what a step did, where a point that is found is (0, 5).
@@ -177,73 +187,35 @@ fn is_lowered(task: &mut Task) -> bool {
         && task.left() == 0
 }
 
-#[test]
-fn lowers_the_cutoff(rt: HostRuntime) {
-    match task(rt.alloc(), 0, 0) {
-        Some(mut task) => {
-            holds(&rt, is_lowered(&mut task));
-            drop(task);
-        }
-        None => panic!(rt; "no memory"),
-    }
-}
-
 const UPPER: [Interval; 2] = [Interval { low: 4, high: 7 }, Interval { low: 0, high: 7 }];
 
 const LOWER: [Interval; 2] = [Interval { low: 2, high: 3 }, Interval { low: 2, high: 7 }];
 
 const LOWEST: [Interval; 2] = [Interval { low: 0, high: 1 }, Interval { low: 2, high: 7 }];
 
-// Whether a box that is handed has this number and these sides.
-fn is_box(given: &Handed, number: u64, sides: &[Interval]) -> bool {
-    given.number == number && given.area.as_slice() == sides
-}
-
-// Whether the box handed next has this number and these sides.
-fn hands(task: &mut Task, number: u64, sides: &[Interval]) -> bool {
-    match task.hand() {
-        Ok(Some(given)) => is_box(&given, number, sides),
+// Whether that box is given, by its number and its sides; or none, if none is wanted.
+fn is_given(given: Result<Option<Handed>, AllocError>, wanted: Option<(u64, &[Interval])>) -> bool {
+    let is_so = match (&given, wanted) {
+        (Ok(Some(given)), Some((number, sides))) => {
+            given.number == number && given.area.as_slice() == sides
+        }
+        (Ok(None), None) => true,
         _ => false,
-    }
-}
-
-// Whether the box given next has this number and these sides.
-fn gives(task: &mut Task, number: u64, sides: &[Interval]) -> bool {
-    match task.give() {
-        Ok(Some(given)) => is_box(&given, number, sides),
-        _ => false,
-    }
-}
-
-fn gives_nothing(task: &mut Task) -> bool {
-    task.give().is_ok_and(|given| given.is_none())
+    };
+    drop(given);
+    is_so
 }
 
 // Whether it gives all boxes left, the last one too, and the search of it is then over.
 fn gives_all(task: &mut Task) -> bool {
     steps_so(task, b'S')
         && steps_so(task, b'S')
-        && gives(task, 0, &UPPER)
-        && gives(task, 1, &LOWER)
-        && gives(task, 2, &LOWEST)
-        && gives_nothing(task)
+        && is_given(task.give(), Some((0, &UPPER)))
+        && is_given(task.give(), Some((1, &LOWER)))
+        && is_given(task.give(), Some((2, &LOWEST)))
+        && is_given(task.give(), None)
         && steps_so(task, b'E')
         && task.handed().len() == 3
-}
-
-#[test]
-fn gives_all_boxes(rt: HostRuntime) {
-    match task(rt.alloc(), 0, 0) {
-        Some(mut task) => {
-            holds(&rt, gives_all(&mut task));
-            drop(task);
-        }
-        None => panic!(rt; "no memory"),
-    }
-}
-
-fn hands_nothing(task: &mut Task) -> bool {
-    task.hand().is_ok_and(|given| given.is_none())
 }
 
 // Whether it keeps what it handed.
@@ -260,21 +232,47 @@ fn has_handed(task: &Task) -> bool {
 fn hands_first(task: &mut Task) -> bool {
     steps_so(task, b'S')
         && steps_so(task, b'S')
-        && hands(task, 0, &UPPER)
-        && hands(task, 1, &LOWER)
-        && hands_nothing(task)
+        && is_given(task.hand(), Some((0, &UPPER)))
+        && is_given(task.hand(), Some((1, &LOWER)))
+        && is_given(task.hand(), None)
         && task.left() == 1
         && has_handed(task)
         && task.ticket() == Ticket { run: 1, number: 3 }
 }
 
+/// What is looked at in a search of the square.
+#[derive(Clone, Copy)]
+enum Looked {
+    Lowered,
+    GivesAll,
+    HandsFirst,
+}
+
+// Whether that is so of a search of the square.
+fn is_so(alloc: Global, looked: Looked) -> bool {
+    let Some(mut task) = task(alloc, 0, 0) else {
+        return false;
+    };
+    let is_so = match looked {
+        Looked::Lowered => is_lowered(&mut task),
+        Looked::GivesAll => gives_all(&mut task),
+        Looked::HandsFirst => hands_first(&mut task),
+    };
+    drop(task);
+    is_so
+}
+
+#[test]
+fn lowers_the_cutoff(rt: HostRuntime) {
+    holds(&rt, is_so(rt.alloc(), Looked::Lowered));
+}
+
+#[test]
+fn gives_all_boxes(rt: HostRuntime) {
+    holds(&rt, is_so(rt.alloc(), Looked::GivesAll));
+}
+
 #[test]
 fn hands_the_first_boxes(rt: HostRuntime) {
-    match task(rt.alloc(), 0, 0) {
-        Some(mut task) => {
-            holds(&rt, hands_first(&mut task));
-            drop(task);
-        }
-        None => panic!(rt; "no memory"),
-    }
+    holds(&rt, is_so(rt.alloc(), Looked::HandsFirst));
 }

@@ -38,65 +38,42 @@ fn point_of(alloc: Global, sides: &[Interval]) -> Option<Point> {
     Some(Point::from_vec(values))
 }
 
-// The box with another interval of a column.
-fn with_side(area: &IntBox, column: usize, side: Interval) -> Option<IntBox> {
-    let mut sides = area.clone().ok()?.into_vec();
-    if column >= sides.len() {
-        return None;
+// Puts the box with another interval of a column behind the boxes. Whether there was memory for it,
+// and the column is there.
+fn put(boxes: &mut Vec<IntBox>, area: &IntBox, column: usize, side: Interval) -> bool {
+    let Ok(copy) = area.clone() else {
+        return false;
+    };
+    let mut sides = copy.into_vec();
+    let is_there = column < sides.len();
+    if is_there {
+        sides[column] = side;
     }
-    sides[column] = side;
-    Some(IntBox::from_vec(sides))
-}
-
-// The lower half of a box.
-fn lower_half(area: &IntBox, column: usize, middle: i32) -> Option<IntBox> {
-    let side = *area.as_slice().get(column)?;
-    with_side(
-        area,
-        column,
-        Interval {
-            low: side.low,
-            high: middle,
-        },
-    )
-}
-
-// The upper half of it.
-fn upper_half(area: &IntBox, column: usize, middle: i32) -> Option<IntBox> {
-    let side = *area.as_slice().get(column)?;
-    with_side(
-        area,
-        column,
-        Interval {
-            low: middle.checked_add(1)?,
-            high: side.high,
-        },
-    )
-}
-
-// Puts a box behind the boxes, if there is one.
-fn put(boxes: &mut Vec<IntBox>, area: Option<IntBox>) -> Option<()> {
-    boxes.push(area?).ok()
+    let pushed = boxes.push(IntBox::from_vec(sides));
+    let so = pushed.is_ok() && is_there;
+    drop(pushed);
+    so
 }
 
 // Puts the two halves of a box behind the boxes, the one that is looked at first last.
-fn put_halves(
-    boxes: &mut Vec<IntBox>,
-    params: Params,
-    area: &IntBox,
-    branch: Branch,
-) -> Option<()> {
+fn put_halves(boxes: &mut Vec<IntBox>, params: Params, area: &IntBox, branch: Branch) -> bool {
     let column = branch.column as usize;
-    match params.half {
-        Half::Lower => {
-            put(boxes, upper_half(area, column, branch.middle))?;
-            put(boxes, lower_half(area, column, branch.middle))
-        }
-        Half::Upper => {
-            put(boxes, lower_half(area, column, branch.middle))?;
-            put(boxes, upper_half(area, column, branch.middle))
-        }
-    }
+    let Some(side) = area.as_slice().get(column) else {
+        return false;
+    };
+    let lower = Interval {
+        low: side.low,
+        high: branch.middle,
+    };
+    let upper = Interval {
+        low: branch.middle.saturating_add(1),
+        high: side.high,
+    };
+    let (second, first) = match params.half {
+        Half::Lower => (upper, lower),
+        Half::Upper => (lower, upper),
+    };
+    put(boxes, area, column, second) && put(boxes, area, column, first)
 }
 
 // What is left of a box.
@@ -138,8 +115,11 @@ fn go_on(
 {
     match branch_on(params, left) {
         Some(branch) => {
-            put_halves(&mut whole.boxes, params, left, branch)?;
-            Some(Step::Split)
+            if put_halves(&mut whole.boxes, params, left, branch) {
+                Some(Step::Split)
+            } else {
+                None
+            }
         }
         None => {
             let point = point_of(alloc, left.as_slice())?;

@@ -128,8 +128,11 @@ fn divided_up(number: i128, divisor: u32) -> i128 {
 // Whether the bound is the least weighted sum, divided and rounded up, and not above a feasible
 // value.
 fn is_counted(told: i128, counted: Counted, d: u32) -> bool {
-    let is_least = counted.weighted.map(|least| divided_up(least, d)) == Some(told);
-    is_least && counted.value.is_none_or(|value| told <= value)
+    match (counted.weighted, counted.value) {
+        (Some(least), Some(value)) => divided_up(least, d) == told && told <= value,
+        (Some(least), None) => divided_up(least, d) == told,
+        _ => false,
+    }
 }
 
 fn agrees(alloc: Global, problem: &Problem, m: &Multipliers) -> bool {

@@ -52,9 +52,12 @@ const IMPLICATIONS: &[Implication] = &[
 ];
 
 fn are_terms(terms: &[Term], wanted: &[(u32, i128)]) -> bool {
+    for (term, (column, factor)) in terms.iter().zip(wanted) {
+        if term.column != *column || term.factor != *factor {
+            return false;
+        }
+    }
     terms.len() == wanted.len()
-        && terms.iter().zip(wanted).all(|(term, (column, factor))| term.column == *column
-            && term.factor == *factor)
 }
 
 fn is_wanted(told: &Result<Row, ImpliedError>, wanted: &Result<Wanted, ImpliedError>) -> bool {

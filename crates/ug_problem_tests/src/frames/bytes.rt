@@ -1,5 +1,3 @@
-use std::alloc::{AllocError, Global};
-
 // The half byte that a digit is.
 fn half(digit: u8) -> u8 {
     match digit {
@@ -9,30 +7,23 @@ fn half(digit: u8) -> u8 {
     }
 }
 
-// Adds the bytes that a text of two digits each spells, with blanks between some.
-fn add_bytes(bytes: &mut Vec<u8>, text: &[u8]) -> Result<(), AllocError> {
+/// Adds the bytes that a text of two digits each spells, with blanks between some. Whether there
+/// was memory for them.
+pub fn spell(bytes: &mut Vec<u8>, text: &str) -> bool {
+    let mut so = true;
     let mut first = None;
-    for digit in text {
+    for digit in text.as_bytes() {
         match first {
             _ if *digit == b' ' => {}
             None => first = Some(half(*digit)),
             Some(high) => {
-                bytes.push((high << 4) | half(*digit))?;
+                so = so
+                    && bytes
+                        .extend_from_slice(&[(high << 4) | half(*digit)])
+                        .is_ok();
                 first = None;
             }
         }
     }
-    Ok(())
-}
-
-/// The bytes that a text of two digits each spells.
-pub fn bytes_of(alloc: Global, text: &str) -> Result<Vec<u8>, AllocError> {
-    let mut bytes = Vec::new(alloc);
-    match add_bytes(&mut bytes, text.as_bytes()) {
-        Ok(()) => Ok(bytes),
-        Err(error) => {
-            drop(bytes);
-            Err(error)
-        }
-    }
+    so
 }

@@ -1,5 +1,7 @@
 use crate::expect::holds_at;
-use crate::frames::sides::{is_beginning, is_no_length};
+use crate::frames::sides::{Front, front_of};
+use std::alloc::Global;
+use std::process::Abort;
 use ug_frames::{Order, Report};
 
 // Lengths that no frame may have.
@@ -23,14 +25,23 @@ const FINE: &[&str] = &[
     "00000002 ff",
 ];
 
+// Expects this at the front of each text, of orders and of reports.
+fn each_is(rt: &impl Abort, alloc: Global, texts: &[&str], is_bad: bool) {
+    for text in texts {
+        let is_so = match (
+            front_of::<Order>(alloc, text),
+            front_of::<Report>(alloc, text),
+        ) {
+            (Front::Bad, Front::Bad) => is_bad,
+            (Front::NeedMore, Front::NeedMore) => !is_bad,
+            _ => false,
+        };
+        holds_at(rt, is_so, text);
+    }
+}
+
 #[test]
 fn looks_at_a_length_alone(rt: HostRuntime) {
-    for text in BAD {
-        holds_at(&rt, is_no_length::<Order>(rt.alloc(), text), text);
-        holds_at(&rt, is_no_length::<Report>(rt.alloc(), text), text);
-    }
-    for text in FINE {
-        holds_at(&rt, is_beginning::<Order>(rt.alloc(), text), text);
-        holds_at(&rt, is_beginning::<Report>(rt.alloc(), text), text);
-    }
+    each_is(&rt, rt.alloc(), BAD, true);
+    each_is(&rt, rt.alloc(), FINE, false);
 }

@@ -1,90 +1,101 @@
 use crate::expect::same;
-use std::alloc::{AllocError, Global};
-use ug_frames::{Decoded, Order, Report, decode_order, decode_report};
+use crate::frames::sides::Side;
+use std::alloc::Global;
+use ug_frames::{Decoded, Order, Report};
 
 // The run and the number of the ticket (1, 1), and what a Work has ahead of its changes: params 0,
 // no race and no cutoff.
 const HEAD: &[u8] = &[0, 0, 0, 0, 0, 0, 0, 1, 0, 0, 0, 0, 0, 0, 0, 1, 0, 0, 0];
 
-// The frame of a Work with so many changes, from column 0 on, each to 0..1.
-fn put_work(bytes: &mut Vec<u8>, count: u16) -> Result<(), AllocError> {
-    let count = u32::from(count);
-    bytes.extend_from_slice(&(24 + 12 * count).to_be_bytes())?;
-    bytes.push(2)?;
-    bytes.extend_from_slice(HEAD)?;
-    bytes.extend_from_slice(&count.to_be_bytes())?;
+/// Frames with a list: how long one without an item is, its tag, what is ahead of the count, and
+/// each item, which has a column ahead of it or none; and the place of the count among the numbers.
+#[derive(Clone, Copy)]
+struct Listed {
+    long: u32,
+    tag: u8,
+    head: &'static [u8],
+    has_columns: bool,
+    item: &'static [u8],
+    place: usize,
+}
+
+// A Work with changes from column 0 on, each to 0..1.
+const WORK: Listed = Listed {
+    long: 24,
+    tag: 2,
+    head: HEAD,
+    has_columns: true,
+    item: &[0, 0, 0, 0, 0, 0, 0, 1],
+    place: 6,
+};
+
+// A Solution with values that are 1.
+const SOLUTION: Listed = Listed {
+    long: 21,
+    tag: 18,
+    head: &[0, 0, 0, 0, 0, 0, 0, 1, 0, 0, 0, 0, 0, 0, 0, 1],
+    has_columns: false,
+    item: &[0, 0, 0, 1],
+    place: 3,
+};
+
+// Adds bytes.
+fn put(bytes: &mut Vec<u8>, more: &[u8]) -> bool {
+    bytes.extend_from_slice(more).is_ok()
+}
+
+// Adds the items.
+fn put_items(bytes: &mut Vec<u8>, list: &Listed, count: u32) -> bool {
+    let mut so = true;
     for column in 0..count {
-        bytes.extend_from_slice(&column.to_be_bytes())?;
-        bytes.extend_from_slice(&[0, 0, 0, 0, 0, 0, 0, 1])?;
+        so = so
+            && (!list.has_columns || put(bytes, &column.to_be_bytes()))
+            && put(bytes, list.item);
     }
-    Ok(())
+    so
 }
 
-// The frame of a Solution with so many values, each 1.
-fn put_solution(bytes: &mut Vec<u8>, count: u16) -> Result<(), AllocError> {
-    let count = u32::from(count);
-    bytes.extend_from_slice(&(21 + 4 * count).to_be_bytes())?;
-    bytes.push(18)?;
-    bytes.extend_from_slice(&HEAD[..16])?;
-    bytes.extend_from_slice(&count.to_be_bytes())?;
-    for _ in 0..count {
-        bytes.extend_from_slice(&[0, 0, 0, 1])?;
-    }
-    Ok(())
+// The frame with so many items, where an item has so many bytes.
+fn put_frame(bytes: &mut Vec<u8>, list: &Listed, each: u32, count: u32) -> bool {
+    let long = list.long.wrapping_add(each.wrapping_mul(count));
+    put(bytes, &long.to_be_bytes())
+        && put(bytes, &[list.tag])
+        && put(bytes, list.head)
+        && put(bytes, &count.to_be_bytes())
+        && put_items(bytes, list, count)
 }
 
-// How many changes the Work has that is read.
-fn changes_read(alloc: Global, bytes: &[u8]) -> Option<usize> {
-    let Ok(Decoded::Whole { message, .. }) = decode_order(alloc, bytes) else {
+// The number at a place among those of the message that is read.
+fn number_read<M: Side>(alloc: Global, bytes: &[u8], place: usize) -> Option<i128> {
+    let Ok(Decoded::Whole { message, .. }) = M::decode(alloc, bytes) else {
         return None;
     };
-    let count = match &message {
-        Order::Work { changes, .. } => Some(changes.as_slice().len()),
-        _ => None,
-    };
+    let mut numbers = Vec::new(alloc);
+    let is_read = message.add(&mut numbers);
+    let number = numbers.get(place).copied();
+    drop(numbers);
     drop(message);
-    count
+    if is_read { number } else { None }
 }
 
-// How many values the Solution has that is read.
-fn values_read(alloc: Global, bytes: &[u8]) -> Option<usize> {
-    let Ok(Decoded::Whole { message, .. }) = decode_report(alloc, bytes) else {
-        return None;
-    };
-    let count = match &message {
-        Report::Solution { point, .. } => Some(point.as_slice().len()),
-        _ => None,
-    };
-    drop(message);
-    count
-}
-
-// How many changes are read of a Work with so many.
-fn of_work(alloc: Global, count: u16) -> Option<usize> {
+// How many items are read of so many.
+fn read<M: Side>(alloc: Global, list: &Listed, each: u32, count: u32) -> Option<i128> {
     let mut bytes = Vec::new(alloc);
-    let read = match put_work(&mut bytes, count) {
-        Ok(()) => changes_read(alloc, &bytes),
-        Err(_) => None,
-    };
+    let is_put = put_frame(&mut bytes, list, each, count);
+    let read = number_read::<M>(alloc, &bytes, list.place);
     drop(bytes);
-    read
-}
-
-// How many values are read of a Solution with so many.
-fn of_solution(alloc: Global, count: u16) -> Option<usize> {
-    let mut bytes = Vec::new(alloc);
-    let read = match put_solution(&mut bytes, count) {
-        Ok(()) => values_read(alloc, &bytes),
-        Err(_) => None,
-    };
-    drop(bytes);
-    read
+    if is_put { read } else { None }
 }
 
 #[test]
 fn takes_ten_thousand_and_no_more(rt: HostRuntime) {
-    same(&rt, &of_work(rt.alloc(), 10_000), &Some(10_000));
-    same(&rt, &of_work(rt.alloc(), 10_001), &None);
-    same(&rt, &of_solution(rt.alloc(), 10_000), &Some(10_000));
-    same(&rt, &of_solution(rt.alloc(), 10_001), &None);
+    let alloc = rt.alloc();
+    same(&rt, &read::<Order>(alloc, &WORK, 12, 10_000), &Some(10_000));
+    same(&rt, &read::<Order>(alloc, &WORK, 12, 10_001), &None);
+    same(
+        &rt,
+        &read::<Report>(alloc, &SOLUTION, 4, 10_000),
+        &Some(10_000),
+    );
+    same(&rt, &read::<Report>(alloc, &SOLUTION, 4, 10_001), &None);
 }

@@ -1,8 +1,7 @@
-use crate::expect::holds_at;
 use crate::frames::numbers::{
     BOUND, LONG, VALUE, add, add_bytes, add_changes, add_optional, add_ticket,
 };
-use crate::frames::sides::{Side, is_frame, is_no_frame};
+use crate::frames::sides::{Side, each_is_frame, each_is_no_frame};
 use std::alloc::{AllocError, Global};
 use ug_frames::{Decoded, Order, decode_order, encode_order};
 
@@ -215,11 +214,10 @@ impl Side for Order {
         decode_order(alloc, bytes)
     }
 
-    fn add(&self, numbers: &mut Vec<i128>) -> Result<(), AllocError> {
+    fn add(&self, numbers: &mut Vec<i128>) -> bool {
         match self {
             Order::Setup { gap, record } => {
-                add(numbers, &[1, *gap])?;
-                add_bytes(numbers, record.as_slice())
+                add(numbers, &[1, *gap]) && add_bytes(numbers, record.as_slice())
             }
             Order::Work {
                 ticket,
@@ -228,15 +226,14 @@ impl Side for Order {
                 cutoff,
                 changes,
             } => {
-                add_ticket(numbers, 2, *ticket)?;
-                add(numbers, &[i128::from(params.number()), i128::from(*race)])?;
-                add_optional(numbers, *cutoff)?;
-                add_changes(numbers, changes)
+                add_ticket(numbers, 2, *ticket)
+                    && add(numbers, &[i128::from(params.number()), i128::from(*race)])
+                    && add_optional(numbers, *cutoff)
+                    && add_changes(numbers, changes)
             }
             Order::Incumbent { cutoff } => add(numbers, &[3, *cutoff]),
             Order::CollectIn { ticket, count } => {
-                add_ticket(numbers, 4, *ticket)?;
-                add(numbers, &[i128::from(*count)])
+                add_ticket(numbers, 4, *ticket) && add(numbers, &[i128::from(*count)])
             }
             Order::CollectOut { ticket } => add_ticket(numbers, 5, *ticket),
             Order::Winner { ticket } => add_ticket(numbers, 6, *ticket),
@@ -245,28 +242,24 @@ impl Side for Order {
         }
     }
 
-    fn copy(buffer: &mut Vec<u8>, alloc: Global, bytes: &[u8]) -> Result<(), AllocError> {
+    fn copy(buffer: &mut Vec<u8>, alloc: Global, bytes: &[u8]) -> bool {
         match decode_order(alloc, bytes) {
             Ok(Decoded::Whole { message, .. }) => {
-                let written = encode_order(buffer, &message);
+                let is_written = encode_order(buffer, &message).is_ok();
                 drop(message);
-                written
+                is_written
             }
-            _ => Ok(()),
+            _ => false,
         }
     }
 }
 
 #[test]
 fn reads_and_writes_orders(rt: HostRuntime) {
-    for (text, numbers) in ORDERS {
-        holds_at(&rt, is_frame::<Order>(rt.alloc(), text, numbers), text);
-    }
+    each_is_frame::<Order>(&rt, rt.alloc(), ORDERS);
 }
 
 #[test]
 fn takes_no_other_orders(rt: HostRuntime) {
-    for (why, text) in NO_ORDERS {
-        holds_at(&rt, is_no_frame::<Order>(rt.alloc(), text), why);
-    }
+    each_is_no_frame::<Order>(&rt, rt.alloc(), NO_ORDERS);
 }

@@ -1,8 +1,7 @@
-use crate::expect::holds_at;
 use crate::frames::numbers::{
     BOUND, LONG, VALUE, add, add_changes, add_optional, add_point, add_ticket,
 };
-use crate::frames::sides::{Side, is_frame, is_no_frame};
+use crate::frames::sides::{Side, each_is_frame, each_is_no_frame};
 use std::alloc::{AllocError, Global};
 use ug_frames::{Decoded, Report, decode_report, encode_report};
 
@@ -150,66 +149,58 @@ impl Side for Report {
         decode_report(alloc, bytes)
     }
 
-    fn add(&self, numbers: &mut Vec<i128>) -> Result<(), AllocError> {
+    fn add(&self, numbers: &mut Vec<i128>) -> bool {
         match self {
             Report::Ready => add(numbers, &[17]),
             Report::Solution { ticket, point } => {
-                add_ticket(numbers, 18, *ticket)?;
-                add_point(numbers, point)
+                add_ticket(numbers, 18, *ticket) && add_point(numbers, point)
             }
             Report::Hand {
                 ticket,
                 number,
                 changes,
             } => {
-                add_ticket(numbers, 19, *ticket)?;
-                add(numbers, &[i128::from(*number)])?;
-                add_changes(numbers, changes)
+                add_ticket(numbers, 19, *ticket)
+                    && add(numbers, &[i128::from(*number)])
+                    && add_changes(numbers, changes)
             }
             Report::State {
                 ticket,
                 open,
                 floor,
-            } => {
-                add_ticket(numbers, 20, *ticket)?;
-                add(numbers, &[i128::from(*open), *floor])
-            }
+            } => { add_ticket(numbers, 20, *ticket) && add(numbers, &[i128::from(*open), *floor]) }
             Report::Done {
                 ticket,
                 cutoff,
                 count,
                 ..
             } => {
-                add_ticket(numbers, 21, *ticket)?;
-                add_optional(numbers, *cutoff)?;
-                add(numbers, &[i128::from(*count)])
+                add_ticket(numbers, 21, *ticket)
+                    && add_optional(numbers, *cutoff)
+                    && add(numbers, &[i128::from(*count)])
             }
             Report::Ended => add(numbers, &[22]),
         }
     }
 
-    fn copy(buffer: &mut Vec<u8>, alloc: Global, bytes: &[u8]) -> Result<(), AllocError> {
+    fn copy(buffer: &mut Vec<u8>, alloc: Global, bytes: &[u8]) -> bool {
         match decode_report(alloc, bytes) {
             Ok(Decoded::Whole { message, .. }) => {
-                let written = encode_report(buffer, &message);
+                let is_written = encode_report(buffer, &message).is_ok();
                 drop(message);
-                written
+                is_written
             }
-            _ => Ok(()),
+            _ => false,
         }
     }
 }
 
 #[test]
 fn reads_and_writes_reports(rt: HostRuntime) {
-    for (text, numbers) in REPORTS {
-        holds_at(&rt, is_frame::<Report>(rt.alloc(), text, numbers), text);
-    }
+    each_is_frame::<Report>(&rt, rt.alloc(), REPORTS);
 }
 
 #[test]
 fn takes_no_other_reports(rt: HostRuntime) {
-    for (why, text) in NO_REPORTS {
-        holds_at(&rt, is_no_frame::<Report>(rt.alloc(), text), why);
-    }
+    each_is_no_frame::<Report>(&rt, rt.alloc(), NO_REPORTS);
 }

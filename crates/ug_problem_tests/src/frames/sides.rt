@@ -1,5 +1,7 @@
-use crate::frames::bytes::bytes_of;
+use crate::expect::holds_at;
+use crate::frames::bytes::spell;
 use std::alloc::{AllocError, Global};
+use std::process::Abort;
 use ug_frames::Decoded;
 
 /// Orders, or reports.
@@ -9,19 +11,29 @@ pub trait Side: Drop {
     where
         Self: Sized;
 
-    /// Adds the tag and the fields.
-    fn add(&self, numbers: &mut Vec<i128>) -> Result<(), AllocError>;
+    /// Adds the tag and the fields. Whether there was memory for them.
+    fn add(&self, numbers: &mut Vec<i128>) -> bool;
 
-    /// Puts the frame of the message that the bytes are at the end of the buffer.
-    fn copy(buffer: &mut Vec<u8>, alloc: Global, bytes: &[u8]) -> Result<(), AllocError>;
+    /// Puts the frame of the message that the bytes are at the end of the buffer. Whether there was
+    /// memory for it.
+    fn copy(buffer: &mut Vec<u8>, alloc: Global, bytes: &[u8]) -> bool;
 }
 
 // Whether the message has this tag and these fields.
 fn is<M: Side>(alloc: Global, message: &M, wanted: &[i128]) -> bool {
     let mut numbers = Vec::new(alloc);
-    let is_so = message.add(&mut numbers).is_ok() && numbers.as_slice() == wanted;
+    let is_so = message.add(&mut numbers) && numbers.as_slice() == wanted;
     drop(numbers);
     is_so
+}
+
+// Whether the frame is what is written of its message, also behind what the buffer has, which stays.
+fn is_written<M: Side>(alloc: Global, frame: &[u8]) -> bool {
+    let mut buffer = Vec::new(alloc);
+    let is_first = M::copy(&mut buffer, alloc, frame) && buffer.as_slice() == frame;
+    let is_second = M::copy(&mut buffer, alloc, frame) && buffer.strip_prefix(frame) == Some(frame);
+    drop(buffer);
+    is_first && is_second
 }
 
 // Whether the frame at the front has so many bytes, and is of a message with these numbers.
@@ -36,85 +48,86 @@ fn is_whole<M: Side>(alloc: Global, bytes: &[u8], long: usize, wanted: &[i128]) 
     }
 }
 
-// Whether more is needed.
-fn needs_more<M: Side>(alloc: Global, bytes: &[u8]) -> bool {
-    let answer = M::decode(alloc, bytes);
-    let is_so = matches!(&answer, Ok(Decoded::NeedMore));
-    drop(answer);
-    is_so
+/// What is at the front of some bytes, if there is memory to tell.
+#[derive(Clone, Copy)]
+pub enum Front {
+    Whole,
+    NeedMore,
+    Bad,
+    NoMemory,
 }
 
-// Whether no frame of this side is at the front.
-fn is_none<M: Side>(alloc: Global, bytes: &[u8]) -> bool {
+// What is at the front.
+fn front_at<M: Side>(alloc: Global, bytes: &[u8]) -> Front {
     let answer = M::decode(alloc, bytes);
-    let is_so = matches!(&answer, Ok(Decoded::Bad));
+    let front = match &answer {
+        Ok(Decoded::Whole { .. }) => Front::Whole,
+        Ok(Decoded::NeedMore) => Front::NeedMore,
+        Ok(Decoded::Bad) => Front::Bad,
+        Err(_) => Front::NoMemory,
+    };
     drop(answer);
-    is_so
+    front
 }
 
 // Whether the frame needs more, cut before any of its bytes.
 fn needs_all<M: Side>(alloc: Global, bytes: &[u8]) -> bool {
     for left in 0..bytes.len() {
-        if !needs_more::<M>(alloc, &bytes[..left]) {
+        if !matches!(front_at::<M>(alloc, &bytes[..left]), Front::NeedMore) {
             return false;
         }
     }
     true
 }
 
-// Whether the frame is written so, behind what the buffer has, which stays.
-fn is_written<M: Side>(alloc: Global, bytes: &[u8]) -> bool {
-    let mut buffer = Vec::new(alloc);
-    let is_first = M::copy(&mut buffer, alloc, bytes).is_ok() && buffer.as_slice() == bytes;
-    let is_second = M::copy(&mut buffer, alloc, bytes).is_ok()
-        && buffer.as_slice().get(..bytes.len()) == Some(bytes)
-        && buffer.as_slice().get(bytes.len()..) == Some(bytes);
-    drop(buffer);
-    is_first && is_second
-}
-
-/// Whether the text is the frame of a message with these numbers, with or without bytes behind it,
-/// is none before its last byte, and is what is written of this message.
-pub fn is_frame<M: Side>(alloc: Global, text: &str, wanted: &[i128]) -> bool {
-    let Ok(mut bytes) = bytes_of(alloc, text) else {
-        return false;
-    };
+// Whether the text is the frame of a message with these numbers, with or without bytes behind it,
+// is none before its last byte, and is what is written of this message.
+fn is_frame<M: Side>(alloc: Global, text: &str, wanted: &[i128]) -> bool {
+    let mut bytes = Vec::new(alloc);
+    let mut is_so = spell(&mut bytes, text);
     let long = bytes.len();
-    let is_so = is_whole::<M>(alloc, &bytes, long, wanted)
+    is_so = is_so
+        && is_whole::<M>(alloc, &bytes, long, wanted)
         && needs_all::<M>(alloc, &bytes)
         && is_written::<M>(alloc, &bytes)
-        && bytes.extend_from_slice(&[0, 0, 0]).is_ok()
+        && spell(&mut bytes, "000000")
         && is_whole::<M>(alloc, &bytes, long, wanted);
     drop(bytes);
     is_so
 }
 
-/// Whether the text is a frame of no message of this side, and none before its last byte.
-pub fn is_no_frame<M: Side>(alloc: Global, text: &str) -> bool {
-    let Ok(bytes) = bytes_of(alloc, text) else {
-        return false;
-    };
-    let is_so = is_none::<M>(alloc, &bytes) && needs_all::<M>(alloc, &bytes);
+/// Expects each text to be the frame of a message with these numbers.
+pub fn each_is_frame<M: Side>(rt: &impl Abort, alloc: Global, cases: &[(&str, &[i128])]) {
+    for (text, numbers) in cases {
+        holds_at(rt, is_frame::<M>(alloc, text, numbers), text);
+    }
+}
+
+// Whether the text is a frame of no message of this side, and none before its last byte.
+fn is_no_frame<M: Side>(alloc: Global, text: &str) -> bool {
+    let mut bytes = Vec::new(alloc);
+    let is_so = spell(&mut bytes, text)
+        && matches!(front_at::<M>(alloc, &bytes), Front::Bad)
+        && needs_all::<M>(alloc, &bytes);
     drop(bytes);
     is_so
 }
 
-/// Whether the length that the text begins with is none that a frame may have.
-pub fn is_no_length<M: Side>(alloc: Global, text: &str) -> bool {
-    let Ok(bytes) = bytes_of(alloc, text) else {
-        return false;
-    };
-    let is_so = is_none::<M>(alloc, &bytes);
-    drop(bytes);
-    is_so
+/// Expects each text to be a frame of no message, by what is wrong with it.
+pub fn each_is_no_frame<M: Side>(rt: &impl Abort, alloc: Global, cases: &[(&str, &str)]) {
+    for (why, text) in cases {
+        holds_at(rt, is_no_frame::<M>(alloc, text), why);
+    }
 }
 
-/// Whether the text begins a frame.
-pub fn is_beginning<M: Side>(alloc: Global, text: &str) -> bool {
-    let Ok(bytes) = bytes_of(alloc, text) else {
-        return false;
+/// What is at the front of the bytes of the text.
+pub fn front_of<M: Side>(alloc: Global, text: &str) -> Front {
+    let mut bytes = Vec::new(alloc);
+    let front = if spell(&mut bytes, text) {
+        front_at::<M>(alloc, &bytes)
+    } else {
+        Front::NoMemory
     };
-    let is_so = needs_more::<M>(alloc, &bytes);
     drop(bytes);
-    is_so
+    front
 }

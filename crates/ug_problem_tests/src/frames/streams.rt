@@ -1,6 +1,6 @@
 use crate::expect::holds_at;
-use crate::frames::bytes::bytes_of;
-use std::alloc::{AllocError, Global};
+use crate::frames::bytes::spell;
+use std::alloc::Global;
 use ug_frames::Order;
 use ug_stream::{Assembler, Next};
 
@@ -11,113 +11,96 @@ const ORDERS: &str = "00000024 02 0000000000000001 0000000000000001 00 00 00 000
 // The end, a length that no frame has, and the end again.
 const BAD: &str = "00000001 08 00000000 00000001 08";
 
-/// What is told of a stream of orders.
-#[derive(Clone, Copy, Debug, PartialEq, Eq)]
-enum Told {
-    Work,
-    Stop,
-    End,
-    Other,
-    NeedMore,
-    BadAt(u64),
-}
-
-// Which order it is.
-fn order_told(order: &Order) -> Told {
+// A letter for each order: to work, to stop and the end, or another.
+fn letter(order: &Order) -> u8 {
     match order {
-        Order::Work { .. } => Told::Work,
-        Order::Stop { .. } => Told::Stop,
-        Order::End => Told::End,
-        _ => Told::Other,
+        Order::Work { .. } => b'w',
+        Order::Stop { .. } => b's',
+        Order::End => b'e',
+        _ => b'?',
     }
 }
 
-// What comes next.
-fn next(alloc: Global, assembler: &mut Assembler) -> Told {
+// What comes next: an order, by its letter; `n` where more is needed; and `b` where the bytes from
+// the fifth on are bad.
+fn next(alloc: Global, assembler: &mut Assembler) -> u8 {
     match assembler.next::<Order>(alloc) {
         Ok(Next::Message(order)) => {
-            let told = order_told(&order);
+            let told = letter(&order);
             drop(order);
             told
         }
-        Ok(Next::NeedMore) => Told::NeedMore,
-        Ok(Next::BadFrame { at }) => Told::BadAt(at),
-        Err(_) => Told::Other,
+        Ok(Next::NeedMore) => b'n',
+        Ok(Next::BadFrame { at: 5 }) => b'b',
+        _ => b'?',
     }
 }
 
 // Adds what is told of a piece, message by message, until more is needed or the bytes are bad.
-fn add_told(
-    alloc: Global,
-    assembler: &mut Assembler,
-    piece: &[u8],
-    all: &mut Vec<Told>,
-) -> Result<(), AllocError> {
-    assembler.feed(piece)?;
+// Whether there was memory for it.
+fn add_told(alloc: Global, assembler: &mut Assembler, piece: &[u8], all: &mut Vec<u8>) -> bool {
+    let mut so = assembler.feed(piece).is_ok();
     for _ in 0..4 {
-        match next(alloc, assembler) {
-            Told::NeedMore => break,
-            told => all.push(told)?,
+        let told = next(alloc, assembler);
+        if told == b'n' {
+            break;
         }
+        so = so && all.extend_from_slice(&[told]).is_ok();
     }
-    Ok(())
+    so
 }
 
-// What is told of the bytes where they come in pieces of this length.
-fn told_by_pieces(alloc: Global, text: &str, long: usize) -> Result<Vec<Told>, AllocError> {
-    let bytes = bytes_of(alloc, text)?;
+// Adds what is told of the bytes where they come in pieces of this length.
+fn add_pieces(alloc: Global, bytes: &[u8], long: usize, all: &mut Vec<u8>) -> bool {
     let mut assembler = Assembler::new(alloc);
-    let mut all = Vec::new(alloc);
+    let mut so = true;
     for at in 0..bytes.len() {
         if at.is_multiple_of(long) {
             let end = at.saturating_add(long).min(bytes.len());
-            add_told(alloc, &mut assembler, &bytes[at..end], &mut all)?;
+            so = so && add_told(alloc, &mut assembler, &bytes[at..end], all);
         }
     }
     drop(assembler);
-    drop(bytes);
-    Ok(all)
+    so
+}
+
+// Whether that is told first, and nothing behind it; or nothing but `b` where it ends so.
+fn are(told: &[u8], wanted: &[u8]) -> bool {
+    let Some(rest) = told.strip_prefix(wanted) else {
+        return false;
+    };
+    for more in rest {
+        if *more != b'b' || wanted.last() != Some(&b'b') {
+            return false;
+        }
+    }
+    true
 }
 
 // Whether these are told of the bytes where they come in pieces of this length.
-fn are_told(alloc: Global, text: &str, long: usize, wanted: &[Told]) -> bool {
-    let Ok(all) = told_by_pieces(alloc, text, long) else {
-        return false;
-    };
-    let are_so = all.as_slice() == wanted;
+fn are_told(alloc: Global, text: &str, long: usize, wanted: &[u8]) -> bool {
+    let mut bytes = Vec::new(alloc);
+    let mut all = Vec::new(alloc);
+    let so = spell(&mut bytes, text)
+        && add_pieces(alloc, &bytes, long, &mut all)
+        && are(&all, wanted);
+    drop(bytes);
     drop(all);
-    are_so
+    so
 }
 
 // 66 bytes, so in pieces of one byte, of any number, and at once.
 #[test]
 fn orders_are_given_whatever_the_pieces(rt: HostRuntime) {
-    let wanted = [Told::Work, Told::Stop, Told::End];
     for long in 1..70 {
-        holds_at(&rt, are_told(rt.alloc(), ORDERS, long, &wanted), &long);
+        holds_at(&rt, are_told(rt.alloc(), ORDERS, long, b"wse"), &long);
     }
 }
 
-// Whether the first order is given, and then nothing but that the bytes from the fifth on are bad.
-fn are_bad(alloc: Global, long: usize) -> bool {
-    let Ok(all) = told_by_pieces(alloc, BAD, long) else {
-        return false;
-    };
-    let are_so = match all.as_slice() {
-        [first, rest @ ..] => {
-            *first == Told::End
-                && !rest.is_empty()
-                && rest.iter().all(|told| *told == Told::BadAt(5))
-        }
-        [] => false,
-    };
-    drop(all);
-    are_so
-}
-
+// The first order is given, and then nothing but that the bytes from the fifth on are bad.
 #[test]
 fn bad_bytes_are_final_whatever_the_pieces(rt: HostRuntime) {
     for long in 1..15 {
-        holds_at(&rt, are_bad(rt.alloc(), long), &long);
+        holds_at(&rt, are_told(rt.alloc(), BAD, long, b"eb"), &long);
     }
 }

@@ -1,9 +1,10 @@
 //! A worker over a link in memory, byte for byte.
 
 use crate::expect::holds_at;
-use crate::frames::bytes::bytes_of;
-use crate::served::link::{Calls, SOUND, told_of};
-use std::alloc::{AllocError, Global};
+use crate::frames::bytes::spell;
+use crate::served::cases::push_piece;
+use crate::served::link::{Calls, SOUND, is_told};
+use std::alloc::Global;
 use std::sync::Wait;
 use ug_serve::Served;
 
@@ -227,56 +228,30 @@ const CASES: &[Case] = &[
     },
 ];
 
-fn add_pieces(alloc: Global, pieces: &mut Vec<Vec<u8>>, texts: &[&str]) -> Result<(), AllocError> {
+// Adds the bytes of each text as a piece.
+fn add_pieces(alloc: Global, pieces: &mut Vec<Vec<u8>>, texts: &[&str]) -> bool {
+    let mut so = true;
     for text in texts {
-        pieces.push(bytes_of(alloc, text)?)?;
+        let mut piece = Vec::new(alloc);
+        so = spell(&mut piece, text) && so;
+        so = push_piece(pieces, piece, so);
     }
-    Ok(())
-}
-
-// The pieces as bytes.
-fn pieces_of(alloc: Global, texts: &[&str]) -> Result<Vec<Vec<u8>>, AllocError> {
-    let mut pieces = Vec::new(alloc);
-    match add_pieces(alloc, &mut pieces, texts) {
-        Ok(()) => Ok(pieces),
-        Err(error) => {
-            drop(pieces);
-            Err(error)
-        }
-    }
-}
-
-// Whether the service of these pieces tells that, and ends so.
-fn is_told<R: Wait>(rt: &R, alloc: Global, pieces: &[Vec<u8>], case: &Case, wanted: &[u8]) -> bool {
-    let calls = Calls {
-        failing: case.failing,
-        ..SOUND
-    };
-    let Ok(told) = told_of(rt, alloc, pieces, calls) else {
-        return false;
-    };
-    let is_so = told.bytes.as_slice() == wanted && told.end == case.end;
-    drop(told);
-    is_so
-}
-
-// Whether the pieces of the case are served as it has it.
-fn is_over<R: Wait>(rt: &R, alloc: Global, pieces: &[Vec<u8>], case: &Case) -> bool {
-    let Ok(wanted) = bytes_of(alloc, case.told) else {
-        return false;
-    };
-    let is_so = is_told(rt, alloc, pieces, case, &wanted);
-    drop(wanted);
-    is_so
+    so
 }
 
 // Whether the case is served as it has it.
 fn is_served_so<R: Wait>(rt: &R, alloc: Global, case: &Case) -> bool {
-    let Ok(pieces) = pieces_of(alloc, case.pieces) else {
-        return false;
+    let calls = Calls {
+        failing: case.failing,
+        ..SOUND
     };
-    let is_so = is_over(rt, alloc, &pieces, case);
+    let mut pieces = Vec::new(alloc);
+    let mut wanted = Vec::new(alloc);
+    let is_so = add_pieces(alloc, &mut pieces, case.pieces)
+        && spell(&mut wanted, case.told)
+        && is_told(rt, alloc, &pieces, calls, &wanted, case.end);
     drop(pieces);
+    drop(wanted);
     is_so
 }
 

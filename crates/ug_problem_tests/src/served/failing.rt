@@ -1,10 +1,11 @@
 //! Links of which a call fails.
 
 use crate::expect::holds_at;
-use crate::served::cases::{Case, frames_of, pieces_of};
-use crate::served::link::{Calls, told_of};
+use crate::served::cases::{Case, add_pieces};
+use crate::served::link::{Calls, is_told, told_of};
 use crate::served::square::FROM_ABOVE;
 use crate::served::stairs::{MORE, STAIRS};
+use crate::served::words::add_reports;
 use crate::tasks::SQUARE;
 use std::alloc::Global;
 use std::process::Abort;
@@ -45,29 +46,10 @@ fn is_cut_off<R: Wait>(
     calls: Calls<'_>,
     whole: &[u8],
 ) -> bool {
-    let Ok(told) = told_of(rt, alloc, pieces, calls) else {
-        return false;
-    };
-    let is_front = whole.get(..told.bytes.len()) == Some(told.bytes.as_slice());
-    let is_so = is_front && told.end == Served::LinkFault;
-    drop(told);
-    is_so
-}
-
-// Whether the whole is told, and the service ends as ordered.
-fn is_whole<R: Wait>(
-    rt: &R,
-    alloc: Global,
-    pieces: &[Vec<u8>],
-    calls: Calls<'_>,
-    whole: &[u8],
-) -> bool {
-    let Ok(told) = told_of(rt, alloc, pieces, calls) else {
-        return false;
-    };
-    let is_so = told.bytes.as_slice() == whole && told.end == Served::Ended;
-    drop(told);
-    is_so
+    match told_of(rt, alloc, pieces, calls, whole) {
+        Some(told) => told.front.is_some() && told.end == Served::LinkFault,
+        None => false,
+    }
 }
 
 // Expects that each call ends the service where it fails, and that none is made behind them.
@@ -86,13 +68,17 @@ fn each_call_ends<R: Wait + Abort>(
     }
     let failing = &[run.calls.saturating_add(1)];
     let calls = Calls { failing, most };
-    holds_at(rt, is_whole(rt, alloc, pieces, calls, whole), &run.calls);
+    let is_whole = is_told(rt, alloc, pieces, calls, whole, Served::Ended);
+    holds_at(rt, is_whole, &run.calls);
 }
 
 // Expects it of the calls of this run.
 fn each_call_of<R: Wait + Abort>(rt: &R, alloc: Global, run: &Run) {
-    let pieces = pieces_of(alloc, run.text, &run.case).expect(rt, "memory");
-    let whole = frames_of(alloc, run.case.told).expect(rt, "memory");
+    let mut pieces = Vec::new(alloc);
+    let mut whole = Vec::new(alloc);
+    let is_made = add_pieces(alloc, &mut pieces, run.text, &run.case)
+        && add_reports(alloc, &mut whole, run.case.told);
+    holds_at(rt, is_made, &run.calls);
     each_call_ends(rt, alloc, &pieces, run, &whole);
     drop(pieces);
     drop(whole);

@@ -1,14 +1,15 @@
 //! What a worker tells over a link in memory.
 
-use std::alloc::{AllocError, Global};
+use std::alloc::Global;
 use std::sync::Wait;
 use ug_io::{MemoryLink, Said, Script};
 use ug_serve::{Served, serve};
 
-/// What was told over a link, and how its service ended.
-#[derive(Drop)]
+/// What was told over a link, beside the bytes that were wanted, and how its service ended.
+#[derive(Clone, Copy)]
 pub struct Told {
-    pub bytes: Vec<u8>,
+    /// How many of the bytes wanted were told, if no others were.
+    pub front: Option<usize>,
     pub end: Served,
 }
 
@@ -25,15 +26,18 @@ pub const SOUND: Calls<'static> = Calls {
     most: 1000,
 };
 
-// The bytes that were told.
-fn told_bytes(alloc: Global, said: &[Said]) -> Result<Vec<u8>, AllocError> {
-    let mut told = Vec::new(alloc);
+// How many of the bytes wanted were told, if no others were.
+fn front_told(said: &[Said], wanted: &[u8]) -> Option<usize> {
+    let mut told = 0usize;
     for one in said {
         if let Said::Told(byte) = *one {
-            told.push(byte)?;
+            if wanted.get(told) != Some(&byte) {
+                return None;
+            }
+            told = told.saturating_add(1);
         }
     }
-    Ok(told)
+    Some(told)
 }
 
 // What is told where these pieces come, and then the end of the link.
@@ -42,28 +46,53 @@ fn told_over<R: Wait>(
     alloc: Global,
     pieces: &[&[u8]],
     calls: Calls<'_>,
-) -> Result<Told, AllocError> {
-    let script = Script::new(calls.failing.to_vec(alloc)?, calls.most);
+    wanted: &[u8],
+) -> Option<Told> {
+    let Ok(failing) = calls.failing.to_vec(alloc) else {
+        return None;
+    };
+    let script = Script::new(failing, calls.most);
     let service = serve(rt, alloc, MemoryLink::new(alloc, pieces, script));
-    let bytes = told_bytes(alloc, service.link.said());
+    let front = front_told(service.link.said(), wanted);
     let end = service.end;
     drop(service);
-    match bytes {
-        Ok(bytes) => Ok(Told { bytes, end }),
-        Err(error) => Err(error),
-    }
+    Some(Told { front, end })
 }
 
 /// What is told where these pieces come, and then the end of the link. An empty piece is a gap: a
-/// read that does not wait finds nothing there, once.
+/// read that does not wait finds nothing there, once. None where there is no memory to tell.
 pub fn told_of<R: Wait>(
     rt: &R,
     alloc: Global,
     pieces: &[Vec<u8>],
     calls: Calls<'_>,
-) -> Result<Told, AllocError> {
-    let slices: Vec<&[u8]> = pieces.iter().map(|piece| piece.as_slice()).collect(alloc)?;
-    let told = told_over(rt, alloc, &slices, calls);
+    wanted: &[u8],
+) -> Option<Told> {
+    let mut slices: Vec<&[u8]> = Vec::new(alloc);
+    let mut so = true;
+    for piece in pieces {
+        so = so && slices.extend_from_slice(&[piece.as_slice()]).is_ok();
+    }
+    let told = if so {
+        told_over(rt, alloc, &slices, calls, wanted)
+    } else {
+        None
+    };
     drop(slices);
     told
+}
+
+/// Whether these bytes are told over the pieces, and no others, and the service ends so.
+pub fn is_told<R: Wait>(
+    rt: &R,
+    alloc: Global,
+    pieces: &[Vec<u8>],
+    calls: Calls<'_>,
+    wanted: &[u8],
+    end: Served,
+) -> bool {
+    match told_of(rt, alloc, pieces, calls, wanted) {
+        Some(told) => told.front == Some(wanted.len()) && told.end == end,
+        None => false,
+    }
 }

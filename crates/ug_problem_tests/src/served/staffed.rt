@@ -1,14 +1,13 @@
-//! Workers as a crew in memory: what they tell is what a worker at a link tells, however their
-//! bytes go.
+//! Workers as a crew in memory: what they tell is what a worker at a link has to tell, however
+//! their bytes go.
 
 ghost use Rattle.std.specs.Prelude.{◌≡◌, ◌<◌, length};
 
 use crate::expect::holds_at;
-use crate::served::cases::{Case, pieces_of};
-use crate::served::link::{SOUND, told_of};
-use std::alloc::{AllocError, Global};
+use crate::served::cases::{Case, add_pieces};
+use crate::served::words::add_reports;
+use std::alloc::Global;
 use std::process::Abort;
-use std::sync::Wait;
 use ug_io::{Came, Crew, zeros};
 use ug_serve::{Visit, WorkerCrew};
 
@@ -66,109 +65,96 @@ fn start<C: Crew>(crew: &mut C, rank: u32) -> bool
     !crew.is_alive(rank) && crew.launch(rank).is_ok()
 }
 
-// Adds what comes from the worker until nothing does any more.
-fn hear<C: Crew>(crew: &mut C, buffer: &mut [u8], bytes: &mut Vec<u8>) -> Result<(), AllocError>
+// Adds what comes from the worker until nothing does any more. Whether there was memory for it.
+fn hear<C: Crew>(crew: &mut C, buffer: &mut [u8], bytes: &mut Vec<u8>) -> bool
     requires { 0 < length buffer.old }
 {
+    let mut so = true;
     for _ in 0..10_000 {
         match crew.turn(buffer) {
-            Ok(Came::Bytes { rank: RANK, count }) => bytes.extend_from_slice(&buffer[..count])?,
-            _ => return Ok(()),
+            Ok(Came::Bytes { rank: RANK, count }) => {
+                so = so && bytes.extend_from_slice(&buffer[..count]).is_ok();
+            }
+            _ => return so,
         }
     }
-    Ok(())
+    so
 }
 
 // Adds what the worker tells where these pieces are told to it, each once it has told all that it
-// has to tell.
+// has to tell. Whether all could be told.
 fn hear_all<C: Crew>(
     crew: &mut C,
     buffer: &mut [u8],
     pieces: &[Vec<u8>],
     bytes: &mut Vec<u8>,
-) -> Result<(), AllocError>
+) -> bool
     requires { 0 < length buffer.old }
 {
+    let mut so = true;
     for piece in pieces {
-        if crew.is_alive(RANK) && crew.send(RANK, piece).is_err() {
-            return Err(AllocError);
-        }
-        hear(crew, buffer, bytes)?;
+        so = so && (!crew.is_alive(RANK) || crew.send(RANK, piece).is_ok());
+        so = so && hear(crew, buffer, bytes);
     }
-    Ok(())
+    so
 }
 
-// What the worker tells, of a crew of which two ranks are started, by way of so much room.
-fn told_by<C: Crew>(
+// Whether the worker tells that, of a crew of which two ranks are started, by way of so much room.
+fn tells<C: Crew>(
     alloc: Global,
     crew: &mut C,
     room: usize,
     pieces: &[Vec<u8>],
-) -> Result<Vec<u8>, AllocError>
+    wanted: &[u8],
+) -> bool
     requires room { 0 < room }
     requires ranks { 1 < length (C.seen crew.old).lives }
 {
     if !start(crew, 0) || !start(crew, RANK) {
-        return Err(AllocError);
+        return false;
     }
-    let mut buffer = zeros(alloc, room)?;
+    let Ok(mut buffer) = zeros(alloc, room) else {
+        return false;
+    };
     let mut bytes = Vec::new(alloc);
-    let heard = hear_all(crew, &mut buffer, pieces, &mut bytes);
+    let so = hear_all(crew, &mut buffer, pieces, &mut bytes) && bytes.as_slice() == wanted;
     drop(buffer);
-    match heard {
-        Ok(()) => Ok(bytes),
-        Err(error) => {
-            drop(bytes);
-            Err(error)
-        }
-    }
+    drop(bytes);
+    so
 }
 
-// What the worker tells, in this way.
-fn told_in(alloc: Global, way: Way, pieces: &[Vec<u8>]) -> Result<Vec<u8>, AllocError> {
+// Whether it does so of a crew that is visited in this way.
+fn tells_in(alloc: Global, way: Way, pieces: &[Vec<u8>], wanted: &[u8]) -> bool {
     let visit = Visit {
         rank: RANK,
         orders: way.orders,
         reports: way.reports,
     };
-    let schedule = vec![in alloc; visit; way.visits]?;
-    let told = match WorkerCrew::new(alloc, 2, &schedule) {
-        Ok(mut crew) => {
-            let told = told_by(alloc, &mut crew, way.room.max(1), pieces);
-            drop(crew);
-            told
-        }
-        Err(error) => Err(error),
-    };
-    drop(schedule);
-    told
-}
-
-// Whether the same is told in this way as at a link.
-fn is_same<R: Wait>(rt: &R, alloc: Global, way: Way, pieces: &[Vec<u8>]) -> bool {
-    let Ok(wanted) = told_of(rt, alloc, pieces, SOUND) else {
+    let Ok(schedule) = vec![in alloc; visit; way.visits] else {
         return false;
     };
-    let is_so = match told_in(alloc, way, pieces) {
-        Ok(told) => {
-            let is_so = told.as_slice() == wanted.bytes.as_slice();
-            drop(told);
-            is_so
+    let so = match WorkerCrew::new(alloc, 2, &schedule) {
+        Ok(mut crew) => {
+            let so = tells(alloc, &mut crew, way.room.max(1), pieces, wanted);
+            drop(crew);
+            so
         }
         Err(_) => false,
     };
-    drop(wanted);
-    is_so
+    drop(schedule);
+    so
 }
 
-/// Expects that a worker of a crew tells of the case, in each way, what one at a link tells.
-pub fn crew_tells_the_same<R: Wait + Abort>(rt: &R, alloc: Global, text: &[u8], case: &Case) {
-    let Ok(pieces) = pieces_of(alloc, text, case) else {
-        holds_at(rt, false, &case.what);
-        return;
-    };
+/// Expects that a worker of a crew tells what the case has, in each way.
+pub fn crew_tells_the_same(rt: &impl Abort, alloc: Global, text: &[u8], case: &Case) {
+    let mut pieces = Vec::new(alloc);
+    let mut wanted = Vec::new(alloc);
+    let is_made = add_pieces(alloc, &mut pieces, text, case)
+        && add_reports(alloc, &mut wanted, case.told);
+    holds_at(rt, is_made, &case.what);
     for way in WAYS {
-        holds_at(rt, is_same(rt, alloc, *way, &pieces), &way.what);
+        holds_at(rt, tells_in(alloc, *way, &pieces, &wanted), &way.what);
     }
     drop(pieces);
+    drop(wanted);
 }

@@ -1,7 +1,7 @@
 //! Orders and reports as tables have them, and their frames: the length of all that follows, the
 //! tag, and the fields, whose numbers are big endian.
 
-use std::alloc::{AllocError, Global};
+use std::alloc::Global;
 use ug_mps::read;
 use ug_nodes::{Change, Ticket};
 use ug_records::to_record;
@@ -61,178 +61,157 @@ pub enum Reported {
     Ended,
 }
 
-// One byte.
-fn put_byte(body: &mut Vec<u8>, byte: u8) -> Result<(), AllocError> {
-    body.push(byte)?;
-    Ok(())
+// Bytes. Whether there was memory for them, as of each call here.
+fn put(body: &mut Vec<u8>, bytes: &[u8]) -> bool {
+    body.extend_from_slice(bytes).is_ok()
 }
 
 // A tag, and the run and the number of a ticket.
-fn put_ticket(body: &mut Vec<u8>, tag: u8, ticket: Ticket) -> Result<(), AllocError> {
-    put_byte(body, tag)?;
-    body.extend_from_slice(&ticket.run.to_be_bytes())?;
-    body.extend_from_slice(&ticket.number.to_be_bytes())
+fn put_ticket(body: &mut Vec<u8>, tag: u8, ticket: Ticket) -> bool {
+    put(body, &[tag])
+        && put(body, &ticket.run.to_be_bytes())
+        && put(body, &ticket.number.to_be_bytes())
 }
 
 // 0, or 1 and the number.
-fn put_optional(body: &mut Vec<u8>, number: Option<i128>) -> Result<(), AllocError> {
+fn put_optional(body: &mut Vec<u8>, number: Option<i128>) -> bool {
     match number {
-        None => put_byte(body, 0),
-        Some(number) => {
-            put_byte(body, 1)?;
-            body.extend_from_slice(&number.to_be_bytes())
-        }
+        None => put(body, &[0]),
+        Some(number) => put(body, &[1]) && put(body, &number.to_be_bytes()),
     }
 }
 
-// How many there are.
-fn put_count(body: &mut Vec<u8>, count: usize) -> Result<(), AllocError> {
-    match u32::try_from(count) {
-        Ok(count) => body.extend_from_slice(&count.to_be_bytes()),
-        Err(_) => Err(AllocError),
-    }
+// How many there are, which are few.
+fn put_count(body: &mut Vec<u8>, count: usize) -> bool {
+    put(
+        body,
+        &u32::try_from(count).unwrap_or(u32::MAX).to_be_bytes(),
+    )
 }
 
 // How many changes there are, and of each the column and its bounds.
-fn put_changes(body: &mut Vec<u8>, changes: &[Change]) -> Result<(), AllocError> {
-    put_count(body, changes.len())?;
+fn put_changes(body: &mut Vec<u8>, changes: &[Change]) -> bool {
+    let mut so = put_count(body, changes.len());
     for change in changes {
-        body.extend_from_slice(&change.column.to_be_bytes())?;
-        body.extend_from_slice(&change.low.to_be_bytes())?;
-        body.extend_from_slice(&change.high.to_be_bytes())?;
+        so = so
+            && put(body, &change.column.to_be_bytes())
+            && put(body, &change.low.to_be_bytes())
+            && put(body, &change.high.to_be_bytes());
     }
-    Ok(())
+    so
 }
 
 // How many values there are, and each.
-fn put_point(body: &mut Vec<u8>, point: &[i32]) -> Result<(), AllocError> {
-    put_count(body, point.len())?;
+fn put_point(body: &mut Vec<u8>, point: &[i32]) -> bool {
+    let mut so = put_count(body, point.len());
     for value in point {
-        body.extend_from_slice(&value.to_be_bytes())?;
+        so = so && put(body, &value.to_be_bytes());
     }
-    Ok(())
-}
-
-fn put_work(body: &mut Vec<u8>, work: &Work) -> Result<(), AllocError> {
-    put_ticket(body, 2, work.ticket)?;
-    put_byte(body, work.params)?;
-    put_byte(body, u8::from(work.race))?;
-    put_optional(body, work.cutoff)?;
-    put_changes(body, work.changes)
+    so
 }
 
 // The tag and the fields of an order.
-fn put_order(body: &mut Vec<u8>, order: &Ordered) -> Result<(), AllocError> {
+fn put_order(body: &mut Vec<u8>, order: &Ordered) -> bool {
     match order {
-        Ordered::Work(work) => put_work(body, work),
-        Ordered::Incumbent { cutoff } => {
-            put_byte(body, 3)?;
-            body.extend_from_slice(&cutoff.to_be_bytes())
+        Ordered::Work(work) => {
+            put_ticket(body, 2, work.ticket)
+                && put(body, &[work.params, u8::from(work.race)])
+                && put_optional(body, work.cutoff)
+                && put_changes(body, work.changes)
         }
+        Ordered::Incumbent { cutoff } => put(body, &[3]) && put(body, &cutoff.to_be_bytes()),
         Ordered::CollectIn { ticket, count } => {
-            put_ticket(body, 4, *ticket)?;
-            body.extend_from_slice(&count.to_be_bytes())
+            put_ticket(body, 4, *ticket) && put(body, &count.to_be_bytes())
         }
         Ordered::CollectOut { ticket } => put_ticket(body, 5, *ticket),
         Ordered::Winner { ticket } => put_ticket(body, 6, *ticket),
         Ordered::Stop { ticket } => put_ticket(body, 7, *ticket),
-        Ordered::End => put_byte(body, 8),
+        Ordered::End => put(body, &[8]),
     }
 }
 
 // The tag and the fields of a report.
-fn put_report(body: &mut Vec<u8>, report: &Reported) -> Result<(), AllocError> {
+fn put_report(body: &mut Vec<u8>, report: &Reported) -> bool {
     match report {
-        Reported::Ready => put_byte(body, 17),
+        Reported::Ready => put(body, &[17]),
         Reported::Solution { ticket, point } => {
-            put_ticket(body, 18, *ticket)?;
-            put_point(body, point)
+            put_ticket(body, 18, *ticket) && put_point(body, point)
         }
         Reported::Hand {
             ticket,
             number,
             changes,
         } => {
-            put_ticket(body, 19, *ticket)?;
-            body.extend_from_slice(&number.to_be_bytes())?;
-            put_changes(body, changes)
+            put_ticket(body, 19, *ticket)
+                && put(body, &number.to_be_bytes())
+                && put_changes(body, changes)
         }
         Reported::State {
             ticket,
             left,
             floor,
         } => {
-            put_ticket(body, 20, *ticket)?;
-            body.extend_from_slice(&left.to_be_bytes())?;
-            body.extend_from_slice(&floor.to_be_bytes())
+            put_ticket(body, 20, *ticket)
+                && put(body, &left.to_be_bytes())
+                && put(body, &floor.to_be_bytes())
         }
         Reported::Done {
             ticket,
             cutoff,
             count,
         } => {
-            put_ticket(body, 21, *ticket)?;
-            put_optional(body, *cutoff)?;
-            body.extend_from_slice(&count.to_be_bytes())
+            put_ticket(body, 21, *ticket)
+                && put_optional(body, *cutoff)
+                && put(body, &count.to_be_bytes())
         }
-        Reported::Ended => put_byte(body, 22),
+        Reported::Ended => put(body, &[22]),
     }
-}
-
-// A frame of this tag and these fields.
-fn add_frame(bytes: &mut Vec<u8>, body: &[u8]) -> Result<(), AllocError> {
-    put_count(bytes, body.len())?;
-    bytes.extend_from_slice(body)
 }
 
 /// Adds the frame of an order.
-pub fn add_order(alloc: Global, bytes: &mut Vec<u8>, order: &Ordered) -> Result<(), AllocError> {
+pub fn add_order(alloc: Global, bytes: &mut Vec<u8>, order: &Ordered) -> bool {
     let mut body = Vec::new(alloc);
-    let added = match put_order(&mut body, order) {
-        Ok(()) => add_frame(bytes, &body),
-        Err(error) => Err(error),
-    };
+    let so = put_order(&mut body, order) && put_count(bytes, body.len()) && put(bytes, &body);
     drop(body);
-    added
+    so
 }
 
-/// Adds the frame of a report.
-pub fn add_report(alloc: Global, bytes: &mut Vec<u8>, report: &Reported) -> Result<(), AllocError> {
+/// Adds the frames of reports, one behind another.
+pub fn add_reports(alloc: Global, bytes: &mut Vec<u8>, reports: &[Reported]) -> bool {
     let mut body = Vec::new(alloc);
-    let added = match put_report(&mut body, report) {
-        Ok(()) => add_frame(bytes, &body),
-        Err(error) => Err(error),
-    };
-    drop(body);
-    added
-}
-
-// The record of the problem of a text.
-fn record_of(alloc: Global, text: &[u8]) -> Option<Vec<u8>> {
-    let problem = read(alloc, text, None).ok()?;
-    let record = to_record(alloc, &problem);
-    drop(problem);
-    Some(record.ok()?.into_vec())
-}
-
-// The tag and the fields of a first order.
-fn put_setup(body: &mut Vec<u8>, gap: i128, record: &[u8]) -> Result<(), AllocError> {
-    put_byte(body, 1)?;
-    body.extend_from_slice(&gap.to_be_bytes())?;
-    body.extend_from_slice(record)
-}
-
-/// The frame of the first order, of the problem of this text.
-pub fn setup_of(alloc: Global, gap: i128, text: &[u8]) -> Option<Vec<u8>> {
-    let record = record_of(alloc, text)?;
-    let mut body = Vec::new(alloc);
-    let mut frame = Vec::new(alloc);
-    let is_put = put_setup(&mut body, gap, &record).is_ok() && add_frame(&mut frame, &body).is_ok();
-    drop(record);
-    drop(body);
-    if is_put {
-        return Some(frame);
+    let mut so = true;
+    for report in reports {
+        body.clear();
+        so = so
+            && put_report(&mut body, report)
+            && put_count(bytes, body.len())
+            && put(bytes, &body);
     }
-    drop(frame);
-    None
+    drop(body);
+    so
+}
+
+// The frame of a first order with this record.
+fn put_setup(frame: &mut Vec<u8>, gap: i128, record: &[u8]) -> bool {
+    put_count(frame, record.len().saturating_add(17))
+        && put(frame, &[1])
+        && put(frame, &gap.to_be_bytes())
+        && put(frame, record)
+}
+
+/// Adds the frame of the first order, of the problem of this text.
+pub fn add_setup(alloc: Global, frame: &mut Vec<u8>, gap: i128, text: &[u8]) -> bool {
+    let Ok(problem) = read(alloc, text, None) else {
+        return false;
+    };
+    let so = match to_record(alloc, &problem) {
+        Ok(record) => {
+            let so = put_setup(frame, gap, record.as_slice());
+            drop(record);
+            so
+        }
+        Err(_) => false,
+    };
+    drop(problem);
+    so
 }
