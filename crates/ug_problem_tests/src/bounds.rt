@@ -8,7 +8,7 @@ mod implications;
 mod roundings;
 mod texts;
 
-use std::alloc::{AllocError, Global};
+use std::alloc::Global;
 use ug_lists::Items;
 use ug_problem::Problem;
 use ug_rows::has_point;
@@ -22,16 +22,25 @@ const TOO_BIG_ROW: TooBig = TooBig { row: Some(0) };
 
 const TOO_BIG_OBJECTIVE: TooBig = TooBig { row: None };
 
-fn list_of(alloc: Global, list: &[(u32, Side, u32)]) -> Result<Items<Multiplier>, AllocError> {
-    let mut items = Items::new(alloc);
-    for (row, side, weight) in list {
-        items.push(Multiplier {
+// The multipliers with this weight of the objective and these of sides of rows.
+fn multipliers_of(alloc: Global, d: u32, weights: &[(u32, Side, u32)]) -> Option<Multipliers> {
+    let mut all = Vec::new(alloc);
+    let mut so = true;
+    for (row, side, weight) in weights {
+        let multiplier = Multiplier {
             row: *row,
             side: *side,
             weight: *weight,
-        })?;
+        };
+        so = so && all.extend_from_slice(&[multiplier]).is_ok();
     }
-    Ok(items)
+    if so {
+        let list = Items::from_vec(all);
+        Some(Multipliers { d, list })
+    } else {
+        drop(all);
+        None
+    }
 }
 
 // The bound of the root, if it has a point.

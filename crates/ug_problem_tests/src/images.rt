@@ -61,9 +61,11 @@ fn reads_three_versions(rt: HostRuntime) {
 
 // Where the bad field begins of version 2 under another version.
 fn place_under(alloc: Global, version: u8) -> Option<usize> {
-    let mut bytes = SECOND.to_vec(alloc).ok()?;
-    if let Some(first) = bytes.first_mut() {
-        *first = version;
+    let Ok(mut bytes) = SECOND.to_vec(alloc) else {
+        return None;
+    };
+    if !bytes.is_empty() {
+        bytes[0] = version;
     }
     let place = place(alloc, &bytes);
     drop(bytes);

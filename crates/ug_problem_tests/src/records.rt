@@ -85,9 +85,11 @@ fn place(alloc: Global, bytes: &[u8]) -> Option<usize> {
 
 // The same with another value at one byte.
 fn place_with(alloc: Global, written: &[u8], byte: usize, value: u8) -> Option<Option<usize>> {
-    let mut bytes = written.to_vec(alloc).ok()?;
-    if let Some(place) = bytes.get_mut(byte) {
-        *place = value;
+    let Ok(mut bytes) = written.to_vec(alloc) else {
+        return None;
+    };
+    if byte < bytes.len() {
+        bytes[byte] = value;
     }
     let place = place(alloc, &bytes);
     drop(bytes);
@@ -112,19 +114,21 @@ const SPOILED: &[(usize, u8, usize)] = &[
     (88, 127, 88), // a factor above 10^24
 ];
 
-// The small record with a second term of the objective, in the column of the first.
-fn with_a_term_more(alloc: Global) -> Result<Vec<u8>, AllocError> {
-    let mut bytes = Vec::new(alloc);
-    bytes.extend_from_slice(SMALL)?;
-    bytes.extend_from_slice(&[0, 0, 0, 0])?;
-    bytes.extend_from_slice(&2i128.to_be_bytes())?;
-    Ok(bytes)
+// Puts the small record with a second term of the objective, in the column of the first.
+fn put_with_a_term_more(bytes: &mut Vec<u8>) -> bool {
+    bytes.extend_from_slice(SMALL).is_ok()
+        && bytes.extend_from_slice(&[0, 0, 0, 0]).is_ok()
+        && bytes.extend_from_slice(&2i128.to_be_bytes()).is_ok()
 }
 
 // Where its first bad field begins, if it says that there are two.
 fn place_with_a_term_more(alloc: Global) -> Option<Option<usize>> {
-    let bytes = with_a_term_more(alloc).ok()?;
-    let place = place_with(alloc, &bytes, 83, 2);
+    let mut bytes = Vec::new(alloc);
+    let place = if put_with_a_term_more(&mut bytes) {
+        place_with(alloc, &bytes, 83, 2)
+    } else {
+        None
+    };
     drop(bytes);
     place
 }

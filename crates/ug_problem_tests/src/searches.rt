@@ -83,8 +83,8 @@ impl Sections {
             _ => "G",
         };
         push_line(&mut self.sides, &[row, side])
-            && push_line(&mut self.rows, &[kind, row])
-            && (drawn < 3 || push_line(&mut self.ranges, &[row, "3"]))
+            & push_line(&mut self.rows, &[kind, row])
+            & (drawn < 3 || push_line(&mut self.ranges, &[row, "3"]))
     }
 
     // A factor of the column in the row, from -4 on.
@@ -98,12 +98,12 @@ impl Sections {
         let mut so = self.add_factor(column, "Z", state);
         for row in ROWS {
             if drawn(state, 6) > 0 {
-                so = self.add_factor(column, row, state) && so;
+                so &= self.add_factor(column, row, state);
             }
         }
         let high = spelled(state, 4, 9);
-        so && push_line(&mut self.bounds, &["LO", "D", column, "-1"])
-            && push_line(&mut self.bounds, &["UP", "D", column, high])
+        so & push_line(&mut self.bounds, &["LO", "D", column, "-1"])
+            & push_line(&mut self.bounds, &["UP", "D", column, high])
     }
 
     // The rows and the columns of a number, three each.
@@ -111,10 +111,10 @@ impl Sections {
         let mut state = u64::from(number);
         let mut so = true;
         for row in ROWS {
-            so = self.add_row(row, &mut state) && so;
+            so &= self.add_row(row, &mut state);
         }
         for column in COLUMNS {
-            so = self.add_column(column, &mut state) && so;
+            so &= self.add_column(column, &mut state);
         }
         so
     }
@@ -122,16 +122,16 @@ impl Sections {
     // All of them behind their headers.
     fn push_all(&self, text: &mut Vec<u8>) -> bool {
         push(text, "ROWS\n N Z\n")
-            && text.extend_from_slice(&self.rows).is_ok()
-            && push(text, "COLUMNS\n M 'MARKER' 'INTORG'\n")
-            && text.extend_from_slice(&self.columns).is_ok()
-            && push(text, "RHS\n Z -2\n")
-            && text.extend_from_slice(&self.sides).is_ok()
-            && push(text, "RANGES\n")
-            && text.extend_from_slice(&self.ranges).is_ok()
-            && push(text, "BOUNDS\n")
-            && text.extend_from_slice(&self.bounds).is_ok()
-            && push(text, "ENDATA\n")
+            & text.extend_from_slice(&self.rows).is_ok()
+            & push(text, "COLUMNS\n M 'MARKER' 'INTORG'\n")
+            & text.extend_from_slice(&self.columns).is_ok()
+            & push(text, "RHS\n Z -2\n")
+            & text.extend_from_slice(&self.sides).is_ok()
+            & push(text, "RANGES\n")
+            & text.extend_from_slice(&self.ranges).is_ok()
+            & push(text, "BOUNDS\n")
+            & text.extend_from_slice(&self.bounds).is_ok()
+            & push(text, "ENDATA\n")
     }
 }
 

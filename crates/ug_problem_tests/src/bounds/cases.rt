@@ -1,12 +1,14 @@
 //! Bounds that were worked out by hand.
 
+use crate::bounds::counted::agrees;
 use crate::bounds::texts::{COSTLY, COVER, KNAPSACK, ODD_SUM, RANGED, WIDE};
-use crate::bounds::{HIGH, LOW, TOO_BIG_OBJECTIVE, TOO_BIG_ROW, bound_of, list_of};
+use crate::bounds::{HIGH, LOW, TOO_BIG_OBJECTIVE, TOO_BIG_ROW, bound_of, multipliers_of};
 use crate::expect::holds_at;
 use crate::tasks::SQUARE;
 use std::alloc::Global;
 use ug_mps::read;
-use ug_surrogate::{Multipliers, Side, TooBig};
+use ug_problem::Problem;
+use ug_surrogate::{Side, TooBig};
 
 /// A problem, the weight of its objective, weights of sides of its rows, and the bound of its root.
 pub type Case = (
@@ -31,28 +33,33 @@ pub const CASES: &[Case] = &[
     (COSTLY, 1_000_000, &[(0, LOW, 1)], Err(TOO_BIG_OBJECTIVE)),
 ];
 
-/// The multipliers of a case.
-pub fn multipliers(alloc: Global, case: &Case) -> Option<Multipliers> {
-    let list = list_of(alloc, case.2).ok()?;
-    Some(Multipliers { d: case.1, list })
+// Whether the bound is the one of the case; or, if that is asked, is what is counted.
+fn is_right_of(alloc: Global, problem: &Problem, case: &Case, is_counted: bool) -> bool {
+    let Some(m) = multipliers_of(alloc, case.1, case.2) else {
+        return false;
+    };
+    let is_right = if is_counted {
+        agrees(alloc, problem, &m)
+    } else {
+        bound_of(problem, &m) == Some(case.3)
+    };
+    drop(m);
+    is_right
 }
 
-fn bound_by_hand(alloc: Global, case: &Case) -> Option<Result<i128, TooBig>> {
-    let problem = read(alloc, case.0, None).ok()?;
-    let Some(m) = multipliers(alloc, case) else {
-        drop(problem);
-        return None;
+/// The same of the problem of the case.
+pub fn is_right(alloc: Global, case: &Case, is_counted: bool) -> bool {
+    let Ok(problem) = read(alloc, case.0, None) else {
+        return false;
     };
-    let told = bound_of(&problem, &m);
-    drop(m);
+    let is_right = is_right_of(alloc, &problem, case, is_counted);
     drop(problem);
-    told
+    is_right
 }
 
 #[test]
 fn bounds_are_what_is_worked_out_by_hand(rt: HostRuntime) {
     for (k, case) in CASES.iter().enumerate() {
-        let told = bound_by_hand(rt.alloc(), case);
-        holds_at(&rt, told == Some(case.3), &k);
+        holds_at(&rt, is_right(rt.alloc(), case, false), &k);
     }
 }

@@ -1,10 +1,9 @@
 //! Bounds beside a count over all points of the box.
 
 use crate::bounds::bound_of;
-use crate::bounds::cases::{CASES, Case, multipliers};
+use crate::bounds::cases::{CASES, is_right};
 use crate::expect::holds_at;
 use std::alloc::Global;
-use ug_mps::read;
 use ug_problem::Problem;
 use ug_rows::{Interval, Point, Term};
 use ug_surrogate::{Multiplier, Multipliers, Side};
@@ -55,18 +54,17 @@ fn width(side: Interval) -> u32 {
         .unsigned_abs()
 }
 
-// Point number so many of the box, if it has as many.
-fn point(alloc: Global, sides: &[Interval], number: u32) -> Option<Vec<i32>> {
-    let mut values = Vec::new(alloc);
+// Puts the values of point number so many of the box. Whether it has as many, and there was memory.
+fn put_point(values: &mut Vec<i32>, sides: &[Interval], number: u32) -> bool {
+    let mut so = true;
     let mut left = number;
     for side in sides {
         let digit = left.checked_rem(width(*side)).unwrap_or(0);
         left = left.checked_div(width(*side)).unwrap_or(0);
-        values
-            .push(side.low.wrapping_add(i32::try_from(digit).unwrap_or(0)))
-            .ok()?;
+        let value = side.low.wrapping_add(i32::try_from(digit).unwrap_or(0));
+        so = so && values.extend_from_slice(&[value]).is_ok();
     }
-    if left == 0 { Some(values) } else { None }
+    so && left == 0
 }
 
 // The least of two numbers, if there are any.
@@ -110,8 +108,11 @@ fn count(alloc: Global, problem: &Problem, m: &Multipliers) -> Counted {
         value: None,
     };
     for number in 0..2_000 {
-        if let Some(values) = point(alloc, problem.root().as_slice(), number) {
+        let mut values = Vec::new(alloc);
+        if put_point(&mut values, problem.root().as_slice(), number) {
             counted = with_point(counted, problem, m, values);
+        } else {
+            drop(values);
         }
     }
     counted
@@ -135,33 +136,19 @@ fn is_counted(told: i128, counted: Counted, d: u32) -> bool {
     }
 }
 
-fn agrees(alloc: Global, problem: &Problem, m: &Multipliers) -> bool {
+/// Whether the bound of the root is what is counted.
+pub fn agrees(alloc: Global, problem: &Problem, m: &Multipliers) -> bool {
     match bound_of(problem, m) {
         Some(Ok(told)) => is_counted(told, count(alloc, problem, m), m.d),
         _ => false,
     }
 }
 
-// Whether the bound of the case is what is counted.
-fn is_so_by_count(alloc: Global, case: &Case) -> bool {
-    let Ok(problem) = read(alloc, case.0, None) else {
-        return false;
-    };
-    let Some(m) = multipliers(alloc, case) else {
-        drop(problem);
-        return false;
-    };
-    let agrees = agrees(alloc, &problem, &m);
-    drop(m);
-    drop(problem);
-    agrees
-}
-
 #[test]
 fn bounds_are_the_least_over_all_points(rt: HostRuntime) {
     for (k, case) in CASES.iter().enumerate() {
         if k < 9 {
-            holds_at(&rt, is_so_by_count(rt.alloc(), case), &k);
+            holds_at(&rt, is_right(rt.alloc(), case, true), &k);
         }
     }
 }

@@ -1,7 +1,7 @@
 //! The rows that multipliers imply.
 
 use crate::bounds::texts::{KNAPSACK, RANGED, WIDE};
-use crate::bounds::{HIGH, LOW, TOO_BIG_ROW, list_of};
+use crate::bounds::{HIGH, LOW, TOO_BIG_ROW, multipliers_of};
 use crate::expect::holds_at;
 use crate::tasks::SQUARE;
 use crate::whole::is_small;
@@ -91,11 +91,10 @@ fn implies_so(alloc: Global, case: &Implication) -> bool {
     let Ok(problem) = read(alloc, case.0, None) else {
         return false;
     };
-    let Ok(list) = list_of(alloc, case.2) else {
+    let Some(m) = multipliers_of(alloc, case.1, case.2) else {
         drop(problem);
         return false;
     };
-    let m = Multipliers { d: case.1, list };
     let is_so = implies_it(alloc, &problem, &m, case.3, &case.4);
     drop(m);
     drop(problem);

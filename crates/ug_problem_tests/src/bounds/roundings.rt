@@ -2,7 +2,7 @@
 
 use crate::bounds::texts::{ODD_SUM, STEPS};
 use crate::expect::holds_at;
-use std::alloc::{AllocError, Global};
+use std::alloc::Global;
 use ug_mps::read;
 use ug_problem::Problem;
 use ug_rows::{IntBox, Interval};
@@ -23,15 +23,17 @@ const ROUNDINGS: &[Rounding] = &[
     (ODD_SUM, [(1, 1), (1, 1), (1, 1)], Some((7, 7))),
 ];
 
-fn box_of(alloc: Global, bounds: &[(i32, i32)]) -> Result<IntBox, AllocError> {
-    let mut sides = Vec::new(alloc);
+// Puts intervals. Whether there was memory for them.
+fn put_sides(sides: &mut Vec<Interval>, bounds: &[(i32, i32)]) -> bool {
+    let mut so = true;
     for (low, high) in bounds {
-        sides.push(Interval {
+        let side = Interval {
             low: *low,
             high: *high,
-        })?;
+        };
+        so = so && sides.extend_from_slice(&[side]).is_ok();
     }
-    Ok(IntBox::from_vec(sides))
+    so
 }
 
 // What is left of the sides of the first row over a box.
@@ -59,14 +61,13 @@ fn rounds_so(alloc: Global, case: &Rounding) -> bool {
     let Ok(problem) = read(alloc, case.0, None) else {
         return false;
     };
-    let Ok(area) = box_of(alloc, &case.1) else {
-        drop(problem);
-        return false;
-    };
+    let mut sides = Vec::new(alloc);
+    let is_put = put_sides(&mut sides, &case.1);
+    let area = IntBox::from_vec(sides);
     let told = rounded_first(&problem, &area);
     drop(area);
     drop(problem);
-    is_left(told, &case.2)
+    is_put && is_left(told, &case.2)
 }
 
 #[test]

@@ -59,10 +59,10 @@ fn put_items(bytes: &mut Vec<u8>, list: &Listed, count: u32) -> bool {
 fn put_frame(bytes: &mut Vec<u8>, list: &Listed, each: u32, count: u32) -> bool {
     let long = list.long.wrapping_add(each.wrapping_mul(count));
     put(bytes, &long.to_be_bytes())
-        && put(bytes, &[list.tag])
-        && put(bytes, list.head)
-        && put(bytes, &count.to_be_bytes())
-        && put_items(bytes, list, count)
+        & put(bytes, &[list.tag])
+        & put(bytes, list.head)
+        & put(bytes, &count.to_be_bytes())
+        & put_items(bytes, list, count)
 }
 
 // The number at a place among those of the message that is read.

@@ -217,7 +217,7 @@ impl Side for Order {
     fn add(&self, numbers: &mut Vec<i128>) -> bool {
         match self {
             Order::Setup { gap, record } => {
-                add(numbers, &[1, *gap]) && add_bytes(numbers, record.as_slice())
+                add(numbers, &[1, *gap]) & add_bytes(numbers, record.as_slice())
             }
             Order::Work {
                 ticket,
@@ -227,13 +227,13 @@ impl Side for Order {
                 changes,
             } => {
                 add_ticket(numbers, 2, *ticket)
-                    && add(numbers, &[i128::from(params.number()), i128::from(*race)])
-                    && add_optional(numbers, *cutoff)
-                    && add_changes(numbers, changes)
+                    & add(numbers, &[i128::from(params.number()), i128::from(*race)])
+                    & add_optional(numbers, *cutoff)
+                    & add_changes(numbers, changes)
             }
             Order::Incumbent { cutoff } => add(numbers, &[3, *cutoff]),
             Order::CollectIn { ticket, count } => {
-                add_ticket(numbers, 4, *ticket) && add(numbers, &[i128::from(*count)])
+                add_ticket(numbers, 4, *ticket) & add(numbers, &[i128::from(*count)])
             }
             Order::CollectOut { ticket } => add_ticket(numbers, 5, *ticket),
             Order::Winner { ticket } => add_ticket(numbers, 6, *ticket),

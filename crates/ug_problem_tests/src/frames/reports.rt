@@ -153,7 +153,7 @@ impl Side for Report {
         match self {
             Report::Ready => add(numbers, &[17]),
             Report::Solution { ticket, point } => {
-                add_ticket(numbers, 18, *ticket) && add_point(numbers, point)
+                add_ticket(numbers, 18, *ticket) & add_point(numbers, point)
             }
             Report::Hand {
                 ticket,
@@ -161,14 +161,14 @@ impl Side for Report {
                 changes,
             } => {
                 add_ticket(numbers, 19, *ticket)
-                    && add(numbers, &[i128::from(*number)])
-                    && add_changes(numbers, changes)
+                    & add(numbers, &[i128::from(*number)])
+                    & add_changes(numbers, changes)
             }
             Report::State {
                 ticket,
                 open,
                 floor,
-            } => { add_ticket(numbers, 20, *ticket) && add(numbers, &[i128::from(*open), *floor]) }
+            } => { add_ticket(numbers, 20, *ticket) & add(numbers, &[i128::from(*open), *floor]) }
             Report::Done {
                 ticket,
                 cutoff,
@@ -176,8 +176,8 @@ impl Side for Report {
                 ..
             } => {
                 add_ticket(numbers, 21, *ticket)
-                    && add_optional(numbers, *cutoff)
-                    && add(numbers, &[i128::from(*count)])
+                    & add_optional(numbers, *cutoff)
+                    & add(numbers, &[i128::from(*count)])
             }
             Report::Ended => add(numbers, &[22]),
         }

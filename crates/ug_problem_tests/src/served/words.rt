@@ -69,15 +69,15 @@ fn put(body: &mut Vec<u8>, bytes: &[u8]) -> bool {
 // A tag, and the run and the number of a ticket.
 fn put_ticket(body: &mut Vec<u8>, tag: u8, ticket: Ticket) -> bool {
     put(body, &[tag])
-        && put(body, &ticket.run.to_be_bytes())
-        && put(body, &ticket.number.to_be_bytes())
+        & put(body, &ticket.run.to_be_bytes())
+        & put(body, &ticket.number.to_be_bytes())
 }
 
 // 0, or 1 and the number.
 fn put_optional(body: &mut Vec<u8>, number: Option<i128>) -> bool {
     match number {
         None => put(body, &[0]),
-        Some(number) => put(body, &[1]) && put(body, &number.to_be_bytes()),
+        Some(number) => put(body, &[1]) & put(body, &number.to_be_bytes()),
     }
 }
 
@@ -93,10 +93,9 @@ fn put_count(body: &mut Vec<u8>, count: usize) -> bool {
 fn put_changes(body: &mut Vec<u8>, changes: &[Change]) -> bool {
     let mut so = put_count(body, changes.len());
     for change in changes {
-        so = so
-            && put(body, &change.column.to_be_bytes())
-            && put(body, &change.low.to_be_bytes())
-            && put(body, &change.high.to_be_bytes());
+        so &= put(body, &change.column.to_be_bytes())
+            & put(body, &change.low.to_be_bytes())
+            & put(body, &change.high.to_be_bytes());
     }
     so
 }
@@ -105,7 +104,7 @@ fn put_changes(body: &mut Vec<u8>, changes: &[Change]) -> bool {
 fn put_point(body: &mut Vec<u8>, point: &[i32]) -> bool {
     let mut so = put_count(body, point.len());
     for value in point {
-        so = so && put(body, &value.to_be_bytes());
+        so &= put(body, &value.to_be_bytes());
     }
     so
 }
@@ -115,13 +114,13 @@ fn put_order(body: &mut Vec<u8>, order: &Ordered) -> bool {
     match order {
         Ordered::Work(work) => {
             put_ticket(body, 2, work.ticket)
-                && put(body, &[work.params, u8::from(work.race)])
-                && put_optional(body, work.cutoff)
-                && put_changes(body, work.changes)
+                & put(body, &[work.params, u8::from(work.race)])
+                & put_optional(body, work.cutoff)
+                & put_changes(body, work.changes)
         }
-        Ordered::Incumbent { cutoff } => put(body, &[3]) && put(body, &cutoff.to_be_bytes()),
+        Ordered::Incumbent { cutoff } => put(body, &[3]) & put(body, &cutoff.to_be_bytes()),
         Ordered::CollectIn { ticket, count } => {
-            put_ticket(body, 4, *ticket) && put(body, &count.to_be_bytes())
+            put_ticket(body, 4, *ticket) & put(body, &count.to_be_bytes())
         }
         Ordered::CollectOut { ticket } => put_ticket(body, 5, *ticket),
         Ordered::Winner { ticket } => put_ticket(body, 6, *ticket),
@@ -135,7 +134,7 @@ fn put_report(body: &mut Vec<u8>, report: &Reported) -> bool {
     match report {
         Reported::Ready => put(body, &[17]),
         Reported::Solution { ticket, point } => {
-            put_ticket(body, 18, *ticket) && put_point(body, point)
+            put_ticket(body, 18, *ticket) & put_point(body, point)
         }
         Reported::Hand {
             ticket,
@@ -143,8 +142,8 @@ fn put_report(body: &mut Vec<u8>, report: &Reported) -> bool {
             changes,
         } => {
             put_ticket(body, 19, *ticket)
-                && put(body, &number.to_be_bytes())
-                && put_changes(body, changes)
+                & put(body, &number.to_be_bytes())
+                & put_changes(body, changes)
         }
         Reported::State {
             ticket,
@@ -152,8 +151,8 @@ fn put_report(body: &mut Vec<u8>, report: &Reported) -> bool {
             floor,
         } => {
             put_ticket(body, 20, *ticket)
-                && put(body, &left.to_be_bytes())
-                && put(body, &floor.to_be_bytes())
+                & put(body, &left.to_be_bytes())
+                & put(body, &floor.to_be_bytes())
         }
         Reported::Done {
             ticket,
@@ -161,8 +160,8 @@ fn put_report(body: &mut Vec<u8>, report: &Reported) -> bool {
             count,
         } => {
             put_ticket(body, 21, *ticket)
-                && put_optional(body, *cutoff)
-                && put(body, &count.to_be_bytes())
+                & put_optional(body, *cutoff)
+                & put(body, &count.to_be_bytes())
         }
         Reported::Ended => put(body, &[22]),
     }
@@ -194,9 +193,9 @@ pub fn add_reports(alloc: Global, bytes: &mut Vec<u8>, reports: &[Reported]) -> 
 // The frame of a first order with this record.
 fn put_setup(frame: &mut Vec<u8>, gap: i128, record: &[u8]) -> bool {
     put_count(frame, record.len().saturating_add(17))
-        && put(frame, &[1])
-        && put(frame, &gap.to_be_bytes())
-        && put(frame, record)
+        & put(frame, &[1])
+        & put(frame, &gap.to_be_bytes())
+        & put(frame, record)
 }
 
 /// Adds the frame of the first order, of the problem of this text.
