@@ -3,14 +3,17 @@ use std::alloc::{AllocError, Global};
 use ug_rules::{Member, Wanted};
 use ug_stock::wanted;
 
-// Three members, of which these are collecting.
-fn members(collecting: [bool; 3]) -> [Member; 3] {
-    let member = |rank, open, floor, collecting| Member {
+fn member(rank: u32, open: u64, floor: i128, collecting: bool) -> Member {
+    Member {
         rank,
         open,
         floor,
         collecting,
-    };
+    }
+}
+
+// Three members, of which these are collecting.
+fn members(collecting: [bool; 3]) -> [Member; 3] {
     [
         member(0, 5, 7, collecting[0]),
         member(1, 9, 4, collecting[1]),

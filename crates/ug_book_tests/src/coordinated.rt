@@ -11,7 +11,7 @@ mod saved;
 use crate::coordinated::frames::{ALL, END, READY, SECOND, SETUP, WHOLE, WHOLE_AGAIN, WORK};
 use crate::expect::holds;
 use crate::problems::line;
-use std::alloc::{AllocError, Global};
+use std::alloc::Global;
 use std::sync::Wait;
 use ug_book::Opening;
 use ug_branch::Base;
@@ -198,65 +198,76 @@ pub fn way_of(end: &End) -> Way {
     }
 }
 
-// What was told to the rank.
-fn told_to(alloc: Global, exchanged: &[Exchange], rank: u32) -> Result<Vec<u8>, AllocError> {
-    let mut told = Vec::new(alloc);
+// The byte at a place of the problem and of what is told behind it; none where not even this is.
+fn byte_at(wanted: Option<&[u8]>, place: usize) -> Option<u8> {
+    let wanted = wanted?;
+    if place < SETUP.len() {
+        SETUP.get(place).copied()
+    } else {
+        wanted.get(place - SETUP.len()).copied()
+    }
+}
+
+// Whether that was told to the rank, behind the problem.
+fn is_told_so(exchanged: &[Exchange], rank: u32, wanted: Option<&[u8]>) -> bool {
+    let mut told = 0usize;
     for one in exchanged {
         if let Exchange::Told { rank: to, byte } = *one
             && to == rank
         {
-            told.push(byte)?;
+            if byte_at(wanted, told) != Some(byte) {
+                return false;
+            }
+            told = told.saturating_add(1);
         }
     }
-    Ok(told)
+    byte_at(wanted, told).is_none() && (wanted.is_none() || SETUP.len() <= told)
 }
 
-// Whether that was told to the rank, behind the problem.
-fn is_told_so(
-    alloc: Global,
-    exchanged: &[Exchange],
-    rank: u32,
-    wanted: Option<&[u8]>,
-) -> Result<bool, AllocError> {
-    let told = told_to(alloc, exchanged, rank)?;
-    let so = match wanted {
-        Some(wanted) => told.strip_prefix(SETUP) == Some(wanted),
-        None => told.is_empty(),
-    };
-    drop(told);
-    Ok(so)
+// Whether that was told to each rank.
+fn are_told_so(exchanged: &[Exchange], wanted: &[Option<&[u8]>]) -> bool {
+    let mut so = true;
+    let mut rank = 0u32;
+    for wanted in wanted {
+        so = so && is_told_so(exchanged, rank, *wanted);
+        rank = rank.saturating_add(1);
+    }
+    so
 }
 
-/// An empty disk, of which these calls fail.
-pub fn disk_of(alloc: Global, failing: &[u64]) -> Result<MemoryDisk, AllocError> {
+/// A disk on which nothing is.
+pub fn empty_disk(alloc: Global) -> MemoryDisk {
     let script = DiskScript {
-        failing: failing.to_vec(alloc)?,
+        failing: Vec::new(alloc),
         stopping: Vec::new(alloc),
     };
-    Ok(MemoryDisk::new(alloc, Vec::new(alloc), Vec::new(alloc), script))
+    MemoryDisk::new(alloc, Vec::new(alloc), Vec::new(alloc), script)
 }
 
 /// Whether the run ends so, and tells that.
-pub fn comes_so<R: Wait, O: Observer>(
-    rt: &R,
-    alloc: Global,
-    case: &Case,
-    observer: &O,
-) -> Result<bool, AllocError> {
+pub fn comes_so<R: Wait, O: Observer>(rt: &R, alloc: Global, case: &Case, observer: &O) -> bool {
     let count = case.told.len();
     if count == 0 || 256 < count {
-        return Ok(false);
+        return false;
     }
     let solvers = count as u32;
     let settings = settings(solvers, 1, case.limit);
-    let Ok(problem) = line(alloc) else {
-        return Err(AllocError);
+    let Ok(failing) = case.failing.to_vec(alloc) else {
+        return false;
     };
-    let problem = Shared::own(problem);
-    let opening = Opening::new(alloc, problem, 1, settings)?;
-    let mut disk = disk_of(alloc, &[])?;
-    let script = Script::new(case.failing.to_vec(alloc)?, case.most);
-    let crew = MemoryCrew::new(alloc, solvers, case.pieces, script)?;
+    let script = Script::new(failing, case.most);
+    let Ok(crew) = MemoryCrew::new(alloc, solvers, case.pieces, script) else {
+        return false;
+    };
+    let Some(problem) = line(alloc).ok() else {
+        drop(crew);
+        return false;
+    };
+    let Ok(opening) = Opening::new(alloc, Shared::own(problem), 1, settings) else {
+        drop(crew);
+        return false;
+    };
+    let mut disk = empty_disk(alloc);
     let host = Host {
         rt,
         alloc,
@@ -265,21 +276,15 @@ pub fn comes_so<R: Wait, O: Observer>(
     let Coordinated { crew, outcome } = coordinate(&host, &opening, None, &mut disk, crew);
     drop(opening);
     drop(disk);
-    let mut so = way_of(&outcome.end) == case.way;
+    let so = way_of(&outcome.end) == case.way && are_told_so(crew.exchanged(), case.told);
     drop(outcome);
-    for (rank, wanted) in case.told.iter().enumerate() {
-        so = is_told_so(alloc, crew.exchanged(), rank as u32, *wanted)? && so;
-    }
     drop(crew);
-    Ok(so)
+    so
 }
 
 #[test]
 fn crews_are_told_byte_for_byte(rt: HostRuntime) {
     for case in CASES {
-        holds(
-            &rt,
-            comes_so(&rt, rt.alloc(), case, &Unobserved).is_ok_and(|so| so),
-        );
+        holds(&rt, comes_so(&rt, rt.alloc(), case, &Unobserved));
     }
 }

@@ -10,6 +10,7 @@ use ug_base::{Step, Task};
 use ug_book::{Answered, Book, Opening};
 use ug_branch::Base;
 use ug_desk::{Desk, Pass};
+use ug_image::SavedNode;
 use ug_nodes::Ticket;
 use ug_problem::Shared;
 use ug_rows::{Interval, Point};
@@ -139,18 +140,6 @@ fn box_is_work<R: Wait>(rt: &R, desk: &Desk, passes: &mut [Pass]) -> bool {
     }
 }
 
-#[test]
-fn box_handed_is_the_work_of_the_pass_that_waited(rt: HostRuntime) {
-    match open(rt.alloc()) {
-        Some((desk, mut passes)) => {
-            holds(&rt, box_is_work(&rt, &desk, &mut passes));
-            drop(passes);
-            drop(desk);
-        }
-        None => panic!(rt; "no memory"),
-    }
-}
-
 // The point (0, 5).
 fn least(alloc: Global) -> Option<Point> {
     Some(Point::from_vec(Vec::from_slice(alloc, &[0, 5]).ok()?))
@@ -241,20 +230,6 @@ fn is_over_with_the_root<R: Wait>(rt: &R, alloc: Global, desk: &Desk, passes: &m
     }
 }
 
-#[test]
-fn desk_is_over_where_the_root_is_done(rt: HostRuntime) {
-    match open(rt.alloc()) {
-        Some((desk, mut passes)) => {
-            holds(
-                &rt,
-                is_over_with_the_root(&rt, rt.alloc(), &desk, &mut passes),
-            );
-            holds(&rt, closes_with_least(desk, passes));
-        }
-        None => panic!(rt; "no memory"),
-    }
-}
-
 // Gives all boxes of a task.
 fn give_all<R: Wait>(
     rt: &R,
@@ -273,15 +248,22 @@ fn give_all<R: Wait>(
     }
 }
 
+// Whether the hand numbers of these nodes are those from 0 on.
+fn are_first_hands(nodes: &[SavedNode]) -> bool {
+    for (at, node) in nodes.iter().enumerate() {
+        if node.name.hand != at as u64 {
+            return false;
+        }
+    }
+    true
+}
+
 // How many nodes are saved now, if they are the first hands of their tickets, or the root alone.
 fn saved<R: Wait>(rt: &R, desk: &Desk, pass: &mut Pass) -> Option<usize> {
     let image = desk.snapshot(rt, pass).ok()?.into_image();
     let nodes = image.nodes.as_slice();
     let count = nodes.len();
-    let is_so = nodes
-        .iter()
-        .enumerate()
-        .all(|(at, node)| node.name.hand == at as u64);
+    let is_so = are_first_hands(nodes);
     drop(image);
     if is_so { Some(count) } else { None }
 }
@@ -297,8 +279,12 @@ fn gives_all<R: Wait>(rt: &R, desk: &Desk, pass: &mut Pass, mut task: Task) -> b
     }
 }
 
-// Whether the root is what is saved of a task of three boxes, and its boxes once they were given.
-fn boxes_are_saved<R: Wait>(rt: &R, desk: &Desk, pass: &mut Pass) -> bool {
+// Whether the root is what is saved of a task of three boxes, and its boxes once they were given,
+// of the first of two passes.
+fn boxes_are_saved<R: Wait>(rt: &R, desk: &Desk, passes: &mut [Pass]) -> bool {
+    let [pass, _] = passes else {
+        return false;
+    };
     match work(rt, desk, pass) {
         Some(mut task) => {
             let halved = splits(&mut task) && splits(&mut task);
@@ -307,21 +293,6 @@ fn boxes_are_saved<R: Wait>(rt: &R, desk: &Desk, pass: &mut Pass) -> bool {
             halved && before == Some(1) && given && saved(rt, desk, pass) == Some(3)
         }
         None => false,
-    }
-}
-
-#[test]
-fn boxes_given_are_saved_in_place_of_the_node(rt: HostRuntime) {
-    match open(rt.alloc()) {
-        Some((desk, mut passes)) => {
-            match passes.as_mut_slice() {
-                [first, _] => holds(&rt, boxes_are_saved(&rt, &desk, first)),
-                _ => holds(&rt, false),
-            }
-            drop(passes);
-            drop(desk);
-        }
-        None => panic!(rt; "no memory"),
     }
 }
 
@@ -386,13 +357,47 @@ fn solve_both<R: Threads + Wait + Sync>(rt: &R, desk: &Desk, passes: &mut [Pass]
     }
 }
 
+/// What is looked at in a desk.
+#[derive(Clone, Copy)]
+enum Looked {
+    BoxIsWork,
+    OverWithTheRoot,
+    BoxesAreSaved,
+    Threads,
+}
+
+// Whether that is so of a desk that is opened; and where it is over behind that, it closes with the
+// least point.
+fn is_so<R: Threads + Wait + Sync>(rt: &R, alloc: Global, looked: Looked) -> bool {
+    let Some((desk, mut passes)) = open(alloc) else {
+        return false;
+    };
+    let (is_so, is_over) = match looked {
+        Looked::BoxIsWork => (box_is_work(rt, &desk, &mut passes), false),
+        Looked::OverWithTheRoot => (is_over_with_the_root(rt, alloc, &desk, &mut passes), true),
+        Looked::BoxesAreSaved => (boxes_are_saved(rt, &desk, &mut passes), false),
+        Looked::Threads => (solve_both(rt, &desk, &mut passes), true),
+    };
+    let has_least = closes_with_least(desk, passes);
+    is_so && has_least == is_over
+}
+
+#[test]
+fn box_handed_is_the_work_of_the_pass_that_waited(rt: HostRuntime) {
+    holds(&rt, is_so(&rt, rt.alloc(), Looked::BoxIsWork));
+}
+
+#[test]
+fn desk_is_over_where_the_root_is_done(rt: HostRuntime) {
+    holds(&rt, is_so(&rt, rt.alloc(), Looked::OverWithTheRoot));
+}
+
+#[test]
+fn boxes_given_are_saved_in_place_of_the_node(rt: HostRuntime) {
+    holds(&rt, is_so(&rt, rt.alloc(), Looked::BoxesAreSaved));
+}
+
 #[test]
 fn two_threads_share_a_desk(rt: HostRuntime) {
-    match open(rt.alloc()) {
-        Some((desk, mut passes)) => {
-            holds(&rt, solve_both(&rt, &desk, &mut passes));
-            holds(&rt, closes_with_least(desk, passes));
-        }
-        None => panic!(rt; "no memory"),
-    }
+    holds(&rt, is_so(&rt, rt.alloc(), Looked::Threads));
 }

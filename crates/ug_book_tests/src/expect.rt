@@ -18,3 +18,10 @@ pub fn holds(rt: &impl Abort, condition: bool)
 {
     assert!(rt; condition);
 }
+
+/// As `holds`, and names the case.
+pub fn holds_at(rt: &impl Abort, condition: bool, case: &impl Debug)
+    ensures { condition ≡ true }
+{
+    assert!(rt; condition, "{case:?}");
+}

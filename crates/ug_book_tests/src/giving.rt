@@ -11,21 +11,33 @@ use ug_pool::{OpenNodes, Pool};
 use ug_ranks::Ranks;
 use ug_stock::{Queue, Stock, Terms};
 
-fn put(alloc: Global, pool: &mut Pool, hand: u64, floor: i128) -> Result<(), AllocError> {
+// Puts a node. Whether there was memory for it, as of each call here.
+fn put(alloc: Global, pool: &mut Pool, hand: u64, floor: i128) -> bool {
     let ticket = Ticket { run: 1, number: 0 };
-    let line = Line::start(alloc, Name { ticket, hand })?;
+    let Ok(line) = Line::start(alloc, Name { ticket, hand }) else {
+        return false;
+    };
     let changes = Changes::new(Vec::new(alloc));
-    pool.reserve(1)?;
-    pool.put(Node { line, changes }, floor);
-    Ok(())
+    let node = Node { line, changes };
+    match pool.reserve(1) {
+        Ok(()) => {
+            pool.put(node, floor);
+            true
+        }
+        Err(_) => {
+            drop(node);
+            false
+        }
+    }
 }
 
 // Puts a node for each of these floors, named by hand numbers from 0 on.
-fn put_each(alloc: Global, pool: &mut Pool, floors: &[i128]) -> Result<(), AllocError> {
+fn put_each(alloc: Global, pool: &mut Pool, floors: &[i128]) -> bool {
+    let mut so = true;
     for (hand, floor) in floors.iter().enumerate() {
-        put(alloc, pool, hand as u64, *floor)?;
+        so = so && put(alloc, pool, hand as u64, *floor);
     }
-    Ok(())
+    so
 }
 
 // The number of a ticket, that of the params, and whether it races, where work is told.
@@ -79,7 +91,7 @@ struct Given {
 fn give_each(rt: &impl Abort, alloc: Global, terms: Terms, floors: &[i128], last: u64) -> Given {
     let ranks = two_idle(alloc).expect(rt, "memory");
     let mut pool = Pool::new(alloc);
-    holds(rt, put_each(alloc, &mut pool, floors).is_ok());
+    holds(rt, put_each(alloc, &mut pool, floors));
     let mut stock = Stock {
         pool,
         ranks,
@@ -101,38 +113,84 @@ fn terms(racing: bool, cutoff: Option<i128>) -> Terms {
     }
 }
 
+/// What is given out: whether there is a race, under which cutoff, nodes with which floors, and
+/// after which ticket number; in how many steps, the last ticket number then, how many nodes are
+/// left, whether one is raced for, and what is told first.
+#[derive(Clone, Copy)]
+struct Giving {
+    racing: bool,
+    cutoff: Option<i128>,
+    floors: &'static [i128],
+    last: u64,
+    steps: u64,
+    now: u64,
+    left: usize,
+    is_raced: bool,
+    told: [Option<Told>; 3],
+}
+
+const TO_THE_LOWEST: Giving = Giving {
+    racing: false,
+    cutoff: Some(9),
+    floors: &[5, 3, 4],
+    last: 6,
+    steps: 2,
+    now: 8,
+    left: 1,
+    is_raced: false,
+    told: [Some((0, 7, 0, false)), Some((1, 8, 0, false)), None],
+};
+
+const SPENT: Giving = Giving {
+    racing: false,
+    cutoff: None,
+    floors: &[5],
+    last: u64::MAX,
+    steps: 0,
+    now: u64::MAX,
+    left: 1,
+    is_raced: false,
+    told: [None, None, None],
+};
+
+const RACE: Giving = Giving {
+    racing: true,
+    cutoff: None,
+    floors: &[5],
+    last: 0,
+    steps: 1,
+    now: 2,
+    left: 0,
+    is_raced: true,
+    told: [Some((0, 1, 0, true)), Some((1, 2, 1, true)), None],
+};
+
+// Expects that it is given out so.
+fn is_given_so(rt: &impl Abort, alloc: Global, giving: &Giving) {
+    let terms = terms(giving.racing, giving.cutoff);
+    let mut given = give_each(rt, alloc, terms, giving.floors, giving.last);
+    same(rt, &given.steps, &Some(giving.steps));
+    let stock = &given.stock;
+    holds(
+        rt,
+        stock.last == giving.now && stock.pool.len() == giving.left,
+    );
+    holds(rt, stock.raced.is_some() == giving.is_raced);
+    same(rt, &told_first(&mut given.stock.orders), &giving.told);
+    drop(given);
+}
+
 #[test]
 fn gives_the_least_nodes_to_the_lowest_ranks(rt: HostRuntime) {
-    let mut given = give_each(&rt, rt.alloc(), terms(false, Some(9)), &[5, 3, 4], 6);
-    same(&rt, &given.steps, &Some(2));
-    holds(&rt, given.stock.last == 8 && given.stock.pool.len() == 1);
-    let wanted = [Some((0, 7, 0, false)), Some((1, 8, 0, false)), None];
-    same(&rt, &told_first(&mut given.stock.orders), &wanted);
-    drop(given);
+    is_given_so(&rt, rt.alloc(), &TO_THE_LOWEST);
 }
 
 #[test]
 fn gives_nothing_where_ticket_numbers_are_spent(rt: HostRuntime) {
-    let mut given = give_each(&rt, rt.alloc(), terms(false, None), &[5], u64::MAX);
-    same(&rt, &given.steps, &Some(0));
-    holds(
-        &rt,
-        given.stock.last == u64::MAX && given.stock.pool.len() == 1,
-    );
-    same(&rt, &next(&mut given.stock.orders), &None);
-    drop(given);
+    is_given_so(&rt, rt.alloc(), &SPENT);
 }
 
 #[test]
 fn begins_a_race(rt: HostRuntime) {
-    let mut given = give_each(&rt, rt.alloc(), terms(true, None), &[5], 0);
-    same(&rt, &given.steps, &Some(1));
-    let stock = &given.stock;
-    holds(
-        &rt,
-        stock.last == 2 && stock.pool.len() == 0 && stock.raced.is_some(),
-    );
-    let wanted = [Some((0, 1, 0, true)), Some((1, 2, 1, true)), None];
-    same(&rt, &told_first(&mut given.stock.orders), &wanted);
-    drop(given);
+    is_given_so(&rt, rt.alloc(), &RACE);
 }

@@ -3,6 +3,7 @@ ghost use Rattle.ug_stock.specs.Stocks.{HasRoom};
 
 use crate::expect::{holds, same};
 use std::alloc::{AllocError, Global};
+use std::process::Abort;
 use ug_branch::Params;
 use ug_frames::Order;
 use ug_nodes::{Changes, Line, Name, Node, Ticket};
@@ -59,11 +60,21 @@ fn pool(alloc: Global, nodes: u32) -> Result<Pool, AllocError>
 {
     let mut pool = Pool::new(alloc);
     for _ in 0..nodes {
-        let node = node(alloc)?;
-        pool.reserve(1)?;
+        let Ok(node) = node(alloc) else {
+            drop(pool);
+            return Err(AllocError);
+        };
+        let Ok(()) = pool.reserve(1) else {
+            drop(node);
+            drop(pool);
+            return Err(AllocError);
+        };
         pool.put(node, 0);
     }
-    pool.reserve(1)?;
+    let Ok(()) = pool.reserve(1) else {
+        drop(pool);
+        return Err(AllocError);
+    };
     Ok(pool)
 }
 
@@ -71,21 +82,33 @@ fn pool(alloc: Global, nodes: u32) -> Result<Pool, AllocError>
 fn at_work(alloc: Global, asked: u32, nodes: u32) -> Result<Stock, AllocError>
     ensures { IfOk result HasRoom }
 {
-    let pool = pool(alloc, nodes)?;
-    let mut orders = Queue::new(alloc);
-    orders.reserve(1)?;
-    let mut ranks = Ranks::new(alloc, 2)?;
+    let node = node(alloc)?;
+    let Ok(mut ranks) = Ranks::new(alloc, 2) else {
+        drop(node);
+        return Err(AllocError);
+    };
     ranks.idle(1);
     let ticket = Ticket { run: 1, number: 5 };
     let given = Assignment {
         ticket,
-        node: node(alloc)?,
+        node,
         floor: -3,
         params: Params::new(0),
     };
     ranks.give(1, given);
     ranks.note(1, 4, -2);
     ranks.ask(1, asked);
+    let Ok(pool) = pool(alloc, nodes) else {
+        drop(ranks);
+        return Err(AllocError);
+    };
+    let mut orders = Queue::new(alloc);
+    let Ok(()) = orders.reserve(1) else {
+        drop(ranks);
+        drop(pool);
+        drop(orders);
+        return Err(AllocError);
+    };
     Ok(Stock {
         pool,
         ranks,
@@ -96,20 +119,22 @@ fn at_work(alloc: Global, asked: u32, nodes: u32) -> Result<Stock, AllocError>
     })
 }
 
+// What is told next where a rank that works is asked for so many hands, and the pool has so many
+// nodes, of which there are to be 2 to 3.
+fn told_of(rt: &impl Abort, alloc: Global, asked: u32, nodes: u32) -> Option<(u32, u8, i128)> {
+    let mut stock = at_work(alloc, asked, nodes).expect(rt, "memory");
+    holds(rt, stock.collect(alloc, 2, 3).is_ok());
+    let told = next(&mut stock.orders);
+    drop(stock);
+    told
+}
+
 #[test]
 fn asks_a_rank_that_works_for_more(rt: HostRuntime) {
-    let alloc = rt.alloc();
-    let mut stock = at_work(alloc, 0, 1).expect(&rt, "memory");
-    holds(&rt, stock.collect(alloc, 2, 3).is_ok());
-    same(&rt, &next(&mut stock.orders), &Some((1, b'i', 2)));
-    drop(stock);
+    same(&rt, &told_of(&rt, rt.alloc(), 0, 1), &Some((1, b'i', 2)));
 }
 
 #[test]
 fn asks_it_no_more_where_there_are_enough(rt: HostRuntime) {
-    let alloc = rt.alloc();
-    let mut stock = at_work(alloc, 2, 3).expect(&rt, "memory");
-    holds(&rt, stock.collect(alloc, 2, 3).is_ok());
-    same(&rt, &next(&mut stock.orders), &Some((1, b'o', 0)));
-    drop(stock);
+    same(&rt, &told_of(&rt, rt.alloc(), 2, 3), &Some((1, b'o', 0)));
 }

@@ -1,9 +1,9 @@
 ghost use Rattle.std.specs.Prelude.{◌≡◌, ◌<◌};
 
 use crate::expect::{holds, same};
-use std::alloc::{AllocError, Global};
+use std::alloc::Global;
 use ug_nodes::{Changes, Line, Name, Node, Ticket};
-use ug_pool::{OpenNodes, PlainPool, Pool};
+use ug_pool::{Entry, OpenNodes, PlainPool, Pool};
 
 fn name(number: u64, hand: u64) -> Name {
     let ticket = Ticket { run: 1, number };
@@ -11,19 +11,24 @@ fn name(number: u64, hand: u64) -> Name {
 }
 
 // The line of the starting node of this hand number.
-fn start(alloc: Global, hand: u64) -> Result<Line, AllocError> {
-    Line::start(alloc, name(1, hand))
+fn start(alloc: Global, hand: u64) -> Option<Line> {
+    Line::start(alloc, name(1, hand)).ok()
 }
 
-fn node_of(alloc: Global, line: Line) -> Node {
-    let changes = Changes::new(Vec::new(alloc));
-    Node { line, changes }
+// The line of this name below another.
+fn child(alloc: Global, line: Line, name: Name) -> Option<Line> {
+    let child = line.child(alloc, name);
+    drop(line);
+    child.ok()
 }
 
-// A node with this hand number in its name, below the starting node of its last digit.
-fn node(alloc: Global, hand: u64) -> Result<Node, AllocError> {
-    let line = start(alloc, hand % 10)?.child(alloc, name(2, hand))?;
-    Ok(node_of(alloc, line))
+// The line of the node of these names, which stands below the starting node of this hand number.
+fn line_of(alloc: Global, first: u64, names: &[(u64, u64)]) -> Option<Line> {
+    let mut line = start(alloc, first)?;
+    for (number, hand) in names {
+        line = child(alloc, line, name(*number, *hand))?;
+    }
+    Some(line)
 }
 
 fn hand(node: Option<Node>) -> Option<u64> {
@@ -33,33 +38,44 @@ fn hand(node: Option<Node>) -> Option<u64> {
     Some(hand)
 }
 
-fn put<P: OpenNodes>(
-    alloc: Global,
-    pool: &mut P,
-    hand: u64,
-    floor: i128,
-) -> Result<(), AllocError> {
-    pool.reserve(1)?;
-    pool.put(node(alloc, hand)?, floor);
-    Ok(())
+// Puts a node of this line. Whether there was memory for it, as of each call here.
+fn put_line<P: OpenNodes>(alloc: Global, pool: &mut P, line: Option<Line>, floor: i128) -> bool {
+    let Some(line) = line else {
+        return false;
+    };
+    let changes = Changes::new(Vec::new(alloc));
+    let node = Node { line, changes };
+    match pool.reserve(1) {
+        Ok(()) => {
+            pool.put(node, floor);
+            true
+        }
+        Err(_) => {
+            drop(node);
+            false
+        }
+    }
+}
+
+// Puts a node with this hand number in its name, below the starting node of its last digit.
+fn put<P: OpenNodes>(alloc: Global, pool: &mut P, hand: u64, floor: i128) -> bool {
+    put_line(alloc, pool, line_of(alloc, hand % 10, &[(2, hand)]), floor)
 }
 
 // Puts nodes of these hand numbers and floors.
-fn put_each(alloc: Global, pool: &mut Pool, nodes: &[(u64, i128)]) -> Result<(), AllocError> {
+fn put_each(alloc: Global, pool: &mut Pool, nodes: &[(u64, i128)]) -> bool {
+    let mut so = true;
     for (hand, floor) in nodes {
-        put(alloc, pool, *hand, *floor)?;
+        so = so && put(alloc, pool, *hand, *floor);
     }
-    Ok(())
+    so
 }
 
 #[test]
 fn takes_the_least_name_of_the_least_floor(rt: HostRuntime) {
     let alloc = rt.alloc();
     let mut pool = Pool::new(alloc);
-    holds(
-        &rt,
-        put_each(alloc, &mut pool, &[(1, 4), (3, 2), (2, 2)]).is_ok(),
-    );
+    holds(&rt, put_each(alloc, &mut pool, &[(1, 4), (3, 2), (2, 2)]));
     same(&rt, &hand(pool.take_least()), &Some(2));
     pool.drop_from(4);
     same(&rt, &pool.len(), &1);
@@ -67,15 +83,6 @@ fn takes_the_least_name_of_the_least_floor(rt: HostRuntime) {
     same(&rt, &last, &[Some(3), None]);
     same(&rt, &pool.spare(), &3);
     drop(pool);
-}
-
-// The line of the node of these names, which stands below the starting node of this hand number.
-fn line_of(alloc: Global, first: u64, names: &[(u64, u64)]) -> Result<Line, AllocError> {
-    let mut line = start(alloc, first)?;
-    for (number, hand) in names {
-        line = line.child(alloc, name(*number, *hand))?;
-    }
-    Ok(line)
 }
 
 // A starting node with two nodes below it, one of which has one below it, and another.
@@ -87,27 +94,34 @@ const LINES: &[(u64, &[(u64, u64)])] = &[
     (1, &[]),
 ];
 
-fn put_all(alloc: Global, pool: &mut Pool) -> Result<(), AllocError> {
+fn put_all(alloc: Global, pool: &mut Pool) -> bool {
+    let mut so = true;
     for (first, names) in LINES {
-        pool.reserve(1)?;
-        pool.put(node_of(alloc, line_of(alloc, *first, names)?), 0);
+        so = so && put_line(alloc, pool, line_of(alloc, *first, names), 0);
     }
-    Ok(())
+    so
+}
+
+// Whether an entry is of the node of this name.
+fn is_named(entry: Option<&Entry>, number: u64, hand: u64) -> bool {
+    match entry {
+        Some(entry) => entry.node.line.name() == name(number, hand),
+        None => false,
+    }
 }
 
 // Whether the pool has the nodes of these names, in this order.
 fn has(pool: &Pool, names: &[(u64, u64)]) -> bool {
     let mut same = pool.len() == names.len();
     for (k, (number, hand)) in names.iter().enumerate() {
-        let entry = pool.get(k);
-        same = same && entry.is_some_and(|entry| entry.node.line.name() == name(*number, *hand));
+        same = same && is_named(pool.get(k), *number, *hand);
     }
     same
 }
 
 // Drops what stands below the node of a line. Whether there was memory for the line.
 fn drop_below(alloc: Global, pool: &mut Pool, first: u64, names: &[(u64, u64)]) -> bool {
-    let Ok(line) = line_of(alloc, first, names) else {
+    let Some(line) = line_of(alloc, first, names) else {
         return false;
     };
     pool.drop_below(&line);
@@ -134,7 +148,7 @@ fn drops_to(
 fn drops_what_stands_below_a_node(rt: HostRuntime) {
     let alloc = rt.alloc();
     let mut pool = Pool::new(alloc);
-    holds(&rt, put_all(alloc, &mut pool).is_ok());
+    holds(&rt, put_all(alloc, &mut pool));
     same(&rt, &first_floor(&pool), &Some(0));
     holds(&rt, has(&pool, &[(1, 0), (1, 1), (1, 2), (1, 3), (2, 0)]));
     let left = [(1, 0), (1, 1), (1, 2), (1, 3)];
@@ -150,28 +164,15 @@ fn next(state: u64) -> u64 {
         .wrapping_add(1442695040888963407)
 }
 
-fn put_both(
-    alloc: Global,
-    pool: &mut Pool,
-    plain: &mut PlainPool,
-    hand: u64,
-    floor: i128,
-) -> Result<(), AllocError> {
-    put(alloc, pool, hand, floor)?;
-    put(alloc, plain, hand, floor)
-}
-
-fn drop_below_both(
-    alloc: Global,
-    pool: &mut Pool,
-    plain: &mut PlainPool,
-    hand: u64,
-) -> Result<(), AllocError> {
-    let line = start(alloc, hand)?;
+// Drops what stands below a starting node.
+fn drop_below_both(alloc: Global, pool: &mut Pool, plain: &mut PlainPool, hand: u64) -> bool {
+    let Some(line) = start(alloc, hand) else {
+        return false;
+    };
     pool.drop_below(&line);
     plain.drop_below(&line);
     drop(line);
-    Ok(())
+    true
 }
 
 fn take_both(pool: &mut Pool, plain: &mut PlainPool) -> bool {
@@ -188,55 +189,49 @@ fn are_as_long(pool: &Pool, plain: &PlainPool) -> bool {
 }
 
 // One operation on both pools, and whether they answered alike.
-fn step(
-    alloc: Global,
-    pool: &mut Pool,
-    plain: &mut PlainPool,
-    draw: u64,
-) -> Result<bool, AllocError> {
+fn step(alloc: Global, pool: &mut Pool, plain: &mut PlainPool, draw: u64) -> bool {
     let floor = i128::from(draw / 64 % 100);
-    let mut alike = true;
-    match draw % 64 {
-        0..=39 => {
-            put_both(alloc, pool, plain, draw / 8192 % 1000, floor)?;
+    let hand = draw / 8192;
+    let alike = match draw % 64 {
+        0..=39 => put(alloc, pool, hand % 1000, floor) && put(alloc, plain, hand % 1000, floor),
+        40..=61 => take_both(pool, plain),
+        62 => drop_below_both(alloc, pool, plain, hand % 10),
+        _ => {
+            drop_from_both(pool, plain, 20 + floor);
+            true
         }
-        40..=61 => alike = take_both(pool, plain),
-        62 => drop_below_both(alloc, pool, plain, draw / 8192 % 10)?,
-        _ => drop_from_both(pool, plain, 20 + floor),
-    }
-    Ok(alike && are_as_long(pool, plain))
+    };
+    alike && are_as_long(pool, plain)
 }
 
 // Whether they answer many operations alike.
-fn are_alike(alloc: Global, pool: &mut Pool, plain: &mut PlainPool) -> Result<bool, AllocError> {
+fn are_alike(alloc: Global, pool: &mut Pool, plain: &mut PlainPool) -> bool {
     let mut state = 1;
     for _ in 0..5000 {
         state = next(state);
-        if !step(alloc, pool, plain, state >> 16)? {
-            return Ok(false);
+        if !step(alloc, pool, plain, state >> 16) {
+            return false;
         }
     }
-    Ok(true)
+    true
 }
 
 #[test]
 fn answers_as_the_plain_pool(rt: HostRuntime) {
     let mut pool = Pool::new(rt.alloc());
     let mut plain = PlainPool::new(rt.alloc());
-    holds(
-        &rt,
-        are_alike(rt.alloc(), &mut pool, &mut plain) == Ok(true),
-    );
+    holds(&rt, are_alike(rt.alloc(), &mut pool, &mut plain));
     drop(pool);
     drop(plain);
 }
 
 // The floors of twenty thousand nodes are all different, and not in the order of their names.
-fn put_many(alloc: Global, pool: &mut Pool) -> Result<(), AllocError> {
+fn put_many(alloc: Global, pool: &mut Pool) -> bool {
+    let mut so = true;
     for hand in 0..20_000 {
-        put(alloc, pool, hand, i128::from(hand * 7_919 % 20_000))?;
+        so = so && put(alloc, pool, hand, i128::from(hand * 7_919 % 20_000));
     }
-    Ok(())
+    so
 }
 
 // Whether the node that is taken next has this floor.
@@ -259,7 +254,7 @@ fn are_in_order(pool: &mut Pool) -> bool {
 #[test]
 fn holds_twenty_thousand_nodes(rt: HostRuntime) {
     let mut pool = Pool::new(rt.alloc());
-    holds(&rt, put_many(rt.alloc(), &mut pool).is_ok());
+    holds(&rt, put_many(rt.alloc(), &mut pool));
     holds(&rt, are_in_order(&mut pool));
     drop(pool);
 }

@@ -1,5 +1,5 @@
-use crate::expect::{holds, same};
-use std::alloc::{AllocError, Global};
+use crate::expect::holds;
+use std::alloc::Global;
 use ug_nodes::{Changes, Line, Name, Node, Ticket, is_ancestor, primitive};
 
 fn name(number: u64, hand: u64) -> Name {
@@ -12,72 +12,76 @@ fn node_of(alloc: Global, line: Line) -> Node {
     Node { line, changes }
 }
 
-fn hands_of(alloc: Global, nodes: &[&Node]) -> Result<Vec<u64>, AllocError> {
-    nodes
-        .iter()
-        .map(|node| node.line.name().hand)
-        .collect(alloc)
-}
-
-// The hand numbers of the primitive nodes, in their order.
-fn hands(alloc: Global, nodes: &[&Node]) -> Result<Vec<u64>, AllocError> {
-    let found = primitive(alloc, nodes)?;
-    let hands = hands_of(alloc, &found);
-    drop(found);
-    hands
-}
-
-fn push_child(
-    alloc: Global,
-    nodes: &mut Vec<Node>,
-    above: usize,
-    name: Name,
-) -> Result<(), AllocError> {
-    if let Some(node) = nodes.get(above) {
-        let line = node.line.child(alloc, name)?;
-        nodes.push(node_of(alloc, line))?;
+// Puts the hand numbers of nodes. Whether there was memory for them, as of each call here.
+fn put_hands(hands: &mut Vec<u64>, nodes: &[&Node]) -> bool {
+    let mut so = true;
+    for node in nodes {
+        so = so && hands.extend_from_slice(&[node.line.name().hand]).is_ok();
     }
-    Ok(())
+    so
 }
 
-fn push_start(alloc: Global, nodes: &mut Vec<Node>, name: Name) -> Result<(), AllocError> {
-    let line = Line::start(alloc, name)?;
-    nodes.push(node_of(alloc, line))?;
-    Ok(())
+// Whether these are the hand numbers of the primitive nodes, in their order.
+fn are_hands(alloc: Global, nodes: &[&Node], wanted: &[u64]) -> bool {
+    let Ok(found) = primitive(alloc, nodes) else {
+        return false;
+    };
+    let mut hands = Vec::new(alloc);
+    let is_so = put_hands(&mut hands, &found) && hands.as_slice() == wanted;
+    drop(hands);
+    drop(found);
+    is_so
+}
+
+// Puts a node of this line.
+fn push_line(alloc: Global, nodes: &mut Vec<Node>, line: Line) -> bool {
+    let pushed = nodes.push(node_of(alloc, line));
+    let is_so = pushed.is_ok();
+    drop(pushed);
+    is_so
+}
+
+// Puts a node of this name, below the one at this place, or a starting node.
+fn push(alloc: Global, nodes: &mut Vec<Node>, above: Option<usize>, name: Name) -> bool {
+    let line = match above {
+        Some(above) => match nodes.get(above) {
+            Some(node) => node.line.child(alloc, name),
+            None => return false,
+        },
+        None => Line::start(alloc, name),
+    };
+    match line {
+        Ok(line) => push_line(alloc, nodes, line),
+        Err(_) => false,
+    }
 }
 
 // Puts a starting node, one below it and one below that, and another starting node.
-fn put_family(alloc: Global, nodes: &mut Vec<Node>) -> Result<(), AllocError> {
-    push_start(alloc, nodes, name(0, 1))?;
-    push_child(alloc, nodes, 0, name(1, 2))?;
-    push_child(alloc, nodes, 1, name(2, 3))?;
-    push_start(alloc, nodes, name(0, 4))
+fn put_family(alloc: Global, nodes: &mut Vec<Node>) -> bool {
+    push(alloc, nodes, None, name(0, 1))
+        && push(alloc, nodes, Some(0), name(1, 2))
+        && push(alloc, nodes, Some(1), name(2, 3))
+        && push(alloc, nodes, None, name(0, 4))
 }
 
-// The nodes at these places.
-fn held_at<'a>(
-    alloc: Global,
-    nodes: &'a [Node],
-    places: &[usize],
-) -> Result<Vec<&'a Node>, AllocError> {
-    let mut held = Vec::new(alloc);
+// Puts the nodes at these places.
+fn put_held<'a>(held: &mut Vec<&'a Node>, nodes: &'a [Node], places: &[usize]) -> bool {
+    let mut so = true;
     for place in places {
-        if let Some(node) = nodes.get(*place) {
-            held.push(node)?;
-        }
+        so = match nodes.get(*place) {
+            Some(node) => so && held.extend_from_slice(&[node]).is_ok(),
+            None => false,
+        };
     }
-    Ok(held)
+    so
 }
 
 // Whether these are the hand numbers of the primitive ones among the nodes at these places.
-fn keeps(alloc: Global, nodes: &[Node], places: &[usize], wanted: &[u64]) -> Option<bool> {
-    let held = held_at(alloc, nodes, places).ok()?;
-    let kept = hands(alloc, &held);
+fn keeps(alloc: Global, nodes: &[Node], places: &[usize], wanted: &[u64]) -> bool {
+    let mut held = Vec::new(alloc);
+    let is_so = put_held(&mut held, nodes, places) && are_hands(alloc, &held, wanted);
     drop(held);
-    let kept = kept.ok()?;
-    let is_so = kept.as_slice() == wanted;
-    drop(kept);
-    Some(is_so)
+    is_so
 }
 
 // Places of the family, and the hand numbers of the primitive ones among the nodes there.
@@ -91,91 +95,81 @@ const KEPT: &[(&[usize], &[u64])] = &[
 #[test]
 fn keeps_what_has_no_ancestor(rt: HostRuntime) {
     let mut nodes = Vec::new(rt.alloc());
-    holds(&rt, put_family(rt.alloc(), &mut nodes).is_ok());
+    holds(&rt, put_family(rt.alloc(), &mut nodes));
     for (places, hands) in KEPT {
-        same(&rt, &keeps(rt.alloc(), &nodes, places, hands), &Some(true));
+        holds(&rt, keeps(rt.alloc(), &nodes, places, hands));
     }
     drop(nodes);
 }
 
 // Puts nodes of these hand numbers, each a starting node or below one before it.
-fn put_tree(alloc: Global, nodes: &mut Vec<Node>, count: u64) -> Result<(), AllocError> {
+fn put_tree(alloc: Global, nodes: &mut Vec<Node>, count: u64) -> bool {
     let mut state: u64 = 1;
+    let mut so = true;
     for hand in 0..count {
         state = state
             .wrapping_mul(6364136223846793005)
             .wrapping_add(1442695040888963407);
-        let above = (state >> 33) as usize % 500;
-        if above < nodes.len() {
-            push_child(alloc, nodes, above, name(1, hand))?;
+        let place = (state >> 33) as usize % 500;
+        let above = if place < nodes.len() {
+            Some(place)
         } else {
-            push_start(alloc, nodes, name(1, hand))?;
-        }
+            None
+        };
+        so = so && push(alloc, nodes, above, name(1, hand));
     }
-    Ok(())
+    so
 }
 
 // Whether a node has a proper ancestor among others.
 fn is_below(nodes: &[&Node], node: &Node) -> bool {
-    nodes
-        .iter()
-        .any(|other| is_ancestor(&other.line, &node.line))
+    for other in nodes {
+        if is_ancestor(&other.line, &node.line) {
+            return true;
+        }
+    }
+    false
 }
 
-// The hand numbers of the nodes that have no proper ancestor among all.
-fn plain(alloc: Global, nodes: &[&Node]) -> Result<Vec<u64>, AllocError> {
-    let mut hands = Vec::new(alloc);
+// Puts the hand numbers of the nodes that have no proper ancestor among all.
+fn put_plain(hands: &mut Vec<u64>, nodes: &[&Node]) -> bool {
+    let mut so = true;
     for node in nodes {
         if !is_below(nodes, node) {
-            hands.push(node.line.name().hand)?;
+            so = so && hands.extend_from_slice(&[node.line.name().hand]).is_ok();
         }
     }
-    Ok(hands)
+    so
 }
 
-// Whether these are the hand numbers of the primitive nodes, which are some but not all.
-fn are_primitive(alloc: Global, nodes: &[&Node], wanted: &[u64]) -> Option<bool> {
-    let made = hands(alloc, nodes).ok()?;
-    let is_so = made.as_slice() == wanted && 1 < made.len() && made.len() < 150;
-    drop(made);
-    Some(is_so)
-}
-
-// Whether the answer for these nodes in the other order is that of all pairs.
-fn answers_as_pairs_do(alloc: Global, held: &mut Vec<&Node>) -> Option<bool> {
-    let wanted = plain(alloc, held).ok()?;
-    held.reverse();
-    let is_so = are_primitive(alloc, held, &wanted);
-    drop(wanted);
-    is_so
-}
-
-// Two of three nodes.
-fn two_of_three(alloc: Global, nodes: &[Node]) -> Result<Vec<&Node>, AllocError> {
-    let mut held = Vec::new(alloc);
+// Puts two of three nodes.
+fn put_two_of_three<'a>(held: &mut Vec<&'a Node>, nodes: &'a [Node]) -> bool {
+    let mut so = true;
     for node in nodes {
         if node.line.name().hand % 3 != 1 {
-            held.push(node)?;
+            so = so && held.extend_from_slice(&[node]).is_ok();
         }
     }
-    Ok(held)
+    so
 }
 
-fn answers_for_two_of_three(alloc: Global, nodes: &[Node]) -> Option<bool> {
-    let mut held = two_of_three(alloc, nodes).ok()?;
-    let is_so = answers_as_pairs_do(alloc, &mut held);
+// Whether the answer for two of three nodes, in the other order, is that of all pairs: some of
+// them, but not all.
+fn answers_as_pairs_do(alloc: Global, nodes: &[Node]) -> bool {
+    let mut held = Vec::new(alloc);
+    let mut wanted = Vec::new(alloc);
+    let mut is_so = put_two_of_three(&mut held, nodes) && put_plain(&mut wanted, &held);
+    held.reverse();
+    is_so = is_so && are_hands(alloc, &held, &wanted) && 1 < wanted.len() && wanted.len() < 150;
     drop(held);
+    drop(wanted);
     is_so
 }
 
 #[test]
 fn answers_as_all_pairs_do(rt: HostRuntime) {
     let mut nodes = Vec::new(rt.alloc());
-    holds(&rt, put_tree(rt.alloc(), &mut nodes, 300).is_ok());
-    same(
-        &rt,
-        &answers_for_two_of_three(rt.alloc(), &nodes),
-        &Some(true),
-    );
+    holds(&rt, put_tree(rt.alloc(), &mut nodes, 300));
+    holds(&rt, answers_as_pairs_do(rt.alloc(), &nodes));
     drop(nodes);
 }

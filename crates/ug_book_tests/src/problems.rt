@@ -5,7 +5,8 @@ use ug_drafts::MpsError;
 use ug_mps::read;
 use ug_problem::Problem;
 
-const SQUARE: &[u8] = b"ROWS
+/// Two columns from 0 to 7, whose sum is at least 5 and minimised.
+pub const SQUARE: &[u8] = b"ROWS
  N Z
  G r
 COLUMNS
@@ -48,7 +49,7 @@ BOUNDS
 ENDATA
 ";
 
-/// Two columns from 0 to 7, whose sum is at least 5 and minimised.
+/// The problem of the square.
 pub fn square(alloc: Global) -> Result<Problem, MpsError> {
     read(alloc, SQUARE, None)
 }

@@ -40,8 +40,6 @@ fn race(alloc: Global) -> Result<Stock, AllocError>
     ensures room { IfOk result HasRoom }
     ensures alone { IfOk result (λ stock. StandsAlone stock.ranks stock.raced) }
 {
-    let mut pool = Pool::new(alloc);
-    pool.reserve(1)?;
     let mut ranks = Ranks::new(alloc, 2)?;
     ranks.idle(0);
     ranks.idle(1);
@@ -49,7 +47,17 @@ fn race(alloc: Global) -> Result<Stock, AllocError>
     ranks.race(1, ticket(2), Params::new(1));
     ranks.note(0, 3, -5);
     ranks.note(1, 3, -4);
-    let root = root(alloc)?;
+    let Ok(root) = root(alloc) else {
+        drop(ranks);
+        return Err(AllocError);
+    };
+    let mut pool = Pool::new(alloc);
+    let Ok(()) = pool.reserve(1) else {
+        drop(ranks);
+        drop(root);
+        drop(pool);
+        return Err(AllocError);
+    };
     Ok(Stock {
         pool,
         ranks,

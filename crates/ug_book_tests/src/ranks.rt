@@ -38,11 +38,12 @@ fn letter(state: &State) -> u8 {
 // Whether the ranks are in these states, a letter for each.
 fn are(ranks: &Ranks, letters: &[u8]) -> bool {
     let states = ranks.as_slice();
+    for (state, wanted) in states.iter().zip(letters) {
+        if letter(state) != *wanted {
+            return false;
+        }
+    }
     states.len() == letters.len()
-        && states
-            .iter()
-            .zip(letters)
-            .all(|(state, wanted)| letter(state) == *wanted)
 }
 
 // How many boxes a rank took, its last report, and how many hands it is still asked for.

@@ -8,33 +8,31 @@ mod points;
 mod texts;
 mod ways;
 
+use crate::coordinated::empty_disk;
 use crate::expect::holds;
-use crate::problems::square;
-use crate::worked::points::{has_found, least_value};
+use crate::problems::SQUARE;
+use crate::worked::points::{find_least, has_found};
 use crate::worked::texts::{BOUNDS, COLUMNS, HEADS, KNAPSACK, SIDES};
-use crate::worked::ways::{WAYS, Way, schedule_of, settings_of};
-use std::alloc::{AllocError, Global};
+use crate::worked::ways::{WAYS, Way, push_visits, settings_of};
+use std::alloc::Global;
 use std::sync::Wait;
 use ug_book::Opening;
 use ug_coord::Coordinated;
-use ug_disk::{MemoryDisk, Script};
 use ug_mps::read;
 use ug_problem::{Problem, Shared};
-use ug_restart::{Host, Outcome, Unobserved};
+use ug_restart::{Host, Unobserved};
 use ug_serve::{Visit, WorkerCrew};
 use ug_world::solve_by_workers;
 
-/// A disk on which nothing is.
-pub fn empty_disk(alloc: Global) -> MemoryDisk {
-    let script = Script {
-        failing: Vec::new(alloc),
-        stopping: Vec::new(alloc),
-    };
-    MemoryDisk::new(alloc, Vec::new(alloc), Vec::new(alloc), script)
-}
-
-// What comes of the opening by workers that are visited so. None where a call of their crew failed.
-fn solved<R: Wait>(rt: &R, alloc: Global, opening: &Opening, schedule: &[Visit]) -> Option<Outcome>
+// Whether workers that are visited so give a right answer to the opening, and no call of their crew
+// fails. This is the least value, if a point is feasible.
+fn is_right<R: Wait>(
+    rt: &R,
+    alloc: Global,
+    opening: &Opening,
+    schedule: &[Visit],
+    least: Option<i128>,
+) -> bool
     requires { IsOpening opening.now }
 {
     let host = Host {
@@ -42,74 +40,60 @@ fn solved<R: Wait>(rt: &R, alloc: Global, opening: &Opening, schedule: &[Visit])
         alloc,
         observer: &Unobserved,
     };
-    let crew = WorkerCrew::new(alloc, opening.settings.solvers, schedule).ok()?;
+    let Ok(crew) = WorkerCrew::new(alloc, opening.settings.solvers, schedule) else {
+        return false;
+    };
     let mut disk = empty_disk(alloc);
     let Coordinated { crew, outcome } = solve_by_workers(&host, opening, None, &mut disk, crew);
     drop(disk);
-    let faults = crew.faults();
+    let gap = opening.settings.gap;
+    let so = has_found(opening.problem.problem(), &outcome.end, least, gap) && crew.faults() == 0;
     drop(crew);
-    if faults != 0 {
-        drop(outcome);
-        return None;
-    }
-    Some(outcome)
+    drop(outcome);
+    so
 }
 
-// Whether the answer in this way is right. This is the least value, if a point is feasible.
-fn is_right<R: Wait>(
+// Whether the answer in this way is right.
+fn is_right_in<R: Wait>(
     rt: &R,
     alloc: Global,
     problem: Shared,
     least: Option<i128>,
     way: Way,
-) -> Result<bool, AllocError> {
+) -> bool {
     let Some(settings) = settings_of(way) else {
         drop(problem);
-        return Ok(false);
+        return false;
     };
-    let opening = Opening::new(alloc, problem, 1, settings)?;
-    let so = match schedule_of(alloc, way) {
-        Ok(schedule) => {
-            let outcome = solved(rt, alloc, &opening, &schedule);
-            drop(schedule);
-            match outcome {
-                Some(outcome) => {
-                    let so = has_found(opening.problem.problem(), &outcome.end, least, way.gap);
-                    drop(outcome);
-                    so
-                }
-                None => false,
-            }
-        }
-        Err(_) => false,
+    let Ok(opening) = Opening::new(alloc, problem, 1, settings) else {
+        return false;
     };
+    let mut schedule = Vec::new(alloc);
+    let so = push_visits(&mut schedule, way) && is_right(rt, alloc, &opening, &schedule, least);
+    drop(schedule);
     drop(opening);
-    Ok(so)
+    so
 }
 
 // Whether it is so in each way.
-fn is_right_always<R: Wait>(
-    rt: &R,
-    alloc: Global,
-    problem: &Shared,
-    least: Option<i128>,
-) -> Result<bool, AllocError> {
+fn is_right_always<R: Wait>(rt: &R, alloc: Global, problem: &Shared, least: Option<i128>) -> bool {
     for way in WAYS {
-        if !is_right(rt, alloc, problem.share()?, least, *way)? {
-            return Ok(false);
+        let Ok(shared) = problem.share() else {
+            return false;
+        };
+        if !is_right_in(rt, alloc, shared, least, *way) {
+            return false;
         }
     }
-    Ok(true)
+    true
 }
 
 // Whether each way gives a right answer to the problem.
 fn is_solved<R: Wait>(rt: &R, alloc: Global, problem: Problem) -> bool {
-    let least = least_value(alloc, &problem);
+    let mut least = None;
+    let is_found = find_least(alloc, &problem, &mut least);
     let problem = Shared::own(problem);
-    let so = match least {
-        Ok(least) => is_right_always(rt, alloc, &problem, least).is_ok_and(|so| so),
-        Err(_) => false,
-    };
+    let so = is_found && is_right_always(rt, alloc, &problem, least);
     drop(problem);
     so
 }
@@ -127,19 +111,16 @@ fn is_text_solved<R: Wait>(rt: &R, alloc: Global, text: &[u8]) -> bool {
 
 #[test]
 fn workers_solve_a_square(rt: HostRuntime) {
-    let so = match square(rt.alloc()) {
-        Ok(problem) => is_solved(&rt, rt.alloc(), problem),
-        Err(error) => {
-            drop(error);
-            false
-        }
-    };
-    holds(&rt, so);
+    holds(&rt, is_text_solved(&rt, rt.alloc(), SQUARE));
 }
 
 #[test]
 fn workers_fill_a_knapsack(rt: HostRuntime) {
     holds(&rt, is_text_solved(&rt, rt.alloc(), KNAPSACK));
+}
+
+fn push(text: &mut Vec<u8>, part: &str) -> bool {
+    text.extend_from_slice(part.as_bytes()).is_ok()
 }
 
 // The same of the text of these parts.
@@ -149,31 +130,31 @@ fn are_parts_solved<R: Wait>(
     head: &str,
     columns: &str,
     sides: &str,
-) -> Result<bool, AllocError> {
-    let text = format!(in alloc; "{head}{columns}{sides}{BOUNDS}")?;
-    let so = is_text_solved(rt, alloc, text.as_bytes());
+) -> bool {
+    let mut text = Vec::new(alloc);
+    let so = push(&mut text, head)
+        && push(&mut text, columns)
+        && push(&mut text, sides)
+        && push(&mut text, BOUNDS)
+        && is_text_solved(rt, alloc, &text);
     drop(text);
-    Ok(so)
+    so
 }
 
 // The same of all texts with this head.
-fn are_all_solved<R: Wait>(rt: &R, alloc: Global, head: &str) -> Result<bool, AllocError> {
+fn are_all_solved<R: Wait>(rt: &R, alloc: Global, head: &str) -> bool {
+    let mut so = true;
     for columns in COLUMNS {
         for sides in SIDES {
-            if !are_parts_solved(rt, alloc, head, columns, sides)? {
-                return Ok(false);
-            }
+            so = so && are_parts_solved(rt, alloc, head, columns, sides);
         }
     }
-    Ok(true)
+    so
 }
 
 #[test]
 fn workers_solve_small_problems(rt: HostRuntime) {
     for head in HEADS {
-        holds(
-            &rt,
-            are_all_solved(&rt, rt.alloc(), head).is_ok_and(|so| so),
-        );
+        holds(&rt, are_all_solved(&rt, rt.alloc(), head));
     }
 }

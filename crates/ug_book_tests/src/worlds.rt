@@ -5,7 +5,7 @@ ghost use Rattle.ug_rules.specs.Books.{AreSettings};
 ghost use Rattle.ug_rules.specs.Hearing.{IsHearable};
 ghost use Rattle.ug_world.specs.Events.{IsEvent};
 
-use crate::expect::same;
+use crate::expect::{holds_at, same};
 use crate::problems::{cube, square};
 use crate::schedules::SCHEDULES;
 use std::alloc::{AllocError, Global};
@@ -18,15 +18,15 @@ use ug_rows::Point;
 use ug_rules::{Heard, Settings};
 use ug_world::{Event, PlayFault, Played, play};
 
-// The numbers among the words.
-fn numbers(alloc: Global, words: &str) -> Result<Vec<i128>, AllocError> {
-    let mut numbers = Vec::new(alloc);
+// Puts the numbers among the words. Whether there was memory for them, as of each call here.
+fn put_numbers(numbers: &mut Vec<i128>, words: &str) -> bool {
+    let mut so = true;
     for word in words.split_whitespace() {
         if let Ok(number) = word.parse::<i128>() {
-            numbers.push(number)?;
+            so = so && numbers.extend_from_slice(&[number]).is_ok();
         }
     }
-    Ok(numbers)
+    so
 }
 
 // The number at a place, or 0.
@@ -94,25 +94,36 @@ fn begin(alloc: Global, numbers: &[i128]) -> Option<Book> {
 // The changes behind a ticket and a number.
 fn changes(alloc: Global, numbers: &[i128]) -> Option<Changes> {
     let mut changes = Vec::new(alloc);
+    let mut so = true;
     for part in numbers.chunks_exact(3).skip(1) {
-        changes
-            .push(Change {
-                column: small(part, 0),
-                low: bound(at(part, 1)),
-                high: bound(at(part, 2)),
-            })
-            .ok()?;
+        let change = Change {
+            column: small(part, 0),
+            low: bound(at(part, 1)),
+            high: bound(at(part, 2)),
+        };
+        so = so && changes.extend_from_slice(&[change]).is_ok();
     }
-    Changes::checked(changes)
+    if so {
+        Changes::checked(changes)
+    } else {
+        drop(changes);
+        None
+    }
 }
 
 // The point behind a ticket.
 fn point(alloc: Global, numbers: &[i128]) -> Option<Point> {
     let mut values = Vec::new(alloc);
+    let mut so = true;
     for number in numbers.iter().skip(2) {
-        values.push(bound(*number)).ok()?;
+        so = so && values.extend_from_slice(&[bound(*number)]).is_ok();
     }
-    Some(Point::from_vec(values))
+    if so {
+        Some(Point::from_vec(values))
+    } else {
+        drop(values);
+        None
+    }
 }
 
 // A report of an assignment.
@@ -193,8 +204,12 @@ fn event(alloc: Global, words: &str, ranks: u32) -> Option<Event>
     ensures { IfSome result (IsEvent ranks) }
 {
     let kind = words.split_whitespace().next()?;
-    let numbers = numbers(alloc, words).ok()?;
-    let event = event_of(alloc, kind, &numbers, ranks);
+    let mut numbers = Vec::new(alloc);
+    let event = if put_numbers(&mut numbers, words) {
+        event_of(alloc, kind, &numbers, ranks)
+    } else {
+        None
+    };
     drop(numbers);
     event
 }
@@ -221,27 +236,38 @@ fn events(alloc: Global, text: &str, ranks: u32) -> Option<Vec<Event>>
     Some(events)
 }
 
-fn count_held(book: &Book) -> Result<usize, AllocError> {
-    let held = book.held()?;
-    let count = held.len();
-    drop(held);
-    Ok(count)
+// How many nodes a book holds, if there is memory to count them.
+fn count_held(book: &Book) -> Option<usize> {
+    match book.held() {
+        Ok(held) => {
+            let count = held.len();
+            drop(held);
+            Some(count)
+        }
+        Err(_) => None,
+    }
 }
 
 // How many nodes a book holds, and its incumbent.
 fn end(alloc: Global, book: &Book) -> Result<String, AllocError> {
-    let held = count_held(book)?;
+    let Some(held) = count_held(book) else {
+        return Err(AllocError);
+    };
     match book.best() {
         Some(point) => format!(in alloc; "held {held}; best {:?}", point.as_slice()),
         None => format!(in alloc; "held {held}; best none"),
     }
 }
 
-fn push_end(alloc: Global, text: &mut String, book: &Book) -> Result<(), AllocError> {
-    let end = end(alloc, book)?;
-    let pushed = text.push_str(&end);
-    drop(end);
-    pushed
+fn push(text: &mut String, part: Result<String, AllocError>) -> bool {
+    match part {
+        Ok(part) => {
+            let pushed = text.push_str(&part).is_ok();
+            drop(part);
+            pushed
+        }
+        Err(_) => false,
+    }
 }
 
 // The words of a reply without numbers.
@@ -276,36 +302,22 @@ fn words(alloc: Global, reply: Heard) -> Result<String, AllocError> {
     }
 }
 
-fn push_reply(alloc: Global, text: &mut String, reply: Heard) -> Result<(), AllocError> {
-    let part = words(alloc, reply)?;
-    let pushed = text.push_str(&part);
-    drop(part);
-    pushed
-}
-
 // What a schedule leaves that was played to its end, in the words of the table.
-fn push_played(alloc: Global, text: &mut String, played: &Played) -> Result<(), AllocError> {
+fn push_played(alloc: Global, text: &mut String, played: &Played) -> bool {
+    let mut so = true;
     for reply in played.replies.as_slice() {
-        push_reply(alloc, text, *reply)?;
+        so = so && push(text, words(alloc, *reply));
     }
-    push_end(alloc, text, &played.book)
+    so && push(text, end(alloc, &played.book))
 }
 
 // And where one stopped.
-fn push_place(alloc: Global, text: &mut String, why: &str, place: usize) -> Result<(), AllocError> {
-    let part = format!(in alloc; "{why} {place}; ")?;
-    let pushed = text.push_str(&part);
-    drop(part);
-    pushed
-}
-
-fn push_stopped(alloc: Global, text: &mut String, fault: &PlayFault) -> Result<(), AllocError> {
+fn push_stopped(alloc: Global, text: &mut String, fault: &PlayFault) -> bool {
     let (why, place, book) = match fault {
         PlayFault::NoSuch { place, book } => ("NoSuch", *place, book),
         PlayFault::Memory { book, done } => ("Memory", *done, book),
     };
-    push_place(alloc, text, why, place)?;
-    push_end(alloc, text, book)
+    push(text, format!(in alloc; "{why} {place}; ")) && push(text, end(alloc, book))
 }
 
 fn is_same_part(part: &str, other: Option<&str>) -> bool {
@@ -328,8 +340,13 @@ fn agree(told: &str, wanted: &str) -> bool {
 
 // The book with which a schedule begins.
 fn opening(alloc: Global, schedule: &str) -> Option<Book> {
-    let numbers = numbers(alloc, schedule.split(';').next()?).ok()?;
-    let book = begin(alloc, &numbers);
+    let first = schedule.split(';').next()?;
+    let mut numbers = Vec::new(alloc);
+    let book = if put_numbers(&mut numbers, first) {
+        begin(alloc, &numbers)
+    } else {
+        None
+    };
     drop(numbers);
     book
 }
@@ -340,68 +357,56 @@ fn ranks(book: &Book) -> u32
     book.settings().solvers
 }
 
-// The same, however it ended.
-fn told(alloc: Global, end: &Result<Played, PlayFault>) -> Option<String> {
+// Whether that is left, however it ended.
+fn is_told(alloc: Global, end: &Result<Played, PlayFault>, wanted: &str) -> bool {
     let mut text = String::new(alloc);
     let pushed = match end {
         Ok(played) => push_played(alloc, &mut text, played),
         Err(fault) => push_stopped(alloc, &mut text, fault),
     };
-    if pushed.is_err() {
-        drop(text);
-        return None;
-    }
-    Some(text)
+    let is_so = pushed && agree(&text, wanted);
+    drop(text);
+    is_so
 }
 
-// What the events leave of the book.
-fn outcome(alloc: Global, book: Book, events: &[Event]) -> Option<String>
+// Whether the events leave that of the book.
+fn leave(alloc: Global, book: Book, events: &[Event], wanted: &str) -> bool
     requires { All (IsEvent (length book.ranks)) events.now }
 {
     let end = play(alloc, book, events);
-    let told = told(alloc, &end);
+    let is_so = is_told(alloc, &end, wanted);
     drop(end);
-    told
+    is_so
 }
 
-// What a schedule leaves.
-fn left(alloc: Global, schedule: &str) -> Option<String> {
-    let book = opening(alloc, schedule)?;
+// Whether a schedule leaves that.
+fn leaves(alloc: Global, schedule: &str, wanted: &str) -> bool {
+    let Some(book) = opening(alloc, schedule) else {
+        return false;
+    };
     let Some(events) = events(alloc, schedule, ranks(&book)) else {
         drop(book);
-        return None;
+        return false;
     };
-    let left = outcome(alloc, book, &events);
+    let is_so = leave(alloc, book, &events, wanted);
     drop(events);
-    left
+    is_so
 }
 
 // Whether the schedule leaves what it says.
-fn does(alloc: Global, schedule: &str) -> Option<bool> {
-    let (schedule, wanted) = schedule.split_once('=')?;
-    let told = left(alloc, schedule)?;
-    let agree = agree(&told, wanted);
-    drop(told);
-    Some(agree)
-}
-
-// Puts the places of the schedules that leave something else, and counts all.
-fn put_others(alloc: Global, others: &mut Vec<usize>) -> Result<usize, AllocError> {
-    let mut all: usize = 0;
-    for schedule in SCHEDULES.split("\n\n") {
-        if does(alloc, schedule) != Some(true) {
-            others.push(all)?;
-        }
-        all = all.saturating_add(1);
+fn does(alloc: Global, schedule: &str) -> bool {
+    match schedule.split_once('=') {
+        Some((schedule, wanted)) => leaves(alloc, schedule, wanted),
+        None => false,
     }
-    Ok(all)
 }
 
 #[test]
 fn schedules_leave_what_a_model_says(rt: HostRuntime) {
-    let mut others = Vec::new(rt.alloc());
-    let all = put_others(rt.alloc(), &mut others);
-    same(&rt, &others.as_slice(), &[].as_slice());
-    same(&rt, &all.ok(), &Some(54));
-    drop(others);
+    let mut all: usize = 0;
+    for schedule in SCHEDULES.split("\n\n") {
+        holds_at(&rt, does(rt.alloc(), schedule), &all);
+        all = all.saturating_add(1);
+    }
+    same(&rt, &all, &54);
 }

@@ -113,12 +113,11 @@ fn makes_columns(alloc: Global, size: u32, names: &[&[u8]]) -> Option<bool>
 #[test]
 fn seed_one_makes_these_instances(rt: HostRuntime) {
     let alloc = rt.alloc();
-    same(&rt, &makes_rows(alloc, 3, THREE), &Some(true));
-    same(&rt, &makes_columns(alloc, 3, NAMES), &Some(true));
-    same(&rt, &makes_rows(alloc, 4, FOUR), &Some(true));
-    same(
-        &rt,
-        &makes_profits(alloc, 4, &[-8, -31, -24, -93]),
-        &Some(true),
-    );
+    let are = [
+        makes_rows(alloc, 3, THREE),
+        makes_columns(alloc, 3, NAMES),
+        makes_rows(alloc, 4, FOUR),
+        makes_profits(alloc, 4, &[-8, -31, -24, -93]),
+    ];
+    same(&rt, &are, &[Some(true); 4]);
 }

@@ -144,8 +144,8 @@ fn bad_fields_are_named(rt: HostRuntime) {
 #[test]
 fn record_that_is_too_short_or_too_long_is_named(rt: HostRuntime) {
     let alloc = rt.alloc();
-    same(&rt, &place(alloc, &[0; 29]), &Some(26));
-    same(&rt, &place(alloc, &[0; 31]), &Some(30));
+    let places = [place(alloc, &[0; 29]), place(alloc, &[0; 31])];
+    same(&rt, &places, &[Some(26), Some(30)]);
     same(&rt, &place_with_a_term_more(alloc), &Some(Some(104)));
 }
 

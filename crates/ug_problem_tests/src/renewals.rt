@@ -1,8 +1,8 @@
-//! A worker that renews its task, at a seat in memory that notes what it is told and asks for nothing.
-//! By hand, of the stairs (served/stairs.rt): the first round finds a point and leaves three boxes, the
-//! second finds one and leaves five. The third finds the point with a = 9 by 13 halvings of b and 15
-//! of c, drops the 30 boxes left of it, halves a from 6..8 to 8 and then b four times: 64 steps, and
-//! seven boxes are left.
+//! A worker that renews its task, at a seat in memory that notes what it is told and asks for
+//! nothing. By hand, of the stairs (served/stairs.rt): the first round finds a point and leaves
+//! three boxes, the second finds one and leaves five. The third finds the point with a = 9 by 13
+//! halvings of b and 15 of c, drops the 30 boxes left of it, halves a from 6..8 to 8 and then b
+//! four times: 64 steps, and seven boxes are left.
 
 use crate::expect::holds_at;
 use crate::served::stairs::STAIRS;
@@ -160,9 +160,9 @@ fn task(alloc: Global) -> Option<Task> {
     task_of(alloc, read(alloc, STAIRS, None).ok()?, 3, Params::new(4), 0)
 }
 
-// A task that is renewed after so many rounds at the least, and whatever part of all they are; after
-// how many the race is won; for which hand there is no memory; what is told, and whether the boxes
-// handed are those by hand.
+// A task that is renewed after so many rounds at the least, and whatever part of all they are;
+// after how many the race is won; for which hand there is no memory; what is told, and whether the
+// boxes handed are those by hand.
 #[derive(Clone, Copy)]
 struct Case {
     rounds: u64,

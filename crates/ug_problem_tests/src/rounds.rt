@@ -1,4 +1,5 @@
-//! Bound propagation on small problems, by the fast body and by the slow one that the definition is.
+//! Bound propagation on small problems, by the fast body and by the slow one that the definition
+//! is.
 
 ghost use Rattle.ug_problem.specs.Better.{IsSmallCutoff};
 

@@ -138,9 +138,12 @@ fn ends_under(alloc: Global, gap: i128) -> Option<i128>
 #[test]
 fn searches_the_square_under_gaps(rt: HostRuntime) {
     let alloc = rt.alloc();
-    same(&rt, &ends_under(alloc, 0), &Some(5));
-    same(&rt, &ends_under(alloc, 2), &Some(3));
-    same(&rt, &ends_under(alloc, 9), &Some(0));
+    let ends = [
+        ends_under(alloc, 0),
+        ends_under(alloc, 2),
+        ends_under(alloc, 9),
+    ];
+    same(&rt, &ends, &[Some(5), Some(3), Some(0)]);
 }
 
 // Steps a task until nothing is left.

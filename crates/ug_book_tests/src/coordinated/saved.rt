@@ -1,13 +1,13 @@
 //! What a coordinator over a crew in memory saves, and misses.
 
-use crate::coordinated::{BY_ITSELF, Way, disk_of, settings, way_of};
+use crate::coordinated::{BY_ITSELF, Way, settings, way_of};
 use crate::expect::holds;
 use crate::problems::line;
-use std::alloc::{AllocError, Global};
+use std::alloc::Global;
 use std::sync::Wait;
 use ug_checkpoint::load;
 use ug_coord::{Coordinated, coordinate};
-use ug_disk::MemoryDisk;
+use ug_disk::{MemoryDisk, Script as DiskScript};
 use ug_io::{MemoryCrew, Script};
 use ug_problem::Shared;
 use ug_restart::{Attempt, Host, Start, Unobserved, begin};
@@ -22,37 +22,41 @@ struct Ended {
     sequence: Option<u64>,
 }
 
-// The sequence of the image that is found, if the disk can be read.
-fn sequence_on(alloc: Global, disk: &mut MemoryDisk) -> Result<Option<u64>, AllocError> {
+/// What came of a run.
+#[derive(Clone, Copy)]
+enum Run {
+    NoMemory,
+    NotBegun,
+    Ended(Ended),
+}
+
+// The sequence of the image that is found, if the disk can be read; the greatest where none is.
+fn sequence_on(alloc: Global, disk: &mut MemoryDisk) -> Option<u64> {
     match load(alloc, disk) {
         Ok(Some(found)) => {
             let sequence = found.image.sequence;
             drop(found);
-            Ok(Some(sequence))
+            Some(sequence)
         }
-        Ok(None) => Err(AllocError),
-        Err(_) => Ok(None),
+        Ok(None) => Some(u64::MAX),
+        Err(_) => None,
     }
 }
 
-// How a run of the rank that does it all ended with this disk, from its first image on. None where
-// it did not begin.
-fn saved<R: Wait>(
-    rt: &R,
-    alloc: Global,
-    every: u64,
-    disk: &mut MemoryDisk,
-) -> Result<Option<Ended>, AllocError> {
+// How a run of the rank that does it all ended with this disk, from its first image on.
+fn saved<R: Wait>(rt: &R, alloc: Global, every: u64, disk: &mut MemoryDisk) -> Run {
     let script = Script::new(Vec::new(alloc), 1000);
-    let crew = MemoryCrew::new(alloc, 1, BY_ITSELF, script)?;
-    let Ok(problem) = line(alloc) else {
+    let Ok(crew) = MemoryCrew::new(alloc, 1, BY_ITSELF, script) else {
+        return Run::NoMemory;
+    };
+    let Some(problem) = line(alloc).ok() else {
         drop(crew);
-        return Err(AllocError);
+        return Run::NoMemory;
     };
     let problem = Shared::own(problem);
     let Ok(Start { opening, saver }) = begin(alloc, disk, problem, settings(1, every, 100)) else {
         drop(crew);
-        return Ok(None);
+        return Run::NotBegun;
     };
     let observer = &Unobserved;
     let host = Host {
@@ -67,38 +71,49 @@ fn saved<R: Wait>(
     let missed = outcome.missed;
     let last = outcome.last;
     drop(outcome);
-    let sequence = sequence_on(alloc, disk)?;
-    Ok(Some(Ended {
+    let sequence = sequence_on(alloc, disk);
+    Run::Ended(Ended {
         way,
         missed,
         last,
         sequence,
-    }))
+    })
 }
 
-// Three reports come. The first image has sequence 1, and the ending book is saved after all. Behind
-// the first report the root is open, so that no other save comes before the ninth; behind the second
-// none is.
+// What comes of it with an empty disk, of which this call fails; call 0 is none.
+fn saved_with<R: Wait>(rt: &R, alloc: Global, every: u64, failing: u64) -> Run {
+    let Ok(failing) = [failing].as_slice().to_vec(alloc) else {
+        return Run::NoMemory;
+    };
+    let script = DiskScript {
+        failing,
+        stopping: Vec::new(alloc),
+    };
+    let mut disk = MemoryDisk::new(alloc, Vec::new(alloc), Vec::new(alloc), script);
+    let run = saved(rt, alloc, every, &mut disk);
+    drop(disk);
+    run
+}
+
+// Three reports come. The first image has sequence 1, and the ending book is saved after all.
+// Behind the first report the root is open, so that no other save comes before the ninth; behind
+// the second none is.
 const EVERY: &[(u64, u64)] = &[(1, 3), (2, 3), (3, 3), (4, 2), (0, 2)];
 
 // Whether the run saves so often that this is the last sequence.
-fn is_saved_so<R: Wait>(rt: &R, alloc: Global, every: u64, last: u64) -> Result<bool, AllocError> {
-    let mut disk = disk_of(alloc, &[])?;
-    let ended = saved(rt, alloc, every, &mut disk);
-    drop(disk);
-    match ended? {
-        Some(ended) => Ok(
-            ended.last == Some(Attempt::Saved) && ended.missed == 0 && ended.sequence == Some(last),
-        ),
-        None => Ok(false),
+fn is_saved_so<R: Wait>(rt: &R, alloc: Global, every: u64, last: u64) -> bool {
+    match saved_with(rt, alloc, every, 0) {
+        Run::Ended(ended) => {
+            ended.last == Some(Attempt::Saved) && ended.missed == 0 && ended.sequence == Some(last)
+        }
+        _ => false,
     }
 }
 
 #[test]
 fn books_are_saved_as_often_as_is_asked(rt: HostRuntime) {
     for (every, last) in EVERY {
-        let so = is_saved_so(&rt, rt.alloc(), *every, *last);
-        holds(&rt, so.is_ok_and(|so| so));
+        holds(&rt, is_saved_so(&rt, rt.alloc(), *every, *last));
     }
 }
 
@@ -120,19 +135,17 @@ fn has_missed_one(ended: Ended) -> bool {
 }
 
 // Whether it is so where this call of the disk fails; or the run did not begin.
-fn misses_one<R: Wait>(rt: &R, alloc: Global, call: u64) -> Result<bool, AllocError> {
-    let mut disk = disk_of(alloc, &[call])?;
-    let ended = saved(rt, alloc, 1, &mut disk);
-    drop(disk);
-    match ended? {
-        Some(ended) => Ok(has_missed_one(ended)),
-        None => Ok(call < 20),
+fn misses_one<R: Wait>(rt: &R, alloc: Global, call: u64) -> bool {
+    match saved_with(rt, alloc, 1, call) {
+        Run::Ended(ended) => has_missed_one(ended),
+        Run::NotBegun => call < 20,
+        Run::NoMemory => false,
     }
 }
 
 #[test]
 fn each_call_of_the_disk_fails_in_turn(rt: HostRuntime) {
     for call in 1..60 {
-        holds(&rt, misses_one(&rt, rt.alloc(), call).is_ok_and(|so| so));
+        holds(&rt, misses_one(&rt, rt.alloc(), call));
     }
 }

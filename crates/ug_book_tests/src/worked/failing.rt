@@ -6,12 +6,12 @@ ghost use Rattle.ug_io.specs.Crews.{IsAlive};
 ghost use Rattle.ug_io.specs.Outside.{Rose};
 ghost use Rattle.ug_book.specs.Openings.{IsOpening};
 
+use crate::coordinated::empty_disk;
 use crate::expect::holds;
-use crate::worked::empty_disk;
 use crate::worked::points::has_found;
 use crate::worked::texts::KNAPSACK;
-use crate::worked::ways::{Visits, Way, schedule_of, settings_of};
-use std::alloc::{AllocError, Global};
+use crate::worked::ways::{Visits, Way, push_visits, settings_of};
+use std::alloc::Global;
 use std::sync::Wait;
 use ug_book::Opening;
 use ug_coord::{Coordinated, coordinate};
@@ -192,16 +192,18 @@ fn has_ended(opening: &Opening, end: &End, broke: bool) -> bool {
 }
 
 // How many faults there are in a run that ends as it has to, with a crew that is visited so.
-fn solved<R: Wait>(
+fn faults_by<R: Wait>(
     rt: &R,
     alloc: Global,
     opening: &Opening,
     schedule: &[Visit],
     wrong: Wrong,
-) -> Result<Option<u64>, AllocError>
+) -> Option<u64>
     requires { IsOpening opening.now }
 {
-    let workers = WorkerCrew::new(alloc, opening.settings.solvers, schedule)?;
+    let Ok(workers) = WorkerCrew::new(alloc, opening.settings.solvers, schedule) else {
+        return None;
+    };
     let crew = WrongCrew::new(workers, wrong);
     let mut disk = empty_disk(alloc);
     let host = Host {
@@ -216,7 +218,7 @@ fn solved<R: Wait>(
     drop(crew);
     let so = has_ended(opening, &outcome.end, broke);
     drop(outcome);
-    Ok(if so { Some(faults) } else { None })
+    if so { Some(faults) } else { None }
 }
 
 // The same in this way.
@@ -228,35 +230,27 @@ fn faults_of<R: Wait>(rt: &R, alloc: Global, way: Way, wrong: Wrong) -> Option<u
     let Ok(opening) = Opening::new(alloc, Shared::own(problem), 1, settings) else {
         return None;
     };
-    let found = match schedule_of(alloc, way) {
-        Ok(schedule) => {
-            let found = solved(rt, alloc, &opening, &schedule, wrong);
-            drop(schedule);
-            found
-        }
-        Err(error) => Err(error),
+    let mut schedule = Vec::new(alloc);
+    let found = if push_visits(&mut schedule, way) {
+        faults_by(rt, alloc, &opening, &schedule, wrong)
+    } else {
+        None
     };
+    drop(schedule);
     drop(opening);
-    found.ok()?
+    found
 }
 
-// Whether it ends so whichever call fails, of more than so many.
-fn outlives_each_call<R: Wait>(rt: &R, alloc: Global, way: Way, many: u64) -> bool {
+// Whether it ends so whichever call fails, or in whichever turn the rank is gone, of more than so
+// many.
+fn outlives_each<R: Wait>(rt: &R, alloc: Global, way: Way, rank: Option<u32>, many: u64) -> bool {
     for number in 1..1000 {
-        match faults_of(rt, alloc, way, Wrong::Call { number }) {
+        let wrong = match rank {
+            Some(rank) => Wrong::Gone { rank, turn: number },
+            None => Wrong::Call { number },
+        };
+        match faults_of(rt, alloc, way, wrong) {
             Some(0) => return many < number,
-            Some(_) => {}
-            None => return false,
-        }
-    }
-    false
-}
-
-// Whether it ends so in whichever turn the rank is gone, of more than so many.
-fn outlives_each_turn<R: Wait>(rt: &R, alloc: Global, way: Way, rank: u32, many: u64) -> bool {
-    for turn in 1..1000 {
-        match faults_of(rt, alloc, way, Wrong::Gone { rank, turn }) {
-            Some(0) => return many < turn,
             Some(_) => {}
             None => return false,
         }
@@ -268,7 +262,7 @@ fn outlives_each_turn<R: Wait>(rt: &R, alloc: Global, way: Way, rank: u32, many:
 fn each_call_of_a_crew_of_workers_fails_in_turn(rt: HostRuntime) {
     for racing in [false, true] {
         let way = Way { racing, ..TWO };
-        holds(&rt, outlives_each_call(&rt, rt.alloc(), way, 30));
+        holds(&rt, outlives_each(&rt, rt.alloc(), way, None, 30));
     }
 }
 
@@ -277,7 +271,7 @@ fn a_rank_is_gone_in_each_turn_or_says_what_is_no_report(rt: HostRuntime) {
     for racing in [false, true] {
         let way = Way { racing, ..TWO };
         for rank in 0..2 {
-            holds(&rt, outlives_each_turn(&rt, rt.alloc(), way, rank, 20));
+            holds(&rt, outlives_each(&rt, rt.alloc(), way, Some(rank), 20));
             let zeros = faults_of(&rt, rt.alloc(), way, Wrong::Zeros { rank });
             holds(&rt, zeros.is_some());
         }

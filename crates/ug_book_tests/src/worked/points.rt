@@ -1,6 +1,6 @@
 //! Every point of a small problem, looked at.
 
-use std::alloc::{AllocError, Global};
+use std::alloc::Global;
 use ug_problem::Problem;
 use ug_restart::End;
 use ug_rows::{Interval, Point};
@@ -29,18 +29,6 @@ fn value(problem: &Problem, point: &Point) -> Option<i128> {
     }
 }
 
-// The value of the point of these values, if it is feasible.
-fn value_at(alloc: Global, problem: &Problem, values: &[i32]) -> Result<Option<i128>, AllocError> {
-    let point = Point::from_vec(values.to_vec(alloc)?);
-    let value = if problem.first_broken(&point).is_none() {
-        value(problem, &point)
-    } else {
-        None
-    };
-    drop(point);
-    Ok(value)
-}
-
 // The lesser of the two, or the one that there is.
 fn lesser(best: Option<i128>, value: Option<i128>) -> Option<i128> {
     match (best, value) {
@@ -50,29 +38,47 @@ fn lesser(best: Option<i128>, value: Option<i128>) -> Option<i128> {
     }
 }
 
-// The least value from the point of these values on.
-fn least_from(
+// Looks at the point of these values. Whether there was memory for it.
+fn look(alloc: Global, problem: &Problem, values: &[i32], least: &mut Option<i128>) -> bool {
+    let Ok(values) = values.to_vec(alloc) else {
+        return false;
+    };
+    let point = Point::from_vec(values);
+    if problem.first_broken(&point).is_none() {
+        *least = lesser(*least, value(problem, &point));
+    }
+    drop(point);
+    true
+}
+
+// Looks at all points from that of these values on.
+fn look_from(
     alloc: Global,
     problem: &Problem,
     values: &mut [i32],
-) -> Result<Option<i128>, AllocError> {
-    let mut best = None;
+    least: &mut Option<i128>,
+) -> bool {
     for _ in 0..MANY {
-        best = lesser(best, value_at(alloc, problem, values)?);
+        if !look(alloc, problem, values, least) {
+            return false;
+        }
         if !advance(values, problem.root().as_slice()) {
-            return Ok(best);
+            return true;
         }
     }
-    Ok(None)
+    false
 }
 
-/// The least value over all points, if one of them is feasible.
-pub fn least_value(alloc: Global, problem: &Problem) -> Result<Option<i128>, AllocError> {
-    let sides = problem.root().as_slice();
-    let mut values: Vec<i32> = sides.iter().map(|side| side.low).collect(alloc)?;
-    let least = least_from(alloc, problem, &mut values);
+/// Finds the least value over all points, if one of them is feasible. Whether all were looked at.
+pub fn find_least(alloc: Global, problem: &Problem, least: &mut Option<i128>) -> bool {
+    let mut values = Vec::new(alloc);
+    let mut so = true;
+    for side in problem.root().as_slice() {
+        so = so && values.extend_from_slice(&[side.low]).is_ok();
+    }
+    so = so && look_from(alloc, problem, &mut values, least);
     drop(values);
-    least
+    so
 }
 
 /// Whether a run that ended so has found this value, or one that is no more than the gap above it;

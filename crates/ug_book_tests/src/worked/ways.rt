@@ -3,7 +3,6 @@
 ghost use Rattle.std.specs.Prelude.{IfSome};
 ghost use Rattle.ug_rules.specs.Books.{AreSettings};
 
-use std::alloc::{AllocError, Global};
 use ug_branch::Base;
 use ug_rules::Settings;
 use ug_serve::Visit;
@@ -112,6 +111,16 @@ pub fn settings_of(way: Way) -> Option<Settings>
     })
 }
 
+// A visit more. Whether there was memory for it, as of each call here.
+fn push(schedule: &mut Vec<Visit>, rank: u32, orders: usize, reports: usize) -> bool {
+    let visit = Visit {
+        rank,
+        orders,
+        reports,
+    };
+    schedule.extend_from_slice(&[visit]).is_ok()
+}
+
 // So many visits of each rank in turn, with so many bytes of orders and of reports at most.
 fn push_rounds(
     schedule: &mut Vec<Visit>,
@@ -119,59 +128,44 @@ fn push_rounds(
     rounds: u32,
     orders: usize,
     reports: usize,
-) -> Result<(), AllocError> {
+) -> bool {
+    let mut so = true;
     for _ in 0..rounds {
         for rank in 0..solvers {
-            schedule.push(Visit {
-                rank,
-                orders,
-                reports,
-            })?;
+            so = so && push(schedule, rank, orders, reports);
         }
     }
-    Ok(())
+    so
 }
 
 // So many visits of each rank with all that there is, one rank after another.
-fn push_ranks(schedule: &mut Vec<Visit>, solvers: u32, visits: u32) -> Result<(), AllocError> {
+fn push_ranks(schedule: &mut Vec<Visit>, solvers: u32, visits: u32) -> bool {
+    let mut so = true;
     for rank in 0..solvers {
         for _ in 0..visits {
-            schedule.push(Visit {
-                rank,
-                orders: usize::MAX,
-                reports: usize::MAX,
-            })?;
+            so = so && push(schedule, rank, usize::MAX, usize::MAX);
         }
     }
-    Ok(())
+    so
 }
 
 // Rounds in which nothing is heard before rounds in which little is, over and over.
-fn push_late(schedule: &mut Vec<Visit>, solvers: u32) -> Result<(), AllocError> {
+fn push_late(schedule: &mut Vec<Visit>, solvers: u32) -> bool {
+    let mut so = true;
     for _ in 0..20 {
-        push_rounds(schedule, solvers, 20, usize::MAX, 0)?;
-        push_rounds(schedule, solvers, 5, 0, 7)?;
+        so = so
+            && push_rounds(schedule, solvers, 20, usize::MAX, 0)
+            && push_rounds(schedule, solvers, 5, 0, 7);
     }
-    Ok(())
+    so
 }
 
-fn push_visits(schedule: &mut Vec<Visit>, way: Way) -> Result<(), AllocError> {
+/// Puts the schedule of visits of this way.
+pub fn push_visits(schedule: &mut Vec<Visit>, way: Way) -> bool {
     match way.visits {
         Visits::ByteByByte => push_rounds(schedule, way.solvers, 600, 1, 1),
         Visits::OneBeforeAnother => push_ranks(schedule, way.solvers, 200),
         Visits::LateReports => push_late(schedule, way.solvers),
-        Visits::InTurn => Ok(()),
-    }
-}
-
-/// The schedule of visits of this way.
-pub fn schedule_of(alloc: Global, way: Way) -> Result<Vec<Visit>, AllocError> {
-    let mut schedule = Vec::new(alloc);
-    match push_visits(&mut schedule, way) {
-        Ok(()) => Ok(schedule),
-        Err(error) => {
-            drop(schedule);
-            Err(error)
-        }
+        Visits::InTurn => true,
     }
 }

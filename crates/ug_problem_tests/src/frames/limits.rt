@@ -90,12 +90,11 @@ fn read<M: Side>(alloc: Global, list: &Listed, each: u32, count: u32) -> Option<
 #[test]
 fn takes_ten_thousand_and_no_more(rt: HostRuntime) {
     let alloc = rt.alloc();
-    same(&rt, &read::<Order>(alloc, &WORK, 12, 10_000), &Some(10_000));
-    same(&rt, &read::<Order>(alloc, &WORK, 12, 10_001), &None);
-    same(
-        &rt,
-        &read::<Report>(alloc, &SOLUTION, 4, 10_000),
-        &Some(10_000),
-    );
-    same(&rt, &read::<Report>(alloc, &SOLUTION, 4, 10_001), &None);
+    let read = [
+        read::<Order>(alloc, &WORK, 12, 10_000),
+        read::<Order>(alloc, &WORK, 12, 10_001),
+        read::<Report>(alloc, &SOLUTION, 4, 10_000),
+        read::<Report>(alloc, &SOLUTION, 4, 10_001),
+    ];
+    same(&rt, &read, &[Some(10_000), None, Some(10_000), None]);
 }

@@ -27,7 +27,8 @@ fn is<M: Side>(alloc: Global, message: &M, wanted: &[i128]) -> bool {
     is_so
 }
 
-// Whether the frame is what is written of its message, also behind what the buffer has, which stays.
+// Whether the frame is what is written of its message, also behind what the buffer has, which
+// stays.
 fn is_written<M: Side>(alloc: Global, frame: &[u8]) -> bool {
     let mut buffer = Vec::new(alloc);
     let is_first = M::copy(&mut buffer, alloc, frame) && buffer.as_slice() == frame;
