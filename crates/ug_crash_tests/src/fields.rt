@@ -1,6 +1,6 @@
 use crate::expect::holds_at;
 use crate::slots::disk_with;
-use std::alloc::{AllocError, Global};
+use std::alloc::Global;
 use ug_checkpoint::{LoadError, load};
 use ug_disk::Slot;
 
@@ -47,7 +47,13 @@ fn is_in(version: u8, at: usize) -> bool {
 
 // How many places of a version stand before this place of version 3.
 fn place_in(version: u8, at: usize) -> usize {
-    (0..at).filter(|before| is_in(version, *before)).count()
+    let mut places = 0usize;
+    for before in 0..at {
+        if is_in(version, before) {
+            places = places.saturating_add(1);
+        }
+    }
+    places
 }
 
 // The image with another byte at a place, under a version.
@@ -60,46 +66,48 @@ fn changed(version: u8, (at, byte): (usize, u8)) -> [u8; 154] {
     image
 }
 
-// Puts what is in a version of an image, cut to so many bytes or with one more.
-fn put_cut(bytes: &mut Vec<u8>, version: u8, image: &[u8], len: usize) -> Result<(), AllocError> {
+// Puts what is in a version of an image, cut to so many bytes or with one more. Whether there was
+// memory for it, as of each call here.
+fn put_cut(bytes: &mut Vec<u8>, version: u8, image: &[u8], len: usize) -> bool {
+    let mut so = true;
     for (at, byte) in image.iter().enumerate() {
         if is_in(version, at) {
-            bytes.push(*byte)?;
+            so &= bytes.extend_from_slice(&[*byte]).is_ok();
         }
     }
-    bytes.push(0)?;
+    so &= bytes.extend_from_slice(&[0]).is_ok();
     bytes.truncate(len);
-    Ok(())
+    so
 }
 
-// A slot with these bytes: the gate is open and the length that of what is there.
-fn opened(alloc: Global, bytes: &[u8]) -> Result<Vec<u8>, AllocError> {
-    let mut slot = Vec::new(alloc);
+// Puts a slot with these bytes: the gate is open and the length that of what is there.
+fn put_opened(slot: &mut Vec<u8>, bytes: &[u8]) -> bool {
     let len = u8::try_from(bytes.len()).unwrap_or(0);
-    slot.extend_from_slice(&[1, 0, 0, 0, 0, 0, 0, 0, len])?;
-    slot.extend_from_slice(bytes)?;
-    Ok(slot)
+    let gate = slot.extend_from_slice(&[1, 0, 0, 0, 0, 0, 0, 0, len]);
+    gate.is_ok() && slot.extend_from_slice(bytes).is_ok()
 }
 
-// A slot with an image in a version, of which a byte is another, cut to so many bytes or with one
-// more.
-fn slot_of(
+// Puts a slot with an image in a version, of which a byte is another, cut to so many bytes or with
+// one more.
+fn put_slot(
     alloc: Global,
+    slot: &mut Vec<u8>,
     version: u8,
     change: (usize, u8),
     len: usize,
-) -> Result<Vec<u8>, AllocError> {
+) -> bool {
     let mut bytes = Vec::new(alloc);
-    let put = put_cut(&mut bytes, version, &changed(version, change), len);
-    let slot = opened(alloc, &bytes);
+    let so = put_cut(&mut bytes, version, &changed(version, change), len);
+    let so = so && put_opened(slot, &bytes);
     drop(bytes);
-    put?;
-    slot
+    so
 }
 
-// Which place of the image is named.
-fn bad_place(alloc: Global, slot: &[u8]) -> Result<Option<usize>, AllocError> {
-    let mut disk = disk_with(alloc, slot, &[])?;
+// Which place of the image is named, if there is memory to tell.
+fn bad_place(alloc: Global, slot: &[u8]) -> Option<Option<usize>> {
+    let Ok(mut disk) = disk_with(alloc, slot, &[]) else {
+        return None;
+    };
     let error = load(alloc, &mut disk).err();
     drop(disk);
     match error {
@@ -108,8 +116,8 @@ fn bad_place(alloc: Global, slot: &[u8]) -> Result<Option<usize>, AllocError> {
                 slot: Slot::Zero,
                 at,
             },
-        ) => Ok(at.checked_sub(9)),
-        _ => Ok(None),
+        ) => Some(at.checked_sub(9)),
+        _ => Some(None),
     }
 }
 
@@ -119,9 +127,13 @@ fn bad_place_of(
     version: u8,
     change: (usize, u8),
     len: usize,
-) -> Result<Option<usize>, AllocError> {
-    let slot = slot_of(alloc, version, change, len)?;
-    let place = bad_place(alloc, &slot);
+) -> Option<Option<usize>> {
+    let mut slot = Vec::new(alloc);
+    let place = if put_slot(alloc, &mut slot, version, change, len) {
+        bad_place(alloc, &slot)
+    } else {
+        None
+    };
     drop(slot);
     place
 }
@@ -145,38 +157,29 @@ fn cut_field(version: u8, len: usize) -> usize {
 }
 
 // Whether a whole image of a version is read, and its end named where a byte follows it.
-fn whole_is_read(alloc: Global, version: u8) -> Result<bool, AllocError> {
+fn whole_is_read(alloc: Global, version: u8) -> bool {
     let whole = place_in(version, 154);
-    let read = bad_place_of(alloc, version, (0, version), whole)?;
-    let more = bad_place_of(alloc, version, (0, version), whole.saturating_add(1))?;
-    Ok(read.is_none() && more == Some(whole))
+    let read = bad_place_of(alloc, version, (0, version), whole);
+    let more = bad_place_of(alloc, version, (0, version), whole.saturating_add(1));
+    read == Some(None) && more == Some(Some(whole))
 }
 
 // Whether the right field is named wherever an image of a version is cut.
-fn cuts_are_named(alloc: Global, version: u8) -> Result<bool, AllocError> {
-    let whole = place_in(version, 154);
-    for len in 0..whole {
-        let place = bad_place_of(alloc, version, (0, version), len)?;
-        if place != Some(cut_field(version, len)) {
-            return Ok(false);
+fn cuts_are_named(alloc: Global, version: u8) -> bool {
+    for len in 0..place_in(version, 154) {
+        let place = bad_place_of(alloc, version, (0, version), len);
+        if place != Some(Some(cut_field(version, len))) {
+            return false;
         }
     }
-    Ok(true)
+    true
 }
 
 #[test]
 fn field_that_is_cut_short_is_named(rt: HostRuntime) {
     for version in 1..4 {
-        holds_at(
-            &rt,
-            cuts_are_named(rt.alloc(), version) == Ok(true),
-            &version,
-        );
-        holds_at(
-            &rt,
-            whole_is_read(rt.alloc(), version) == Ok(true),
-            &version,
-        );
+        holds_at(&rt, cuts_are_named(rt.alloc(), version), &version);
+        holds_at(&rt, whole_is_read(rt.alloc(), version), &version);
     }
 }
 
@@ -237,7 +240,7 @@ const LATER: &[(u8, (usize, u8, usize))] = &[
 // Whether this place is named where a byte of a version is another.
 fn is_named(alloc: Global, version: u8, (at, byte, named): (usize, u8, usize)) -> bool {
     let place = bad_place_of(alloc, version, (at, byte), place_in(version, 154));
-    place == Ok(Some(place_in(version, named)))
+    place == Some(Some(place_in(version, named)))
 }
 
 #[test]

@@ -8,7 +8,10 @@ use ug_real::{FileDisk, RealFolder};
 
 // Whether the last call that failed did so for this cause.
 fn failed_for(error: Option<&io::Error>, kind: io::ErrorKind) -> bool {
-    error.is_some_and(|error| error.kind() == kind)
+    match error {
+        Some(error) => error.kind() == kind,
+        None => false,
+    }
 }
 
 // Whether all bytes of the slot are these.

@@ -32,8 +32,13 @@ pub fn slot_of(run: u8, sequence: u8, gap: u8) -> [u8; 113] {
 /// Which calls of a disk fail, and after which of them it stops.
 pub fn script_of(alloc: Global, failing: &[u64], stopping: &[u64]) -> Result<Script, AllocError> {
     let failing = failing.to_vec(alloc)?;
-    let stopping = stopping.to_vec(alloc)?;
-    Ok(Script { failing, stopping })
+    match stopping.to_vec(alloc) {
+        Ok(stopping) => Ok(Script { failing, stopping }),
+        Err(error) => {
+            drop(failing);
+            Err(error)
+        }
+    }
 }
 
 /// A disk with these bytes in its slots, whose calls fail and stop it as the script says.

@@ -5,7 +5,7 @@ ghost use Rattle.ug_checkpoint.specs.Savers.{IsKept};
 use crate::expect::{holds, holds_at, same};
 use crate::savers::{opened, save_bytes};
 use crate::slots::{disk_with, nothing, settings, slot_of};
-use std::alloc::{AllocError, Global};
+use std::alloc::Global;
 use ug_checkpoint::{Saver, load};
 use ug_disk::{MemoryDisk, Slot};
 use ug_problem::Shared;
@@ -18,36 +18,27 @@ pub struct Range {
     pub end: usize,
 }
 
-// The image of run 1 under a sequence, of a problem with one column of 16 letters and no rows, with
-// so many nodes: 109 bytes and 20 a node.
-fn put_image(bytes: &mut Vec<u8>, sequence: u8, nodes: u16) -> Result<(), AllocError> {
-    bytes.extend_from_slice(b"\x03\0\0\0\0\0\0\0\x01\0\0\0\0\0\0\0")?;
-    bytes.push(sequence)?;
-    bytes.extend_from_slice(b"\0\0\0\x37\0\0\0\x01\x10sixteen_letters_")?;
-    put_zeros(bytes, 65)?;
-    put_nodes(bytes, nodes)
+// Puts the image of run 1 under a sequence, of a problem with one column of 16 letters and no rows,
+// with so many nodes: 109 bytes and 20 a node. Whether there was memory for it.
+fn put_image(bytes: &mut Vec<u8>, sequence: u8, nodes: u16) -> bool {
+    put(bytes, b"\x03\0\0\0\0\0\0\0\x01\0\0\0\0\0\0\0")
+        & put(bytes, &[sequence])
+        & put(bytes, b"\0\0\0\x37\0\0\0\x01\x10sixteen_letters_")
+        & put(bytes, &[0; 65])
+        & put_nodes(bytes, nodes)
 }
 
-fn put_zeros(bytes: &mut Vec<u8>, count: usize) -> Result<(), AllocError> {
-    for _ in 0..count {
-        bytes.push(0)?;
-    }
-    Ok(())
-}
-
-fn put_node(bytes: &mut Vec<u8>, node: u16) -> Result<(), AllocError> {
-    put_zeros(bytes, 14)?;
-    bytes.extend_from_slice(&u16::to_be_bytes(node))?;
-    put_zeros(bytes, 4)
+fn put(bytes: &mut Vec<u8>, more: &[u8]) -> bool {
+    bytes.extend_from_slice(more).is_ok()
 }
 
 // Their count, and the nodes.
-fn put_nodes(bytes: &mut Vec<u8>, nodes: u16) -> Result<(), AllocError> {
-    bytes.extend_from_slice(&u16::to_be_bytes(nodes))?;
+fn put_nodes(bytes: &mut Vec<u8>, nodes: u16) -> bool {
+    let mut so = put(bytes, &u16::to_be_bytes(nodes));
     for node in 0..nodes {
-        put_node(bytes, node)?;
+        so &= put(bytes, &[0; 14]) & put(bytes, &u16::to_be_bytes(node)) & put(bytes, &[0; 4]);
     }
-    Ok(())
+    so
 }
 
 // The bytes with this one in the places from one to another.
@@ -104,7 +95,7 @@ fn save_image(
     let put = put_image(&mut bytes, sequence, nodes);
     let _ = save_bytes(alloc, disk, saver, &bytes);
     drop(bytes);
-    put.ok()
+    if put { Some(()) } else { None }
 }
 
 // Two images are saved, and then a third over the first, with so many nodes.
@@ -310,6 +301,6 @@ fn restart_that_stops_leaves_the_image_before_or_its_own(rt: HostRuntime) {
     holds(&rt, loaded < all);
     for stop in loaded..all.saturating_add(1) {
         let images = images_left(alloc, open, stop, stop == all);
-        holds_at(&rt, images.is_some_and(|images| images >= 3), &stop);
+        holds_at(&rt, images.unwrap_or(0) >= 3, &stop);
     }
 }
