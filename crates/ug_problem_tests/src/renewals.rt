@@ -57,6 +57,10 @@ impl Seat for Notebook {
 
     ghost over = { λ seat. Unit {0} };
 
+    type Home = u64;
+
+    ghost home = { λ seat. 0 };
+
     fn take(&mut self) -> Result<Took, Untaken> {
         let took = self.next();
         Ok(took)

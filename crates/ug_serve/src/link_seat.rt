@@ -252,6 +252,11 @@ impl<L: Link + Drop> Seat for LinkSeat<L> {
 
     ghost over = { λ seat. IsOver (seat_seen L.seen seat.wire seat.kept) };
 
+    // What is said of the seat names nothing that stands outside it.
+    type Home = u64;
+
+    ghost home = { λ seat. 0 };
+
     fn take(&mut self) -> Result<Took, Untaken> {
         for _ in 0..u64::MAX {
             let Some(order) = self.wire.next() else {

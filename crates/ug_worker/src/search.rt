@@ -53,6 +53,7 @@ impl Search {
             (StandsAt (S.at seat.new self.new.tally) self.new.task 0 self.new.asked) }
         ensures err { IfErr result
             (λ left. EndsAs (S.at seat.new) self.new.tally left self.new.task) }
+        ensures home { S.home seat.new ≡ S.home seat.old }
     {
         let reply = seat.look();
         self.obey(seat, reply)
@@ -66,6 +67,7 @@ impl Search {
             (StandsAt (S.at seat.new self.new.tally) self.new.task 0 self.new.asked) }
         ensures err { IfErr result
             (λ left. EndsAs (S.at seat.new) self.new.tally left self.new.task) }
+        ensures home { S.home seat.new ≡ S.home seat.old }
     {
         if self.steps(seat).is_err() {
             return Err(Left::Wanting);
@@ -89,6 +91,7 @@ impl Search {
         ensures ok { OnOk result
             (HasStepped (S.at seat.new self.new.tally) self.new.task self.new.asked) }
         ensures err { OnErr result (Stands (S.at seat.new)) }
+        ensures home { S.home seat.new ≡ S.home seat.old }
     {
         for made in 0..STEPS {
             if !self.step(seat, made)? {
@@ -106,6 +109,7 @@ impl Search {
             (λ more. HasMade (S.at seat.new self.new.tally) more made self.new.task
             self.new.asked) }
         ensures err { OnErr result (Stands (S.at seat.new)) }
+        ensures home { S.home seat.new ≡ S.home seat.old }
     {
         match self.task.step()? {
             Step::Found(point) => {
@@ -126,6 +130,7 @@ impl Search {
         ensures ok { OnOk result
             (HasHanded (S.at seat.new self.new.tally) self.new.task self.new.asked) }
         ensures err { OnErr result (Stands (S.at seat.new)) }
+        ensures home { S.home seat.new ≡ S.home seat.old }
     {
         for _ in 0..self.asked.count {
             if !self.hand(seat)? {
@@ -143,6 +148,7 @@ impl Search {
         ensures given { IfOk result (λ more. HasGiven (S.at seat.new self.new.tally) more
             self.old.asked.count self.new.task self.new.asked) }
         ensures err { OnErr result (Stands (S.at seat.new)) }
+        ensures home { S.home seat.new ≡ S.home seat.old }
     {
         let Some(handed) = self.task.hand()? else {
             return Ok(false);
@@ -159,7 +165,8 @@ impl Search {
     fn renew<S: Seat>(&mut self, seat: &mut S) -> Left
         requires handed { HasHanded (S.at seat.old self.old.tally) self.old.task self.old.asked }
         requires due { IsDue self.old.tally self.old.asked.racing }
-        ensures { EndsAs (S.at seat.new) self.new.tally result self.new.task }
+        ensures ends { EndsAs (S.at seat.new) self.new.tally result self.new.task }
+        ensures home { S.home seat.new ≡ S.home seat.old }
     {
         match self.give_all(seat) {
             Ok(()) => {
@@ -177,6 +184,7 @@ impl Search {
             (IsGiving (S.at seat.new self.new.tally) self.new.tally self.new.task) }
         ensures none { OnOk result (self.new.task.boxes ≡ []) }
         ensures err { OnErr result (Stands (S.at seat.new)) }
+        ensures home { S.home seat.new ≡ S.home seat.old }
     {
         for _ in 0..self.task.left() {
             self.give(seat)?;
@@ -192,6 +200,7 @@ impl Search {
             (IsGiving (S.at seat.new self.new.tally) self.new.tally self.new.task) }
         ensures less { OnOk result (length self.old.task.boxes ≡ length self.new.task.boxes + 1) }
         ensures err { OnErr result (Stands (S.at seat.new)) }
+        ensures home { S.home seat.new ≡ S.home seat.old }
     {
         let Some(handed) = self.task.give()? else {
             unreachable!()
@@ -211,6 +220,7 @@ impl Search {
             (StandsAt (S.at seat.new self.new.tally) self.new.task 0 self.new.asked) }
         ensures err { IfErr result
             (λ left. EndsAs (S.at seat.new) self.new.tally left self.new.task) }
+        ensures home { S.home seat.new ≡ S.home seat.old }
     {
         let left = self.task.left();
         match self.task.lowest() {
@@ -230,6 +240,7 @@ impl Search {
             (StandsAt (S.at seat.new self.new.tally) self.new.task 0 self.new.asked) }
         ensures err { IfErr result
             (λ left. EndsAs (S.at seat.new) self.new.tally left self.new.task) }
+        ensures home { S.home seat.new ≡ S.home seat.old }
     {
         match seat.state(left, floor) {
             Ok(reply) => {

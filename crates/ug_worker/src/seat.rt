@@ -26,26 +26,34 @@ pub trait Seat {
     /// No work comes any more.
     ghost over: { Self → Type 0 };
 
+    /// What a seat stands at, which no call changes.
+    type Home;
+
+    ghost home: { Self → Self.Home };
+
     /// The work that there is.
     fn take(&mut self) -> Result<Took, Untaken>
         requires at { (tally : Tally) × at self.old tally None }
         ensures took { (tally : Tally) → at self.old tally None
             → IfOk result (HasTaken (at self.new) tally (over self.new)) }
-        ensures err { OnErr result (Stands (at self.new)) };
+        ensures err { OnErr result (Stands (at self.new)) }
+        ensures home { home self.new ≡ home self.old };
 
     /// What is ordered before the first round of a task.
     fn look(&mut self) -> Reply
         requires at { (tally : Tally) × (e : Engaged) × at self.old tally (Some e) × (e.made ≡ 0) }
         ensures small { IsSmallCutoff result.cutoff }
         ensures replied { (tally : Tally) (e : Engaged) → at self.old tally (Some e) → e.made ≡ 0
-            → IsReplied (at self.new tally) e.task result };
+            → IsReplied (at self.new tally) e.task result }
+        ensures home { home self.new ≡ home self.old };
 
     /// A point that was found.
     fn solution(&mut self, point: Point)
         requires at { (tally : Tally) × (e f : Engaged) × at self.old tally (Some e)
             × IsFoundBy e point f }
-        ensures { (tally : Tally) (e f : Engaged) → at self.old tally (Some e)
-            → IsFoundBy e point f → at self.new tally (Some f) };
+        ensures found { (tally : Tally) (e f : Engaged) → at self.old tally (Some e)
+            → IsFoundBy e point f → at self.new tally (Some f) }
+        ensures home { home self.new ≡ home self.old };
 
     /// A box that is handed, or given where the task is renewed.
     fn hand(&mut self, number: u64, area: &IntBox) -> Result<(), AllocError>
@@ -53,7 +61,8 @@ pub trait Seat {
             × IsHandedBy tally e number area.now f }
         ensures ok { (tally : Tally) (e f : Engaged) → at self.old tally (Some e)
             → IsHandedBy tally e number area.now f → OnOk result (at self.new tally (Some f)) }
-        ensures err { OnErr result (Stands (at self.new)) };
+        ensures err { OnErr result (Stands (at self.new)) }
+        ensures home { home self.new ≡ home self.old };
 
     /// How many boxes are left, and the least of their floors; and what is ordered before the next
     /// round. The round is counted.
@@ -66,30 +75,35 @@ pub trait Seat {
         ensures replied { (tally : Tally) (e f : Engaged) → at self.old tally (Some e)
             → IsStatedBy tally e left floor f
             → IfOk result (IsReplied (at self.new (counted tally)) f.task) }
-        ensures err { OnErr result (Stands (at self.new)) };
+        ensures err { OnErr result (Stands (at self.new)) }
+        ensures home { home self.new ≡ home self.old };
 
     /// A task of which no box is left.
     fn done(&mut self, task: Task)
         requires none { task.boxes ≡ [] }
         requires at { (tally : Tally) × (e : Engaged) × at self.old tally (Some e)
             × IsDoneBy e task }
-        ensures { (tally : Tally) (e : Engaged) → at self.old tally (Some e) → IsDoneBy e task
-            → at self.new tally None };
+        ensures done { (tally : Tally) (e : Engaged) → at self.old tally (Some e) → IsDoneBy e task
+            → at self.new tally None }
+        ensures home { home self.new ≡ home self.old };
 
     /// The worker ends in the middle of a task.
     fn give_up(&mut self, task: Task)
         requires { Stands (at self.old) }
-        ensures { over self.new };
+        ensures over { over self.new }
+        ensures home { home self.new ≡ home self.old };
 
     /// The worker ends.
     fn leave(&mut self)
         requires { Stands (at self.old) }
-        ensures { over self.new };
+        ensures over { over self.new }
+        ensures home { home self.new ≡ home self.old };
 
     /// Waits until there may be work, after a `take` that was answered Wait. False where no work
     /// can come.
     fn rest(&mut self) -> bool
         requires { (tally : Tally) × at self.old tally None }
-        ensures { (tally : Tally) → at self.old tally None
-            → MatchBool result (at self.new tally None) (over self.new) };
+        ensures rested { (tally : Tally) → at self.old tally None
+            → MatchBool result (at self.new tally None) (over self.new) }
+        ensures home { home self.new ≡ home self.old };
 }

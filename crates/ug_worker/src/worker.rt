@@ -17,7 +17,8 @@ use ug_base::Task;
 /// this says, if it is there.
 pub fn work<R: Wait, S: Seat>(rt: &R, seat: &mut S, renewal: Option<Renewal>)
     requires { S.at seat.old (fresh renewal) None }
-    ensures { S.over seat.new }
+    ensures over { S.over seat.new }
+    ensures home { S.home seat.new ≡ S.home seat.old }
 {
     let mut worker = Worker::new(renewal);
     for _ in rt.forever() {
@@ -59,7 +60,8 @@ impl Worker {
     /// Takes what there is where it has no task, and else makes a round of steps.
     pub fn step<S: Seat>(&mut self, seat: &mut S) -> Pace
         requires { IsAtWork (S.at seat.old) self.old.tally self.old.search }
-        ensures { HasPaced (S.at seat.new) (S.over seat.new) self.new.tally self.new.search result }
+        ensures paced { HasPaced (S.at seat.new) (S.over seat.new) self.new.tally self.new.search result }
+        ensures home { S.home seat.new ≡ S.home seat.old }
     {
         match self.search.take() {
             Some(search) => self.go_on(seat, search),
@@ -70,7 +72,8 @@ impl Worker {
     // Makes a round of steps.
     fn go_on<S: Seat>(&mut self, seat: &mut S, mut search: Search) -> Pace
         requires { StandsAt (S.at seat.old search.tally) search.task 0 search.asked }
-        ensures { HasPaced (S.at seat.new) (S.over seat.new) self.new.tally self.new.search result }
+        ensures paced { HasPaced (S.at seat.new) (S.over seat.new) self.new.tally self.new.search result }
+        ensures home { S.home seat.new ≡ S.home seat.old }
     {
         let went = search.round(seat);
         self.keep(seat, search, went)
@@ -80,7 +83,8 @@ impl Worker {
     fn take<S: Seat>(&mut self, seat: &mut S) -> Pace
         requires at { S.at seat.old self.old.tally None }
         requires none { self.old.search ≡ None }
-        ensures { HasPaced (S.at seat.new) (S.over seat.new) self.new.tally self.new.search result }
+        ensures paced { HasPaced (S.at seat.new) (S.over seat.new) self.new.tally self.new.search result }
+        ensures home { S.home seat.new ≡ S.home seat.old }
     {
         match seat.take() {
             Ok(Took::Work(task)) => self.begin(seat, task),
@@ -96,7 +100,8 @@ impl Worker {
     // Begins with a task.
     fn begin<S: Seat>(&mut self, seat: &mut S, task: Task) -> Pace
         requires { HasBegun (S.at seat.old (begun self.old.tally)) task }
-        ensures { HasPaced (S.at seat.new) (S.over seat.new) self.new.tally self.new.search result }
+        ensures paced { HasPaced (S.at seat.new) (S.over seat.new) self.new.tally self.new.search result }
+        ensures home { S.home seat.new ≡ S.home seat.old }
     {
         self.tally.begin();
         let mut search = Search {
@@ -115,7 +120,8 @@ impl Worker {
     fn keep<S: Seat>(&mut self, seat: &mut S, search: Search, went: Result<(), Left>) -> Pace
         requires ok { OnOk went (StandsAt (S.at seat.old search.tally) search.task 0 search.asked) }
         requires err { IfErr went (λ left. EndsAs (S.at seat.old) search.tally left search.task) }
-        ensures { HasPaced (S.at seat.new) (S.over seat.new) self.new.tally self.new.search result }
+        ensures paced { HasPaced (S.at seat.new) (S.over seat.new) self.new.tally self.new.search result }
+        ensures home { S.home seat.new ≡ S.home seat.old }
     {
         self.tally = search.tally;
         match went {
@@ -134,7 +140,8 @@ impl Worker {
     // Leaves a task.
     fn leave<S: Seat>(&self, seat: &mut S, task: Task, left: Left) -> Pace
         requires { EndsAs (S.at seat.old) self.now.tally left task }
-        ensures { HasPaced (S.at seat.new) (S.over seat.new) self.now.tally None result }
+        ensures paced { HasPaced (S.at seat.new) (S.over seat.new) self.now.tally None result }
+        ensures home { S.home seat.new ≡ S.home seat.old }
     {
         match left {
             Left::Nothing => {

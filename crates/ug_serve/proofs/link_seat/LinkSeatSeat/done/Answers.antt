@@ -5,8 +5,8 @@ use Rattle.ug_serve.specs.Deeds.{Busy, Free}
 use Rattle.ug_serve.specs.Seats.{basis_of}
 use Rattle.ug_serve.proofs.link_seat.LinkSeatSeat.done.Goals as goal
 
-pub returns : goal.returns
-returns g c tally e seated done = record {
+pub returns-clause-done : goal.returns-clause-done
+returns-clause-done g c tally e seated done = record {
   gap = seated.gap;
   agrees = tt;
   stands = c.tell.ensures (Busy (basis_of c.args.self.now.kept) tally e)

@@ -10,8 +10,8 @@ tell-requires g c =
     let (tally, e, f, seated, found) = c.requires.at in
     solution_carried c.args.self.now.kept e f c.args.point seated.agrees found
 
-pub returns : goal.returns
-returns g c tally e f seated found = record {
+pub returns-clause-found : goal.returns-clause-found
+returns-clause-found g c tally e f seated found = record {
   gap = seated.gap;
   agrees = found_agrees c.args.self.now.kept e f c.args.point seated.agrees found;
   stands = c.tell.ensures (Busy (basis_of c.args.self.now.kept) tally e)

@@ -7,4 +7,5 @@ invariant-loop g l = record {
   giving : IsGiving (g.S.Seat.at l.seat l.self.tally) l.self.tally l.self.task;
   rest : l.counter + length l.self.task.boxes ≡ l.end;
   within : l.counter ≤ l.end;
+  home : g.S.Seat.home l.seat ≡ g.S.Seat.home l.initial.seat;
 }

@@ -8,4 +8,5 @@ invariant-loop g l = record {
   rest : l.counter + l.self.asked.count ≡ l.end;
   within : l.counter ≤ l.end;
   some : 0 < length l.self.task.boxes;
+  home : g.S.Seat.home l.seat ≡ g.S.Seat.home l.initial.seat;
 }

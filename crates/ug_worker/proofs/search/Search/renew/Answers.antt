@@ -7,8 +7,8 @@ give_all-requires g c =
     to_give (g.S.Seat.at c.args.seat.now tally) tally c.args.self.now.task c.args.self.now.asked
     c.requires.handed c.requires.due
 
-pub returns-in-Ok : goal.returns-in-Ok
-returns-in-Ok g c =
+pub returns-in-Ok-clause-ends : goal.returns-in-Ok-clause-ends
+returns-in-Ok-clause-ends g c =
     let tally = c.give_all.new.self.tally in
     all_given (g.S.Seat.at c.give_all.new.seat tally) tally c.give_all.new.self.task c.in-Ok.ensures.given
     c.is_one.ensures c.in-Ok.ensures.none

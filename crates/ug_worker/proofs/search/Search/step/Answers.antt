@@ -31,7 +31,7 @@ returns-in-Found-clause-stands g c =
     let now = found_now At s.now c.step.new.self c.args.made in
     stands_found (g.S.Seat.at c.solution.new.self tally) c.step.new.self s.now c.args.made c.args.self.now.asked
     c.requires.room s.due s.racing
-    (c.solution.ensures tally s.now now s.at
+    (c.solution.ensures.found tally s.now now s.at
     (found_by At c.args.self.now.task c.step.new.self c.args.made c.args.self.now.asked c.in-Found.point
     c.requires.room found c.is_one.ensures s))
 
