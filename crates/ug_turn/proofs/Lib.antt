@@ -5,3 +5,4 @@ mod Sharing
 mod Ends
 mod Making
 pub mod Calling
+pub mod Crossing
