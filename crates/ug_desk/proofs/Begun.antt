@@ -26,9 +26,11 @@ begun o b tickets is all =
     length-replicate o.settings.solvers Absent in
     record {
       history = [];
-      replays = ap (λ (k : BookState). with_tickets k tickets) (sym is)
-          ∙ ap (λ (ts : List Ticket). with_tickets (opening_book o) ts) all;
-      counted = refl;
+      replayed = record {
+        replays = ap (λ (k : BookState). with_tickets k tickets) (sym is)
+            ∙ ap (λ (ts : List Ticket). with_tickets (opening_book o) ts) all;
+        counted = refl;
+      };
       same = subst (λ k. IsSameRun (opening_book o) k) is
           (record { problem = refl; run = refl; settings = refl; wide = refl });
       sound = λ covered. subst IsSoundBook is

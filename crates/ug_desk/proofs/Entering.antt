@@ -1,8 +1,10 @@
 -- A history that is longer by one call.
-use Rattle.std.proofs.Common.{◌≡◌, ℕ, ◌+◌, ◌-◌, ◌^◌, ◌<◌, min, List, [], ◌∷◌, ◌++◌, length, refl, sym, ◌∙◌, ap, subst, arith}
+use Rattle.std.proofs.Common.{◌≡◌, ◌≢◌, inl, inr, ℕ, ◌+◌, ◌-◌, ◌^◌, ◌<◌, min, List, [], ◌∷◌, ◌++◌, length, refl, sym, ◌∙◌, ap, subst, arith}
 use Rattle.std.proofs.lemmas.List.{length-append, length-set}
 use Rattle.std.specs.Prelude.{ℤ, Result, Ok, Err, IfOk, IfErr, OnErr}
 use Rattle.ug_nodes.specs.declared.name.Ticket.{Ticket}
+use Rattle.ug_rules.specs.declared.heard.Heard.{Heard}
+use Rattle.ug_rules.specs.declared.heard.Heard.TheVariants.{Kept}
 use Rattle.ug_rules.specs.State.{BookState}
 use Rattle.ug_rules.specs.Books.{IsSoundBook}
 use Rattle.ug_book.specs.Views.{IsSameRun}
@@ -11,12 +13,15 @@ use Rattle.ug_worker.specs.declared.took.Took.{Took}
 use Rattle.ug_worker.specs.declared.took.Took.TheVariants.{Work, Wait, Over}
 use Rattle.ug_worker.specs.declared.took.Untaken.{Untaken}
 use Rattle.ug_worker.specs.declared.reply.Reply.{Reply}
-use Rattle.ug_desk.specs.DeskStates.{DeskState, own_ticket}
+use Rattle.ug_book.specs.Openings.{IsCoveredOpening, opening_book}
+use Rattle.ug_desk.specs.DeskStates.{DeskState, opening_state, own_ticket}
 use Rattle.ug_desk.specs.Takes.{HasAnswered, IsCutShort, tickets_after}
-use Rattle.ug_desk.specs.Reports.{HasNotStated, HasStated}
-use Rattle.ug_desk.specs.Histories.{Call, Entry, Replays, Step, stated, taken}
-use Rattle.ug_desk.specs.Entries.{HasEntered, IsLocked, LockedState, one_more}
-use Rattle.ug_desk.specs.Passes.{IsFor}
+use Rattle.ug_desk.specs.Reports.{HasNotStated, HasOffered, HasStated}
+use Rattle.ug_desk.specs.Histories.{Call, Entry, Replays, Step, offered, stated, taken}
+use Rattle.ug_desk.specs.Entries.{HasEntered, IsLocked, IsReplayed, LockedState, one_more}
+use Rattle.ug_desk.specs.Words.{word_of}
+use Rattle.ug_desk.proofs.Incumbents.{OffersNone, kept_or_not, step_stays, unkept}
+use Rattle.ug_desk.proofs.Falling.{word_stays}
 
 replays_more : (old mid new : DeskState) (history : List Entry) (entry : Entry)
     → Replays old history mid → Step entry.pass entry.call mid new
@@ -40,25 +45,39 @@ along a b c s t = record {
 }
 
 -- an entry more leads to what stands then
+pub replayed_more : (old new : LockedState) (history : List Entry) (r : ℕ) (call : Call)
+    → IsReplayed old history → HasEntered r call old new
+    → IsReplayed new (history ++ record { pass = r; call = call } ∷ [])
+replayed_more old new history r call l t =
+    let entry : Entry = record { pass = r; call = call } in
+    let longer : length (history ++ entry ∷ []) ≡ length history + 1 =
+    length-append history (entry ∷ []) in
+    record {
+      replays = subst (λ o. Replays (opening_state o) (history ++ entry ∷ []) new.now) (sym t.opening)
+          (replays_more _ old.now new.now history entry l.replays t.step);
+      counted = t.count
+          ∙ (count_more old.count (length history) l.counted
+          ∙ ap (λ n. min n (2 ^ 64 - 1)) (sym longer));
+    }
+
 pub entered : (old new : LockedState) (r : ℕ) (call : Call) → IsLocked old
     → HasEntered r call old new → IsSameRun old.now.book new.now.book
     → (IsSoundBook old.now.book → IsSoundBook new.now.book)
     → length new.now.tickets ≡ length old.now.tickets → IsLocked new
-entered old new r call l t same sound wide =
-    let entry : Entry = record { pass = r; call = call } in
-    let longer : length (l.history ++ entry ∷ []) ≡ length l.history + 1 =
-    length-append l.history (entry ∷ []) in
-    subst (λ o. IsLocked (record { opening = o; now = new.now; count = new.count })) (sym t.opening)
-    (record {
-      history = l.history ++ entry ∷ [];
-      replays = replays_more _ old.now new.now l.history entry l.replays t.step;
-      counted = t.count
-          ∙ (count_more old.count (length l.history) l.counted
-          ∙ ap (λ n. min n (2 ^ 64 - 1)) (sym longer));
-      same = along _ old.now.book new.now.book l.same same;
-      sound = λ covered. sound (l.sound covered);
-      wide = wide ∙ (l.wide ∙ sym same.wide);
-    })
+entered old new r call l t same sound wide = record {
+  history = l.history ++ record { pass = r; call = call } ∷ [];
+  replayed = replayed_more old new l.history r call l.replayed t;
+  same = subst (λ o. IsSameRun (opening_book o) new.now.book) (sym t.opening)
+      (along _ old.now.book new.now.book l.same same);
+  sound = λ covered. sound (l.sound (subst IsCoveredOpening t.opening covered));
+  wide = wide ∙ (l.wide ∙ sym same.wide);
+}
+
+-- the word that is kept is that of what stands then, where no point was offered
+pub word_after : (word r : ℕ) (call : Call) (old new : DeskState) → word ≡ word_of old.book
+    → OffersNone call → IsSameRun old.book new.book → Step r call old new → word ≡ word_of new.book
+word_after word r call old new is none same s =
+    is ∙ sym (word_stays old.book new.book same (step_stays r call old new none s))
 
 -- where the book alone changed
 pub entered_by : (l : LockedState) (b : BookState) (count r : ℕ) (call : Call) → IsLocked l
@@ -71,6 +90,41 @@ pub entered_by : (l : LockedState) (b : BookState) (count r : ℕ) (call : Call)
     })
 entered_by l b count r call is step same sound counted =
     entered l _ r call is (record { step = step; opening = refl; count = counted }) same sound refl
+
+-- and no point was offered: the word that is kept is still that of the cutoff
+pub entered_none : (l : LockedState) (b : BookState) (count r word : ℕ) (call : Call)
+    → IsLocked l × (word ≡ word_of l.now.book)
+    → Step r call l.now (record { book = b; tickets = l.now.tickets }) → IsSameRun l.now.book b
+    → (IsSoundBook l.now.book → IsSoundBook b) → count ≡ one_more l.count → OffersNone call
+    → IsLocked (record {
+      opening = l.opening;
+      now = record { book = b; tickets = l.now.tickets };
+      count = count;
+    }) × (word ≡ word_of b)
+entered_none l b count r word call is step same sound counted none = (
+  entered_by l b count r call is.0 step same sound counted,
+  word_after word r call l.now _ is.1 none same step,
+)
+
+-- a point was offered: the word that is kept is that of the cutoff behind it
+pub entered_point : (l : LockedState) (b : BookState) (count r word was : ℕ) (x : List ℤ) (answer : Heard)
+    → IsLocked l × (was ≡ word_of l.now.book)
+    → HasOffered r (own_ticket l.now r) x answer l.now.book b → IsSameRun l.now.book b
+    → (IsSoundBook l.now.book → IsSoundBook b) → count ≡ one_more l.count
+    → (answer ≡ Kept → word ≡ word_of b) → (answer ≢ Kept → word ≡ was)
+    → IsLocked (record {
+      opening = l.opening;
+      now = record { book = b; tickets = l.now.tickets };
+      count = count;
+    }) × (word ≡ word_of b)
+entered_point l b count r word was x answer is step same sound counted kept other = (
+  entered_by l b count r (offered x answer) is.0 (record { book = step; tickets = refl }) same sound counted,
+  elim (kept_or_not answer) [
+    | inl one ↦ kept one
+    | inr two ↦ other two ∙ (is.1 ∙ sym (word_stays l.now.book b same
+        (unkept r (own_ticket l.now r) x answer l.now.book b two step)))
+  ],
+)
 
 -- a step by the answer of the call
 pub stated_step : (result : Result Reply Unfinished) (r left : ℕ) (floor : ℤ) (s : DeskState)
@@ -118,11 +172,3 @@ stated_by result r left z floor s ticket b its is ok err =
     (λ k. IfErr result (λ (e : Unfinished). HasNotStated r k left floor e.stood s.book b)) its
     (subst
     (λ z. IfErr result (λ (e : Unfinished). HasNotStated r ticket left z e.stood s.book b)) is err))
-
--- what was done for a rank that is here
-pub for_one_here : (Does : LockedState → LockedState → Type 0) (mid old new : LockedState) (r : ℕ)
-    → mid ≡ old → r < length old.now.book.ranks → Does mid new → IsFor r Does old new
-for_one_here Does mid old new r is here done = record {
-  here = λ _. subst (λ k. Does k new) is done;
-  other = λ less. absurd (omega (arith, less, here));
-}

@@ -6,3 +6,8 @@ pub mod Ends
 pub mod Entering
 pub mod Saving
 pub mod Begun
+mod Incumbents
+mod Falling
+mod Turns
+pub mod Seating
+pub mod Crossing

@@ -26,12 +26,16 @@ pub record LockedState : Type 0 where
 abbrev pub one_more : ℕ → ℕ
 one_more count = min (count + 1) (2 ^ 64 - 1)
 
--- there is a history of that length, which leads from the opening to what stands now; the book has
--- the opening's problem, run and settings, and is sound where that is covered; each rank has a pass
-pub record IsLocked (l : LockedState) : Type 0 where
-  pub history : List Entry
+-- this history leads from the opening to what stands now, and is as long as counted
+pub record IsReplayed (l : LockedState) (history : List Entry) : Type 0 where
   pub replays : Replays (opening_state l.opening) history l.now
   pub counted : l.count ≡ min (length history) (2 ^ 64 - 1)
+
+-- there is a history that leads to it; the book has the opening's problem, run and settings, and is
+-- sound where that is covered; each rank has a ticket
+pub record IsLocked (l : LockedState) : Type 0 where
+  pub history : List Entry
+  pub replayed : IsReplayed l history
   pub same : IsSameRun (opening_book l.opening) l.now.book
   pub sound : IsCoveredOpening l.opening → IsSoundBook l.now.book
   pub wide : length l.now.tickets ≡ length l.now.book.ranks

@@ -9,4 +9,5 @@ pub mod Entries
 pub mod Passes
 pub mod Views
 pub mod DeskStates
-pub mod Widths
+pub mod Words
+pub mod Shelves

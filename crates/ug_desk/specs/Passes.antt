@@ -1,29 +1,181 @@
--- What a call does for a rank that is here, and for one that is not.
-use Rattle.std.specs.Prelude.{◌≡◌, ◌≢◌, ℕ, ◌<◌, ◌≤◌, true, false, None, List, length}
+-- A pass: what it has seen of the history of its desk, and what a call of it does.
+use Rattle.std.specs.Prelude.{◌≡◌, ◌≢◌, ◌⊎◌, ℕ, ℤ, ◌<◌, ◌≤◌, min, List, [], ◌++◌, length, Option, Some, None, IfSome}
+use Rattle.std.specs.Prelude.{false, slice_get, unsigned_abs, ◌*◌, ◌^◌}
+use mathlib.Core.List.{IsPrefix}
+use Rattle.atomic_table.specs.Seated.{TableId}
 use Rattle.ug_rows.specs.declared.area.Interval.{Interval}
+use Rattle.ug_base.specs.Tasks.{TaskState}
+use Rattle.ug_ranks.specs.Looks.{is_alive}
+use Rattle.ug_ranks.specs.States.{state_at}
 use Rattle.ug_rules.specs.declared.heard.Heard.{Heard}
 use Rattle.ug_rules.specs.declared.heard.Heard.TheVariants.{Stale}
-use Rattle.ug_worker.specs.declared.reply.Reply.{Reply}
-use Rattle.ug_desk.specs.Histories.{handed}
-use Rattle.ug_desk.specs.Entries.{HasEntered, LockedState}
+use Rattle.ug_book.specs.declared.opening.Opening.{Opening}
+use Rattle.ug_snapshot.specs.Snapshots.{SnapshotState}
+use Rattle.ug_turn.specs.Histories.{calls_by, longer, told}
+use Rattle.ug_turn.specs.Locks.{id_of, passes_of}
+use Rattle.ug_turn.specs.Seats.{IsAtRest, IsAtRestAt, lock_of, view_of}
+use Rattle.ug_desk.specs.declared.desk.Desk.{Desk}
+use Rattle.ug_desk.specs.declared.pass.Pass.TheInside.{Inside}
+use Rattle.ug_desk.specs.Dones.{IsOfTicket}
+use Rattle.ug_desk.specs.Histories.{Call, Entry, copied, ended, handed, left}
+use Rattle.ug_desk.specs.Entries.{IsReplayed, IsSnapshotOf, LockedState}
+use Rattle.ug_desk.specs.Shelves.{SeatState, ViewState}
+use Rattle.ug_desk.specs.Words.{cutoff_at, floor_of, word_of}
 
--- there is no such rank
-abbrev pub IsElsewhere : ℕ → LockedState → Type 0
-IsElsewhere r l = length l.now.book.ranks ≤ r
+-- at which lock it sits, and for which rank it speaks; what the history began with, the beginning of
+-- it that the pass has seen, the pass's own calls, and the least cutoff that it knows, as a word
+pub record PassState : Type 0 where
+  pub lock : TableId
+  pub rank : ℕ
+  pub opening : Option Opening
+  pub seen : List Entry
+  pub mine : List Entry
+  pub known : ℕ
 
--- for a rank that is here this is done, and for another nothing
-pub record IsFor (r : ℕ) (Does : LockedState → LockedState → Type 0) (old new : LockedState)
+-- what a seat with this view shows of its pass
+abbrev pub pass_seen : TableId → ℕ → ViewState → PassState
+pass_seen lock rank view = record {
+  lock = lock;
+  rank = rank;
+  opening = view.opening;
+  seen = view.seen;
+  mine = view.mine;
+  known = view.known;
+}
+
+abbrev pub pass_of : Inside → PassState
+pass_of p = pass_seen (lock_of p.seat) p.rank (view_of p.seat)
+
+-- what every pass is: its seat is at rest, its rank is one of the opening's, and it knows the floor
+-- from which cutoffs are told
+pub record IsPass (p : Inside) : Type 0 where
+  pub rest : IsAtRest p.seat
+  pub own : (view_of p.seat).pass ≡ p.rank
+  pub here : IfSome (view_of p.seat).opening (λ o. p.rank < o.settings.solvers)
+  pub floor : IfSome (view_of p.seat).opening (λ o. p.floor ≡ floor_of o.problem)
+  pub small : unsigned_abs p.floor ≤ 2 * 10 ^ 37
+
+-- the seat by which a pass speaks
+pub record IsSeatOf (p : PassState) (s : SeatState) : Type 0 where
+  pub rest : IsAtRestAt p.lock s
+  pub own : (view_of s).pass ≡ p.rank
+  pub view : pass_seen p.lock p.rank (view_of s) ≡ p
+
+-- the seats of passes, in their order
+pub record AreSeatsOf (passes : List PassState) (seats : List SeatState) : Type 0 where
+  pub count : length seats ≡ length passes
+  pub each : (k : ℕ) (p : PassState) (s : SeatState) → slice_get passes k ≡ Some p
+      → slice_get seats k ≡ Some s → IsSeatOf p s
+
+-- the lock of a desk, and how many passes it has
+abbrev pub lock_of_desk : Desk → TableId
+lock_of_desk desk = id_of desk.turn
+
+abbrev pub width_of : Desk → ℕ
+width_of desk = passes_of desk.turn
+
+-- a pass that has seen nothing, and made no call
+pub record IsNewPass (lock : TableId) (o : Opening) (r : ℕ) (p : PassState) : Type 0 where
+  pub lock_is : p.lock ≡ lock
+  pub rank_is : p.rank ≡ r
+  pub opened : p.opening ≡ Some o
+  pub seen : p.seen ≡ []
+  pub mine : p.mine ≡ []
+
+-- one for each rank, in their order
+abbrev pub AreNewPasses : TableId → Opening → List PassState → Type 0
+AreNewPasses lock o passes =
+    (r : ℕ) (p : PassState) → slice_get passes r ≡ Some p → IsNewPass lock o r p
+
+-- the entry of a call, if it has one
+abbrev pub entry_by : ℕ → Option Call → Option Entry
+entry_by r None = None
+entry_by r (Some call) = Some (record { pass = r; call = call })
+
+-- whose entries these are
+abbrev pub calls_of : ℕ → List Entry → List Entry
+calls_of r history = calls_by (λ (e : Entry). e.pass) r history
+
+-- A call of a pass: there is one history, which leads from the opening to what then stands, begins
+-- with all that the pass had seen, and ends with this call, if it has an entry. The pass's own calls
+-- stand in it, each once.
+pub record HasCalledAt (call : Option Call) (after : LockedState) (old new : PassState) : Type 0 where
+  pub between : List Entry
+  pub seen : new.seen ≡ (old.seen ++ between) ++ told (entry_by old.rank call)
+  pub replayed : IsReplayed after new.seen
+  pub opened : old.opening ≡ Some after.opening
+  pub mine : new.mine ≡ old.mine ++ told (entry_by old.rank call)
+  pub own : calls_of new.rank new.seen ≡ new.mine
+  pub known : new.known ≡ word_of after.now.book
+  pub same : (new.lock ≡ old.lock) × (new.rank ≡ old.rank) × (new.opening ≡ old.opening)
+
+abbrev pub HasCalled : Option Call → PassState → PassState → Type 0
+HasCalled call old new = (after : LockedState) × HasCalledAt call after old new
+
+-- a box as wide as the problem's is handed; another is Stale, and has no entry
+pub record HasHandedIn (number : ℕ) (area : List Interval) (answer : Heard) (old new : PassState)
     : Type 0 where
-  pub here : r < length old.now.book.ranks → Does old new
-  pub other : IsElsewhere r old → new ≡ old
+  pub after : LockedState
+  pub wide : length area ≡ length after.now.book.problem.columns
+      → HasCalledAt (Some (handed number area answer)) after old new
+  pub other : length area ≢ length after.now.book.problem.columns
+      → HasCalledAt None after old new × (answer ≡ Stale)
 
--- a box as wide as the problem is handed; another is none of it, and nothing changes
-pub record HasHandedHere (r number : ℕ) (area : List Interval) (answer : Heard)
-    (old new : LockedState) : Type 0 where
-  pub wide : length area ≡ length old.now.book.problem.columns
-      → HasEntered r (handed number area answer) old new
-  pub other : length area ≢ length old.now.book.problem.columns → (answer ≡ Stale) × (new ≡ old)
+-- a task that is not of the rank's ticket is Stale, and its end has no entry
+pub record HasEndedOther (task : TaskState) (answer : Heard) (old new : PassState) : Type 0 where
+  pub after : LockedState
+  pub called : HasCalledAt None after old new
+  pub other : ¬ IsOfTicket after.now.book old.rank task
+  pub stale : answer ≡ Stale
 
--- what a rank is told that is not here
-abbrev pub stopped : Reply
-stopped = record { cutoff = None; collect = 0; stop = true; racing = false }
+-- the end of a task
+abbrev pub HasEndedIn : TaskState → Heard → PassState → PassState → Type 0
+HasEndedIn task answer old new =
+    HasCalled (Some (ended task answer)) old new ⊎ HasEndedOther task answer old new
+
+-- the rank was gone before
+pub record HasLeftBefore (old new : PassState) : Type 0 where
+  pub after : LockedState
+  pub called : HasCalledAt None after old new
+  pub gone : is_alive (state_at after.now.book.ranks old.rank) ≡ false
+
+-- the rank is gone
+abbrev pub HasLeft : PassState → PassState → Type 0
+HasLeft old new = HasCalled (Some left) old new ⊎ HasLeftBefore old new
+
+-- a snapshot is of what stands behind its own entry, which it counts
+pub record HasCopied (s : SnapshotState) (old new : PassState) : Type 0 where
+  pub after : LockedState
+  pub called : HasCalledAt (Some copied) after old new
+  pub copy : IsSnapshotOf after after.count s
+
+-- the cutoff was read: it is what the pass then knows, and no higher than what it knew
+pub record HasLooked (cutoff : Option ℤ) (old new : PassState) : Type 0 where
+  pub falls : new.known ≤ old.known
+  pub its : IfSome old.opening (λ o. cutoff ≡ cutoff_at (floor_of o.problem) new.known)
+  pub same : new ≡ record old { known = new.known }
+
+-- what a pass has seen behind a meeting with another: the longer list, which both begin
+pub record HasMet (old other new : PassState) : Type 0 where
+  pub seen : new ≡ record old {
+    seen = longer old.seen other.seen;
+    known = min old.known other.known;
+  }
+  pub mine : IsPrefix old.seen new.seen
+  pub theirs : IsPrefix other.seen new.seen
+
+-- in this history the pass has its calls, each once, behind what it has seen
+pub record IsInHistory (history : List Entry) (p : PassState) : Type 0 where
+  pub begins : IsPrefix p.seen history
+  pub own : calls_of p.rank history ≡ p.mine
+
+-- what stands where a desk is closed: a history leads to it, in which each pass has its calls, and
+-- nobody else has one
+pub record IsClosed (passes : List PassState) (l : LockedState) : Type 0 where
+  pub history : List Entry
+  pub replayed : IsReplayed l history
+  pub opened : (o : Opening)
+      → ((k : ℕ) (p : PassState) → slice_get passes k ≡ Some p → p.opening ≡ Some o)
+      → l.opening ≡ o
+  pub each : (k : ℕ) (p : PassState) → slice_get passes k ≡ Some p → IsInHistory history p
+  pub none : (r : ℕ) → length passes ≤ r → calls_of r history ≡ []

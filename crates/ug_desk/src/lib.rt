@@ -1,26 +1,35 @@
-//! A desk: one book that many threads share, each through a pass that speaks for one rank.
-//! It stands on ug_book, on ug_worker for tasks and on ug_snapshot for the image of what it holds.
-//! The calls of `Locked`, the value behind the lock, do exactly what the rules of the book say. Its
-//! type keeps that the book is the replay of a history of so many calls, from the opening that it
-//! names, and sound where that is covered; of the task of a Done nothing is asked but its type.
+//! A desk: one book that many threads share in turns, each through a pass that speaks for one rank.
+//! It stands on ug_book, on ug_turn for the lock, on ug_worker for tasks and on ug_snapshot for images.
+//! The calls of `Locked`, the value behind the lock, do exactly what the rules of the book say. There is
+//! one history of calls: each call of a pass goes on from all that the pass had seen, ends with the call,
+//! and has the pass's own calls, each once; of the task of a Done nothing is asked but its type.
 #![tactic(auto)]
 
 mod agree;
 mod answer;
 mod area;
 mod best;
+mod calls;
+mod closing;
 mod decide;
 mod desk;
 mod done;
+mod entry;
 mod hand;
 mod locked;
+mod opening;
 mod pass;
+mod passes;
+mod shelf;
 mod state;
 mod take;
 mod task;
 mod ticket;
 mod tickets;
+mod word;
 
 pub use desk::Desk;
+pub use entry::{Entry, Said};
 pub use locked::Locked;
 pub use pass::Pass;
+pub use shelf::Shelf;

@@ -1,12 +1,12 @@
-ghost use Rattle.std.specs.Prelude.{◌≡◌, ◌↔◌, ◌<◌, [], length, IfOk, IsTrue, MatchBool, Ok, OnErr, OnOk};
-ghost use Rattle.ug_rules.specs.declared.heard.Heard.TheVariants.{Stale};
-ghost use Rattle.ug_worker.specs.declared.took.Took.TheVariants.{Over};
+ghost use Rattle.std.specs.Prelude.{◌≡◌, ◌↔◌, ◌<◌, ◌≤◌, [], length, IfOk, IsTrue, MatchBool, OnErr, OnOk};
 ghost use Rattle.ug_book.specs.Openings.{IsOpening};
+ghost use Rattle.ug_ranks.specs.Looks.{is_alive};
+ghost use Rattle.ug_ranks.specs.States.{state_at};
 ghost use Rattle.ug_desk.specs.DeskStates.{opening_state, own_ticket};
 ghost use Rattle.ug_desk.specs.Histories.{taken, offered, handed, stated, left, copied};
 ghost use Rattle.ug_desk.specs.Entries.{HasEnded, HasEntered, HasEnteredAlive, IsLocked, one_more};
 ghost use Rattle.ug_desk.specs.Entries.{IsSnapshotOf};
-ghost use Rattle.ug_desk.specs.Passes.{HasHandedHere, IsElsewhere, IsFor, stopped};
+ghost use Rattle.ug_desk.specs.Words.{word_of};
 
 use crate::done::done;
 use crate::hand::{HandedBox, hand};
@@ -14,6 +14,7 @@ use crate::state::state;
 use crate::take::{note, take};
 use crate::ticket::is_of_ticket;
 use crate::tickets::tickets;
+use crate::word::{word_behind, word_of};
 use std::alloc::{AllocError, Global};
 use std::marker::Model;
 use ug_base::Task;
@@ -35,17 +36,21 @@ pub struct Locked {
     tickets: Vec<Ticket>,
     // How many calls the history has, which stands in proofs alone.
     count: u64,
+    // The word of the incumbent's cutoff, which is read behind each call.
+    word: u64,
 }
 
 impl Model for Locked {
+    ghost use Rattle.std.specs.Prelude.{◌≡◌};
     ghost use Rattle.ug_desk.specs.Entries.{LockedState, IsLocked};
     ghost use Rattle.ug_desk.specs.Views.{state_of};
+    ghost use Rattle.ug_desk.specs.Words.{word_of};
 
     ghost Value = { LockedState };
 
     ghost view = { state_of };
 
-    ghost invariant = { λ l. IsLocked (state_of l) };
+    ghost invariant = { λ l. IsLocked (state_of l) × (l.word ≡ word_of l.book) };
 }
 
 impl Locked {
@@ -67,13 +72,17 @@ impl Locked {
             return Err(AllocError);
         };
         match Book::new(alloc, &opening) {
-            Ok(book) => Ok(Locked {
-                alloc,
-                opening,
-                book,
-                tickets,
-                count: 0,
-            }),
+            Ok(book) => {
+                let word = word_of(&book);
+                Ok(Locked {
+                    alloc,
+                    opening,
+                    book,
+                    tickets,
+                    count: 0,
+                    word,
+                })
+            }
             Err(error) => {
                 drop(opening);
                 drop(tickets);
@@ -113,45 +122,43 @@ impl Locked {
         book
     }
 
-    /// The rank joins where it is absent or dead, the book decides, and the rank gets a new task of
-    /// its ticket, if it has one. One that is not here is told Over.
-    pub fn take(&mut self, rank: u32) -> Result<Took, Untaken>
-        ensures done { IsFor rank (HasEntered rank (taken result)) self.old self.new }
-        ensures none { IsElsewhere rank self.old → result ≡ Ok Over }
+    /// The word of the incumbent's cutoff.
+    pub fn word(&self) -> u64
+        ensures { result ≡ word_of self.now.now.book }
     {
-        if !self.has(rank) {
-            return Ok(Took::Over);
-        }
+        self.word
+    }
+
+    /// The rank joins where it is absent or dead, the book decides, and the rank gets a new task of
+    /// its ticket, if it has one.
+    pub fn take(&mut self, rank: u32) -> Result<Took, Untaken>
+        requires { rank < length self.old.now.book.ranks }
+        ensures { HasEntered rank (taken result) self.old self.new }
+    {
         let took = take(self.alloc, &mut self.book, rank);
         note(&mut self.tickets, rank, &took);
         self.count = one_more(self.count);
         took
     }
 
-    /// A point that was found under the ticket of the rank's last work. It is Stale from a rank
-    /// that is not here. It takes no memory.
+    /// A point that was found under the ticket of the rank's last work. It takes no memory.
     pub fn solution(&mut self, rank: u32, point: Point) -> Heard
-        ensures done { IsFor rank (HasEntered rank (offered point result)) self.old self.new }
-        ensures none { IsElsewhere rank self.old → result ≡ Stale }
+        requires { rank < length self.old.now.book.ranks }
+        ensures { HasEntered rank (offered point result) self.old self.new }
     {
-        if !self.has(rank) {
-            return Heard::Stale;
-        }
         let ticket = self.ticket(rank);
         let heard = self.book.hear(rank, Report::Solution { ticket, point });
         self.count = one_more(self.count);
+        self.word = word_behind(&self.book, self.word, heard);
         heard
     }
 
-    /// A box that is handed under the ticket of the rank's last work. It is Stale from a rank that
-    /// is not here, and where its width is another than the problem's.
+    /// A box that is handed under the ticket of the rank's last work.
     pub fn hand(&mut self, rank: u32, number: u64, area: &IntBox) -> Heard
-        ensures done { IsFor rank (HasHandedHere rank number area.now result) self.old self.new }
-        ensures none { IsElsewhere rank self.old → result ≡ Stale }
+        requires here { rank < length self.old.now.book.ranks }
+        requires wide { length area.now ≡ length self.old.now.book.problem.columns }
+        ensures { HasEntered rank (handed number area.now result) self.old self.new }
     {
-        if !self.has(rank) || !self.is_as_wide(area) {
-            return Heard::Stale;
-        }
         let handed = HandedBox {
             ticket: self.ticket(rank),
             number,
@@ -163,29 +170,26 @@ impl Locked {
     }
 
     /// How many boxes are left under the ticket of the rank's last work, and the least of their
-    /// floors. A racer's book then decides. A rank that is not here is told to stop.
+    /// floors. A racer's book then decides.
     pub fn state(&mut self, rank: u32, left: u64, floor: i128) -> Result<Reply, Unfinished>
-        requires { 0 < left }
-        ensures done { IsFor rank (HasEntered rank (stated left floor result)) self.old self.new }
-        ensures none { IsElsewhere rank self.old → result ≡ Ok stopped }
+        requires here { rank < length self.old.now.book.ranks }
+        requires some { 0 < left }
+        ensures { HasEntered rank (stated left floor result) self.old self.new }
     {
-        if !self.has(rank) {
-            return Ok(stopped());
-        }
         let ticket = self.ticket(rank);
         let reply = state(&mut self.book, rank, ticket, left, floor);
         self.count = one_more(self.count);
         reply
     }
 
-    /// A task of which no box is left. It is Stale where it is not of the rank's ticket, and from a
-    /// rank that is not here. It takes no memory.
+    /// A task of which no box is left. It is Stale where it is not of the rank's ticket. It takes no
+    /// memory.
     pub fn done(&mut self, rank: u32, task: &Task) -> Heard
-        requires { task.now.boxes ≡ [] }
-        ensures done { IsFor rank (HasEnded rank task.now result) self.old self.new }
-        ensures none { IsElsewhere rank self.old → result ≡ Stale }
+        requires here { rank < length self.old.now.book.ranks }
+        requires none { task.now.boxes ≡ [] }
+        ensures { HasEnded rank task.now result self.old self.new }
     {
-        if !self.has(rank) || !is_of_ticket(&self.book, rank, task) {
+        if !is_of_ticket(&self.book, rank, task) {
             return Heard::Stale;
         }
         let heard = done(&mut self.book, rank, task);
@@ -193,42 +197,34 @@ impl Locked {
         heard
     }
 
-    /// The rank is gone. It takes no memory.
-    pub fn leave(&mut self, rank: u32)
-        ensures { IsFor rank (HasEnteredAlive rank left) self.old self.new }
+    /// The rank is gone; whether it lived. It takes no memory.
+    pub fn leave(&mut self, rank: u32) -> bool
+        requires { rank < length self.old.now.book.ranks }
+        ensures lived { result ≡ is_alive (state_at self.old.now.book.ranks rank) }
+        ensures done { HasEnteredAlive rank left self.old self.new }
     {
-        if self.has(rank) && self.book.is_alive(rank) {
-            self.book.gone(rank);
-            self.count = one_more(self.count);
+        if !self.book.is_alive(rank) {
+            return false;
         }
+        self.book.gone(rank);
+        self.count = one_more(self.count);
+        true
     }
 
-    /// What is held now, to be saved, for a rank that is here. After an error nothing has changed.
+    /// What is held now, to be saved. After an error nothing has changed.
     pub fn snapshot(&mut self, rank: u32) -> Result<Snapshot, AllocError>
+        requires { rank < length self.old.now.book.ranks }
         ensures made { IfOk result (IsSnapshotOf self.old self.new.count) }
         ensures ok { OnOk result (HasEntered rank copied self.old self.new) }
-        ensures here { OnOk result (rank < length self.old.now.book.ranks) }
         ensures err { OnErr result (self.new ≡ self.old) }
     {
-        if !self.has(rank) {
-            return Err(AllocError);
-        }
         let snapshot = self.copy()?;
         self.count = one_more(self.count);
         Ok(snapshot)
     }
 
-    // Whether there is such a rank.
-    fn has(&self, rank: u32) -> bool
-        ensures { MatchBool result
-            (rank < length self.now.now.book.ranks)
-            (IsElsewhere rank self.now) }
-    {
-        rank < self.book.settings().solvers
-    }
-
-    // Whether the box has a column for each of the problem.
-    fn is_as_wide(&self, area: &IntBox) -> bool
+    /// Whether the box has a column for each of the problem.
+    pub(crate) fn is_as_wide(&self, area: &IntBox) -> bool
         ensures { IsTrue result ↔ (length area.now ≡ length self.now.now.book.problem.columns) }
     {
         area.as_slice().len() == self.book.problem().problem().columns().len()
@@ -262,16 +258,4 @@ fn one_more(count: u64) -> u64
     ensures { result ≡ one_more count }
 {
     count.saturating_add(1)
-}
-
-// What a rank is told that is not here.
-fn stopped() -> Reply
-    ensures { result ≡ stopped }
-{
-    Reply {
-        cutoff: None,
-        collect: 0,
-        stop: true,
-        racing: false,
-    }
 }

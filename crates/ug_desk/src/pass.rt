@@ -1,33 +1,68 @@
-ghost use Rattle.std.specs.Prelude.{◌≡◌};
+ghost use Rattle.std.specs.Prelude.{◌≡◌, ◌<◌, ◌≤◌, ◌*◌, ◌^◌, IfSome, unsigned_abs};
+ghost use Rattle.ug_turn.specs.Seats.{IsAtRest, lock_of, view_of};
+ghost use Rattle.ug_desk.specs.Passes.{IsSeatOf};
+ghost use Rattle.ug_desk.specs.Words.{floor_of};
 
+use crate::shelf::Shelf;
 use std::marker::Model;
+use ug_turn::SeatOf;
 
 /// What speaks for one rank of a desk.
 #[derive(Drop)]
 pub struct Pass {
-    rank: u32,
-    heard: u64,
+    pub(crate) rank: u32,
+    pub(crate) heard: u64,
+    // What no feasible value is below, from which cutoffs are told.
+    pub(crate) floor: i128,
+    pub(crate) seat: SeatOf<Shelf>,
 }
 
 impl Model for Pass {
-    ghost use Rattle.std.specs.Prelude.{ℕ};
+    ghost use Rattle.ug_desk.specs.Passes.{IsPass, PassState, pass_of};
 
-    ghost Value = { ℕ };
+    ghost Value = { PassState };
 
-    ghost view = { λ pass. pass.rank };
+    ghost view = { pass_of };
+
+    ghost invariant = { IsPass };
 }
 
 impl Pass {
-    /// A pass that speaks for a rank, and has made no call.
-    pub(crate) fn new(rank: u32) -> Pass
-        ensures { result ≡ rank }
+    /// A pass that speaks for a rank by a seat of its own, and has made no call.
+    pub(crate) fn new(rank: u32, floor: i128, seat: SeatOf<Shelf>) -> Pass
+        requires rest { IsAtRest seat }
+        requires own { (view_of seat).pass ≡ rank }
+        requires here { IfSome (view_of seat).opening (λ o. rank < o.settings.solvers) }
+        requires floor { IfSome (view_of seat).opening (λ o. floor ≡ floor_of o.problem) }
+        requires small { unsigned_abs floor ≤ 2 * 10 ^ 37 }
+        ensures { result ≡ record {
+          lock = lock_of seat;
+          rank = rank;
+          opening = (view_of seat).opening;
+          seen = (view_of seat).seen;
+          mine = (view_of seat).mine;
+          known = (view_of seat).known;
+        } }
     {
-        Pass { rank, heard: 0 }
+        Pass {
+            rank,
+            heard: 0,
+            floor,
+            seat,
+        }
+    }
+
+    /// Its seat, which it speaks by no more.
+    pub(crate) fn into_seat(self) -> SeatOf<Shelf>
+        ensures { IsSeatOf self result }
+    {
+        let Pass { seat, .. } = self;
+        seat
     }
 
     /// The rank for which it speaks.
     pub fn rank(&self) -> u32
-        ensures { result ≡ self.now }
+        ensures { result ≡ self.now.rank }
     {
         self.rank
     }
@@ -36,12 +71,5 @@ impl Pass {
     /// nor memory.
     pub fn heard(&self) -> u64 {
         self.heard
-    }
-
-    /// The pass made a call, after which the book had heard so many deliveries.
-    pub(crate) fn note(&mut self, heard: u64)
-        ensures { self.new ≡ self.old }
-    {
-        self.heard = heard;
     }
 }

@@ -8,7 +8,7 @@ use Rattle.ug_desk.proofs.locked.Locked.copy.Goals as goal
 pub new-requires : goal.new-requires
 new-requires c =
     snapshot_so (state_of c.self.inside) c.in_ok-opening.opening c.in-Ok.image
-    c.one_more.result c.self.invariant c.in_ok-opening.ensures c.in-Ok.ensures.moment
+    c.one_more.result c.self.invariant.0 c.in_ok-opening.ensures c.in-Ok.ensures.moment
     c.in-Ok.ensures.image c.in-Ok.ensures.covered
 
 pub returns-in-Ok : goal.returns-in-Ok

@@ -4,7 +4,7 @@ use Rattle.ug_desk.specs.Histories.{handed}
 use Rattle.ug_desk.specs.Reports.{HasHanded}
 use Rattle.ug_desk.specs.Entries.{LockedState}
 use Rattle.ug_desk.specs.Views.{state_of}
-use Rattle.ug_desk.proofs.Entering.{entered_by}
+use Rattle.ug_desk.proofs.Entering.{entered_none}
 use Rattle.ug_desk.proofs.locked.Locked.hand.Goals as goal
 
 pub invariant_of-self : goal.invariant_of-self
@@ -13,7 +13,7 @@ invariant_of-self c =
     let ticket : c.ticket.result ≡ own_ticket l.now c.args.rank =
     c.ticket.ensures
     ∙ sym (ap (λ (k : LockedState). own_ticket k.now c.args.rank) c.self.view_is) in
-    entered_by l _ _ c.args.rank (handed c.args.number c.args.area.now c.hand-heard.result) c.self.invariant
+    entered_none l _ _ c.args.rank c.self.inside.word (handed c.args.number c.args.area.now c.hand-heard.result) c.self.invariant
     (record {
       book = subst
           (λ ticket. HasHanded c.args.rank ticket c.args.number c.args.area.now c.hand-heard.result
@@ -22,4 +22,4 @@ invariant_of-self c =
       tickets = refl;
     })
     c.hand-heard.ensures.same c.hand-heard.ensures.sound
-    c.one_more-self-inside.ensures
+    c.one_more-self-inside.ensures tt

@@ -1,0 +1,42 @@
+use Rattle.std.proofs.Common.{◌≡◌, ◌≢◌, inl, inr, subst, Some, refl, sym, ap, ◌∙◌, rules}
+use Rattle.ug_rules.specs.declared.heard.Heard.TheVariants.{Stale}
+use Rattle.ug_desk.specs.Dones.{IsOfTicket}
+use Rattle.ug_desk.specs.Entries.{LockedState}
+use Rattle.ug_desk.specs.Passes.{PassState}
+use Rattle.std.specs.Box.{with_value}
+use Rattle.ug_desk.specs.Histories.{Entry, ended}
+use Rattle.ug_desk.proofs.Turns.{called_home, may_put}
+use Rattle.ug_desk.proofs.Turns.{entered_of, none_home, other_of}
+use Rattle.ug_desk.proofs.desk.Desk.done.Goals as goal
+
+pub put-requires-2-clause-may : goal.put-requires-2-clause-may
+put-requires-2-clause-may g c =
+    may_put c.pass.inside.rank (ended c.args.task c.done-heard.result) _ _ _ c.out-shelf.result (record { locked = with_value c.out-shelf.result.locked c.done-heard.new.self }) _ _
+    (ap (λ (e : Entry). Some e) c.ended-entry.ensures) c.out-shelf.ensures.taken c.pass.invariant.own c.deref_mut.ensures.value
+    c.out-shelf.ensures.out.locked c.deref.ensures c.book.ensures.locked (entered_of c.pass.inside.rank c.args.task c.done-heard.result _ _ (search rules) c.done-heard.ensures)
+
+pub returns : goal.returns
+returns g c = inl (
+  c.done-heard.new.self,
+  called_home (ended c.args.task c.done-heard.result) _ c.pass.inside.rank _ _ _ _ _ _ c.out-shelf.result (record { locked = with_value c.out-shelf.result.locked c.done-heard.new.self }) _ _
+      (ap (λ (e : Entry). Some e) c.ended-entry.ensures) c.out-shelf.ensures.taken c.pass.invariant.own c.deref_mut.ensures.value
+      c.out-shelf.ensures.out.locked c.deref.ensures c.book.ensures.locked (entered_of c.pass.inside.rank c.args.task c.done-heard.result _ _ (search rules) c.done-heard.ensures)
+      c.put-2.ensures.put c.pass.view_is
+      (c.put-2.ensures.lock ∙ (c.out-shelf.ensures.out.lock_is ∙ sym c.requires.lock)),
+)
+
+pub returns-then-eq : goal.returns-then-eq
+returns-then-eq g c =
+    let stale : c.done-heard.result ≡ Stale = search rules in
+    let o = other_of c.pass.inside.rank c.args.task c.done-heard.result _ _ stale c.done-heard.ensures in
+    inr (record {
+      after = c.done-heard.new.self;
+      called = none_home _ c.pass.inside.rank _ _ _ _ _ _ c.out-shelf.result
+          (record { locked = with_value c.out-shelf.result.locked c.done-heard.new.self }) refl
+          c.out-shelf.ensures.taken c.pass.invariant.own (o.same ∙ c.deref_mut.ensures.value) c.put.ensures.put
+          c.pass.view_is (c.put.ensures.lock ∙ (c.out-shelf.ensures.out.lock_is ∙ sym c.requires.lock));
+      other = subst (λ (l : LockedState). ¬ IsOfTicket l.now.book c.args.pass.now.rank c.args.task) (sym o.same)
+          (subst (λ r. ¬ IsOfTicket c.deref_mut.result.now.now.book r c.args.task)
+          (ap (λ (p : PassState). p.rank) c.pass.view_is) o.other);
+      stale = stale;
+    })
