@@ -1,3 +1,6 @@
+pub mod Places
+pub mod Crews
+pub mod Rooms
 pub mod Ends
 pub mod Listening
 pub mod Outcomes

@@ -1,84 +1,237 @@
 //! The threads of a solve, one for each pass.
 
-ghost use Rattle.std.specs.Prelude.{◌≡◌, length, IfOk};
+ghost use Rattle.std.specs.Prelude.{◌≡◌, [], length, IfOk};
+ghost use Rattle.ug_threads.specs.Places.{IsAt};
+ghost use Rattle.ug_threads.specs.Crews.{ArePassesAt, HasStarted, IsCrewAt, IsNewCrew, IsPassAt, count_of};
 
 use crate::desk_seat::DeskSeat;
 use crate::pace::Pace;
 use crossbeam_channel::Sender;
 use std::alloc::{AllocError, Global};
-use std::sync::{Mutex, Wait};
-use std::thread::{Scope, Threads};
+use std::snapshot;
+use std::sync::Wait;
+use std::sync::atomic::{AtomicU64, Ordering};
+use std::thread::{Promise, PromisedHandle, Scope, Threads};
+use ug_book::Opening;
 use ug_desk::{Desk, Pass};
 use ug_restart::{Host, Observer};
 use ug_snapshot::Snapshot;
 use ug_worker::{Renewal, work};
 
-/// The passes, each where its thread finds it.
-pub fn places(alloc: Global, passes: Vec<Pass>) -> Result<Vec<Mutex<Pass>>, AllocError>
-    ensures { IfOk result (λ places. length places.items ≡ length passes.items) }
-{
-    let mut places = Vec::with_capacity(alloc, passes.len())?;
-    for pass in passes {
-        places.push(Mutex::new(pass))?;
-    }
-    Ok(places)
-}
-
-/// The passes again.
-pub fn passes(alloc: Global, places: Vec<Mutex<Pass>>) -> Result<Vec<Pass>, AllocError>
-    ensures { IfOk result (λ passes. length passes.items ≡ length places.items) }
-{
-    let mut passes = Vec::with_capacity(alloc, places.len())?;
-    for place in places {
-        passes.push(place.into_inner())?;
-    }
-    Ok(passes)
-}
-
-/// Where the workers sit: the desk, the place of each pass, and when snapshots are due.
+/// Where the workers sit: the desk, what its history began with, when snapshots are due, and the pass
+/// whose thread could not be started, by its rank plus 1.
 #[derive(Clone, Copy)]
 pub struct Table<'a> {
     pub desk: &'a Desk,
-    pub places: &'a [Mutex<Pass>],
+    pub began: &'a Opening,
     pub pace: &'a Pace,
+    pub late: &'a AtomicU64,
 }
 
-/// Starts a thread for each pass. One whose thread was not started leaves; where none was started
-/// the caller works with the first. No sender is left but those of the threads.
-pub fn start<'s, E, R: Threads + Wait + Sync, O: Observer>(
-    scope: &'s Scope<'s, E>,
-    host: &'s Host<'s, R, O>,
-    table: Table<'s>,
-    sender: Sender<Snapshot>,
-) {
-    let started = start_each(scope, host, table, &sender);
-    match table.places.first() {
-        Some(place) if started == 0 => sit(host, table.desk, place, Some(sender), table.pace),
-        _ => drop(sender),
-    }
+/// That a pass comes back from its thread, still one of this desk.
+#[derive(Drop)]
+pub struct Back {
+    pub desk: snapshot::Snapshot<Desk>,
+    pub began: snapshot::Snapshot<Opening>,
 }
 
-// Starts a thread for each pass, and says how many were started. One whose thread was not leaves.
-fn start_each<'s, E, R: Threads + Wait + Sync, O: Observer>(
-    scope: &'s Scope<'s, E>,
-    host: &'s Host<'s, R, O>,
-    table: Table<'s>,
-    sender: &Sender<Snapshot>,
-) -> u32 {
-    let mut started = 0u32;
-    let desk = table.desk;
-    let pace = table.pace;
-    for place in table.places {
-        let own = sender_for(sender, pace);
-        let spawned = scope.spawn(move || sit(host, desk, place, own, pace));
-        if spawned.is_ok() {
-            started = started.saturating_add(1);
-        } else {
-            desk.leave(host.rt, &mut place.lock(host.rt));
+impl Promise<Pass> for Back {
+    ghost kept_by = { λ b p. IsAt b.desk.value b.began.value p };
+}
+
+/// The passes of a solve: those that wait for their threads, those whose threads work, and those that
+/// came back.
+#[derive(Drop)]
+pub struct Crew {
+    waiting: Vec<Pass>,
+    working: Vec<PromisedHandle<Pass, Back>>,
+    back: Vec<Pass>,
+}
+
+impl Crew {
+    /// All passes wait.
+    pub fn new(alloc: Global, passes: Vec<Pass>) -> Result<Crew, AllocError>
+        ensures { IfOk result (IsNewCrew passes.items) }
+    {
+        let Ok(working) = Vec::with_capacity(alloc, passes.len()) else {
+            drop(passes);
+            return Err(AllocError);
+        };
+        match Vec::with_capacity(alloc, passes.len()) {
+            Ok(back) => Ok(Crew {
+                waiting: passes,
+                working,
+                back,
+            }),
+            Err(error) => {
+                drop(passes);
+                drop(working);
+                Err(error)
+            }
         }
-        drop(spawned);
     }
-    started
+
+    /// Starts a thread for each pass. One whose thread was not started leaves; where none was started
+    /// the caller works with one. No sender is left but those of the threads.
+    pub fn start<'s, E, R: Threads + Wait + Sync, O: Observer>(
+        &mut self,
+        scope: &'s Scope<'s, E>,
+        host: &'s Host<'s, R, O>,
+        table: Table<'s>,
+        sender: Sender<Snapshot>,
+    )
+        requires { IsCrewAt table self.old }
+        ensures crew { IsCrewAt table.entry self.new }
+        ensures count { count_of self.new ≡ count_of self.old }
+        ensures none { self.new.waiting.items ≡ [] }
+    {
+        self.start_each(scope, host, table, &sender);
+        if self.working.is_empty() {
+            self.sit_alone(host, table, sender);
+        } else {
+            drop(sender);
+        }
+    }
+
+    // Starts a thread for each pass that waits.
+    fn start_each<'s, E, R: Threads + Wait + Sync, O: Observer>(
+        &mut self,
+        scope: &'s Scope<'s, E>,
+        host: &'s Host<'s, R, O>,
+        table: Table<'s>,
+        sender: &Sender<Snapshot>,
+    )
+        requires { IsCrewAt table self.old }
+        ensures crew { IsCrewAt table.entry self.new }
+        ensures count { count_of self.new ≡ count_of self.old }
+        ensures none { self.new.waiting.items ≡ [] }
+    {
+        while let Some(pass) = self.waiting.pop() {
+            let own = sender_for(sender, table.pace);
+            match start_one(scope, host, table, pass, own) {
+                Started::Works(handle) => self.working.push_reserved(handle),
+                Started::Left(pass) => self.back.push_reserved(pass),
+            }
+        }
+    }
+
+    // The caller works with a pass, where no thread was started.
+    fn sit_alone<R: Wait, O: Observer>(
+        &mut self,
+        host: &Host<'_, R, O>,
+        table: Table<'_>,
+        sender: Sender<Snapshot>,
+    )
+        requires { IsCrewAt table self.old }
+        ensures crew { IsCrewAt table.entry self.new }
+        ensures count { count_of self.new ≡ count_of self.old }
+        ensures none { self.new.waiting.items ≡ self.old.waiting.items }
+    {
+        match self.back.pop() {
+            Some(pass) => {
+                let pass = sit(host, table, pass, Some(sender));
+                self.back.push_reserved(pass);
+            }
+            None => drop(sender),
+        }
+    }
+
+    /// All passes, once the threads have ended.
+    pub fn join<R: Threads>(self, rt: &R, table: Table<'_>) -> Vec<Pass>
+        requires crew { IsCrewAt table self }
+        requires none { self.waiting.items ≡ [] }
+        ensures at { ArePassesAt table.entry result.items }
+        ensures count { length result.items ≡ count_of self }
+    {
+        let _desk = table.desk;
+        let Crew {
+            waiting,
+            working,
+            mut back,
+        } = self;
+        drop(waiting);
+        for handle in working {
+            back.push_reserved(handle.join(rt));
+        }
+        back
+    }
+}
+
+// How the start of a thread went: it works, or the pass has left and came back at once.
+#[derive(Drop)]
+enum Started {
+    Works(PromisedHandle<Pass, Back>),
+    Left(Pass),
+}
+
+// Starts a thread with a pass. Where none is to be had the pass leaves, in the caller.
+#[tactic(auto, using(ug_desk::proofs::Crossing::pass_send, ug_desk::proofs::Crossing::desk_sync))]
+fn start_one<'s, E, R: Threads + Wait + Sync, O: Observer>(
+    scope: &'s Scope<'s, E>,
+    host: &'s Host<'s, R, O>,
+    table: Table<'s>,
+    pass: Pass,
+    sender: Option<Sender<Snapshot>>,
+) -> Started
+    requires { IsPassAt table pass }
+    ensures { HasStarted table.entry result }
+{
+    let rank = pass.rank();
+    let promise = Back {
+        desk: snapshot::Snapshot::of(table.desk),
+        began: snapshot::Snapshot::of(table.began),
+    };
+    let Table {
+        desk,
+        began,
+        pace,
+        late,
+    } = table;
+    let rt = host.rt;
+    let alloc = host.alloc;
+    let observer = host.observer;
+    let works = move || -> Pass
+        requires { IsAt desk.now began.now pass }
+        ensures { IsAt desk.entry.now began.entry.now result }
+    {
+        let host = Host {
+            rt,
+            alloc,
+            observer,
+        };
+        let table = Table {
+            desk,
+            began,
+            pace,
+            late,
+        };
+        work_or_leave(&host, table, pass, sender)
+    };
+    match scope.spawn_with(promise, works) {
+        Ok(handle) => Started::Works(handle),
+        Err(refused) => {
+            late.store(rank as u64 + 1, Ordering::SeqCst);
+            Started::Left((refused.value)())
+        }
+    }
+}
+
+// What the thread of a pass does, or the caller in its place, where it could not be started.
+fn work_or_leave<R: Wait, O: Observer>(
+    host: &Host<'_, R, O>,
+    table: Table<'_>,
+    mut pass: Pass,
+    sender: Option<Sender<Snapshot>>,
+) -> Pass
+    requires { IsPassAt table pass }
+    ensures { IsPassAt table.entry result }
+{
+    if table.late.load(Ordering::SeqCst) == pass.rank() as u64 + 1 {
+        table.desk.leave(host.rt, &mut pass);
+        drop(sender);
+        return pass;
+    }
+    sit(host, table, pass, sender)
 }
 
 // A sender of one's own, where snapshots are wanted and there is memory for it.
@@ -89,27 +242,28 @@ fn sender_for(sender: &Sender<Snapshot>, pace: &Pace) -> Option<Sender<Snapshot>
     sender.clone().ok()
 }
 
-// A worker with the pass of this place.
+// A worker with this pass.
 fn sit<R: Wait, O: Observer>(
     host: &Host<'_, R, O>,
-    desk: &Desk,
-    place: &Mutex<Pass>,
+    table: Table<'_>,
+    pass: Pass,
     sender: Option<Sender<Snapshot>>,
-    pace: &Pace,
-) {
-    let mut pass = place.lock(host.rt);
+) -> Pass
+    requires { IsPassAt table pass }
+    ensures { IsPassAt table.entry result }
+{
     let mut seat = DeskSeat {
         rt: host.rt,
         alloc: host.alloc,
-        desk,
-        pass: &mut pass,
+        desk: table.desk,
+        pass,
         observer: host.observer,
         sender,
-        pace,
+        pace: table.pace,
         seen: 0,
     };
-    work(host.rt, &mut seat, renewal_for(pace));
-    drop(seat);
+    work(host.rt, &mut seat, renewal_for(table.pace));
+    seat.into_pass()
 }
 
 // Whether tasks are renewed. Without a checkpoint nothing is gained by it.

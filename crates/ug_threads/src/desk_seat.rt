@@ -1,4 +1,5 @@
 ghost use Rattle.std.specs.Prelude.{◌≡◌, ◌<◌, []};
+ghost use Rattle.ug_desk.specs.Passes.{lock_of_desk};
 
 use crate::pace::Pace;
 use crate::told::{answered, told};
@@ -6,6 +7,7 @@ use crossbeam_channel::Sender;
 use std::alloc::{AllocError, Global};
 use std::sync::Wait;
 use ug_base::Task;
+use ug_book::Opening;
 use ug_desk::{Desk, Pass};
 use ug_restart::{Moment, Observer, Progress, progress_of};
 use ug_rows::{IntBox, Point};
@@ -19,7 +21,7 @@ pub struct DeskSeat<'a, R, O> {
     pub rt: &'a R,
     pub alloc: Global,
     pub desk: &'a Desk,
-    pub pass: &'a mut Pass,
+    pub pass: Pass,
     pub observer: &'a O,
     /// Where snapshots go, if they are wanted.
     pub sender: Option<Sender<Snapshot>>,
@@ -37,7 +39,11 @@ fn send_if_due<R: Wait>(
     pass: &mut Pass,
     sender: &Option<Sender<Snapshot>>,
     pace: &Pace,
-) {
+)
+    requires { pass.old.lock ≡ lock_of_desk desk.now }
+    ensures lock { pass.new.lock ≡ pass.old.lock }
+    ensures opening { pass.new.opening ≡ pass.old.opening }
+{
     let Some(sender) = sender else {
         return;
     };
@@ -50,9 +56,22 @@ fn send_if_due<R: Wait>(
     }
 }
 
-// How the run stands now, if memory suffices. The bound is of the moment before: the incumbent is
-// then no better than it was for the nodes that have gone.
-fn progress<R: Wait>(rt: &R, alloc: Global, desk: &Desk, pass: &mut Pass) -> Option<Progress> {
+// How the run stands now, where that is wanted, if memory suffices. The bound is of the moment before:
+// the incumbent is then no better than it was for the nodes that have gone.
+fn progress<R: Wait>(
+    rt: &R,
+    alloc: Global,
+    desk: &Desk,
+    pass: &mut Pass,
+    is_wanted: bool,
+) -> Option<Progress>
+    requires { pass.old.lock ≡ lock_of_desk desk.now }
+    ensures lock { pass.new.lock ≡ pass.old.lock }
+    ensures opening { pass.new.opening ≡ pass.old.opening }
+{
+    if !is_wanted {
+        return None;
+    }
     let held = desk.bound(rt, pass);
     let image = desk.snapshot(rt, pass).ok()?.into_image();
     let progress = progress_of(alloc, &image, held);
@@ -60,16 +79,34 @@ fn progress<R: Wait>(rt: &R, alloc: Global, desk: &Desk, pass: &mut Pass) -> Opt
     progress
 }
 
-impl<'a, R: Wait, O: Observer> Seat for DeskSeat<'a, R, O> {
-    // A lock keeps no history, so a desk says nothing of where its workers stand.
-    ghost at = { λ seat tally some. Unit {0} };
+impl<'a, R, O> DeskSeat<'a, R, O> {
+    /// The pass, which the worker leaves.
+    pub fn into_pass(self) -> Pass
+        ensures { result ≡ self.entry.pass }
+    {
+        let DeskSeat { pass, sender, .. } = self;
+        drop(sender);
+        pass
+    }
+}
 
-    ghost over = { λ seat. Unit {0} };
+impl<'a, R: Wait, O: Observer> Seat for DeskSeat<'a, R, O> {
+    ghost use Rattle.std.specs.Prelude.{◌≡◌, Option};
+    ghost use Rattle.ug_desk.specs.Passes.{lock_of_desk};
+
+    // The pass is one of the desk. What its worker has done is said by no clause.
+    ghost at = { λ seat tally some. seat.pass.lock ≡ lock_of_desk seat.desk.now };
+
+    ghost over = { λ seat. seat.pass.lock ≡ lock_of_desk seat.desk.now };
+
+    type Home = (Desk, Option<Opening>);
+
+    ghost home = { λ seat. (seat.desk.now, seat.pass.opening) };
 
     fn take(&mut self) -> Result<Took, Untaken> {
         self.seen = self.desk.stirred(self.rt);
         self.observer.pass(self.pass.rank(), Moment::Asking);
-        let took = self.desk.take(self.rt, self.pass);
+        let took = self.desk.take(self.rt, &mut self.pass);
         self.observer.pass(self.pass.rank(), Moment::Answered);
         took
     }
@@ -80,52 +117,52 @@ impl<'a, R: Wait, O: Observer> Seat for DeskSeat<'a, R, O> {
 
     fn solution(&mut self, point: Point) {
         self.observer.pass(self.pass.rank(), Moment::Asking);
-        let heard = self.desk.solution(self.rt, self.pass, point);
+        let heard = self.desk.solution(self.rt, &mut self.pass, point);
         self.observer.pass(self.pass.rank(), Moment::Answered);
-        send_if_due(self.rt, self.desk, self.pass, &self.sender, self.pace);
-        if self.observer.wants(self.pass.heard(), heard == Heard::Kept) {
-            if let Some(progress) = progress(self.rt, self.alloc, self.desk, self.pass) {
-                self.observer.tell(&progress);
-                drop(progress);
-            }
+        send_if_due(self.rt, self.desk, &mut self.pass, &self.sender, self.pace);
+        let is_wanted = self.observer.wants(self.pass.heard(), heard == Heard::Kept);
+        let progress = progress(self.rt, self.alloc, self.desk, &mut self.pass, is_wanted);
+        if let Some(progress) = progress {
+            self.observer.tell(&progress);
+            drop(progress);
         }
     }
 
     fn hand(&mut self, number: u64, area: &IntBox) -> Result<(), AllocError> {
         self.observer.pass(self.pass.rank(), Moment::Asking);
-        let heard = self.desk.hand(self.rt, self.pass, number, area);
+        let heard = self.desk.hand(self.rt, &mut self.pass, number, area);
         self.observer.pass(self.pass.rank(), Moment::Answered);
-        send_if_due(self.rt, self.desk, self.pass, &self.sender, self.pace);
+        send_if_due(self.rt, self.desk, &mut self.pass, &self.sender, self.pace);
         told(heard)
     }
 
     fn state(&mut self, left: u64, floor: i128) -> Result<Reply, AllocError> {
         self.observer.pass(self.pass.rank(), Moment::Asking);
-        let reply = self.desk.state(self.rt, self.pass, left, floor);
+        let reply = self.desk.state(self.rt, &mut self.pass, left, floor);
         self.observer.pass(self.pass.rank(), Moment::Answered);
-        send_if_due(self.rt, self.desk, self.pass, &self.sender, self.pace);
-        if self.observer.wants(self.pass.heard(), false) {
-            if let Some(progress) = progress(self.rt, self.alloc, self.desk, self.pass) {
-                self.observer.tell(&progress);
-                drop(progress);
-            }
+        send_if_due(self.rt, self.desk, &mut self.pass, &self.sender, self.pace);
+        let is_wanted = self.observer.wants(self.pass.heard(), false);
+        let progress = progress(self.rt, self.alloc, self.desk, &mut self.pass, is_wanted);
+        if let Some(progress) = progress {
+            self.observer.tell(&progress);
+            drop(progress);
         }
         answered(reply)
     }
 
     fn done(&mut self, task: Task) {
         self.observer.pass(self.pass.rank(), Moment::Asking);
-        self.desk.done(self.rt, self.pass, task);
+        self.desk.done(self.rt, &mut self.pass, task);
         self.observer.pass(self.pass.rank(), Moment::Answered);
-        send_if_due(self.rt, self.desk, self.pass, &self.sender, self.pace);
+        send_if_due(self.rt, self.desk, &mut self.pass, &self.sender, self.pace);
     }
 
     fn give_up(&mut self, task: Task) {
-        self.desk.give_up(self.rt, self.pass, task);
+        self.desk.give_up(self.rt, &mut self.pass, task);
     }
 
     fn leave(&mut self) {
-        self.desk.leave(self.rt, self.pass);
+        self.desk.leave(self.rt, &mut self.pass);
     }
 
     fn rest(&mut self) -> bool {

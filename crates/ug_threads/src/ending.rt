@@ -1,25 +1,21 @@
 //! How a run has ended, by its book.
 
-ghost use Rattle.std.specs.Prelude.{◌≡◌, ◌≢◌, ◌↔◌, [], Some, IsTrue, MatchOption};
+ghost use Rattle.std.specs.Prelude.{◌≡◌, ◌↔◌, [], Some, IsTrue};
 ghost use Rattle.ug_rules.specs.State.{held_nodes};
 ghost use Rattle.ug_rules.specs.Books.{IsSoundBook};
 ghost use Rattle.ug_restart.specs.Outcomes.{IfBook};
 ghost use Rattle.ug_restart.specs.Outcomes.{HasFeasible, IfAnswered, IfLimited, IsLimited, IsRight, IsStranded};
 ghost use Rattle.ug_threads.specs.Ends.{IsEnding};
 
-use ug_book::{Book, Opening};
+use ug_book::Book;
 use ug_desk::Locked;
 use ug_restart::End;
 
-/// The book of what was behind a lock, if it began with this opening.
-pub fn of_opening(locked: Locked, opening: &Opening) -> Option<Book>
-    ensures { MatchOption result (locked.opening ≢ opening.now) (IsEnding opening.now) }
+/// The book of what was behind a lock, which began with this opening.
+pub fn of_opening(locked: Locked) -> Book
+    ensures { (o : _) → locked.opening ≡ o → IsEnding o result }
 {
-    if !locked.opening().is(opening) {
-        drop(locked);
-        return None;
-    }
-    Some(locked.into_book())
+    locked.into_book()
 }
 
 /// How a run ended, by its ending book, if it has one.

@@ -5,7 +5,6 @@
 //! With a saver what recovery could find stays Covered at each moment, and it finds the ending book.
 #![tactic(auto)]
 
-mod alone;
 mod crew;
 mod desk_seat;
 mod ending;

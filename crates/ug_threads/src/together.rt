@@ -1,18 +1,19 @@
 //! A solve by threads that share a desk.
 
-ghost use Rattle.std.specs.Prelude.{◌≡◌, length, IfOk, IfSome};
+ghost use Rattle.std.specs.Prelude.{◌≡◌, IfOk, IfSome};
 ghost use Rattle.ug_book.specs.Openings.{IsOpening};
-ghost use Rattle.ug_desk.specs.Widths.{width_of};
+ghost use Rattle.ug_threads.specs.Crews.{IsCrewAt, count_of};
 ghost use Rattle.ug_threads.specs.Ends.{IsEnding};
+ghost use Rattle.ug_threads.specs.Rooms.{AreAllAt, AreAllOf, IsRoom};
 
-use crate::alone::alone;
-use crate::crew::{Table, passes, places, start};
+use crate::crew::{Crew, Table};
 use crate::ending::of_opening;
 use crate::listener::{Listener, listen};
 use crate::pace::Pace;
 use crossbeam_channel::{Receiver, Sender, bounded};
 use std::alloc::{AllocError, Global};
-use std::sync::{Mutex, Wait};
+use std::sync::Wait;
+use std::sync::atomic::AtomicU64;
 use std::thread;
 use std::thread::Threads;
 use ug_book::{Book, Opening};
@@ -31,8 +32,7 @@ pub struct Solved<T> {
 }
 
 /// Solves by threads. There is no book where memory is wanting for the desk, for its threads or to
-/// close it. Where what was behind its lock began with another opening, which the lock's type does not
-/// rule out, the caller solves alone, from the opening.
+/// close it.
 pub fn solve<R: Threads + Wait + Sync, O: Observer, T: Listener + Drop>(
     host: &Host<'_, R, O>,
     opening: &Opening,
@@ -51,120 +51,133 @@ pub fn solve<R: Threads + Wait + Sync, O: Observer, T: Listener + Drop>(
             listener,
         };
     };
-    let Room { desk, seating } = room;
-    let Seating {
-        places,
+    let Room {
+        desk,
+        crew,
         sender,
         receiver,
-    } = seating;
+    } = room;
     let pace = Pace::new(every);
+    let late = AtomicU64::new(0);
     let table = Table {
         desk: &desk,
-        places: places.as_slice(),
+        began: opening,
         pace: &pace,
+        late: &late,
     };
-    let listener = run(host, table, sender, &receiver, listener);
-    let book = match closed(host.alloc, desk, places, opening) {
-        Ok(Some(book)) => Some(book),
-        Ok(None) => alone(host.rt, host.alloc, opening),
-        Err(_) => None,
+    let shift = Shift {
+        crew,
+        sender,
+        listener,
     };
-    Solved { book, listener }
+    let ran = run(host, table, &receiver, shift);
+    let Ran { passes, listener } = ran;
+    Solved {
+        book: closed(host.alloc, desk, passes, opening),
+        listener,
+    }
 }
 
-// What threads share.
+// What threads share, and where snapshots go.
 #[derive(Drop)]
 struct Room {
     desk: Desk,
-    seating: Seating,
-}
-
-// Where the passes lie, and where snapshots go.
-#[derive(Drop)]
-struct Seating {
-    places: Vec<Mutex<Pass>>,
+    crew: Crew,
     sender: Sender<Snapshot>,
     receiver: Receiver<Snapshot>,
 }
 
-// The desk has a place for each of its passes.
+// A desk with a crew of all its passes.
 fn make_room(alloc: Global, opening: &Opening) -> Result<Room, AllocError>
     requires { IsOpening opening.now }
-    ensures { IfOk result (λ room. length room.seating.places.items ≡ width_of room.desk) }
+    ensures { IfOk result (λ room. IsRoom room.desk opening.now room.crew) }
 {
     let (desk, passes) = Desk::new(alloc, opening.copy()?)?;
-    match make_seating(alloc, passes) {
-        Ok(seating) => Ok(Room { desk, seating }),
+    let crew = match Crew::new(alloc, passes) {
+        Ok(crew) => crew,
         Err(error) => {
             drop(desk);
-            Err(error)
+            return Err(error);
         }
-    }
-}
-
-fn make_seating(alloc: Global, passes: Vec<Pass>) -> Result<Seating, AllocError>
-    ensures { IfOk result (λ seating. length seating.places.items ≡ length passes.items) }
-{
-    let places = places(alloc, passes)?;
+    };
     match bounded(alloc, WAITING) {
-        Ok((sender, receiver)) => Ok(Seating {
-            places,
+        Ok((sender, receiver)) => Ok(Room {
+            desk,
+            crew,
             sender,
             receiver,
         }),
         Err(_) => {
-            drop(places);
+            drop(desk);
+            drop(crew);
             Err(AllocError)
         }
     }
+}
+
+// Who is to work, and who listens.
+#[derive(Drop)]
+struct Shift<T> {
+    crew: Crew,
+    sender: Sender<Snapshot>,
+    listener: T,
+}
+
+// The passes that came back, and who listened.
+#[derive(Drop)]
+struct Ran<T> {
+    passes: Vec<Pass>,
+    listener: T,
 }
 
 // Runs the workers to their end, while the caller listens.
 fn run<R: Threads + Wait + Sync, O: Observer, T: Listener + Drop>(
     host: &Host<'_, R, O>,
     table: Table<'_>,
-    sender: Sender<Snapshot>,
     receiver: &Receiver<Snapshot>,
-    listener: T,
-) -> T
-    requires { T.ready listener }
-    ensures ready { T.ready result }
-    ensures moves { T.moves listener result }
+    shift: Shift<T>,
+) -> Ran<T>
+    requires crew { IsCrewAt table shift.crew }
+    requires ready { T.ready shift.listener }
+    ensures passes { AreAllAt table.entry (count_of shift.crew) result.passes.items }
+    ensures ready { T.ready result.listener }
+    ensures moves { T.moves shift.listener result.listener }
 {
     thread::scope(
         thread::scope_env(),
         host.rt,
-        move |scope| -> T
-            requires { T.ready listener }
-            ensures ready { T.ready result }
-            ensures moves { T.moves listener result }
+        move |scope| -> Ran<T>
+            requires { IsCrewAt table shift.crew × T.ready shift.listener }
+            ensures passes { AreAllAt table.entry (count_of shift.crew) result.passes.items }
+            ensures ready { T.ready result.listener }
+            ensures moves { T.moves shift.listener result.listener }
         {
-            start(scope, host, table, sender);
-            listen(host.rt, listener, receiver)
+            let Shift {
+                mut crew,
+                sender,
+                listener,
+            } = shift;
+            crew.start(scope, host, table, sender);
+            let listener = listen(host.rt, listener, receiver);
+            Ran {
+                passes: crew.join(host.rt, table),
+                listener,
+            }
         },
     )
 }
 
-// The book of a desk that is closed, with a place for each of its passes, if it began with this
-// opening.
-fn closed(
-    alloc: Global,
-    desk: Desk,
-    places: Vec<Mutex<Pass>>,
-    opening: &Opening,
-) -> Result<Option<Book>, AllocError>
-    requires { length places.items ≡ width_of desk }
-    ensures { IfOk result (λ book. IfSome book (IsEnding opening.now)) }
+// The book of a desk that is closed with all its passes, if memory suffices.
+fn closed(alloc: Global, desk: Desk, passes: Vec<Pass>, opening: &Opening) -> Option<Book>
+    requires { AreAllOf desk opening.now passes.items }
+    ensures { IfSome result (IsEnding opening.now) }
 {
-    let passes = match passes(alloc, places) {
-        Ok(passes) => passes,
-        Err(error) => {
-            drop(desk);
-            return Err(error);
+    let _opening = opening;
+    match desk.close(alloc, passes) {
+        Ok(locked) => Some(of_opening(locked)),
+        Err(back) => {
+            drop(back);
+            None
         }
-    };
-    match desk.close(passes) {
-        Ok(locked) => Ok(of_opening(locked, opening)),
-        Err(_) => unreachable!(),
     }
 }

@@ -1,5 +1,0 @@
-use Rattle.ug_worker.proofs.Silent.{if_ok, took_any}
-use Rattle.ug_threads.proofs.alone.OwnSeatSeat.take.Goals as goal
-
-pub returns-clause-took : goal.returns-clause-took
-returns-clause-took c tally at = if_ok _ _ (λ taken. took_any _ (λ tally some. tt) tally _ tt taken)
