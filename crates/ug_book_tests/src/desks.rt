@@ -1,11 +1,12 @@
-ghost use Rattle.std.specs.Prelude.{◌≡◌, [], OnOk};
+ghost use Rattle.std.specs.Prelude.{◌≡◌, [], IfSome, OnOk};
 ghost use Rattle.ug_rules.specs.Books.{AreSettings};
+ghost use Rattle.ug_desk.specs.Passes.{lock_of_desk};
+ghost use Rattle.ug_book_tests.specs.Both.{AreBoth, IsOpened};
 
 use crate::expect::holds;
 use crate::problems::square;
 use std::alloc::{AllocError, Global};
 use std::sync::Wait;
-use std::thread::{Threads, join};
 use ug_base::{Step, Task};
 use ug_book::{Answered, Book, Opening};
 use ug_branch::Base;
@@ -19,7 +20,8 @@ use ug_worker::Took;
 
 // Two ranks, and from two to three nodes in the pool.
 fn settings() -> Settings
-    ensures { AreSettings result }
+    ensures are { AreSettings result }
+    ensures two { result.solvers ≡ 2 }
 {
     Settings {
         solvers: 2,
@@ -35,30 +37,75 @@ fn settings() -> Settings
 }
 
 // A desk over the square, and its two passes.
-fn open(alloc: Global) -> Option<(Desk, Vec<Pass>)> {
+#[derive(Drop)]
+pub struct Opened {
+    pub desk: Desk,
+    pub first: Pass,
+    pub second: Pass,
+}
+
+// A desk with the passes that it was opened with.
+fn open(alloc: Global) -> Option<Opened>
+    ensures { IfSome result IsOpened }
+{
     let problem = Shared::own(square(alloc).ok()?);
     let Ok(opening) = Opening::new(alloc, problem, 1, settings()) else {
         return None;
     };
-    Desk::new(alloc, opening).ok()
+    match Desk::new(alloc, opening) {
+        Ok((desk, passes)) => with_both(desk, passes),
+        Err(_) => None,
+    }
+}
+
+// A desk with both of its passes.
+fn with_both(desk: Desk, mut passes: Vec<Pass>) -> Option<Opened>
+    requires { AreBoth desk passes.items }
+    ensures { IfSome result IsOpened }
+{
+    let second = passes.pop();
+    let first = passes.pop();
+    drop(passes);
+    match (first, second) {
+        (Some(first), Some(second)) => Some(Opened {
+            desk,
+            first,
+            second,
+        }),
+        (one, other) => {
+            drop(desk);
+            drop(one);
+            drop(other);
+            None
+        }
+    }
 }
 
 // The work that a pass takes.
-fn work<R: Wait>(rt: &R, desk: &Desk, pass: &mut Pass) -> Option<Task> {
+fn work<R: Wait>(rt: &R, desk: &Desk, pass: &mut Pass) -> Option<Task>
+    requires { pass.old.lock ≡ lock_of_desk desk.now }
+    ensures lock { pass.new.lock ≡ pass.old.lock }
+{
     match desk.take(rt, pass).ok()? {
         Took::Work(task) => Some(task),
         Took::Wait | Took::Over => None,
     }
 }
 
-fn waits<R: Wait>(rt: &R, desk: &Desk, pass: &mut Pass) -> bool {
+fn waits<R: Wait>(rt: &R, desk: &Desk, pass: &mut Pass) -> bool
+    requires { pass.old.lock ≡ lock_of_desk desk.now }
+    ensures lock { pass.new.lock ≡ pass.old.lock }
+{
     let took = desk.take(rt, pass);
     let waits = matches!(&took, Ok(Took::Wait));
     drop(took);
     waits
 }
 
-fn is_over<R: Wait>(rt: &R, desk: &Desk, pass: &mut Pass) -> bool {
+fn is_over<R: Wait>(rt: &R, desk: &Desk, pass: &mut Pass) -> bool
+    requires { pass.old.lock ≡ lock_of_desk desk.now }
+    ensures lock { pass.new.lock ≡ pass.old.lock }
+{
     let took = desk.take(rt, pass);
     let is_over = matches!(&took, Ok(Took::Over));
     drop(took);
@@ -70,14 +117,20 @@ fn splits(task: &mut Task) -> bool {
 }
 
 // Whether so many boxes are asked for of a pass that has two.
-fn is_asked_for<R: Wait>(rt: &R, desk: &Desk, pass: &mut Pass, count: u32) -> bool {
+fn is_asked_for<R: Wait>(rt: &R, desk: &Desk, pass: &mut Pass, count: u32) -> bool
+    requires { pass.old.lock ≡ lock_of_desk desk.now }
+    ensures lock { pass.new.lock ≡ pass.old.lock }
+{
     match desk.state(rt, pass, 2, 0) {
         Ok(reply) => reply.collect == count && !reply.stop,
         Err(_) => false,
     }
 }
 
-fn hands<R: Wait>(rt: &R, desk: &Desk, pass: &mut Pass, task: &mut Task) -> bool {
+fn hands<R: Wait>(rt: &R, desk: &Desk, pass: &mut Pass, task: &mut Task) -> bool
+    requires { pass.old.lock ≡ lock_of_desk desk.now }
+    ensures lock { pass.new.lock ≡ pass.old.lock }
+{
     let Ok(Some(handed)) = task.hand() else {
         return false;
     };
@@ -101,7 +154,12 @@ fn hands_when_asked<R: Wait>(
     first: &mut Pass,
     second: &mut Pass,
     task: &mut Task,
-) -> bool {
+) -> bool
+    requires first { first.old.lock ≡ lock_of_desk desk.now }
+    requires second { second.old.lock ≡ lock_of_desk desk.now }
+    ensures first { first.new.lock ≡ first.old.lock }
+    ensures second { second.new.lock ≡ second.old.lock }
+{
     waits(rt, desk, second)
         && splits(task)
         && is_asked_for(rt, desk, first, 0)
@@ -111,7 +169,10 @@ fn hands_when_asked<R: Wait>(
 }
 
 // Whether the work that a pass takes is of the upper half.
-fn takes_upper_half<R: Wait>(rt: &R, desk: &Desk, pass: &mut Pass) -> bool {
+fn takes_upper_half<R: Wait>(rt: &R, desk: &Desk, pass: &mut Pass) -> bool
+    requires { pass.old.lock ≡ lock_of_desk desk.now }
+    ensures lock { pass.new.lock ≡ pass.old.lock }
+{
     let Some(given) = work(rt, desk, pass) else {
         return false;
     };
@@ -121,7 +182,12 @@ fn takes_upper_half<R: Wait>(rt: &R, desk: &Desk, pass: &mut Pass) -> bool {
 }
 
 // Whether the first pass takes work and hands a box of it, which the second one takes.
-fn box_goes_over<R: Wait>(rt: &R, desk: &Desk, first: &mut Pass, second: &mut Pass) -> bool {
+fn box_goes_over<R: Wait>(rt: &R, desk: &Desk, first: &mut Pass, second: &mut Pass) -> bool
+    requires first { first.old.lock ≡ lock_of_desk desk.now }
+    requires second { second.old.lock ≡ lock_of_desk desk.now }
+    ensures first { first.new.lock ≡ first.old.lock }
+    ensures second { second.new.lock ≡ second.old.lock }
+{
     let Some(mut task) = work(rt, desk, first) else {
         return false;
     };
@@ -131,13 +197,12 @@ fn box_goes_over<R: Wait>(rt: &R, desk: &Desk, first: &mut Pass, second: &mut Pa
 }
 
 // Whether the first of two passes hands a box, which is then the work of the second.
-fn box_is_work<R: Wait>(rt: &R, desk: &Desk, passes: &mut [Pass]) -> bool {
-    match passes {
-        [first, second] => {
-            box_goes_over(rt, desk, first, second) && takes_upper_half(rt, desk, second)
-        }
-        _ => false,
-    }
+fn box_is_work<R: Wait>(rt: &R, opened: &mut Opened) -> bool
+    requires { IsOpened opened.old }
+    ensures { IsOpened opened.new }
+{
+    box_goes_over(rt, &opened.desk, &mut opened.first, &mut opened.second)
+        && takes_upper_half(rt, &opened.desk, &mut opened.second)
 }
 
 // The point (0, 5).
@@ -145,12 +210,23 @@ fn least(alloc: Global) -> Option<Point> {
     Some(Point::from_vec(Vec::from_slice(alloc, &[0, 5]).ok()?))
 }
 
+// Whether the point (0, 5) of a pass is kept.
+fn offers_least<R: Wait>(rt: &R, alloc: Global, desk: &Desk, pass: &mut Pass) -> bool
+    requires { pass.old.lock ≡ lock_of_desk desk.now }
+    ensures lock { pass.new.lock ≡ pass.old.lock }
+{
+    match least(alloc) {
+        Some(point) => desk.solution(rt, pass, point) == Heard::Kept,
+        None => false,
+    }
+}
+
 // Whether a pass finds the point (0, 5), and is told its value for a cutoff.
-fn finds<R: Wait>(rt: &R, alloc: Global, desk: &Desk, pass: &mut Pass) -> bool {
-    let Some(point) = least(alloc) else {
-        return false;
-    };
-    if desk.solution(rt, pass, point) != Heard::Kept {
+fn finds<R: Wait>(rt: &R, alloc: Global, desk: &Desk, pass: &mut Pass) -> bool
+    requires { pass.old.lock ≡ lock_of_desk desk.now }
+    ensures lock { pass.new.lock ≡ pass.old.lock }
+{
+    if !offers_least(rt, alloc, desk, pass) {
         return false;
     }
     match desk.state(rt, pass, 1, 0) {
@@ -171,7 +247,10 @@ fn search(task: &mut Task) -> Result<(), AllocError>
 }
 
 // Whether a task that finds nothing below 5 is done.
-fn ends<R: Wait>(rt: &R, desk: &Desk, pass: &mut Pass, mut task: Task) -> bool {
+fn ends<R: Wait>(rt: &R, desk: &Desk, pass: &mut Pass, mut task: Task) -> bool
+    requires { pass.old.lock ≡ lock_of_desk desk.now }
+    ensures lock { pass.new.lock ≡ pass.old.lock }
+{
     task.lower(5);
     match search(&mut task) {
         Ok(()) => desk.done(rt, pass, task) == Heard::Kept,
@@ -191,13 +270,33 @@ fn has_least(book: &Book) -> bool {
 }
 
 // Whether the book of a desk that is closed has the point (0, 5) for its answer.
-fn closes_with_least(desk: Desk, passes: Vec<Pass>) -> bool {
-    let Some(locked) = desk.close(passes).ok() else {
+fn closes_with_least(alloc: Global, opened: Opened) -> bool
+    requires { IsOpened opened }
+{
+    let Opened {
+        desk,
+        first,
+        second,
+    } = opened;
+    let Ok(mut passes) = Vec::with_capacity(alloc, 2) else {
+        drop(desk);
+        drop(first);
+        drop(second);
         return false;
     };
-    let has_least = has_least(locked.book());
-    drop(locked);
-    has_least
+    passes.push_reserved(first);
+    passes.push_reserved(second);
+    match desk.close(alloc, passes) {
+        Ok(locked) => {
+            let has_least = has_least(locked.book());
+            drop(locked);
+            has_least
+        }
+        Err(back) => {
+            drop(back);
+            false
+        }
+    }
 }
 
 // Whether the first pass finds the point and then nothing below it, while the second one waits.
@@ -207,7 +306,12 @@ fn root_is_done<R: Wait>(
     desk: &Desk,
     first: &mut Pass,
     second: &mut Pass,
-) -> bool {
+) -> bool
+    requires first { first.old.lock ≡ lock_of_desk desk.now }
+    requires second { second.old.lock ≡ lock_of_desk desk.now }
+    ensures first { first.new.lock ≡ first.old.lock }
+    ensures second { second.new.lock ≡ second.old.lock }
+{
     match work(rt, desk, first) {
         Some(task) => {
             let found = waits(rt, desk, second) && finds(rt, alloc, desk, first);
@@ -219,15 +323,18 @@ fn root_is_done<R: Wait>(
 
 // Whether the root is done by the first of two passes, after three calls, and the desk is over for
 // the second.
-fn is_over_with_the_root<R: Wait>(rt: &R, alloc: Global, desk: &Desk, passes: &mut [Pass]) -> bool {
-    match passes {
-        [first, second] => {
-            root_is_done(rt, alloc, desk, first, second)
-                && first.heard() == 3
-                && is_over(rt, desk, second)
-        }
-        _ => false,
-    }
+fn is_over_with_the_root<R: Wait>(rt: &R, alloc: Global, opened: &mut Opened) -> bool
+    requires { IsOpened opened.old }
+    ensures { IsOpened opened.new }
+{
+    let is_done = root_is_done(
+        rt,
+        alloc,
+        &opened.desk,
+        &mut opened.first,
+        &mut opened.second,
+    );
+    is_done && opened.first.heard() == 3 && is_over(rt, &opened.desk, &mut opened.second)
 }
 
 // Gives all boxes of a task.
@@ -237,7 +344,9 @@ fn give_all<R: Wait>(
     pass: &mut Pass,
     task: &mut Task,
 ) -> Result<(), AllocError>
-    ensures { OnOk result (task.new.boxes ≡ []) }
+    requires { pass.old.lock ≡ lock_of_desk desk.now }
+    ensures done { OnOk result (task.new.boxes ≡ []) }
+    ensures lock { pass.new.lock ≡ pass.old.lock }
 {
     loop {
         let Some(handed) = task.give()? else {
@@ -259,7 +368,10 @@ fn are_first_hands(nodes: &[SavedNode]) -> bool {
 }
 
 // How many nodes are saved now, if they are the first hands of their tickets, or the root alone.
-fn saved<R: Wait>(rt: &R, desk: &Desk, pass: &mut Pass) -> Option<usize> {
+fn saved<R: Wait>(rt: &R, desk: &Desk, pass: &mut Pass) -> Option<usize>
+    requires { pass.old.lock ≡ lock_of_desk desk.now }
+    ensures lock { pass.new.lock ≡ pass.old.lock }
+{
     let image = desk.snapshot(rt, pass).ok()?.into_image();
     let nodes = image.nodes.as_slice();
     let count = nodes.len();
@@ -269,7 +381,10 @@ fn saved<R: Wait>(rt: &R, desk: &Desk, pass: &mut Pass) -> Option<usize> {
 }
 
 // Whether all boxes of the task can be given, and then it is done.
-fn gives_all<R: Wait>(rt: &R, desk: &Desk, pass: &mut Pass, mut task: Task) -> bool {
+fn gives_all<R: Wait>(rt: &R, desk: &Desk, pass: &mut Pass, mut task: Task) -> bool
+    requires { pass.old.lock ≡ lock_of_desk desk.now }
+    ensures lock { pass.new.lock ≡ pass.old.lock }
+{
     match give_all(rt, desk, pass, &mut task) {
         Ok(()) => desk.done(rt, pass, task) == Heard::Kept,
         Err(_) => {
@@ -281,10 +396,12 @@ fn gives_all<R: Wait>(rt: &R, desk: &Desk, pass: &mut Pass, mut task: Task) -> b
 
 // Whether the root is what is saved of a task of three boxes, and its boxes once they were given,
 // of the first of two passes.
-fn boxes_are_saved<R: Wait>(rt: &R, desk: &Desk, passes: &mut [Pass]) -> bool {
-    let [pass, _] = passes else {
-        return false;
-    };
+fn boxes_are_saved<R: Wait>(rt: &R, opened: &mut Opened) -> bool
+    requires { IsOpened opened.old }
+    ensures { IsOpened opened.new }
+{
+    let desk = &opened.desk;
+    let pass = &mut opened.first;
     match work(rt, desk, pass) {
         Some(mut task) => {
             let halved = splits(&mut task) && splits(&mut task);
@@ -296,65 +413,36 @@ fn boxes_are_saved<R: Wait>(rt: &R, desk: &Desk, passes: &mut [Pass]) -> bool {
     }
 }
 
-// Takes and searches, or waits. Whether the desk is not over.
-fn goes_on<R: Wait>(rt: &R, desk: &Desk, pass: &mut Pass) -> bool {
-    let seen = desk.stirred(rt);
-    match desk.take(rt, pass).ok() {
-        Some(Took::Work(task)) => {
-            finish(rt, desk, pass, task);
-            true
-        }
-        Some(Took::Wait) => {
-            desk.rest(rt, seen);
-            true
-        }
-        Some(Took::Over) | None => false,
-    }
-}
-
-// Takes and searches until the desk is over.
-fn solve<R: Wait>(rt: &R, desk: &Desk, pass: &mut Pass) {
-    for _ in rt.forever() {
-        if !goes_on(rt, desk, pass) {
-            break;
-        }
-    }
-}
-
-// Searches a task, and hands nothing.
-fn finish<R: Wait>(rt: &R, desk: &Desk, pass: &mut Pass, mut task: Task) {
-    match find(rt, desk, pass, &mut task) {
-        Ok(()) => {
-            desk.done(rt, pass, task);
-        }
-        Err(_) => desk.give_up(rt, pass, task),
-    }
-}
-
-// Steps a task to its end, and tells each point that is found.
-fn find<R: Wait>(rt: &R, desk: &Desk, pass: &mut Pass, task: &mut Task) -> Result<(), AllocError>
-    ensures { OnOk result (task.new.boxes ≡ []) }
+// Whether the cutoff that the second pass reads without the lock is 5 once the first has found the
+// point, and whether both have then seen what each had: the two calls before a snapshot, and it.
+fn cutoff_is_read<R: Wait>(rt: &R, alloc: Global, opened: &mut Opened) -> bool
+    requires { IsOpened opened.old }
+    ensures { IsOpened opened.new }
 {
-    loop {
-        match task.step()? {
-            Step::Found(point) => {
-                desk.solution(rt, pass, point);
-            }
-            Step::Empty => return Ok(()),
-            _ => {}
-        }
-    }
+    let desk = &opened.desk;
+    let first = &mut opened.first;
+    let second = &mut opened.second;
+    let Some(task) = work(rt, desk, first) else {
+        return false;
+    };
+    drop(task);
+    let waited = waits(rt, desk, second);
+    let before = desk.cutoff(second);
+    desk.meet(first, second);
+    let length = length(rt, desk, second);
+    let found = offers_least(rt, alloc, desk, first);
+    waited && before.is_none() && length == Some(3) && found && desk.cutoff(second) == Some(5)
 }
 
-// Both passes of two take and search until the desk is over. Whether there are two.
-fn solve_both<R: Threads + Wait + Sync>(rt: &R, desk: &Desk, passes: &mut [Pass]) -> bool {
-    match passes {
-        [first, second] => {
-            join(rt, || solve(rt, desk, first), || solve(rt, desk, second));
-            true
-        }
-        _ => false,
-    }
+// How many calls the history has with a snapshot.
+fn length<R: Wait>(rt: &R, desk: &Desk, pass: &mut Pass) -> Option<u64>
+    requires { pass.old.lock ≡ lock_of_desk desk.now }
+    ensures lock { pass.new.lock ≡ pass.old.lock }
+{
+    let snapshot = desk.snapshot(rt, pass).ok()?;
+    let count = snapshot.count();
+    drop(snapshot);
+    Some(count)
 }
 
 /// What is looked at in a desk.
@@ -363,22 +451,22 @@ enum Looked {
     BoxIsWork,
     OverWithTheRoot,
     BoxesAreSaved,
-    Threads,
+    Cutoff,
 }
 
 // Whether that is so of a desk that is opened; and where it is over behind that, it closes with the
 // least point.
-fn is_so<R: Threads + Wait + Sync>(rt: &R, alloc: Global, looked: Looked) -> bool {
-    let Some((desk, mut passes)) = open(alloc) else {
+fn is_so<R: Wait>(rt: &R, alloc: Global, looked: Looked) -> bool {
+    let Some(mut opened) = open(alloc) else {
         return false;
     };
     let (is_so, is_over) = match looked {
-        Looked::BoxIsWork => (box_is_work(rt, &desk, &mut passes), false),
-        Looked::OverWithTheRoot => (is_over_with_the_root(rt, alloc, &desk, &mut passes), true),
-        Looked::BoxesAreSaved => (boxes_are_saved(rt, &desk, &mut passes), false),
-        Looked::Threads => (solve_both(rt, &desk, &mut passes), true),
+        Looked::BoxIsWork => (box_is_work(rt, &mut opened), false),
+        Looked::OverWithTheRoot => (is_over_with_the_root(rt, alloc, &mut opened), true),
+        Looked::BoxesAreSaved => (boxes_are_saved(rt, &mut opened), false),
+        Looked::Cutoff => (cutoff_is_read(rt, alloc, &mut opened), false),
     };
-    let has_least = closes_with_least(desk, passes);
+    let has_least = closes_with_least(alloc, opened);
     is_so && has_least == is_over
 }
 
@@ -398,6 +486,6 @@ fn boxes_given_are_saved_in_place_of_the_node(rt: HostRuntime) {
 }
 
 #[test]
-fn two_threads_share_a_desk(rt: HostRuntime) {
-    holds(&rt, is_so(&rt, rt.alloc(), Looked::Threads));
+fn cutoff_is_read_without_the_lock(rt: HostRuntime) {
+    holds(&rt, is_so(&rt, rt.alloc(), Looked::Cutoff));
 }

@@ -1,4 +1,6 @@
+ghost use Rattle.std.specs.Prelude.{◌≡◌, Some, slice_get};
 ghost use Rattle.ug_rules.specs.Books.{AreSettings};
+ghost use Rattle.ug_desk.specs.Passes.{lock_of_desk};
 
 use crate::start::problem;
 use std::alloc::{AllocError, Global};
@@ -30,23 +32,29 @@ pub fn call_desk<R: Wait>(rt: &R, alloc: Global, calls: u64) -> Result<Replies, 
     Ok(replies)
 }
 
-// Takes what there is for each pass, and tells so often what is left of it.
-fn tell_all<R: Wait>(rt: &R, desk: &Desk, passes: Vec<Pass>, calls: u64) -> Replies {
+// Takes what there is for the last of the passes, and tells so often what is left of it.
+fn tell_all<R: Wait>(rt: &R, desk: &Desk, mut passes: Vec<Pass>, calls: u64) -> Replies
+    requires { (k : _) (p : _) → slice_get passes.items k ≡ Some p → p.lock ≡ lock_of_desk desk.now }
+{
     let mut replies = Replies {
         going: 0,
         other: 0,
         snapshots: 0,
     };
-    for mut pass in passes {
+    if let Some(mut pass) = passes.pop() {
         if takes_work(rt, desk, &mut pass) {
             tell(rt, desk, &mut pass, calls, &mut replies);
         }
+        drop(pass);
     }
     replies
 }
 
 // Whether there is work for the pass, which it takes.
-fn takes_work<R: Wait>(rt: &R, desk: &Desk, pass: &mut Pass) -> bool {
+fn takes_work<R: Wait>(rt: &R, desk: &Desk, pass: &mut Pass) -> bool
+    requires { pass.old.lock ≡ lock_of_desk desk.now }
+    ensures lock { pass.new.lock ≡ pass.old.lock }
+{
     let took = desk.take(rt, pass);
     let works = matches!(took, Ok(Took::Work(_)));
     drop(took);
@@ -54,7 +62,10 @@ fn takes_work<R: Wait>(rt: &R, desk: &Desk, pass: &mut Pass) -> bool {
 }
 
 // Whether a snapshot was made.
-fn is_copied<R: Wait>(rt: &R, desk: &Desk, pass: &mut Pass) -> bool {
+fn is_copied<R: Wait>(rt: &R, desk: &Desk, pass: &mut Pass) -> bool
+    requires { pass.old.lock ≡ lock_of_desk desk.now }
+    ensures lock { pass.new.lock ≡ pass.old.lock }
+{
     let snapshot = desk.snapshot(rt, pass);
     let is_made = snapshot.is_ok();
     drop(snapshot);
@@ -62,7 +73,10 @@ fn is_copied<R: Wait>(rt: &R, desk: &Desk, pass: &mut Pass) -> bool {
 }
 
 // Tells so often that two boxes are left.
-fn tell<R: Wait>(rt: &R, desk: &Desk, pass: &mut Pass, calls: u64, replies: &mut Replies) {
+fn tell<R: Wait>(rt: &R, desk: &Desk, pass: &mut Pass, calls: u64, replies: &mut Replies)
+    requires { pass.old.lock ≡ lock_of_desk desk.now }
+    ensures lock { pass.new.lock ≡ pass.old.lock }
+{
     for call in 0..calls {
         match desk.state(rt, pass, 2, 0) {
             Ok(reply) if !reply.stop => replies.going = replies.going.saturating_add(1),

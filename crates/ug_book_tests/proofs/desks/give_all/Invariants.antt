@@ -1,5 +1,9 @@
+use Rattle.std.proofs.Common.{◌≡◌}
 use Rattle.ug_base.specs.Points.{measure_of}
 use Rattle.ug_book_tests.proofs.desks.give_all.Given as goal
+
+abbrev pub invariant-loop-handed : goal.invariant-loop-handed
+invariant-loop-handed g l = l.pass.lock ≡ l.initial.pass.lock
 
 abbrev pub decreases-loop-handed : goal.decreases-loop-handed
 decreases-loop-handed g l = measure_of l.task.boxes
