@@ -4,7 +4,7 @@ ghost use Rattle.ug_turn.specs.Views.{less_one, maker, next_pass};
 ghost use Rattle.ug_turn.specs.Locks.{id_of, passes_of};
 ghost use Rattle.ug_turn.specs.Seats.{AreNewSeats, IsMaking};
 
-use crate::bells::Bells;
+use crate::gate::Gate;
 use crate::held::Held;
 use crate::lasting::Lasting;
 use crate::plays::MakePass;
@@ -48,14 +48,16 @@ impl<V: Lasting + Drop> Turn<V> {
             passes,
             value: Snapshot::of(&value),
         };
-        let bells = Bells::new(alloc, passes)?;
         let nothing: Option<V::Entry> = None;
         let said = Snapshot::of(&nothing);
         drop(nothing);
         let mut slots = Vec::new(alloc);
         slots.push(Some(Held { value, said }))?;
         match Table::new(alloc, &[0, 0, word], slots, &key) {
-            Ok((table, maker)) => Ok((Turn { table, bells }, maker)),
+            Ok((table, maker)) => {
+                let gate = Gate::new();
+                Ok((Turn { table, gate }, maker))
+            }
             Err(_) => Err(AllocError),
         }
     }

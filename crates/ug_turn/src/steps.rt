@@ -107,6 +107,5 @@ impl<V: Lasting + Drop> Turn<V> {
         ensures view { view_of seat.new ≡ record (view_of seat.old) { waits = 0; step = 0 } }
     {
         self.table.shared.fetch_add::<PassOn>(&mut seat.place, 1, 1);
-        self.bells.ring(seat.number.wrapping_add(1));
     }
 }

@@ -1,5 +1,5 @@
 // A turn: the value is taken, and put home.
-ghost use Rattle.std.specs.Prelude.{◌≡◌, if◌then◌else◌};
+ghost use Rattle.std.specs.Prelude.{◌≡◌};
 ghost use Rattle.ug_turn.specs.Steps.{HasPut, HasTaken, MayPut};
 ghost use Rattle.ug_turn.specs.Locks.{id_of};
 ghost use Rattle.ug_turn.specs.Seats.{IsAtRest, IsOut, IsWaiting, lock_of, view_of};
@@ -9,9 +9,6 @@ use crate::seat::SeatOf;
 use crate::turn::Turn;
 use std::hint::spin_loop;
 use std::sync::Wait;
-
-// How often a waiter looks before it sleeps.
-const LOOKS: u32 = 100;
 
 impl<V: Lasting + Drop> Turn<V> {
     /// Waits for the seat's turn and takes the value, which is what a history leads to: it begins
@@ -25,6 +22,7 @@ impl<V: Lasting + Drop> Turn<V> {
         ensures taken { HasTaken V.opening V.replays V.by V.cutoff
             (view_of seat.old) result (view_of seat.new) }
     {
+        self.gate.enter(rt);
         self.draw(seat);
         self.await_turn(rt, seat);
         self.take_out(seat)
@@ -44,9 +42,10 @@ impl<V: Lasting + Drop> Turn<V> {
         self.put_home(seat, value, entry);
         self.lower(seat, word);
         self.pass_on(seat);
+        self.gate.leave();
     }
 
-    // Waits for the seat's turn: it looks a little while, and then sleeps between two looks.
+    // Waits for the seat's turn, which comes at once to who is in at the gate.
     fn await_turn<R: Wait>(&self, rt: &R, seat: &mut SeatOf<V>)
         requires lock { lock_of seat.old ≡ id_of self.now }
         requires waiting { IsWaiting 0 seat.old }
@@ -54,35 +53,12 @@ impl<V: Lasting + Drop> Turn<V> {
         ensures turn { IsWaiting 1 seat.new }
         ensures view { view_of seat.new ≡ record (view_of seat.old) { step = 1 } }
     {
-        if self.looks(seat) {
-            return;
-        }
         for _ in rt.forever() {
-            self.bells.ask(seat.number);
             if self.sees_turn(seat) {
                 return;
             }
-            self.bells.sleep(rt, seat.number);
-        }
-        unreachable!()
-    }
-
-    // Looks a little while whether the seat's turn has come.
-    fn looks(&self, seat: &mut SeatOf<V>) -> bool
-        requires lock { lock_of seat.old ≡ id_of self.now }
-        requires waiting { IsWaiting 0 seat.old }
-        ensures lock { lock_of seat.new ≡ lock_of seat.old }
-        ensures waiting { IsWaiting (if result then 1 else 0) seat.new }
-        ensures view { view_of seat.new ≡ record (view_of seat.old) {
-          step = if result then 1 else 0;
-        } }
-    {
-        for _ in 0..LOOKS {
-            if self.sees_turn(seat) {
-                return true;
-            }
             spin_loop();
         }
-        false
+        unreachable!()
     }
 }

@@ -1,6 +1,6 @@
 ghost use Rattle.std.specs.Prelude.{◌≡◌, ◌<◌};
 
-use crate::bells::Bells;
+use crate::gate::Gate;
 use crate::held::Held;
 use crate::lasting::Lasting;
 use crate::rule::{InTurns, Key};
@@ -18,7 +18,7 @@ pub struct Turn<V: Lasting + Drop> {
         InTurns<V>,
         Global,
     >,
-    pub(crate) bells: Bells,
+    pub(crate) gate: Gate,
     ghost three: { table.shared.table_id.words ≡ 3 },
     ghost one: { table.shared.table_id.slots ≡ 1 },
 }

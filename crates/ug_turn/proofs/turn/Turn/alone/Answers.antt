@@ -4,10 +4,7 @@ use Rattle.ug_turn.proofs.Keeping.{begins}
 use Rattle.ug_turn.proofs.turn.Turn.alone.Goals as goal
 
 pub new-requires : goal.new-requires
-new-requires g c = c.requires.some
-
-pub new-requires-2 : goal.new-requires-2
-new-requires-2 g c =
+new-requires g c =
     let x = c.of.result.value in
     let held : Held g.row.V.Denot g.row.V-Entry.Denot = record { value = c.args.value; said = c.of-said.result } in
     let is : c.push.new.self.items ≡ Some held ∷ [] = search rules in
