@@ -1,7 +1,7 @@
 ghost use Rattle.std.specs.Prelude.{◌≡◌, [], IfSome, OnOk};
 ghost use Rattle.ug_rules.specs.Books.{AreSettings};
 ghost use Rattle.ug_desk.specs.Passes.{lock_of_desk};
-ghost use Rattle.ug_book_tests.specs.Both.{AreBoth, IsOpened};
+ghost use Rattle.ug_book_tests.specs.Both.{AreBoth, AreTwo};
 
 use crate::expect::holds;
 use crate::problems::square;
@@ -46,7 +46,7 @@ pub struct Opened {
 
 // A desk with the passes that it was opened with.
 fn open(alloc: Global) -> Option<Opened>
-    ensures { IfSome result IsOpened }
+    ensures { IfSome result (λ o. AreTwo o.desk o.first o.second) }
 {
     let problem = Shared::own(square(alloc).ok()?);
     let Ok(opening) = Opening::new(alloc, problem, 1, settings()) else {
@@ -61,7 +61,7 @@ fn open(alloc: Global) -> Option<Opened>
 // A desk with both of its passes.
 fn with_both(desk: Desk, mut passes: Vec<Pass>) -> Option<Opened>
     requires { AreBoth desk passes.items }
-    ensures { IfSome result IsOpened }
+    ensures { IfSome result (λ o. AreTwo o.desk o.first o.second) }
 {
     let second = passes.pop();
     let first = passes.pop();
@@ -198,8 +198,8 @@ fn box_goes_over<R: Wait>(rt: &R, desk: &Desk, first: &mut Pass, second: &mut Pa
 
 // Whether the first of two passes hands a box, which is then the work of the second.
 fn box_is_work<R: Wait>(rt: &R, opened: &mut Opened) -> bool
-    requires { IsOpened opened.old }
-    ensures { IsOpened opened.new }
+    requires { AreTwo opened.old.desk opened.old.first opened.old.second }
+    ensures { AreTwo opened.new.desk opened.new.first opened.new.second }
 {
     box_goes_over(rt, &opened.desk, &mut opened.first, &mut opened.second)
         && takes_upper_half(rt, &opened.desk, &mut opened.second)
@@ -271,7 +271,7 @@ fn has_least(book: &Book) -> bool {
 
 // Whether the book of a desk that is closed has the point (0, 5) for its answer.
 fn closes_with_least(alloc: Global, opened: Opened) -> bool
-    requires { IsOpened opened }
+    requires { AreTwo opened.desk opened.first opened.second }
 {
     let Opened {
         desk,
@@ -324,8 +324,8 @@ fn root_is_done<R: Wait>(
 // Whether the root is done by the first of two passes, after three calls, and the desk is over for
 // the second.
 fn is_over_with_the_root<R: Wait>(rt: &R, alloc: Global, opened: &mut Opened) -> bool
-    requires { IsOpened opened.old }
-    ensures { IsOpened opened.new }
+    requires { AreTwo opened.old.desk opened.old.first opened.old.second }
+    ensures { AreTwo opened.new.desk opened.new.first opened.new.second }
 {
     let is_done = root_is_done(
         rt,
@@ -397,8 +397,8 @@ fn gives_all<R: Wait>(rt: &R, desk: &Desk, pass: &mut Pass, mut task: Task) -> b
 // Whether the root is what is saved of a task of three boxes, and its boxes once they were given,
 // of the first of two passes.
 fn boxes_are_saved<R: Wait>(rt: &R, opened: &mut Opened) -> bool
-    requires { IsOpened opened.old }
-    ensures { IsOpened opened.new }
+    requires { AreTwo opened.old.desk opened.old.first opened.old.second }
+    ensures { AreTwo opened.new.desk opened.new.first opened.new.second }
 {
     let desk = &opened.desk;
     let pass = &mut opened.first;
@@ -416,8 +416,8 @@ fn boxes_are_saved<R: Wait>(rt: &R, opened: &mut Opened) -> bool
 // Whether the cutoff that the second pass reads without the lock is 5 once the first has found the
 // point, and whether both have then seen what each had: the two calls before a snapshot, and it.
 fn cutoff_is_read<R: Wait>(rt: &R, alloc: Global, opened: &mut Opened) -> bool
-    requires { IsOpened opened.old }
-    ensures { IsOpened opened.new }
+    requires { AreTwo opened.old.desk opened.old.first opened.old.second }
+    ensures { AreTwo opened.new.desk opened.new.first opened.new.second }
 {
     let desk = &opened.desk;
     let first = &mut opened.first;
