@@ -184,8 +184,8 @@ impl Desk {
         cutoff_at(pass.floor, word)
     }
 
-    /// Two passes meet: both have then seen one beginning of the history, which begins with what each
-    /// had seen.
+    /// Two passes meet: both have then seen one beginning of the history, which begins with what
+    /// each had seen.
     pub fn meet(&self, first: &mut Pass, second: &mut Pass)
         requires first { first.old.lock ≡ lock_of_desk self.now }
         requires second { second.old.lock ≡ lock_of_desk self.now }

@@ -5,9 +5,9 @@ use crate::shelf::Shelf;
 use std::sync::{Condvar, Mutex, Wait};
 use ug_turn::Turn;
 
-/// One book that threads share in turns, each through passes of its own. What a call does is said by
-/// the call of `Locked` of the same name, for the rank of the pass: it is an entry more in the one
-/// history, behind all that the pass had seen.
+/// One book that threads share in turns, each through passes of its own. What a call does is said
+/// by the call of `Locked` of the same name, for the rank of the pass: it is an entry more in the
+/// one history, behind all that the pass had seen.
 #[derive(Drop)]
 pub struct Desk {
     pub(crate) turn: Turn<Shelf>,

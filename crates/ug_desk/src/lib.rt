@@ -1,8 +1,9 @@
 //! A desk: one book that many threads share in turns, each through a pass that speaks for one rank.
-//! It stands on ug_book, on ug_turn for the lock, on ug_worker for tasks and on ug_snapshot for images.
-//! The calls of `Locked`, the value behind the lock, do exactly what the rules of the book say. There is
-//! one history of calls: each call of a pass goes on from all that the pass had seen, ends with the call,
-//! and has the pass's own calls, each once; of the task of a Done nothing is asked but its type.
+//! It stands on ug_book, on ug_turn for the lock, on ug_worker for tasks and on ug_snapshot for
+//! images. The calls of `Locked`, the value behind the lock, do exactly what the rules of the book
+//! say. There is one history of calls: each call of a pass goes on from all that the pass had seen,
+//! ends with the call, and has the pass's own calls, each once; of the task of a Done nothing is
+//! asked but its type.
 #![tactic(auto)]
 
 mod agree;

@@ -182,8 +182,8 @@ impl Locked {
         reply
     }
 
-    /// A task of which no box is left. It is Stale where it is not of the rank's ticket. It takes no
-    /// memory.
+    /// A task of which no box is left. It is Stale where it is not of the rank's ticket. It takes
+    /// no memory.
     pub fn done(&mut self, rank: u32, task: &Task) -> Heard
         requires here { rank < length self.old.now.book.ranks }
         requires none { task.now.boxes ≡ [] }

@@ -18,8 +18,8 @@ use ug_restart::{Host, Observer};
 use ug_snapshot::Snapshot;
 use ug_worker::{Renewal, work};
 
-/// Where the workers sit: the desk, what its history began with, when snapshots are due, and the pass
-/// whose thread could not be started, by its rank plus 1.
+/// Where the workers sit: the desk, what its history began with, when snapshots are due, and the
+/// pass whose thread could not be started, by its rank plus 1.
 #[derive(Clone, Copy)]
 pub struct Table<'a> {
     pub desk: &'a Desk,
@@ -39,8 +39,8 @@ impl Promise<Pass> for Back {
     ghost kept_by = { λ b p. IsAt b.desk.value b.began.value p };
 }
 
-/// The passes of a solve: those that wait for their threads, those whose threads work, and those that
-/// came back.
+/// The passes of a solve: those that wait for their threads, those whose threads work, and those
+/// that came back.
 #[derive(Drop)]
 pub struct Crew {
     waiting: Vec<Pass>,
@@ -71,8 +71,8 @@ impl Crew {
         }
     }
 
-    /// Starts a thread for each pass. One whose thread was not started leaves; where none was started
-    /// the caller works with one. No sender is left but those of the threads.
+    /// Starts a thread for each pass. One whose thread was not started leaves; where none was
+    /// started the caller works with one. No sender is left but those of the threads.
     pub fn start<'s, E, R: Threads + Wait + Sync, O: Observer>(
         &mut self,
         scope: &'s Scope<'s, E>,

@@ -56,8 +56,8 @@ fn send_if_due<R: Wait>(
     }
 }
 
-// How the run stands now, where that is wanted, if memory suffices. The bound is of the moment before:
-// the incumbent is then no better than it was for the nodes that have gone.
+// How the run stands now, where that is wanted, if memory suffices. The bound is of the moment
+// before: the incumbent is then no better than it was for the nodes that have gone.
 fn progress<R: Wait>(
     rt: &R,
     alloc: Global,
