@@ -308,3 +308,12 @@ COSTS = {
     },
     "splits": each(splits, (1, 20, 3), (2, 24, 3), (3, 24, 4), (4, 26, 4)),
 }
+
+# Of the same families, those that take long enough for the times of many solvers to tell.
+LONGER = {
+    "job shop": each(job_shop, (7, 8, 4), (11, 7, 4), (12, 8, 3)),
+    "golomb": each(golomb, (9, 40), (9, 41), (9, 42), (9, 43)),
+    "clauses": each(clauses, (11, 100, 430), (13, 115, 490), (14, 120, 512)),
+    "colours": each(random_colours, (5, 45, 30, 5), (7, 35, 50, 6), (8, 45, 30, 5), (9, 40, 50, 6)),
+    "splits": each(splits, (6, 27, 4), (6, 28, 4), (7, 29, 4)),
+}
