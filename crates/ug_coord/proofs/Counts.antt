@@ -1,7 +1,7 @@
 -- What a coordinator does to the count of the reports that were heard.
 use Rattle.std.proofs.Common.{◌≡◌, inl, inr, ℕ, zero, suc, ℤ, ◌+◌, ◌<◌, ◌≤◌, ◌^◌, Bool, true, false, List, [], ◌∷◌, Option, None, Some, refl, sym, ap, subst, ◌∙◌, arith}
 use Rattle.std.proofs.lemmas.Bool.{cases_lt}
-use Rattle.std.specs.Prelude.{if◌then◌else◌, nat_lt}
+use Rattle.std.specs.Prelude.{MatchBool, if◌then◌else◌, nat_lt}
 use Rattle.ug_frames.specs.declared.report.Report.{Report}
 use Rattle.ug_frames.specs.declared.report.Report.TheVariants.{Ready, Solution, Hand, State as Reported, Done, Ended as Over}
 use Rattle.ug_nodes.specs.declared.change.Change.{Change}
@@ -254,6 +254,12 @@ hears_after a b c quiet hears = record {
   run = run_on a b c quiet.run hears.run;
   heard = subst (λ (heard : ℕ). IsOneMore heard c.heard) quiet.heard hears.heard;
 }
+
+-- and then what a step hears
+pub steps_after : (result : Bool) (a b c : BookState) → IsQuiet a b → MatchBool result (HearsOne b c) (IsQuiet b c)
+    → MatchBool result (HearsOne a c) (IsQuiet a c)
+steps_after true a b c quiet hears = hears_after a b c quiet hears
+steps_after false a b c quiet hears = quiet_on a b c quiet hears
 
 -- ---- no more are heard than may be
 

@@ -2,7 +2,7 @@
 use Rattle.std.proofs.Common.{◌≡◌, inl, inr, ℕ, ◌<◌, Bool, true, false, List, [], ◌∷◌, ◌++◌, length, Option, Some, None, IfSome, refl, sym, ap, subst, ◌∙◌, arith}
 use Rattle.std.proofs.lemmas.Bool.{cases_Bool, cases_lt, false≢true}
 use Rattle.std.proofs.lemmas.List.{get_or-set_same, get_or_past, length-replicate, length-set, set-get_or}
-use Rattle.std.specs.Prelude.{Vec, replicate, slice_index_or, slice_set}
+use Rattle.std.specs.Prelude.{MatchBool, Vec, replicate, slice_index_or, slice_set}
 use Rattle.ug_io.specs.declared.crew.Exchange.{Exchange}
 use Rattle.ug_io.specs.declared.crew.Exchange.TheVariants.{Gone}
 use Rattle.ug_io.specs.Crews.{Adds, CrewSeen, HasSent, IsAlive, IsSetTo, IsSilent, heard_from, told_to}
@@ -26,7 +26,7 @@ use Rattle.ug_rules.specs.Deciding.{IsDecided, Stands}
 use Rattle.ug_rules.specs.Hearing.{IsDue, after_hearing}
 use Rattle.ug_book.specs.Reads.{IsOrderTold}
 use Rattle.ug_book.specs.Views.{IsSameRun}
-use Rattle.ug_coord.specs.Deeds.{Broke, Came, Decided, Deciding, Deed, Does, Ended, Failed, Halted, Hearing, IsCourse, IsHearing, IsMoreWanted, IsReading, Kept, Launched, Lost, MayBeRead, MayDecide, Nonsense, Passed, Reading, Sent, SetUp, Standing, Took, Unfed, Unread, Unsent, Unwritten}
+use Rattle.ug_coord.specs.Deeds.{AreReadOut, Broke, Came, Closing, Decided, Deciding, Deed, Does, Ended, Failed, Halted, Hearing, IsCourse, IsHearing, IsMoreWanted, IsReading, Kept, Launched, Lost, MayBeRead, MayDecide, Nonsense, Passed, Reading, Sent, SetUp, Standing, Took, Unfed, Unread, Unsent, Unwritten}
 use Rattle.ug_coord.specs.declared.pacing.Pacing.{Pacing}
 use Rattle.ug_coord.specs.Pacing.{IsSaveDue, saved_at}
 use Rattle.ug_coord.specs.Ends.{IsOver, ranks_of}
@@ -85,9 +85,9 @@ on_still phase after b old new deed still does fit on = record {
 -- ---- when something is heard
 
 hearing : (said : List Exchange) (phase : Phase) (h : HubSeen) → ¬ IsOver h.book → h.book.orders ≡ []
-    → phase.pace ≡ Hearing → IsHearing (standing said phase h)
-hearing said phase h more told decided =
-    record { settled = record { more = more; told = told }; decided = decided }
+    → phase.pace ≡ Hearing → AreReadOut h.streams → IsHearing (standing said phase h)
+hearing said phase h more told decided read =
+    record { settled = record { more = more; told = told }; decided = decided; read = read }
 
 reading : (said : List Exchange) (phase : Phase) (h : HubSeen) → ¬ IsOver h.book → h.book.orders ≡ []
     → MayBeRead phase.pace → IsReading (standing said phase h)
@@ -194,14 +194,14 @@ failed_on phase b old new rank h on =
 
 -- a turn failed
 pub broke_on : (phase : Phase) (b : Standing) (old new : HubSeen) → ¬ IsOver old.book → old.book.orders ≡ []
-    → phase.pace ≡ Hearing → Rose old.crew.faults new.crew.faults
+    → phase.pace ≡ Hearing → AreReadOut old.streams → Rose old.crew.faults new.crew.faults
     → new ≡ record old { crew = record old.crew { faults = new.crew.faults } } → IsOnAs phase b old
-    → IsOnAs (record { broken = true; pace = Deciding }) b new
-broke_on phase b old new more told decided faults rest on =
-    let after : Phase = record { broken = true; pace = Deciding } in
+    → IsOnAs (record { broken = true; pace = Closing }) b new
+broke_on phase b old new more told decided read faults rest on =
+    let after : Phase = record { broken = true; pace = Closing } in
     on_still phase after b old new Broke (ap (λ (h : HubSeen). h.crew.said) rest)
     (λ said. record {
-      hearing = hearing said phase old more told decided;
+      hearing = hearing said phase old more told decided read;
       faults = faults;
       rest = ap (λ (h : HubSeen). standing said after h) rest;
     })
@@ -385,16 +385,16 @@ halted_on phase b old new steps more saved due is ranks rest on =
 
 -- bytes, which were fed to the stream of their rank
 pub fed_on : (phase : Phase) (b : Standing) (old new : HubSeen) (rank : ℕ) → ¬ IsOver old.book
-    → old.book.orders ≡ [] → phase.pace ≡ Hearing
+    → old.book.orders ≡ [] → phase.pace ≡ Hearing → AreReadOut old.streams
     → HasFed old.crew new.crew old.streams new.streams rank → new.book ≡ old.book → new.wants ≡ old.wants
     → new.pacing ≡ old.pacing → IsOnAs phase b old
     → IsOnAs (record { broken = phase.broken; pace = Reading }) b new
-fed_on phase b old new rank more told decided h book wants pacing on =
+fed_on phase b old new rank more told decided read h book wants pacing on =
     let after : Phase = record { broken = phase.broken; pace = Reading } in
     let ranks = ap (λ (b : BookState). ranks_of b) book in
     on_more phase after b old new (Came rank h.bytes) (heard_from rank h.bytes) h.said
     (λ said. record {
-      hearing = hearing said phase old more told decided;
+      hearing = hearing said phase old more told decided read;
       alive = h.alive.lives;
       rest =
           ap (λ (l : List Bool). record (standing (said ++ heard_from rank h.bytes) after new) { lives = l }) h.lives
@@ -432,16 +432,16 @@ fed_on phase b old new rank more told decided h book wants pacing on =
 
 -- and could not be kept
 pub lacked_on : (phase : Phase) (b : Standing) (old new : HubSeen) (rank : ℕ) → ¬ IsOver old.book
-    → old.book.orders ≡ [] → phase.pace ≡ Hearing
+    → old.book.orders ≡ [] → phase.pace ≡ Hearing → AreReadOut old.streams
     → HasLacked old.crew new.crew old.streams new.streams rank → new.book ≡ old.book → new.wants ≡ true
     → new.pacing ≡ old.pacing → IsOnAs phase b old
     → IsOnAs (record { broken = phase.broken; pace = Reading }) b new
-lacked_on phase b old new rank more told decided h book wants pacing on =
+lacked_on phase b old new rank more told decided read h book wants pacing on =
     let after : Phase = record { broken = phase.broken; pace = Reading } in
     let ranks = ap (λ (b : BookState). ranks_of b) book in
     on_more phase after b old new (Unfed rank h.bytes) (heard_from rank h.bytes) h.said
     (λ said. record {
-      hearing = hearing said phase old more told decided;
+      hearing = hearing said phase old more told decided read;
       alive = h.alive.lives;
       rest =
           ap (λ (l : List Bool). record (standing (said ++ heard_from rank h.bytes) after new) { lives = l }) h.lives
@@ -551,14 +551,14 @@ pub gone_on : (phase : Phase) (b : Standing) (old new : HubSeen) (rank : ℕ)
     → Adds old.crew.said new.crew.said (Gone rank ∷ []) → Rose old.crew.faults new.crew.faults
     → new.crew.lives ≡ slice_set old.crew.lives rank false → new.streams ≡ old.streams
     → new.book ≡ killed rank old.book → ranks_of new.book ≡ ranks_of old.book → new.wants ≡ old.wants
-    → new.pacing ≡ old.pacing → ¬ IsOver old.book → old.book.orders ≡ [] → phase.pace ≡ Hearing → IsOnAs phase b old
-    → IsOnAs (record { broken = phase.broken; pace = Deciding }) b new
-gone_on phase b old new rank there alive adds faults lives streams book ranks wants pacing more told decided on =
+    → new.pacing ≡ old.pacing → ¬ IsOver old.book → old.book.orders ≡ [] → phase.pace ≡ Hearing
+    → AreReadOut old.streams → IsOnAs phase b old → IsOnAs (record { broken = phase.broken; pace = Deciding }) b new
+gone_on phase b old new rank there alive adds faults lives streams book ranks wants pacing more told decided read on =
     on_more phase (record { broken = phase.broken; pace = Deciding }) b old new (Lost rank Ended) (Gone rank ∷ []) adds
     (λ said. record {
       there = there;
       why = record {
-        hearing = hearing said phase old more told decided;
+        hearing = hearing said phase old more told decided read;
         alive = alive;
         said = refl;
         streams = streams;
@@ -661,44 +661,44 @@ unread_by b old new more told rest streams (phase, may, on) =
 
 -- bytes came
 pub fed_by : (b : Standing) (old new : HubSeen) (rank : ℕ) → ¬ IsOver old.book → old.book.orders ≡ []
-    → HasFed old.crew new.crew old.streams new.streams rank → new.book ≡ old.book → new.wants ≡ old.wants
-    → new.pacing ≡ old.pacing → IsOnIn (is_next Hearing) b old → IsOnIn (is_next Reading) b new
-fed_by b old new rank more told h book wants pacing (phase, decided, on) = (
+    → AreReadOut old.streams → HasFed old.crew new.crew old.streams new.streams rank → new.book ≡ old.book
+    → new.wants ≡ old.wants → new.pacing ≡ old.pacing → IsOnIn (is_next Hearing) b old → IsOnIn (is_next Reading) b new
+fed_by b old new rank more told read h book wants pacing (phase, decided, on) = (
   record { broken = phase.broken; pace = Reading },
   refl,
-  fed_on phase b old new rank more told decided h book wants pacing on,
+  fed_on phase b old new rank more told decided read h book wants pacing on,
 )
 
 -- and memory was wanting to keep them
 pub lacked_by : (b : Standing) (old new : HubSeen) (rank : ℕ) → ¬ IsOver old.book → old.book.orders ≡ []
-    → HasLacked old.crew new.crew old.streams new.streams rank → new.book ≡ old.book → new.wants ≡ true
-    → new.pacing ≡ old.pacing → IsOnIn (is_next Hearing) b old → IsOnIn (is_next Reading) b new
-lacked_by b old new rank more told h book wants pacing (phase, decided, on) = (
+    → AreReadOut old.streams → HasLacked old.crew new.crew old.streams new.streams rank → new.book ≡ old.book
+    → new.wants ≡ true → new.pacing ≡ old.pacing → IsOnIn (is_next Hearing) b old → IsOnIn (is_next Reading) b new
+lacked_by b old new rank more told read h book wants pacing (phase, decided, on) = (
   record { broken = phase.broken; pace = Reading },
   refl,
-  lacked_on phase b old new rank more told decided h book wants pacing on,
+  lacked_on phase b old new rank more told decided read h book wants pacing on,
 )
 
 -- word that a rank is gone
 pub gone_by : (b : Standing) (old new : HubSeen) (rank : ℕ) → ¬ IsOver old.book → old.book.orders ≡ []
-    → HasGone old.crew new.crew old.streams new.streams rank → new.book ≡ killed rank old.book
-    → ranks_of new.book ≡ ranks_of old.book → new.wants ≡ old.wants → new.pacing ≡ old.pacing
-    → IsOnIn (is_next Hearing) b old → IsOnIn (is_next Deciding) b new
-gone_by b old new rank more told h book ranks wants pacing (phase, decided, on) = (
+    → AreReadOut old.streams → HasGone old.crew new.crew old.streams new.streams rank
+    → new.book ≡ killed rank old.book → ranks_of new.book ≡ ranks_of old.book → new.wants ≡ old.wants
+    → new.pacing ≡ old.pacing → IsOnIn (is_next Hearing) b old → IsOnIn (is_next Deciding) b new
+gone_by b old new rank more told read h book ranks wants pacing (phase, decided, on) = (
   record { broken = phase.broken; pace = Deciding },
   refl,
   gone_on phase b old new rank (omega (arith, h.lost.alive.there, on.fit.lives)) h.lost.alive.lives h.lost.said
-      h.lost.faults h.lost.lives h.streams book ranks wants pacing more told decided on,
+      h.lost.faults h.lost.lives h.streams book ranks wants pacing more told decided read on,
 )
 
 -- it failed
 pub broke_by : (b : Standing) (old new : HubSeen) → ¬ IsOver old.book → old.book.orders ≡ []
-    → HasBroken old.crew new.crew old.streams new.streams → new.book ≡ old.book → new.wants ≡ old.wants
-    → new.pacing ≡ old.pacing → IsOnIn (is_next Hearing) b old → IsOnIn IsBrokenOff b new
-broke_by b old new more told h book wants pacing (phase, decided, on) = (
-  record { broken = true; pace = Deciding },
-  record { broken = refl; due = refl },
-  broke_on phase b old new more told decided h.faults
+    → AreReadOut old.streams → HasBroken old.crew new.crew old.streams new.streams → new.book ≡ old.book
+    → new.wants ≡ old.wants → new.pacing ≡ old.pacing → IsOnIn (is_next Hearing) b old → IsOnIn IsBrokenOff b new
+broke_by b old new more told read h book wants pacing (phase, decided, on) = (
+  record { broken = true; pace = Closing },
+  record { broken = refl; closing = refl },
+  broke_on phase b old new more told decided read h.faults
       (ap (λ (l : List Waiting). record new { streams = l }) h.streams
       ∙ ap (λ (w : Bool). record new { wants = w; streams = old.streams }) wants
       ∙ ap (λ (book : BookState). record old { crew = new.crew; pacing = new.pacing; book = book }) book
@@ -777,6 +777,16 @@ pub stays_in : (P : Phase → Type 0) (b : Standing) (old new : HubSeen)
     → ((phase : Phase) → IsOnAs phase b old → IsOnAs phase b new) → IsOnIn P b old → IsOnIn P b new
 stays_in P b old new goes (phase, is, on) = (phase, is, goes phase on)
 
+-- and then what a step does
+pub steps_on : (result : Bool) (P Q : Phase → Type 0) (old mid new : HubSeen)
+    → ((from : Standing) → IsOnIn P from old → IsOnIn Q from mid)
+    → MatchBool result ((from : Standing) → IsOnIn Q from mid → IsOnIn IsRested from new)
+    ((from : Standing) → IsOnIn Q from mid → IsOnIn AnyPhase from new)
+    → MatchBool result ((from : Standing) → IsOnIn P from old → IsOnIn IsRested from new)
+    ((from : Standing) → IsOnIn P from old → IsOnIn AnyPhase from new)
+steps_on true P Q old mid new goes on = λ from was. on from (goes from was)
+steps_on false P Q old mid new goes on = λ from was. on from (goes from was)
+
 pub any_in : (P : Phase → Type 0) (b : Standing) (h : HubSeen) → IsOnIn P b h → IsOnIn AnyPhase b h
 any_in P b h (phase, is, on) = (phase, tt, on)
 
@@ -785,9 +795,6 @@ deciding_rests b h (phase, is, on) = (phase, subst MayDecide (sym is) tt, on)
 
 pub reading_rests : (b : Standing) (h : HubSeen) → IsOnIn (is_next Reading) b h → IsOnIn IsRested b h
 reading_rests b h (phase, is, on) = (phase, subst MayDecide (sym is) tt, on)
-
-pub broken_rests : (b : Standing) (h : HubSeen) → IsOnIn IsBrokenOff b h → IsOnIn IsRested b h
-broken_rests b h (phase, is, on) = (phase, subst MayDecide (sym is.due) tt, on)
 
 pub hearing_reads : (b : Standing) (h : HubSeen) → IsOnIn (is_next Hearing) b h → IsOnIn MayRead b h
 hearing_reads b h (phase, is, on) = (phase, subst MayBeRead (sym is) tt, on)

@@ -5,6 +5,7 @@ pub mod Coursing
 pub mod Deaths
 pub mod Ends
 pub mod Kept
+pub mod ReadOut
 pub mod Room
 pub mod Tries
 pub mod Whole

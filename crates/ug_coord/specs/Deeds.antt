@@ -11,6 +11,7 @@ use Rattle.ug_records.specs.Answers.{IsRecordOf}
 use Rattle.ug_frames.specs.declared.order.Order.{Order}
 use Rattle.ug_frames.specs.declared.order.Order.TheVariants.{Setup, End}
 use Rattle.ug_frames.specs.declared.report.Report.{Report}
+use Rattle.ug_frames.specs.Fronts.{IsCutShort}
 use Rattle.ug_frames.specs.OrderFrames as orders
 use Rattle.ug_frames.specs.ReportFrames as reports
 use Rattle.ug_stream.specs.Streams.{IsBadAt, IsGiven, Waiting, fed, first, shut}
@@ -27,7 +28,7 @@ use Rattle.ug_coord.specs.Ends.{IsOver}
 use Rattle.ug_coord.specs.Pacing.{IsSaveDue, saved_at}
 
 -- what a coordinator does next: it decides; or it was decided, and it hears what comes; or something
--- came, and it reads what that is; or it tells the end, and nothing else any more
+-- came, and it reads what that is; or a turn failed, or the end is told, and it does neither any more
 pub data Pace : Type 0 where
   Deciding : Pace
   Hearing : Pace
@@ -100,15 +101,25 @@ lives_at s rank = slice_index_or s.lives rank false
 abbrev pub stream_at : Standing → ℕ → Waiting
 stream_at s rank = slice_index_or s.streams rank first
 
+-- a whole report waits in it, or bad bytes, and not just a frame that is cut short
+pub record HasMore (w : Waiting) : Type 0 where
+  pub fine : w.bad ≡ false
+  pub more : ¬ IsCutShort w.bytes
+
+-- of no rank more is there: all that came was read, but for frames that are cut short
+abbrev pub AreReadOut : List Waiting → Type 0
+AreReadOut streams = (rank : ℕ) → ¬ HasMore (slice_index_or streams rank first)
+
 -- No end is due, and no order waits: each was told to its rank, or that failed, or the rank is gone.
 pub record IsSettled (old : Standing) : Type 0 where
   pub more : ¬ IsOver old.book
   pub told : old.book.orders ≡ []
 
--- and it was decided since the last report
+-- and it was decided since the last report, and all that came was read: so more may be asked for
 pub record IsHearing (old : Standing) : Type 0 where
   pub settled : IsSettled old
   pub decided : old.pace ≡ Hearing
+  pub read : AreReadOut old.streams
 
 -- and it was decided, or something came
 pub record IsReading (old : Standing) : Type 0 where
@@ -272,11 +283,11 @@ pub record IsUnclosed (old new : Standing) : Type 0 where
   pub faults : Rose old.faults new.faults
   pub rest : new ≡ record old { faults = new.faults; pace = Closing }
 
--- a turn failed
+-- a turn failed, so nothing is decided or heard any more: the run ends once each rank is gone
 pub record HasBroken (old new : Standing) : Type 0 where
   pub hearing : IsHearing old
   pub faults : Rose old.faults new.faults
-  pub rest : new ≡ record old { faults = new.faults; broken = true; pace = Deciding }
+  pub rest : new ≡ record old { faults = new.faults; broken = true; pace = Closing }
 
 -- a save was due, and was tried
 pub record IsKept (old new : Standing) : Type 0 where

@@ -18,8 +18,8 @@ use Rattle.ug_frames.specs.declared.report.Report.{Report}
 use Rattle.ug_restart.specs.declared.outcome.End.{End}
 use Rattle.ug_restart.specs.Outcomes.{HasFeasible, IfAnswered, IfBook, IfLimited, IsRight}
 use Rattle.ug_coord.specs.Ends.{IsAtLimit, is_ended, ranks_of}
-use Rattle.ug_coord.specs.Deeds.{AreSound, Deciding, Deed, IsCourse, IsMoreWanted, IsToldEnd, MayBeRead}
-use Rattle.ug_coord.specs.Deeds.{MayDecide, Pace, Standing, lives_at, saves_in}
+use Rattle.ug_coord.specs.Deeds.{AreSound, Closing, Deciding, Deed, IsCourse, IsMoreWanted, IsToldEnd}
+use Rattle.ug_coord.specs.Deeds.{MayBeRead, MayDecide, Pace, Standing, lives_at, saves_in}
 use Rattle.ug_coord.specs.declared.pacing.Pacing.{Pacing}
 use Rattle.ug_coord.specs.Pacing.{IsSaveDue}
 use Rattle.ug_ranks.specs.Looks.{is_alive}
@@ -142,10 +142,10 @@ IsRested phase = MayDecide phase.pace
 abbrev pub MayRead : Phase → Type 0
 MayRead phase = MayBeRead phase.pace
 
--- a turn failed, and a decision is due
+-- a turn failed, and nothing is decided or heard any more
 pub record IsBrokenOff (phase : Phase) : Type 0 where
   pub broken : phase.broken ≡ true
-  pub due : phase.pace ≡ Deciding
+  pub closing : phase.pace ≡ Closing
 
 abbrev pub AnyPhase : Phase → Type 0
 AnyPhase phase = Unit {0}

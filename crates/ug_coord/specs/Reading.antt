@@ -1,13 +1,20 @@
 -- What is read of the stream of a rank.
-use Rattle.std.specs.Prelude.{◌≡◌, ℕ, List, slice_index_or, slice_set}
+use Rattle.std.specs.Prelude.{◌≡◌, ◌<◌, ℕ, List, Option, Some, length, slice_index_or, slice_set}
+use Rattle.std.specs.Option.{ForSome}
 use Rattle.ug_io.specs.Crews.{Adds, CrewSeen, HasLost, IsAlive, IsSilent, heard_from}
 use Rattle.ug_io.specs.Outside.{Rose}
 use Rattle.ug_frames.specs.declared.report.Report.{Report}
 use Rattle.ug_frames.specs.ReportFrames as reports
 use Rattle.ug_stream.specs.declared.next.Next.{Next}
 use Rattle.ug_stream.specs.Streams.{IsNext, Waiting, fed, first, shut}
+use Rattle.ug_coord.specs.Deeds.{HasMore}
 use Rattle.ug_coord.specs.declared.streams.Turn.{Turn}
 use Rattle.ug_coord.specs.declared.streams.Turn.TheVariants.{Fed, Gone, Failed, Wanting}
+
+-- only of this rank, if it is one, more may be there
+pub record AreReadBut (last : Option ℕ) (streams : List Waiting) : Type 0 where
+  pub there : ForSome last (λ rank. rank < length streams)
+  pub only : (rank : ℕ) → HasMore (slice_index_or streams rank first) → last ≡ Some rank
 
 -- this came next of the rank
 pub record HasRead (old new : List Waiting) (rank : ℕ) (next : Next Report) : Type 0 where

@@ -1,9 +1,9 @@
 //! What a coordinator hears of its crew, a report at a time.
 
-ghost use Rattle.std.specs.Prelude.{◌≡◌, ◌<◌, [], false, MatchBool};
+ghost use Rattle.std.specs.Prelude.{◌≡◌, ◌<◌, [], false, Some, MatchBool};
 ghost use Rattle.ug_stream.specs.declared.next.Next.TheVariants.{NeedMore};
 ghost use Rattle.ug_rules.specs.Hearing.{IsHearable};
-ghost use Rattle.ug_coord.specs.Deeds.{Deciding, Hearing, Standing};
+ghost use Rattle.ug_coord.specs.Deeds.{AreReadOut, Deciding, Hearing, Standing};
 ghost use Rattle.ug_coord.specs.Ends.{AllDead, IsOver, ranks_of};
 ghost use Rattle.ug_coord.specs.Hubs.{AnyPhase, HasHeardReport, HearsOne, IsBrokenOff, IsOnAs};
 ghost use Rattle.ug_coord.specs.Hubs.{IsOnIn, IsQuiet, IsRested, MayRead, Phase, is_next};
@@ -21,44 +21,66 @@ use ug_stream::Next;
 impl<R, O: Observer, C: Crew> Hub<'_, R, O, C> {
     ghost use Rattle.ug_coord.specs.HubViews.{hub_seen};
 
-    /// Hears a report that is there, or waits until something comes.
-    pub fn listen(&mut self)
+    /// Hears a report that is there, or waits until something comes. False where that failed, and
+    /// all ranks are gone.
+    pub fn listen(&mut self) -> bool
         requires on { (from : Standing) × IsOnIn (is_next Hearing) from (hub_seen C.seen self.old) }
         requires more { ¬ IsOver self.old.book }
         requires told { self.old.book.orders ≡ [] }
-        ensures on { (from : Standing) → IsOnIn (is_next Hearing) from (hub_seen C.seen self.old)
-            → IsOnIn IsRested from (hub_seen C.seen self.new) }
-        ensures hears { HearsOne self.old.book self.new.book }
+        ensures on { MatchBool result
+            ((from : Standing) → IsOnIn (is_next Hearing) from (hub_seen C.seen self.old)
+            → IsOnIn IsRested from (hub_seen C.seen self.new))
+            ((from : Standing) → IsOnIn (is_next Hearing) from (hub_seen C.seen self.old)
+            → IsOnIn AnyPhase from (hub_seen C.seen self.new)) }
+        ensures hears { MatchBool result (HearsOne self.old.book self.new.book)
+            (IsQuiet self.old.book self.new.book) }
         ensures pacing { self.new.pacing ≡ self.old.pacing }
+        ensures all { result ≡ false → AllDead self.new.book }
     {
-        match self.last {
-            Some(rank) if (rank as usize) < self.streams.len() => {
-                if !self.hear_next(rank) {
-                    self.turn();
-                }
-            }
-            _ => self.turn(),
+        let Some(rank) = self.last else {
+            return self.turn();
+        };
+        if !self.hear_next(rank) {
+            return self.turn();
         }
+        true
     }
 
-    // Waits until something comes, and hears the first report of it.
-    fn turn(&mut self)
+    // Waits until something comes, and hears the first report of it. False where that failed, and
+    // all ranks are gone.
+    fn turn(&mut self) -> bool
         requires on { (from : Standing) × IsOnIn (is_next Hearing) from (hub_seen C.seen self.old) }
         requires more { ¬ IsOver self.old.book }
         requires told { self.old.book.orders ≡ [] }
-        ensures on { (from : Standing) → IsOnIn (is_next Hearing) from (hub_seen C.seen self.old)
-            → IsOnIn IsRested from (hub_seen C.seen self.new) }
-        ensures hears { HearsOne self.old.book self.new.book }
+        requires read { AreReadOut self.old.streams.items }
+        ensures on { MatchBool result
+            ((from : Standing) → IsOnIn (is_next Hearing) from (hub_seen C.seen self.old)
+            → IsOnIn IsRested from (hub_seen C.seen self.new))
+            ((from : Standing) → IsOnIn (is_next Hearing) from (hub_seen C.seen self.old)
+            → IsOnIn AnyPhase from (hub_seen C.seen self.new)) }
+        ensures hears { MatchBool result (HearsOne self.old.book self.new.book)
+            (IsQuiet self.old.book self.new.book) }
         ensures pacing { self.new.pacing ≡ self.old.pacing }
+        ensures all { result ≡ false → AllDead self.new.book }
     {
         match take_turn(&mut self.crew, &mut self.streams, &mut self.input) {
             Turn::Fed { rank } => {
                 self.last = Some(rank);
                 self.hear_next(rank);
+                true
             }
-            Turn::Gone { rank } => self.book.gone(rank),
-            Turn::Failed => self.lose_all(),
-            Turn::Wanting { .. } => self.wants = true,
+            Turn::Gone { rank } => {
+                self.book.gone(rank);
+                true
+            }
+            Turn::Failed => {
+                self.lose_all();
+                false
+            }
+            Turn::Wanting { .. } => {
+                self.wants = true;
+                true
+            }
         }
     }
 
@@ -67,6 +89,7 @@ impl<R, O: Observer, C: Crew> Hub<'_, R, O, C> {
     fn hear_next(&mut self, rank: u32) -> bool
         requires on { (from : Standing) × IsOnIn AnyPhase from (hub_seen C.seen self.old) }
         requires there { rank < ranks_of self.old.book }
+        requires last { self.old.last ≡ Some rank }
         requires more { ¬ IsOver self.old.book }
         requires told { self.old.book.orders ≡ [] }
         ensures on { MatchBool result
@@ -78,6 +101,7 @@ impl<R, O: Observer, C: Crew> Hub<'_, R, O, C> {
         ensures nothing { result ≡ false → self.new.book ≡ self.old.book }
         ensures short { result ≡ false
             → HasRead self.old.streams.items self.new.streams.items rank NeedMore }
+        ensures read { result ≡ false → AreReadOut self.new.streams.items }
         ensures pacing { self.new.pacing ≡ self.old.pacing }
     {
         match next_of(self.host.alloc, &mut self.streams, rank) {

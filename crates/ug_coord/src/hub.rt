@@ -8,6 +8,7 @@ ghost use Rattle.ug_coord.specs.Hubs.{AnyPhase, EndsFrom, HearsOne, IsKeptIn, Is
 ghost use Rattle.ug_coord.specs.Hubs.{IsRested, IsSetUpFrame, is_next};
 ghost use Rattle.ug_coord.specs.Keeping.{KeptSeen, IsKeptBy, IsOurs};
 ghost use Rattle.ug_coord.specs.Pacing.{IsSaveDue};
+ghost use Rattle.ug_coord.specs.Reading.{AreReadBut};
 ghost use Rattle.ug_coord.specs.Keepers.{kept_seen};
 
 use crate::ending::is_over;
@@ -39,6 +40,7 @@ pub struct Hub<'a, R, O, C> {
     pub host: &'a Host<'a, R, O>,
     pub crew: C,
     ghost room: { 0 < length input.items },
+    ghost read: { AreReadBut last streams.items },
 }
 
 impl<R, O, C> Hub<'_, R, O, C> {
@@ -117,7 +119,7 @@ impl<R: Wait, O: Observer, C: Crew> Hub<'_, R, O, C> {
     }
 
     // Decides, tells the orders, and hears the next report, or waits until something comes. An end
-    // that is due comes before each of them, and then false is answered.
+    // that is due comes before each of them, and then false is answered, as where a turn failed.
     fn step(&mut self) -> bool
         requires on { (from : Standing) × IsOnIn IsRested from (hub_seen C.seen self.old) }
         requires more { ¬ IsOver self.old.book }
@@ -140,8 +142,7 @@ impl<R: Wait, O: Observer, C: Crew> Hub<'_, R, O, C> {
         if self.has_stopped() {
             return false;
         }
-        self.listen();
-        true
+        self.listen()
     }
 
     // A step, and a save where one is due for what was heard in it.

@@ -23,7 +23,7 @@ pub send-requires : goal.send-requires
 send-requires g c = c.if-is_alive.ensures
 
 pub invariant_of-self : goal.invariant_of-self
-invariant_of-self g c = record { room = c.args.self.now.room }
+invariant_of-self g c = record { room = c.args.self.now.room; read = c.args.self.now.read }
 
 pub returns-in-Ok-clause-same : goal.returns-in-Ok-clause-same
 returns-in-Ok-clause-same g c = (refl, refl)

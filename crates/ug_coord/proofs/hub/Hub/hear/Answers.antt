@@ -17,7 +17,7 @@ pub hear-heard-requires-clause-hearable : goal.hear-heard-requires-clause-hearab
 hear-heard-requires-clause-hearable g c = c.requires.hearable
 
 pub invariant_of-self : goal.invariant_of-self
-invariant_of-self g c = record { room = c.args.self.now.room }
+invariant_of-self g c = record { room = c.args.self.now.room; read = c.args.self.now.read }
 
 pub returns-clause-pacing : goal.returns-clause-pacing
 returns-clause-pacing g c = refl

@@ -1,9 +1,10 @@
-use Rattle.std.proofs.Common.{refl, rules, ◌∙◌, ◌<◌, ℕ, List, length, sym, ap, subst}
+use Rattle.std.proofs.Common.{refl, rules, ◌∙◌, ◌<◌, ℕ, List, length, Option, sym, ap, subst}
 use Rattle.ug_stream.specs.declared.next.Next.TheVariants.{BadFrame, Message, NeedMore}
 use Rattle.ug_coord.specs.HubViews.{hub_seen}
-use Rattle.ug_coord.specs.Reading.{HasRead}
+use Rattle.ug_coord.specs.Reading.{AreReadBut, HasRead}
 use Rattle.ug_coord.proofs.Coursing.{nonsense_by, still_by, took_by, unread_by}
-use Rattle.ug_coord.proofs.Whole.{as_long, read_whole, same_whole}
+use Rattle.ug_coord.proofs.ReadOut.{bad_out, but_none, short_out, took_but}
+use Rattle.ug_coord.proofs.Whole.{as_long, lent, read_whole, same_whole}
 use Rattle.std.proofs.lemmas.Bool.{false≢true}
 use Rattle.ug_stream.specs.Streams.{Waiting}
 use Rattle.ug_coord.proofs.Counts.{quiet_none, quiet_one}
@@ -48,16 +49,49 @@ next_of-requires g c =
     ∙ ap (λ (l : List Waiting). length l) (sym c.deref_mut.ensures.value)) c.requires.there
 
 pub invariant_of-self : goal.invariant_of-self
-invariant_of-self g c = record { room = c.args.self.now.room }
+invariant_of-self g c =
+    let read : HasRead c.args.self.now.streams.items c.next_of.new.streams c.args.rank
+    (Message c.in-Ok-Message.report) = search rules in
+    let whole = read_whole c.args.self.now.streams.len c.args.self.now.streams.items c.next_of.new.streams c.args.rank _
+    (as_long c.deref_mut.ensures.value c.deref_mut.ensures.len) read in
+    record {
+      room = c.args.self.now.room;
+      read = subst (λ (last : Option ℕ). AreReadBut last
+          (lent c.args.self.now.streams.len c.args.self.now.streams.items c.next_of.new.streams)) (sym c.requires.last)
+          (took_but c.args.self.now.streams.items _ c.args.rank whole.stream whole.set
+          (subst (λ (last : Option ℕ). AreReadBut last c.args.self.now.streams.items) c.requires.last
+          c.args.self.now.read));
+    }
 
 pub invariant_of-self-in-Ok-NeedMore : goal.invariant_of-self-in-Ok-NeedMore
-invariant_of-self-in-Ok-NeedMore g c = record { room = c.args.self.now.room }
+invariant_of-self-in-Ok-NeedMore g c =
+    let read : HasRead c.args.self.now.streams.items c.next_of.new.streams c.args.rank NeedMore = search rules in
+    let all = short_out c.args.self.now.streams.items _ c.args.rank
+    (read_whole c.args.self.now.streams.len c.args.self.now.streams.items c.next_of.new.streams c.args.rank _
+    (as_long c.deref_mut.ensures.value c.deref_mut.ensures.len) read)
+    (subst (λ (last : Option ℕ). AreReadBut last c.args.self.now.streams.items) c.requires.last
+    c.args.self.now.read) in
+    record { room = c.args.self.now.room; read = but_none _ all }
 
 pub invariant_of-self-in-Ok-BadFrame : goal.invariant_of-self-in-Ok-BadFrame
-invariant_of-self-in-Ok-BadFrame g c = record { room = c.args.self.now.room }
+invariant_of-self-in-Ok-BadFrame g c =
+    let read : HasRead c.args.self.now.streams.items c.next_of.new.streams c.args.rank
+    (BadFrame c.in-Ok-BadFrame.field-0-0) = search rules in
+    let all = bad_out c.args.self.now.streams.items _ c.args.rank c.in-Ok-BadFrame.field-0-0
+    (read_whole c.args.self.now.streams.len c.args.self.now.streams.items c.next_of.new.streams c.args.rank _
+    (as_long c.deref_mut.ensures.value c.deref_mut.ensures.len) read)
+    (subst (λ (last : Option ℕ). AreReadBut last c.args.self.now.streams.items) c.requires.last
+    c.args.self.now.read) in
+    record { room = c.args.self.now.room; read = but_none _ all }
 
 pub invariant_of-self-in-Err : goal.invariant_of-self-in-Err
-invariant_of-self-in-Err g c = record { room = c.args.self.now.room }
+invariant_of-self-in-Err g c = record {
+  room = c.args.self.now.room;
+  read = subst (AreReadBut c.args.self.now.last)
+      (sym (same_whole c.args.self.now.streams.len c.args.self.now.streams.items c.next_of.new.streams
+      (as_long c.deref_mut.ensures.value c.deref_mut.ensures.len) (c.in-Err.ensures.err ∙ c.deref_mut.ensures.value)))
+      c.args.self.now.read;
+}
 
 pub hear-requires-clause-there : goal.hear-requires-clause-there
 hear-requires-clause-there g c κs within = c.requires.there
@@ -114,3 +148,20 @@ returns-in-Ok-BadFrame-clause-short g c same = absurd (false≢true (sym same))
 
 pub returns-in-Err-clause-short : goal.returns-in-Err-clause-short
 returns-in-Err-clause-short g c same = absurd (false≢true (sym same))
+
+pub returns-in-Ok-Message-clause-read : goal.returns-in-Ok-Message-clause-read
+returns-in-Ok-Message-clause-read g c same = absurd (false≢true (sym same))
+
+pub returns-in-Ok-NeedMore-clause-read : goal.returns-in-Ok-NeedMore-clause-read
+returns-in-Ok-NeedMore-clause-read g c same =
+    let read : HasRead c.args.self.now.streams.items c.next_of.new.streams c.args.rank NeedMore = search rules in
+    short_out c.args.self.now.streams.items _ c.args.rank
+    (read_whole c.args.self.now.streams.len c.args.self.now.streams.items c.next_of.new.streams c.args.rank _
+    (as_long c.deref_mut.ensures.value c.deref_mut.ensures.len) read)
+    (subst (λ (last : Option ℕ). AreReadBut last c.args.self.now.streams.items) c.requires.last c.args.self.now.read)
+
+pub returns-in-Ok-BadFrame-clause-read : goal.returns-in-Ok-BadFrame-clause-read
+returns-in-Ok-BadFrame-clause-read g c same = absurd (false≢true (sym same))
+
+pub returns-in-Err-clause-read : goal.returns-in-Err-clause-read
+returns-in-Err-clause-read g c same = absurd (false≢true (sym same))

@@ -10,7 +10,7 @@ pub gone-requires : goal.gone-requires
 gone-requires g c = c.requires
 
 pub invariant_of-self : goal.invariant_of-self
-invariant_of-self g c = record { room = c.args.self.now.room }
+invariant_of-self g c = record { room = c.args.self.now.room; read = c.args.self.now.read }
 
 pub returns-clause-frame : goal.returns-clause-frame
 returns-clause-frame g c = refl

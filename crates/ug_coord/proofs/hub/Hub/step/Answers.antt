@@ -1,10 +1,9 @@
 use Rattle.ug_coord.specs.Deeds.{Hearing}
 use Rattle.ug_coord.specs.HubViews.{hub_seen}
-use Rattle.ug_coord.specs.Hubs.{is_next}
-use Rattle.ug_coord.proofs.Coursing.{any_in, stays_in}
-use Rattle.ug_coord.proofs.Counts.{hears_after, quiet_on}
-use Rattle.std.proofs.Common.{refl, sym, ◌∙◌}
-use Rattle.std.proofs.lemmas.Bool.{false≢true}
+use Rattle.ug_coord.specs.Hubs.{IsRested, is_next}
+use Rattle.ug_coord.proofs.Coursing.{any_in, stays_in, steps_on}
+use Rattle.ug_coord.proofs.Counts.{quiet_on, steps_after}
+use Rattle.std.proofs.Common.{inr, refl, ◌∙◌}
 use Rattle.ug_coord.proofs.hub.Hub.step.Goals as goal
 
 pub tell_all-requires : goal.tell_all-requires
@@ -34,14 +33,16 @@ listen-requires-clause-on g c κs within = (
 )
 
 pub returns-clause-on : goal.returns-clause-on
-returns-clause-on g c from on =
-    c.listen.ensures.on from (stays_in (is_next Hearing) from (hub_seen g.C.Crew.seen c.decide.new.self)
+returns-clause-on g c =
+    steps_on c.listen.result IsRested (is_next Hearing) (hub_seen g.C.Crew.seen c.args.self.now)
+    (hub_seen g.C.Crew.seen c.tell_all.new.self) (hub_seen g.C.Crew.seen c.listen.new.self)
+    (λ from on. stays_in (is_next Hearing) from (hub_seen g.C.Crew.seen c.decide.new.self)
     (hub_seen g.C.Crew.seen c.tell_all.new.self) (λ phase is. c.tell_all.ensures.on phase from is)
-    (c.decide.ensures.on from on))
+    (c.decide.ensures.on from on)) c.listen.ensures.on
 
 pub returns-clause-hears : goal.returns-clause-hears
 returns-clause-hears g c =
-    hears_after c.args.self.now.book c.tell_all.new.self.book c.listen.new.self.book
+    steps_after c.listen.result c.args.self.now.book c.tell_all.new.self.book c.listen.new.self.book
     (quiet_on c.args.self.now.book c.decide.new.self.book c.tell_all.new.self.book c.decide.ensures.quiet
     c.tell_all.ensures.quiet) c.listen.ensures.hears
 
@@ -78,4 +79,4 @@ returns-clause-pacing g c =
     c.listen.ensures.pacing ∙ c.tell_all.ensures.pacing ∙ c.decide.ensures.pacing
 
 pub returns-clause-over : goal.returns-clause-over
-returns-clause-over g c same wants = absurd (false≢true (sym same))
+returns-clause-over g c same wants = inr (inr (c.listen.ensures.all same))

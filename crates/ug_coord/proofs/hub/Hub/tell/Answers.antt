@@ -44,7 +44,7 @@ pub returns-in-Err-clause-pacing : goal.returns-in-Err-clause-pacing
 returns-in-Err-clause-pacing g c = refl
 
 pub invariant_of-self : goal.invariant_of-self
-invariant_of-self g c = record { room = c.args.self.now.room }
+invariant_of-self g c = record { room = c.args.self.now.room; read = c.args.self.now.read }
 
 pub invariant_of-self-in-Err : goal.invariant_of-self-in-Err
-invariant_of-self-in-Err g c = record { room = c.args.self.now.room }
+invariant_of-self-in-Err g c = record { room = c.args.self.now.room; read = c.args.self.now.read }

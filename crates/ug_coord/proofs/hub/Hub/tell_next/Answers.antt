@@ -29,4 +29,4 @@ pub returns-in-Some-clause-pacing : goal.returns-in-Some-clause-pacing
 returns-in-Some-clause-pacing g c = c.tell.ensures.pacing
 
 pub invariant_of-self : goal.invariant_of-self
-invariant_of-self g c = record { room = c.args.self.now.room }
+invariant_of-self g c = record { room = c.args.self.now.room; read = c.args.self.now.read }

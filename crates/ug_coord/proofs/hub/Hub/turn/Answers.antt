@@ -3,9 +3,10 @@ use Rattle.std.specs.Prelude.{MatchBool}
 use Rattle.ug_stream.specs.Streams.{Waiting}
 use Rattle.ug_coord.specs.Deeds.{Deciding, Reading, Standing}
 use Rattle.ug_coord.specs.HubViews.{hub_seen}
-use Rattle.ug_coord.specs.Hubs.{HubSeen, IsOnAs, IsOnIn, IsRested, MayRead, Phase, is_next}
-use Rattle.ug_coord.specs.Reading.{HasBroken, HasFed, HasGone, HasLacked}
-use Rattle.ug_coord.proofs.Coursing.{any_in, broke_by, broken_rests, deciding_rests, fed_by, gone_by, lacked_by, reading_reads, reading_rests, stays_in}
+use Rattle.ug_coord.specs.Hubs.{HubSeen, IsBrokenOff, IsOnAs, IsOnIn, IsRested, MayRead, Phase, is_next}
+use Rattle.ug_coord.specs.Reading.{AreReadBut, HasBroken, HasFed, HasGone, HasLacked}
+use Rattle.ug_coord.proofs.Coursing.{any_in, broke_by, deciding_rests, fed_by, gone_by, lacked_by, reading_reads, reading_rests, stays_in}
+use Rattle.ug_coord.proofs.ReadOut.{fed_but, lacked_but}
 use Rattle.ug_coord.proofs.Whole.{as_long, broken_whole, fed_whole, gone_whole, lacked_whole, room_whole}
 use Rattle.ug_coord.proofs.Counts.{lost_quiet, quiet_one, quiet_none}
 use Rattle.ug_coord.proofs.hub.Hub.turn.Goals as goal
@@ -29,7 +30,7 @@ lose_all-requires g c =
       on = (
         c.requires.on.0,
         broke_by c.requires.on.0 (hub_seen g.C.Crew.seen c.args.self.now) _ c.requires.more
-            c.requires.told
+            c.requires.told c.requires.read
             (broken_whole c.args.self.now.streams.len (g.C.Crew.seen c.args.self.now.crew)
             (g.C.Crew.seen c.take_turn.new.crew)
             c.args.self.now.streams.items c.take_turn.new.streams
@@ -48,7 +49,7 @@ hear_next-requires-clause-on g c κs within =
       c.requires.on.0,
       any_in (is_next Reading) c.requires.on.0 _
           (fed_by c.requires.on.0 (hub_seen g.C.Crew.seen c.args.self.now) _ c.in-Fed.rank c.requires.more c.requires.told
-          (fed_whole c.args.self.now.streams.len (g.C.Crew.seen c.args.self.now.crew) (g.C.Crew.seen c.take_turn.new.crew)
+          c.requires.read (fed_whole c.args.self.now.streams.len (g.C.Crew.seen c.args.self.now.crew) (g.C.Crew.seen c.take_turn.new.crew)
           c.args.self.now.streams.items c.take_turn.new.streams c.in-Fed.rank (as_long c.deref_mut.ensures.value c.deref_mut.ensures.len) fed) refl refl refl c.requires.on.1),
     )
 
@@ -61,7 +62,7 @@ returns-in-Fed-clause-on g c from on =
     c.in-Fed.ensures in
     read_rests c.hear_next.result from _ (hub_seen g.C.Crew.seen c.hear_next.new.self) c.hear_next.ensures.on
     (fed_by from (hub_seen g.C.Crew.seen c.args.self.now) _ c.in-Fed.rank c.requires.more c.requires.told
-    (fed_whole c.args.self.now.streams.len (g.C.Crew.seen c.args.self.now.crew) (g.C.Crew.seen c.take_turn.new.crew)
+    c.requires.read (fed_whole c.args.self.now.streams.len (g.C.Crew.seen c.args.self.now.crew) (g.C.Crew.seen c.take_turn.new.crew)
     c.args.self.now.streams.items c.take_turn.new.streams c.in-Fed.rank (as_long c.deref_mut.ensures.value c.deref_mut.ensures.len) fed) refl refl refl on)
 
 pub returns-in-Gone-clause-on : goal.returns-in-Gone-clause-on
@@ -72,7 +73,7 @@ returns-in-Gone-clause-on g c from on =
     (g.C.Crew.seen c.take_turn.new.crew) l c.take_turn.new.streams c.in-Gone.rank) c.deref_mut.ensures.value
     c.in-Gone.ensures in
     deciding_rests from _ (gone_by from (hub_seen g.C.Crew.seen c.args.self.now) _ c.in-Gone.rank c.requires.more
-    c.requires.told
+    c.requires.told c.requires.read
     (gone_whole c.args.self.now.streams.len (g.C.Crew.seen c.args.self.now.crew) (g.C.Crew.seen c.take_turn.new.crew)
     c.args.self.now.streams.items c.take_turn.new.streams c.in-Gone.rank (as_long c.deref_mut.ensures.value c.deref_mut.ensures.len) gone) c.gone.ensures.done
     c.gone.ensures.same.wide refl refl on)
@@ -84,8 +85,8 @@ returns-in-Failed-clause-on g c from on =
     subst (λ (l : List Waiting). HasBroken (g.C.Crew.seen c.args.self.now.crew)
     (g.C.Crew.seen c.take_turn.new.crew) l c.take_turn.new.streams) c.deref_mut.ensures.value
     c.in-Failed.ensures in
-    broken_rests from (hub_seen g.C.Crew.seen c.lose_all.new.self) (c.lose_all.ensures.on from
-    (broke_by from (hub_seen g.C.Crew.seen c.args.self.now) _ c.requires.more c.requires.told
+    any_in IsBrokenOff from (hub_seen g.C.Crew.seen c.lose_all.new.self) (c.lose_all.ensures.on from
+    (broke_by from (hub_seen g.C.Crew.seen c.args.self.now) _ c.requires.more c.requires.told c.requires.read
     (broken_whole c.args.self.now.streams.len (g.C.Crew.seen c.args.self.now.crew) (g.C.Crew.seen c.take_turn.new.crew)
     c.args.self.now.streams.items c.take_turn.new.streams (as_long c.deref_mut.ensures.value c.deref_mut.ensures.len) broken) refl refl refl on))
 
@@ -97,8 +98,7 @@ returns-in-Wanting-clause-on g c from on =
     (g.C.Crew.seen c.take_turn.new.crew) l c.take_turn.new.streams c.in-Wanting.rank) c.deref_mut.ensures.value
     c.in-Wanting.ensures in
     reading_rests from _ (lacked_by from (hub_seen g.C.Crew.seen c.args.self.now) _ c.in-Wanting.rank c.requires.more
-    c.requires.told
-    (lacked_whole c.args.self.now.streams.len (g.C.Crew.seen c.args.self.now.crew) (g.C.Crew.seen c.take_turn.new.crew)
+    c.requires.told c.requires.read (lacked_whole c.args.self.now.streams.len (g.C.Crew.seen c.args.self.now.crew) (g.C.Crew.seen c.take_turn.new.crew)
     c.args.self.now.streams.items c.take_turn.new.streams c.in-Wanting.rank (as_long c.deref_mut.ensures.value c.deref_mut.ensures.len) lacked) refl refl refl on)
 
 pub returns-in-Gone-clause-hears : goal.returns-in-Gone-clause-hears
@@ -106,7 +106,7 @@ returns-in-Gone-clause-hears g c =
     quiet_one c.args.self.now.book _ (lost_quiet c.in-Gone.rank c.args.self.now.book _ c.gone.ensures.same c.gone.ensures.done)
 
 pub returns-in-Failed-clause-hears : goal.returns-in-Failed-clause-hears
-returns-in-Failed-clause-hears g c = quiet_one c.args.self.now.book _ c.lose_all.ensures.quiet
+returns-in-Failed-clause-hears g c = c.lose_all.ensures.quiet
 
 pub take_turn-requires-clause-room : goal.take_turn-requires-clause-room
 take_turn-requires-clause-room g c =
@@ -118,32 +118,76 @@ take_turn-requires-clause-fit g c =
     ∙ ap (λ (l : List Waiting). length l) (sym c.deref_mut.ensures.value)
 
 pub invariant_of-self : goal.invariant_of-self
-invariant_of-self g c = record {
-  room = room_whole c.args.self.now.input c.deref_mut-2.result.now c.take_turn.new.buffer
-      c.deref_mut-2.ensures.value
-      c.deref_mut-2.ensures.len c.take_turn.auto.buffer c.args.self.now.room;
-}
+invariant_of-self g c =
+    let came : HasFed (g.C.Crew.seen c.args.self.now.crew) (g.C.Crew.seen c.take_turn.new.crew)
+    c.args.self.now.streams.items c.take_turn.new.streams c.in-Fed.rank =
+    subst (λ (l : List Waiting). HasFed (g.C.Crew.seen c.args.self.now.crew)
+    (g.C.Crew.seen c.take_turn.new.crew) l c.take_turn.new.streams c.in-Fed.rank) c.deref_mut.ensures.value
+    c.in-Fed.ensures in
+    record {
+      room = room_whole c.args.self.now.input c.deref_mut-2.result.now c.take_turn.new.buffer
+          c.deref_mut-2.ensures.value
+          c.deref_mut-2.ensures.len c.take_turn.auto.buffer c.args.self.now.room;
+      read = fed_but _ _ c.args.self.now.streams.items _ c.in-Fed.rank
+          (fed_whole c.args.self.now.streams.len (g.C.Crew.seen c.args.self.now.crew)
+          (g.C.Crew.seen c.take_turn.new.crew) c.args.self.now.streams.items c.take_turn.new.streams c.in-Fed.rank
+          (as_long c.deref_mut.ensures.value c.deref_mut.ensures.len) came)
+          (subst (λ (n : ℕ). c.in-Fed.rank < n) (c.requires.on.1.2.fit.lives ∙ sym c.requires.on.1.2.fit.streams)
+          c.in-Fed.ensures.alive.there) c.requires.read;
+    }
 
 pub invariant_of-self-in-Gone : goal.invariant_of-self-in-Gone
-invariant_of-self-in-Gone g c = record {
-  room = room_whole c.args.self.now.input c.deref_mut-2.result.now c.take_turn.new.buffer
-      c.deref_mut-2.ensures.value
-      c.deref_mut-2.ensures.len c.take_turn.auto.buffer c.args.self.now.room;
-}
+invariant_of-self-in-Gone g c =
+    let came : HasGone (g.C.Crew.seen c.args.self.now.crew) (g.C.Crew.seen c.take_turn.new.crew)
+    c.args.self.now.streams.items c.take_turn.new.streams c.in-Gone.rank =
+    subst (λ (l : List Waiting). HasGone (g.C.Crew.seen c.args.self.now.crew)
+    (g.C.Crew.seen c.take_turn.new.crew) l c.take_turn.new.streams c.in-Gone.rank) c.deref_mut.ensures.value
+    c.in-Gone.ensures in
+    let whole = (gone_whole c.args.self.now.streams.len (g.C.Crew.seen c.args.self.now.crew)
+    (g.C.Crew.seen c.take_turn.new.crew) c.args.self.now.streams.items c.take_turn.new.streams c.in-Gone.rank
+    (as_long c.deref_mut.ensures.value c.deref_mut.ensures.len) came) in
+    record {
+      room = room_whole c.args.self.now.input c.deref_mut-2.result.now c.take_turn.new.buffer
+          c.deref_mut-2.ensures.value
+          c.deref_mut-2.ensures.len c.take_turn.auto.buffer c.args.self.now.room;
+      read = subst (AreReadBut c.args.self.now.last) (sym whole.streams) c.args.self.now.read;
+    }
 
 pub invariant_of-self-in-Failed : goal.invariant_of-self-in-Failed
-invariant_of-self-in-Failed g c = record {
-  room = room_whole c.args.self.now.input c.deref_mut-2.result.now c.take_turn.new.buffer
-      c.deref_mut-2.ensures.value
-      c.deref_mut-2.ensures.len c.take_turn.auto.buffer c.args.self.now.room;
-}
+invariant_of-self-in-Failed g c =
+    let came : HasBroken (g.C.Crew.seen c.args.self.now.crew) (g.C.Crew.seen c.take_turn.new.crew)
+    c.args.self.now.streams.items c.take_turn.new.streams =
+    subst (λ (l : List Waiting). HasBroken (g.C.Crew.seen c.args.self.now.crew)
+    (g.C.Crew.seen c.take_turn.new.crew) l c.take_turn.new.streams) c.deref_mut.ensures.value
+    c.in-Failed.ensures in
+    let whole = (broken_whole c.args.self.now.streams.len (g.C.Crew.seen c.args.self.now.crew)
+    (g.C.Crew.seen c.take_turn.new.crew) c.args.self.now.streams.items c.take_turn.new.streams
+    (as_long c.deref_mut.ensures.value c.deref_mut.ensures.len) came) in
+    record {
+      room = room_whole c.args.self.now.input c.deref_mut-2.result.now c.take_turn.new.buffer
+          c.deref_mut-2.ensures.value
+          c.deref_mut-2.ensures.len c.take_turn.auto.buffer c.args.self.now.room;
+      read = subst (AreReadBut c.args.self.now.last) (sym whole.streams) c.args.self.now.read;
+    }
 
 pub invariant_of-self-in-Wanting : goal.invariant_of-self-in-Wanting
-invariant_of-self-in-Wanting g c = record {
-  room = room_whole c.args.self.now.input c.deref_mut-2.result.now c.take_turn.new.buffer
-      c.deref_mut-2.ensures.value
-      c.deref_mut-2.ensures.len c.take_turn.auto.buffer c.args.self.now.room;
-}
+invariant_of-self-in-Wanting g c =
+    let came : HasLacked (g.C.Crew.seen c.args.self.now.crew) (g.C.Crew.seen c.take_turn.new.crew)
+    c.args.self.now.streams.items c.take_turn.new.streams c.in-Wanting.rank =
+    subst (λ (l : List Waiting). HasLacked (g.C.Crew.seen c.args.self.now.crew)
+    (g.C.Crew.seen c.take_turn.new.crew) l c.take_turn.new.streams c.in-Wanting.rank) c.deref_mut.ensures.value
+    c.in-Wanting.ensures in
+    let whole = (lacked_whole c.args.self.now.streams.len (g.C.Crew.seen c.args.self.now.crew)
+    (g.C.Crew.seen c.take_turn.new.crew) c.args.self.now.streams.items c.take_turn.new.streams c.in-Wanting.rank
+    (as_long c.deref_mut.ensures.value c.deref_mut.ensures.len) came) in
+    record {
+      room = room_whole c.args.self.now.input c.deref_mut-2.result.now c.take_turn.new.buffer
+          c.deref_mut-2.ensures.value
+          c.deref_mut-2.ensures.len c.take_turn.auto.buffer c.args.self.now.room;
+      read = lacked_but _ _ c.args.self.now.last c.args.self.now.streams.items _ c.in-Wanting.rank whole
+          (subst (λ (n : ℕ). c.in-Wanting.rank < n) (c.requires.on.1.2.fit.lives ∙ sym c.requires.on.1.2.fit.streams)
+          c.in-Wanting.ensures.alive.there) c.requires.read c.args.self.now.read;
+    }
 
 pub hear_next-requires-clause-there : goal.hear_next-requires-clause-there
 hear_next-requires-clause-there g c κs within =
