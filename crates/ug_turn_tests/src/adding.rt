@@ -1,4 +1,5 @@
 ghost use Rattle.std.specs.Prelude.{◌≡◌, ◌+◌, ◌<◌, length, IfSome};
+ghost use Rattle.std.specs.Thread.{IsSync};
 ghost use mathlib.Core.List.{IsPrefix};
 ghost use Rattle.ug_turn.specs.Locks.{id_of};
 ghost use Rattle.ug_turn.specs.Seats.{IsAtRestAt, view_of};
@@ -103,38 +104,51 @@ pub fn add_all<R: Wait>(
     true
 }
 
-/// Keeps the value for a while and puts it home with one entry more, if there is memory for it.
+/// Keeps the value for a while, lets another seat go meanwhile, and puts the value home with one
+/// entry more, if there is memory for it.
 pub fn hold<R: Clock>(
     rt: &R,
     turn: &Turn<Chronicle>,
     mut seat: SeatOf<Chronicle>,
     value: Chronicle,
     entry: Entry,
+    other: SeatOf<Chronicle>,
 ) -> bool
     requires { HasOut (id_of turn.now) entry.pass seat value }
 {
     sleep(rt, Duration::from_millis(100));
+    drop(other);
+    sleep(rt, Duration::from_millis(50));
     put_home(turn, &mut seat, value, entry)
 }
 
-/// Adds so many entries for each of two passes, in a thread each.
-pub fn add_by_two<R: Threads + Wait + Sync>(
+/// Adds so many entries for each of the passes from 0 on, in a thread each, and says whether there
+/// was memory.
+#[cycle(crowd)]
+pub fn add_by_each<R: Threads + Wait + Sync>(
     rt: &R,
     turn: &Turn<Chronicle>,
-    seats: (SeatOf<Chronicle>, SeatOf<Chronicle>),
-    pass: u32,
+    mut seats: Vec<SeatOf<Chronicle>>,
     count: u32,
 ) -> bool
-    requires small { pass < 100 }
-    requires first { IsPass (id_of turn.now) pass seats.0 }
-    requires second { IsPass (id_of turn.now) (pass + 1) seats.1 }
+    requires few { length seats.items < 100 }
+    requires each { ArePasses (id_of turn.now) seats.items }
 {
-    let (one, two) = seats;
-    let next = pass + 1;
-    let (first, second) = join(
+    let Some(seat) = last_seat(turn, &mut seats) else {
+        drop(seats);
+        return true;
+    };
+    let pass = seats.len() as u32;
+    let (mine, others) = join(
         rt,
-        || add_all(rt, turn, one, pass, count),
-        || add_all(rt, turn, two, next, count),
+        || -> bool
+            requires { IsPass (id_of turn.now) pass seat }
+        { add_all(rt, turn, seat, pass, count) },
+        || -> bool
+            requires sync { IsSync R.row }
+            requires few { length seats.items < 100 }
+            requires each { ArePasses (id_of turn.now) seats.items }
+        { add_by_each(rt, turn, seats, count) },
     );
-    first && second
+    mine && others
 }

@@ -1,9 +1,9 @@
 ghost use Rattle.std.specs.Prelude.{IfOk, ◌≡◌, ◌<◌, length};
 ghost use Rattle.ug_turn.specs.Locks.{id_of, passes_of};
 ghost use Rattle.ug_turn.specs.Seats.{AreAtRest};
-ghost use Rattle.ug_turn_tests.specs.Passes.{ArePasses, IsPass};
+ghost use Rattle.ug_turn_tests.specs.Passes.{ArePasses};
 
-use crate::adding::{add, add_all, add_by_two, hold, last_seat, last_two, take_out};
+use crate::adding::{add, add_all, add_by_each, hold, last_seat, last_two, take_out};
 use crate::chronicle::{Chronicle, Entry};
 use std::alloc::{AllocError, Global};
 use std::sync::Wait;
@@ -11,10 +11,6 @@ use std::test::Fail;
 use std::thread::{Threads, join};
 use std::time::Clock;
 use ug_turn::{SeatOf, Turn};
-
-const TURNS: u32 = 20_000;
-
-const MORE_TURNS: u32 = 25_000;
 
 // A lock round a value without entries, and its seats.
 fn opened(
@@ -45,73 +41,55 @@ fn in_order(entries: &[Entry], pass: u32) -> u32 {
     next
 }
 
-// Two threads add entries, and then all entries of each stand in their order.
-fn both<R: Threads + Wait + Sync>(rt: &R, alloc: Global) -> Result<(u32, u32, usize), Fail> {
-    let (turn, mut seats) = opened(alloc, 3)?;
-    let Some(mut three) = last_seat(&turn, &mut seats) else {
-        return Ok((0, 0, 0));
+// Whether, where so many threads have added so many entries each, those of each stand in their
+// order and no others are there.
+fn all_kept<R: Threads + Wait + Sync>(
+    rt: &R,
+    alloc: Global,
+    threads: u32,
+    count: u32,
+) -> Result<bool, Fail>
+    requires { threads < 100 }
+{
+    let (turn, mut seats) = opened(alloc, threads + 1)?;
+    let Some(mut last) = last_seat(&turn, &mut seats) else {
+        return Ok(false);
     };
-    let Some(two) = last_two(&turn, &mut seats) else {
-        return Ok((0, 0, 0));
-    };
-    add_by_two(rt, &turn, two, 0, TURNS);
-    let value = take_out(rt, &turn, &mut three);
+    add_by_each(rt, &turn, seats, count);
+    let value = take_out(rt, &turn, &mut last);
     let entries = value.entries.as_slice();
-    let found = (in_order(entries, 0), in_order(entries, 1), entries.len());
+    let mut all = 0usize;
+    for pass in 0..threads {
+        if in_order(entries, pass) == count {
+            all = all.saturating_add(count as usize);
+        }
+    }
+    let are_kept = all == entries.len() && all as u64 == threads as u64 * count as u64;
     drop(value);
-    Ok(found)
+    Ok(are_kept)
 }
 
+// About so many turns are taken in all by each number of threads.
+const TURNS: u32 = 1_000_000;
+
 #[test]
-fn two_threads_take_turns(rt: HostRuntime) -> Result<(), Fail> {
-    let found = both(&rt, rt.alloc())?;
-    assert_eq!(rt; found, (TURNS, TURNS, 40_000));
+fn threads_take_turns(rt: HostRuntime) -> Result<(), Fail> {
+    for threads in 2u32..9 {
+        let are_kept = all_kept(&rt, rt.alloc(), threads, TURNS / threads)?;
+        assert_eq!(rt; (threads, are_kept), (threads, true));
+    }
     Ok(())
 }
 
-// Four threads add entries: how many of each pass stand in their order, and how many all are.
-fn crowd<R: Threads + Wait + Sync>(rt: &R, alloc: Global) -> Result<([u32; 4], usize), Fail> {
-    let (turn, mut seats) = opened(alloc, 5)?;
-    let shared = &turn;
-    let Some(mut five) = last_seat(shared, &mut seats) else {
-        return Ok(([0; 4], 0));
-    };
-    let Some(second) = last_two(shared, &mut seats) else {
-        return Ok(([0; 4], 0));
-    };
-    let Some(first) = last_two(shared, &mut seats) else {
-        return Ok(([0; 4], 0));
-    };
-    join(
-        rt,
-        || -> bool
-            requires { IsPass (id_of shared.now) 0 first.0 × IsPass (id_of shared.now) 1 first.1 }
-        { add_by_two(rt, shared, first, 0, MORE_TURNS) },
-        || -> bool
-            requires { IsPass (id_of shared.now) 2 second.0
-                × IsPass (id_of shared.now) 3 second.1 }
-        { add_by_two(rt, shared, second, 2, MORE_TURNS) },
-    );
-    let value = take_out(rt, shared, &mut five);
-    let entries = value.entries.as_slice();
-    let found = [0u32, 1, 2, 3].map(|pass| in_order(entries, pass));
-    let count = entries.len();
-    drop(value);
-    Ok((found, count))
-}
-
-#[test]
-fn four_threads_take_turns(rt: HostRuntime) -> Result<(), Fail> {
-    let found = crowd(&rt, rt.alloc())?;
-    assert_eq!(rt; found, ([MORE_TURNS; 4], 100_000));
-    Ok(())
-}
-
-// A seat waits while another has the value: the passes whose entries then stand, by their order.
+// A seat waits while another has the value and a third is let go: the passes whose entries then
+// stand, by their order.
 fn waited<R: Threads + Wait + Clock + Sync>(rt: &R, alloc: Global) -> Result<(u32, u32), Fail> {
-    let (turn, mut seats) = opened(alloc, 3)?;
+    let (turn, mut seats) = opened(alloc, 4)?;
     let shared = &turn;
-    let Some(mut three) = last_seat(shared, &mut seats) else {
+    let Some(mut four) = last_seat(shared, &mut seats) else {
+        return Ok((9, 9));
+    };
+    let Some(three) = last_seat(shared, &mut seats) else {
         return Ok((9, 9));
     };
     let Some((one, mut two)) = last_two(shared, &mut seats) else {
@@ -121,9 +99,9 @@ fn waited<R: Threads + Wait + Clock + Sync>(rt: &R, alloc: Global) -> Result<(u3
     join(
         rt,
         || add_all(rt, shared, one, 0, 1),
-        || hold(rt, shared, two, held, Entry { pass: 1, number: 0 }),
+        || hold(rt, shared, two, held, Entry { pass: 1, number: 0 }, three),
     );
-    let value = take_out(rt, shared, &mut three);
+    let value = take_out(rt, shared, &mut four);
     let found = match value.entries.as_slice() {
         [first, second] => (first.pass, second.pass),
         _ => (9, 9),
@@ -133,7 +111,7 @@ fn waited<R: Threads + Wait + Clock + Sync>(rt: &R, alloc: Global) -> Result<(u3
 }
 
 #[test]
-fn a_seat_waits_for_the_value(rt: HostRuntime) -> Result<(), Fail> {
+fn a_seat_waits_while_another_is_let_go(rt: HostRuntime) -> Result<(), Fail> {
     let found = waited(&rt, rt.alloc())?;
     assert_eq!(rt; found, (1, 0));
     Ok(())

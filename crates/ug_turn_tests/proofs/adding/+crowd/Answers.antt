@@ -1,9 +1,8 @@
 use denote.Param.Send.{sendable}
 use Rattle.std.proofs.Crossing.{crosses}
 use Rattle.ug_turn_tests.proofs.Crossing.{chronicle_seat, chronicle_sync}
-use Rattle.ug_turn_tests.proofs.tests.crowd.Goals as goal
+use Rattle.ug_turn_tests.proofs.adding.+crowd.Goals as goal
 
-pub join-requires-send-F : goal.join-requires-send-F
-join-requires-send-F g c κs within =
-    let s = c.type_bounds.sync-R in
+pub join-mine-requires-send-F : goal.join-mine-requires-send-F
+join-mine-requires-send-F g t c κs within =
     search (chronicle_sync, chronicle_seat, crosses, sendable) depth 60 fits 20000

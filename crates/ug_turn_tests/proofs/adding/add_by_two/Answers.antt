@@ -1,9 +1,0 @@
-use denote.Param.Send.{sendable}
-use Rattle.std.proofs.Crossing.{crosses}
-use Rattle.ug_turn_tests.proofs.Crossing.{chronicle_seat, chronicle_sync}
-use Rattle.ug_turn_tests.proofs.adding.add_by_two.Goals as goal
-
-pub join-first-requires-send-F : goal.join-first-requires-send-F
-join-first-requires-send-F g c κs within =
-    let s = c.type_bounds.sync-R in
-    search (chronicle_sync, chronicle_seat, crosses, sendable) depth 60 fits 20000
