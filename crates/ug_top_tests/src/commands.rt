@@ -114,6 +114,7 @@ const SOLVES: &[&str] = &[
     "solve f --solvers 4 --racing",
     "solve f --solvers 2 --mode threads --low 1 --high 1",
     "solve f --solvers 3 --checkpoint d --every 1",
+    "solve f --base surrogate",
 ];
 
 #[test]
