@@ -104,21 +104,22 @@ fn give_each(rt: &impl Abort, alloc: Global, terms: Terms, floors: &[i128], last
     Given { steps, stock }
 }
 
-fn terms(racing: bool, cutoff: Option<i128>) -> Terms {
+fn terms(giving: &Giving) -> Terms {
     Terms {
         run: 1,
-        racing,
-        base: Base::Bound,
-        cutoff,
+        racing: giving.racing,
+        base: giving.base,
+        cutoff: giving.cutoff,
     }
 }
 
-/// What is given out: whether there is a race, under which cutoff, nodes with which floors, and
-/// after which ticket number; in how many steps, the last ticket number then, how many nodes are
-/// left, whether one is raced for, and what is told first.
+/// What is given out: whether there is a race, the base of the settings, under which cutoff, nodes
+/// with which floors, and after which ticket number; in how many steps, the last ticket number
+/// then, how many nodes are left, whether one is raced for, and what is told first.
 #[derive(Clone, Copy)]
 struct Giving {
     racing: bool,
+    base: Base,
     cutoff: Option<i128>,
     floors: &'static [i128],
     last: u64,
@@ -131,6 +132,7 @@ struct Giving {
 
 const TO_THE_LOWEST: Giving = Giving {
     racing: false,
+    base: Base::Bound,
     cutoff: Some(9),
     floors: &[5, 3, 4],
     last: 6,
@@ -141,8 +143,16 @@ const TO_THE_LOWEST: Giving = Giving {
     told: [Some((0, 7, 0, false)), Some((1, 8, 0, false)), None],
 };
 
+// The same with the other base, which the params of each order say.
+const OVER_FURTHER_ROWS: Giving = Giving {
+    base: Base::Surrogate,
+    told: [Some((0, 7, 8, false)), Some((1, 8, 8, false)), None],
+    ..TO_THE_LOWEST
+};
+
 const SPENT: Giving = Giving {
     racing: false,
+    base: Base::Bound,
     cutoff: None,
     floors: &[5],
     last: u64::MAX,
@@ -153,8 +163,10 @@ const SPENT: Giving = Giving {
     told: [None, None, None],
 };
 
+// The params of a racer are its rank's, whatever the base.
 const RACE: Giving = Giving {
     racing: true,
+    base: Base::Surrogate,
     cutoff: None,
     floors: &[5],
     last: 0,
@@ -167,7 +179,7 @@ const RACE: Giving = Giving {
 
 // Expects that it is given out so.
 fn is_given_so(rt: &impl Abort, alloc: Global, giving: &Giving) {
-    let terms = terms(giving.racing, giving.cutoff);
+    let terms = terms(giving);
     let mut given = give_each(rt, alloc, terms, giving.floors, giving.last);
     same(rt, &given.steps, &Some(giving.steps));
     let stock = &given.stock;
@@ -183,6 +195,7 @@ fn is_given_so(rt: &impl Abort, alloc: Global, giving: &Giving) {
 #[test]
 fn gives_the_least_nodes_to_the_lowest_ranks(rt: HostRuntime) {
     is_given_so(&rt, rt.alloc(), &TO_THE_LOWEST);
+    is_given_so(&rt, rt.alloc(), &OVER_FURTHER_ROWS);
 }
 
 #[test]
