@@ -1,8 +1,11 @@
 //! A worker that renews its task, at a seat in memory that notes what it is told and asks for
-//! nothing. By hand, of the stairs (served/stairs.rt): the first round finds a point and leaves
-//! three boxes, the second finds one and leaves five. The third finds the point with a = 9 by 13
-//! halvings of b and 15 of c, drops the 30 boxes left of it, halves a from 6..8 to 8 and then b
-//! four times: 64 steps, and seven boxes are left.
+//! nothing; and one whose seat knows of a cutoff, or has a task dropped behind its point. By hand, of
+//! the stairs (served/stairs.rt): the first round finds a point and leaves three boxes, the second
+//! finds one and leaves five. The third finds the point with a = 9 by 13 halvings of b and 15 of c,
+//! drops the 30 boxes left of it, halves a from 6..8 to 8 and then b four times: 64 steps, and seven
+//! boxes are left. No value is below -65534.
+
+ghost use Rattle.std.specs.Prelude.{◌≡◌, None};
 
 use crate::expect::holds_at;
 use crate::served::stairs::STAIRS;
@@ -13,7 +16,7 @@ use ug_base::Task;
 use ug_branch::Params;
 use ug_mps::read;
 use ug_rows::{IntBox, Interval, Point};
-use ug_worker::{Renewal, Reply, Seat, Took, Untaken, work};
+use ug_worker::{Renewal, Reply, Seat, Took, Untaken, cutoff_of_point, work};
 
 // A seat with one task to give.
 #[derive(Drop)]
@@ -24,6 +27,10 @@ struct Notebook {
     states: u64,
     // The number of the hand for which there is no memory.
     refused: u64,
+    // A cutoff that is known without a report.
+    known: Option<i128>,
+    // Whether a task is to be dropped behind its point.
+    drops: bool,
     // A letter for each call.
     told: Vec<u8>,
     // Whether the boxes that the task handed are those by hand.
@@ -42,7 +49,9 @@ impl Notebook {
         }
     }
 
-    fn reply(&self) -> Reply {
+    fn reply(&self) -> Reply
+        ensures { result.cutoff ≡ None }
+    {
         Reply {
             cutoff: None,
             collect: 0,
@@ -67,12 +76,17 @@ impl Seat for Notebook {
     }
 
     fn look(&mut self) -> Reply {
-        self.reply().bounded()
+        self.reply()
     }
 
-    fn solution(&mut self, point: Point) {
+    fn cutoff(&mut self) -> Option<i128> {
+        cutoff_of_point(self.known)
+    }
+
+    fn solution(&mut self, point: Point) -> bool {
         drop(point);
         self.note(b'P');
+        !self.drops
     }
 
     fn hand(&mut self, number: u64, area: &IntBox) -> Result<(), AllocError> {
@@ -89,7 +103,7 @@ impl Seat for Notebook {
         let _floor = floor;
         self.note(b'S');
         self.states = self.states.saturating_add(1);
-        let reply = self.reply().bounded();
+        let reply = self.reply();
         Ok(reply)
     }
 
@@ -165,13 +179,16 @@ fn task(alloc: Global) -> Option<Task> {
 }
 
 // A task that is renewed after so many rounds at the least, and whatever part of all they are;
-// after how many the race is won; for which hand there is no memory; what is told, and whether the
-// boxes handed are those by hand.
+// after how many the race is won; for which hand there is no memory; which cutoff is known without a
+// report, and whether a task is dropped behind its point; what is told, and whether the boxes handed
+// are those by hand.
 #[derive(Clone, Copy)]
 struct Case {
     rounds: u64,
     race: u64,
     refused: u64,
+    known: Option<i128>,
+    drops: bool,
     told: &'static [u8],
     is_handed: bool,
 }
@@ -180,6 +197,8 @@ const DUE_AT_ONCE: Case = Case {
     rounds: 1,
     race: 0,
     refused: u64::MAX,
+    known: None,
+    drops: false,
     told: b"PSPHHHHHD",
     is_handed: true,
 };
@@ -208,6 +227,18 @@ const CASES: &[Case] = &[
         is_handed: false,
         ..DUE_AT_ONCE
     },
+    Case {
+        known: Some(-65534),
+        told: b"D",
+        is_handed: false,
+        ..DUE_AT_ONCE
+    },
+    Case {
+        drops: true,
+        told: b"P",
+        is_handed: false,
+        ..DUE_AT_ONCE
+    },
 ];
 
 // Whether a worker that searches the stairs tells that, and hands these boxes.
@@ -220,6 +251,8 @@ fn is_so<R: Wait>(rt: &R, alloc: Global, case: &Case) -> bool {
         race: case.race,
         states: 0,
         refused: case.refused,
+        known: case.known,
+        drops: case.drops,
         told: Vec::new(alloc),
         is_handed: false,
     };

@@ -16,26 +16,9 @@ use Rattle.ug_base.specs.Tasks.{AreBelow, IsTask, TaskState}
 use Rattle.ug_serve.specs.declared.kept.Kept.{Kept}
 use Rattle.ug_worker.specs.declared.tally.Tally.{Tally}
 use Rattle.ug_worker.specs.Engagements.{Engaged, IsFoundBy, IsHandedBy}
+use Rattle.ug_worker.proofs.Quiet.{handed_below}
 use Rattle.ug_serve.specs.Seats.{Agrees}
 use Rattle.ug_serve.proofs.Seating.{handed_agrees}
-
--- ---- boxes
-
--- the last of the boxes that a task handed is below the whole box
-pub last_below : (task : TaskState) (before : List (List Interval)) (area : List Interval) → IsTask task
-    → task.handed ≡ before ++ area ∷ [] → IsBelow area task.whole
-last_below task before area own same =
-    let all : AreBelow task.whole (before ++ area ∷ []) =
-    subst (λ (boxes : List (List Interval)). AreBelow task.whole boxes) same own.handed_below in
-    subst (λ (box : List Interval). IsBelow box task.whole)
-    (get_or_push before area area (length before) refl)
-    (all (length before) area (omega (arith, length-append before (area ∷ []))))
-
--- and so below the root
-pub handed_below : (task : TaskState) (before : List (List Interval)) (area : List Interval) → IsTask task
-    → task.handed ≡ before ++ area ∷ [] → IsBelow area (root_of task.problem)
-handed_below task before area own same =
-    below_trans _ _ _ (last_below task before area own same) own.whole
 
 -- ---- reports
 

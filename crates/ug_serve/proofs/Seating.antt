@@ -19,6 +19,7 @@ use Rattle.ug_serve.specs.declared.kept.Kept.{Kept}
 use Rattle.ug_worker.specs.Engagements.{AreQuiet, Engaged, HasBegun, IsFoundBy, IsHandedBy, IsStatedBy, lowered}
 use Rattle.ug_worker.specs.declared.tally.Tally.{Tally}
 use Rattle.ug_worker.specs.Renewals.{begun}
+use Rattle.ug_worker.proofs.Quiet.{quiet_same}
 use Rattle.ug_serve.specs.Deeds.{Busy, Free, IsForTask, IsTaken, Over, Stage}
 use Rattle.ug_serve.specs.Serving.{HasNext, HasEnded, StandsOn, has_ended, stands_as}
 use Rattle.ug_serve.specs.Keeping.{IsAsked, IsWon}
@@ -26,57 +27,6 @@ use Rattle.ug_serve.specs.Seats.{Agrees, IsGoing, IsObeyed, IsTaskOf, IsOrdered,
 use Rattle.std.proofs.lemmas.Int.{ints}
 use Rattle.ug_base.proofs.Floors.{lesser_is}
 use Rattle.ug_serve.proofs.Wires.{next_taken}
-
--- ---- what no quiet step changes
-
-pub record IsSameTask (old new : TaskState) : Type 0 where
-  pub problem : new.problem ≡ old.problem
-  pub ticket : new.ticket ≡ old.ticket
-  pub gap : new.gap ≡ old.gap
-  pub whole : new.whole ≡ old.whole
-  pub cutoff : new.cutoff ≡ old.cutoff
-  pub handed : new.handed ≡ old.handed
-
-same_itself : (old new : TaskState) → new ≡ old → IsSameTask old new
-same_itself old new e = record {
-  problem = ap (λ (t : TaskState). t.problem) e;
-  ticket = ap (λ (t : TaskState). t.ticket) e;
-  gap = ap (λ (t : TaskState). t.gap) e;
-  whole = ap (λ (t : TaskState). t.whole) e;
-  cutoff = ap (λ (t : TaskState). t.cutoff) e;
-  handed = ap (λ (t : TaskState). t.handed) e;
-}
-
-same_on : (a b c : TaskState) → IsSameTask a b → IsSameTask b c → IsSameTask a c
-same_on a b c f g = record {
-  problem = g.problem ∙ f.problem;
-  ticket = g.ticket ∙ f.ticket;
-  gap = g.gap ∙ f.gap;
-  whole = g.whole ∙ f.whole;
-  cutoff = g.cutoff ∙ f.cutoff;
-  handed = g.handed ∙ f.handed;
-}
-
-pub quiet_same : (n : ℕ) (old new : TaskState) → AreQuiet n old new → IsSameTask old new
-quiet_same zero old new e = same_itself old new e
-quiet_same (suc n) old new (mid, more, inl pruned) =
-    same_on old mid new (quiet_same n old mid more) (record {
-      problem = ap (λ (t : TaskState). t.problem) pruned.same;
-      ticket = ap (λ (t : TaskState). t.ticket) pruned.same;
-      gap = ap (λ (t : TaskState). t.gap) pruned.same;
-      whole = ap (λ (t : TaskState). t.whole) pruned.same;
-      cutoff = ap (λ (t : TaskState). t.cutoff) pruned.same;
-      handed = ap (λ (t : TaskState). t.handed) pruned.same;
-    })
-quiet_same (suc n) old new (mid, more, inr split) =
-    same_on old mid new (quiet_same n old mid more) (record {
-      problem = ap (λ (t : TaskState). t.problem) split.same;
-      ticket = ap (λ (t : TaskState). t.ticket) split.same;
-      gap = ap (λ (t : TaskState). t.gap) split.same;
-      whole = ap (λ (t : TaskState). t.whole) split.same;
-      cutoff = ap (λ (t : TaskState). t.cutoff) split.same;
-      handed = ap (λ (t : TaskState). t.handed) split.same;
-    })
 
 -- ---- what a call leaves of what is kept
 

@@ -32,8 +32,8 @@ use Rattle.ug_serve.specs.Deeds.{Stage, Blank, SetUp, Free, Busy, Ending, Over}
 use Rattle.ug_serve.specs.Courses.{IsCourse, Standing, beginning}
 use Rattle.ug_serve.specs.Transcripts.{AreSaid, IsBoxTold, IsEndOfTask, IsKnown, IsRestTold, IsSaid, IsSetUpWith, IsTranscript, IsUnder, Ordered, box_of, last_work, reports_in, since_work, told_since, turned, work_of}
 use Rattle.ug_serve.specs.Laws.{CoursesAreTranscripts}
-use Rattle.ug_serve.proofs.Carried.{last_below}
-use Rattle.ug_serve.proofs.Seating.{IsSameTask, quiet_same}
+use Rattle.ug_worker.proofs.Quiet.{last_below}
+use Rattle.ug_worker.proofs.Quiet.{IsSameTask, quiet_same}
 use Rattle.ug_serve.proofs.Told.{AreHands, behind, came_is_no_order, first_or, hands_counted, in_front, in_hands, last_took, same_order, since_took, some_known, told_is_no_order, under_more}
 
 -- ---- the problem

@@ -287,11 +287,17 @@ impl<L: Link + Drop> Seat for LinkSeat<L> {
         self.reply(cutoff)
     }
 
-    fn solution(&mut self, point: Point) {
+    // What others found is ordered, and read with the other orders.
+    fn cutoff(&mut self) -> Option<i128> {
+        None
+    }
+
+    fn solution(&mut self, point: Point) -> bool {
         self.wire.tell(Report::Solution {
             ticket: self.kept.ticket,
             point,
         });
+        true
     }
 
     fn hand(&mut self, number: u64, area: &IntBox) -> Result<(), AllocError> {

@@ -1,5 +1,5 @@
 -- What the steps of a round, hands and reports make of where a worker stands.
-use Rattle.std.proofs.Common.{◌≡◌, inl, inr, ℕ, suc, ◌+◌, ◌-◌, ◌<◌, ◌≤◌, List, length, Option, Some, Bool, true, false, [], ℤ, ◌⊎◌, refl, sym, ap, subst, ◌∙◌, arith, if◌then◌else◌}
+use Rattle.std.proofs.Common.{◌≡◌, inl, inr, ℕ, zero, suc, ◌+◌, ◌-◌, ◌<◌, ◌≤◌, List, length, Option, Some, Bool, true, false, [], ℤ, ◌⊎◌, refl, sym, ap, subst, ◌∙◌, arith, if◌then◌else◌}
 use Rattle.ug_rows.specs.declared.area.Interval.{Interval}
 use Rattle.ug_base.specs.declared.handed.Handed.{Handed}
 use Rattle.ug_base.specs.Hands.{IsGiven, IsHanded}
@@ -8,7 +8,7 @@ use Rattle.ug_base.specs.Tasks.{IsLeastFloor, IsTask, TaskState}
 use Rattle.ug_worker.specs.declared.reply.Reply.{Reply}
 use Rattle.ug_worker.specs.declared.search.Asked.{Asked}
 use Rattle.ug_worker.specs.declared.tally.Tally.{Tally}
-use Rattle.ug_worker.specs.Engagements.{Engaged, GoesOn, HasBegun, HasObliged, IsFoundBy, IsHandedBy, IsQuiet, IsRenewed, IsSince, IsStatedBy, IsWanted, due_by, due_of, lowered, steps_of_round}
+use Rattle.ug_worker.specs.Engagements.{AreQuiet, Engaged, GoesOn, HasBegun, HasObliged, IsFoundBy, IsHandedBy, IsQuiet, IsSince, IsStatedBy, due_by, due_of, lowered, steps_of_round, under}
 use Rattle.ug_worker.specs.Renewals.{IsDue}
 use Rattle.ug_worker.specs.Workers.{HasHanded, IsGiving, IsSearched, IsToTell, StandsAt}
 
@@ -38,6 +38,15 @@ still_obliged old new e given h (inr few) = inr (omega (arith, given_left old ne
 -- nothing happened since
 pub since_now : (e : Engaged) → e.made ≤ steps_of_round → IsSince e e.task e.made
 since_now e room = record { more = 0; quiet = refl; made = omega arith; within = room }
+
+-- before a round no step was made, and the task is what it was
+since_more : (more : ℕ) (e : Engaged) (task : TaskState) → AreQuiet more e.task task → 0 ≡ e.made + more
+    → (e.made ≡ 0) × (task ≡ e.task)
+since_more zero e task quiet made = (omega (arith, made), quiet)
+since_more (suc more) e task quiet made = absurd (omega (arith, made))
+
+pub since_none : (e : Engaged) (task : TaskState) → IsSince e task 0 → (e.made ≡ 0) × (task ≡ e.task)
+since_none e task since = since_more since.more e task since.quiet since.made
 
 -- a box is left where one was handed
 pub some_left : (old new : TaskState) (given : Handed) → IsHanded old new given → 0 < length new.boxes
@@ -205,6 +214,25 @@ module _ (At : Option Engaged → Type 0) where
     due = h.due;
     racing = h.racing;
   }
+
+  -- a task under a lower cutoff, before a round
+  pub stands_under : (After : Option Engaged → Type 0) (old new : TaskState) (cutoff : Option ℤ) (asked : Asked)
+      → (s : StandsAt At old 0 asked) → new ≡ lowered cutoff old → After (Some (under cutoff s.now))
+      → StandsAt After new 0 asked
+  stands_under After old new cutoff asked s is at =
+      let none = since_none s.now old s.since in
+      record {
+        now = under cutoff s.now;
+        at = at;
+        since = record {
+          more = 0;
+          quiet = is ∙ ap (lowered cutoff) none.1;
+          made = omega (arith, none.0);
+          within = omega arith;
+        };
+        due = s.due;
+        racing = s.racing;
+      }
 
   -- a task that was begun
   pub stands_begun : (task : TaskState) → (h : HasBegun At task)

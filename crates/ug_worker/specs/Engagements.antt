@@ -104,6 +104,10 @@ abbrev pub lowered : Option ℤ → TaskState → TaskState
 lowered None task = task
 lowered (Some cutoff) task = record task { cutoff = Some (lesser_of task.cutoff cutoff) }
 
+-- the same, but for a lower cutoff
+abbrev pub under : Option ℤ → Engaged → Engaged
+under cutoff e = record e { task = lowered cutoff e.task }
+
 -- a task was begun, and no step was made
 pub record IsBegun (e : Engaged) (task : TaskState) : Type 0 where
   pub its : e.task ≡ task

@@ -15,7 +15,7 @@ mod took;
 mod worker;
 
 pub use pace::Pace;
-pub use reply::Reply;
+pub use reply::{Reply, cutoff_of_point};
 pub use search::{Asked, Left, Search};
 pub use seat::Seat;
 pub use tally::{Renewal, Tally};

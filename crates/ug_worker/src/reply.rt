@@ -1,4 +1,4 @@
-ghost use Rattle.std.specs.Prelude.{◌≡◌, None, true, false};
+ghost use Rattle.std.specs.Prelude.{◌≡◌, IfSome, None, Some, true, false};
 ghost use Rattle.ug_problem.specs.Better.{IsSmallCutoff};
 
 /// No value of a point of a problem, and so no cutoff, is greater.
@@ -29,18 +29,17 @@ impl Reply {
             racing: true,
         }
     }
+}
 
-    /// The same, but for a cutoff that is none of a point. What came through a lock is not known to be
-    /// small, though it is.
-    pub fn bounded(self) -> Reply
-        ensures small { IsSmallCutoff result.cutoff }
-        ensures same { IsSmallCutoff self.cutoff → result ≡ self }
-        ensures rest { result ≡ record self { cutoff = result.cutoff } }
-    {
-        let cutoff = match self.cutoff {
-            Some(cutoff) if cutoff.unsigned_abs() <= MOST => Some(cutoff),
-            _ => None,
-        };
-        Reply { cutoff, ..self }
+/// The cutoff, unless it is too great to be that of a point. What is read as a word is not known to
+/// be small, though it is.
+pub fn cutoff_of_point(cutoff: Option<i128>) -> Option<i128>
+    ensures small { IsSmallCutoff result }
+    ensures some { IfSome result (λ c. cutoff ≡ Some c) }
+    ensures same { IsSmallCutoff cutoff → result ≡ cutoff }
+{
+    match cutoff {
+        Some(cutoff) if cutoff.unsigned_abs() <= MOST => Some(cutoff),
+        _ => None,
     }
 }

@@ -69,9 +69,8 @@ impl Search {
             (λ left. EndsAs (S.at seat.new) self.new.tally left self.new.task) }
         ensures home { S.home seat.new ≡ S.home seat.old }
     {
-        if self.steps(seat).is_err() {
-            return Err(Left::Wanting);
-        }
+        self.know(seat);
+        self.steps(seat)?;
         if self.task.left() == 0 {
             is_one(&self.task);
             return Err(Left::Nothing);
@@ -85,12 +84,23 @@ impl Search {
         self.tell(seat)
     }
 
+    // Takes over a cutoff that the seat knows of.
+    fn know<S: Seat>(&mut self, seat: &mut S)
+        requires { StandsAt (S.at seat.old self.old.tally) self.old.task 0 self.old.asked }
+        ensures stands { StandsAt (S.at seat.new self.new.tally) self.new.task 0 self.new.asked }
+        ensures home { S.home seat.new ≡ S.home seat.old }
+    {
+        let cutoff = seat.cutoff();
+        lower(&mut self.task, cutoff);
+    }
+
     // Makes the steps of a round, or fewer where no box is left.
-    fn steps<S: Seat>(&mut self, seat: &mut S) -> Result<(), AllocError>
+    fn steps<S: Seat>(&mut self, seat: &mut S) -> Result<(), Left>
         requires { StandsAt (S.at seat.old self.old.tally) self.old.task 0 self.old.asked }
         ensures ok { OnOk result
             (HasStepped (S.at seat.new self.new.tally) self.new.task self.new.asked) }
-        ensures err { OnErr result (Stands (S.at seat.new)) }
+        ensures err { IfErr result
+            (λ left. EndsAs (S.at seat.new) self.new.tally left self.new.task) }
         ensures home { S.home seat.new ≡ S.home seat.old }
     {
         for made in 0..STEPS {
@@ -102,20 +112,27 @@ impl Search {
     }
 
     // Makes a step, and tells the point that it finds. False where no box is left.
-    fn step<S: Seat>(&mut self, seat: &mut S, made: u32) -> Result<bool, AllocError>
+    fn step<S: Seat>(&mut self, seat: &mut S, made: u32) -> Result<bool, Left>
         requires stands { StandsAt (S.at seat.old self.old.tally) self.old.task made self.old.asked }
         requires room { made < 64 }
         ensures stands { IfOk result
             (λ more. HasMade (S.at seat.new self.new.tally) more made self.new.task
             self.new.asked) }
-        ensures err { OnErr result (Stands (S.at seat.new)) }
+        ensures err { IfErr result
+            (λ left. EndsAs (S.at seat.new) self.new.tally left self.new.task) }
         ensures home { S.home seat.new ≡ S.home seat.old }
     {
-        match self.task.step()? {
+        let Ok(step) = self.task.step() else {
+            return Err(Left::Wanting);
+        };
+        match step {
             Step::Found(point) => {
                 is_one(&self.task);
-                seat.solution(point);
-                Ok(true)
+                if seat.solution(point) {
+                    Ok(true)
+                } else {
+                    Err(Left::Dropped)
+                }
             }
             Step::Empty => Ok(false),
             Step::Pruned => Ok(true),

@@ -3,7 +3,8 @@ ghost use Rattle.ug_problem.specs.Better.{IsSmallCutoff};
 ghost use Rattle.ug_base.specs.Tasks.{TaskState};
 ghost use Rattle.ug_rows.specs.declared.area.Interval.{Interval};
 ghost use Rattle.ug_worker.specs.declared.tally.Tally.{Tally};
-ghost use Rattle.ug_worker.specs.Engagements.{Engaged, HasTaken, IsDoneBy, IsFoundBy, IsHandedBy, IsReplied, IsStatedBy, Stands};
+ghost use Rattle.ug_worker.specs.Engagements.{Engaged, HasTaken, IsDoneBy, IsFoundBy};
+ghost use Rattle.ug_worker.specs.Engagements.{IsHandedBy, IsReplied, IsStatedBy, Stands, under};
 ghost use Rattle.ug_worker.specs.Renewals.{counted};
 
 use crate::reply::Reply;
@@ -47,12 +48,21 @@ pub trait Seat {
             → IsReplied (at self.new tally) e.task result }
         ensures home { home self.new ≡ home self.old };
 
-    /// A point that was found.
-    fn solution(&mut self, point: Point)
+    /// A cutoff that is known without a report, between two rounds.
+    fn cutoff(&mut self) -> Option<i128>
+        requires at { (tally : Tally) × (e : Engaged) × at self.old tally (Some e) × (e.made ≡ 0) }
+        ensures small { IsSmallCutoff result }
+        ensures known { (tally : Tally) (e : Engaged) → at self.old tally (Some e) → e.made ≡ 0
+            → at self.new tally (Some (under result e)) }
+        ensures home { home self.new ≡ home self.old };
+
+    /// A point that was found. False where the task is to be dropped.
+    fn solution(&mut self, point: Point) -> bool
         requires at { (tally : Tally) × (e f : Engaged) × at self.old tally (Some e)
             × IsFoundBy e point f }
         ensures found { (tally : Tally) (e f : Engaged) → at self.old tally (Some e)
-            → IsFoundBy e point f → at self.new tally (Some f) }
+            → IsFoundBy e point f
+            → MatchBool result (at self.new tally (Some f)) (at self.new tally None) }
         ensures home { home self.new ≡ home self.old };
 
     /// A box that is handed, or given where the task is renewed.

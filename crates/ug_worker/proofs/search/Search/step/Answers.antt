@@ -22,19 +22,6 @@ solution-requires g c =
       );
     }
 
-pub returns-in-Found-clause-stands : goal.returns-in-Found-clause-stands
-returns-in-Found-clause-stands g c =
-    let s = c.requires.stands in
-    let found : IsFound c.args.self.now.task c.step.new.self c.in-Found.point = search rules in
-    let tally = c.args.self.now.tally in
-    let At = g.S.Seat.at c.args.seat.now tally in
-    let now = found_now At s.now c.step.new.self c.args.made in
-    stands_found (g.S.Seat.at c.solution.new.self tally) c.step.new.self s.now c.args.made c.args.self.now.asked
-    c.requires.room s.due s.racing
-    (c.solution.ensures.found tally s.now now s.at
-    (found_by At c.args.self.now.task c.step.new.self c.args.made c.args.self.now.asked c.in-Found.point
-    c.requires.room found c.is_one.ensures s))
-
 pub returns-in-Pruned-clause-stands : goal.returns-in-Pruned-clause-stands
 returns-in-Pruned-clause-stands g c =
     let pruned : IsPruned c.args.self.now.task c.step.new.self = search rules in
@@ -46,3 +33,26 @@ returns-in-Split-clause-stands g c =
     let split : IsSplit c.args.self.now.task c.step.new.self = search rules in
     made_quiet (g.S.Seat.at c.args.seat.now c.args.self.now.tally) c.args.self.now.task c.step.new.self c.args.made
     c.args.self.now.asked c.requires.room (inr split) c.requires.stands
+
+pub returns-then-solution-clause-stands : goal.returns-then-solution-clause-stands
+returns-then-solution-clause-stands g c =
+    let s = c.requires.stands in
+    let found : IsFound c.args.self.now.task c.step.new.self c.in-Found.point = search rules in
+    let tally = c.args.self.now.tally in
+    let At = g.S.Seat.at c.args.seat.now tally in
+    let now = found_now At s.now c.step.new.self c.args.made in
+    stands_found (g.S.Seat.at c.solution.new.self tally) c.step.new.self s.now c.args.made c.args.self.now.asked
+    c.requires.room s.due s.racing
+    (c.if-solution.ensures.found tally s.now now s.at
+    (found_by At c.args.self.now.task c.step.new.self c.args.made c.args.self.now.asked c.in-Found.point
+    c.requires.room found c.is_one.ensures s))
+
+pub returns-else-solution-clause-err : goal.returns-else-solution-clause-err
+returns-else-solution-clause-err g c =
+    let s = c.requires.stands in
+    let found : IsFound c.args.self.now.task c.step.new.self c.in-Found.point = search rules in
+    let tally = c.args.self.now.tally in
+    let At = g.S.Seat.at c.args.seat.now tally in
+    c.if-solution.ensures.found tally s.now (found_now At s.now c.step.new.self c.args.made) s.at
+    (found_by At c.args.self.now.task c.step.new.self c.args.made c.args.self.now.asked c.in-Found.point
+    c.requires.room found c.is_one.ensures s)
