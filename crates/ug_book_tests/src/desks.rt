@@ -85,10 +85,11 @@ fn with_both(desk: Desk, mut passes: Vec<Pass>) -> Option<Opened>
 fn work<R: Wait>(rt: &R, desk: &Desk, pass: &mut Pass) -> Option<Task>
     requires { pass.old.lock ≡ lock_of_desk desk.now }
     ensures lock { pass.new.lock ≡ pass.old.lock }
+    ensures known { IfSome result (λ task. IsKnownBacked pass.new task.cutoff) }
 {
-    match desk.take(rt, pass).ok()? {
-        Took::Work(task) => Some(task),
-        Took::Wait | Took::Over => None,
+    match desk.take(rt, pass) {
+        Ok(Took::Work(task)) => Some(task),
+        Ok(Took::Wait) | Ok(Took::Over) | Err(_) => None,
     }
 }
 
@@ -246,19 +247,22 @@ fn search(task: &mut Task) -> Result<(), AllocError>
     }
 }
 
-// Whether a task that finds nothing below 5 is done.
-fn ends<R: Wait>(rt: &R, desk: &Desk, pass: &mut Pass, mut task: Task) -> bool
+// Whether a pass takes work, finds no point in it, and it is done, under the cutoff with which it
+// was taken.
+fn takes_and_ends<R: Wait>(rt: &R, desk: &Desk, pass: &mut Pass) -> bool
     requires { pass.old.lock ≡ lock_of_desk desk.now }
     ensures lock { pass.new.lock ≡ pass.old.lock }
 {
-    task.lower(5);
-    match search(&mut task) {
-        Ok(()) => desk.done(rt, pass, task) == Heard::Kept,
-        Err(_) => {
-            drop(task);
-            false
-        }
+    let Some(mut task) = work(rt, desk, pass) else {
+        return false;
+    };
+    let cutoff = task.cutoff();
+    let searched = search(&mut task);
+    if searched.is_err() || task.cutoff() != cutoff {
+        drop(task);
+        return false;
     }
+    desk.done(rt, pass, task) == Heard::Kept
 }
 
 // Whether the answer is the point (0, 5).
@@ -299,7 +303,8 @@ fn closes_with_least(alloc: Global, opened: Opened) -> bool
     }
 }
 
-// Whether the first pass finds the point and then nothing below it, while the second one waits.
+// Whether the first pass finds the point, leaves, and then finds nothing below it, while the second
+// one waits.
 fn root_is_done<R: Wait>(
     rt: &R,
     alloc: Global,
@@ -315,7 +320,8 @@ fn root_is_done<R: Wait>(
     match work(rt, desk, first) {
         Some(task) => {
             let found = waits(rt, desk, second) && finds(rt, alloc, desk, first);
-            ends(rt, desk, first, task) && found
+            desk.give_up(rt, first, task);
+            takes_and_ends(rt, desk, first) && found
         }
         None => false,
     }
@@ -385,13 +391,12 @@ fn gives_all<R: Wait>(rt: &R, desk: &Desk, pass: &mut Pass, mut task: Task) -> b
     requires { pass.old.lock ≡ lock_of_desk desk.now }
     ensures lock { pass.new.lock ≡ pass.old.lock }
 {
-    match give_all(rt, desk, pass, &mut task) {
-        Ok(()) => desk.done(rt, pass, task) == Heard::Kept,
-        Err(_) => {
-            drop(task);
-            false
-        }
+    let given = give_all(rt, desk, pass, &mut task);
+    if given.is_err() || task.cutoff().is_some() {
+        drop(task);
+        return false;
     }
+    desk.done(rt, pass, task) == Heard::Kept
 }
 
 // Whether the root is what is saved of a task of three boxes, and its boxes once they were given,

@@ -1,5 +1,5 @@
 -- A history that is longer by one call.
-use Rattle.std.proofs.Common.{◌≡◌, ◌≢◌, inl, inr, ℕ, ◌+◌, ◌-◌, ◌^◌, ◌<◌, min, List, [], ◌∷◌, ◌++◌, length, refl, sym, ◌∙◌, ap, subst, arith}
+use Rattle.std.proofs.Common.{◌≡◌, ◌≢◌, inl, inr, ℕ, ◌+◌, ◌-◌, ◌^◌, min, List, [], ◌∷◌, ◌++◌, length, refl, sym, ◌∙◌, ap, subst, arith}
 use Rattle.std.proofs.lemmas.List.{length-append, length-set}
 use Rattle.std.specs.Prelude.{ℤ, Result, Ok, Err, IfOk, IfErr, OnErr}
 use Rattle.ug_nodes.specs.declared.name.Ticket.{Ticket}
@@ -75,9 +75,9 @@ entered old new r call l t same sound wide = record {
 
 -- the word that is kept is that of what stands then, where no point was offered
 pub word_after : (word r : ℕ) (call : Call) (old new : DeskState) → word ≡ word_of old.book
-    → OffersNone call → IsSameRun old.book new.book → Step r call old new → word ≡ word_of new.book
-word_after word r call old new is none same s =
-    is ∙ sym (word_stays old.book new.book same (step_stays r call old new none s))
+    → OffersNone call → Step r call old new → word ≡ word_of new.book
+word_after word r call old new is none s =
+    is ∙ sym (word_stays old.book new.book (step_stays r call old new none s))
 
 -- where the book alone changed
 pub entered_by : (l : LockedState) (b : BookState) (count r : ℕ) (call : Call) → IsLocked l
@@ -103,7 +103,7 @@ pub entered_none : (l : LockedState) (b : BookState) (count r word : ℕ) (call 
     }) × (word ≡ word_of b)
 entered_none l b count r word call is step same sound counted none = (
   entered_by l b count r call is.0 step same sound counted,
-  word_after word r call l.now _ is.1 none same step,
+  word_after word r call l.now _ is.1 none step,
 )
 
 -- a point was offered: the word that is kept is that of the cutoff behind it
@@ -121,7 +121,7 @@ entered_point l b count r word was x answer is step same sound counted kept othe
   entered_by l b count r (offered x answer) is.0 (record { book = step; tickets = refl }) same sound counted,
   elim (kept_or_not answer) [
     | inl one ↦ kept one
-    | inr two ↦ other two ∙ (is.1 ∙ sym (word_stays l.now.book b same
+    | inr two ↦ other two ∙ (is.1 ∙ sym (word_stays l.now.book b
         (unkept r (own_ticket l.now r) x answer l.now.book b two step)))
   ],
 )

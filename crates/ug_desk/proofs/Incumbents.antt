@@ -1,10 +1,11 @@
 -- The incumbent: no call of a desk changes it but a point that is kept, which is better.
-use Rattle.std.proofs.Common.{◌≡◌, ◌≢◌, ◌⊎◌, inl, inr, ℕ, zero, suc, ℤ, Bool, true, false, List, [], ◌∷◌, Option, Some, None, Result, Ok, Err, refl, sym, ap, ◌∙◌, subst}
+use Rattle.std.proofs.Common.{◌≡◌, ◌≢◌, ◌⊎◌, inl, inr, ℕ, zero, suc, ℤ, Bool, true, false, List, [], ◌∷◌, Option, Some, None, Ok, Err, refl, sym, ap, ◌∙◌, subst}
 use Rattle.std.specs.Prelude.{if◌then◌else◌, MatchBool}
 use Rattle.ug_rows.specs.declared.area.Interval.{Interval}
 use Rattle.std.proofs.lemmas.Bool.{false≢true}
 use Rattle.std.proofs.lemmas.Option.{none-some, same_Some}
-use Rattle.ug_problem.specs.Offers.{IsBetter}
+use Rattle.ug_problem.specs.Instances.{Instance}
+use Rattle.ug_problem.specs.Offers.{IsBetter, IsNotBetter}
 use Rattle.ug_nodes.specs.declared.name.Ticket.{Ticket}
 use Rattle.ug_nodes.specs.declared.change.Change.{Change}
 use Rattle.ug_nodes.specs.Names.{IsTicketBefore}
@@ -20,13 +21,12 @@ use Rattle.ug_rules.specs.declared.heard.Heard.{Heard}
 use Rattle.ug_rules.specs.declared.heard.Heard.TheVariants.{Kept, Stale, Early, Broken, NotBetter, InRace, Again, Gap, Outside, Unbacked, Short, Memory}
 use Rattle.ug_rules.specs.declared.demand.Wanted.{Wanted}
 use Rattle.ug_rules.specs.declared.demand.Wanted.TheVariants.{Ask, Enough, Nothing}
+use Rattle.ug_rules.specs.declared.settings.Settings.{Settings}
 use Rattle.ug_rules.specs.State.{BookState, cutoff_of_best}
 use Rattle.ug_rules.specs.Ranks.{ranks_that}
 use Rattle.ug_rules.specs.Deaths.{killed, killed_at, lost_by, with_dead}
 use Rattle.ug_rules.specs.Hearing.{IsCurrentDue, IsDueUnder, after_hearing, counted_under, done_at, handed_at, is_deadly, kept, killed_under, taken_up}
 use Rattle.ug_rules.specs.Deciding.{IsDecided, IsRaceEnded, Stands, announced_as, assigned, assigned_by, assigned_times, collected, dropped, given, is_race_due, race_begun, race_begun_with, raced_by, raced_by_all, same_cutoff, stopped_collecting}
-use Rattle.ug_worker.specs.declared.took.Took.{Took}
-use Rattle.ug_worker.specs.declared.took.Untaken.{Untaken}
 use Rattle.ug_worker.specs.declared.took.Untaken.TheVariants.{Deciding, Making}
 use Rattle.ug_desk.specs.Decided.{HasDecided, HasStood}
 use Rattle.ug_desk.specs.DeskStates.{DeskState, own_ticket}
@@ -34,9 +34,18 @@ use Rattle.ug_desk.specs.Reports.{HasHanded, HasNoted, HasOffered}
 use Rattle.ug_desk.specs.Takes.{with_joined}
 use Rattle.ug_desk.specs.Histories.{Call, Step, taken, offered, handed, stated, ended, left, copied}
 
--- the incumbent is the same
+-- what is to be beaten: the problem, the settings and the incumbent
+pub record Aim : Type 0 where
+  pub problem : Instance
+  pub settings : Settings
+  pub best : Option (List ℤ)
+
+abbrev pub aim_of : BookState → Aim
+aim_of b = record { problem = b.problem; settings = b.settings; best = b.best }
+
+-- it is the same
 abbrev pub Stays : BookState → BookState → Type 0
-Stays old new = new.best ≡ old.best
+Stays old new = aim_of new ≡ aim_of old
 
 then_stays : (old mid new : BookState) → Stays old mid → Stays mid new → Stays old new
 then_stays old mid new one two = two ∙ one
@@ -160,12 +169,12 @@ taken_stays true answer r report b is off =
     subst (λ (a : Heard). Stays b (taken_up a r report b)) (sym (is_kept_so answer is))
     (kept_stays r report b off)
 taken_stays false answer r report b is off =
-    ap (λ (k : BookState). k.best) (not_taken answer r report b is)
+    ap aim_of (not_taken answer r report b is)
 
 heard_stays : (answer : Heard) (r : ℕ) (report : Report) (b new : BookState) → IsNoPoint report
     → new ≡ after_hearing answer r report b → Stays b new
 heard_stays answer r report b new off is =
-    ap (λ (k : BookState). k.best) is
+    ap aim_of is
     ∙ then_stays b (taken_up answer r report b) (after_hearing answer r report b)
     (taken_stays (is_kept answer) answer r report b refl off)
     (under_stays answer r (taken_up answer r report b))
@@ -174,9 +183,9 @@ heard_stays answer r report b new off is =
 unkept_stays : (answer : Heard) (r : ℕ) (report : Report) (b new : BookState) → is_kept answer ≡ false
     → new ≡ after_hearing answer r report b → Stays b new
 unkept_stays answer r report b new off is =
-    ap (λ (k : BookState). k.best) is
+    ap aim_of is
     ∙ then_stays b (taken_up answer r report b) (after_hearing answer r report b)
-    (ap (λ (k : BookState). k.best) (not_taken answer r report b off))
+    (ap aim_of (not_taken answer r report b off))
     (under_stays answer r (taken_up answer r report b))
 
 -- ---- a decision
@@ -193,8 +202,8 @@ dropped_stays : (b : BookState) → Stays b (announced_as (cutoff_of_best (dropp
 dropped_stays b = announced_stays (cutoff_of_best (dropped b)) (dropped b)
 
 race_stays : (old new : BookState) → IsRaceEnded old new → Stays old new
-race_stays old new (inl won) = ap (λ (k : BookState). k.best) won.1.done
-race_stays old new (inr none) = ap (λ (k : BookState). k.best) none.same
+race_stays old new (inl won) = ap aim_of won.1.done
+race_stays old new (inr none) = ap aim_of none.same
 
 raced_stays : (rs : List ℕ) (entry : pool.Entry) (b : BookState) → Stays b (raced_by_all rs entry b)
 raced_stays [] entry b = refl
@@ -244,25 +253,25 @@ readied_stays old ready won =
 
 decided_stays : (old new : BookState) → IsDecided old new → Stays old new
 decided_stays old new d =
-    ap (λ (k : BookState). k.best) d.collected_.done
+    ap aim_of d.collected_.done
     ∙ (collected_stays d.collected_.demand _
     ∙ (given_stays _ d.ready ∙ readied_stays old d.ready d.readied))
 
 stands_stays : (steps : ℕ) (old new : BookState) → Stands steps old new → Stays old new
-stands_stays zero old new is = ap (λ (k : BookState). k.best) is
-stands_stays (suc zero) old new is = ap (λ (k : BookState). k.best) is
-stands_stays (suc (suc zero)) old new is = ap (λ (k : BookState). k.best) is ∙ dropped_stays old
+stands_stays zero old new is = ap aim_of is
+stands_stays (suc zero) old new is = ap aim_of is
+stands_stays (suc (suc zero)) old new is = ap aim_of is ∙ dropped_stays old
 stands_stays (suc (suc (suc steps))) old new s =
-    ap (λ (k : BookState). k.best) s.given_
+    ap aim_of s.given_
     ∙ (given_stays steps s.ready ∙ readied_stays old s.ready s.readied)
 
 has_decided_stays : (old new : BookState) → HasDecided old new → Stays old new
 has_decided_stays old new d =
-    ap (λ (k : BookState). k.best) d.dropped ∙ decided_stays old d.decided d.made
+    ap aim_of d.dropped ∙ decided_stays old d.decided d.made
 
 has_stood_stays : (steps : ℕ) (old new : BookState) → HasStood steps old new → Stays old new
 has_stood_stays steps old new s =
-    ap (λ (k : BookState). k.best) s.dropped ∙ stands_stays steps old s.decided s.stands
+    ap aim_of s.dropped ∙ stands_stays steps old s.decided s.stands
 
 -- ---- a call
 
@@ -274,13 +283,13 @@ OffersNone call = Unit {0}
 moved_stays : (races : Bool) (old new : BookState)
     → MatchBool races (HasDecided old new) (new ≡ old) → Stays old new
 moved_stays true old new moved = has_decided_stays old new moved
-moved_stays false old new moved = ap (λ (k : BookState). k.best) moved
+moved_stays false old new moved = ap aim_of moved
 
 box_stays : (r : ℕ) (ticket : Ticket) (number : ℕ) (area : List Interval) (answer : Heard)
     (old new : BookState) → HasHanded r ticket number area answer old new → Stays old new
 box_stays r ticket number area answer old new (inl h) =
     heard_stays answer r (Hand ticket number h.changes) old new tt h.heard.done
-box_stays r ticket number area answer old new (inr m) = ap (λ (k : BookState). k.best) m.same
+box_stays r ticket number area answer old new (inr m) = ap aim_of m.same
 
 noted_stays : (r : ℕ) (ticket : Ticket) (count : ℕ) (floor : ℤ) (old new : BookState)
     → HasNoted r ticket count floor old new → Stays old new
@@ -308,8 +317,8 @@ step_stays r (stated count floor (Err end)) old new off s =
     (has_stood_stays end.stood s.book.noted new.book s.book.halted.stands)
 step_stays r (ended task answer) old new off s =
     heard_stays answer r _ old.book new.book tt s.book.done
-step_stays r left old new off s = ap (λ (k : BookState). k.best) s.book ∙ killed_stays r old.book
-step_stays r copied old new off s = ap (λ (d : DeskState). d.book.best) s
+step_stays r left old new off s = ap aim_of s.book ∙ killed_stays r old.book
+step_stays r copied old new off s = ap (λ (d : DeskState). aim_of d.book) s
 
 -- ---- a point
 
@@ -342,17 +351,38 @@ point_due b (Racing racer) ticket x due = due
 point_due b (Active work) ticket x due = due
 point_due b (Dead how) ticket x due = absurd due
 
+not_better_not_stale : (was given_ : ℤ) → NotBetter was given_ ≡ Stale → ⊥
+not_better_not_stale was given_ e = cc
+
+not_better_at : (b : BookState) (s : State) (ticket : Ticket) (x : List ℤ) (was given_ : ℤ)
+    → IsCurrentDue b s (Solution ticket x) (NotBetter was given_)
+    → IsNotBetter b.problem b.best x was given_
+not_better_at b Absent ticket x was given_ due = absurd due
+not_better_at b Idle ticket x was given_ due = absurd due
+not_better_at b (Racing racer) ticket x was given_ due = due
+not_better_at b (Active work) ticket x was given_ due = due
+not_better_at b (Dead how) ticket x was given_ due = absurd due
+
+-- a point that is not better was judged under the rank's ticket
+pub not_better_due : (b : BookState) (s : State) (ticket : Ticket) (x : List ℤ) (was given_ : ℤ)
+    → IsDueUnder b s ticket (Solution ticket x) (NotBetter was given_)
+    → IsNotBetter b.problem b.best x was given_
+not_better_due b s ticket x was given_ due = elim (this_or_not (ticket_at s) ticket) [
+  | inl e ↦ not_better_at b s ticket x was given_ (due.current e)
+  | inr ne ↦ absurd (not_better_not_stale was given_ (due.other ne))
+]
+
 -- the incumbent is the point, which is better than the one before
 pub record IsImproved (x : List ℤ) (old new : BookState) : Type 0 where
   pub better : IsBetter old.problem old.best x
-  pub its : new.best ≡ Some x
+  pub its : aim_of new ≡ record (aim_of old) { best = Some x }
 
-kept_improves : (r : ℕ) (ticket : Ticket) (x : List ℤ) (old new : BookState)
+pub kept_improves : (r : ℕ) (ticket : Ticket) (x : List ℤ) (old new : BookState)
     → HasOffered r ticket x Kept old new → IsImproved x old new
 kept_improves r ticket x old new h = record {
   better = point_due old (state_at old.ranks r) ticket x
       (kept_due old (state_at old.ranks r) ticket (Solution ticket x) h.due);
-  its = ap (λ (k : BookState). k.best) h.done;
+  its = ap aim_of h.done;
 }
 
 offered_as : (kept_ : Bool) (r : ℕ) (ticket : Ticket) (x : List ℤ) (answer : Heard) (old new : BookState)

@@ -8,6 +8,7 @@ pub mod Saving
 pub mod Begun
 mod Incumbents
 mod Falling
+pub mod Backing
 mod Turns
 pub mod Seating
 pub mod Crossing

@@ -1,5 +1,5 @@
 -- A call in a turn of the desk's lock.
-use Rattle.std.proofs.Common.{◌≡◌, ◌≢◌, inl, inr, Bool, true, false, ℕ, ◌+◌, ◌<◌, ◌≤◌, List, [], ◌∷◌, ◌++◌, append-nil, length, Option, Some, None, IfSome, refl, sym, ap, ◌∙◌, subst, arith}
+use Rattle.std.proofs.Common.{◌≡◌, ◌≢◌, inl, inr, Bool, true, false, ℕ, ◌<◌, ◌≤◌, ◌++◌, append-nil, length, Option, Some, None, IfSome, refl, sym, ap, ◌∙◌, subst, arith}
 use Rattle.std.specs.Prelude.{MatchBool}
 use Rattle.std.proofs.lemmas.Bool.{false≢true}
 use Rattle.std.proofs.lemmas.List.{length-replicate}
@@ -15,7 +15,6 @@ use Rattle.ug_snapshot.specs.Snapshots.{SnapshotState}
 use Rattle.ug_desk.specs.DeskStates.{DeskState}
 use Rattle.ug_book.specs.declared.opening.Opening.{Opening}
 use Rattle.ug_book.specs.Openings.{opening_book}
-use Rattle.ug_book.specs.Views.{IsSameRun}
 use Rattle.ug_turn.specs.Histories.{told}
 use Rattle.ug_turn.proofs.Calling.{called}
 use Rattle.ug_desk.specs.declared.shelf.Shelf.{Shelf}
@@ -26,19 +25,6 @@ use Rattle.ug_desk.specs.Shelves.{HasPut, HasTakenOut, Leads, MayPut, ViewState,
 use Rattle.ug_desk.specs.Words.{word_of}
 use Rattle.ug_desk.proofs.Entering.{replayed_more}
 use Rattle.ug_desk.proofs.Falling.{step_falls}
-
--- what two moments of one desk have in common
-same_between : (old new : LockedState) → IsLocked old → IsLocked new → new.opening ≡ old.opening
-    → IsSameRun old.now.book new.now.book
-same_between old new before after same =
-    let first : IsSameRun (opening_book old.opening) new.now.book =
-    subst (λ (o : Opening). IsSameRun (opening_book o) new.now.book) same after.same in
-    record {
-      problem = first.problem ∙ sym before.same.problem;
-      run = first.run ∙ sym before.same.run;
-      settings = first.settings ∙ sym before.same.settings;
-      wide = first.wide ∙ sym before.same.wide;
-    }
 
 -- the rank of a pass is one of its book's
 pub rank_here : (rank : ℕ) (view : ViewState) (shelf : Shelf) → view.opening ≡ Some (opening_of shelf)
@@ -68,10 +54,9 @@ own_entry r pass call e is same =
 
 -- what was called may go home, with its entry
 pub may_put : (r : ℕ) (call : Call) (entry : Option Entry) (old mid : ViewState) (before after : Shelf)
-    (was seen : LockedState) → entry ≡ Some (record { pass = r; call = call }) → HasTakenOut old before mid → old.pass ≡ r
-    → was ≡ on before → IsLocked (on before) → seen ≡ on after → IsLocked seen
-    → HasEntered r call was (on after) → MayPut mid after entry
-may_put r call entry old mid before after was seen is t own lent locked agrees now called_ =
+    (was : LockedState) → entry ≡ Some (record { pass = r; call = call }) → HasTakenOut old before mid
+    → old.pass ≡ r → was ≡ on before → HasEntered r call was (on after) → MayPut mid after entry
+may_put r call entry old mid before after was is t own lent called_ =
     let entered : HasEntered r call (on before) (on after) =
     subst (λ (l : LockedState). HasEntered r call l (on after)) lent called_ in
     subst (λ (e : Option Entry). MayPut mid after e) (sym is) (record {
@@ -79,8 +64,7 @@ may_put r call entry old mid before after was seen is t own lent locked agrees n
       replayed = replayed_more (on before) (on after) mid.seen r call t.replayed entered;
       own = λ e same. own_entry r mid.pass call e (pass_mid old mid before t ∙ own) same;
       lower = subst (λ (n : ℕ). word_on after ≤ n) (sym (level_mid old mid before t))
-          (step_falls r call (on before).now (on after).now
-          (same_between (on before) (on after) locked (subst IsLocked agrees now) entered.opening) entered.step);
+          (step_falls r call (on before).now (on after).now entered.step);
     })
 
 at_most_itself : (n : ℕ) → n ≤ n
@@ -109,6 +93,9 @@ may_put_none entry old mid before after is same t =
       lower = subst (λ (l : LockedState). word_of l.now.book ≤ mid.level) (sym same) m.lower;
     }
 
+no_higher : {n w m b k : ℕ} → n ≡ w → w ≤ m → m ≡ b → b ≤ k → n ≤ k
+no_higher e f g h = omega (arith, e, f, g, h)
+
 -- what the call did for its pass
 pub has_called : (call : Option Call) (entry : Option Entry) (r : ℕ) (lock old_lock : TableId) (p : PassState)
     (old mid new : ViewState) (before after : Shelf) → entry ≡ entry_by r call
@@ -126,20 +113,20 @@ has_called call entry r lock old_lock p old mid new before after is t may put ow
       mine = subst (λ (e : Option Entry). new.mine ≡ old.mine ++ told e) is h.mine;
       own = subst (λ (k : ℕ). calls_of k new.seen ≡ new.mine) (h.pass ∙ own) h.own;
       known = ap (λ (v : ViewState). v.known) put.view;
+      lower = no_higher (ap (λ (v : ViewState). v.known) put.view) may.lower (level_mid old mid before t) t.lower;
       same = (lock_same, refl, h.opening);
     })
 
 -- a call and its entry, from the value taken out to the value home again
 pub called_home : (call : Call) (entry : Option Entry) (r : ℕ) (lock old_lock : TableId) (p : PassState)
-    (old mid new : ViewState) (before after : Shelf) (was seen : LockedState)
+    (old mid new : ViewState) (before after : Shelf) (was : LockedState)
     → entry ≡ Some (record { pass = r; call = call }) → HasTakenOut old before mid → old.pass ≡ r
-    → was ≡ on before → IsLocked (on before) → seen ≡ on after → IsLocked seen
-    → HasEntered r call was (on after)
+    → was ≡ on before → HasEntered r call was (on after)
     → HasPut mid after entry new → pass_seen old_lock r old ≡ p → lock ≡ p.lock
     → HasCalledAt (Some call) (on after) p (pass_seen lock r new)
-called_home call entry r lock old_lock p old mid new before after was seen is t own lent locked agrees now entered put shows its =
+called_home call entry r lock old_lock p old mid new before after was is t own lent entered put shows its =
     has_called (Some call) entry r lock old_lock p old mid new before after is t
-    (may_put r call entry old mid before after was seen is t own lent locked agrees now entered) put own shows its
+    (may_put r call entry old mid before after was is t own lent entered) put own shows its
 
 pub none_home : (entry : Option Entry) (r : ℕ) (lock old_lock : TableId) (p : PassState)
     (old mid new : ViewState) (before after : Shelf) → entry ≡ None → HasTakenOut old before mid

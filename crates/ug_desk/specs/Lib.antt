@@ -11,3 +11,4 @@ pub mod Views
 pub mod DeskStates
 pub mod Words
 pub mod Shelves
+pub mod Backing

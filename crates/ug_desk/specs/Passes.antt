@@ -20,7 +20,7 @@ use Rattle.ug_desk.specs.Dones.{IsOfTicket}
 use Rattle.ug_desk.specs.Histories.{Call, Entry, copied, ended, handed, left}
 use Rattle.ug_desk.specs.Entries.{IsReplayed, IsSnapshotOf, LockedState}
 use Rattle.ug_desk.specs.Shelves.{SeatState, ViewState}
-use Rattle.ug_desk.specs.Words.{cutoff_at, floor_of, word_of}
+use Rattle.ug_desk.specs.Words.{cutoff_at, floor_of, no_word, word_of}
 
 -- at which lock it sits, and for which rank it speaks; what the history began with, the beginning of
 -- it that the pass has seen, the pass's own calls, and the least cutoff that it knows, as a word
@@ -107,6 +107,7 @@ pub record HasCalledAt (call : Option Call) (after : LockedState) (old new : Pas
   pub mine : new.mine ≡ old.mine ++ told (entry_by old.rank call)
   pub own : calls_of new.rank new.seen ≡ new.mine
   pub known : new.known ≡ word_of after.now.book
+  pub lower : new.known ≤ old.known
   pub same : (new.lock ≡ old.lock) × (new.rank ≡ old.rank) × (new.opening ≡ old.opening)
 
 abbrev pub HasCalled : Option Call → PassState → PassState → Type 0
@@ -152,6 +153,7 @@ pub record HasCopied (s : SnapshotState) (old new : PassState) : Type 0 where
 -- the cutoff was read: it is what the pass then knows, and no higher than what it knew
 pub record HasLooked (cutoff : Option ℤ) (old new : PassState) : Type 0 where
   pub falls : new.known ≤ old.known
+  pub small : new.known ≤ no_word
   pub its : IfSome old.opening (λ o. cutoff ≡ cutoff_at (floor_of o.problem) new.known)
   pub same : new ≡ record old { known = new.known }
 

@@ -1,5 +1,5 @@
 -- What stands for its history behind the lock of a desk, and what a pass's seat has of it.
-use Rattle.std.specs.Prelude.{◌≡◌, ℕ, ◌<◌, List, [], length, Option, Some, IfSome, slice_get}
+use Rattle.std.specs.Prelude.{◌≡◌, ℕ, ◌<◌, List, [], length, Option, Some, slice_get}
 use Rattle.atomic_table.specs.Seated.{TableId}
 use Rattle.ug_book.specs.declared.opening.Opening.{Opening}
 use Rattle.ug_turn.specs.declared.seat.Seat.{Seat}
@@ -9,7 +9,7 @@ use Rattle.ug_turn.specs.Steps as steps
 use Rattle.ug_desk.specs.declared.shelf.Shelf.{Shelf}
 use Rattle.ug_desk.specs.Histories.{Entry}
 use Rattle.ug_desk.specs.Entries.{IsLocked, IsReplayed, LockedState}
-use Rattle.ug_desk.specs.Words.{floor_of, word_of}
+use Rattle.ug_desk.specs.Words.{word_of}
 
 -- what lies on it
 abbrev pub on : Shelf → LockedState

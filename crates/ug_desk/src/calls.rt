@@ -4,6 +4,8 @@ ghost use Rattle.ug_turn.specs.Seats.{IsAtRestAt, view_of};
 ghost use Rattle.ug_desk.specs.Histories.{offered, stated, taken};
 ghost use Rattle.ug_desk.specs.Passes.{HasCalled, HasCopied, HasEndedIn, HasHandedIn, HasLeft};
 ghost use Rattle.ug_desk.specs.Passes.{HasLooked, HasMet, lock_of_desk};
+ghost use Rattle.ug_problem.specs.Better.{IsSmallCutoff};
+ghost use Rattle.ug_desk.specs.Backing.{IsKnownBacked, IsUnbackedAnswer};
 ghost use Rattle.ug_desk.specs.Shelves.{HasTakenOut, IsOutFor};
 
 use crate::desk::Desk;
@@ -82,7 +84,8 @@ impl Desk {
     ) -> Result<Reply, Unfinished>
         requires lock { pass.old.lock ≡ lock_of_desk self.now }
         requires some { 0 < left }
-        ensures { HasCalled (Some (stated left floor result)) pass.old pass.new }
+        ensures called { HasCalled (Some (stated left floor result)) pass.old pass.new }
+        ensures small { IfOk result (λ reply. IsSmallCutoff reply.cutoff) }
     {
         let mut shelf = self.out(rt, &mut pass.seat, pass.rank);
         let reply = shelf.locked.state(pass.rank, left, floor);
@@ -93,11 +96,15 @@ impl Desk {
         reply
     }
 
-    /// A task of which no box is left. It takes no memory.
+    /// A task of which no box is left, under a cutoff that the pass knows to be backed: one that it
+    /// was answered or has read, or that of a point of its own which was kept, or not better. So it
+    /// is never Unbacked. It takes no memory.
     pub fn done<R: Wait>(&self, rt: &R, pass: &mut Pass, task: Task) -> Heard
         requires lock { pass.old.lock ≡ lock_of_desk self.now }
         requires none { task.boxes ≡ [] }
-        ensures { HasEndedIn task result pass.old pass.new }
+        requires known { IsKnownBacked pass.old task.cutoff }
+        ensures ended { HasEndedIn task result pass.old pass.new }
+        ensures backed { ¬ IsUnbackedAnswer result }
     {
         let mut shelf = self.out(rt, &mut pass.seat, pass.rank);
         let heard = shelf.locked.done(pass.rank, &task);
@@ -178,7 +185,8 @@ impl Desk {
     /// turn, and at most the least that the pass knew. It takes no memory.
     pub fn cutoff(&self, pass: &mut Pass) -> Option<i128>
         requires { pass.old.lock ≡ lock_of_desk self.now }
-        ensures { HasLooked result pass.old pass.new }
+        ensures looked { HasLooked result pass.old pass.new }
+        ensures backed { IsKnownBacked pass.new result }
     {
         let word = self.turn.cutoff(&mut pass.seat);
         cutoff_at(pass.floor, word)

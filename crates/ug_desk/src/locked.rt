@@ -1,4 +1,5 @@
 ghost use Rattle.std.specs.Prelude.{◌≡◌, ◌↔◌, ◌<◌, ◌≤◌, [], length, IfOk, IsTrue, MatchBool, OnErr, OnOk};
+ghost use Rattle.ug_problem.specs.Better.{IsSmallCutoff};
 ghost use Rattle.ug_book.specs.Openings.{IsOpening};
 ghost use Rattle.ug_ranks.specs.Looks.{is_alive};
 ghost use Rattle.ug_ranks.specs.States.{state_at};
@@ -174,7 +175,8 @@ impl Locked {
     pub fn state(&mut self, rank: u32, left: u64, floor: i128) -> Result<Reply, Unfinished>
         requires here { rank < length self.old.now.book.ranks }
         requires some { 0 < left }
-        ensures { HasEntered rank (stated left floor result) self.old self.new }
+        ensures entered { HasEntered rank (stated left floor result) self.old self.new }
+        ensures small { IfOk result (λ reply. IsSmallCutoff reply.cutoff) }
     {
         let ticket = self.ticket(rank);
         let reply = state(&mut self.book, rank, ticket, left, floor);

@@ -1,4 +1,5 @@
 ghost use Rattle.std.specs.Prelude.{◌≡◌, ◌↔◌, ◌<◌, length, IfErr, IfOk, IsTrue, MatchBool, OnOk, Some};
+ghost use Rattle.ug_problem.specs.Better.{IsSmallCutoff};
 ghost use Rattle.ug_ranks.specs.States.{state_at};
 ghost use Rattle.ug_rules.specs.Books.{IsSoundBook};
 ghost use Rattle.ug_ranks.specs.Looks.{is_racing, ticket_at};
@@ -24,6 +25,7 @@ pub fn state(
     requires there { rank < length book.old.ranks }
     requires some { 0 < left }
     ensures ok { IfOk result (λ reply. HasStated rank ticket left floor reply book.old book.new) }
+    ensures small { IfOk result (λ reply. IsSmallCutoff reply.cutoff) }
     ensures err { IfErr result (λ e. HasNotStated rank ticket left floor e.stood
         book.old book.new) }
     ensures same { IsSameRun book.old book.new }
@@ -83,7 +85,8 @@ fn is_racing(book: &Book, rank: u32) -> bool
 // What a rank is told that works under a ticket.
 fn reply(book: &Book, rank: u32, ticket: Ticket) -> Reply
     requires { rank < length book.now.ranks }
-    ensures { IsReply book.now rank ticket result }
+    ensures replied { IsReply book.now rank ticket result }
+    ensures small { IsSmallCutoff result.cutoff }
 {
     Reply {
         cutoff: cutoff_of_best(book),

@@ -1,8 +1,7 @@
-use Rattle.std.proofs.Common.{◌≡◌, ◌++◌, [], ◌∷◌, List, length, ap, sym, ◌∙◌, subst, arith}
+use Rattle.std.proofs.Common.{◌++◌, [], ◌∷◌, List, length, ap, sym, ◌∙◌, subst, arith}
 use Rattle.std.proofs.lemmas.List.{append_assoc}
 use Rattle.std.specs.Vec.Iter.{into_iter_items}
 use Rattle.ug_desk.specs.Passes.{AreSeatsOf, PassState}
-use Rattle.ug_desk.specs.Shelves.{SeatState}
 use Rattle.ug_desk.proofs.Seating.{seats_more}
 use Rattle.ug_desk.proofs.passes.seats.Goals as goal
 

@@ -1,4 +1,3 @@
-use Rattle.std.proofs.Common.{◌≡◌, sym, ◌∙◌}
 use Rattle.ug_desk.specs.Passes.{lock_of_desk}
 use Rattle.ug_desk.proofs.Seating.{closed_so, seats_rest}
 use Rattle.ug_desk.proofs.desk.Desk.close.Goals as goal

@@ -1,32 +1,35 @@
-use Rattle.std.proofs.Common.{◌≡◌, ◌≢◌, inl, inr, subst, Some, refl, sym, ap, ◌∙◌, rules}
+use Rattle.std.proofs.Common.{◌≡◌, inl, inr, subst, Some, refl, sym, ap, ◌∙◌, rules}
 use Rattle.ug_rules.specs.declared.heard.Heard.TheVariants.{Stale}
 use Rattle.ug_desk.specs.Dones.{IsOfTicket}
 use Rattle.ug_desk.specs.Entries.{LockedState}
 use Rattle.ug_desk.specs.Passes.{PassState}
 use Rattle.std.specs.Box.{with_value}
 use Rattle.ug_desk.specs.Histories.{Entry, ended}
+use Rattle.ug_turn.specs.Seats.{lock_of}
+use Rattle.ug_desk.specs.Backing.{Backs, IsKnownBacked}
+use Rattle.ug_desk.proofs.Backing.{done_backed, known_out, stale_backed}
 use Rattle.ug_desk.proofs.Turns.{called_home, may_put}
 use Rattle.ug_desk.proofs.Turns.{entered_of, none_home, other_of}
 use Rattle.ug_desk.proofs.desk.Desk.done.Goals as goal
 
 pub put-requires-2-clause-may : goal.put-requires-2-clause-may
 put-requires-2-clause-may g c =
-    may_put c.pass.inside.rank (ended c.args.task c.done-heard.result) _ _ _ c.out-shelf.result (record { locked = with_value c.out-shelf.result.locked c.done-heard.new.self }) _ _
+    may_put c.pass.inside.rank (ended c.args.task c.done-heard.result) _ _ _ c.out-shelf.result (record { locked = with_value c.out-shelf.result.locked c.done-heard.new.self }) _
     (ap (λ (e : Entry). Some e) c.ended-entry.ensures) c.out-shelf.ensures.taken c.pass.invariant.own c.deref_mut.ensures.value
-    c.out-shelf.ensures.out.locked c.deref.ensures c.book.ensures.locked (entered_of c.pass.inside.rank c.args.task c.done-heard.result _ _ (search rules) c.done-heard.ensures)
+    (entered_of c.pass.inside.rank c.args.task c.done-heard.result _ _ (search rules) c.done-heard.ensures)
 
-pub returns : goal.returns
-returns g c = inl (
+pub returns-clause-ended : goal.returns-clause-ended
+returns-clause-ended g c = inl (
   c.done-heard.new.self,
-  called_home (ended c.args.task c.done-heard.result) _ c.pass.inside.rank _ _ _ _ _ _ c.out-shelf.result (record { locked = with_value c.out-shelf.result.locked c.done-heard.new.self }) _ _
+  called_home (ended c.args.task c.done-heard.result) _ c.pass.inside.rank _ _ _ _ _ _ c.out-shelf.result (record { locked = with_value c.out-shelf.result.locked c.done-heard.new.self }) _
       (ap (λ (e : Entry). Some e) c.ended-entry.ensures) c.out-shelf.ensures.taken c.pass.invariant.own c.deref_mut.ensures.value
-      c.out-shelf.ensures.out.locked c.deref.ensures c.book.ensures.locked (entered_of c.pass.inside.rank c.args.task c.done-heard.result _ _ (search rules) c.done-heard.ensures)
+      (entered_of c.pass.inside.rank c.args.task c.done-heard.result _ _ (search rules) c.done-heard.ensures)
       c.put-2.ensures.put c.pass.view_is
       (c.put-2.ensures.lock ∙ (c.out-shelf.ensures.out.lock_is ∙ sym c.requires.lock)),
 )
 
-pub returns-then-eq : goal.returns-then-eq
-returns-then-eq g c =
+pub returns-then-eq-clause-ended : goal.returns-then-eq-clause-ended
+returns-then-eq-clause-ended g c =
     let stale : c.done-heard.result ≡ Stale = search rules in
     let o = other_of c.pass.inside.rank c.args.task c.done-heard.result _ _ stale c.done-heard.ensures in
     inr (record {
@@ -40,3 +43,14 @@ returns-then-eq g c =
           (ap (λ (p : PassState). p.rank) c.pass.view_is) o.other);
       stale = stale;
     })
+
+pub returns-clause-backed : goal.returns-clause-backed
+returns-clause-backed g c =
+    done_backed c.pass.inside.rank c.args.task c.done-heard.result _ _ c.done-heard.ensures
+    (subst (λ (l : LockedState). Backs l.now.book c.args.task.cutoff) (sym c.deref_mut.ensures.value)
+    (known_out (lock_of c.pass.inside.seat) c.pass.inside.rank _ _ c.out-shelf.result c.args.task.cutoff c.out-shelf.ensures.taken
+    (subst (λ (p : PassState). IsKnownBacked p c.args.task.cutoff) (sym c.pass.view_is) c.requires.known)))
+
+pub returns-then-eq-clause-backed : goal.returns-then-eq-clause-backed
+returns-then-eq-clause-backed g c = λ unbacked.
+    stale_backed c.done-heard.result (search rules) unbacked

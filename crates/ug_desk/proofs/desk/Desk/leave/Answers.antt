@@ -1,4 +1,4 @@
-use Rattle.std.proofs.Common.{◌≡◌, inl, inr, true, false, subst, Some, refl, sym, ap, ◌∙◌, rules}
+use Rattle.std.proofs.Common.{◌≡◌, inl, inr, false, subst, Some, refl, sym, ap, ◌∙◌, rules}
 use Rattle.ug_ranks.specs.Looks.{is_alive}
 use Rattle.ug_ranks.specs.States.{state_at}
 use Rattle.ug_desk.specs.Entries.{HasEntered, LockedState}
@@ -11,16 +11,16 @@ use Rattle.ug_desk.proofs.desk.Desk.leave.Goals as goal
 
 pub put-requires-2-clause-may : goal.put-requires-2-clause-may
 put-requires-2-clause-may g c =
-    may_put c.pass.inside.rank left _ _ _ c.out-shelf.result (record { locked = with_value c.out-shelf.result.locked c.leave.new.self }) _ _
+    may_put c.pass.inside.rank left _ _ _ c.out-shelf.result (record { locked = with_value c.out-shelf.result.locked c.leave.new.self }) _
     (ap (λ (e : Entry). Some e) c.left-entry.ensures) c.out-shelf.ensures.taken c.pass.invariant.own c.deref_mut.ensures.value
-    c.out-shelf.ensures.out.locked c.deref.ensures c.book.ensures.locked (if_alive (is_alive (state_at c.deref_mut.result.now.now.book.ranks c.pass.inside.rank)) (HasEntered c.pass.inside.rank left c.deref_mut.result.now c.leave.new.self) (c.leave.new.self ≡ c.deref_mut.result.now) c.leave.ensures.done (search rules))
+    (if_alive (is_alive (state_at c.deref_mut.result.now.now.book.ranks c.pass.inside.rank)) (HasEntered c.pass.inside.rank left c.deref_mut.result.now c.leave.new.self) (c.leave.new.self ≡ c.deref_mut.result.now) c.leave.ensures.done (search rules))
 
 pub returns : goal.returns
 returns g c = inl (
   c.leave.new.self,
-  called_home left _ c.pass.inside.rank _ _ _ _ _ _ c.out-shelf.result (record { locked = with_value c.out-shelf.result.locked c.leave.new.self }) _ _
+  called_home left _ c.pass.inside.rank _ _ _ _ _ _ c.out-shelf.result (record { locked = with_value c.out-shelf.result.locked c.leave.new.self }) _
       (ap (λ (e : Entry). Some e) c.left-entry.ensures) c.out-shelf.ensures.taken c.pass.invariant.own c.deref_mut.ensures.value
-      c.out-shelf.ensures.out.locked c.deref.ensures c.book.ensures.locked (if_alive (is_alive (state_at c.deref_mut.result.now.now.book.ranks c.pass.inside.rank)) (HasEntered c.pass.inside.rank left c.deref_mut.result.now c.leave.new.self) (c.leave.new.self ≡ c.deref_mut.result.now) c.leave.ensures.done (search rules))
+      (if_alive (is_alive (state_at c.deref_mut.result.now.now.book.ranks c.pass.inside.rank)) (HasEntered c.pass.inside.rank left c.deref_mut.result.now c.leave.new.self) (c.leave.new.self ≡ c.deref_mut.result.now) c.leave.ensures.done (search rules))
       c.put-2.ensures.put c.pass.view_is
       (c.put-2.ensures.lock ∙ (c.out-shelf.ensures.out.lock_is ∙ sym c.requires)),
 )

@@ -1,4 +1,4 @@
-use Rattle.std.proofs.Common.{◌≡◌, Some, refl, sym, ap, ◌∙◌, rules}
+use Rattle.std.proofs.Common.{Some, sym, ap, ◌∙◌}
 use Rattle.std.specs.Box.{with_value}
 use Rattle.ug_desk.specs.Histories.{Entry, taken}
 use Rattle.ug_desk.proofs.Turns.{called_home, may_put}
@@ -6,16 +6,16 @@ use Rattle.ug_desk.proofs.desk.Desk.take.Goals as goal
 
 pub put-requires-clause-may : goal.put-requires-clause-may
 put-requires-clause-may g c =
-    may_put c.pass.inside.rank (taken c.take-took.result) _ _ _ c.out-shelf.result (record { locked = with_value c.out-shelf.result.locked c.take-took.new.self }) _ _
+    may_put c.pass.inside.rank (taken c.take-took.result) _ _ _ c.out-shelf.result (record { locked = with_value c.out-shelf.result.locked c.take-took.new.self }) _
     (ap (λ (e : Entry). Some e) c.taken-entry.ensures) c.out-shelf.ensures.taken c.pass.invariant.own c.deref_mut.ensures.value
-    c.out-shelf.ensures.out.locked c.deref.ensures c.book.ensures.locked c.take-took.ensures
+    c.take-took.ensures
 
 pub returns : goal.returns
 returns g c = (
   c.take-took.new.self,
-  called_home (taken c.take-took.result) _ c.pass.inside.rank _ _ _ _ _ _ c.out-shelf.result (record { locked = with_value c.out-shelf.result.locked c.take-took.new.self }) _ _
+  called_home (taken c.take-took.result) _ c.pass.inside.rank _ _ _ _ _ _ c.out-shelf.result (record { locked = with_value c.out-shelf.result.locked c.take-took.new.self }) _
       (ap (λ (e : Entry). Some e) c.taken-entry.ensures) c.out-shelf.ensures.taken c.pass.invariant.own c.deref_mut.ensures.value
-      c.out-shelf.ensures.out.locked c.deref.ensures c.book.ensures.locked c.take-took.ensures
+      c.take-took.ensures
       c.put.ensures.put c.pass.view_is
       (c.put.ensures.lock ∙ (c.out-shelf.ensures.out.lock_is ∙ sym c.requires)),
 )

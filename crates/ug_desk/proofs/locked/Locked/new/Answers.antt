@@ -1,4 +1,4 @@
-use Rattle.std.proofs.Common.{◌≡◌, sym}
+use Rattle.std.proofs.Common.{sym}
 use Rattle.ug_desk.proofs.Begun.{begun}
 use Rattle.ug_desk.proofs.locked.Locked.new.Goals as goal
 

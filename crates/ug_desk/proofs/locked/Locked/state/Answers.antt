@@ -21,8 +21,8 @@ invariant_of-self c =
     (to_z-of_z w128 c.args.floor c.ranges.floor) c.state-reply.ensures.ok c.state-reply.ensures.err)
     c.state-reply.ensures.same c.state-reply.ensures.sound c.one_more-self-inside.ensures tt
 
-pub returns : goal.returns
-returns c =
+pub returns-clause-entered : goal.returns-clause-entered
+returns-clause-entered c =
     let l : LockedState = state_of c.self.inside in
     let ticket : c.ticket-ticket.result ≡ own_ticket l.now c.args.rank =
     c.ticket-ticket.ensures

@@ -1,5 +1,5 @@
 use Rattle.std.proofs.Common.{refl, subst}
-use Rattle.ug_desk.specs.Histories.{Step, taken}
+use Rattle.ug_desk.specs.Histories.{taken}
 use Rattle.ug_desk.specs.Entries.{HasEntered, LockedState}
 use Rattle.ug_desk.specs.Views.{state_of}
 use Rattle.ug_desk.proofs.Entering.{entered, taken_step, taken_wide, word_after}
@@ -17,7 +17,7 @@ invariant_of-self c =
           (taken_wide c.take-took.result c.args.rank l.now.tickets c.note.new.tickets.items
           c.note.ensures.ok c.note.ensures.err),
       word_after c.self.inside.word c.args.rank (taken c.take-took.result) l.now _
-          c.self.invariant.1 tt c.take-took.ensures.same step,
+          c.self.invariant.1 tt step,
     )
 
 pub returns : goal.returns
