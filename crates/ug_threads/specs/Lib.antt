@@ -1,3 +1,5 @@
+pub mod Deeds
+pub mod Courses
 pub mod Places
 pub mod Crews
 pub mod Rooms

@@ -1,10 +1,11 @@
 //! The threads of a solve, one for each pass.
 
 ghost use Rattle.std.specs.Prelude.{◌≡◌, [], length, IfOk};
-ghost use Rattle.ug_threads.specs.Places.{IsAt};
+ghost use Rattle.ug_threads.specs.Places.{IsAt, IsAtOf};
+ghost use Rattle.ug_threads.specs.Rooms.{AreAllAt};
 ghost use Rattle.ug_threads.specs.Crews.{ArePassesAt, HasStarted, IsCrewAt, IsNewCrew, IsPassAt, count_of};
 
-use crate::desk_seat::DeskSeat;
+use crate::desk_seat::{BEGUN, DeskSeat};
 use crate::pace::Pace;
 use crossbeam_channel::Sender;
 use std::alloc::{AllocError, Global};
@@ -28,15 +29,17 @@ pub struct Table<'a> {
     pub late: &'a AtomicU64,
 }
 
-/// That a pass comes back from its thread, still one of this desk.
+/// That the pass of a rank comes back from its thread, still one of this desk, and its worker has
+/// left.
 #[derive(Drop)]
 pub struct Back {
     pub desk: snapshot::Snapshot<Desk>,
     pub began: snapshot::Snapshot<Opening>,
+    pub rank: u32,
 }
 
 impl Promise<Pass> for Back {
-    ghost kept_by = { λ b p. IsAt b.desk.value b.began.value p };
+    ghost kept_by = { λ b p. IsAtOf b.desk.value b.began.value b.rank p };
 }
 
 /// The passes of a solve: those that wait for their threads, those whose threads work, and those
@@ -140,8 +143,7 @@ impl Crew {
     pub fn join<R: Threads>(self, rt: &R, table: Table<'_>) -> Vec<Pass>
         requires crew { IsCrewAt table self }
         requires none { self.waiting.items ≡ [] }
-        ensures at { ArePassesAt table.entry result.items }
-        ensures count { length result.items ≡ count_of self }
+        ensures { AreAllAt table.entry (count_of self) result.items }
     {
         let _desk = table.desk;
         let Crew {
@@ -174,12 +176,13 @@ fn start_one<'s, E, R: Threads + Wait + Sync, O: Observer>(
     sender: Option<Sender<Snapshot>>,
 ) -> Started
     requires { IsPassAt table pass }
-    ensures { HasStarted table.entry result }
+    ensures { HasStarted table.entry pass.rank result }
 {
     let rank = pass.rank();
     let promise = Back {
         desk: snapshot::Snapshot::of(table.desk),
         began: snapshot::Snapshot::of(table.began),
+        rank,
     };
     let Table {
         desk,
@@ -192,7 +195,7 @@ fn start_one<'s, E, R: Threads + Wait + Sync, O: Observer>(
     let observer = host.observer;
     let works = move || -> Pass
         requires { IsAt desk.now began.now pass }
-        ensures { IsAt desk.entry.now began.entry.now result }
+        ensures { IsAtOf desk.entry.now began.entry.now pass.rank result }
     {
         let host = Host {
             rt,
@@ -224,7 +227,8 @@ fn work_or_leave<R: Wait, O: Observer>(
     sender: Option<Sender<Snapshot>>,
 ) -> Pass
     requires { IsPassAt table pass }
-    ensures { IsPassAt table.entry result }
+    ensures at { IsPassAt table.entry result }
+    ensures own { result.rank ≡ pass.rank }
 {
     if table.late.load(Ordering::SeqCst) == pass.rank() as u64 + 1 {
         table.desk.leave(host.rt, &mut pass);
@@ -250,7 +254,8 @@ fn sit<R: Wait, O: Observer>(
     sender: Option<Sender<Snapshot>>,
 ) -> Pass
     requires { IsPassAt table pass }
-    ensures { IsPassAt table.entry result }
+    ensures at { IsPassAt table.entry result }
+    ensures own { result.rank ≡ pass.rank }
 {
     let mut seat = DeskSeat {
         rt: host.rt,
@@ -260,6 +265,7 @@ fn sit<R: Wait, O: Observer>(
         observer: host.observer,
         sender,
         pace: table.pace,
+        asked: BEGUN,
         seen: 0,
     };
     work(host.rt, &mut seat, renewal_for(table.pace));

@@ -1,19 +1,50 @@
-ghost use Rattle.std.specs.Prelude.{◌≡◌, ◌<◌, []};
+ghost use Rattle.std.specs.Prelude.{◌≡◌, IfOk, OnErr};
 ghost use Rattle.ug_desk.specs.Passes.{lock_of_desk};
+ghost use Rattle.ug_threads.specs.Courses.{HasStayed};
 
 use crate::pace::Pace;
-use crate::told::{answered, told};
+use crate::told::{answered, goes_on, told};
 use crossbeam_channel::Sender;
 use std::alloc::{AllocError, Global};
 use std::sync::Wait;
 use ug_base::Task;
-use ug_book::Opening;
+use ug_book::{Opening, Unfinished};
 use ug_desk::{Desk, Pass};
 use ug_restart::{Moment, Observer, Progress, progress_of};
 use ug_rows::{IntBox, Point};
 use ug_rules::Heard;
 use ug_snapshot::Snapshot;
-use ug_worker::{Reply, Seat, Took, Untaken};
+use ug_worker::{Asked, Reply, Seat, Took, Untaken, cutoff_of_point};
+
+/// What no call of a seat changes: its desk, what the history began with, and its rank.
+#[derive(Drop)]
+pub struct Home {
+    pub desk: Desk,
+    pub began: Option<Opening>,
+    pub rank: u32,
+}
+
+/// What is asked of a worker for a task that it has just taken: nothing, and others may have the
+/// same box.
+pub const BEGUN: Asked = Asked {
+    count: 0,
+    racing: true,
+};
+
+// What is asked behind a reply; as before where there is none.
+fn asked_by(reply: Result<Reply, Unfinished>, before: Asked) -> Asked
+    ensures ok { IfOk reply (λ own.
+        result ≡ record { count = own.collect; racing = own.racing }) }
+    ensures err { OnErr reply (result ≡ before) }
+{
+    match reply {
+        Ok(reply) => Asked {
+            count: reply.collect,
+            racing: reply.racing,
+        },
+        Err(_) => before,
+    }
+}
 
 /// A seat at a desk that threads share, with what a worker brings along.
 #[derive(Drop)]
@@ -27,6 +58,8 @@ pub struct DeskSeat<'a, R, O> {
     pub sender: Option<Sender<Snapshot>>,
     /// When they are due.
     pub pace: &'a Pace,
+    /// What is asked of the worker for its task.
+    pub asked: Asked,
     /// How many calls had been made before the last `take` that were not answered Wait.
     pub seen: u64,
 }
@@ -41,8 +74,7 @@ fn send_if_due<R: Wait>(
     pace: &Pace,
 )
     requires { pass.old.lock ≡ lock_of_desk desk.now }
-    ensures lock { pass.new.lock ≡ pass.old.lock }
-    ensures opening { pass.new.opening ≡ pass.old.opening }
+    ensures { HasStayed pass.old pass.new }
 {
     let Some(sender) = sender else {
         return;
@@ -66,8 +98,7 @@ fn progress<R: Wait>(
     is_wanted: bool,
 ) -> Option<Progress>
     requires { pass.old.lock ≡ lock_of_desk desk.now }
-    ensures lock { pass.new.lock ≡ pass.old.lock }
-    ensures opening { pass.new.opening ≡ pass.old.opening }
+    ensures { HasStayed pass.old pass.new }
 {
     if !is_wanted {
         return None;
@@ -92,30 +123,43 @@ impl<'a, R, O> DeskSeat<'a, R, O> {
 
 impl<'a, R: Wait, O: Observer> Seat for DeskSeat<'a, R, O> {
     ghost use Rattle.std.specs.Prelude.{◌≡◌, Option};
-    ghost use Rattle.ug_desk.specs.Passes.{lock_of_desk};
+    ghost use Rattle.ug_threads.specs.Courses.{IsLeft, IsSeated};
 
-    // The pass is one of the desk. What its worker has done is said by no clause.
-    ghost at = { λ seat tally some. seat.pass.lock ≡ lock_of_desk seat.desk.now };
+    // The pass's own calls are those of a worker that stands there.
+    ghost at = { λ seat tally some. IsSeated seat.desk.now seat.pass seat.asked tally some };
 
-    ghost over = { λ seat. seat.pass.lock ≡ lock_of_desk seat.desk.now };
+    ghost over = { λ seat. IsLeft seat.desk.now seat.pass };
 
-    type Home = (Desk, Option<Opening>);
+    type Home = Home;
 
-    ghost home = { λ seat. (seat.desk.now, seat.pass.opening) };
+    ghost home = { λ seat. record {
+      desk = seat.desk.now;
+      began = seat.pass.opening;
+      rank = seat.pass.rank;
+    } };
 
     fn take(&mut self) -> Result<Took, Untaken> {
         self.seen = self.desk.stirred(self.rt);
         self.observer.pass(self.pass.rank(), Moment::Asking);
         let took = self.desk.take(self.rt, &mut self.pass);
+        self.asked = BEGUN;
         self.observer.pass(self.pass.rank(), Moment::Answered);
         took
     }
 
     fn look(&mut self) -> Reply {
-        Reply::nothing()
+        Reply {
+            collect: self.asked.count,
+            racing: self.asked.racing,
+            ..Reply::nothing()
+        }
     }
 
-    fn solution(&mut self, point: Point) {
+    fn cutoff(&mut self) -> Option<i128> {
+        cutoff_of_point(self.desk.cutoff(&mut self.pass))
+    }
+
+    fn solution(&mut self, point: Point) -> bool {
         self.observer.pass(self.pass.rank(), Moment::Asking);
         let heard = self.desk.solution(self.rt, &mut self.pass, point);
         self.observer.pass(self.pass.rank(), Moment::Answered);
@@ -126,11 +170,13 @@ impl<'a, R: Wait, O: Observer> Seat for DeskSeat<'a, R, O> {
             self.observer.tell(&progress);
             drop(progress);
         }
+        goes_on(heard)
     }
 
     fn hand(&mut self, number: u64, area: &IntBox) -> Result<(), AllocError> {
         self.observer.pass(self.pass.rank(), Moment::Asking);
         let heard = self.desk.hand(self.rt, &mut self.pass, number, area);
+        self.asked.count = self.asked.count.saturating_sub(1);
         self.observer.pass(self.pass.rank(), Moment::Answered);
         send_if_due(self.rt, self.desk, &mut self.pass, &self.sender, self.pace);
         told(heard)
@@ -139,6 +185,7 @@ impl<'a, R: Wait, O: Observer> Seat for DeskSeat<'a, R, O> {
     fn state(&mut self, left: u64, floor: i128) -> Result<Reply, AllocError> {
         self.observer.pass(self.pass.rank(), Moment::Asking);
         let reply = self.desk.state(self.rt, &mut self.pass, left, floor);
+        self.asked = asked_by(reply, self.asked);
         self.observer.pass(self.pass.rank(), Moment::Answered);
         send_if_due(self.rt, self.desk, &mut self.pass, &self.sender, self.pace);
         let is_wanted = self.observer.wants(self.pass.heard(), false);

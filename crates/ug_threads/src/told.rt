@@ -1,5 +1,5 @@
-ghost use Rattle.std.specs.Prelude.{◌≡◌, ◌≢◌, Ok, IsErr, IfOk, OnErr, MatchResult};
-ghost use Rattle.ug_problem.specs.Better.{IsSmallCutoff};
+ghost use Rattle.std.specs.Prelude.{◌≡◌, ◌≢◌, Ok, IsErr, IfOk, OnErr, MatchBool, MatchResult};
+ghost use Rattle.ug_desk.specs.Backing.{IsWellOffered};
 ghost use Rattle.ug_rules.specs.declared.heard.Heard.TheVariants.{Memory};
 
 use std::alloc::AllocError;
@@ -17,14 +17,20 @@ pub fn told(heard: Heard) -> Result<(), AllocError>
     Ok(())
 }
 
-/// What it is told of its report of what is left: the answer, which has a cutoff of a point or none.
+/// What it is told of its report of what is left: the answer, unless memory was wanting.
 pub fn answered(reply: Result<Reply, Unfinished>) -> Result<Reply, AllocError>
-    ensures small { IfOk result (λ reply. IsSmallCutoff reply.cutoff) }
-    ensures same { IfOk reply (λ own. IsSmallCutoff own.cutoff → result ≡ Ok own) }
+    ensures ok { IfOk reply (λ own. result ≡ Ok own) }
     ensures err { OnErr reply (IsErr result) }
 {
     match reply {
-        Ok(reply) => Ok(reply.bounded()),
+        Ok(reply) => Ok(reply),
         Err(_) => Err(AllocError),
     }
+}
+
+/// Whether a task goes on behind the answer to its point: else its ticket has ended.
+pub fn goes_on(heard: Heard) -> bool
+    ensures { MatchBool result (IsWellOffered heard) (¬ IsWellOffered heard) }
+{
+    matches!(heard, Heard::Kept | Heard::NotBetter { .. })
 }

@@ -1,7 +1,6 @@
 use Rattle.std.proofs.Common.{◌≡◌, List, ℕ, Option, sym, subst, rules}
 use Rattle.ug_disk.specs.Histories.{History}
 use Rattle.ug_disk.specs.Crashes.{Leaves}
-use Rattle.ug_restart.specs.Moments.{AllCovered}
 use Rattle.ug_restart.proofs.Outcomes.{time_covered, time_found}
 use Rattle.ug_threads.proofs.solve.saving.Goals as goal
 

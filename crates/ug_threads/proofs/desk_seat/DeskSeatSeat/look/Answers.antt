@@ -1,5 +1,7 @@
-use Rattle.ug_worker.proofs.Silent.{replied_any}
+use Rattle.std.proofs.Common.{rules}
+use Rattle.ug_threads.proofs.Courses.{seat_looked}
 use Rattle.ug_threads.proofs.desk_seat.DeskSeatSeat.look.Goals as goal
 
 pub returns-clause-replied : goal.returns-clause-replied
-returns-clause-replied g c tally e at made = replied_any _ (λ some. at) _ e.task _
+returns-clause-replied g c tally e s made =
+    seat_looked c.args.self.now.desk.now c.args.self.now.pass c.args.self.now.asked tally e _ s made (search rules)

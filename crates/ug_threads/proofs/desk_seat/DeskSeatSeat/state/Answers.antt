@@ -1,28 +1,33 @@
-use Rattle.std.proofs.Common.{◌≡◌, Option, None, Result, Ok, Err, ◌∙◌}
-use Rattle.std.specs.Prelude.{OnErr}
-use Rattle.ug_desk.specs.Passes.{lock_of_desk}
-use Rattle.ug_worker.specs.declared.tally.Tally.{Tally}
-use Rattle.ug_worker.specs.Engagements.{Engaged, Stands}
-use Rattle.ug_worker.specs.Renewals.{fresh}
-use Rattle.ug_worker.proofs.Silent.{if_ok, replied_any}
+use Rattle.std.proofs.Common.{Some, subst}
+use Rattle.std.specs.Prelude.{ℤ}
+use mir.Syntax.{w128}
+use Rattle.std.proofs.lemmas.Int.{to_z-of_z}
+use Rattle.ug_desk.specs.Histories.{stated}
+use Rattle.ug_desk.specs.Passes.{HasCalledAt}
+use Rattle.ug_threads.proofs.Courses.{seat_answered, seat_unanswered, stayed_then}
 use Rattle.ug_threads.proofs.desk_seat.DeskSeatSeat.state.Goals as goal
 
-on_err : {T E : Type 0} (result : Result T E) (P : Type 0) → P → OnErr result P
-on_err (Ok x) P holds = tt
-on_err (Err e) P holds = holds
-
 pub returns-clause-replied : goal.returns-clause-replied
-returns-clause-replied g c tally e f at stated =
-    if_ok _ _ (λ reply. replied_any _ (λ some. c.progress-progress.ensures.lock ∙ (c.send_if_due.ensures.lock ∙ (c.state-reply.ensures.1.same.0 ∙ at)))
-    reply.stop f.task reply)
+returns-clause-replied g c tally e f s told =
+    let called = subst (λ (z : ℤ). HasCalledAt (Some (stated c.args.left z c.state-reply.result))
+    c.state-reply.ensures.called.0 c.args.self.now.pass c.state-reply.new.pass)
+    (to_z-of_z w128 c.args.floor c.ranges.floor) c.state-reply.ensures.called.1 in
+    seat_answered c.args.self.now.desk.now c.args.left c.args.floor c.state-reply.result c.answered.result
+    c.state-reply.ensures.called.0 c.args.self.now.pass c.state-reply.new.pass c.progress-progress.new.pass
+    c.args.self.now.asked c.asked_by-self.result tally e f c.answered.ensures.ok c.answered.ensures.err
+    c.asked_by-self.ensures.ok called
+    (stayed_then c.state-reply.new.pass c.send_if_due.new.pass c.progress-progress.new.pass c.send_if_due.ensures
+    c.progress-progress.ensures) told s
 
 pub returns-clause-err : goal.returns-clause-err
 returns-clause-err g c =
-    let stands : Stands (λ (tally : Tally) (some : Option Engaged).
-    c.progress-progress.new.pass.lock ≡ lock_of_desk c.args.self.now.desk.now) = (
-      fresh None,
-      None,
-      c.progress-progress.ensures.lock ∙ (c.send_if_due.ensures.lock
-          ∙ (c.state-reply.ensures.1.same.0 ∙ c.requires.at.3)),
-    ) in
-    on_err _ _ stands
+    let (tally, e, f, s, told) = c.requires.at in
+    let called = subst (λ (z : ℤ). HasCalledAt (Some (stated c.args.left z c.state-reply.result))
+    c.state-reply.ensures.called.0 c.args.self.now.pass c.state-reply.new.pass)
+    (to_z-of_z w128 c.args.floor c.ranges.floor) c.state-reply.ensures.called.1 in
+    seat_unanswered c.args.self.now.desk.now c.args.left c.args.floor c.state-reply.result c.answered.result
+    c.state-reply.ensures.called.0 c.args.self.now.pass c.state-reply.new.pass c.progress-progress.new.pass
+    c.args.self.now.asked c.asked_by-self.result tally e f c.answered.ensures.ok c.asked_by-self.ensures.err
+    called
+    (stayed_then c.state-reply.new.pass c.send_if_due.new.pass c.progress-progress.new.pass c.send_if_due.ensures
+    c.progress-progress.ensures) told s

@@ -1,8 +1,12 @@
-use Rattle.std.proofs.Common.{◌∙◌}
-use Rattle.ug_worker.proofs.Silent.{if_ok, took_any}
+use Rattle.ug_threads.proofs.Courses.{seat_taken, seat_untaken}
 use Rattle.ug_threads.proofs.desk_seat.DeskSeatSeat.take.Goals as goal
 
 pub returns-clause-took : goal.returns-clause-took
-returns-clause-took g c tally at =
-    if_ok _ _ (λ taken. took_any _ (λ tally some. c.take-took.ensures.1.same.0 ∙ at) tally _
-    (c.take-took.ensures.1.same.0 ∙ at) taken)
+returns-clause-took g c tally s =
+    seat_taken c.args.self.now.desk.now c.take-took.result c.take-took.ensures.0 c.args.self.now.pass
+    c.take-took.new.pass c.args.self.now.asked tally c.take-took.ensures.1 s
+
+pub returns-clause-err : goal.returns-clause-err
+returns-clause-err g c =
+    seat_untaken c.args.self.now.desk.now c.take-took.result c.take-took.ensures.0 c.args.self.now.pass
+    c.take-took.new.pass c.args.self.now.asked c.requires.at.0 c.take-took.ensures.1 c.requires.at.1

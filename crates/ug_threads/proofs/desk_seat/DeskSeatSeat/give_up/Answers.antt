@@ -1,0 +1,8 @@
+use Rattle.ug_threads.proofs.Courses.{seat_gone}
+use Rattle.ug_threads.proofs.desk_seat.DeskSeatSeat.give_up.Goals as goal
+
+pub returns-clause-over : goal.returns-clause-over
+returns-clause-over g c =
+    let (tally, some, s) = c.requires in
+    seat_gone c.args.self.now.desk.now c.args.self.now.pass c.give_up.new.pass c.args.self.now.asked tally some
+    c.give_up.ensures s

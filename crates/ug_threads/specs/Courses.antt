@@ -1,0 +1,72 @@
+-- The course of a pass: its own calls are those of workers that sat at it, one after another.
+use Rattle.std.specs.Prelude.{◌≡◌, ℕ, ℤ, ◌<◌, ◌≤◌, List, [], Option, Some, None, IfSome}
+use Rattle.ug_book.specs.declared.opening.Opening.{Opening}
+use Rattle.ug_worker.specs.declared.search.Asked.{Asked}
+use Rattle.ug_worker.specs.declared.tally.Tally.{Tally}
+use Rattle.ug_worker.specs.Engagements.{Engaged}
+use Rattle.ug_desk.specs.declared.desk.Desk.{Desk}
+use Rattle.ug_desk.specs.Backing.{IsKnownBacked}
+use Rattle.ug_desk.specs.Entries.{IsReplayed, LockedState}
+use Rattle.ug_desk.specs.Histories.{Entry}
+use Rattle.ug_desk.specs.Passes.{PassState, calls_of, lock_of_desk}
+use Rattle.ug_desk.specs.Words.{floor_of}
+use Rattle.ug_threads.specs.Deeds.{AreReadAbove, Away, Busy, Deed, Free, LeadTo, Stage, entries_in}
+
+-- these are the entries of pass r, whose deeds lead there
+pub record IsCourse (o : Opening) (r : ℕ) (own : List Entry) (now : Stage) : Type 0 where
+  pub deeds : List Deed
+  pub lead : LeadTo (floor_of o.problem) deeds now
+  pub calls : entries_in r deeds ≡ own
+
+-- so a pass has come there, and no cutoff was read below what it knows
+pub record IsCome (o : Opening) (p : PassState) (now : Stage) : Type 0 where
+  pub course : IsCourse o p.rank p.mine now
+  pub read : AreReadAbove (floor_of o.problem) p.known course.deeds
+
+abbrev pub HasCome : PassState → Stage → Type 0
+HasCome p now = (o : Opening) → p.opening ≡ Some o → IsCome o p now
+
+-- The task is of the desk's problem and gap, under a cutoff that the pass knows to be backed; so
+-- much is asked of its worker.
+pub record IsOfDesk (p : PassState) (asked : Asked) (e : Engaged) : Type 0 where
+  pub problem : (o : Opening) → p.opening ≡ Some o → e.task.problem ≡ o.problem
+  pub gap : (o : Opening) → p.opening ≡ Some o → e.task.gap ≡ o.settings.gap
+  pub known : IsKnownBacked p e.task.cutoff
+  pub count : e.asked ≡ asked.count
+  pub racing : e.racing ≡ asked.racing
+
+-- where a worker with this tally stands, and its task, if it has one
+abbrev pub stage_of : Tally → Option Engaged → Stage
+stage_of tally None = Free tally
+stage_of tally (Some e) = Busy tally e
+
+-- a worker sits at the pass, which is one of the desk
+pub record IsSeated (desk : Desk) (p : PassState) (asked : Asked) (tally : Tally)
+    (some : Option Engaged) : Type 0 where
+  pub lock : p.lock ≡ lock_of_desk desk
+  pub course : HasCome p (stage_of tally some)
+  pub its : IfSome some (IsOfDesk p asked)
+
+-- nobody sits at it any more
+pub record IsLeft (desk : Desk) (p : PassState) : Type 0 where
+  pub lock : p.lock ≡ lock_of_desk desk
+  pub course : HasCome p Away
+
+-- a worker stands where it stood, and the pass knows what it knew to be backed: snapshots were
+-- taken, or nothing was done
+pub record HasStayed (p q : PassState) : Type 0 where
+  pub lock : q.lock ≡ p.lock
+  pub rank : q.rank ≡ p.rank
+  pub opening : q.opening ≡ p.opening
+  pub course : (tally : Tally) (some : Option Engaged) → HasCome p (stage_of tally some)
+      → HasCome q (stage_of tally some)
+  pub known : (cutoff : Option ℤ) → IsKnownBacked p cutoff → IsKnownBacked q cutoff
+
+-- What workers do that end: a history leads to what then stands, in which each pass has the calls
+-- of workers that have left, and nobody else has one.
+pub record IsWorked (o : Opening) (l : LockedState) : Type 0 where
+  pub history : List Entry
+  pub replayed : IsReplayed l history
+  pub each : (r : ℕ) → r < o.settings.solvers
+      → IsCourse o r (calls_of r history) Away
+  pub none : (r : ℕ) → o.settings.solvers ≤ r → calls_of r history ≡ []
