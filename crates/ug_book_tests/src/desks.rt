@@ -1,5 +1,6 @@
 ghost use Rattle.std.specs.Prelude.{◌≡◌, [], IfSome, OnOk};
 ghost use Rattle.ug_rules.specs.Books.{AreSettings};
+ghost use Rattle.ug_desk.specs.Backing.{IsKnownBacked};
 ghost use Rattle.ug_desk.specs.Passes.{lock_of_desk};
 ghost use Rattle.ug_book_tests.specs.Both.{AreBoth, AreTwo};
 
