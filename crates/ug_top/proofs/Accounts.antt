@@ -14,10 +14,9 @@ use Rattle.ug_top.specs.Ends.{AreGenLines, AreShowLines, AreWorkerLines, IsReadA
 use Rattle.ug_top.specs.Lines.{status_of_fault}
 use Rattle.ug_top.specs.Outcomes.{TellsRun}
 use Rattle.ug_top.specs.Unread.{IsTextUnread, IsUnread, unread_cause}
-use Rattle.ug_io.specs.Crews.{CrewSeen}
 use Rattle.ug_io.specs.Links.{LinkSeen}
 use Rattle.ug_cli.specs.declared.plan.Gen.{Gen}
-use Rattle.ug_top.specs.Solved.{KeepsCovered, KeepsCoveredBy}
+use Rattle.ug_top.specs.Solved.{Crewed, KeepsCovered, KeepsCoveredBy}
 use Rattle.ug_top.proofs.Solved.{kept_anyway}
 use Rattle.ug_top.proofs.Stored.{keeps_untouched, untouched}
 use Rattle.ug_top.proofs.Tellings.{IsOver, outcome_is_over}
@@ -74,7 +73,7 @@ unread_read boxed left e old new t cause = record {
   source = λ less. unread_source e old.faults new.faults cause less;
 }
 
-pub unread_stored : (by : Option CrewSeen) (boxed : Option ℕ) (left : Option (List ℕ)) (e : Ended)
+pub unread_stored : (by : Crewed) (boxed : Option ℕ) (left : Option (List ℕ)) (e : Ended)
     (disk : DiskSeen) → IsUnread boxed left e → IsStored (KeepsCoveredBy by disk disk) disk disk (status_of e)
 unread_stored by boxed left e disk t =
     untouched (KeepsCoveredBy by disk disk) disk disk (status_of e) (no_disk_fault boxed left e t) refl refl
@@ -124,7 +123,7 @@ run_read Ran Not gap e old new t same =
 -- ---- commands that read no text
 
 -- what is said of every disk is said of one that a crew may have saved on
-pub stored_by : (by : Option CrewSeen) (old new : DiskSeen) (status : Status)
+pub stored_by : (by : Crewed) (old new : DiskSeen) (status : Status)
     → IsStored (KeepsCovered old new) old new status → IsStored (KeepsCoveredBy by old new) old new status
 stored_by by old new status t = record {
   rises = t.rises;
@@ -206,7 +205,7 @@ worker_saves_none link statuses.BadFrame text lines is = absurd (cc is)
 worker_saves_none link statuses.Spent text lines is = absurd (cc is)
 worker_saves_none link statuses.SmallerGap text lines is = absurd (cc is)
 
-pub show_accounted : (by : Option CrewSeen) (source : SourceSeen) (old new : DiskSeen) (status : Status)
+pub show_accounted : (by : Crewed) (source : SourceSeen) (old new : DiskSeen) (status : Status)
     (text : List ℕ) → AreShowLines old new status text → IsStored (KeepsCovered old new) old new status
     → IsReadAs source source status × IsStored (KeepsCoveredBy by old new) old new status
 show_accounted by source old new status text lines stored = (
@@ -214,7 +213,7 @@ show_accounted by source old new status text lines stored = (
   stored_by by old new status stored,
 )
 
-pub gen_accounted : (by : Option CrewSeen) (gen : Gen) (source : SourceSeen) (old new : DiskSeen)
+pub gen_accounted : (by : Crewed) (gen : Gen) (source : SourceSeen) (old new : DiskSeen)
     (status : Status) (text : List ℕ) → AreGenLines gen old new status text
     → IsStored (KeepsCovered old new) old new status
     → IsReadAs source source status × IsStored (KeepsCoveredBy by old new) old new status
@@ -223,7 +222,7 @@ gen_accounted by gen source old new status text lines stored = (
   stored_by by old new status stored,
 )
 
-pub worker_accounted : (by : Option CrewSeen) (link : Option LinkSeen) (source : SourceSeen) (disk : DiskSeen)
+pub worker_accounted : (by : Crewed) (link : Option LinkSeen) (source : SourceSeen) (disk : DiskSeen)
     (status : Status) (text : List ℕ) → AreWorkerLines link status text
     → IsReadAs source source status × IsStored (KeepsCoveredBy by disk disk) disk disk status
 worker_accounted by link source disk status text lines = (

@@ -1,5 +1,5 @@
 -- What the ending book of a run is, by what the run began with.
-use Rattle.std.proofs.Common.{◌≡◌, Option, ℕ, [], ◌∷◌, map, None, IfSome, ◌∙◌, subst, inl}
+use Rattle.std.proofs.Common.{◌≡◌, ℕ, [], ◌∷◌, map, None, IfSome, ◌∙◌, subst, inl}
 use Rattle.ug_problem.specs.Instances.{Instance, root_of}
 use Rattle.ug_problem.specs.Incumbents.{one_kept}
 use Rattle.ug_problem.proofs.Incumbents.{all_of_one}
@@ -16,10 +16,9 @@ use Rattle.ug_book.proofs.Starts.{start_is_sound}
 use Rattle.ug_restart.specs.declared.outcome.End.{End}
 use Rattle.ug_restart.specs.declared.outcome.Outcome.{Outcome}
 use Rattle.ug_restart.specs.declared.outcome.End.TheVariants.{Answered, Limited, Stranded, Memory}
-use Rattle.ug_restart.specs.Outcomes.{HasFeasible, IfAnswered, IfBook, IsRight}
-use Rattle.ug_io.specs.Crews.{CrewSeen}
+use Rattle.ug_restart.specs.Outcomes.{HasFeasible, IfAnswered, IfBook, IsRight, IsStranded}
 use Rattle.ug_world.specs.Coordinators.{CoordinatorsLoseNothing}
-use Rattle.ug_top.specs.Solved.{HasSolved}
+use Rattle.ug_top.specs.Solved.{Crewed, HasSolved, StaysCalm}
 use Rattle.ug_top.proofs.Solved.{solved_feasible, solved_right, solved_same}
 use Rattle.ug_top.specs.Runs.{IsOf, IsRightFor, IsRun}
 
@@ -79,18 +78,21 @@ ends_feasible given Memory p settings of same feasible = tt
 -- a run from a book of the problem that has given no ticket
 pub is_run : CoordinatorsLoseNothing → (Began : BookState → Type 0)
     (Trusted : (b : BookState) → Began b → Type 0)
-    (by : Option CrewSeen) (p : Instance) (settings : Settings) (outcome : Outcome) (given : BookState)
+    (by : Crewed) (p : Instance) (settings : Settings) (outcome : Outcome) (given : BookState)
     → (began : Began given) → IsOf p settings given → given.last ≡ 0
     → (Trusted given began → IsSoundBook given)
-    → HasSolved by given outcome.end → IsRun Began Trusted by p settings outcome
-is_run law Began Trusted by p settings outcome given began of unused sound solved =
-    let same = solved_same by given outcome.end solved in
+    → (solved : HasSolved by given outcome.end)
+    → (StaysCalm by given outcome.end solved → ¬ IsStranded outcome.end)
+    → IsRun Began Trusted by p settings outcome
+is_run law Began Trusted by p settings outcome given began of unused sound solved live =
+    let same = solved_same by.was by.now given outcome.end solved in
     record {
       given = given;
       began = began;
       solved = solved;
       of = ends_of given outcome.end p settings of same;
-      feasible = ends_feasible given outcome.end p settings of same (solved_feasible by given outcome.end solved);
+      feasible = ends_feasible given outcome.end p settings of same (solved_feasible by.was by.now given outcome.end solved);
       right = λ trusted crew. ends_right given outcome.end p settings of same
-          (solved_right law by given outcome.end solved unused crew (sound trusted));
+          (solved_right law by.was by.now given outcome.end solved unused crew (sound trusted));
+      live = live;
     }

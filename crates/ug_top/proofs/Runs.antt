@@ -6,7 +6,10 @@ use Rattle.ug_drafts.specs.declared.fault.MpsFault.{MpsFault}
 use Rattle.ug_mps.specs.Reads.{FirstFault}
 use Rattle.ug_mps.specs.Laws.{HasOneOutcome}
 use Rattle.ug_restart.specs.declared.fault.StartFault.{StartFault}
+use Rattle.ug_restart.specs.declared.outcome.End.{End}
+use Rattle.ug_restart.specs.declared.outcome.End.TheVariants as over
 use Rattle.ug_restart.specs.declared.outcome.Outcome.{Outcome}
+use Rattle.ug_restart.specs.Outcomes.{IsStranded}
 use Rattle.ug_cli.specs.Numbers.{IsGiven, IsGivenIf}
 use Rattle.ug_cli.specs.Taken.{AskedIn, AreSettings, IsGen, TakenWords}
 use Rattle.ug_cli.specs.declared.plan.Gen.{Gen}
@@ -14,8 +17,10 @@ use Rattle.ug_cli.specs.declared.plan.Plan.{Plan}
 use Rattle.ug_cli.specs.declared.plan.Plan.TheVariants as plans
 use Rattle.ug_cli.specs.declared.plan.Asked.{Asked}
 use Rattle.ug_top.specs.Outside.{Outside}
-use Rattle.ug_top.specs.Ends.{AreFileLines, AreLinesOf, AreSolveLines, IsPlannedOf, status_of}
-use Rattle.ug_top.specs.Lines.{States}
+use Rattle.ug_top.specs.Solved.{Crewed, IsSeenCalm}
+use Rattle.ug_top.proofs.Solved.{run_live}
+use Rattle.ug_top.specs.Ends.{AreFileLines, AreLinesOf, AreSolveLines, IsPlannedOf, crews_at, status_of}
+use Rattle.ug_top.specs.Lines.{AreEndLines, States}
 use Rattle.ug_top.specs.Plans.{IsPlanned, IsPlannedGen}
 use Rattle.ug_top.specs.Unread.{HasStopped}
 use Rattle.ug_top.specs.declared.ended.Ended.{Ended}
@@ -78,58 +83,72 @@ taken_planned words plan t = asked_planned _ words plan t.asked.asks t
 
 -- ---- a text that states a problem is not refused, and one with a fault is told
 
-stated : OneOutcome → (boxed : Option ℕ) (left : Option (List ℕ)) (status : Status) (p : Instance)
-    → (status ≡ statuses.Refused → ⊥) → States left boxed p → IsComplete boxed left status
-stated one boxed None status p not states = record { fault = tt; problem = tt }
-stated one boxed (Some bytes) status p not states = record {
+stated : OneOutcome → (boxed : Option ℕ) (left : Option (List ℕ)) (by : Crewed) (status : Status) (p : Instance)
+    → (status ≡ statuses.Refused → ⊥) → (IsSeenCalm by → status ≡ statuses.Stranded → ⊥) → States left boxed p
+    → IsComplete boxed left by status
+stated one boxed None by status p not live states = record { fault = tt; problem = tt; live = live }
+stated one boxed (Some bytes) by status p not live states = record {
   fault = λ f first. absurd ((one bytes boxed).apart p f states first);
   problem = λ q reads is. not is;
+  live = live;
 }
 
-untold : (boxed : Option ℕ) (left : Option (List ℕ)) (status : Status) → IsToldOf status
-    → (status ≡ statuses.Refused → ⊥) → IsComplete boxed left status
-untold boxed None status told not = record { fault = tt; problem = tt }
-untold boxed (Some bytes) status told not = record {
+untold : (boxed : Option ℕ) (left : Option (List ℕ)) (by : Crewed) (status : Status) → IsToldOf status
+    → (status ≡ statuses.Refused → ⊥) → (IsSeenCalm by → status ≡ statuses.Stranded → ⊥)
+    → IsComplete boxed left by status
+untold boxed None by status told not live = record { fault = tt; problem = tt; live = live }
+untold boxed (Some bytes) by status told not live = record {
   fault = λ f first. told;
   problem = λ p reads is. not is;
+  live = live;
 }
 
-refused : OneOutcome → (boxed : Option ℕ) (left : Option (List ℕ)) (f : MpsFault)
-    → IfSome left (λ bytes. FirstFault bytes boxed f) → IsComplete boxed left statuses.Refused
-refused one boxed None f first = record { fault = tt; problem = tt }
-refused one boxed (Some bytes) f first = record {
+refused : OneOutcome → (boxed : Option ℕ) (left : Option (List ℕ)) (by : Crewed) (f : MpsFault)
+    → IfSome left (λ bytes. FirstFault bytes boxed f) → IsComplete boxed left by statuses.Refused
+refused one boxed None by f first = record { fault = tt; problem = tt; live = λ calm e. absurd (cc e) }
+refused one boxed (Some bytes) by f first = record {
   fault = λ g other. inl refl;
   problem = λ p reads. absurd ((one bytes boxed).apart p f reads first);
+  live = λ calm e. absurd (cc e);
 }
+
+-- status 7 is that of one end alone
+stranded_end : (gap : ℕ) (end : End) (text : List ℕ) → AreEndLines gap end statuses.Stranded text → IsStranded end
+stranded_end gap (over.Answered b) text t = absurd (cc t.0)
+stranded_end gap (over.Limited b) text t = absurd (cc t.0)
+stranded_end gap (over.Stranded b) text t = tt
+stranded_end gap over.Memory text t = t
 
 module _ (one : OneOutcome) (Ran : Instance → Outcome → Type 0)
     (Not : Instance → StartFault → Type 0) (asked : Asked) (left : Option (List ℕ))
-    (text : List ℕ) where
+    (text : List ℕ) (by : Crewed)
+    (live : (p : Instance) (o : Outcome) → Ran p o → IsSeenCalm by → ¬ IsStranded o.end) where
   file_complete : (status : Status) → AreFileLines Ran Not asked left status text
-      → IsComplete asked.bounds.boxed left status
+      → IsComplete asked.bounds.boxed left by status
   file_complete statuses.Answered t =
-      stated one asked.bounds.boxed left statuses.Answered t.problem (λ e. absurd (cc e)) t.states
+      stated one asked.bounds.boxed left by statuses.Answered t.problem (λ e. absurd (cc e)) (λ calm e. absurd (cc e)) t.states
   file_complete statuses.Limited t =
-      stated one asked.bounds.boxed left statuses.Limited t.problem (λ e. absurd (cc e)) t.states
+      stated one asked.bounds.boxed left by statuses.Limited t.problem (λ e. absurd (cc e)) (λ calm e. absurd (cc e)) t.states
   file_complete statuses.Stranded t =
-      stated one asked.bounds.boxed left statuses.Stranded t.problem (λ e. absurd (cc e)) t.states
-  file_complete statuses.Refused t = refused one asked.bounds.boxed left t.fault t.first
+      stated one asked.bounds.boxed left by statuses.Stranded t.problem (λ e. absurd (cc e))
+      (λ calm e. live t.problem t.outcome t.ran calm (stranded_end asked.bounds.gap t.outcome.end t.lines.first t.lines.end)) t.states
+  file_complete statuses.Refused t = refused one asked.bounds.boxed left by t.fault t.first
   file_complete statuses.ReadFault t =
-      untold asked.bounds.boxed left statuses.ReadFault (inr (inl refl)) (λ e. absurd (cc e))
+      untold asked.bounds.boxed left by statuses.ReadFault (inr (inl refl)) (λ e. absurd (cc e)) (λ calm e. absurd (cc e))
   file_complete statuses.Memory t =
-      untold asked.bounds.boxed left statuses.Memory (inr (inr refl)) (λ e. absurd (cc e))
+      untold asked.bounds.boxed left by statuses.Memory (inr (inr refl)) (λ e. absurd (cc e)) (λ calm e. absurd (cc e))
   file_complete statuses.DiskFault t =
-      stated one asked.bounds.boxed left statuses.DiskFault t.problem (λ e. absurd (cc e)) t.states
-  file_complete statuses.NoCheckpoint t = stated one asked.bounds.boxed left
-      statuses.NoCheckpoint t.problem (λ e. absurd (cc e)) t.states
-  file_complete statuses.OtherProblem t = stated one asked.bounds.boxed left
-      statuses.OtherProblem t.problem (λ e. absurd (cc e)) t.states
+      stated one asked.bounds.boxed left by statuses.DiskFault t.problem (λ e. absurd (cc e)) (λ calm e. absurd (cc e)) t.states
+  file_complete statuses.NoCheckpoint t = stated one asked.bounds.boxed left by
+      statuses.NoCheckpoint t.problem (λ e. absurd (cc e)) (λ calm e. absurd (cc e)) t.states
+  file_complete statuses.OtherProblem t = stated one asked.bounds.boxed left by
+      statuses.OtherProblem t.problem (λ e. absurd (cc e)) (λ calm e. absurd (cc e)) t.states
   file_complete statuses.BadImage t =
-      stated one asked.bounds.boxed left statuses.BadImage t.problem (λ e. absurd (cc e)) t.states
+      stated one asked.bounds.boxed left by statuses.BadImage t.problem (λ e. absurd (cc e)) (λ calm e. absurd (cc e)) t.states
   file_complete statuses.Spent t =
-      stated one asked.bounds.boxed left statuses.Spent t.problem (λ e. absurd (cc e)) t.states
+      stated one asked.bounds.boxed left by statuses.Spent t.problem (λ e. absurd (cc e)) (λ calm e. absurd (cc e)) t.states
   file_complete statuses.SmallerGap t =
-      stated one asked.bounds.boxed left statuses.SmallerGap t.problem (λ e. absurd (cc e)) t.states
+      stated one asked.bounds.boxed left by statuses.SmallerGap t.problem (λ e. absurd (cc e)) (λ calm e. absurd (cc e)) t.states
   file_complete statuses.Usage t = absurd t
   file_complete statuses.WriteFault t = absurd t
   file_complete statuses.LinkFault t = absurd t
@@ -137,18 +156,21 @@ module _ (one : OneOutcome) (Ran : Instance → Outcome → Type 0)
 
 solve_complete : OneOutcome → {A : Type 0} (folder : Option A) (asked : Asked) (old new : Outside)
     (status : Status) (text : List ℕ) → AreSolveLines folder asked old new status text
-    → IsComplete asked.bounds.boxed old.source.left status
+    → IsComplete asked.bounds.boxed old.source.left (crews_at old new) status
 solve_complete one None asked old new status text t =
-    file_complete one _ _ asked old.source.left text status t
+    file_complete one _ _ asked old.source.left text (crews_at old new)
+    (λ p o ran. run_live _ _ (crews_at old new) p _ o ran.ran) status t
 solve_complete one (Some folder) asked old new status text t =
-    file_complete one _ _ asked old.source.left text status t
+    file_complete one _ _ asked old.source.left text (crews_at old new)
+    (λ p o ran. run_live _ _ (crews_at old new) p _ o ran.ran) status t
 
 pub lines_complete : OneOutcome → (plan : Plan) (old new : Outside) (status : Status)
-    (text : List ℕ) → AreLinesOf plan old new status text → IsCompleteOf plan old.source.left status
+    (text : List ℕ) → AreLinesOf plan old new status text → IsCompleteOf plan old.source.left (crews_at old new) status
 lines_complete one (plans.Solve solve) old new status text t =
     solve_complete one solve.checkpoint solve.settings old new status text t
 lines_complete one (plans.Restart restart) old new status text t =
-    file_complete one _ _ restart.settings old.source.left text status t
+    file_complete one _ _ restart.settings old.source.left text (crews_at old new)
+    (λ p o ran. run_live _ _ (crews_at old new) p _ o ran.ran) status t
 lines_complete one (plans.Worker worker) old new status text t = tt
 lines_complete one (plans.Show show) old new status text t = tt
 lines_complete one (plans.Gen gen) old new status text t = tt

@@ -1,6 +1,6 @@
 -- What is so of a run's end, whoever solved.
 use Rattle.std.proofs.Common.{◌≡◌, inl, inr, ℕ, [], Option, None, Some, IfSome, refl, sym, subst}
-use Rattle.std.specs.Prelude.{IsNone}
+use Rattle.std.specs.Prelude.{IsNone, IsSomeAnd, List}
 use Rattle.std.proofs.lemmas.Bool.{false≢true}
 use Rattle.ug_io.specs.Crews.{CrewSeen}
 use Rattle.ug_disk.specs.Crashes.{Leaves}
@@ -13,7 +13,7 @@ use Rattle.ug_restart.specs.declared.outcome.End.{End}
 use Rattle.ug_restart.specs.declared.outcome.End.TheVariants.{Answered, Limited, Memory, Stranded}
 use Rattle.ug_restart.specs.declared.outcome.Outcome.{Outcome}
 use Rattle.ug_restart.specs.Moments.{AllCovered, FindsIn, IsCoveredNow, IsFoundNow, IsOfRun}
-use Rattle.ug_restart.specs.Outcomes.{HasFeasible, IfAnswered, IfBook, IsMissedByFaults, IsRight, IsSavedOrCounted, IsUntouched}
+use Rattle.ug_restart.specs.Outcomes.{HasFeasible, IfAnswered, IfBook, IsMissedByFaults, IsRight, IsSavedOrCounted, IsStranded, IsUntouched}
 use Rattle.ug_threads.specs.Outcomes.{HasEnded}
 use Rattle.ug_threads.proofs.Endings.{none_ended}
 use Rattle.ug_threads.specs.Ends.{IsReplayOf}
@@ -30,9 +30,14 @@ use Rattle.ug_cli.specs.declared.plan.Mode.{Mode}
 use Rattle.ug_cli.specs.declared.plan.Mode.TheVariants.{Threads, Processes}
 use Rattle.ug_cli.specs.Taken.{crew_of}
 use Rattle.ug_world.specs.Coordinators.{CoordinatorsLoseNothing}
+use Rattle.ug_world.specs.Calm.{CalmWorkersLive}
+use Rattle.ug_world.proofs.Solved.{never_stranded}
+use Rattle.ug_book.specs.declared.opening.Opening.{Opening}
+use Rattle.ug_book.specs.Openings.{IsOpening, opening_book}
+use Rattle.ug_io.specs.declared.crew.Exchange.{Exchange}
 use Rattle.ug_top.specs.Ends.{HasCrewFor}
-use Rattle.ug_top.specs.Runs.{IsNewRun}
-use Rattle.ug_top.specs.Solved.{FitsCrew, HasSolved, HasSolvedSafely, IsStillThere, IsTrusted, KeepsCovered, KeepsCoveredBy}
+use Rattle.ug_top.specs.Runs.{IsNewRun, IsRun}
+use Rattle.ug_top.specs.Solved.{Crewed, FitsCrew, HasSolved, HasSolvedSafely, IsCalmlyWorked, IsSeenCalm, IsStillThere, KeepsCovered, KeepsCoveredBy, has_solved, is_seen_calm, is_trusted, keeps_by, stays_calm, unchanged}
 
 -- ---- the ending book
 
@@ -42,15 +47,19 @@ threads_same given (Limited b) t = same_run given b t
 threads_same given (Stranded b) t = same_run given b t
 threads_same given Memory t = tt
 
-pub solved_same : (by : Option CrewSeen) (given : BookState) (end : End) → HasSolved by given end
+pub solved_same : (was now : Option CrewSeen) (given : BookState) (end : End) → has_solved was now given end
     → IfBook end (IsSameRun given)
-solved_same None given end h = threads_same given end h.replayed
-solved_same (Some crew) given end h = h.1.same
+solved_same None None given end h = threads_same given end h.replayed
+solved_same None (Some now) given end h = absurd h
+solved_same (Some was) None given end h = absurd h
+solved_same (Some was) (Some now) given end h = h.same
 
-pub solved_feasible : (by : Option CrewSeen) (given : BookState) (end : End) → HasSolved by given end
+pub solved_feasible : (was now : Option CrewSeen) (given : BookState) (end : End) → has_solved was now given end
     → IfBook end HasFeasible
-solved_feasible None given end h = h.feasible
-solved_feasible (Some crew) given end h = h.1.feasible
+solved_feasible None None given end h = h.feasible
+solved_feasible None (Some now) given end h = absurd h
+solved_feasible (Some was) None given end h = absurd h
+solved_feasible (Some was) (Some now) given end h = h.feasible
 
 crew_answered : (end : End) (b : BookState) → is_ended end b → IfAnswered end (λ own. held_nodes own ≡ [])
 crew_answered (Answered own) b (same, none) = subst (λ (k : BookState). held_nodes k ≡ []) (sym same) none
@@ -58,10 +67,12 @@ crew_answered (Limited own) b is = tt
 crew_answered (Stranded own) b is = tt
 crew_answered Memory b is = tt
 
-pub solved_answered : (by : Option CrewSeen) (given : BookState) (end : End) → HasSolved by given end
+pub solved_answered : (was now : Option CrewSeen) (given : BookState) (end : End) → has_solved was now given end
     → IfAnswered end (λ own. held_nodes own ≡ [])
-solved_answered None given end h = h.answered
-solved_answered (Some crew) given end h = crew_answered end h.1.now.book h.1.ended
+solved_answered None None given end h = h.answered
+solved_answered None (Some now) given end h = absurd h
+solved_answered (Some was) None given end h = absurd h
+solved_answered (Some was) (Some now) given end h = crew_answered end h.now.book h.ended
 
 crew_right : (end : End) (b : BookState) → is_ended end b → IsSoundBook b
     → IfAnswered end (λ own. IsSoundBook own → IsRight own) → IfAnswered end IsRight
@@ -71,15 +82,16 @@ crew_right (Stranded own) b is sound right = tt
 crew_right Memory b is sound right = tt
 
 -- where it is trusted
-pub solved_right : CoordinatorsLoseNothing → (by : Option CrewSeen) (given : BookState) (end : End)
-    (h : HasSolved by given end) → given.last ≡ 0 → IsTrusted by given end h → IsSoundBook given
+pub solved_right : CoordinatorsLoseNothing → (was now : Option CrewSeen) (given : BookState) (end : End)
+    (h : has_solved was now given end) → given.last ≡ 0 → is_trusted was now given end h → IsSoundBook given
     → IfAnswered end IsRight
-solved_right law None given end h unused trusted sound = h.right sound
-solved_right law (Some crew) given end h unused trusted sound =
-    let its = h.1 in
-    let stays = law given h.0 its.now its.come its.made sound unused trusted in
-    crew_right end its.now.book its.ended
-    (sound_last _ its.come.deeds its.now its.come.course stays.0) its.right
+solved_right law None None given end h unused trusted sound = h.right sound
+solved_right law None (Some now) given end h unused trusted sound = absurd h
+solved_right law (Some was) None given end h unused trusted sound = absurd h
+solved_right law (Some was) (Some now) given end h unused trusted sound =
+    let stays = law given was.faults h.now h.come h.made sound unused trusted in
+    crew_right end h.now.book h.ended
+    (sound_last _ h.come.deeds h.now h.come.course stays.0) h.right
 
 -- ---- what was said of a solve by a crew
 
@@ -106,12 +118,39 @@ unsafely given faults crew end Tried Safe h = record {
   safe = λ sound. tt;
 }
 
-pub crew_safely : CoordinatorsLoseNothing → (given : BookState) (faults : ℕ) (crew : CrewSeen) (end : End)
-    (Tried : ℕ → Type 0) (Safe : Type 0) → given.last ≡ 0 → HasCoordinated given faults crew end Tried Safe
-    → HasSolvedSafely (Some crew) given end Safe
-crew_safely law given faults crew end Tried Safe unused h = record {
-  solved = (faults, unsafely given faults crew end Tried Safe h);
-  safe = λ trusted sound. h.safe (law given faults h.now h.come h.made sound unused trusted).0;
+-- and as if the crew told what went between
+abbrev tells_it : (given : BookState) (faults : ℕ) (crew : CrewSeen) (end : End) (Tried : ℕ → Type 0) (Safe : Type 0)
+    (h : HasCoordinated given faults crew end Tried Safe)
+    → HasCoordinated given faults (record crew { said = Some h.now.said }) end (λ count. Unit {0}) (Unit {0})
+tells_it given faults crew end Tried Safe h = record {
+  now = h.now;
+  come = h.come;
+  made = h.made;
+  shown = refl;
+  closed = h.closed;
+  ended = h.ended;
+  failed = h.failed;
+  wants = h.wants;
+  saved = h.saved;
+  same = h.same;
+  feasible = h.feasible;
+  limited = h.limited;
+  causes = h.causes;
+  right = h.right;
+  tried = tt;
+  safe = λ sound. tt;
+}
+
+pub crew_safely : CoordinatorsLoseNothing → CalmWorkersLive → (o : Opening) → IsOpening o
+    → (was now : CrewSeen) (end : End) (Tried : ℕ → Type 0) (Safe : Type 0)
+    → HasCoordinated (opening_book o) was.faults now end Tried Safe
+    → HasSolvedSafely (record { was = Some was; now = Some now }) (opening_book o) end Safe
+crew_safely law calm_law o opening was now end Tried Safe h = record {
+  solved = unsafely (opening_book o) was.faults now end Tried Safe h;
+  safe = λ trusted sound. h.safe (law (opening_book o) was.faults h.now h.come h.made sound refl trusted).0;
+  live = λ served. never_stranded o end was.faults (record now { said = Some h.now.said }) h.now.said
+      (λ count. Unit {0}) (Unit {0}) (tells_it (opening_book o) was.faults now end Tried Safe h) refl
+      calm_law opening served.worked served.calm;
 }
 
 -- ---- and of one by threads
@@ -134,15 +173,13 @@ threads_kept given saver outcome old new untouched saved found missed =
 
 pub nobody_solved : (by : Option CrewSeen) (given : BookState) (outcome : Outcome) (solvers : ℕ)
     → FitsCrew solvers by → AreAlive given → IsNothing outcome
-    → solvers ≡ ranks_of given → HasSolved by given outcome.end
+    → solvers ≡ ranks_of given → HasSolved (unchanged by) given outcome.end
 nobody_solved None given outcome solvers fits alive none ranks =
     subst (HasEnded given) (sym none.ended) (none_ended given)
 nobody_solved (Some crew) given outcome solvers fits alive none ranks =
-    let disk : DiskSeen = record { told = None; faults = 0 } in (
-      crew.faults,
-      unsafely given crew.faults crew outcome.end (AreEachSaved None outcome disk) (IsKeptSafe None disk disk)
-          (nothing_coordinated given crew None outcome disk (subst (IsFresh crew) ranks fits) alive none),
-    )
+    let disk : DiskSeen = record { told = None; faults = 0 } in
+    unsafely given crew.faults crew outcome.end (AreEachSaved None outcome disk) (IsKeptSafe None disk disk)
+    (nothing_coordinated given crew None outcome disk (subst (IsFresh crew) ranks fits) alive none)
 
 pub still_there : (crew : Option CrewSeen) → IsStillThere crew crew
 still_there None = tt
@@ -150,20 +187,63 @@ still_there (Some crew) = tt
 
 -- ---- at each moment
 
-pub kept_by : (by : Option CrewSeen) (given : BookState) (end : End) (old new : DiskSeen) (Safe : Type 0)
-    → HasSolvedSafely by given end Safe → ((IsSoundBook given → Safe) → KeepsCovered old new)
-    → KeepsCoveredBy by old new
-kept_by None given end old new Safe done keeps = keeps (λ sound. done.safe tt sound)
-kept_by (Some crew) given end old new Safe done keeps = inr (record {
+kept_between : (was now : Option CrewSeen) (given : BookState) (end : End) (old new : DiskSeen) (Safe : Type 0)
+    → HasSolvedSafely (record { was = was; now = now }) given end Safe
+    → ((IsSoundBook given → Safe) → KeepsCovered old new) → keeps_by was now old new
+kept_between None None given end old new Safe done keeps = keeps (λ sound. done.safe tt sound)
+kept_between None (Some now) given end old new Safe done keeps = absurd done.solved
+kept_between (Some was) None given end old new Safe done keeps = absurd done.solved
+kept_between (Some was) (Some now) given end old new Safe done keeps = inr (record {
   given = given;
   end = end;
   solved = done.solved;
   kept = λ trusted. keeps (λ sound. done.safe trusted sound);
 })
 
-pub kept_anyway : (by : Option CrewSeen) (old new : DiskSeen) → KeepsCovered old new → KeepsCoveredBy by old new
-kept_anyway None old new keeps = keeps
-kept_anyway (Some crew) old new keeps = inl keeps
+pub kept_by : (by : Crewed) (given : BookState) (end : End) (old new : DiskSeen) (Safe : Type 0)
+    → HasSolvedSafely by given end Safe → ((IsSoundBook given → Safe) → KeepsCovered old new)
+    → KeepsCoveredBy by old new
+kept_by by given end old new Safe done keeps =
+    kept_between by.was by.now given end old new Safe done keeps
+
+kept_always : (was now : Option CrewSeen) (old new : DiskSeen) → KeepsCovered old new → keeps_by was now old new
+kept_always None None old new keeps = keeps
+kept_always None (Some now) old new keeps = keeps
+kept_always (Some was) None old new keeps = keeps
+kept_always (Some was) (Some now) old new keeps = inl keeps
+
+pub kept_anyway : (by : Crewed) (old new : DiskSeen) → KeepsCovered old new → KeepsCoveredBy by old new
+kept_anyway by old new keeps = kept_always by.was by.now old new keeps
+
+-- ---- it is not stranded
+
+-- where it ended without a book
+pub nothing_live : (end : End) → end ≡ Memory → ¬ IsStranded end
+nothing_live (Answered b) is stranded = stranded
+nothing_live (Limited b) is stranded = stranded
+nothing_live (Stranded b) is stranded = absurd (cc is)
+nothing_live Memory is stranded = stranded
+
+worked_told : (before after : ℕ) (told : Option (List Exchange)) (said : List Exchange)
+    → IfSome told (λ own. own ≡ said) → IsSomeAnd told (IsCalmlyWorked before after)
+    → IsCalmlyWorked before after said
+worked_told before after None said shown seen = absurd seen
+worked_told before after (Some own) said shown seen = subst (IsCalmlyWorked before after) shown seen
+
+-- what the crew tells is what went between
+seen_calm : (was now : Option CrewSeen) (given : BookState) (end : End) (h : has_solved was now given end)
+    → is_seen_calm was now → stays_calm was now given end h
+seen_calm None None given end h seen = tt
+seen_calm None (Some now) given end h seen = absurd h
+seen_calm (Some was) None given end h seen = absurd h
+seen_calm (Some was) (Some now) given end h seen =
+    worked_told was.faults now.faults now.said h.now.said h.shown seen
+
+pub run_live : (Began : BookState → Type 0) (Trusted : (b : BookState) → Began b → Type 0) (by : Crewed)
+    (p : Instance) (settings : Settings) (outcome : Outcome) → IsRun Began Trusted by p settings outcome
+    → IsSeenCalm by → ¬ IsStranded outcome.end
+run_live Began Trusted by p settings outcome ran seen =
+    ran.live (seen_calm by.was by.now ran.given outcome.end ran.solved seen)
 
 -- ---- where there is no crew
 
@@ -176,10 +256,12 @@ stays_none None None none still = refl
 stays_none None (Some new) none still = absurd still
 stays_none (Some old) new none still = absurd (false≢true (sym none))
 
-pub new_by_none : (by : Option CrewSeen) (p : Instance) (settings : Settings) (outcome : Outcome) → IsNone by
-    → IsNewRun by p settings outcome → IsNewRun None p settings outcome
-new_by_none None p settings outcome none ran = ran
-new_by_none (Some crew) p settings outcome none ran = absurd (false≢true (sym none))
+pub new_by_none : (was now : Option CrewSeen) (p : Instance) (settings : Settings) (outcome : Outcome)
+    → IsNone was → IsNone now → IsNewRun (record { was = was; now = now }) p settings outcome
+    → IsNewRun (unchanged None) p settings outcome
+new_by_none None None p settings outcome none still ran = ran
+new_by_none None (Some now) p settings outcome none still ran = absurd (false≢true (sym still))
+new_by_none (Some was) now p settings outcome none still ran = absurd (false≢true (sym none))
 
 -- ---- what a plan needs
 

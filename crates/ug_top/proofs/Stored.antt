@@ -18,9 +18,8 @@ use Rattle.ug_restart.specs.declared.outcome.Outcome.{Outcome}
 use Rattle.ug_restart.specs.Openings.{CoversWhatIsFound}
 use Rattle.ug_restart.specs.Moments.{AllCovered, IsCoveredFind}
 use Rattle.ug_restart.specs.Outcomes.{IsMissedByFaults, IsUntouched}
-use Rattle.ug_io.specs.Crews.{CrewSeen}
 use Rattle.ug_top.specs.Runs.{IsKeptOn}
-use Rattle.ug_top.specs.Solved.{KeepsCovered, KeepsCoveredBy}
+use Rattle.ug_top.specs.Solved.{Crewed, KeepsCovered, KeepsCoveredBy}
 use Rattle.ug_top.proofs.Solved.{kept_anyway}
 use Rattle.ug_top.specs.declared.ended.Ended.{Ended}
 use Rattle.ug_top.specs.declared.ended.Ended.TheVariants.{Lines, Quiet, Refused, ReadFault, Memory}
@@ -129,7 +128,7 @@ kept_stored Keeps gap Is outcome e old new t kept moment =
     outcome_stored Keeps gap outcome e old new t (missed_rises outcome old new kept.missed) moment
 
 -- a run without one
-pub alone_stored : (by : Option CrewSeen) (gap : ℕ) (outcome : Outcome) (e : Ended) (old new : DiskSeen)
+pub alone_stored : (by : Crewed) (gap : ℕ) (outcome : Outcome) (e : Ended) (old new : DiskSeen)
     → TellsOutcome gap outcome e → IsUntouched outcome old new
     → IsStored (KeepsCoveredBy by old new) old new (status_of e)
 alone_stored by gap outcome e old new t u =

@@ -12,8 +12,9 @@ use Rattle.ug_top.specs.declared.ended.Ended.{Ended}
 use Rattle.ug_top.specs.declared.ended.Ended.TheVariants.{Lines, Quiet, Refused, ReadFault, Memory}
 use Rattle.ug_top.specs.declared.status.Status.{Status}
 use Rattle.ug_top.specs.declared.status.Status.TheVariants as statuses
-use Rattle.ug_top.specs.Ends.{AreFileLines, AreGenLines, AreRestartLines, AreSolveLines, BeginsAlways, HasNotBegun, HasNotGoneOn, HasRunAlone, HasRunOn, HasRunSaved, status_of, text_of}
+use Rattle.ug_top.specs.Ends.{AreFileLines, AreGenLines, AreRestartLines, AreSolveLines, BeginsAlways, HasNotBegun, HasNotGoneOn, HasRunAlone, HasRunOn, HasRunSaved, crews_at, status_of, text_of}
 use Rattle.ug_top.specs.Outside.{Outside}
+use Rattle.ug_top.specs.Solved.{unchanged}
 use Rattle.ug_top.specs.Plans.{settings_made}
 use Rattle.ug_disk.specs.Histories.{DiskSeen}
 use Rattle.ug_restart.specs.Outcomes.{IsUntouched}
@@ -147,32 +148,32 @@ module _ (Ran : Instance → Outcome → Type 0) (Not : Instance → StartFault 
 -- a solve without a checkpoint
 pub alone_lines : {A : Type 0} (folder : Option A) (asked : Asked) (old new : Outside) (p : Instance)
     → folder ≡ None → States old.source.left asked.bounds.boxed p → (e : Ended)
-    → TellsRun (HasRunAlone new.crew asked old.disk new.disk p) (BeginsAlways p)
+    → TellsRun (HasRunAlone (crews_at old new) asked old.disk new.disk p) (BeginsAlways p)
     asked.bounds.gap e → AreSolveLines folder asked old new (status_of e) (text_of e)
 alone_lines {A} folder asked old new p is states e t =
     subst (λ (k : Option A). AreSolveLines k asked old new (status_of e) (text_of e)) (sym is)
-    (run_lines (HasRunAlone new.crew asked old.disk new.disk) BeginsAlways asked
+    (run_lines (HasRunAlone (crews_at old new) asked old.disk new.disk) BeginsAlways asked
     old.source.left p states e t)
 
 -- a solve with one
 pub saved_lines : {A : Type 0} (folder : Option A) (name : A) (asked : Asked) (old new : Outside)
     (p : Instance) → folder ≡ Some name → States old.source.left asked.bounds.boxed p → (e : Ended)
-    → TellsRun (HasRunSaved new.crew asked old.disk new.disk p)
+    → TellsRun (HasRunSaved (crews_at old new) asked old.disk new.disk p)
     (HasNotBegun asked old.disk new.disk p) asked.bounds.gap e
     → AreSolveLines folder asked old new (status_of e) (text_of e)
 saved_lines {A} folder name asked old new p is states e t =
     subst (λ (k : Option A). AreSolveLines k asked old new (status_of e) (text_of e)) (sym is)
-    (run_lines (HasRunSaved new.crew asked old.disk new.disk)
+    (run_lines (HasRunSaved (crews_at old new) asked old.disk new.disk)
     (HasNotBegun asked old.disk new.disk) asked old.source.left p states e t)
 
 -- a restart
 pub restart_lines : (asked : Asked) (old new : Outside) (p : Instance)
     → States old.source.left asked.bounds.boxed p → (e : Ended)
-    → TellsRun (HasRunOn new.crew asked old.disk new.disk p)
+    → TellsRun (HasRunOn (crews_at old new) asked old.disk new.disk p)
     (HasNotGoneOn asked old.disk new.disk p) asked.bounds.gap e
     → AreRestartLines asked old new (status_of e) (text_of e)
 restart_lines asked old new p states e t =
-    run_lines (HasRunOn new.crew asked old.disk new.disk)
+    run_lines (HasRunOn (crews_at old new) asked old.disk new.disk)
     (HasNotGoneOn asked old.disk new.disk) asked old.source.left p states e t
 
 -- a command that read no problem
@@ -214,7 +215,7 @@ not_stranded (ends.Stranded b) status text t is = absurd t
 not_stranded ends.Memory status text t is = absurd t
 
 module _ (gen : Gen) (old new : DiskSeen) (outcome : Outcome)
-    (ran : IsNewRun None (instance gen.seed gen.size) (settings_made gen.solvers) outcome)
+    (ran : IsNewRun (unchanged None) (instance gen.seed gen.size) (settings_made gen.solvers) outcome)
     (untouched : IsUntouched outcome old new) where
   made_over : (status : Status) (text : List ℕ) → IsEndLine outcome.end status text
       → IsOver status → AreGenLines gen old new status text

@@ -33,6 +33,7 @@ use Rattle.ug_cli.specs.declared.plan.Gen.{Gen}
 use Rattle.ug_cli.specs.declared.plan.Plan.{Plan}
 use Rattle.ug_cli.specs.declared.plan.Plan.TheVariants as plans
 use Rattle.ug_top.specs.Outside.{Outside}
+use Rattle.ug_top.specs.Solved.{Crewed, unchanged}
 use Rattle.ug_top.specs.Plans.{IsPlanned, IsPlannedGen, settings_for, settings_made}
 use Rattle.ug_top.specs.Lines.{AreFaultLines, AreRunLines, IsEndLine, IsRefusedLine}
 use Rattle.ug_top.specs.declared.status.Status.{Status}
@@ -88,7 +89,7 @@ AreFileLines Ran Not asked left statuses.LinkFault text = ⊥
 AreFileLines Ran Not asked left statuses.BadFrame text = ⊥
 
 -- a new solve without a checkpoint: the disk is left alone, and nothing keeps it from beginning
-pub record HasRunAlone (by : Option CrewSeen) (asked : Asked) (old new : DiskSeen) (p : Instance)
+pub record HasRunAlone (by : Crewed) (asked : Asked) (old new : DiskSeen) (p : Instance)
     (outcome : Outcome) : Type 0 where
   pub ran : IsNewRun by p (settings_for asked p) outcome
   pub untouched : IsUntouched outcome old new
@@ -97,7 +98,7 @@ abbrev pub BeginsAlways : Instance → StartFault → Type 0
 BeginsAlways p fault = ⊥
 
 -- a new solve with a checkpoint
-pub record HasRunSaved (by : Option CrewSeen) (asked : Asked) (old new : DiskSeen) (p : Instance)
+pub record HasRunSaved (by : Crewed) (asked : Asked) (old new : DiskSeen) (p : Instance)
     (outcome : Outcome) : Type 0 where
   pub ran : IsSavedRun by p (settings_for asked p) old.told outcome
   pub kept : IsKeptOn (IsBegun p (settings_for asked p) old.told) outcome old new
@@ -113,7 +114,7 @@ pub record HasNotBegun (asked : Asked) (old new : DiskSeen) (p : Instance) (faul
   pub kept : KeepsImage (IsBegun p (settings_for asked p) old.told) old.told new.told
 
 -- a run that goes on from the checkpoint
-pub record HasRunOn (by : Option CrewSeen) (asked : Asked) (old new : DiskSeen) (p : Instance)
+pub record HasRunOn (by : Crewed) (asked : Asked) (old new : DiskSeen) (p : Instance)
     (outcome : Outcome) : Type 0 where
   pub ran : IsRunOn by p (settings_for asked p) old.told outcome
   pub kept : IsKeptOn (IsGoneOn p (settings_for asked p) old.told) outcome old new
@@ -127,21 +128,25 @@ pub record HasNotGoneOn (asked : Asked) (old new : DiskSeen) (p : Instance) (fau
       old.told new.told
   pub kept : KeepsImage (IsGoneOn p (settings_for asked p) old.told) old.told new.told
 
+-- the crew as it was and as it is
+abbrev pub crews_at : Outside → Outside → Crewed
+crews_at old new = record { was = old.crew; now = new.crew }
+
 -- how a solve ends, where a checkpoint is kept and where none is
 abbrev pub AreSolveLines : {A : Type 0} → Option A → Asked → Outside → Outside → Status → List ℕ
     → Type 0
 AreSolveLines None asked old new status text =
-    AreFileLines (HasRunAlone new.crew asked old.disk new.disk) BeginsAlways asked old.source.left status
-    text
-AreSolveLines (Some folder) asked old new status text =
-    AreFileLines (HasRunSaved new.crew asked old.disk new.disk) (HasNotBegun asked old.disk new.disk) asked
+    AreFileLines (HasRunAlone (crews_at old new) asked old.disk new.disk) BeginsAlways asked
     old.source.left status text
+AreSolveLines (Some folder) asked old new status text =
+    AreFileLines (HasRunSaved (crews_at old new) asked old.disk new.disk)
+    (HasNotBegun asked old.disk new.disk) asked old.source.left status text
 
 -- how a restart ends
 abbrev pub AreRestartLines : Asked → Outside → Outside → Status → List ℕ → Type 0
 AreRestartLines asked old new status text =
-    AreFileLines (HasRunOn new.crew asked old.disk new.disk) (HasNotGoneOn asked old.disk new.disk) asked
-    old.source.left status text
+    AreFileLines (HasRunOn (crews_at old new) asked old.disk new.disk)
+    (HasNotGoneOn asked old.disk new.disk) asked old.source.left status text
 
 -- ---- a checkpoint
 
@@ -245,7 +250,8 @@ pub record IsAccounted (Keeps : Type 0) (old new : Outside) (status : Status) : 
 pub record IsMadeRun (gen : Gen) (old new : DiskSeen) (status : Status) (text : List ℕ)
     : Type 0 where
   pub outcome : Outcome
-  pub ran : IsNewRun None (instance gen.seed gen.size) (settings_made gen.solvers) outcome
+  pub ran : IsNewRun (unchanged None) (instance gen.seed gen.size) (settings_made gen.solvers)
+      outcome
   pub untouched : IsUntouched outcome old new
   pub line : IsEndLine outcome.end status text
 

@@ -10,13 +10,13 @@ use Rattle.ug_cli.specs.Taken.{TakenWords}
 use Rattle.ug_cli.specs.declared.plan.Plan.{Plan}
 use Rattle.ug_cli.specs.declared.plan.Plan.TheVariants as plans
 use Rattle.ug_top.specs.Outside.{Outside}
-use Rattle.ug_top.specs.Solved.{IsStillThere, KeepsCoveredBy}
+use Rattle.ug_top.specs.Solved.{Crewed, IsSeenCalm, IsStillThere, KeepsCoveredBy}
 use Rattle.ug_mps.specs.Enough.{StopsAtEnd}
-use Rattle.ug_top.specs.Ends.{AreLinesOf, IsAccounted, IsDiskless, IsLeftAlone, status_of}
-use Rattle.ug_top.specs.Ends.{text_of}
+use Rattle.ug_top.specs.Ends.{AreLinesOf, IsAccounted, IsDiskless, IsLeftAlone, crews_at}
+use Rattle.ug_top.specs.Ends.{status_of, text_of}
 use Rattle.ug_top.specs.declared.ended.Ended.{Ended}
 use Rattle.ug_top.specs.declared.status.Status.{Status}
-use Rattle.ug_top.specs.declared.status.Status.TheVariants.{Usage, Refused, ReadFault}
+use Rattle.ug_top.specs.declared.status.Status.TheVariants.{Usage, Refused, ReadFault, Stranded}
 use Rattle.ug_top.specs.declared.status.Status.TheVariants.{WriteFault, Memory}
 
 -- the first fault of the text was told, unless the source failed or memory was wanting
@@ -24,19 +24,23 @@ abbrev pub IsToldOf : Status → Type 0
 IsToldOf status = (status ≡ Refused) ⊎ ((status ≡ ReadFault) ⊎ (status ≡ Memory))
 
 -- Where the source's bytes are told: of one with a first fault that is told, and one that states a
--- problem is not refused.
-pub record IsComplete (boxed : Option ℕ) (left : Option (List ℕ)) (status : Status) : Type 0 where
+-- problem is not refused. Where threads solved, or a crew that stayed calm and was worked, as it
+-- tells itself, the run is not stranded.
+pub record IsComplete (boxed : Option ℕ) (left : Option (List ℕ)) (by : Crewed) (status : Status)
+    : Type 0 where
   pub fault : IfSome left (λ bytes. (f : MpsFault) → FirstFault bytes boxed f → IsToldOf status)
   pub problem : IfSome left (λ bytes. (p : Instance) → Reads bytes boxed p → status ≢ Refused)
+  pub live : IsSeenCalm by → status ≢ Stranded
 
 -- so it is of a plan that reads a file
-abbrev pub IsCompleteOf : Plan → Option (List ℕ) → Status → Type 0
-IsCompleteOf (plans.Solve solve) left status = IsComplete solve.settings.bounds.boxed left status
-IsCompleteOf (plans.Restart restart) left status =
-    IsComplete restart.settings.bounds.boxed left status
-IsCompleteOf (plans.Worker worker) left status = Unit {0}
-IsCompleteOf (plans.Show show) left status = Unit {0}
-IsCompleteOf (plans.Gen gen) left status = Unit {0}
+abbrev pub IsCompleteOf : Plan → Option (List ℕ) → Crewed → Status → Type 0
+IsCompleteOf (plans.Solve solve) left by status =
+    IsComplete solve.settings.bounds.boxed left by status
+IsCompleteOf (plans.Restart restart) left by status =
+    IsComplete restart.settings.bounds.boxed left by status
+IsCompleteOf (plans.Worker worker) left by status = Unit {0}
+IsCompleteOf (plans.Show show) left by status = Unit {0}
+IsCompleteOf (plans.Gen gen) left by status = Unit {0}
 
 -- reading stopped with the line ENDATA, unless the source failed or memory was wanting
 abbrev pub IsReadTo : Outside → Outside → Status → Type 0
@@ -50,10 +54,10 @@ pub record IsWorked (words : List Text) (old new : Outside) (status : Status) (t
   pub plan : Plan
   pub taken : TakenWords words plan
   pub lines : AreLinesOf plan old new status text
-  pub accounted : IsAccounted (KeepsCoveredBy new.crew old.disk new.disk) old new status
+  pub accounted : IsAccounted (KeepsCoveredBy (crews_at old new) old.disk new.disk) old new status
   pub crew : IsStillThere old.crew new.crew
   pub alone : IsDiskless plan → IsLeftAlone old.disk new.disk
-  pub complete : IsCompleteOf plan old.source.left status
+  pub complete : IsCompleteOf plan old.source.left (crews_at old new) status
   pub read : IsReadTo old new status
 
 -- the words ask for no plan, and nothing is due

@@ -1,6 +1,5 @@
 -- A run, from a problem to the book with which it ends, and what it leaves on the disk.
 use Rattle.std.specs.Prelude.{◌≡◌, [], ◌∷◌, None, Option, IfSome}
-use Rattle.ug_io.specs.Crews.{CrewSeen}
 use Rattle.ug_disk.specs.Crashes.{Leaves}
 use Rattle.ug_disk.specs.Histories.{DiskSeen, History}
 use Rattle.ug_problem.specs.Instances.{Instance}
@@ -16,8 +15,8 @@ use Rattle.ug_restart.specs.Starts.{IsBegun, IsGoneOn, IsSafeStart}
 use Rattle.ug_restart.specs.Moments.{FindsIn, IsOfRun}
 use Rattle.ug_restart.specs.Outcomes.{IfBook}
 use Rattle.ug_restart.specs.Outcomes.{IfAnswered}
-use Rattle.ug_restart.specs.Outcomes.{IsMissedByFaults, IsSavedOrCounted}
-use Rattle.ug_top.specs.Solved.{HasSolved, IsTrusted}
+use Rattle.ug_restart.specs.Outcomes.{IsMissedByFaults, IsSavedOrCounted, IsStranded}
+use Rattle.ug_top.specs.Solved.{Crewed, HasSolved, IsTrusted, StaysCalm}
 
 -- the book with which a new solve without checkpoints begins: it is run 1, and the root is left
 abbrev pub first_book : Instance → Settings → BookState
@@ -35,9 +34,10 @@ IsRightFor p settings b = Right p settings.gap (one_kept b.best)
 
 -- The run began with such a book, and solvers led from it to the one with which it ended: threads,
 -- where there is no crew. Whatever it began with, the incumbent then is feasible; where that can be
--- trusted, and the solvers, an answer is right.
+-- trusted, and the solvers, an answer is right. Where a crew stayed calm and was worked, and always
+-- of threads, the run is not stranded.
 pub record IsRun (Began : BookState → Type 0) (Trusted : (b : BookState) → Began b → Type 0)
-    (by : Option CrewSeen) (p : Instance) (settings : Settings) (outcome : Outcome) : Type 0 where
+    (by : Crewed) (p : Instance) (settings : Settings) (outcome : Outcome) : Type 0 where
   pub given : BookState
   pub began : Began given
   pub solved : HasSolved by given outcome.end
@@ -45,20 +45,21 @@ pub record IsRun (Began : BookState → Type 0) (Trusted : (b : BookState) → B
   pub feasible : IfBook outcome.end (λ b. IfSome b.best (Feasible p))
   pub right : Trusted given began → IsTrusted by given outcome.end solved
       → IfAnswered outcome.end (IsRightFor p settings)
+  pub live : StaysCalm by given outcome.end solved → ¬ IsStranded outcome.end
 
 -- a new solve without checkpoints
-abbrev pub IsNewRun : Option CrewSeen → Instance → Settings → Outcome → Type 0
+abbrev pub IsNewRun : Crewed → Instance → Settings → Outcome → Type 0
 IsNewRun by p settings outcome =
     IsRun (λ b. b ≡ first_book p settings) (λ b t. Unit {0}) by p settings outcome
 
 -- a new solve on a disk, whatever it had
-abbrev pub IsSavedRun : Option CrewSeen → Instance → Settings → Option History → Outcome → Type 0
+abbrev pub IsSavedRun : Crewed → Instance → Settings → Option History → Outcome → Type 0
 IsSavedRun by p settings told outcome =
     IsRun (IsBegun p settings told) (λ b t. Unit {0}) by p settings outcome
 
 -- a run that goes on from what the disk had; its answer is right where the very image from which it
 -- goes on was Covered
-abbrev pub IsRunOn : Option CrewSeen → Instance → Settings → Option History → Outcome → Type 0
+abbrev pub IsRunOn : Crewed → Instance → Settings → Option History → Outcome → Type 0
 IsRunOn by p settings told outcome =
     IsRun (IsGoneOn p settings told) (λ b t. IsCovered t.found.image) by p settings outcome
 

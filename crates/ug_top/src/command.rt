@@ -6,7 +6,7 @@ ghost use Rattle.ug_top.specs.Ends.{HasNotBegun, HasNotGoneOn, HasRunAlone, HasR
 ghost use Rattle.ug_top.specs.Ends.{IsAccounted, IsDiskless, IsLeftAlone, IsPlannedOf, IsStored};
 ghost use Rattle.ug_top.specs.Ends.{status_of, text_of};
 ghost use Rattle.ug_top.specs.Outcomes.{TellsRun};
-ghost use Rattle.ug_top.specs.Solved.{FitsCrew, IsStillThere, KeepsCoveredBy};
+ghost use Rattle.ug_top.specs.Solved.{FitsCrew, IsStillThere, KeepsCoveredBy, crewed};
 ghost use Rattle.ug_top.specs.Unread.{HasStopped};
 
 use crate::boxes::{Stated, tell_boxes};
@@ -41,7 +41,7 @@ pub fn run_plan<
     requires needs { HasNeeds plan.now (outside S.seen D.seen C.seen L.seen objects.old) }
     ensures lines { AreLinesOf plan.now (outside S.seen D.seen C.seen L.seen objects.old)
         (outside S.seen D.seen C.seen L.seen objects.new) (status_of result) (text_of result) }
-    ensures accounted { IsAccounted (KeepsCoveredBy (seen_if C.seen objects.new.crew)
+    ensures accounted { IsAccounted (KeepsCoveredBy (crewed C.seen objects.old.crew objects.new.crew)
         (D.seen objects.old.disk) (D.seen objects.new.disk)) (outside S.seen D.seen C.seen L.seen objects.old)
         (outside S.seen D.seen C.seen L.seen objects.new) (status_of result) }
     ensures alone { IsDiskless plan.now
@@ -73,7 +73,7 @@ fn run_solve<
     requires fits { FitsCrew solve.now.settings.ranks.solvers (seen_if C.seen objects.old.crew) }
     ensures lines { AreSolveLines solve.now.checkpoint solve.now.settings (outside S.seen D.seen C.seen L.seen objects.old)
         (outside S.seen D.seen C.seen L.seen objects.new) (status_of result) (text_of result) }
-    ensures accounted { IsAccounted (KeepsCoveredBy (seen_if C.seen objects.new.crew)
+    ensures accounted { IsAccounted (KeepsCoveredBy (crewed C.seen objects.old.crew objects.new.crew)
         (D.seen objects.old.disk) (D.seen objects.new.disk)) (outside S.seen D.seen C.seen L.seen objects.old)
         (outside S.seen D.seen C.seen L.seen objects.new) (status_of result) }
     ensures alone { solve.now.checkpoint ≡ None
@@ -108,7 +108,7 @@ fn run_restart<
     requires fits { FitsCrew restart.now.settings.ranks.solvers (seen_if C.seen objects.old.crew) }
     ensures lines { AreRestartLines restart.now.settings (outside S.seen D.seen C.seen L.seen objects.old)
         (outside S.seen D.seen C.seen L.seen objects.new) (status_of result) (text_of result) }
-    ensures accounted { IsAccounted (KeepsCoveredBy (seen_if C.seen objects.new.crew)
+    ensures accounted { IsAccounted (KeepsCoveredBy (crewed C.seen objects.old.crew objects.new.crew)
         (D.seen objects.old.disk) (D.seen objects.new.disk)) (outside S.seen D.seen C.seen L.seen objects.old)
         (outside S.seen D.seen C.seen L.seen objects.new) (status_of result) }
     ensures stopped { HasStopped (S.seen objects.old.input).left (S.seen objects.new.input).left
@@ -135,11 +135,11 @@ fn run_alone<R: Threads + Wait + Sync, D: Disk, O: Observer, C: Crew + Drop>(
     requires planned { IsPlanned asked.now }
     requires fits { FitsCrew asked.now.ranks.solvers (seen_if C.seen crew.old) }
     ensures run { TellsRun
-        (HasRunAlone (seen_if C.seen crew.new) asked.now (D.seen disk.old) (D.seen disk.new)
+        (HasRunAlone (crewed C.seen crew.old crew.new) asked.now (D.seen disk.old) (D.seen disk.new)
         stated.problem)
         (BeginsAlways stated.problem) asked.now.bounds.gap result }
     ensures stored { IsStored
-        (KeepsCoveredBy (seen_if C.seen crew.new) (D.seen disk.old) (D.seen disk.new))
+        (KeepsCoveredBy (crewed C.seen crew.old crew.new) (D.seen disk.old) (D.seen disk.new))
         (D.seen disk.old) (D.seen disk.new) (status_of result) }
     ensures alone { IsLeftAlone (D.seen disk.old) (D.seen disk.new) }
     ensures crew { IsStillThere (seen_if C.seen crew.old) (seen_if C.seen crew.new) }
@@ -164,12 +164,12 @@ fn run_saved<R: Threads + Wait + Sync, D: Disk, O: Observer, C: Crew + Drop>(
     requires planned { IsPlanned asked.now }
     requires fits { FitsCrew asked.now.ranks.solvers (seen_if C.seen crew.old) }
     ensures run { TellsRun
-        (HasRunSaved (seen_if C.seen crew.new) asked.now (D.seen disk.old) (D.seen disk.new)
+        (HasRunSaved (crewed C.seen crew.old crew.new) asked.now (D.seen disk.old) (D.seen disk.new)
         stated.problem)
         (HasNotBegun asked.now (D.seen disk.old) (D.seen disk.new) stated.problem)
         asked.now.bounds.gap result }
     ensures stored { IsStored
-        (KeepsCoveredBy (seen_if C.seen crew.new) (D.seen disk.old) (D.seen disk.new))
+        (KeepsCoveredBy (crewed C.seen crew.old crew.new) (D.seen disk.old) (D.seen disk.new))
         (D.seen disk.old) (D.seen disk.new) (status_of result) }
     ensures crew { IsStillThere (seen_if C.seen crew.old) (seen_if C.seen crew.new) }
 {
@@ -200,12 +200,12 @@ fn run_on<R: Threads + Wait + Sync, D: Disk, O: Observer, C: Crew + Drop>(
     requires planned { IsPlanned asked.now }
     requires fits { FitsCrew asked.now.ranks.solvers (seen_if C.seen crew.old) }
     ensures run { TellsRun
-        (HasRunOn (seen_if C.seen crew.new) asked.now (D.seen disk.old) (D.seen disk.new)
+        (HasRunOn (crewed C.seen crew.old crew.new) asked.now (D.seen disk.old) (D.seen disk.new)
         stated.problem)
         (HasNotGoneOn asked.now (D.seen disk.old) (D.seen disk.new) stated.problem)
         asked.now.bounds.gap result }
     ensures stored { IsStored
-        (KeepsCoveredBy (seen_if C.seen crew.new) (D.seen disk.old) (D.seen disk.new))
+        (KeepsCoveredBy (crewed C.seen crew.old crew.new) (D.seen disk.old) (D.seen disk.new))
         (D.seen disk.old) (D.seen disk.new) (status_of result) }
     ensures crew { IsStillThere (seen_if C.seen crew.old) (seen_if C.seen crew.new) }
 {

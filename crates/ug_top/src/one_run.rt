@@ -10,6 +10,7 @@ ghost use Rattle.ug_restart.specs.Outcomes.{IsUntouched};
 ghost use Rattle.ug_top.specs.Outside.{seen_if};
 ghost use Rattle.ug_top.specs.Runs.{IsKeptOn, IsNewRun, IsRunOn, IsSavedRun};
 ghost use Rattle.ug_top.specs.Solved.{FitsCrew, HasSolvedSafely, IsStillThere, KeepsCoveredBy};
+ghost use Rattle.ug_top.specs.Solved.{crewed};
 
 use crate::solvers::solve_by;
 use std::sync::Wait;
@@ -33,7 +34,7 @@ pub fn solve_new<R: Threads + Wait + Sync, D: Disk, O: Observer, C: Crew + Drop>
 ) -> Outcome
     requires settings { AreSettings settings }
     requires fits { FitsCrew settings.solvers (seen_if C.seen crew.old) }
-    ensures ran { IsNewRun (seen_if C.seen crew.new) problem settings result }
+    ensures ran { IsNewRun (crewed C.seen crew.old crew.new) problem settings result }
     ensures untouched { IsUntouched result (D.seen disk.old) (D.seen disk.new) }
     ensures crew { IsStillThere (seen_if C.seen crew.old) (seen_if C.seen crew.new) }
 {
@@ -65,7 +66,7 @@ pub fn solve_saved<R: Threads + Wait + Sync, D: Disk, O: Observer, C: Crew + Dro
     requires settings { AreSettings settings }
     requires fits { FitsCrew settings.solvers (seen_if C.seen crew.old) }
     ensures ran { IfOk result
-        (IsSavedRun (seen_if C.seen crew.new) problem settings (D.seen disk.old).told) }
+        (IsSavedRun (crewed C.seen crew.old crew.new) problem settings (D.seen disk.old).told) }
     ensures kept { IfOk result (λ o. IsKeptOn
         (IsBegun problem settings (D.seen disk.old).told) o (D.seen disk.old) (D.seen disk.new)) }
     ensures refused { IfErr result (IsNotBegun (D.seen disk.old).told (D.seen disk.new).told) }
@@ -74,7 +75,7 @@ pub fn solve_saved<R: Threads + Wait + Sync, D: Disk, O: Observer, C: Crew + Dro
         (D.seen disk.old).told (D.seen disk.new).told) }
     ensures cause { IfErr result (λ fault. start_cause fault
         (D.seen disk.old).faults (D.seen disk.new).faults) }
-    ensures any_moment { KeepsCoveredBy (seen_if C.seen crew.new)
+    ensures any_moment { KeepsCoveredBy (crewed C.seen crew.old crew.new)
         (D.seen disk.old) (D.seen disk.new) }
     ensures crew { IsStillThere (seen_if C.seen crew.old) (seen_if C.seen crew.new) }
 {
@@ -97,7 +98,7 @@ pub fn go_on<R: Threads + Wait + Sync, D: Disk, O: Observer, C: Crew + Drop>(
     requires settings { AreSettings settings }
     requires fits { FitsCrew settings.solvers (seen_if C.seen crew.old) }
     ensures ran { IfOk result
-        (IsRunOn (seen_if C.seen crew.new) problem settings (D.seen disk.old).told) }
+        (IsRunOn (crewed C.seen crew.old crew.new) problem settings (D.seen disk.old).told) }
     ensures kept { IfOk result (λ o. IsKeptOn
         (IsGoneOn problem settings (D.seen disk.old).told) o (D.seen disk.old) (D.seen disk.new)) }
     ensures refused { IfErr result (IsNotGoneOn problem settings
@@ -107,7 +108,7 @@ pub fn go_on<R: Threads + Wait + Sync, D: Disk, O: Observer, C: Crew + Drop>(
         (D.seen disk.old).told (D.seen disk.new).told) }
     ensures cause { IfErr result (λ fault. start_cause fault
         (D.seen disk.old).faults (D.seen disk.new).faults) }
-    ensures any_moment { KeepsCoveredBy (seen_if C.seen crew.new)
+    ensures any_moment { KeepsCoveredBy (crewed C.seen crew.old crew.new)
         (D.seen disk.old) (D.seen disk.new) }
     ensures crew { IsStillThere (seen_if C.seen crew.old) (seen_if C.seen crew.new) }
 {
@@ -128,7 +129,8 @@ fn solve_from<R: Threads + Wait + Sync, D: Disk, O: Observer, C: Crew + Drop>(
     requires opening { IsOpening start.opening }
     requires kept { IsKept start.saver (D.seen disk.old).told }
     requires fits { FitsCrew start.opening.settings.solvers (seen_if C.seen crew.old) }
-    ensures solved { HasSolvedSafely (seen_if C.seen crew.new) (opening_book start.opening) result.end
+    ensures solved { HasSolvedSafely (crewed C.seen crew.old crew.new)
+        (opening_book start.opening) result.end
         (IsKeptSafe (Some start.saver) (D.seen disk.old) (D.seen disk.new)) }
     ensures kept { HasKept (opening_book start.opening) (Some start.saver) result
         (D.seen disk.old) (D.seen disk.new) }

@@ -4,7 +4,7 @@ use Rattle.ug_rules.specs.declared.settings.Settings.{Settings}
 use Rattle.ug_disk.specs.Crashes.{Leaves}
 use Rattle.ug_restart.specs.Starts.{IsGoneOn, IsNotGoneOn, IsSafeStart}
 use Rattle.ug_restart.proofs.Keeps.{keeps_image}
-use Rattle.ug_top.specs.Outside.{seen_if}
+use Rattle.ug_top.specs.Solved.{crewed}
 use Rattle.ug_top.specs.Runs.{IsKeptOn, IsRunOn}
 use Rattle.ug_top.specs.Plans.{settings_for}
 use Rattle.ug_top.specs.Ends.{HasNotGoneOn, HasRunOn}
@@ -19,11 +19,11 @@ returns-in-Ok-clause-run g c =
     let is = c.settings_for-settings.ensures.value
     ∙ ap (λ (p : Instance). settings_for c.args.asked.now p) c.problem.ensures.value in
     tells_outcome
-    (HasRunOn (seen_if g.C.Crew.seen c.go_on.new.crew) c.args.asked.now old new c.args.stated.problem)
+    (HasRunOn (crewed g.C.Crew.seen c.args.crew.now c.go_on.new.crew) c.args.asked.now old new c.args.stated.problem)
     (HasNotGoneOn c.args.asked.now old new c.args.stated.problem)
     c.args.asked.now.bounds.gap c.in-Ok.outcome c.tell_outcome-ended.result
     (record {
-      ran = subst (λ (s : Settings). IsRunOn (seen_if g.C.Crew.seen c.go_on.new.crew) c.args.stated.problem s old.told c.in-Ok.outcome) is
+      ran = subst (λ (s : Settings). IsRunOn (crewed g.C.Crew.seen c.args.crew.now c.go_on.new.crew) c.args.stated.problem s old.told c.in-Ok.outcome) is
           c.in-Ok.ensures.ran;
       kept = subst (λ (s : Settings). IsKeptOn (IsGoneOn c.args.stated.problem s old.told) c.in-Ok.outcome
           old new) is c.in-Ok.ensures.kept;
@@ -48,7 +48,7 @@ returns-in-Err-clause-run g c =
     Leaves (IsSafeStart old.told (IsGoneOn c.args.stated.problem s old.told)) old.told new.told) is
     c.in-Err.ensures.safe in
     tells_fault
-    (HasRunOn (seen_if g.C.Crew.seen c.go_on.new.crew) c.args.asked.now old new c.args.stated.problem)
+    (HasRunOn (crewed g.C.Crew.seen c.args.crew.now c.go_on.new.crew) c.args.asked.now old new c.args.stated.problem)
     (HasNotGoneOn c.args.asked.now old new c.args.stated.problem)
     c.args.asked.now.bounds.gap c.in-Err.fault c.tell_fault.result
     (record {

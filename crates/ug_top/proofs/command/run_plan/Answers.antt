@@ -3,6 +3,7 @@ use Rattle.ug_cli.specs.declared.plan.Plan.{Plan}
 use Rattle.ug_cli.specs.Taken.{needs_of}
 use Rattle.ug_top.specs.Ends.{HasCrewFor, status_of, text_of}
 use Rattle.ug_top.specs.Outside.{seen_if}
+use Rattle.ug_top.specs.Solved.{crewed, unchanged}
 use Rattle.ug_top.proofs.Accounts.{gen_accounted, show_accounted, worker_accounted}
 use Rattle.ug_top.proofs.Solved.{crew_fits, no_crew}
 use Rattle.ug_top.proofs.command.run_plan.Goals as goal
@@ -29,7 +30,7 @@ run_made-requires-clause-threads g c κs within =
 
 pub returns-in-Worker-clause-accounted : goal.returns-in-Worker-clause-accounted
 returns-in-Worker-clause-accounted g c =
-    let both = worker_accounted (seen_if g.C.Crew.seen c.args.objects.now.crew)
+    let both = worker_accounted (unchanged (seen_if g.C.Crew.seen c.args.objects.now.crew))
     (seen_if g.L.Link.seen c.run_worker.new.link) (g.S.Source.seen c.args.objects.now.input)
     (g.D.Disk.seen c.args.objects.now.disk) (status_of c.run_worker.result) (text_of c.run_worker.result)
     c.run_worker.ensures in
@@ -37,7 +38,7 @@ returns-in-Worker-clause-accounted g c =
 
 pub returns-in-Show-clause-accounted : goal.returns-in-Show-clause-accounted
 returns-in-Show-clause-accounted g c =
-    let both = show_accounted (seen_if g.C.Crew.seen c.args.objects.now.crew)
+    let both = show_accounted (unchanged (seen_if g.C.Crew.seen c.args.objects.now.crew))
     (g.S.Source.seen c.args.objects.now.input)
     (g.D.Disk.seen c.args.objects.now.disk) (g.D.Disk.seen c.show.new.disk) (status_of c.show.result)
     (text_of c.show.result) c.show.ensures.lines c.show.ensures.stored in
@@ -45,7 +46,7 @@ returns-in-Show-clause-accounted g c =
 
 pub returns-in-Gen-clause-accounted : goal.returns-in-Gen-clause-accounted
 returns-in-Gen-clause-accounted g c =
-    let both = gen_accounted (seen_if g.C.Crew.seen c.run_made.new.crew) c.in-Gen.asked
+    let both = gen_accounted (crewed g.C.Crew.seen c.args.objects.now.crew c.run_made.new.crew) c.in-Gen.asked
     (g.S.Source.seen c.args.objects.now.input)
     (g.D.Disk.seen c.args.objects.now.disk) (g.D.Disk.seen c.run_made.new.disk) (status_of c.run_made.result)
     (text_of c.run_made.result) c.run_made.ensures.lines c.run_made.ensures.stored in

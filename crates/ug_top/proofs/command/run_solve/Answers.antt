@@ -1,3 +1,4 @@
+use Rattle.ug_top.specs.Solved.{unchanged}
 use Rattle.ug_top.specs.Outside.{seen_if}
 use Rattle.ug_top.proofs.Accounts.{unread_read, unread_stored}
 use Rattle.ug_top.proofs.Solved.{still_there}
@@ -7,7 +8,7 @@ use Rattle.ug_top.proofs.command.run_solve.Goals as goal
 pub returns-in-Err-clause-accounted : goal.returns-in-Err-clause-accounted
 returns-in-Err-clause-accounted g c = record {
   read = unread_read _ _ c.in-Err.ended _ _ c.in-Err.ensures.unread c.in-Err.ensures.cause;
-  stored = unread_stored (seen_if g.C.Crew.seen c.args.objects.now.crew) _ _ c.in-Err.ended _ c.in-Err.ensures.unread;
+  stored = unread_stored (unchanged (seen_if g.C.Crew.seen c.args.objects.now.crew)) _ _ c.in-Err.ended _ c.in-Err.ensures.unread;
 }
 
 pub returns-in-None-clause-lines : goal.returns-in-None-clause-lines

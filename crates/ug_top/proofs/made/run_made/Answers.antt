@@ -6,7 +6,7 @@ use Rattle.ug_top.specs.Plans.{settings_made}
 use Rattle.ug_top.specs.declared.status.Status.TheVariants as statuses
 use Rattle.ug_top.proofs.Stored.{end_stored, keeps_untouched, untouched}
 use Rattle.ug_top.specs.Outside.{seen_if}
-use Rattle.ug_top.specs.Solved.{KeepsCovered}
+use Rattle.ug_top.specs.Solved.{KeepsCovered, unchanged}
 use Rattle.ug_top.proofs.Solved.{fits_none, new_by_none, stays_none}
 use Rattle.ug_top.proofs.Tellings.{made_lines}
 use Rattle.ug_top.proofs.made.run_made.Goals as goal
@@ -22,10 +22,11 @@ returns-clause-lines g c =
     let run = c.solve_new-outcome in
     made_lines c.args.asked.now (g.D.Disk.seen c.args.disk.now) (g.D.Disk.seen run.new.disk)
     run.result
-    (subst (λ (p : Instance). IsNewRun None p (settings_made c.args.asked.now.solvers) run.result)
+    (subst (λ (p : Instance). IsNewRun (unchanged None) p (settings_made c.args.asked.now.solvers) run.result)
     (c.own.ensures ∙ c.in-Ok.ensures)
-    (subst (λ (s : Settings). IsNewRun None c.own.result s run.result)
-    c.settings_made-settings.ensures.value (new_by_none (seen_if g.C.Crew.seen run.new.crew) _ _ run.result
+    (subst (λ (s : Settings). IsNewRun (unchanged None) c.own.result s run.result)
+    c.settings_made-settings.ensures.value (new_by_none (seen_if g.C.Crew.seen c.args.crew.now)
+    (seen_if g.C.Crew.seen run.new.crew) _ _ run.result c.requires.threads
     (stays_none (seen_if g.C.Crew.seen c.args.crew.now) (seen_if g.C.Crew.seen run.new.crew) c.requires.threads
     run.ensures.crew) run.ensures.ran)))
     run.ensures.untouched c.tell_end-ended.result c.tell_end-ended.ensures

@@ -6,7 +6,7 @@ use Rattle.ug_snapshot.specs.Moments.{IsCovered}
 use Rattle.ug_restart.specs.Starts.{IsGoneOn}
 use Rattle.ug_restart.proofs.Finds.{start_found}
 use Rattle.ug_top.specs.Outside.{seen_if}
-use Rattle.ug_top.specs.Solved.{FitsCrew}
+use Rattle.ug_top.specs.Solved.{FitsCrew, crewed, unchanged}
 use Rattle.ug_top.proofs.Books.{is_run}
 use Rattle.ug_top.proofs.Covering.{gone_on_sound, image_sound, refused_covered, run_covered}
 use Rattle.ug_top.proofs.Solved.{kept_anyway, kept_by, still_there}
@@ -16,7 +16,7 @@ use Rattle.ug_top.proofs.one_run.go_on.Goals as goal
 pub returns-in-Err-clause-any_moment : goal.returns-in-Err-clause-any_moment
 returns-in-Err-clause-any_moment g c =
     let told = (g.D.Disk.seen c.args.disk.now).told in
-    kept_anyway (seen_if g.C.Crew.seen c.args.crew.now) (g.D.Disk.seen c.args.disk.now) (g.D.Disk.seen c.restart.new.disk)
+    kept_anyway (unchanged (seen_if g.C.Crew.seen c.args.crew.now)) (g.D.Disk.seen c.args.disk.now) (g.D.Disk.seen c.restart.new.disk)
     (λ covers. refused_covered _ _ (IsGoneOn c.args.problem c.args.settings told)
     (λ b t. gone_on_sound c.args.problem c.args.settings told b covers t) covers c.restart.ensures.any_moment)
 
@@ -34,7 +34,7 @@ returns-in-Ok-clause-ran g c =
     let given = opening_book c.in-Ok.next.opening in
     let began = c.in-Ok.ensures.started.book in
     is_run c.coordinators_lose_nothing.ensures (IsGoneOn c.args.problem c.args.settings told) (λ b t. IsCovered t.found.image)
-    (seen_if g.C.Crew.seen c.solve_from.new.crew) c.args.problem
+    (crewed g.C.Crew.seen c.args.crew.now c.solve_from.new.crew) c.args.problem
     c.args.settings c.solve_from.result given began
     (record {
       its_problem = ap (λ (b : BookState). b.problem) began.is;
@@ -42,12 +42,12 @@ returns-in-Ok-clause-ran g c =
     })
     refl
     (λ covered. image_sound c.args.problem c.args.settings told given began covered)
-    c.solve_from.ensures.solved.solved
+    c.solve_from.ensures.solved.solved c.solve_from.ensures.solved.live
 
 pub returns-in-Ok-clause-any_moment : goal.returns-in-Ok-clause-any_moment
 returns-in-Ok-clause-any_moment g c =
     let told = (g.D.Disk.seen c.args.disk.now).told in
-    kept_by (seen_if g.C.Crew.seen c.solve_from.new.crew) (opening_book c.in-Ok.next.opening)
+    kept_by (crewed g.C.Crew.seen c.args.crew.now c.solve_from.new.crew) (opening_book c.in-Ok.next.opening)
     c.solve_from.result.end (g.D.Disk.seen c.args.disk.now) (g.D.Disk.seen c.solve_from.new.disk) _
     c.solve_from.ensures.solved
     (λ goes covers. run_covered _ _ _ (opening_book c.in-Ok.next.opening) c.in-Ok.next.saver

@@ -11,7 +11,7 @@ use Rattle.ug_restart.specs.declared.outcome.End.TheVariants.{Memory}
 use Rattle.ug_coord.proofs.Causes.{opening_alive}
 use Rattle.ug_top.specs.Outside.{seen_if}
 use Rattle.ug_top.specs.Runs.{first_book}
-use Rattle.ug_top.specs.Solved.{FitsCrew}
+use Rattle.ug_top.specs.Solved.{FitsCrew, crewed, unchanged}
 use Rattle.ug_top.proofs.Books.{is_run, root_is_sound}
 use Rattle.ug_top.proofs.Solved.{nobody_solved, still_there}
 use Rattle.ug_top.proofs.one_run.solve_new.Goals as goal
@@ -26,7 +26,7 @@ returns-clause-ran g c =
     let is = c.in-Ok.ensures.made in
     let began = ap (λ (o : Opening). opening_book o) is in
     is_run c.coordinators_lose_nothing.ensures (λ b. b ≡ first_book c.args.problem c.args.settings) (λ b t. Unit {0})
-    (seen_if g.C.Crew.seen c.solve_by-outcome.new.crew) c.args.problem
+    (crewed g.C.Crew.seen c.args.crew.now c.solve_by-outcome.new.crew) c.args.problem
     c.args.settings c.solve_by-outcome.result (opening_book c.in-Ok.opening) began
     (record {
       its_problem = ap (λ (b : BookState). b.problem) began;
@@ -34,7 +34,7 @@ returns-clause-ran g c =
     })
     refl
     (λ trusted. subst IsSoundBook (sym began) (root_is_sound c.args.problem 1 c.args.settings))
-    c.solve_by-outcome.ensures.solved.solved
+    c.solve_by-outcome.ensures.solved.solved c.solve_by-outcome.ensures.solved.live
 
 -- where memory was wanting before a solver began
 pub returns-in_default-clause-ran : goal.returns-in_default-clause-ran
@@ -44,12 +44,13 @@ returns-in_default-clause-ran g c =
     let given = first_book p settings in
     let nothing : Outcome = record { end = Memory; missed = 0; unsaved = 0; last = None } in
     is_run c.coordinators_lose_nothing.ensures (λ b. b ≡ given) (λ b t. Unit {0})
-    (seen_if g.C.Crew.seen c.args.crew.now) p settings nothing given refl
+    (unchanged (seen_if g.C.Crew.seen c.args.crew.now)) p settings nothing given refl
     (record { its_problem = refl; its_settings = refl }) refl
     (λ trusted. root_is_sound p 1 settings)
     (nobody_solved (seen_if g.C.Crew.seen c.args.crew.now) given nothing settings.solvers c.requires.fits
     (opening_alive (whole p 1 settings))
     (record { ended = refl; missed = refl; unsaved = refl }) (sym (length-replicate settings.solvers Absent)))
+    (λ calm stranded. stranded)
 
 pub returns-in_default-clause-crew : goal.returns-in_default-clause-crew
 returns-in_default-clause-crew g c = still_there (seen_if g.C.Crew.seen c.args.crew.now)

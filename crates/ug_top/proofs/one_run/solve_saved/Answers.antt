@@ -5,7 +5,7 @@ use Rattle.ug_book.specs.Openings.{opening_book}
 use Rattle.ug_restart.specs.Starts.{IsBegun}
 use Rattle.ug_restart.proofs.Finds.{start_found}
 use Rattle.ug_top.specs.Outside.{seen_if}
-use Rattle.ug_top.specs.Solved.{FitsCrew}
+use Rattle.ug_top.specs.Solved.{FitsCrew, crewed, unchanged}
 use Rattle.ug_top.proofs.Books.{is_run}
 use Rattle.ug_top.proofs.Covering.{begun_sound, refused_covered, run_covered}
 use Rattle.ug_top.proofs.Solved.{kept_anyway, kept_by, still_there}
@@ -15,7 +15,7 @@ use Rattle.ug_top.proofs.one_run.solve_saved.Goals as goal
 pub returns-in-Err-clause-any_moment : goal.returns-in-Err-clause-any_moment
 returns-in-Err-clause-any_moment g c =
     let told = (g.D.Disk.seen c.args.disk.now).told in
-    kept_anyway (seen_if g.C.Crew.seen c.args.crew.now) (g.D.Disk.seen c.args.disk.now) (g.D.Disk.seen c.begin.new.disk)
+    kept_anyway (unchanged (seen_if g.C.Crew.seen c.args.crew.now)) (g.D.Disk.seen c.args.disk.now) (g.D.Disk.seen c.begin.new.disk)
     (λ covers. refused_covered _ _ (IsBegun c.args.problem c.args.settings told)
     (begun_sound c.args.problem c.args.settings told) covers c.begin.ensures.any_moment)
 
@@ -33,7 +33,7 @@ returns-in-Ok-clause-ran g c =
     let given = opening_book c.in-Ok.start.opening in
     let began = c.in-Ok.ensures.started.book in
     is_run c.coordinators_lose_nothing.ensures (IsBegun c.args.problem c.args.settings told) (λ b t. Unit {0})
-    (seen_if g.C.Crew.seen c.solve_from.new.crew) c.args.problem
+    (crewed g.C.Crew.seen c.args.crew.now c.solve_from.new.crew) c.args.problem
     c.args.settings c.solve_from.result given began
     (record {
       its_problem = ap (λ (b : BookState). b.problem) began.is;
@@ -41,12 +41,12 @@ returns-in-Ok-clause-ran g c =
     })
     refl
     (λ trusted. begun_sound c.args.problem c.args.settings told given began)
-    c.solve_from.ensures.solved.solved
+    c.solve_from.ensures.solved.solved c.solve_from.ensures.solved.live
 
 pub returns-in-Ok-clause-any_moment : goal.returns-in-Ok-clause-any_moment
 returns-in-Ok-clause-any_moment g c =
     let told = (g.D.Disk.seen c.args.disk.now).told in
-    kept_by (seen_if g.C.Crew.seen c.solve_from.new.crew) (opening_book c.in-Ok.start.opening)
+    kept_by (crewed g.C.Crew.seen c.args.crew.now c.solve_from.new.crew) (opening_book c.in-Ok.start.opening)
     c.solve_from.result.end (g.D.Disk.seen c.args.disk.now) (g.D.Disk.seen c.solve_from.new.disk) _
     c.solve_from.ensures.solved
     (λ goes covers. run_covered _ _ _ (opening_book c.in-Ok.start.opening) c.in-Ok.start.saver

@@ -1,10 +1,10 @@
-use Rattle.std.proofs.Common.{◌≡◌, None, Some, refl, sym, subst, rules}
+use Rattle.std.proofs.Common.{◌≡◌, None, Some, sym, subst, rules}
 use Rattle.std.proofs.lemmas.List.{length-replicate}
 use Rattle.ug_ranks.specs.declared.state.State.TheVariants.{Absent}
 use Rattle.ug_book.specs.Openings.{opening_book}
 use Rattle.ug_coord.specs.Hubs.{IsFresh}
 use Rattle.ug_coord.specs.Keeping.{IsKeptSafe}
-use Rattle.ug_top.specs.Solved.{FitsCrew, HasSolvedSafely}
+use Rattle.ug_top.specs.Solved.{FitsCrew, HasSolvedSafely, crewed}
 use Rattle.ug_top.specs.Outside.{seen_if}
 use Rattle.ug_top.proofs.Solved.{crew_safely, threads_kept, threads_safe}
 use Rattle.ug_top.proofs.solvers.solve_by.Goals as goal
@@ -12,14 +12,19 @@ use Rattle.ug_top.proofs.solvers.solve_by.Goals as goal
 pub returns-in-None-clause-solved : goal.returns-in-None-clause-solved
 returns-in-None-clause-solved g c =
     let none : c.take.new.self ≡ None = search rules in
-    subst (λ crew. HasSolvedSafely (seen_if g.C.Crew.seen crew) (opening_book c.args.opening.now)
+    let was : c.args.crew.now ≡ None = search rules in
+    subst (λ crew. HasSolvedSafely (crewed g.C.Crew.seen crew c.take.new.self)
+    (opening_book c.args.opening.now) c.solve_threads.result.end
+    (IsKeptSafe c.args.saver (g.D.Disk.seen c.args.disk.now) (g.D.Disk.seen c.solve_threads.new.disk))) (sym was)
+    (subst (λ crew. HasSolvedSafely (crewed g.C.Crew.seen None crew) (opening_book c.args.opening.now)
     c.solve_threads.result.end
     (IsKeptSafe c.args.saver (g.D.Disk.seen c.args.disk.now) (g.D.Disk.seen c.solve_threads.new.disk)))
     (sym none) (record {
       solved = c.solve_threads.ensures.ended;
       safe = λ trusted sound. threads_safe (opening_book c.args.opening.now) c.args.saver
           (g.D.Disk.seen c.args.disk.now) (g.D.Disk.seen c.solve_threads.new.disk) c.solve_threads.ensures.any_moment sound;
-    })
+      live = λ calm. c.solve_threads.ensures.ended.stranded;
+    }))
 
 pub returns-in-None-clause-kept : goal.returns-in-None-clause-kept
 returns-in-None-clause-kept g c =
@@ -38,6 +43,11 @@ coordinate-outcome-requires-clause-fresh g c κs within =
 
 pub returns-in-Some-clause-solved : goal.returns-in-Some-clause-solved
 returns-in-Some-clause-solved g c =
-    crew_safely c.coordinators_lose_nothing.ensures (opening_book c.args.opening.now) _
-    (g.C.Crew.seen c.coordinate-outcome.result.crew) c.coordinate-outcome.result.outcome.end _ _ refl
-    c.coordinate-outcome.ensures.coordinated
+    let is : c.args.crew.now ≡ Some c.in-Some.solvers = search rules in
+    subst (λ crew. HasSolvedSafely
+    (crewed g.C.Crew.seen crew (Some c.coordinate-outcome.result.crew)) (opening_book c.args.opening.now)
+    c.coordinate-outcome.result.outcome.end
+    (IsKeptSafe c.args.saver (g.D.Disk.seen c.args.disk.now) (g.D.Disk.seen c.coordinate-outcome.new.disk))) (sym is)
+    (crew_safely c.coordinators_lose_nothing.ensures c.calm_workers_live.ensures c.args.opening.now
+    c.requires.opening (g.C.Crew.seen c.in-Some.solvers) (g.C.Crew.seen c.coordinate-outcome.result.crew)
+    c.coordinate-outcome.result.outcome.end _ _ c.coordinate-outcome.ensures.coordinated)
