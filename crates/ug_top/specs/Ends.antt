@@ -287,12 +287,12 @@ pub record HasMetBad (link : Option LinkSeen) : Type 0 where
   pub at : ℕ
   pub is : IsServed link (service.BadFrame at)
 
--- how a service ends: nothing is printed but want of memory
+-- how a service ends: nothing is printed
 abbrev pub AreWorkerLines : Option LinkSeen → Status → List ℕ → Type 0
 AreWorkerLines link statuses.Answered text = IsServed link service.Ended × (text ≡ [])
 AreWorkerLines link statuses.LinkFault text = IsServed link service.LinkFault × (text ≡ [])
 AreWorkerLines link statuses.BadFrame text = HasMetBad link × (text ≡ [])
-AreWorkerLines link statuses.Memory text = text ≡ memory_line
+AreWorkerLines link statuses.Memory text = text ≡ []
 AreWorkerLines link statuses.Limited text = ⊥
 AreWorkerLines link statuses.Stranded text = ⊥
 AreWorkerLines link statuses.Usage text = ⊥

@@ -11,7 +11,8 @@ use ug_io::Link;
 use ug_restart::{Host, Observer};
 use ug_serve::{Served, Service, serve};
 
-/// Works for the coordinator at the other end of the link, until it orders the end.
+/// Works for the coordinator at the other end of the link, until it orders the end. Nothing is
+/// printed, since nobody reads what a child prints.
 pub fn run_worker<R: Threads + Wait + Sync, O: Observer, L: Link + Drop>(
     host: &Host<'_, R, O>,
     link: &mut Option<L>,
@@ -34,6 +35,8 @@ pub fn run_worker<R: Threads + Wait + Sync, O: Observer, L: Link + Drop>(
         Served::BadFrame { .. } => Ended::Quiet {
             status: Status::BadFrame,
         },
-        Served::Memory => Ended::Memory,
+        Served::Memory => Ended::Quiet {
+            status: Status::Memory,
+        },
     }
 }
