@@ -19,11 +19,12 @@ use ug_rows::{Interval, Point};
 use ug_rules::{Heard, Settings};
 use ug_worker::Took;
 
-// Two ranks, and from two to three nodes in the pool.
-fn settings() -> Settings
+// Two ranks, from two to three nodes in the pool, and a gap of 2 where one is wanted.
+fn settings(has_gap: bool) -> Settings
     ensures are { AreSettings result }
     ensures two { result.solvers ≡ 2 }
 {
+    let gap = if has_gap { 2 } else { 0 };
     Settings {
         solvers: 2,
         racing: false,
@@ -33,7 +34,7 @@ fn settings() -> Settings
         every: 1,
         limit: u64::MAX,
         winner: 20,
-        gap: 0,
+        gap,
     }
 }
 
@@ -46,11 +47,11 @@ pub struct Opened {
 }
 
 // A desk with the passes that it was opened with.
-fn open(alloc: Global) -> Option<Opened>
+fn open(alloc: Global, has_gap: bool) -> Option<Opened>
     ensures { IfSome result (λ o. AreTwo o.desk o.first o.second) }
 {
     let problem = Shared::own(square(alloc).ok()?);
-    let Ok(opening) = Opening::new(alloc, problem, 1, settings()) else {
+    let Ok(opening) = Opening::new(alloc, problem, 1, settings(has_gap)) else {
         return None;
     };
     match Desk::new(alloc, opening) {
@@ -419,9 +420,9 @@ fn boxes_are_saved<R: Wait>(rt: &R, opened: &mut Opened) -> bool
     }
 }
 
-// Whether the cutoff that the second pass reads without the lock is 5 once the first has found the
-// point, and whether both have then seen what each had: the two calls before a snapshot, and it.
-fn cutoff_is_read<R: Wait>(rt: &R, alloc: Global, opened: &mut Opened) -> bool
+// Whether the cutoff that the second pass reads without the lock is this one once the first has found
+// the point, and whether both have then seen what each had: the two calls before a snapshot, and it.
+fn cutoff_is_read<R: Wait>(rt: &R, alloc: Global, opened: &mut Opened, cutoff: i128) -> bool
     requires { AreTwo opened.old.desk opened.old.first opened.old.second }
     ensures { AreTwo opened.new.desk opened.new.first opened.new.second }
 {
@@ -437,7 +438,7 @@ fn cutoff_is_read<R: Wait>(rt: &R, alloc: Global, opened: &mut Opened) -> bool
     desk.meet(first, second);
     let length = length(rt, desk, second);
     let found = offers_least(rt, alloc, desk, first);
-    waited && before.is_none() && length == Some(3) && found && desk.cutoff(second) == Some(5)
+    waited && before.is_none() && length == Some(3) && found && desk.cutoff(second) == Some(cutoff)
 }
 
 // How many calls the history has with a snapshot.
@@ -458,19 +459,22 @@ enum Looked {
     OverWithTheRoot,
     BoxesAreSaved,
     Cutoff,
+    CutoffUnderGap,
 }
 
 // Whether that is so of a desk that is opened; and where it is over behind that, it closes with the
 // least point.
 fn is_so<R: Wait>(rt: &R, alloc: Global, looked: Looked) -> bool {
-    let Some(mut opened) = open(alloc) else {
+    let has_gap = matches!(looked, Looked::CutoffUnderGap);
+    let Some(mut opened) = open(alloc, has_gap) else {
         return false;
     };
     let (is_so, is_over) = match looked {
         Looked::BoxIsWork => (box_is_work(rt, &mut opened), false),
         Looked::OverWithTheRoot => (is_over_with_the_root(rt, alloc, &mut opened), true),
         Looked::BoxesAreSaved => (boxes_are_saved(rt, &mut opened), false),
-        Looked::Cutoff => (cutoff_is_read(rt, alloc, &mut opened), false),
+        Looked::Cutoff => (cutoff_is_read(rt, alloc, &mut opened, 5), false),
+        Looked::CutoffUnderGap => (cutoff_is_read(rt, alloc, &mut opened, 3), false),
     };
     let has_least = closes_with_least(alloc, opened);
     is_so && has_least == is_over
@@ -494,4 +498,5 @@ fn boxes_given_are_saved_in_place_of_the_node(rt: HostRuntime) {
 #[test]
 fn cutoff_is_read_without_the_lock(rt: HostRuntime) {
     holds(&rt, is_so(&rt, rt.alloc(), Looked::Cutoff));
+    holds(&rt, is_so(&rt, rt.alloc(), Looked::CutoffUnderGap));
 }
