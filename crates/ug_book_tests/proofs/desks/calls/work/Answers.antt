@@ -7,7 +7,7 @@ use Rattle.ug_desk.specs.Entries.{LockedState}
 use Rattle.ug_desk.specs.Histories.{taken}
 use Rattle.ug_desk.specs.Passes.{HasCalledAt, PassState}
 use Rattle.ug_desk.proofs.Backing.{taken_known}
-use Rattle.ug_book_tests.proofs.desks.work.Goals as goal
+use Rattle.ug_book_tests.proofs.desks.calls.work.Goals as goal
 
 known_as : (took : Took) (task : TaskState) (after : LockedState) (p q : PassState) → took ≡ Work task
     → HasCalledAt (Some (taken (Ok took))) after p q → IsKnownBacked q task.cutoff

@@ -1,7 +1,7 @@
 use Rattle.std.proofs.Common.{◌≡◌, ap, ◌∙◌}
 use Rattle.ug_book.specs.declared.opening.Opening.{Opening}
 use Rattle.ug_book_tests.proofs.Both.{new_at}
-use Rattle.ug_book_tests.proofs.desks.open.Goals as goal
+use Rattle.ug_book_tests.proofs.desks.opened.open.Goals as goal
 
 pub with_both-requires : goal.with_both-requires
 with_both-requires c = record {

@@ -1,6 +1,6 @@
 use Rattle.std.proofs.Common.{◌≡◌}
 use Rattle.ug_base.specs.Points.{measure_of}
-use Rattle.ug_book_tests.proofs.desks.give_all.Given as goal
+use Rattle.ug_book_tests.proofs.desks.saved.give_all.Given as goal
 
 abbrev pub invariant-loop-handed : goal.invariant-loop-handed
 invariant-loop-handed g l = l.pass.lock ≡ l.initial.pass.lock

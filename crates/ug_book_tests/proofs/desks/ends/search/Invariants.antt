@@ -1,5 +1,5 @@
 use Rattle.ug_base.specs.Points.{measure_of}
-use Rattle.ug_book_tests.proofs.desks.search.Given as goal
+use Rattle.ug_book_tests.proofs.desks.ends.search.Given as goal
 
 abbrev pub decreases-loop : goal.decreases-loop
 decreases-loop l = measure_of l.task.boxes
