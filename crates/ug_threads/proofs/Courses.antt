@@ -2,11 +2,12 @@
 use Rattle.std.proofs.Common.{◌≡◌, inl, inr, ℕ, ℤ, ◌-◌, ◌≤◌, List, [], ◌∷◌, ◌++◌, length, Bool, true, false, Option, Some, None, Result, Ok, Err, IfSome, refl, sym, ap, ◌∙◌, subst, arith}
 use Rattle.std.specs.declared.alloc.AllocError.{AllocError}
 use Rattle.std.specs.Prelude.{pos, ◌+ℤ◌, nat_eq, if◌then◌else◌, OnErr, IfOk, IsErr, MatchBool}
+use mathlib.Core.List.{IsPrefix}
 use mathlib.Core.Logic.{dite}
 use native.Mathlib.Decide.{ℕ_discrete}
 use Rattle.std.proofs.lemmas.Bool.{false≢true}
 use Rattle.std.proofs.lemmas.Int.{ints}
-use Rattle.std.proofs.lemmas.List.{length-map}
+use Rattle.std.proofs.lemmas.List.{append-nil, append_assoc, length-map}
 use Rattle.std.proofs.lemmas.Option.{none-some, same_Some}
 use Rattle.ug_base.specs.Tasks.{TaskState}
 use Rattle.ug_book.specs.declared.opening.Opening.{Opening}
@@ -36,32 +37,64 @@ use Rattle.ug_worker.specs.Engagements.{Engaged, HasTaken, IsFoundBy, IsDoneBy, 
 use Rattle.ug_worker.specs.Renewals.{begun, counted, fresh}
 use Rattle.ug_desk.specs.Entries.{LockedState}
 use Rattle.ug_desk.specs.Histories.{Call, Entry, Replays, Step, copied, ended, handed, left, offered, stated, taken}
-use Rattle.ug_desk.specs.Passes.{HasCalled, HasCalledAt, HasEndedIn, HasHandedIn, HasLeft, HasLooked, PassState}
+use Rattle.ug_desk.specs.Dones.{IsOfTicket}
+use Rattle.ug_desk.specs.Passes.{HasCalled, HasCalledAt, HasEndedIn, HasEndedOther, HasHandedIn, HasLeft, HasLeftBefore, HasLooked, PassState, calls_of, entry_by}
+use Rattle.ug_turn.specs.Histories.{told}
 use Rattle.ug_desk.specs.Words.{cutoff_at, floor_of, no_word, word_at, word_of}
 use Rattle.ug_desk.proofs.Backing.{IsSameAim, known_lesser, known_none, known_on, known_read, known_still, last_call, offered_known, replays_same, stated_known, taken_known}
-use Rattle.ug_threads.specs.Deeds.{AreReadAbove, IsInLine, behind_point, behind_reply, replied_to, taken_up, Away, Busy, Called, Deed, Does, EndedInVain, Free, LeftInVain, Read, Sat, Stage, entries_in}
+use Rattle.ug_ranks.specs.Looks.{is_alive}
+use Rattle.ug_ranks.specs.States.{state_at}
+use Rattle.ug_threads.specs.Deeds.{behind_point, behind_reply, replied_to, taken_up, Away, Busy, Called, Deed, Does, EndedInVain, Free, LeftInVain, Read, Sat, Stage}
+use Rattle.ug_threads.specs.Lines.{AreReadAbove, AreWithin, HasStood, IsInLine, LeadTo, entries_in}
 use Rattle.ug_threads.specs.Courses.{HasCome, HasStayed, IsLeft, IsOfDesk, IsSeated, stage_of}
 
 no_higher : {w n k m : ℕ} → w ≡ n → k ≡ n → k ≤ m → w ≤ m
 no_higher e f g = omega (arith, e, f, g)
 
 -- what was read is above less too
-pub read_less : (floor : ℤ) (less more : ℕ) (deeds : List Deed) → less ≤ more
-    → AreReadAbove floor more deeds → AreReadAbove floor less deeds
-read_less floor less more [] few all = tt
-read_less floor less more (Read cutoff ∷ past) few all =
-    (omega (arith, few, all.0), read_less floor less more past few all.1)
-read_less floor less more (Sat renewal ∷ past) few all = read_less floor less more past few all
-read_less floor less more (Called call ∷ past) few all = read_less floor less more past few all
-read_less floor less more (EndedInVain task ∷ past) few all = read_less floor less more past few all
-read_less floor less more (LeftInVain ∷ past) few all = read_less floor less more past few all
+pub read_less : (o : Opening) (less more : ℕ) (deeds : List Deed) → less ≤ more
+    → AreReadAbove o more deeds → AreReadAbove o less deeds
+read_less o less more [] few all = tt
+read_less o less more (Read cutoff ∷ past) few all =
+    (omega (arith, few, all.0), read_less o less more past few all.1)
+read_less o less more (Sat renewal ∷ past) few all = read_less o less more past few all
+read_less o less more (Called call ∷ past) few all = read_less o less more past few all
+read_less o less more (EndedInVain task seen ∷ past) few all = read_less o less more past few all
+read_less o less more (LeftInVain seen ∷ past) few all = read_less o less more past few all
+
+-- ---- the history grows
+
+begins_more : (a b c : List Entry) → IsPrefix a b → IsPrefix b c → IsPrefix a c
+begins_more a b c p q = (p.0 ++ q.0, sym (append_assoc a p.0 q.0) ∙ (ap (λ (l : List Entry). l ++ q.0) p.1 ∙ q.1))
+
+-- what was within a history is within a longer one
+pub within_more : (a b : List Entry) (deeds : List Deed) → IsPrefix a b → AreWithin a deeds → AreWithin b deeds
+within_more a b [] more all = tt
+within_more a b (EndedInVain task seen ∷ past) more all =
+    (begins_more seen a b all.0 more, within_more a b past more all.1)
+within_more a b (LeftInVain seen ∷ past) more all =
+    (begins_more seen a b all.0 more, within_more a b past more all.1)
+within_more a b (Sat renewal ∷ past) more all = within_more a b past more all
+within_more a b (Called call ∷ past) more all = within_more a b past more all
+within_more a b (Read cutoff ∷ past) more all = within_more a b past more all
+
+-- what the pass had seen begins what it sees behind a call
+called_begins : (call : Option Call) (after : LockedState) (p q : PassState) → HasCalledAt call after p q
+    → IsPrefix p.seen q.seen
+called_begins call after p q h = (
+  h.between ++ told (entry_by p.rank call),
+  sym (append_assoc p.seen h.between (told (entry_by p.rank call))) ∙ sym h.seen,
+)
+
+begins_same : (seen : List Entry) → IsPrefix seen seen
+begins_same seen = ([], append-nil seen)
 
 -- ---- calls
 
 -- what is answered is no higher than what was read before
 abbrev IsLine : PassState → Call → Type 0
 IsLine p call = (o : Opening) (past : List Deed) → p.opening ≡ Some o
-    → AreReadAbove (floor_of o.problem) p.known past → IsInLine (floor_of o.problem) past (Called call)
+    → AreReadAbove o p.known past → IsInLine o p.rank past (Called call)
 
 -- a call that the history has
 pub come_called : (call : Call) (after : LockedState) (p q : PassState) (old new : Stage)
@@ -75,52 +108,80 @@ come_called call after p q old new h does line come o opened =
     record {
       course = record {
         deeds = Called call ∷ c.deeds;
-        lead = (old, c.lead, does, line o c.deeds before at.read);
+        lead = subst (λ (r : ℕ). LeadTo o r (Called call ∷ c.deeds) new) (sym h.same.1)
+            (old, c.lead, does, line o c.deeds before at.read);
         calls = ap (λ (r : ℕ). entries_in r (Called call ∷ c.deeds)) h.same.1
             ∙ (ap (λ (l : List Entry). l ++ entry ∷ []) c.calls ∙ sym h.mine);
+        within = within_more p.seen q.seen c.deeds (called_begins (Some call) after p q h) c.within;
       };
-      read = read_less (floor_of o.problem) q.known p.known c.deeds h.lower at.read;
+      read = read_less o q.known p.known c.deeds h.lower at.read;
     }
-
-nothing_more : (l : List Entry) → l ++ [] ≡ l
-nothing_more [] = refl
-nothing_more (e ∷ l) = ap (λ (m : List Entry). e ∷ m) (nothing_more l)
 
 -- the calls of a pass behind a turn without an entry
 same_calls : (after : LockedState) (p q : PassState) (deeds : List Deed) → HasCalledAt None after p q
     → entries_in p.rank deeds ≡ p.mine → entries_in q.rank deeds ≡ q.mine
 same_calls after p q deeds h calls =
-    ap (λ (r : ℕ). entries_in r deeds) h.same.1 ∙ (calls ∙ (sym (nothing_more p.mine) ∙ sym h.mine))
+    ap (λ (r : ℕ). entries_in r deeds) h.same.1 ∙ (calls ∙ (sym (append-nil p.mine) ∙ sym h.mine))
+
+-- what stands behind such a turn has stood
+stood_then : (after : LockedState) (p q : PassState) (o : Opening) (deeds : List Deed) → HasCalledAt None after p q
+    → p.opening ≡ Some o → entries_in p.rank deeds ≡ p.mine → HasStood o q.rank deeds q.seen after
+stood_then after p q o deeds h opened calls = record {
+  began = same_Some after.opening o (sym h.opened ∙ opened);
+  replayed = h.replayed;
+  own = h.own ∙ sym (same_calls after p q deeds h calls);
+}
+
+-- a deed in vain, of which what then stood is the evidence
+come_in_vain : (deed : Deed) (after : LockedState) (p q : PassState) (old new : Stage)
+    → HasCalledAt None after p q → Does old deed new
+    → ((o : Opening) (past : List Deed) → HasStood o q.rank past q.seen after → IsInLine o q.rank past deed)
+    → ((past : List Deed) → entries_in q.rank (deed ∷ past) ≡ entries_in q.rank past)
+    → ((past : List Deed) → AreWithin q.seen past → AreWithin q.seen (deed ∷ past))
+    → ((o : Opening) (past : List Deed) → AreReadAbove o q.known past → AreReadAbove o q.known (deed ∷ past))
+    → HasCome p old → HasCome q new
+come_in_vain deed after p q old new h does line none within read come o opened =
+    let before = sym h.same.2 ∙ opened in
+    let at = come o before in
+    let c = at.course in
+    record {
+      course = record {
+        deeds = deed ∷ c.deeds;
+        lead = (
+          old,
+          subst (λ (r : ℕ). LeadTo o r c.deeds old) (sym h.same.1) c.lead,
+          does,
+          line o c.deeds (stood_then after p q o c.deeds h before c.calls),
+        );
+        calls = none c.deeds ∙ same_calls after p q c.deeds h c.calls;
+        within = within c.deeds (within_more p.seen q.seen c.deeds (called_begins None after p q h) c.within);
+      };
+      read = read o c.deeds (read_less o q.known p.known c.deeds h.lower at.read);
+    }
 
 -- the end of a task is told in vain
-pub come_ended : (task : TaskState) (after : LockedState) (p q : PassState) (old new : Stage)
-    → HasCalledAt None after p q → Does old (EndedInVain task) new → HasCome p old → HasCome q new
-come_ended task after p q old new h does come o opened =
-    let at = come o (sym h.same.2 ∙ opened) in
-    let c = at.course in
-    record {
-      course = record {
-        deeds = EndedInVain task ∷ c.deeds;
-        lead = (old, c.lead, does, tt);
-        calls = same_calls after p q c.deeds h c.calls;
-      };
-      read = read_less (floor_of o.problem) q.known p.known c.deeds h.lower at.read;
-    }
+pub come_ended : (task : TaskState) (answer : Heard) (p q : PassState) (old new : Stage)
+    (other : HasEndedOther task answer p q) → Does old (EndedInVain task q.seen) new → HasCome p old → HasCome q new
+come_ended task answer p q old new other does =
+    come_in_vain (EndedInVain task q.seen) other.after p q old new other.called does
+    (λ o past stood. (
+      other.after,
+      stood,
+      subst (λ (r : ℕ). ¬ IsOfTicket other.after.now.book r task) (sym other.called.same.1) other.other,
+    ))
+    (λ past. refl) (λ past all. (begins_same q.seen, all)) (λ o past all. all)
 
 -- a worker leaves in vain
-pub come_left : (after : LockedState) (p q : PassState) (old new : Stage)
-    → HasCalledAt None after p q → Does old LeftInVain new → HasCome p old → HasCome q new
-come_left after p q old new h does come o opened =
-    let at = come o (sym h.same.2 ∙ opened) in
-    let c = at.course in
-    record {
-      course = record {
-        deeds = LeftInVain ∷ c.deeds;
-        lead = (old, c.lead, does, tt);
-        calls = same_calls after p q c.deeds h c.calls;
-      };
-      read = read_less (floor_of o.problem) q.known p.known c.deeds h.lower at.read;
-    }
+pub come_left : (p q : PassState) (old new : Stage) (gone : HasLeftBefore p q) → Does old (LeftInVain q.seen) new
+    → HasCome p old → HasCome q new
+come_left p q old new gone does =
+    come_in_vain (LeftInVain q.seen) gone.after p q old new gone.called does
+    (λ o past stood. (
+      gone.after,
+      stood,
+      subst (λ (r : ℕ). is_alive (state_at gone.after.now.book.ranks r) ≡ false) (sym gone.called.same.1) gone.gone,
+    ))
+    (λ past. refl) (λ past all. (begins_same q.seen, all)) (λ o past all. all)
 
 -- nothing was done
 pub come_still : (after : LockedState) (p q : PassState) (stage : Stage)
@@ -129,8 +190,13 @@ come_still after p q stage h come o opened =
     let at = come o (sym h.same.2 ∙ opened) in
     let c = at.course in
     record {
-      course = record { deeds = c.deeds; lead = c.lead; calls = same_calls after p q c.deeds h c.calls };
-      read = read_less (floor_of o.problem) q.known p.known c.deeds h.lower at.read;
+      course = record {
+        deeds = c.deeds;
+        lead = subst (λ (r : ℕ). LeadTo o r c.deeds stage) (sym h.same.1) c.lead;
+        calls = same_calls after p q c.deeds h c.calls;
+        within = within_more p.seen q.seen c.deeds (called_begins None after p q h) c.within;
+      };
+      read = read_less o q.known p.known c.deeds h.lower at.read;
     }
 
 -- a worker sits down
@@ -143,6 +209,7 @@ come_sat renewal p come o opened =
         deeds = Sat renewal ∷ at.course.deeds;
         lead = (Away, at.course.lead, refl, tt);
         calls = at.course.calls;
+        within = at.course.within;
       };
       read = at.read;
     }
@@ -150,7 +217,7 @@ come_sat renewal p come o opened =
 -- nobody has sat there
 pub come_new : (p : PassState) → p.mine ≡ [] → HasCome p Away
 come_new p none o opened =
-    record { course = record { deeds = []; lead = refl; calls = sym none }; read = tt }
+    record { course = record { deeds = []; lead = refl; calls = sym none; within = tt }; read = tt }
 
 -- ---- a cutoff that was read
 
@@ -184,13 +251,15 @@ come_read found kept p q tally e h from made come o opened =
     record {
       course = record {
         deeds = Read kept ∷ c.deeds;
-        lead = (Busy tally e, c.lead, (made, refl), tt);
+        lead = subst (λ (k : PassState). LeadTo o k.rank (Read kept ∷ c.deeds) (Busy tally (under kept e)))
+            (sym h.same) (Busy tally e, c.lead, (made, refl), tt);
         calls = ap (λ (k : PassState). entries_in k.rank c.deeds) h.same
             ∙ (c.calls ∙ sym (ap (λ (k : PassState). k.mine) h.same));
+        within = subst (λ (k : PassState). AreWithin k.seen c.deeds) (sym h.same) c.within;
       };
       read = (
         read_word (floor_of o.problem) q.known found kept h.small its from,
-        read_less (floor_of o.problem) q.known p.known c.deeds h.falls at.read,
+        read_less o q.known p.known c.deeds h.falls at.read,
       );
     }
 
@@ -601,7 +670,7 @@ stated_line count floor reply after p q h o past opened read =
     let word : word_at (floor_of o.problem) reply.cutoff ≡ word_of after.now.book =
     ap (λ (k : Instance). word_at (floor_of k) reply.cutoff) (sym same.problem)
     ∙ ap (word_at (floor_of after.now.book.problem)) step.1.book.replied.cutoff in
-    read_less (floor_of o.problem) (word_at (floor_of o.problem) reply.cutoff) p.known past
+    read_less o (word_at (floor_of o.problem) reply.cutoff) p.known past
     (no_higher word h.known h.lower) read
 
 seat_replied : (stop : Bool) (d : Desk) (count : ℕ) (floor : ℤ) (reply : Reply) (after : LockedState)
@@ -689,7 +758,7 @@ seat_ended d task answer p q asked tally e (inl (after, h)) done s = record {
 }
 seat_ended d task answer p q asked tally e (inr other) done s = record {
   lock = other.called.same.0 ∙ s.lock;
-  course = come_ended task other.after p q (Busy tally e) (Free tally) other.called (done, refl) s.course;
+  course = come_ended task answer p q (Busy tally e) (Free tally) other (done, refl) s.course;
   its = tt;
 }
 
@@ -697,9 +766,10 @@ leaves : (tally : Tally) (some : Option Engaged) → Does (stage_of tally some) 
 leaves tally None = refl
 leaves tally (Some e) = refl
 
-leaves_in_vain : (tally : Tally) (some : Option Engaged) → Does (stage_of tally some) LeftInVain Away
-leaves_in_vain tally None = refl
-leaves_in_vain tally (Some e) = refl
+leaves_in_vain : (tally : Tally) (some : Option Engaged) (history : List Entry)
+    → Does (stage_of tally some) (LeftInVain history) Away
+leaves_in_vain tally None history = refl
+leaves_in_vain tally (Some e) history = refl
 
 pub seat_gone : (d : Desk) (p q : PassState) (asked : Asked) (tally : Tally) (some : Option Engaged)
     → HasLeft p q → IsSeated d p asked tally some → IsLeft d q
@@ -709,13 +779,13 @@ seat_gone d p q asked tally some (inl (after, h)) s = record {
 }
 seat_gone d p q asked tally some (inr gone) s = record {
   lock = gone.called.same.0 ∙ s.lock;
-  course = come_left gone.after p q (stage_of tally some) Away gone.called (leaves_in_vain tally some) s.course;
+  course = come_left p q (stage_of tally some) Away gone (leaves_in_vain tally some q.seen) s.course;
 }
 
 -- a pass leaves at which nobody sits
 pub away_gone : (p q : PassState) → HasLeft p q → HasCome p Away → HasCome q Away
 away_gone p q (inl (after, h)) come = come_called left after p q Away Away h refl (λ o past opened read. tt) come
-away_gone p q (inr gone) come = come_left gone.after p q Away Away gone.called refl come
+away_gone p q (inr gone) come = come_left p q Away Away gone refl come
 
 pub gone_same : (p q : PassState) → HasLeft p q
     → (q.lock ≡ p.lock) × (q.rank ≡ p.rank) × (q.opening ≡ p.opening)

@@ -9,7 +9,7 @@ use Rattle.ug_book.specs.declared.opening.Opening.{Opening}
 use Rattle.ug_book.specs.Openings.{IsCoveredOpening, opening_book}
 use Rattle.ug_restart.specs.Outcomes.{IfBook}
 use Rattle.ug_restart.specs.Outcomes.{HasFeasible, IfAnswered, IfLimited, IsLimited}
-use Rattle.ug_threads.specs.Courses.{IsWorked}
+use Rattle.ug_threads.specs.Courses.{IsLedByWorkers}
 use Rattle.ug_threads.specs.Ends.{IsEnding, IsReplayOf}
 use Rattle.ug_restart.specs.Outcomes.{IsRight, IsStranded}
 use Rattle.ug_threads.specs.Outcomes.{HasEnded}
@@ -27,7 +27,7 @@ replay_of o given b same ending = record {
   state = ending.state;
   locked = ending.locked;
   began = ap opening_book ending.began ∙ same;
-  worked = subst (λ (k : Opening). IsWorked k ending.state) (sym ending.began) ending.worked;
+  worked = subst (λ (k : Opening). IsLedByWorkers k ending.state) (sym ending.began) ending.worked;
   is = ending.is;
 }
 

@@ -5,11 +5,11 @@ use Rattle.ug_book.specs.declared.opening.Opening.{Opening}
 use Rattle.ug_desk.specs.declared.desk.Desk.{Desk}
 use Rattle.ug_desk.specs.Entries.{LockedState}
 use Rattle.ug_desk.specs.Histories.{Entry}
-use Rattle.ug_desk.specs.Passes.{AreNewPasses, IsClosed, PassState, calls_of, lock_of_desk, width_of}
-use Rattle.ug_threads.specs.Courses.{IsCourse, IsWorked}
+use Rattle.ug_desk.specs.Passes.{AreNewPasses, IsClosed, IsInHistory, PassState, calls_of, lock_of_desk, width_of}
+use Rattle.ug_threads.specs.Courses.{IsCourse, IsLedByWorkers}
 use Rattle.ug_threads.specs.Deeds.{Away}
 use Rattle.ug_threads.specs.Rooms.{AreAllOf}
-use Rattle.ug_threads.proofs.Courses.{come_new}
+use Rattle.ug_threads.proofs.Courses.{come_new, within_more}
 
 -- a list has an item at each place within it
 some_at : (passes : List PassState) (k : ℕ) → k < length passes
@@ -36,15 +36,19 @@ all_new d o passes count wide new = record {
 
 -- the course of a pass is what its entries in the history are
 pass_worked : (o : Opening) (p : PassState) (history : List Entry) (r : ℕ) → p.rank ≡ r
-    → calls_of p.rank history ≡ p.mine → IsCourse o p.rank p.mine Away
-    → IsCourse o r (calls_of r history) Away
-pass_worked o p history r own calls c =
-    subst (λ (k : ℕ). IsCourse o k (calls_of k history) Away) own
-    (record { deeds = c.deeds; lead = c.lead; calls = c.calls ∙ sym calls })
+    → IsInHistory history p → IsCourse o p.rank p.seen p.mine Away
+    → IsCourse o r history (calls_of r history) Away
+pass_worked o p history r own in_ c =
+    subst (λ (k : ℕ). IsCourse o k history (calls_of k history) Away) own (record {
+      deeds = c.deeds;
+      lead = c.lead;
+      calls = c.calls ∙ sym in_.own;
+      within = within_more p.seen history c.deeds in_.begins c.within;
+    })
 
 -- what stands where a desk is closed
 pub worked_of : (d : Desk) (o : Opening) (passes : List PassState) (l : LockedState) → AreAllOf d o passes
-    → IsClosed passes l → IsWorked o l
+    → IsClosed passes l → IsLedByWorkers o l
 worked_of d o passes l all closed = record {
   history = closed.history;
   replayed = closed.replayed;
@@ -52,6 +56,6 @@ worked_of d o passes l all closed = record {
       let (k, p, there, own) = all.each r (omega (arith, below, all.wide)) in
       let in_ = closed.each k p there in
       let at = all.at k p there in
-      pass_worked o p closed.history r own in_.own (at.course o at.opened).course;
+      pass_worked o p closed.history r own in_ (at.course o at.opened).course;
   none = λ r above. closed.none r (omega (arith, above, all.count, all.wide));
 }

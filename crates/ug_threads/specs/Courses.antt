@@ -9,19 +9,21 @@ use Rattle.ug_desk.specs.Backing.{IsKnownBacked}
 use Rattle.ug_desk.specs.Entries.{IsReplayed, LockedState}
 use Rattle.ug_desk.specs.Histories.{Entry}
 use Rattle.ug_desk.specs.Passes.{PassState, calls_of, lock_of_desk}
-use Rattle.ug_desk.specs.Words.{floor_of}
-use Rattle.ug_threads.specs.Deeds.{AreReadAbove, Away, Busy, Deed, Free, LeadTo, Stage, entries_in}
+use Rattle.ug_threads.specs.Deeds.{Away, Busy, Deed, Free, Stage}
+use Rattle.ug_threads.specs.Lines.{AreReadAbove, AreWithin, LeadTo, entries_in}
 
--- these are the entries of pass r, whose deeds lead there
-pub record IsCourse (o : Opening) (r : ℕ) (own : List Entry) (now : Stage) : Type 0 where
+-- these are the entries of pass r, whose deeds lead there; they were done within this history
+pub record IsCourse (o : Opening) (r : ℕ) (history own : List Entry) (now : Stage)
+    : Type 0 where
   pub deeds : List Deed
-  pub lead : LeadTo (floor_of o.problem) deeds now
+  pub lead : LeadTo o r deeds now
   pub calls : entries_in r deeds ≡ own
+  pub within : AreWithin history deeds
 
 -- so a pass has come there, and no cutoff was read below what it knows
 pub record IsCome (o : Opening) (p : PassState) (now : Stage) : Type 0 where
-  pub course : IsCourse o p.rank p.mine now
-  pub read : AreReadAbove (floor_of o.problem) p.known course.deeds
+  pub course : IsCourse o p.rank p.seen p.mine now
+  pub read : AreReadAbove o p.known course.deeds
 
 abbrev pub HasCome : PassState → Stage → Type 0
 HasCome p now = (o : Opening) → p.opening ≡ Some o → IsCome o p now
@@ -64,9 +66,9 @@ pub record HasStayed (p q : PassState) : Type 0 where
 
 -- What workers do that end: a history leads to what then stands, in which each pass has the calls
 -- of workers that have left, and nobody else has one.
-pub record IsWorked (o : Opening) (l : LockedState) : Type 0 where
+pub record IsLedByWorkers (o : Opening) (l : LockedState) : Type 0 where
   pub history : List Entry
   pub replayed : IsReplayed l history
   pub each : (r : ℕ) → r < o.settings.solvers
-      → IsCourse o r (calls_of r history) Away
+      → IsCourse o r history (calls_of r history) Away
   pub none : (r : ℕ) → o.settings.solvers ≤ r → calls_of r history ≡ []

@@ -1,6 +1,5 @@
 -- What a worker at a desk does, deed by deed.
-use Rattle.std.specs.Prelude.{◌≡◌, ℕ, ℤ, ◌≤◌, true, if◌then◌else◌, List, [], ◌∷◌, ◌++◌}
-use Rattle.std.specs.Prelude.{Option, Result, Ok, Err}
+use Rattle.std.specs.Prelude.{◌≡◌, ℤ, true, if◌then◌else◌, List, Option, Result, Ok, Err}
 use Rattle.ug_base.specs.Tasks.{TaskState}
 use Rattle.ug_rules.specs.declared.heard.Heard.{Heard}
 use Rattle.ug_rules.specs.declared.heard.Heard.TheVariants.{Kept, NotBetter}
@@ -15,17 +14,17 @@ use Rattle.ug_worker.specs.Engagements.{lowered, under}
 use Rattle.ug_worker.specs.Renewals.{begun, counted, fresh}
 use Rattle.ug_desk.specs.Histories.{Call, Entry, taken, offered, handed, stated, ended}
 use Rattle.ug_desk.specs.Histories.{left, copied}
-use Rattle.ug_desk.specs.Words.{word_at}
 
 -- A worker sits down at a pass, and renews its tasks so; it calls the desk, and is answered; it
 -- reads a cutoff; it tells the end of a task whose ticket had ended; or it leaves, where its rank
--- was gone before. What is in vain is no call that the history has.
+-- was gone before. What is in vain is no call that the history has, so it names the history as it
+-- was then.
 pub data Deed : Type 0 where
   Sat : Option Renewal → Deed
   Called : Call → Deed
   Read : Option ℤ → Deed
-  EndedInVain : TaskState → Deed
-  LeftInVain : Deed
+  EndedInVain : TaskState → List Entry → Deed
+  LeftInVain : List Entry → Deed
 
 -- where a pass stands: nobody sits at it; its worker has no task; or it has one
 pub data Stage : Type 0 where
@@ -94,21 +93,21 @@ IsCalledBusy tally e call new = ⊥
 abbrev pub IsDoneAway : Deed → Stage → Type 0
 IsDoneAway (Sat renewal) new = new ≡ Free (fresh renewal)
 IsDoneAway (Called call) new = IsCalledAway call new
-IsDoneAway LeftInVain new = new ≡ Away
+IsDoneAway (LeftInVain history) new = new ≡ Away
 IsDoneAway deed new = ⊥
 
 -- a deed of a worker that has no task
 abbrev pub IsDoneFree : Tally → Deed → Stage → Type 0
 IsDoneFree tally (Called call) new = IsCalledFree tally call new
-IsDoneFree tally LeftInVain new = new ≡ Away
+IsDoneFree tally (LeftInVain history) new = new ≡ Away
 IsDoneFree tally deed new = ⊥
 
 -- A deed of one that has. It lowers its cutoff to one that it read between two rounds.
 abbrev pub IsDoneBusy : Tally → Engaged → Deed → Stage → Type 0
 IsDoneBusy tally e (Called call) new = IsCalledBusy tally e call new
 IsDoneBusy tally e (Read cutoff) new = (e.made ≡ 0) × (new ≡ Busy tally (under cutoff e))
-IsDoneBusy tally e (EndedInVain task) new = IsDoneBy e task × (new ≡ Free tally)
-IsDoneBusy tally e LeftInVain new = new ≡ Away
+IsDoneBusy tally e (EndedInVain task history) new = IsDoneBy e task × (new ≡ Free tally)
+IsDoneBusy tally e (LeftInVain history) new = new ≡ Away
 IsDoneBusy tally e deed new = ⊥
 
 -- what a deed makes of where the pass stood
@@ -116,28 +115,3 @@ abbrev pub Does : Stage → Deed → Stage → Type 0
 Does Away deed new = IsDoneAway deed new
 Does (Free tally) deed new = IsDoneFree tally deed new
 Does (Busy tally e) deed new = IsDoneBusy tally e deed new
-
--- each cutoff that was read is at least this one, both as words
-abbrev pub AreReadAbove : ℤ → ℕ → List Deed → Type 0
-AreReadAbove floor least [] = Unit {0}
-AreReadAbove floor least (Read cutoff ∷ past) =
-    (least ≤ word_at floor cutoff) × AreReadAbove floor least past
-AreReadAbove floor least (deed ∷ past) = AreReadAbove floor least past
-
--- no cutoff that was read before is below the one that is replied
-abbrev pub IsInLine : ℤ → List Deed → Deed → Type 0
-IsInLine floor past (Called (stated count low (Ok reply))) =
-    AreReadAbove floor (word_at floor reply.cutoff) past
-IsInLine floor past deed = Unit {0}
-
--- the deeds, the latest first, lead there from where nobody sits; words count from this floor
-abbrev pub LeadTo : ℤ → List Deed → Stage → Type 0
-LeadTo floor [] now = now ≡ Away
-LeadTo floor (deed ∷ past) now =
-    (before : Stage) × LeadTo floor past before × Does before deed now × IsInLine floor past deed
-
--- the entries that the history has of them, in order
-abbrev pub entries_in : ℕ → List Deed → List Entry
-entries_in r [] = []
-entries_in r (Called call ∷ past) = entries_in r past ++ record { pass = r; call = call } ∷ []
-entries_in r (deed ∷ past) = entries_in r past

@@ -4,7 +4,7 @@ use Rattle.ug_rules.specs.State.{BookState}
 use Rattle.ug_book.specs.declared.opening.Opening.{Opening}
 use Rattle.ug_book.specs.Openings.{opening_book}
 use Rattle.ug_desk.specs.Entries.{IsLocked, LockedState}
-use Rattle.ug_threads.specs.Courses.{IsWorked}
+use Rattle.ug_threads.specs.Courses.{IsLedByWorkers}
 
 -- a history leads from what stood when the run began with the opening to this book, in which each
 -- pass has the calls of workers that have left
@@ -12,7 +12,7 @@ pub record IsEnding (o : Opening) (b : BookState) : Type 0 where
   pub state : LockedState
   pub locked : IsLocked state
   pub began : state.opening ≡ o
-  pub worked : IsWorked o state
+  pub worked : IsLedByWorkers o state
   pub is : state.now.book ≡ b
 
 -- a history leads from the given book to this one, in which each pass has the calls of workers that
@@ -21,5 +21,5 @@ pub record IsReplayOf (given b : BookState) : Type 0 where
   pub state : LockedState
   pub locked : IsLocked state
   pub began : opening_book state.opening ≡ given
-  pub worked : IsWorked state.opening state
+  pub worked : IsLedByWorkers state.opening state
   pub is : state.now.book ≡ b

@@ -1,4 +1,5 @@
 pub mod Deeds
+pub mod Lines
 pub mod Courses
 pub mod Places
 pub mod Crews

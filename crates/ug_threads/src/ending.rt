@@ -5,7 +5,7 @@ ghost use Rattle.ug_rules.specs.State.{held_nodes};
 ghost use Rattle.ug_rules.specs.Books.{IsSoundBook};
 ghost use Rattle.ug_restart.specs.Outcomes.{IfBook};
 ghost use Rattle.ug_restart.specs.Outcomes.{HasFeasible, IfAnswered, IfLimited, IsLimited, IsRight, IsStranded};
-ghost use Rattle.ug_threads.specs.Courses.{IsWorked};
+ghost use Rattle.ug_threads.specs.Courses.{IsLedByWorkers};
 ghost use Rattle.ug_threads.specs.Ends.{IsEnding};
 
 use ug_book::Book;
@@ -14,7 +14,7 @@ use ug_restart::End;
 
 /// The book of what was behind a lock, which began with this opening.
 pub fn of_opening(locked: Locked) -> Book
-    ensures { (o : _) → locked.opening ≡ o → IsWorked o locked → IsEnding o result }
+    ensures { (o : _) → locked.opening ≡ o → IsLedByWorkers o locked → IsEnding o result }
 {
     locked.into_book()
 }
