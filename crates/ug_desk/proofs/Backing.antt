@@ -26,7 +26,7 @@ use Rattle.ug_desk.specs.declared.shelf.Shelf.{Shelf}
 use Rattle.ug_desk.specs.DeskStates.{DeskState, opening_state, own_ticket}
 use Rattle.ug_desk.specs.Entries.{HasEnded, LockedState}
 use Rattle.ug_desk.specs.Histories.{Call, Entry, Replays, Step, offered, stated, taken}
-use Rattle.ug_desk.specs.Passes.{HasCalledAt, HasLooked, PassState, entry_by, pass_seen}
+use Rattle.ug_desk.specs.Passes.{HasCalledAt, HasLooked, IsItsProblem, PassState, entry_by, pass_seen}
 use Rattle.ug_desk.specs.Shelves.{HasTakenOut, ViewState, on, opening_of}
 use Rattle.ug_desk.specs.Backing.{Backs, IsKnownBacked, IsUnbackedAnswer, IsWellOffered}
 use Rattle.ug_desk.specs.Words.{cutoff_at, floor_of, no_word, word_at}
@@ -244,6 +244,41 @@ known_still cutoff other p q h known o more s opened replays low =
     (no_more low h.falls)
 
 -- ---- what calls answer
+
+-- ---- what a call leaves at the desk
+
+-- the call was made on what stood, and led to what stands
+pub called_step : (call : Call) (after : LockedState) (p q : PassState) → HasCalledAt (Some call) after p q
+    → (mid : DeskState) × Step p.rank call mid after.now
+called_step call after p q h =
+    last_call (opening_state after.opening) after.now (p.seen ++ h.between) (record { pass = p.rank; call = call })
+    (subst (λ (l : List Entry). Replays (opening_state after.opening) l after.now) h.seen h.replayed.replays)
+
+-- problem and settings are the opening's
+pub called_same : (call : Option Call) (after : LockedState) (p q : PassState) (o : Opening)
+    → HasCalledAt call after p q → p.opening ≡ Some o → IsSameAim (opening_book o) after.now.book
+called_same call after p q o h opened =
+    subst (λ (k : Opening). IsSameAim (opening_book k) after.now.book)
+    (same_Some after.opening o (sym h.opened ∙ opened))
+    (replays_same (opening_state after.opening) after.now q.seen h.replayed.replays)
+
+-- the problem of a task that was taken
+pub taken_problem : (task : TaskState) (after : LockedState) (p q : PassState) (o : Opening)
+    → HasCalledAt (Some (taken (Ok (Work task)))) after p q → p.opening ≡ Some o → task.problem ≡ o.problem
+taken_problem task after p q o h opened =
+    let step = called_step (taken (Ok (Work task))) after p q h in
+    ap (λ (t : TaskState). t.problem) step.1.answered.answer.given.task_is
+    ∙ (called_same (Some (taken (Ok (Work task)))) after p q o h opened).problem
+
+pub if_there : {A : Type 0} (x : Option A) (P : A → Type 0) → ((a : A) → x ≡ Some a → P a) → IfSome x P
+if_there None P each = tt
+if_there (Some a) P each = each a refl
+
+pub taken_its : (task : TaskState) (after : LockedState) (p q : PassState)
+    → HasCalledAt (Some (taken (Ok (Work task)))) after p q → IsItsProblem q task.problem
+taken_its task after p q h =
+    if_there q.opening (λ o. task.problem ≡ o.problem)
+    (λ o opened. taken_problem task after p q o h (sym h.same.2 ∙ opened))
 
 -- the cutoff of a task that was taken
 pub taken_known : (task : TaskState) (after : LockedState) (p q : PassState)

@@ -24,8 +24,5 @@ desk_sync =
     recorded_sync (Desk.the_field).row _ _ T.to_one
     (struct_sync (Declared.shape T) (
       turn_field_sync Shelf.the_row Opening.the_row Entry.the_row lasting.ghosts shelf.the_send,
-      (
-        search (crosses, sendable) depth 60 fits 20000,
-        (search (crosses, sendable) depth 60 fits 20000, tt),
-      ),
+      (search (crosses, sendable) depth 60 fits 20000, tt),
     ))

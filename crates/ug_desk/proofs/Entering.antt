@@ -20,6 +20,8 @@ use Rattle.ug_desk.specs.Reports.{HasNotStated, HasOffered, HasStated}
 use Rattle.ug_desk.specs.Histories.{Call, Entry, Replays, Step, offered, stated, taken}
 use Rattle.ug_desk.specs.Entries.{HasEntered, IsLocked, IsReplayed, LockedState, one_more}
 use Rattle.ug_desk.specs.Words.{word_of}
+use Rattle.ug_desk.specs.declared.given.Given.{Given}
+use Rattle.ug_desk.specs.Givens.{taken_by, took_of}
 use Rattle.ug_desk.proofs.Incumbents.{OffersNone, kept_or_not, step_stays, unkept}
 use Rattle.ug_desk.proofs.Falling.{word_stays}
 
@@ -135,14 +137,14 @@ pub stated_step : (result : Result Reply Unfinished) (r left : ℕ) (floor : ℤ
 stated_step (Ok reply) r left floor s b ok err = record { book = ok; tickets = refl }
 stated_step (Err e) r left floor s b ok err = record { book = err; tickets = refl }
 
-pub taken_step : (result : Result Took Untaken) (r : ℕ) (s : DeskState) (b : BookState)
-    (tickets : List Ticket) → IfOk result (λ took. HasAnswered r took s.book b)
+pub given_step : (result : Result Given Untaken) (r : ℕ) (s : DeskState) (b : BookState)
+    (tickets : List Ticket) → IfOk result (λ given_. HasAnswered r (took_of given_) s.book b)
     → IfErr result (λ end. IsCutShort r end s.book b)
-    → IfOk result (λ took. tickets ≡ tickets_after took r s.tickets)
+    → IfOk result (λ given_. tickets ≡ tickets_after (took_of given_) r s.tickets)
     → OnErr result (tickets ≡ s.tickets)
-    → Step r (taken result) s (record { book = b; tickets = tickets })
-taken_step (Ok took) r s b tickets ok err changed same = record { answered = ok; tickets = changed }
-taken_step (Err e) r s b tickets ok err changed same = record { book = err; tickets = same }
+    → Step r (taken (taken_by result)) s (record { book = b; tickets = tickets })
+given_step (Ok given_) r s b tickets ok err changed same = record { answered = ok; tickets = changed }
+given_step (Err e) r s b tickets ok err changed same = record { book = err; tickets = same }
 
 wide_after : (took : Took) (r : ℕ) (tickets : List Ticket)
     → length (tickets_after took r tickets) ≡ length tickets
@@ -151,12 +153,12 @@ wide_after Wait r tickets = refl
 wide_after Over r tickets = refl
 
 -- there are as many tickets as before
-pub taken_wide : (result : Result Took Untaken) (r : ℕ) (old new : List Ticket)
-    → IfOk result (λ took. new ≡ tickets_after took r old) → OnErr result (new ≡ old)
+pub given_wide : (result : Result Given Untaken) (r : ℕ) (old new : List Ticket)
+    → IfOk result (λ given_. new ≡ tickets_after (took_of given_) r old) → OnErr result (new ≡ old)
     → length new ≡ length old
-taken_wide (Ok took) r old new changed same =
-    ap (λ (ts : List Ticket). length ts) changed ∙ wide_after took r old
-taken_wide (Err e) r old new changed same = ap (λ (ts : List Ticket). length ts) same
+given_wide (Ok given_) r old new changed same =
+    ap (λ (ts : List Ticket). length ts) changed ∙ wide_after (took_of given_) r old
+given_wide (Err e) r old new changed same = ap (λ (ts : List Ticket). length ts) same
 
 -- the same, where ticket and floor are known by other names
 pub stated_by : (result : Result Reply Unfinished) (r left : ℕ) (z floor : ℤ) (s : DeskState)

@@ -10,5 +10,7 @@ mod Incumbents
 mod Falling
 pub mod Backing
 mod Turns
+mod Taking
+mod Parceled
 pub mod Seating
 pub mod Crossing

@@ -37,6 +37,15 @@ rank_here rank view shelf opened here locked =
     length-replicate (opening_of shelf).settings.solvers Absent in
     omega (arith, few, wide, locked.same.wide)
 
+-- a task of the desk's problem is one of the book's
+pub problem_out : (view : ViewState) (shelf : Shelf) (task : TaskState) (was : LockedState)
+    → view.opening ≡ Some (opening_of shelf) → IsLocked (on shelf) → was ≡ on shelf
+    → IfSome view.opening (λ (o : Opening). task.problem ≡ o.problem) → task.problem ≡ was.now.book.problem
+problem_out view shelf task was opened locked lent is =
+    let own : task.problem ≡ (opening_of shelf).problem =
+    subst (λ (o : Option Opening). IfSome o (λ (k : Opening). task.problem ≡ k.problem)) opened is in
+    own ∙ (sym locked.same.problem ∙ ap (λ (l : LockedState). l.now.book.problem) (sym lent))
+
 opened_mid : (old mid : ViewState) (before : Shelf) → HasTakenOut old before mid
     → mid.opening ≡ Some (opening_of before)
 opened_mid old mid before t = ap (λ (v : ViewState). v.opening) t.same ∙ t.opened

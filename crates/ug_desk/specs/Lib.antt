@@ -1,6 +1,8 @@
 pub mod Areas
 pub mod Decided
 pub mod Takes
+pub mod Parcels
+pub mod Givens
 pub mod Reports
 pub mod Dones
 pub mod Answers

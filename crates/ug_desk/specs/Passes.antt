@@ -1,9 +1,10 @@
 -- A pass: what it has seen of the history of its desk, and what a call of it does.
 use Rattle.std.specs.Prelude.{◌≡◌, ◌≢◌, ◌⊎◌, ℕ, ℤ, ◌<◌, ◌≤◌, min, List, [], ◌++◌, length, Option, Some, None, IfSome}
-use Rattle.std.specs.Prelude.{false, slice_get, unsigned_abs, ◌*◌, ◌^◌}
+use Rattle.std.specs.Prelude.{false, slice_get, unsigned_abs, ◌*◌, ◌^◌, Result, Ok, Err}
 use mathlib.Core.List.{IsPrefix}
 use Rattle.atomic_table.specs.Seated.{TableId}
 use Rattle.ug_rows.specs.declared.area.Interval.{Interval}
+use Rattle.ug_problem.specs.Instances.{Instance}
 use Rattle.ug_base.specs.Tasks.{TaskState}
 use Rattle.ug_ranks.specs.Looks.{is_alive}
 use Rattle.ug_ranks.specs.States.{state_at}
@@ -11,13 +12,17 @@ use Rattle.ug_rules.specs.declared.heard.Heard.{Heard}
 use Rattle.ug_rules.specs.declared.heard.Heard.TheVariants.{Stale}
 use Rattle.ug_book.specs.declared.opening.Opening.{Opening}
 use Rattle.ug_snapshot.specs.Snapshots.{SnapshotState}
+use Rattle.ug_worker.specs.declared.took.Took.{Took}
+use Rattle.ug_worker.specs.declared.took.Took.TheVariants.{Work}
+use Rattle.ug_worker.specs.declared.took.Untaken.{Untaken}
+use Rattle.ug_worker.specs.declared.took.Untaken.TheVariants.{Deciding, Making}
 use Rattle.ug_turn.specs.Histories.{calls_by, longer, told}
 use Rattle.ug_turn.specs.Locks.{id_of, passes_of}
 use Rattle.ug_turn.specs.Seats.{IsAtRest, IsAtRestAt, lock_of, view_of}
 use Rattle.ug_desk.specs.declared.desk.Desk.{Desk}
 use Rattle.ug_desk.specs.declared.pass.Pass.TheInside.{Inside}
 use Rattle.ug_desk.specs.Dones.{IsOfTicket}
-use Rattle.ug_desk.specs.Histories.{Call, Entry, copied, ended, handed, left}
+use Rattle.ug_desk.specs.Histories.{Call, Entry, copied, ended, handed, left, taken}
 use Rattle.ug_desk.specs.Entries.{IsReplayed, IsSnapshotOf, LockedState}
 use Rattle.ug_desk.specs.Shelves.{SeatState, ViewState}
 use Rattle.ug_desk.specs.Words.{cutoff_at, floor_of, no_word, word_of}
@@ -112,6 +117,18 @@ pub record HasCalledAt (call : Option Call) (after : LockedState) (old new : Pas
 
 abbrev pub HasCalled : Option Call → PassState → PassState → Type 0
 HasCalled call old new = (after : LockedState) × HasCalledAt call after old new
+
+-- the problem is that with which the history began
+abbrev pub IsItsProblem : PassState → Instance → Type 0
+IsItsProblem p problem = IfSome p.opening (λ o. problem ≡ o.problem)
+
+-- What there is is taken. Where memory is wanting to make the task of it, it was taken all the same.
+abbrev pub HasTakenIn : Result Took Untaken → PassState → PassState → Type 0
+HasTakenIn (Ok took) old new = HasCalled (Some (taken (Ok took))) old new
+HasTakenIn (Err (Deciding stood)) old new =
+    HasCalled (Some (taken (Err (Deciding stood)))) old new
+HasTakenIn (Err Making) old new = HasCalled (Some (taken (Err Making))) old new
+    ⊎ (task : TaskState) × HasCalled (Some (taken (Ok (Work task)))) old new
 
 -- a box as wide as the problem's is handed; another is Stale, and has no entry
 pub record HasHandedIn (number : ℕ) (area : List Interval) (answer : Heard) (old new : PassState)

@@ -5,6 +5,7 @@ use Rattle.ug_desk.specs.declared.entry.Said.{Said}
 use Rattle.ug_desk.specs.declared.entry.Said.TheVariants.{Taken, Offered, Handed, Stated, Ended, Left, Copied}
 use Rattle.ug_desk.specs.Histories.{Call, Entry, taken, offered, handed, stated, ended, left, copied}
 use Rattle.ug_desk.specs.Entries.{LockedState}
+use Rattle.ug_desk.specs.Givens.{taken_by}
 
 -- what its fields say
 abbrev pub state_of : Inside → LockedState
@@ -16,7 +17,7 @@ state_of l = record {
 
 -- what was called, and what was answered
 abbrev pub call_of : Said → Call
-call_of (Taken took) = taken took.value
+call_of (Taken given) = taken (taken_by given.value)
 call_of (Offered point heard) = offered point.value heard.value
 call_of (Handed number area heard) = handed number area.value heard.value
 call_of (Stated count floor reply) = stated count floor.value reply.value

@@ -1,15 +1,16 @@
 // The calls of passes.
 ghost use Rattle.std.specs.Prelude.{◌≡◌, ◌<◌, [], Some, None, IfOk, IfSome, OnErr};
 ghost use Rattle.ug_turn.specs.Seats.{IsAtRestAt, view_of};
-ghost use Rattle.ug_desk.specs.Histories.{offered, stated, taken};
+ghost use Rattle.ug_desk.specs.Histories.{offered, stated};
 ghost use Rattle.ug_desk.specs.Passes.{HasCalled, HasCopied, HasEndedIn, HasHandedIn, HasLeft};
-ghost use Rattle.ug_desk.specs.Passes.{HasLooked, HasMet, lock_of_desk};
+ghost use Rattle.ug_desk.specs.Passes.{HasLooked, HasMet, HasTakenIn, IsItsProblem, lock_of_desk};
 ghost use Rattle.ug_problem.specs.Better.{IsSmallCutoff};
 ghost use Rattle.ug_desk.specs.Backing.{IsKnownBacked, IsUnbackedAnswer};
 ghost use Rattle.ug_desk.specs.Shelves.{HasTakenOut, IsOutFor};
 
 use crate::desk::Desk;
 use crate::entry::Entry;
+use crate::given::opened;
 use crate::pass::Pass;
 use crate::shelf::Shelf;
 use crate::word::cutoff_at;
@@ -26,19 +27,20 @@ use ug_worker::{Reply, Took, Untaken};
 
 impl Desk {
     /// Joins the pass's rank where it is absent or dead, decides, and answers what there is for it.
+    /// Its task is made without the lock.
     pub fn take<R: Wait>(&self, rt: &R, pass: &mut Pass) -> Result<Took, Untaken>
         requires { pass.old.lock ≡ lock_of_desk self.now }
-        ensures { HasCalled (Some (taken result)) pass.old pass.new }
+        ensures taken { HasTakenIn result pass.old pass.new }
+        ensures lock { pass.new.lock ≡ pass.old.lock }
     {
         let mut shelf = self.out(rt, &mut pass.seat, pass.rank);
-        let took = shelf.locked.take(pass.rank);
+        let given = shelf.locked.take(pass.rank);
         pass.heard = shelf.locked.book().count();
-        let entry = Entry::taken(pass.rank, &took);
+        let woken = shelf.locked.woken();
+        let entry = Entry::taken(pass.rank, &given);
         self.turn.put(&mut pass.seat, shelf, Some(entry));
-        if !matches!(took, Ok(Took::Wait)) {
-            self.stir(rt);
-        }
-        took
+        self.wake(woken);
+        opened(given)
     }
 
     /// A point that was found. It takes no memory.
@@ -50,9 +52,10 @@ impl Desk {
         let mut shelf = self.out(rt, &mut pass.seat, pass.rank);
         let heard = shelf.locked.solution(pass.rank, point);
         pass.heard = shelf.locked.book().count();
+        let woken = shelf.locked.woken();
         let entry = Entry::offered(pass.rank, said, &heard);
         self.turn.put(&mut pass.seat, shelf, Some(entry));
-        self.stir(rt);
+        self.wake(woken);
         heard
     }
 
@@ -68,9 +71,10 @@ impl Desk {
         }
         let heard = shelf.locked.hand(pass.rank, number, area);
         pass.heard = shelf.locked.book().count();
+        let woken = shelf.locked.woken();
         let entry = Entry::handed(pass.rank, number, area, &heard);
         self.turn.put(&mut pass.seat, shelf, Some(entry));
-        self.stir(rt);
+        self.wake(woken);
         heard
     }
 
@@ -90,35 +94,38 @@ impl Desk {
         let mut shelf = self.out(rt, &mut pass.seat, pass.rank);
         let reply = shelf.locked.state(pass.rank, left, floor);
         pass.heard = shelf.locked.book().count();
+        let woken = shelf.locked.woken();
         let entry = Entry::stated(pass.rank, left, floor, &reply);
         self.turn.put(&mut pass.seat, shelf, Some(entry));
-        self.stir(rt);
+        self.wake(woken);
         reply
     }
 
-    /// A task of which no box is left, under a cutoff that the pass knows to be backed: one that it
-    /// was answered or has read, or that of a point of its own which was kept, or not better. So it
-    /// is never Unbacked. It takes no memory.
+    /// A task of the desk's problem of which no box is left, under a cutoff that the pass knows to
+    /// be backed: one that it was answered or has read, or that of a point of its own which was
+    /// kept, or not better. So it is never Unbacked. It takes no memory.
     pub fn done<R: Wait>(&self, rt: &R, pass: &mut Pass, task: Task) -> Heard
         requires lock { pass.old.lock ≡ lock_of_desk self.now }
         requires none { task.boxes ≡ [] }
         requires known { IsKnownBacked pass.old task.cutoff }
+        requires problem { IsItsProblem pass.old task.problem }
         ensures ended { HasEndedIn task result pass.old pass.new }
         ensures backed { ¬ IsUnbackedAnswer result }
     {
         let mut shelf = self.out(rt, &mut pass.seat, pass.rank);
         let heard = shelf.locked.done(pass.rank, &task);
         pass.heard = shelf.locked.book().count();
+        let woken = shelf.locked.woken();
         if heard == Heard::Stale {
             self.turn.put(&mut pass.seat, shelf, None);
             drop(task);
-            self.stir(rt);
+            self.wake(woken);
             return heard;
         }
         let entry = Entry::ended(pass.rank, &task, &heard);
         self.turn.put(&mut pass.seat, shelf, Some(entry));
         drop(task);
-        self.stir(rt);
+        self.wake(woken);
         heard
     }
 
@@ -137,15 +144,17 @@ impl Desk {
         ensures { HasLeft pass.old pass.new }
     {
         let mut shelf = self.out(rt, &mut pass.seat, pass.rank);
-        if !shelf.locked.leave(pass.rank) {
+        let lived = shelf.locked.leave(pass.rank);
+        let woken = shelf.locked.woken();
+        if !lived {
             self.turn.put(&mut pass.seat, shelf, None);
-            self.stir(rt);
+            self.wake(woken);
             return;
         }
         pass.heard = shelf.locked.book().count();
         let entry = Entry::left(pass.rank);
         self.turn.put(&mut pass.seat, shelf, Some(entry));
-        self.stir(rt);
+        self.wake(woken);
     }
 
     /// What is held now, to be saved. It is an entry of its own, which it counts.

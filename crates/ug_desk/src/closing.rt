@@ -25,7 +25,8 @@ impl Desk {
             return Err((self, passes));
         };
         let seats = seats(room, passes);
-        let Desk { turn, .. } = self;
+        let Desk { turn, bells } = self;
+        drop(bells);
         let Shelf { locked } = turn.close(seats);
         Ok(Box::into_inner(locked))
     }

@@ -1,8 +1,12 @@
 ghost use Rattle.std.specs.Prelude.{◌≡◌, ◌<◌};
 ghost use Rattle.ug_turn.specs.Locks.{passes_of};
 
+use crate::bell::Bell;
+use crate::pass::Pass;
 use crate::shelf::Shelf;
-use std::sync::{Condvar, Mutex, Wait};
+use crate::waiting::Woken;
+use std::alloc::{AllocError, Global};
+use std::sync::Wait;
 use ug_turn::Turn;
 
 /// One book that threads share in turns, each through passes of its own. What a call does is said
@@ -11,42 +15,51 @@ use ug_turn::Turn;
 #[derive(Drop)]
 pub struct Desk {
     pub(crate) turn: Turn<Shelf>,
-    // How many calls were not answered Wait, and what wakes those that rest.
-    stirred: Mutex<u64>,
-    bell: Condvar,
+    // What wakes each rank.
+    pub(crate) bells: Vec<Bell>,
     ghost some: { 0 < passes_of turn },
+}
+
+/// A bell for each of so many ranks.
+pub fn bells(alloc: Global, ranks: u32) -> Result<Vec<Bell>, AllocError> {
+    let mut bells = Vec::with_capacity(alloc, ranks as usize)?;
+    for _ in 0..ranks {
+        bells.push(Bell::new())?;
+    }
+    Ok(bells)
 }
 
 impl Desk {
     /// The desk of a lock.
-    pub(crate) fn over(turn: Turn<Shelf>) -> Desk
+    pub(crate) fn over(turn: Turn<Shelf>, bells: Vec<Bell>) -> Desk
         requires { 0 < passes_of turn }
         ensures { result.turn ≡ turn }
     {
-        Desk {
-            turn,
-            stirred: Mutex::new(0),
-            bell: Condvar::new(),
+        Desk { turn, bells }
+    }
+
+    /// Sleeps until there is something for the rank of a pass that was answered Wait: work, the
+    /// end, or that it is time to look again.
+    pub fn rest<R: Wait>(&self, rt: &R, pass: &Pass) {
+        if let Some(bell) = self.bells.get(pass.rank as usize) {
+            bell.hear(rt);
         }
     }
 
-    /// How many calls were not answered Wait.
-    pub fn stirred<R: Wait>(&self, rt: &R) -> u64 {
-        *self.stirred.lock(rt)
-    }
-
-    /// Sleeps until the count of such calls is another.
-    pub fn rest<R: Wait>(&self, rt: &R, seen: u64) {
-        let _woken = self
-            .bell
-            .wait_while(rt, self.stirred.lock(rt), |stirred| *stirred == seen);
-    }
-
-    // One call more that was not answered Wait, which wakes those that rest.
-    pub(crate) fn stir<R: Wait>(&self, rt: &R) {
-        let mut stirred = self.stirred.lock(rt);
-        *stirred = stirred.wrapping_add(1);
-        drop(stirred);
-        self.bell.notify_all();
+    // Wakes those that are to be woken.
+    pub(crate) fn wake(&self, woken: Woken) {
+        match woken {
+            Woken::Nobody => {}
+            Woken::One(rank) => {
+                if let Some(bell) = self.bells.get(rank as usize) {
+                    bell.ring();
+                }
+            }
+            Woken::All => {
+                for bell in self.bells.iter() {
+                    bell.ring();
+                }
+            }
+        }
     }
 }

@@ -1,13 +1,15 @@
 ghost use Rattle.std.specs.Prelude.{◌≡◌, ℕ};
 ghost use Rattle.ug_desk.specs.Histories.{taken, offered, handed, stated, ended, left, copied};
+ghost use Rattle.ug_desk.specs.Givens.{taken_by};
 
+use crate::given::Given;
 use std::marker::Model;
 use std::snapshot::Snapshot;
 use ug_base::Task;
 use ug_book::Unfinished;
 use ug_rows::{IntBox, Point};
 use ug_rules::Heard;
-use ug_worker::{Reply, Took, Untaken};
+use ug_worker::{Reply, Untaken};
 
 /// A call of a pass as the history of its desk has it. What was said and answered it has as
 /// snapshots, which have no bytes.
@@ -20,7 +22,7 @@ pub struct Entry {
 /// What was called, and what was answered.
 #[derive(Drop)]
 pub enum Said {
-    Taken(Snapshot<Result<Took, Untaken>>),
+    Taken(Snapshot<Result<Given, Untaken>>),
     Offered(Snapshot<Point>, Snapshot<Heard>),
     Handed(u64, Snapshot<IntBox>, Snapshot<Heard>),
     Stated(u64, Snapshot<i128>, Snapshot<Result<Reply, Unfinished>>),
@@ -40,12 +42,12 @@ impl Model for Entry {
 
 impl Entry {
     /// The pass took what there was.
-    pub(crate) fn taken(pass: u32, took: &Result<Took, Untaken>) -> Entry
-        ensures { result ≡ record { pass = pass; call = taken took.now } }
+    pub(crate) fn taken(pass: u32, given: &Result<Given, Untaken>) -> Entry
+        ensures { result ≡ record { pass = pass; call = taken (taken_by given.now) } }
     {
         Entry {
             pass,
-            said: Said::Taken(Snapshot::of(took)),
+            said: Said::Taken(Snapshot::of(given)),
         }
     }
 

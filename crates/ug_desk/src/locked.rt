@@ -7,14 +7,17 @@ ghost use Rattle.ug_desk.specs.DeskStates.{opening_state, own_ticket};
 ghost use Rattle.ug_desk.specs.Histories.{taken, offered, handed, stated, left, copied};
 ghost use Rattle.ug_desk.specs.Entries.{HasEnded, HasEntered, HasEnteredAlive, IsLocked, one_more};
 ghost use Rattle.ug_desk.specs.Entries.{IsSnapshotOf};
+ghost use Rattle.ug_desk.specs.Givens.{taken_by};
 ghost use Rattle.ug_desk.specs.Words.{word_of};
 
 use crate::done::done;
+use crate::given::Given;
 use crate::hand::{HandedBox, hand};
 use crate::state::state;
 use crate::take::{note, take};
 use crate::ticket::is_of_ticket;
 use crate::tickets::tickets;
+use crate::waiting::{Waiting, Woken};
 use crate::word::{word_behind, word_of};
 use std::alloc::{AllocError, Global};
 use std::marker::Model;
@@ -25,7 +28,7 @@ use ug_nodes::Ticket;
 use ug_rows::{IntBox, Point};
 use ug_rules::Heard;
 use ug_snapshot::{Snapshot, image_of};
-use ug_worker::{Reply, Took, Untaken};
+use ug_worker::{Reply, Untaken};
 
 /// The value behind the lock of a desk.
 #[derive(Drop)]
@@ -39,6 +42,8 @@ pub struct Locked {
     count: u64,
     // The word of the incumbent's cutoff, which is read behind each call.
     word: u64,
+    // Who rests.
+    waiting: Waiting,
 }
 
 impl Model for Locked {
@@ -72,6 +77,11 @@ impl Locked {
             drop(opening);
             return Err(AllocError);
         };
+        let Ok(waiting) = Waiting::new(alloc, opening.settings.solvers) else {
+            drop(opening);
+            drop(tickets);
+            return Err(AllocError);
+        };
         match Book::new(alloc, &opening) {
             Ok(book) => {
                 let word = word_of(&book);
@@ -82,11 +92,13 @@ impl Locked {
                     tickets,
                     count: 0,
                     word,
+                    waiting,
                 })
             }
             Err(error) => {
                 drop(opening);
                 drop(tickets);
+                drop(waiting);
                 Err(error)
             }
         }
@@ -116,10 +128,12 @@ impl Locked {
             opening,
             book,
             tickets,
+            waiting,
             ..
         } = self;
         drop(opening);
         drop(tickets);
+        drop(waiting);
         book
     }
 
@@ -130,16 +144,18 @@ impl Locked {
         self.word
     }
 
-    /// The rank joins where it is absent or dead, the book decides, and the rank gets a new task of
+    /// The rank joins where it is absent or dead, the book decides, and the rank gets the work of
     /// its ticket, if it has one.
-    pub fn take(&mut self, rank: u32) -> Result<Took, Untaken>
+    pub fn take(&mut self, rank: u32) -> Result<Given, Untaken>
         requires { rank < length self.old.now.book.ranks }
-        ensures { HasEntered rank (taken result) self.old self.new }
+        ensures { HasEntered rank (taken (taken_by result)) self.old self.new }
     {
-        let took = take(self.alloc, &mut self.book, rank);
-        note(&mut self.tickets, rank, &took);
+        let given = take(self.alloc, &mut self.book, rank);
+        note(&mut self.tickets, rank, &given);
+        self.waiting
+            .looked(rank, matches!(&given, Ok(Given::Nothing)));
         self.count = one_more(self.count);
-        took
+        given
     }
 
     /// A point that was found under the ticket of the rank's last work. It takes no memory.
@@ -180,14 +196,16 @@ impl Locked {
     {
         let ticket = self.ticket(rank);
         let reply = state(&mut self.book, rank, ticket, left, floor);
+        self.waiting.told(left);
         self.count = one_more(self.count);
         reply
     }
 
-    /// A task of which no box is left. It is Stale where it is not of the rank's ticket. It takes
-    /// no memory.
+    /// A task of the book's problem of which no box is left. It is Stale where it is not of the
+    /// rank's ticket. It takes no memory.
     pub fn done(&mut self, rank: u32, task: &Task) -> Heard
         requires here { rank < length self.old.now.book.ranks }
+        requires problem { task.now.problem ≡ self.old.now.book.problem }
         requires none { task.now.boxes ≡ [] }
         ensures { HasEnded rank task.now result self.old self.new }
     {
@@ -209,6 +227,7 @@ impl Locked {
             return false;
         }
         self.book.gone(rank);
+        self.waiting.left(rank);
         self.count = one_more(self.count);
         true
     }
@@ -223,6 +242,11 @@ impl Locked {
         let snapshot = self.copy()?;
         self.count = one_more(self.count);
         Ok(snapshot)
+    }
+
+    /// Who is to be woken behind a call.
+    pub(crate) fn woken(&self) -> Woken {
+        self.waiting.woken(&self.book)
     }
 
     /// Whether the box has a column for each of the problem.

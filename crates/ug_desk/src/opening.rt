@@ -3,7 +3,7 @@ ghost use Rattle.std.specs.Prelude.{◌≡◌, length, IfOk};
 ghost use Rattle.ug_book.specs.Openings.{IsOpening};
 ghost use Rattle.ug_desk.specs.Passes.{AreNewPasses, lock_of_desk, width_of};
 
-use crate::desk::Desk;
+use crate::desk::{Desk, bells};
 use crate::pass::Pass;
 use crate::passes::passes;
 use crate::shelf::Shelf;
@@ -25,12 +25,17 @@ impl Desk {
         let count = opening.settings.solvers;
         let floor = floor_of(opening.problem.problem());
         let began = Snapshot::of(&opening);
+        let Ok(bells) = bells(alloc, count) else {
+            drop(opening);
+            return Err(AllocError);
+        };
         let shelf = Shelf::new(alloc, opening)?;
         let (turn, seats) = Turn::new(alloc, shelf, count)?;
         match passes(alloc, &turn, &began, floor, seats) {
-            Ok(passes) => Ok((Desk::over(turn), passes)),
+            Ok(passes) => Ok((Desk::over(turn, bells), passes)),
             Err(error) => {
                 drop(turn);
+                drop(bells);
                 Err(error)
             }
         }

@@ -1,4 +1,4 @@
-ghost use Rattle.std.specs.Prelude.{◌<◌, ◌↔◌, length, IsTrue};
+ghost use Rattle.std.specs.Prelude.{◌≡◌, ◌<◌, ◌↔◌, length, IsTrue};
 ghost use Rattle.ug_desk.specs.Dones.{IsOfTicket, IsTaskOf};
 
 use crate::area::is_area_by;
@@ -7,10 +7,11 @@ use ug_book::Book;
 use ug_nodes::{Node, Ticket};
 use ug_problem::Problem;
 
-/// Whether a task is of the current ticket of a rank: problem, ticket and whole box are the book's.
-/// It takes no memory.
+/// Whether a task of the book's problem is of the current ticket of a rank: ticket and whole box are
+/// the book's. It takes no memory, and looks at no row.
 pub fn is_of_ticket(book: &Book, rank: u32, task: &Task) -> bool
-    requires { rank < length book.now.ranks }
+    requires here { rank < length book.now.ranks }
+    requires problem { task.now.problem ≡ book.now.problem }
     ensures { IsTrue result ↔ IsOfTicket book.now rank task.now }
 {
     match book.current(rank) {
@@ -19,11 +20,10 @@ pub fn is_of_ticket(book: &Book, rank: u32, task: &Task) -> bool
     }
 }
 
-// Whether a task has this problem, and is of the node that was given under this ticket.
+// Whether a task of this problem is of the node that was given under this ticket.
 fn is_task_of(problem: &Problem, ticket: Ticket, node: &Node, task: &Task) -> bool
+    requires { task.now.problem ≡ problem.now }
     ensures { IsTrue result ↔ IsTaskOf problem.now ticket node.now task.now }
 {
-    task.ticket() == ticket
-        && is_area_by(problem.root(), &node.changes, task.whole())
-        && task.problem().is(problem)
+    task.ticket() == ticket && is_area_by(problem.root(), &node.changes, task.whole())
 }

@@ -11,7 +11,6 @@ use Rattle.std.proofs.lemmas.List.{append-nil, append_assoc, length-map}
 use Rattle.std.proofs.lemmas.Option.{none-some, same_Some}
 use Rattle.ug_base.specs.Tasks.{TaskState}
 use Rattle.ug_book.specs.declared.opening.Opening.{Opening}
-use Rattle.ug_book.specs.Openings.{opening_book}
 use Rattle.ug_rules.specs.declared.settings.Settings.{Settings}
 use Rattle.ug_snapshot.specs.Snapshots.{SnapshotState}
 use Rattle.ug_stock.specs.declared.unfinished.Unfinished.{Unfinished}
@@ -20,8 +19,8 @@ use Rattle.ug_worker.specs.declared.search.Asked.{Asked}
 use Rattle.ug_worker.specs.declared.took.Took.{Took}
 use Rattle.ug_worker.specs.declared.took.Took.TheVariants.{Work, Wait, Over}
 use Rattle.ug_worker.specs.declared.took.Untaken.{Untaken}
+use Rattle.ug_worker.specs.declared.took.Untaken.TheVariants.{Deciding, Making}
 use Rattle.ug_desk.specs.declared.desk.Desk.{Desk}
-use Rattle.ug_desk.specs.DeskStates.{DeskState, opening_state}
 use Rattle.ug_desk.specs.Backing.{IsKnownBacked}
 use Rattle.ug_desk.specs.Backing.{Backs, IsWellOffered}
 use Rattle.ug_desk.specs.Passes as desk
@@ -36,12 +35,12 @@ use Rattle.ug_worker.specs.declared.tally.Tally.{Tally}
 use Rattle.ug_worker.specs.Engagements.{Engaged, HasTaken, IsFoundBy, IsDoneBy, IsHandedBy, IsReplied, IsSince, IsStatedBy, is_replied, Stands, lowered, under}
 use Rattle.ug_worker.specs.Renewals.{begun, counted, fresh}
 use Rattle.ug_desk.specs.Entries.{LockedState}
-use Rattle.ug_desk.specs.Histories.{Call, Entry, Replays, Step, copied, ended, handed, left, offered, stated, taken}
+use Rattle.ug_desk.specs.Histories.{Call, Entry, copied, ended, handed, left, offered, stated, taken}
 use Rattle.ug_desk.specs.Dones.{IsOfTicket}
-use Rattle.ug_desk.specs.Passes.{HasCalled, HasCalledAt, HasEndedIn, HasEndedOther, HasHandedIn, HasLeft, HasLeftBefore, HasLooked, PassState, calls_of, entry_by}
+use Rattle.ug_desk.specs.Passes.{HasCalled, HasCalledAt, HasEndedIn, HasEndedOther, HasHandedIn, HasLeft, HasLeftBefore, HasLooked, HasTakenIn, IsItsProblem, PassState, entry_by}
 use Rattle.ug_turn.specs.Histories.{told}
 use Rattle.ug_desk.specs.Words.{cutoff_at, floor_of, no_word, word_at, word_of}
-use Rattle.ug_desk.proofs.Backing.{IsSameAim, known_lesser, known_none, known_on, known_read, known_still, last_call, offered_known, replays_same, stated_known, taken_known}
+use Rattle.ug_desk.proofs.Backing.{called_same, called_step, if_there, known_lesser, known_none, known_on, known_read, known_still, offered_known, stated_known, taken_known, taken_problem}
 use Rattle.ug_ranks.specs.Looks.{is_alive}
 use Rattle.ug_ranks.specs.States.{state_at}
 use Rattle.ug_threads.specs.Deeds.{behind_point, behind_reply, replied_to, taken_up, Away, Busy, Called, Deed, Does, EndedInVain, Free, LeftInVain, Read, Sat, Stage}
@@ -335,21 +334,6 @@ stayed_copy (Err error) p q h none = stayed_not none.0 p q none.1
 
 -- ---- what a call leaves at the desk
 
--- the call was made on what stood, and led to what stands
-called_step : (call : Call) (after : LockedState) (p q : PassState) → HasCalledAt (Some call) after p q
-    → (mid : DeskState) × Step p.rank call mid after.now
-called_step call after p q h =
-    last_call (opening_state after.opening) after.now (p.seen ++ h.between) (record { pass = p.rank; call = call })
-    (subst (λ (l : List Entry). Replays (opening_state after.opening) l after.now) h.seen h.replayed.replays)
-
--- problem and settings are the opening's
-called_same : (call : Option Call) (after : LockedState) (p q : PassState) (o : Opening)
-    → HasCalledAt call after p q → p.opening ≡ Some o → IsSameAim (opening_book o) after.now.book
-called_same call after p q o h opened =
-    subst (λ (k : Opening). IsSameAim (opening_book k) after.now.book)
-    (same_Some after.opening o (sym h.opened ∙ opened))
-    (replays_same (opening_state after.opening) after.now q.seen h.replayed.replays)
-
 -- it still is where nothing of the task was done
 of_desk_on : (p q : PassState) (asked : Asked) (e : Engaged) → q.opening ≡ p.opening
     → ((cutoff : Option ℤ) → IsKnownBacked p cutoff → IsKnownBacked q cutoff)
@@ -385,8 +369,7 @@ taken_of task after p q h =
     let step = called_step (taken (Ok (Work task))) after p q h in
     let is = step.1.answered.answer.given.task_is in
     record {
-      problem = λ o opened. ap (λ (t : TaskState). t.problem) is
-          ∙ (called_same (Some (taken (Ok (Work task)))) after p q o h (sym h.same.2 ∙ opened)).problem;
+      problem = λ o opened. taken_problem task after p q o h (sym h.same.2 ∙ opened);
       gap = λ o opened. ap (λ (t : TaskState). t.gap) is
           ∙ ap (λ (s : Settings). s.gap)
           (called_same (Some (taken (Ok (Work task)))) after p q o h (sym h.same.2 ∙ opened)).settings;
@@ -398,35 +381,41 @@ taken_of task after p q h =
 abbrev begun_asked : Asked
 begun_asked = record { count = 0; racing = true }
 
-pub seat_taken : (d : Desk) (took : Result Took Untaken) (after : LockedState) (p q : PassState) (asked : Asked)
-    (tally : Tally) → HasCalledAt (Some (taken took)) after p q → IsSeated d p asked tally None
+-- work was taken
+busy_with : (d : Desk) (task : TaskState) (after : LockedState) (p q : PassState) (asked : Asked) (tally : Tally)
+    → HasCalledAt (Some (taken (Ok (Work task)))) after p q → IsSeated d p asked tally None
+    → IsSeated d q begun_asked (begun tally) (Some (taken_up task))
+busy_with d task after p q asked tally h s = record {
+  lock = h.same.0 ∙ s.lock;
+  course = come_called (taken (Ok (Work task))) after p q (Free tally) (Busy (begun tally) (taken_up task)) h
+      refl (λ o past opened read. tt) s.course;
+  its = taken_of task after p q h;
+}
+
+pub seat_taken : (d : Desk) (took : Result Took Untaken) (p q : PassState) (asked : Asked) (tally : Tally)
+    → HasTakenIn took p q → IsSeated d p asked tally None
     → IfOk took (HasTaken (IsSeated d q begun_asked) tally (IsLeft d q))
-seat_taken d (Ok (Work task)) after p q asked tally h s = record {
+seat_taken d (Ok (Work task)) p q asked tally (after, h) s = record {
   now = taken_up task;
-  at = record {
-    lock = h.same.0 ∙ s.lock;
-    course = come_called (taken (Ok (Work task))) after p q (Free tally) (Busy (begun tally) (taken_up task)) h
-        refl (λ o past opened read. tt) s.course;
-    its = taken_of task after p q h;
-  };
+  at = busy_with d task after p q asked tally h s;
   begun = record { its = refl; made = refl };
 }
-seat_taken d (Ok Wait) after p q asked tally h s = record {
+seat_taken d (Ok Wait) p q asked tally (after, h) s = record {
   lock = h.same.0 ∙ s.lock;
   course = come_called (taken (Ok Wait)) after p q (Free tally) (Free tally) h refl (λ o past opened read. tt) s.course;
   its = tt;
 }
-seat_taken d (Ok Over) after p q asked tally h s = record {
+seat_taken d (Ok Over) p q asked tally (after, h) s = record {
   lock = h.same.0 ∙ s.lock;
   course = come_called (taken (Ok Over)) after p q (Free tally) Away h refl (λ o past opened read. tt) s.course;
 }
-seat_taken d (Err end) after p q asked tally h s = tt
+seat_taken d (Err end) p q asked tally h s = tt
 
-pub seat_untaken : (d : Desk) (took : Result Took Untaken) (after : LockedState) (p q : PassState) (asked : Asked)
-    (tally : Tally) → HasCalledAt (Some (taken took)) after p q → IsSeated d p asked tally None
-    → OnErr took (Stands (IsSeated d q begun_asked))
-seat_untaken d (Ok took) after p q asked tally h s = tt
-seat_untaken d (Err end) after p q asked tally h s = (
+-- nothing was taken
+untaken : (d : Desk) (end : Untaken) (after : LockedState) (p q : PassState) (asked : Asked) (tally : Tally)
+    → HasCalledAt (Some (taken (Err end))) after p q → IsSeated d p asked tally None
+    → Stands (IsSeated d q begun_asked)
+untaken d end after p q asked tally h s = (
   tally,
   None,
   record {
@@ -435,6 +424,16 @@ seat_untaken d (Err end) after p q asked tally h s = (
     its = tt;
   },
 )
+
+-- where memory was wanting for the task of what was taken, it is the worker's all the same
+pub seat_untaken : (d : Desk) (took : Result Took Untaken) (p q : PassState) (asked : Asked) (tally : Tally)
+    → HasTakenIn took p q → IsSeated d p asked tally None → OnErr took (Stands (IsSeated d q begun_asked))
+seat_untaken d (Ok took) p q asked tally h s = tt
+seat_untaken d (Err (Deciding stood)) p q asked tally (after, h) s =
+    untaken d (Deciding stood) after p q asked tally h s
+seat_untaken d (Err Making) p q asked tally (inl (after, h)) s = untaken d Making after p q asked tally h s
+seat_untaken d (Err Making) p q asked tally (inr (task, (after, h))) s =
+    (begun tally, Some (taken_up task), busy_with d task after p q asked tally h s)
 
 -- what was asked still is
 pub seat_looked : (d : Desk) (p : PassState) (asked : Asked) (tally : Tally) (e : Engaged) (reply : Reply)
@@ -743,6 +742,11 @@ seat_unanswered d count floor (Err end) (Err error) after p q s asked now tally 
     )
 
 -- ---- the end of a task, and of a worker
+
+pub done_problem : (p : PassState) (asked : Asked) (e : Engaged) (task : TaskState) → IsDoneBy e task
+    → IsOfDesk p asked e → IsItsProblem p task.problem
+done_problem p asked e task done its =
+    if_there p.opening (λ o. task.problem ≡ o.problem) (quiet_of p asked e task done.count done.since its).problem
 
 pub done_known : (p : PassState) (asked : Asked) (e : Engaged) (task : TaskState) → IsDoneBy e task
     → IsOfDesk p asked e → IsKnownBacked p task.cutoff

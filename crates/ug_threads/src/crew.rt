@@ -266,7 +266,6 @@ fn sit<R: Wait, O: Observer>(
         sender,
         pace: table.pace,
         asked: BEGUN,
-        seen: 0,
     };
     work(host.rt, &mut seat, renewal_for(table.pace));
     seat.into_pass()

@@ -60,8 +60,6 @@ pub struct DeskSeat<'a, R, O> {
     pub pace: &'a Pace,
     /// What is asked of the worker for its task.
     pub asked: Asked,
-    /// How many calls had been made before the last `take` that were not answered Wait.
-    pub seen: u64,
 }
 
 // Sends a snapshot where one is due, unless others wait to be saved. One for which memory is
@@ -139,7 +137,6 @@ impl<'a, R: Wait, O: Observer> Seat for DeskSeat<'a, R, O> {
     } };
 
     fn take(&mut self) -> Result<Took, Untaken> {
-        self.seen = self.desk.stirred(self.rt);
         self.observer.pass(self.pass.rank(), Moment::Asking);
         let took = self.desk.take(self.rt, &mut self.pass);
         self.asked = BEGUN;
@@ -213,7 +210,7 @@ impl<'a, R: Wait, O: Observer> Seat for DeskSeat<'a, R, O> {
     }
 
     fn rest(&mut self) -> bool {
-        self.desk.rest(self.rt, self.seen);
+        self.desk.rest(self.rt, &self.pass);
         true
     }
 }

@@ -2,7 +2,7 @@
 
 ghost use Rattle.std.specs.Prelude.{◌≡◌, IfSome};
 ghost use Rattle.ug_desk.specs.Backing.{IsKnownBacked};
-ghost use Rattle.ug_desk.specs.Passes.{lock_of_desk};
+ghost use Rattle.ug_desk.specs.Passes.{IsItsProblem, lock_of_desk};
 
 use std::alloc::Global;
 use std::sync::Wait;
@@ -17,6 +17,7 @@ pub fn work<R: Wait>(rt: &R, desk: &Desk, pass: &mut Pass) -> Option<Task>
     requires { pass.old.lock ≡ lock_of_desk desk.now }
     ensures lock { pass.new.lock ≡ pass.old.lock }
     ensures known { IfSome result (λ task. IsKnownBacked pass.new task.cutoff) }
+    ensures problem { IfSome result (λ task. IsItsProblem pass.new task.problem) }
 {
     match desk.take(rt, pass) {
         Ok(Took::Work(task)) => Some(task),
@@ -47,7 +48,9 @@ pub fn is_over<R: Wait>(rt: &R, desk: &Desk, pass: &mut Pass) -> bool
 }
 
 /// Whether a step of a task is a split.
-pub fn splits(task: &mut Task) -> bool {
+pub fn splits(task: &mut Task) -> bool
+    ensures { task.new.problem ≡ task.old.problem }
+{
     matches!(task.step(), Ok(Step::Split))
 }
 

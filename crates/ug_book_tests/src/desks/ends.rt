@@ -28,7 +28,8 @@ fn finds<R: Wait>(rt: &R, alloc: Global, desk: &Desk, pass: &mut Pass) -> bool
 
 // Steps a task to its end.
 fn search(task: &mut Task) -> Result<(), AllocError>
-    ensures { OnOk result (task.new.boxes ≡ []) }
+    ensures none { OnOk result (task.new.boxes ≡ []) }
+    ensures problem { task.new.problem ≡ task.old.problem }
 {
     loop {
         if matches!(task.step()?, Step::Empty) {

@@ -1,7 +1,7 @@
 //! What a snapshot of a desk has.
 
 ghost use Rattle.std.specs.Prelude.{◌≡◌, [], OnOk};
-ghost use Rattle.ug_desk.specs.Passes.{lock_of_desk};
+ghost use Rattle.ug_desk.specs.Passes.{IsItsProblem, lock_of_desk};
 ghost use Rattle.ug_book_tests.specs.Both.{AreTwo};
 
 use crate::desks::calls::{splits, work};
@@ -22,7 +22,9 @@ fn give_all<R: Wait>(
 ) -> Result<(), AllocError>
     requires { pass.old.lock ≡ lock_of_desk desk.now }
     ensures done { OnOk result (task.new.boxes ≡ []) }
+    ensures problem { task.new.problem ≡ task.old.problem }
     ensures lock { pass.new.lock ≡ pass.old.lock }
+    ensures opening { pass.new.opening ≡ pass.old.opening }
 {
     loop {
         let Some(handed) = task.give()? else {
@@ -47,6 +49,7 @@ fn are_first_hands(nodes: &[SavedNode]) -> bool {
 fn saved<R: Wait>(rt: &R, desk: &Desk, pass: &mut Pass) -> Option<usize>
     requires { pass.old.lock ≡ lock_of_desk desk.now }
     ensures lock { pass.new.lock ≡ pass.old.lock }
+    ensures opening { pass.new.opening ≡ pass.old.opening }
 {
     let image = desk.snapshot(rt, pass).ok()?.into_image();
     let nodes = image.nodes.as_slice();
@@ -58,7 +61,8 @@ fn saved<R: Wait>(rt: &R, desk: &Desk, pass: &mut Pass) -> Option<usize>
 
 // Whether all boxes of the task can be given, and then it is done.
 fn gives_all<R: Wait>(rt: &R, desk: &Desk, pass: &mut Pass, mut task: Task) -> bool
-    requires { pass.old.lock ≡ lock_of_desk desk.now }
+    requires lock { pass.old.lock ≡ lock_of_desk desk.now }
+    requires problem { IsItsProblem pass.old task.problem }
     ensures lock { pass.new.lock ≡ pass.old.lock }
 {
     let given = give_all(rt, desk, pass, &mut task);

@@ -2,15 +2,22 @@ use Rattle.std.proofs.Common.{◌≡◌, inl, inr, subst, Some, refl, sym, ap, �
 use Rattle.ug_rules.specs.declared.heard.Heard.TheVariants.{Stale}
 use Rattle.ug_desk.specs.Dones.{IsOfTicket}
 use Rattle.ug_desk.specs.Entries.{LockedState}
-use Rattle.ug_desk.specs.Passes.{PassState}
+use Rattle.ug_desk.specs.Passes.{IsItsProblem, PassState}
 use Rattle.std.specs.Box.{with_value}
 use Rattle.ug_desk.specs.Histories.{Entry, ended}
-use Rattle.ug_turn.specs.Seats.{lock_of}
+use Rattle.ug_turn.specs.Seats.{lock_of, view_of}
 use Rattle.ug_desk.specs.Backing.{Backs, IsKnownBacked}
 use Rattle.ug_desk.proofs.Backing.{done_backed, known_out, stale_backed}
-use Rattle.ug_desk.proofs.Turns.{called_home, may_put}
+use Rattle.ug_desk.proofs.Turns.{called_home, may_put, problem_out}
 use Rattle.ug_desk.proofs.Turns.{entered_of, none_home, other_of}
 use Rattle.ug_desk.proofs.desk.Desk.done.Goals as goal
+
+pub done-heard-requires-clause-problem : goal.done-heard-requires-clause-problem
+done-heard-requires-clause-problem g c =
+    problem_out (view_of c.pass.inside.seat) c.out-shelf.result c.args.task c.deref_mut.result.now c.out-shelf.ensures.taken.opened
+    c.out-shelf.ensures.out.locked c.deref_mut.ensures.value
+    (subst (λ (p : PassState). IsItsProblem p c.args.task.problem) (sym c.pass.view_is)
+    c.requires.problem)
 
 pub put-requires-2-clause-may : goal.put-requires-2-clause-may
 put-requires-2-clause-may g c =

@@ -12,8 +12,8 @@ passes-requires-clause-fresh c = λ r s there.
     (ap (λ (l : LockedState). l.opening) c.in_ok-shelf.ensures ∙ sym c.of-began.ensures)
     (fresh_new (id_of c.in_ok-turn.turn) _ _ _ r s (c.in_ok-turn.ensures.each r s there))
 
-pub returns-in-Ok-clause-each : goal.returns-in-Ok-clause-each
-returns-in-Ok-clause-each c = λ r p there.
+pub returns-in-Ok-passes-clause-each : goal.returns-in-Ok-passes-clause-each
+returns-in-Ok-passes-clause-each c = λ r p there.
     subst (λ t. IsNewPass (id_of t) c.args.opening r p) (sym c.over.ensures)
     (subst (λ o. IsNewPass (id_of c.in_ok-turn.turn) o r p) c.of-began.ensures
-    (c.in-Ok.ensures.each r p there))
+    (c.in-Ok-passes.ensures.each r p there))

@@ -1,4 +1,4 @@
-use Rattle.ug_threads.proofs.Courses.{done_known, seat_ended, stay_seated}
+use Rattle.ug_threads.proofs.Courses.{done_known, done_problem, seat_ended, stay_seated}
 use Rattle.std.proofs.Common.{None}
 use Rattle.ug_threads.proofs.desk_seat.DeskSeatSeat.done.Goals as goal
 
@@ -6,6 +6,11 @@ pub done-requires-clause-known : goal.done-requires-clause-known
 done-requires-clause-known g c =
     let (tally, e, s, done) = c.requires.at in
     done_known c.args.self.now.pass c.args.self.now.asked e c.args.task done s.its
+
+pub done-requires-clause-problem : goal.done-requires-clause-problem
+done-requires-clause-problem g c =
+    let (tally, e, s, done) = c.requires.at in
+    done_problem c.args.self.now.pass c.args.self.now.asked e c.args.task done s.its
 
 pub returns-clause-done : goal.returns-clause-done
 returns-clause-done g c tally e s done =

@@ -3,10 +3,10 @@ use Rattle.ug_threads.proofs.desk_seat.DeskSeatSeat.take.Goals as goal
 
 pub returns-clause-took : goal.returns-clause-took
 returns-clause-took g c tally s =
-    seat_taken c.args.self.now.desk.now c.take-took.result c.take-took.ensures.0 c.args.self.now.pass
-    c.take-took.new.pass c.args.self.now.asked tally c.take-took.ensures.1 s
+    seat_taken c.args.self.now.desk.now c.take-took.result c.args.self.now.pass c.take-took.new.pass
+    c.args.self.now.asked tally c.take-took.ensures.taken s
 
 pub returns-clause-err : goal.returns-clause-err
 returns-clause-err g c =
-    seat_untaken c.args.self.now.desk.now c.take-took.result c.take-took.ensures.0 c.args.self.now.pass
-    c.take-took.new.pass c.args.self.now.asked c.requires.at.0 c.take-took.ensures.1 c.requires.at.1
+    seat_untaken c.args.self.now.desk.now c.take-took.result c.args.self.now.pass c.take-took.new.pass
+    c.args.self.now.asked c.requires.at.0 c.take-took.ensures.taken c.requires.at.1
