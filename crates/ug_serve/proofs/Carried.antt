@@ -1,9 +1,7 @@
 -- That a frame can carry what a worker tells.
-use Rattle.std.proofs.Common.{◌≡◌, ℕ, ℤ, List, [], ◌∷◌, ◌++◌, length, refl, sym, ap, subst, arith}
-use Rattle.std.proofs.lemmas.List.{get_or_push, length-append}
+use Rattle.std.proofs.Common.{ℕ, ℤ, List, sym, ap, subst}
 use Rattle.ug_rows.specs.declared.area.Interval.{Interval}
 use Rattle.ug_rows.specs.Boxes.{IsBelow}
-use Rattle.ug_rows.proofs.AreaLemmas.{below_trans}
 use Rattle.ug_problem.specs.Feasible.{Feasible}
 use Rattle.ug_problem.specs.Instances.{Instance, root_of}
 use Rattle.ug_problem.specs.Limits.{IsProblem}
@@ -12,7 +10,7 @@ use Rattle.ug_nodes.specs.Changes.{IsRising, Spells}
 use Rattle.ug_frames.specs.declared.report.Report.TheVariants.{Hand, Solution}
 use Rattle.ug_frames.specs.Reports.{IsReport}
 use Rattle.ug_frames.proofs.OfProblem.{changes_fit, point_fits}
-use Rattle.ug_base.specs.Tasks.{AreBelow, IsTask, TaskState}
+use Rattle.ug_base.specs.Tasks.{TaskState}
 use Rattle.ug_serve.specs.declared.kept.Kept.{Kept}
 use Rattle.ug_worker.specs.declared.tally.Tally.{Tally}
 use Rattle.ug_worker.specs.Engagements.{Engaged, IsFoundBy, IsHandedBy}

@@ -71,7 +71,7 @@ front_orders os ns r carried also same =
 
 -- ---- what a course shows
 
-shown_told : (a : Standing) (deeds : List Deed) (b : Standing) → IsCourse a deeds b
+pub shown_told : (a : Standing) (deeds : List Deed) (b : Standing) → IsCourse a deeds b
     → told_in b.said ≡ told_in a.said ++ flat_map reports.spelled (reports_of deeds)
 shown_told a [] b same =
     ap (λ (s : Standing). told_in s.said) same ∙ sym (append-nil (told_in a.said))
@@ -90,7 +90,7 @@ shown_told a (Told report ∷ deeds) b (mid, does, more) =
     ∙ append_assoc (told_in a.said) (reports.spelled report)
     (flat_map reports.spelled (reports_of deeds))
 
-all_carried : (a : Standing) (deeds : List Deed) (b : Standing) → IsCourse a deeds b
+pub all_carried : (a : Standing) (deeds : List Deed) (b : Standing) → IsCourse a deeds b
     → All reports.IsCarried (reports_of deeds)
 all_carried a [] b same = All-nil reports.IsCarried
 all_carried a (Came bytes ∷ deeds) b (mid, does, more) = all_carried mid deeds b more

@@ -12,3 +12,4 @@ pub mod Heard
 pub mod Crewed
 pub mod Spoken
 pub mod Counted
+pub mod Endings

@@ -1,5 +1,5 @@
 -- What a seat at a link makes of orders and reports.
-use Rattle.std.proofs.Common.{◌≡◌, ◌≢◌, inl, inr, ℕ, ℤ, zero, suc, ◌-◌, ◌≤ℤ◌, Bool, true, false, List, Option, Some, None, MatchBool, not, Result, Err, IfErr, refl, sym, ap, subst, ◌∙◌, arith}
+use Rattle.std.proofs.Common.{◌≡◌, ◌≢◌, inl, inr, ℕ, ℤ, ◌-◌, ◌≤ℤ◌, Bool, true, false, List, Option, Some, None, MatchBool, not, Result, Err, IfErr, refl, sym, ap, subst, ◌∙◌, arith}
 use Rattle.ug_io.specs.Links.{LinkSeen}
 use Rattle.ug_rows.specs.declared.area.Interval.{Interval}
 use Rattle.ug_problem.specs.Better.{IsGap}
@@ -16,7 +16,7 @@ use Rattle.ug_base.specs.Tasks.{TaskState, lesser_of}
 use Rattle.ug_stream.specs.Streams.{Waiting}
 use Rattle.ug_serve.specs.declared.served.Served.{Served}
 use Rattle.ug_serve.specs.declared.kept.Kept.{Kept}
-use Rattle.ug_worker.specs.Engagements.{AreQuiet, Engaged, HasBegun, IsFoundBy, IsHandedBy, IsStatedBy, lowered}
+use Rattle.ug_worker.specs.Engagements.{Engaged, HasBegun, IsFoundBy, IsHandedBy, IsStatedBy, lowered}
 use Rattle.ug_worker.specs.declared.tally.Tally.{Tally}
 use Rattle.ug_worker.specs.Renewals.{begun}
 use Rattle.ug_worker.proofs.Quiet.{quiet_same}

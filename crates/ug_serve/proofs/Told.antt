@@ -24,7 +24,7 @@ behind first rest x there = Contains-append_right (first ∷ []) rest x there
 pub in_front : {X : Type 0} → (first : X) (rest : List X) → Contains (first ∷ rest) first
 in_front first rest = (0, omega arith, refl)
 
-none_there : {X : Type 0} → (x : X) → Contains [] x → ⊥
+pub none_there : {X : Type 0} → (x : X) → Contains [] x → ⊥
 none_there x (k, lt, e) = omega (arith, lt)
 
 pub first_or : {X : Type 0} → (first : X) (rest : List X) (x : X) → Contains (first ∷ rest) x

@@ -12,3 +12,4 @@ pub mod WorkerCrews
 pub mod Transcripts
 pub mod Laws
 pub mod CrewLaws
+pub mod Endings

@@ -1,4 +1,5 @@
 ghost use Rattle.ug_serve.specs.CrewLaws.{WorkersAreHeard};
+ghost use Rattle.ug_serve.specs.Endings.{ServicesEndInOneWay};
 ghost use Rattle.ug_serve.specs.Laws.{CoursesAreTranscripts, WorkersAreHonest};
 
 /// What a worker at a link tells is true by what it heard and told before, whatever comes: it is in
@@ -16,4 +17,10 @@ pub fn workers_are_honest()
 /// hears a front of what was told to the rank.
 pub fn workers_are_heard()
     ensures { WorkersAreHeard }
+{}
+
+/// What is seen of a link shows how its service ended: a failure shows in its count or its end, and
+/// what was said, where it is told, whether the end was ordered or what came was no order.
+pub fn services_end_in_one_way()
+    ensures { ServicesEndInOneWay }
 {}

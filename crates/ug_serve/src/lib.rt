@@ -25,7 +25,9 @@ mod telling;
 mod wire;
 
 pub use crew::{Visit, WorkerCrew};
-pub use laws::{courses_are_transcripts, workers_are_heard, workers_are_honest};
+pub use laws::{
+    courses_are_transcripts, services_end_in_one_way, workers_are_heard, workers_are_honest,
+};
 pub use queue_link::QueueLink;
 pub use served::Served;
 pub use server::{Moved, Progress, Server};
