@@ -102,6 +102,14 @@ impl<'a> WorkerCrew<'a> {
         self.staff.is_worked();
     }
 
+    /// Lets the rank's worker want memory: its service ends, and the rank is gone once all that it
+    /// told before was heard.
+    pub fn exhaust(&mut self, rank: u32)
+        ensures { crew_seen self.new ≡ crew_seen self.old }
+    {
+        self.staff.exhaust(rank);
+    }
+
     // One fault more.
     fn fail(&mut self)
         ensures faults { Rose (crew_seen self.old).faults (crew_seen self.new).faults }

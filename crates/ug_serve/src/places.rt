@@ -74,6 +74,18 @@ pub fn step(place: &mut Option<Server<QueueLink>>, most: usize) -> Progress
     progress
 }
 
+/// Lets the worker's service end for want of memory, where there is one.
+pub fn exhaust(place: &mut Option<Server<QueueLink>>)
+    requires { IsSteady place.old }
+    ensures { (said : List Exchange) (rank : ℕ) → IsPlace said rank place.old
+        → IsPlace said rank place.new }
+{
+    match place {
+        Some(server) => server.exhaust(),
+        None => {}
+    }
+}
+
 /// Hears some bytes of the worker of the rank.
 pub fn hear(
     place: &mut Option<Server<QueueLink>>,

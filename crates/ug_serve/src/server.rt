@@ -102,6 +102,19 @@ impl<L: Link + Drop> Server<L> {
         }
     }
 
+    /// Lets its service end for want of memory, unless it has ended: so it is where memory that it
+    /// asks for is refused.
+    pub fn exhaust(&mut self)
+        requires { IsServer L.seen self.old }
+        ensures server { IsServer L.seen self.new }
+        ensures link { self.new.wire.link ≡ self.old.wire.link }
+    {
+        match self.wire.end {
+            None => self.wire.end = Some(Served::Memory),
+            Some(_) => {}
+        }
+    }
+
     /// The link again.
     pub fn into_link(self) -> L
         ensures { result ≡ self.wire.link }

@@ -5,7 +5,7 @@ ghost use Rattle.ug_io.specs.declared.crew.Exchange.TheVariants.{Gone};
 ghost use Rattle.ug_io.specs.Crews.{heard_from, told_to};
 ghost use Rattle.ug_serve.specs.Staffs.{AreAlwaysWorked, AreEmpty};
 
-use crate::places::{hear, is_full, man, step, tell};
+use crate::places::{exhaust, hear, is_full, man, step, tell};
 use crate::queue_link::QueueLink;
 use crate::server::{Progress, Server};
 use std::alloc::{AllocError, Global};
@@ -100,6 +100,16 @@ impl Staff {
             return Progress::Waits;
         }
         step(&mut self.places[at], most)
+    }
+
+    /// Lets the service of the rank's worker end for want of memory.
+    pub fn exhaust(&mut self, rank: u32)
+        ensures { self.new ≡ self.old }
+    {
+        let at = rank as usize;
+        if at < self.places.len() {
+            exhaust(&mut self.places[at]);
+        }
     }
 
     /// Hears some bytes of the rank's worker, at most so many and as many as the buffer holds.
