@@ -184,13 +184,13 @@ said_so a said now is same = subst (λ (o : Option (List Said)). IfSome o (λ s.
 
 pub services_end_in_one_way : ServicesEndInOneWay
 services_end_in_one_way = record {
-  failed_not_ended = λ seen failed ended. elim failed.cause [
+  lost_not_ended = λ seen lost ended. elim lost [
     | inl fault ↦ absurd (omega (arith, fault, ended.on.faults))
-    | inr cut ↦ false≢true (sym ended.on.ended ∙ cut.ended)
+    | inr over ↦ false≢true (sym ended.on.ended ∙ over)
   ];
-  failed_not_bad = λ seen at failed bad. elim failed.cause [
+  lost_not_bad = λ seen at lost bad. elim lost [
     | inl fault ↦ absurd (omega (arith, fault, bad.on.faults))
-    | inr cut ↦ false≢true (sym bad.on.ended ∙ cut.ended)
+    | inr over ↦ false≢true (sym bad.on.ended ∙ over)
   ];
   ended_not_bad = λ seen said at is ended bad.
       let same = sym (said_so seen.said said ended.now.said is ended.on.said) ∙ said_so seen.said said bad.now.said is bad.on.said in

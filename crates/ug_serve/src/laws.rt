@@ -19,8 +19,8 @@ pub fn workers_are_heard()
     ensures { WorkersAreHeard }
 {}
 
-/// What is seen of a link shows how its service ended: a failure shows in its count or its end, and
-/// what was said, where it is told, whether the end was ordered or what came was no order.
+/// What is seen of a link shows how its service ended: that it is lost shows in its count or its end,
+/// and what was said, where it is told, shows whether Ended was told or what came was no order.
 pub fn services_end_in_one_way()
     ensures { ServicesEndInOneWay }
 {}
