@@ -344,7 +344,7 @@ still old new rank same alive = subst (λ (b : BookState). Alive b.ranks rank) (
 left : (old new : BookState) (rank : ℕ) → new.ranks ≡ old.ranks → Lives old new rank
 left old new rank same alive = subst (λ (states : List State). Alive states rank) (sym same) alive
 
-deed_lives : (old : Standing) (deed : Deed) (new : Standing) (rank : ℕ) → Does old deed new
+pub deed_lives : (old : Standing) (deed : Deed) (new : Standing) (rank : ℕ) → Does old deed new
     → Alive old.book.ranks rank → LivesOrEnds old deed new rank
 deed_lives old (Launched other) new rank does alive =
     inl (still old new rank (ap (λ (s : Standing). s.book) does.1) alive)

@@ -1,7 +1,7 @@
 -- What each thing that a coordinator does makes of its standing.
 use Rattle.std.proofs.Common.{◌≡◌, inl, inr, ℕ, ◌<◌, Bool, true, false, List, [], ◌∷◌, ◌++◌, length, Option, Some, None, IfSome, refl, sym, ap, subst, ◌∙◌, arith}
 use Rattle.std.proofs.lemmas.Bool.{cases_Bool, cases_lt, false≢true}
-use Rattle.std.proofs.lemmas.List.{get_or-set_same, get_or_past, length-replicate, length-set, set-get_or}
+use Rattle.std.proofs.lemmas.List.{get_or_past, length-replicate, length-set, set-get_or}
 use Rattle.std.specs.Prelude.{MatchBool, Vec, replicate, slice_index_or, slice_set}
 use Rattle.ug_io.specs.declared.crew.Exchange.{Exchange}
 use Rattle.ug_io.specs.declared.crew.Exchange.TheVariants.{Gone}
@@ -43,7 +43,7 @@ course_more a [] b c deed same does =
 course_more a (one ∷ deeds) b c deed (mid, done, more) does =
     (mid, done, course_more mid deeds b c deed more does)
 
-pub come_more : (b old new : Standing) (deed : Deed) → HasCome b old → Does old deed new → HasCome b new
+abbrev pub come_more : (b old new : Standing) (deed : Deed) → HasCome b old → Does old deed new → HasCome b new
 come_more b old new deed h does = record {
   deeds = h.deeds ++ deed ∷ [];
   course = course_more b h.deeds old new deed h.course does;
@@ -58,7 +58,7 @@ said_more (Some s) b said more adds same =
     (ap (λ (t : List Exchange). t ++ more) same)
 
 -- in which something was said
-pub on_more : (phase after : Phase) (b : Standing) (old new : HubSeen) (deed : Deed) (more : List Exchange)
+abbrev pub on_more : (phase after : Phase) (b : Standing) (old new : HubSeen) (deed : Deed) (more : List Exchange)
     → Adds old.crew.said new.crew.said more
     → ((said : List Exchange) → Does (standing said phase old) deed (standing (said ++ more) after new))
     → IsFit new → IsOnAs phase b old → IsOnAs after b new
@@ -71,7 +71,7 @@ on_more phase after b old new deed more adds does fit on = record {
 }
 
 -- in which nothing was
-pub on_still : (phase after : Phase) (b : Standing) (old new : HubSeen) (deed : Deed)
+abbrev pub on_still : (phase after : Phase) (b : Standing) (old new : HubSeen) (deed : Deed)
     → new.crew.said ≡ old.crew.said
     → ((said : List Exchange) → Does (standing said phase old) deed (standing said after new))
     → IsFit new → IsOnAs phase b old → IsOnAs after b new
@@ -112,7 +112,7 @@ pub shut_still : (lives : List Bool) (rank : ℕ) → slice_index_or lives rank 
 shut_still lives rank away =
     ap (λ (alive : Bool). slice_set lives rank alive) (sym away) ∙ set-get_or lives rank false
 
-fit_without : (old new : HubSeen) (rank : ℕ) → new.crew.lives ≡ slice_set old.crew.lives rank false
+pub fit_without : (old new : HubSeen) (rank : ℕ) → new.crew.lives ≡ slice_set old.crew.lives rank false
     → new.streams ≡ old.streams → ranks_of new.book ≡ ranks_of old.book → IsFit old → IsFit new
 fit_without old new rank lives streams ranks fit = record {
   lives = ap (λ (l : List Bool). length l) lives ∙ length-set old.crew.lives rank false ∙ fit.lives ∙ sym ranks;
@@ -174,7 +174,7 @@ failed_by old crew new rank silent faults there lost ranks =
 
 -- ---- a call failed
 
-pub failed_on : (phase : Phase) (b : Standing) (old new : HubSeen) (rank : ℕ) → HasFailed old new rank
+abbrev pub failed_on : (phase : Phase) (b : Standing) (old new : HubSeen) (rank : ℕ) → HasFailed old new rank
     → IsOnAs phase b old → IsOnAs phase b new
 failed_on phase b old new rank h on =
     let lives = ap (λ (h : HubSeen). h.crew.lives) h.rest in
@@ -305,7 +305,7 @@ told_on false phase b before h new told alive carried left came on =
 -- ---- the start of a rank
 
 -- the rank was started
-pub launched_on : (phase : Phase) (b : Standing) (old new : HubSeen) (rank : ℕ)
+abbrev pub launched_on : (phase : Phase) (b : Standing) (old new : HubSeen) (rank : ℕ)
     → slice_index_or old.crew.lives rank false ≡ false
     → new ≡ record old { crew = record old.crew { lives = slice_set old.crew.lives rank true } }
     → IsOnAs phase b old → IsOnAs phase b new
@@ -320,7 +320,7 @@ launched_on phase b old new rank away rest on =
     }) on
 
 -- and told the problem
-pub set_up_on : (sent : Bool) (phase : Phase) (b : Standing) (old new : HubSeen) (rank : ℕ) (frame : List ℕ)
+abbrev pub set_up_on : (sent : Bool) (phase : Phase) (b : Standing) (old new : HubSeen) (rank : ℕ) (frame : List ℕ)
     → IsAlive old.crew rank → IsSetUpFrame old.book frame → sent_or_failed sent old new rank frame
     → IsOnAs phase b old → IsOnAs phase b new
 set_up_on true phase b old new rank frame alive setup came on =
@@ -592,22 +592,6 @@ frame_still {Z} old new before after run frame h =
     setup_still old new before.items after.items run.problem run.settings
     (ap (λ (v : Vec ℕ Z). v.items) frame) h
 
--- a rank was started, and told the problem or not
-pub started_on : (sent : Bool) (phase : Phase) (b : Standing) (old mid new : HubSeen) (rank : ℕ) (frame : List ℕ)
-    → slice_index_or old.crew.lives rank false ≡ false → rank < length old.crew.lives
-    → mid ≡ record old { crew = record old.crew { lives = slice_set old.crew.lives rank true } }
-    → IsSetUpFrame mid.book frame → sent_or_failed sent mid new rank frame → IsOnAs phase b old
-    → IsOnAs phase b new
-started_on sent phase b old mid new rank frame away there rest setup came on =
-    let lives = ap (λ (h : HubSeen). h.crew.lives) rest in
-    set_up_on sent phase b mid new rank frame
-    (record {
-      there = omega (arith, ap (λ (l : List Bool). length l) lives, length-set old.crew.lives rank true, there);
-      lives = ap (λ (l : List Bool). slice_index_or l rank false) lives
-          ∙ get_or-set_same old.crew.lives rank true false there;
-    })
-    setup came (launched_on phase b old mid rank away rest on)
-
 -- ---- what is read of a stream
 
 pub took_by : (b : Standing) (old mid new : HubSeen) (rank : ℕ) (report : Report) → ¬ IsOver old.book
@@ -804,7 +788,7 @@ reading_reads b h (phase, is, on) = (phase, subst MayBeRead (sym is) tt, on)
 
 -- ---- the beginning
 
-pub begun_on : (b : BookState) (h : HubSeen) → IsFresh h.crew (ranks_of b) → h.book ≡ b
+abbrev pub begun_on : (b : BookState) (h : HubSeen) → IsFresh h.crew (ranks_of b) → h.book ≡ b
     → h.streams ≡ replicate (ranks_of b) first → h.wants ≡ false → h.pacing ≡ record { since = b.heard; apart = 0 }
     → IsOnIn IsRested (beginning b h.crew.faults) h
 begun_on b h fresh book streams wants pacing = (

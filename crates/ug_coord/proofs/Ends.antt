@@ -1,8 +1,7 @@
 -- How a solve by a crew ends.
 use Rattle.std.proofs.Common.{◌≡◌, ◌<◌, inl, inr, ℕ, Bool, false, [], arith, Option, None, Some, IfSome, refl, sym, ap, subst, ◌∙◌}
-use Rattle.std.proofs.lemmas.Bool.{cases_lt, false≢true}
-use Rattle.std.proofs.lemmas.List.{get_or-replicate, get_or_past, length-replicate}
-use Rattle.std.specs.Prelude.{IsSomeAnd, replicate, slice_index_or}
+use Rattle.std.proofs.lemmas.Bool.{false≢true}
+use Rattle.std.specs.Prelude.{IsSomeAnd}
 use Rattle.ug_disk.specs.Histories.{DiskSeen}
 use Rattle.ug_disk.specs.Crashes.{Leaves}
 use Rattle.ug_io.specs.Crews.{CrewSeen}
@@ -19,17 +18,20 @@ use Rattle.ug_restart.specs.declared.outcome.Outcome.{Outcome}
 use Rattle.ug_restart.specs.Saves.{book_of, saver_of}
 use Rattle.ug_restart.specs.Moments.{FindsIn, IsFoundNow, IsOfRun}
 use Rattle.ug_restart.specs.Going.{time}
-use Rattle.ug_restart.specs.Outcomes.{HasFeasible, IfAnswered, IfBook, IfLimited, IsLastSave, IsRight, IsSavedOrCounted}
+use Rattle.ug_restart.specs.Outcomes.{HasFeasible, IfAnswered, IfBook, IfLimited, IsLastSave, IsLimited, IsRight, IsSavedOrCounted}
 use Rattle.ug_restart.proofs.Outcomes.{none_missed, saved_or_counted, still_covered, still_found, time_covered, time_found, time_missed}
 use Rattle.ug_coord.specs.Deeds.{Standing, saves_in}
 use Rattle.ug_coord.specs.declared.pacing.Pacing.{Pacing}
 use Rattle.ug_coord.specs.Pacing.{IsSaveDue}
-use Rattle.ug_coord.specs.Ends.{IsAnswered, IsAtLimit, IsOver, IsStranded, is_ended, ranks_of}
-use Rattle.ug_coord.specs.Hubs.{EndsFrom, HasCoordinated, HubSeen, IsFresh, StaysSound, beginning}
+use Rattle.ug_coord.specs.Ends.{IsAnswered, IsAtLimit, IsExactly, IsOver, IsStranded, is_ended, ranks_of}
+use Rattle.ug_coord.specs.Causes.{IsShownGone}
+use Rattle.ug_coord.specs.Hubs.{EndsFrom, HasCoordinated, HubSeen, IsFresh, StartsAndEnds, StaysSound, beginning}
 use Rattle.ug_coord.specs.Keeping.{Begins, HasConcluded, HasKept, AreEachSaved, IsBegun, IsEachSaved, IsKeptSafe, IsNothing, IsOurs, KeptSeen, Moves, end_kept, missed_by, moves, savers, unsaved_by}
 use Rattle.ug_coord.proofs.Causes.{AreAlive, dead_has_cause}
 use Rattle.ug_coord.proofs.Counts.{IsWithin, course_within}
+use Rattle.ug_coord.proofs.Faults.{dead_is_shown}
 use Rattle.ug_coord.proofs.Kept.{moves_on, sound_last}
+use Rattle.ug_coord.proofs.Starting.{none_lives}
 use Rattle.ug_coord.proofs.Tries.{each_saved}
 
 -- where an end is due for neither of the others, no rank is alive
@@ -57,12 +59,6 @@ no_answer P end is = subst (λ (e : End). IfAnswered e P) (sym is) tt
 no_limit : (end : End) → end ≡ Memory → IfLimited end IsAtLimit
 no_limit end is = subst (λ (e : End). IfLimited e IsAtLimit) (sym is) tt
 
-none_lives : (n rank : ℕ) → slice_index_or (replicate n false) rank false ≡ false
-none_lives n rank = elim (cases_lt rank n) [
-  | inl below ↦ get_or-replicate n rank false false below
-  | inr past ↦ get_or_past (replicate n false) rank false (omega (arith, past, length-replicate n false))
-]
-
 each_nothing : (saver : Option Saver) (outcome : Outcome) (disk : DiskSeen) → IsNothing outcome
     → AreEachSaved saver outcome disk 0
 each_nothing None outcome disk none = tt
@@ -75,9 +71,11 @@ nothing_coordinated b seen saver outcome disk fresh alive none = record {
   now = beginning b seen.faults;
   come = record { deeds = []; course = refl };
   made = inr refl;
+  started = inr (refl, none.ended);
   shown = fresh.said;
   closed = λ rank alive. absurd (false≢true (sym (none_lives (ranks_of b) rank) ∙ alive));
   ended = ended_nothing outcome.end b none.ended;
+  exact = no_book (IsExactly outcome.end) outcome.end none.ended;
   failed = refl;
   wants = no_book (λ book. false ≡ false) outcome.end none.ended;
   saved = no_book (λ book. ¬ IsSaveDue (record { since = b.heard; apart = 0 }) book) outcome.end none.ended;
@@ -85,6 +83,7 @@ nothing_coordinated b seen saver outcome disk fresh alive none = record {
   feasible = no_book HasFeasible outcome.end none.ended;
   limited = no_limit outcome.end none.ended;
   causes = λ rank there dead. absurd (false≢true (sym dead ∙ alive rank there));
+  shows = λ rank there dead. absurd (false≢true (sym dead ∙ alive rank there));
   right = no_answer (λ book. IsSoundBook book → IsRight book) outcome.end none.ended;
   tried = each_nothing saver outcome disk none;
   safe = λ sound. safe_still saver disk;
@@ -145,6 +144,29 @@ at_limit (Limited own) b is within = subst IsAtLimit (sym is.0) (omega (arith, i
 at_limit (Stranded own) b is within = tt
 at_limit Memory b is within = tt
 
+-- where it ended so, the other ends were not due
+exactly_so : (end : End) (b : BookState) → is_ended end b → IfBook end (IsExactly end)
+exactly_so (Answered own) b is = record {
+  answered = λ so. refl;
+  limited = λ limited. absurd (limited.held (subst IsAnswered (sym is.0) is.1));
+  stranded = λ stranded. absurd (stranded.held (subst IsAnswered (sym is.0) is.1));
+}
+exactly_so (Limited own) b is =
+    let mine : IsLimited own = subst IsLimited (sym is.0) is.1 in
+    record {
+      answered = λ answered. absurd (mine.held answered);
+      limited = λ so. refl;
+      stranded = λ stranded. absurd (omega (arith, mine.spent, stranded.more));
+    }
+exactly_so (Stranded own) b is =
+    let mine : IsStranded own = subst IsStranded (sym is.0) is.1 in
+    record {
+      answered = λ answered. absurd (mine.held answered);
+      limited = λ limited. absurd (omega (arith, limited.spent, mine.more));
+      stranded = λ so. refl;
+    }
+exactly_so Memory b is = tt
+
 -- what is known of the ending book
 pub record IsEndingBook (b : BookState) (end : End) (wants : Bool) (book : BookState) : Type 0 where
   pub made : IsBook b
@@ -157,34 +179,41 @@ pub record IsEndingBook (b : BookState) (end : End) (wants : Bool) (book : BookS
   pub right : IfAnswered end (λ own. IsSoundBook own → IsRight own)
 
 pub solved_coordinated : (b : BookState) (faults : ℕ) (h : HubSeen) (old mid : KeptSeen) (disk : DiskSeen)
-    (outcome : Outcome) → EndsFrom (beginning b faults) h old mid → IsEndingBook b outcome.end h.wants h.book
+    (outcome : Outcome) → StartsAndEnds (ranks_of b) (beginning b faults) h old mid
+    → IsEndingBook b outcome.end h.wants h.book
     → IsOurs mid h.book → ¬ IsSaveDue h.pacing h.book → (o : Opening) → IfSome old.saves (IsBegun o)
     → HasConcluded outcome mid disk
     → HasCoordinated b faults h.crew outcome.end (AreEachSaved (savers old.saves) outcome disk)
     (IsKeptSafe (savers old.saves) old.disk disk)
-solved_coordinated b faults h old mid disk outcome e is ours saved o own c = record {
-  now = e.now;
-  come = e.come;
-  made = inl is.made;
-  shown = e.shown;
-  closed = e.closed;
-  ended = subst (is_ended outcome.end) (sym e.its) is.ended;
-  failed = e.faults;
-  wants = subst (λ (w : Bool). IfBook outcome.end (λ own. w ≡ false)) (sym e.wants) is.lacks;
-  saved = book_has (λ book. ¬ IsSaveDue e.now.pacing book) outcome.end h.book is.ended
-      (subst (λ (p : Pacing). ¬ IsSaveDue p h.book) (sym e.pacing) saved);
-  same = book_has (IsSameRun b) outcome.end h.book is.ended is.same;
-  feasible = is.feasible;
-  limited = at_limit outcome.end h.book is.ended (subst IsWithin e.its
-      (course_within (beginning b faults) e.come.deeds e.now e.come.course is.within));
-  causes = λ rank there dead.
-      dead_has_cause (beginning b faults) e.come.deeds e.now rank e.come.course (is.alive rank there) dead;
-  right = is.right;
-  tried = each_saved (IfBook outcome.end IsSoundBook) (IfBook outcome.end (IsOurs mid)) o outcome (saves_in e.come.deeds)
-      old.saves mid.saves c.saves mid.disk disk own e.tried c.became c.moves c.missed c.unsaved;
-  safe = λ sound. safe_moved (StaysSound (beginning b faults) e.now e.come) old.saves c.saves old.disk disk
-      (all_moved (beginning b faults) h old mid disk outcome e is.ended ours c) sound;
-}
+solved_coordinated b faults h old mid disk outcome all is ours saved o own c =
+    let e = all.ends in
+    record {
+      now = e.now;
+      come = e.come;
+      made = inl is.made;
+      started = inl all.started;
+      shown = e.shown;
+      closed = e.closed;
+      ended = subst (is_ended outcome.end) (sym e.its) is.ended;
+      exact = exactly_so outcome.end h.book is.ended;
+      failed = e.faults;
+      wants = subst (λ (w : Bool). IfBook outcome.end (λ own. w ≡ false)) (sym e.wants) is.lacks;
+      saved = book_has (λ book. ¬ IsSaveDue e.now.pacing book) outcome.end h.book is.ended
+          (subst (λ (p : Pacing). ¬ IsSaveDue p h.book) (sym e.pacing) saved);
+      same = book_has (IsSameRun b) outcome.end h.book is.ended is.same;
+      feasible = is.feasible;
+      limited = at_limit outcome.end h.book is.ended (subst IsWithin e.its
+          (course_within (beginning b faults) e.come.deeds e.now e.come.course is.within));
+      causes = λ rank there dead.
+          dead_has_cause (beginning b faults) e.come.deeds e.now rank e.come.course (is.alive rank there) dead;
+      shows = λ rank there dead. subst (λ (n : ℕ). IsShownGone faults n rank e.come.deeds) e.faults
+          (dead_is_shown (beginning b faults) e.come.deeds e.now rank e.come.course refl (is.alive rank there) dead);
+      right = is.right;
+      tried = each_saved (IfBook outcome.end IsSoundBook) (IfBook outcome.end (IsOurs mid)) o outcome (saves_in e.come.deeds)
+          old.saves mid.saves c.saves mid.disk disk own e.tried c.became c.moves c.missed c.unsaved;
+      safe = λ sound. safe_moved (StaysSound (beginning b faults) e.now e.come) old.saves c.saves old.disk disk
+          (all_moved (beginning b faults) h old mid disk outcome e is.ended ours c) sound;
+    }
 
 -- ---- what stands on the disk
 

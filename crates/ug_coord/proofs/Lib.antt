@@ -4,8 +4,10 @@ pub mod Counts
 pub mod Coursing
 pub mod Deaths
 pub mod Ends
+pub mod Faults
 pub mod Kept
 pub mod ReadOut
 pub mod Room
+pub mod Starting
 pub mod Tries
 pub mod Whole

@@ -39,3 +39,9 @@ is_ended (Answered book) b = (book ≡ b) × IsAnswered b
 is_ended (Limited book) b = (book ≡ b) × IsLimited b
 is_ended (Stranded book) b = (book ≡ b) × IsStranded b
 is_ended Memory b = Unit {0}
+
+-- a run that ended with this book ended so just where that is due for the book
+pub record IsExactly (end : End) (b : BookState) : Type 0 where
+  pub answered : IsAnswered b → end ≡ Answered b
+  pub limited : IsLimited b → end ≡ Limited b
+  pub stranded : IsStranded b → end ≡ Stranded b

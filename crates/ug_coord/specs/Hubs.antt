@@ -1,5 +1,5 @@
 -- How a coordinator stands to its crew, and how its work ends.
-use Rattle.std.specs.Prelude.{◌≡◌, ◌⊎◌, ◌+◌, ℕ, ◌<◌, Bool, true, false, List, [], length}
+use Rattle.std.specs.Prelude.{◌≡◌, ◌⊎◌, ◌+◌, ℕ, ◌<◌, ◌≤◌, Bool, true, false, List, [], length}
 use Rattle.std.specs.Prelude.{replicate, slice_index_or, slice_set, IfSome}
 use Rattle.ug_io.specs.declared.crew.Exchange.{Exchange}
 use Rattle.ug_io.specs.Crews.{Adds, CrewSeen, told_to}
@@ -17,14 +17,15 @@ use Rattle.ug_rules.specs.Hearing.{IsDue, after_hearing}
 use Rattle.ug_frames.specs.declared.report.Report.{Report}
 use Rattle.ug_restart.specs.declared.outcome.End.{End}
 use Rattle.ug_restart.specs.Outcomes.{HasFeasible, IfAnswered, IfBook, IfLimited, IsRight}
-use Rattle.ug_coord.specs.Ends.{IsAtLimit, is_ended, ranks_of}
+use Rattle.ug_coord.specs.Ends.{IsAtLimit, IsExactly, is_ended, ranks_of}
 use Rattle.ug_coord.specs.Deeds.{AreSound, Closing, Deciding, Deed, IsCourse, IsMoreWanted, IsToldEnd}
 use Rattle.ug_coord.specs.Deeds.{MayBeRead, MayDecide, Pace, Standing, lives_at, saves_in}
 use Rattle.ug_coord.specs.declared.pacing.Pacing.{Pacing}
 use Rattle.ug_coord.specs.Pacing.{IsSaveDue}
 use Rattle.ug_ranks.specs.Looks.{is_alive}
 use Rattle.ug_ranks.specs.States.{state_at}
-use Rattle.ug_coord.specs.Causes.{HasCause}
+use Rattle.ug_coord.specs.Causes.{HasCause, IsShownGone}
+use Rattle.ug_coord.specs.Starts.{AreStarted, AreStarts, HasStarted}
 use Rattle.ug_coord.specs.Keeping.{HasTried, KeptSeen, Moves}
 
 -- with a crew of which nothing was said yet, no rank of which lives
@@ -150,6 +151,16 @@ pub record IsBrokenOff (phase : Phase) : Type 0 where
 abbrev pub AnyPhase : Phase → Type 0
 AnyPhase phase = Unit {0}
 
+-- deeds led here from that standing, which are the starts of the first n ranks; no other lives yet
+pub record IsStartedAs (n : ℕ) (phase : Phase) (from : Standing) (h : HubSeen) : Type 0 where
+  pub on : IsOnAs phase from h
+  pub starts : AreStarts n on.come.deeds
+  pub later : (rank : ℕ) → n ≤ rank → slice_index_or h.crew.lives rank false ≡ false
+
+-- in a phase that has P
+abbrev pub IsStartedIn : (Phase → Type 0) → ℕ → Standing → HubSeen → Type 0
+IsStartedIn P n from h = (phase : Phase) × P phase × IsStartedAs n phase from h
+
 -- and what is saved went on beside them, a save tried in each deed that is one: where each book of
 -- them was sound, all stays Covered
 pub record IsKeptIn (P : Phase → Type 0) (from : Standing) (h : HubSeen) (old new : KeptSeen)
@@ -193,20 +204,29 @@ pub record EndsFrom (from : Standing) (h : HubSeen) (old new : KeptSeen) : Type 
   pub moves : Moves (StaysSound from now come) (Unit {0}) old new
   pub tried : HasTried (saves_in come.deeds) old new
 
+-- and each rank was started before anything else was done
+pub record StartsAndEnds (ranks : ℕ) (from : Standing) (h : HubSeen) (old new : KeptSeen)
+    : Type 0 where
+  pub ends : EndsFrom from h old new
+  pub started : AreStarted ranks ends.come.deeds
+
 -- How the work ended: deeds led from the beginning with this book and a crew that had failed so often
--- to the end, none where memory was wanting for the book itself. The crew, where it tells what was
--- said, tells the same, and has failed as often. Each rank that lives was told the end, or that
--- failed. Memory was wanting in none of the deeds where there is a book, and no save is due any more.
--- So many saves were tried as there are deeds that are one. Where each book of them was sound, it was
--- safe.
+-- to the end, none where memory was wanting for the book itself. The first of them start each rank.
+-- The crew, where it tells what was said, tells the same, and has failed as often. Each rank that
+-- lives was told the end, or that failed. It ended so just where that was due. Memory was wanting in
+-- none of the deeds where there is a book, and no save is due any more. Each rank that is dead is so
+-- for a cause, which the count of faults shows, or what came from it. So many saves were tried as
+-- there are deeds that are one. Where each book of them was sound, it was safe.
 pub record HasCoordinated (b : BookState) (faults : ℕ) (seen : CrewSeen) (end : End)
     (Tried : ℕ → Type 0) (Safe : Type 0) : Type 0 where
   pub now : Standing
   pub come : HasCome (beginning b faults) now
   pub made : IsBook b ⊎ (come.deeds ≡ [])
+  pub started : HasStarted (ranks_of b) come.deeds end
   pub shown : IfSome seen.said (λ told. told ≡ now.said)
   pub closed : (rank : ℕ) → lives_at now rank ≡ true → IsToldEnd rank come.deeds
   pub ended : is_ended end now.book
+  pub exact : IfBook end (IsExactly end)
   pub failed : now.faults ≡ seen.faults
   pub wants : IfBook end (λ book. now.wants ≡ false)
   pub saved : IfBook end (λ book. ¬ IsSaveDue now.pacing book)
@@ -215,6 +235,8 @@ pub record HasCoordinated (b : BookState) (faults : ℕ) (seen : CrewSeen) (end 
   pub limited : IfLimited end IsAtLimit
   pub causes : (rank : ℕ) → rank < ranks_of b → is_alive (state_at now.book.ranks rank) ≡ false
       → HasCause rank come.deeds
+  pub shows : (rank : ℕ) → rank < ranks_of b → is_alive (state_at now.book.ranks rank) ≡ false
+      → IsShownGone faults seen.faults rank come.deeds
   pub right : IfAnswered end (λ book. IsSoundBook book → IsRight book)
   pub tried : Tried (saves_in come.deeds)
   pub safe : StaysSound (beginning b faults) now come → Safe

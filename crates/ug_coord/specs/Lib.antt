@@ -7,3 +7,4 @@ pub mod HubViews
 pub mod Keeping
 pub mod Keepers
 pub mod Reading
+pub mod Starts

@@ -3,9 +3,9 @@
 ghost use Rattle.std.specs.Prelude.{◌≡◌, ◌<◌, true, false, length, MatchBool};
 ghost use Rattle.ug_book.specs.Views.{IsSameRun};
 ghost use Rattle.ug_coord.specs.Deeds.{Hearing, Standing};
-ghost use Rattle.ug_coord.specs.Ends.{IsOver};
-ghost use Rattle.ug_coord.specs.Hubs.{AnyPhase, EndsFrom, HearsOne, IsKeptIn, IsOnIn, IsQuiet};
-ghost use Rattle.ug_coord.specs.Hubs.{IsRested, IsSetUpFrame, is_next};
+ghost use Rattle.ug_coord.specs.Ends.{IsOver, ranks_of};
+ghost use Rattle.ug_coord.specs.Hubs.{AnyPhase, HearsOne, IsKeptIn, IsOnIn, IsQuiet};
+ghost use Rattle.ug_coord.specs.Hubs.{IsRested, IsSetUpFrame, IsStartedIn, StartsAndEnds, is_next};
 ghost use Rattle.ug_coord.specs.Keeping.{KeptSeen, IsKeptBy, IsOurs};
 ghost use Rattle.ug_coord.specs.Pacing.{IsSaveDue};
 ghost use Rattle.ug_coord.specs.Reading.{AreReadBut};
@@ -99,14 +99,14 @@ impl<R: Wait, O: Observer, C: Crew> Hub<'_, R, O, C> {
     /// Starts the crew, goes on until an end is due, and tells it the end. The book is saved as
     /// often as its settings say.
     pub fn run<D: Disk>(&mut self, keeper: &mut Keeper, disk: &mut D)
-        requires on { (from : Standing) × IsOnIn IsRested from (hub_seen C.seen self.old) }
+        requires on { (from : Standing) × IsStartedIn IsRested 0 from (hub_seen C.seen self.old) }
         requires frame { IsSetUpFrame self.old.book self.old.frame.items }
         requires saved { ¬ IsSaveDue self.old.pacing self.old.book }
         requires kept { IsKeptBy (kept_seen keeper.old (D.seen disk.old)) }
         requires ours { IsOurs (kept_seen keeper.old (D.seen disk.old)) self.old.book }
-        ensures ends { (from : Standing) → IsOnIn IsRested from (hub_seen C.seen self.old)
+        ensures ends { (from : Standing) → IsStartedIn IsRested 0 from (hub_seen C.seen self.old)
             → from.pacing ≡ self.old.pacing
-            → EndsFrom from (hub_seen C.seen self.new)
+            → StartsAndEnds (ranks_of self.old.book) from (hub_seen C.seen self.new)
             (kept_seen keeper.old (D.seen disk.old)) (kept_seen keeper.new (D.seen disk.new)) }
         ensures over { self.new.wants ≡ false → IsOver self.new.book }
         ensures kept { IsKeptBy (kept_seen keeper.new (D.seen disk.new)) }

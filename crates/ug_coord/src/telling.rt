@@ -8,7 +8,8 @@ ghost use Rattle.ug_book.specs.Reads.{IsOrderTold};
 ghost use Rattle.ug_coord.specs.Deeds.{Standing};
 ghost use Rattle.ug_coord.specs.Ends.{ranks_of};
 ghost use Rattle.ug_coord.specs.Hubs.{AnyPhase, EndsFrom, IsClosedBelow, IsKeptIn, IsOnAs, IsOnIn};
-ghost use Rattle.ug_coord.specs.Hubs.{IsQuiet, IsSetUpFrame, Phase, launched_or_failed};
+ghost use Rattle.ug_coord.specs.Hubs.{IsQuiet, IsSetUpFrame, IsStartedAs, Phase};
+ghost use Rattle.ug_coord.specs.Hubs.{launched_or_failed};
 ghost use Rattle.ug_coord.specs.Hubs.{sent_or_failed, without};
 ghost use Rattle.ug_coord.specs.Keeping.{KeptSeen};
 
@@ -76,31 +77,32 @@ impl<R, O, C: Crew> Hub<'_, R, O, C> {
         }
     }
 
-    // Starts the rank, and tells it the problem, which the frame is.
+    // Starts the rank, which does not live, and tells it the problem, which the frame is.
     fn start(&mut self, rank: u32)
-        requires on { (from : Standing) × IsOnIn AnyPhase from (hub_seen C.seen self.old) }
+        requires on { (phase : Phase) × (from : Standing)
+            × IsStartedAs rank phase from (hub_seen C.seen self.old) }
         requires there { rank < ranks_of self.old.book }
         requires frame { IsSetUpFrame self.old.book self.old.frame.items }
-        ensures on { (phase : Phase) (from : Standing) → IsOnAs phase from (hub_seen C.seen self.old)
-            → IsOnAs phase from (hub_seen C.seen self.new) }
+        ensures on { (phase : Phase) (from : Standing)
+            → IsStartedAs rank phase from (hub_seen C.seen self.old)
+            → IsStartedAs (suc rank) phase from (hub_seen C.seen self.new) }
         ensures frame { IsSetUpFrame self.new.book self.new.frame.items }
         ensures quiet { IsQuiet self.old.book self.new.book }
         ensures pacing { self.new.pacing ≡ self.old.pacing }
     {
-        if self.crew.is_alive(rank) {
-            return;
-        }
         if self.launch(rank) {
             self.send(rank);
         }
     }
 
-    /// Starts each rank, and tells it the problem, which the frame is.
+    /// Starts each rank, none of which lives, and tells it the problem, which the frame is.
     pub fn start_all(&mut self)
-        requires on { (from : Standing) × IsOnIn AnyPhase from (hub_seen C.seen self.old) }
+        requires on { (phase : Phase) × (from : Standing)
+            × IsStartedAs 0 phase from (hub_seen C.seen self.old) }
         requires frame { IsSetUpFrame self.old.book self.old.frame.items }
-        ensures on { (phase : Phase) (from : Standing) → IsOnAs phase from (hub_seen C.seen self.old)
-            → IsOnAs phase from (hub_seen C.seen self.new) }
+        ensures on { (phase : Phase) (from : Standing)
+            → IsStartedAs 0 phase from (hub_seen C.seen self.old)
+            → IsStartedAs (ranks_of self.old.book) phase from (hub_seen C.seen self.new) }
         ensures quiet { IsQuiet self.old.book self.new.book }
         ensures pacing { self.new.pacing ≡ self.old.pacing }
     {

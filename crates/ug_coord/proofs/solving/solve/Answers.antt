@@ -6,12 +6,12 @@ use Rattle.ug_rules.specs.Books.{IsBook, IsSoundBook}
 use Rattle.ug_book.specs.Openings.{opening_book}
 use Rattle.ug_restart.specs.Outcomes.{HasFeasible, IfAnswered, IfBook, IsRight}
 use Rattle.ug_coord.specs.Ends.{is_ended, ranks_of}
-use Rattle.ug_coord.specs.Hubs.{beginning}
+use Rattle.ug_coord.specs.Hubs.{StartsAndEnds, beginning}
 use Rattle.ug_coord.specs.HubViews.{hub_seen}
 use Rattle.ug_coord.specs.declared.pacing.Pacing.{Pacing}
 use Rattle.ug_coord.specs.Keeping.{savers}
 use Rattle.ug_coord.specs.Keepers.{kept_seen}
-use Rattle.ug_coord.proofs.Coursing.{begun_on}
+use Rattle.ug_coord.proofs.Starting.{begun_started}
 use Rattle.ug_coord.proofs.Causes.{opening_alive}
 use Rattle.ug_coord.proofs.Ends.{begun_ours, nothing_coordinated, nothing_kept, solved_coordinated, solved_kept}
 use Rattle.ug_coord.proofs.Kept.{ends_ours, run_on, same_of}
@@ -36,7 +36,7 @@ returns-in-Err-clause-kept g c =
 pub run-requires-clause-on : goal.run-requires-clause-on
 run-requires-clause-on g c κs within = (
   beginning (opening_book c.args.opening.now) (g.C.Crew.seen c.args.crew).faults,
-  begun_on (opening_book c.args.opening.now) _ c.requires.fresh c.in-Ok.ensures.book
+  begun_started (opening_book c.args.opening.now) _ c.requires.fresh c.in-Ok.ensures.book
       (c.in-Ok.ensures.streams ∙ ap (λ (b : BookState). replicate (ranks_of b) first) c.in-Ok.ensures.book) refl (begun_pacing c.in-Ok.parts.book (opening_book c.args.opening.now) _ c.in-Ok.ensures.book (search rules)),
 )
 
@@ -49,11 +49,13 @@ returns-clause-coordinated g c =
     let faults = (g.C.Crew.seen c.args.crew).faults in
     let old = kept_seen c.args.keeper (g.D.Disk.seen c.args.disk.now) in
     let mid = kept_seen c.run.new.keeper (g.D.Disk.seen c.run.new.disk) in
-    let ends = c.run.ensures.ends (beginning b faults)
-    (begun_on (opening_book c.args.opening.now) _ c.requires.fresh c.in-Ok.ensures.book
+    let last = hub_seen g.C.Crew.seen c.run.new.self in
+    let all = c.run.ensures.ends (beginning b faults)
+    (begun_started (opening_book c.args.opening.now) _ c.requires.fresh c.in-Ok.ensures.book
     (c.in-Ok.ensures.streams ∙ ap (λ (b : BookState). replicate (ranks_of b) first) c.in-Ok.ensures.book) refl (begun_pacing c.in-Ok.parts.book (opening_book c.args.opening.now) _ c.in-Ok.ensures.book (search rules))) (sym (begun_pacing c.in-Ok.parts.book (opening_book c.args.opening.now) _ c.in-Ok.ensures.book (search rules))) in
-    solved_coordinated b faults (hub_seen g.C.Crew.seen c.run.new.self) old mid
-    (g.D.Disk.seen c.conclude-outcome.new.disk) c.conclude-outcome.result ends
+    solved_coordinated b faults last old mid
+    (g.D.Disk.seen c.conclude-outcome.new.disk) c.conclude-outcome.result
+    (subst (λ (own : BookState). StartsAndEnds (ranks_of own) (beginning b faults) last old mid) c.in-Ok.ensures.book all)
     (record {
       made = subst IsBook c.in-Ok.ensures.book c.in-Ok.ensures.made;
       ended = subst (λ e. is_ended e c.run.new.self.book) (sym c.conclude-outcome.ensures.end)
@@ -67,8 +69,7 @@ returns-clause-coordinated g c =
       right = subst (λ e. IfAnswered e (λ own. IsSoundBook own → IsRight own)) (sym c.conclude-outcome.ensures.end)
           c.end_of-end.ensures.right;
     })
-    (ends_ours (beginning b faults) (hub_seen g.C.Crew.seen c.run.new.self) old mid _ _ ends
-    c.run.ensures.same
+    (ends_ours (beginning b faults) last old mid _ _ all.ends c.run.ensures.same
     (begun_ours c.args.opening.now c.args.keeper.saves _ c.requires.begun c.in-Ok.ensures.book))
     c.run.ensures.saved c.args.opening.now c.requires.begun c.conclude-outcome.ensures.concluded
 
@@ -78,13 +79,13 @@ returns-clause-kept g c =
     let faults = (g.C.Crew.seen c.args.crew).faults in
     let old = kept_seen c.args.keeper (g.D.Disk.seen c.args.disk.now) in
     let mid = kept_seen c.run.new.keeper (g.D.Disk.seen c.run.new.disk) in
-    let ends = c.run.ensures.ends (beginning b faults)
-    (begun_on (opening_book c.args.opening.now) _ c.requires.fresh c.in-Ok.ensures.book
+    let all = c.run.ensures.ends (beginning b faults)
+    (begun_started (opening_book c.args.opening.now) _ c.requires.fresh c.in-Ok.ensures.book
     (c.in-Ok.ensures.streams ∙ ap (λ (b : BookState). replicate (ranks_of b) first) c.in-Ok.ensures.book) refl (begun_pacing c.in-Ok.parts.book (opening_book c.args.opening.now) _ c.in-Ok.ensures.book (search rules))) (sym (begun_pacing c.in-Ok.parts.book (opening_book c.args.opening.now) _ c.in-Ok.ensures.book (search rules))) in
     solved_kept c.args.opening.now (beginning b faults) (hub_seen g.C.Crew.seen c.run.new.self) old mid
-    (g.D.Disk.seen c.conclude-outcome.new.disk) c.conclude-outcome.result ends
+    (g.D.Disk.seen c.conclude-outcome.new.disk) c.conclude-outcome.result all.ends
     (subst (λ e. is_ended e c.run.new.self.book) (sym c.conclude-outcome.ensures.end) c.end_of-end.ensures.ended)
-    (ends_ours (beginning b faults) (hub_seen g.C.Crew.seen c.run.new.self) old mid _ _ ends
+    (ends_ours (beginning b faults) (hub_seen g.C.Crew.seen c.run.new.self) old mid _ _ all.ends
     c.run.ensures.same
     (begun_ours c.args.opening.now c.args.keeper.saves _ c.requires.begun c.in-Ok.ensures.book))
     c.requires.begun c.conclude-outcome.ensures.concluded

@@ -1,33 +1,45 @@
-use Rattle.std.proofs.Common.{sym, subst, ◌∙◌}
+use Rattle.std.proofs.Common.{[], refl, sym, subst, ◌∙◌}
 use Rattle.ug_coord.specs.Ends.{IsOver}
 use Rattle.ug_coord.specs.HubViews.{hub_seen}
-use Rattle.ug_coord.specs.Hubs.{IsRested}
-use Rattle.ug_coord.proofs.Coursing.{stays_in}
+use Rattle.ug_coord.specs.Hubs.{IsRested, standing}
 use Rattle.ug_coord.proofs.Kept.{kept_first, ours_same, unsaved}
+use Rattle.ug_coord.proofs.Starting.{starts_and_ends}
 use Rattle.ug_rules.specs.State.{BookState}
 use Rattle.ug_coord.specs.declared.pacing.Pacing.{Pacing}
 use Rattle.ug_coord.specs.Pacing.{IsSaveDue}
 use Rattle.ug_coord.proofs.hub.Hub.run.Goals as goal
 
 pub go_on-requires-clause-on : goal.go_on-requires-clause-on
-go_on-requires-clause-on g c κs within = (
-  c.requires.on.0,
-  stays_in IsRested c.requires.on.0 (hub_seen g.C.Crew.seen c.args.self.now)
-      (hub_seen g.C.Crew.seen c.start_all.new.self) (λ phase on. c.start_all.ensures.on phase c.requires.on.0 on)
-      c.requires.on.1,
-)
+go_on-requires-clause-on g c κs within =
+    let (from, k) = c.requires.on in
+    (from, (k.0, k.1, (c.start_all.ensures.on k.0 from k.2).on))
 
 pub go_on-requires-clause-ours : goal.go_on-requires-clause-ours
 go_on-requires-clause-ours g c κs within =
     ours_same c.args.keeper.now.saves c.args.self.now.book c.start_all.new.self.book c.start_all.ensures.quiet.run
     c.requires.ours
 
+pub start_all-requires-clause-on : goal.start_all-requires-clause-on
+start_all-requires-clause-on g c =
+    let (from, k) = c.requires.on in
+    (k.0, from, k.2)
+
 pub returns-clause-ends : goal.returns-clause-ends
-returns-clause-ends g c from on same =
-    c.close.ensures.ends from _ _ (c.go_on.ensures.on from _ (kept_first IsRested from
-    (hub_seen g.C.Crew.seen c.start_all.new.self) _ (c.start_all.ensures.pacing ∙ sym same)
-    (stays_in IsRested from (hub_seen g.C.Crew.seen c.args.self.now) (hub_seen g.C.Crew.seen c.start_all.new.self)
-    (λ phase on. c.start_all.ensures.on phase from on) on)))
+returns-clause-ends g c from (phase, is, k) same =
+    let h = hub_seen g.C.Crew.seen c.start_all.new.self in
+    let now = c.start_all.ensures.on phase from k in
+    let mid = standing now.on.said phase h in
+    starts_and_ends _ phase from h _ _ _ now (c.start_all.ensures.pacing ∙ sym same)
+    (c.close.ensures.ends mid _ _ (c.go_on.ensures.on mid _ (kept_first IsRested mid h _ refl (
+      phase,
+      is,
+      record {
+        said = now.on.said;
+        come = record { deeds = []; course = refl };
+        shown = now.on.shown;
+        fit = now.on.fit;
+      },
+    ))))
 
 pub returns-clause-over : goal.returns-clause-over
 returns-clause-over g c wants =

@@ -1,39 +1,27 @@
-use Rattle.std.proofs.Common.{rules, ◌<◌, ℕ, refl, sym, subst, ◌∙◌}
+use Rattle.std.proofs.Common.{rules, ◌<◌, ℕ, sym, subst, ◌∙◌, arith}
 use Rattle.ug_coord.specs.HubViews.{hub_seen}
-use Rattle.ug_coord.proofs.Coursing.{away_is, failed_on, started_on, frame_still}
-use Rattle.ug_coord.proofs.Counts.{quiet_none, quiet_on}
+use Rattle.ug_coord.proofs.Coursing.{frame_still}
+use Rattle.ug_coord.proofs.Counts.{quiet_on}
 use Rattle.ug_coord.proofs.Kept.{run_on}
+use Rattle.ug_coord.proofs.Starting.{started_as, unstarted_as}
 use Rattle.ug_coord.proofs.hub.Hub.start.Goals as goal
 
 pub returns-then-launch-clause-on : goal.returns-then-launch-clause-on
 returns-then-launch-clause-on g c phase from on =
-    started_on c.send.result phase from (hub_seen g.C.Crew.seen c.args.self.now) (hub_seen g.C.Crew.seen c.launch.new.self)
+    started_as c.send.result phase from (hub_seen g.C.Crew.seen c.args.self.now) (hub_seen g.C.Crew.seen c.launch.new.self)
     (hub_seen g.C.Crew.seen c.send.new.self) c.args.rank c.launch.new.self.frame.items
-    (away_is (g.C.Crew.seen c.args.self.now.crew) c.args.rank c.if-is_alive.ensures)
-    (search rules) c.if-launch.ensures.launched
+    (subst (λ (n : ℕ). c.args.rank < n) (sym on.on.fit.lives) c.requires.there) c.if-launch.ensures.launched
     (search rules) c.send.ensures.sent on
 
 pub returns-else-launch-clause-on : goal.returns-else-launch-clause-on
 returns-else-launch-clause-on g c phase from on =
-    failed_on phase from (hub_seen g.C.Crew.seen c.args.self.now) (hub_seen g.C.Crew.seen c.launch.new.self) c.args.rank
+    unstarted_as phase from (hub_seen g.C.Crew.seen c.args.self.now) (hub_seen g.C.Crew.seen c.launch.new.self) c.args.rank
     c.if-launch.ensures.launched on
-
-pub returns-then-is_alive-clause-on : goal.returns-then-is_alive-clause-on
-returns-then-is_alive-clause-on g c phase from on = on
-
-pub returns-then-is_alive-clause-frame : goal.returns-then-is_alive-clause-frame
-returns-then-is_alive-clause-frame g c = c.requires.frame
-
-pub returns-then-is_alive-clause-quiet : goal.returns-then-is_alive-clause-quiet
-returns-then-is_alive-clause-quiet g c = quiet_none c.args.self.now.book
-
-pub returns-then-is_alive-clause-pacing : goal.returns-then-is_alive-clause-pacing
-returns-then-is_alive-clause-pacing g c = refl
 
 pub launch-requires-clause-away : goal.launch-requires-clause-away
 launch-requires-clause-away g c = record {
-  there = subst (λ (n : ℕ). c.args.rank < n) (sym c.requires.on.1.2.fit.lives) c.requires.there;
-  away = away_is (g.C.Crew.seen c.args.self.now.crew) c.args.rank c.if-is_alive.ensures;
+  there = subst (λ (n : ℕ). c.args.rank < n) (sym c.requires.on.2.on.fit.lives) c.requires.there;
+  away = c.requires.on.2.later c.args.rank (omega arith);
 }
 
 pub launch-requires-clause-there : goal.launch-requires-clause-there

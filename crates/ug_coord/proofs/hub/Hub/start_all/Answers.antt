@@ -1,4 +1,6 @@
-use Rattle.std.proofs.Common.{refl, ◌∙◌}
+use Rattle.std.proofs.Common.{ℕ, refl, rules, subst, ◌∙◌, arith}
+use Rattle.ug_coord.specs.HubViews.{hub_seen}
+use Rattle.ug_coord.specs.Hubs.{IsStartedAs}
 use Rattle.ug_coord.proofs.Counts.{quiet_none, quiet_on}
 use Rattle.ug_coord.proofs.hub.Hub.start_all.Goals as goal
 
@@ -13,11 +15,8 @@ loop-rank-init g c = record {
 pub start-requires-clause-on : goal.start-requires-clause-on
 start-requires-clause-on g c = (
   c.requires.on.0,
-  (
-    c.requires.on.1.0,
-    tt,
-    c.loop-rank.invariant.on c.requires.on.1.0 c.requires.on.0 c.requires.on.1.2,
-  ),
+  c.requires.on.1,
+  c.loop-rank.invariant.on c.requires.on.0 c.requires.on.1 c.requires.on.2,
 )
 
 pub start-requires-clause-frame : goal.start-requires-clause-frame
@@ -25,7 +24,9 @@ start-requires-clause-frame g c = c.loop-rank.invariant.frame
 
 pub loop-rank-preserved : goal.loop-rank-preserved
 loop-rank-preserved g c = record {
-  on = λ phase from on. c.start.ensures.on phase from (c.loop-rank.invariant.on phase from on);
+  on = λ phase from on. subst
+      (λ (n : ℕ). IsStartedAs n phase from (hub_seen g.C.Crew.seen c.start.new.self)) (omega arith)
+      (c.start.ensures.on phase from (c.loop-rank.invariant.on phase from on));
   frame = c.start.ensures.frame;
   quiet = quiet_on c.args.self.now.book c.loop-rank.self.book c.start.new.self.book
       c.loop-rank.invariant.quiet
@@ -34,7 +35,9 @@ loop-rank-preserved g c = record {
 }
 
 pub returns-clause-on : goal.returns-clause-on
-returns-clause-on g c = c.loop-rank.invariant.on
+returns-clause-on g c phase from on =
+    subst (λ (n : ℕ). IsStartedAs n phase from (hub_seen g.C.Crew.seen c.loop-rank.self)) (search rules)
+    (c.loop-rank.invariant.on phase from on)
 
 pub returns-clause-quiet : goal.returns-clause-quiet
 returns-clause-quiet g c = c.loop-rank.invariant.quiet

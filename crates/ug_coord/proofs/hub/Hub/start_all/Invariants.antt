@@ -1,13 +1,13 @@
 use Rattle.std.proofs.Common.{◌≡◌}
 use Rattle.ug_coord.specs.Deeds.{Standing}
-use Rattle.ug_coord.specs.Hubs.{IsOnAs, IsQuiet, IsSetUpFrame, Phase}
+use Rattle.ug_coord.specs.Hubs.{IsQuiet, IsSetUpFrame, IsStartedAs, Phase}
 use Rattle.ug_coord.specs.HubViews.{hub_seen}
 use Rattle.ug_coord.proofs.hub.Hub.start_all.Given as goal
 
 abbrev pub invariant-loop-rank : goal.invariant-loop-rank
 invariant-loop-rank g l = record {
-  on : (phase : Phase) (from : Standing) → IsOnAs phase from (hub_seen g.C.Crew.seen l.initial.self)
-      → IsOnAs phase from (hub_seen g.C.Crew.seen l.self);
+  on : (phase : Phase) (from : Standing) → IsStartedAs 0 phase from (hub_seen g.C.Crew.seen l.initial.self)
+      → IsStartedAs l.rank phase from (hub_seen g.C.Crew.seen l.self);
   frame : IsSetUpFrame l.self.book l.self.frame.items;
   quiet : IsQuiet l.initial.self.book l.self.book;
   pacing : l.self.pacing ≡ l.initial.self.pacing;
