@@ -44,6 +44,15 @@ exec \"";
     make_around_own(rt, "echo", before, behind)
 }
 
+/// Makes a program `solver` in this folder, which solves as the coordinator orders.
+pub fn make_solver<R: Files + Env + AllocGlobal>(rt: &R) -> io::Result<()> {
+    let before = "#!/bin/sh
+exec \"";
+    let behind = "\" \"$@\" solve
+";
+    make_around_own(rt, "solver", before, behind)
+}
+
 /// Makes a program `child` in this folder. As rank 0 it says back what it hears, as rank 1 a signal
 /// ends it, as rank 2 it ends with status 3, and as any other it never comes to its socket.
 pub fn make_child<R: Files + Env + AllocGlobal>(rt: &R) -> io::Result<()> {

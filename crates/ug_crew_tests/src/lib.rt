@@ -19,19 +19,26 @@ mod listening;
 mod losses;
 #[cfg(test)]
 mod notes;
+#[cfg(test)]
+mod solvers;
 
 #[cfg(test)]
 use crate::echo::echo;
 #[cfg(test)]
+use crate::solvers::solve;
+#[cfg(test)]
 use std::{env, io};
 
-// The child of a test is the test program, started with the words of a worker. Without them this is
-// a test that has nothing to do.
+// The child of a test is the test program, started with the words of a worker, and one more where
+// it is to solve. Without them this is a test that has nothing to do.
 #[test]
 fn worker(rt: HostRuntime) -> io::Result<()> {
     let mut words = env::args(&rt)?;
     if let Some(path) = words.nth(3) {
-        echo(&rt, path.as_str());
+        match words.next() {
+            Some(_) => solve(&rt, path.as_str()),
+            None => echo(&rt, path.as_str()),
+        }
     }
     Ok(())
 }

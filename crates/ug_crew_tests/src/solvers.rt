@@ -1,0 +1,206 @@
+//! Children that solve: three workers of one large problem, of which each byte is looked at.
+
+ghost use Rattle.std.specs.Prelude.{◌<◌, length};
+
+use crate::child::make_solver;
+use crate::expect::holds;
+use crate::listening::{is_clean, start_three, tell};
+use crate::notes::Notes;
+use std::alloc::{AllocError, AllocGlobal, Global};
+use std::net::Net;
+use std::process::Abort;
+use std::sync::Wait;
+use std::time::Clock;
+use ug_io::{Came, Crew};
+use ug_real::{Children, ProcessCrew, SocketLink};
+use ug_serve::{Service, serve};
+
+const SOLVERS: Children<'static> = Children {
+    program: "./solver",
+    sockets: "sockets",
+};
+
+const COLUMNS: u32 = 10_000;
+
+// How many bytes Setup has, and Ready, Solution and Done.
+const SETUP: usize = 2_640_051;
+
+const REPORTS: usize = 40_076;
+
+const END: &[u8] = &[0, 0, 0, 1, 8];
+
+const READY: &[u8] = &[0, 0, 0, 1, 17];
+
+const ENDED: &[u8] = &[0, 0, 0, 1, 22];
+
+/// Serves the socket of this path, as the program does with the words of a worker.
+pub fn solve<R: Net + Clock + Wait + AllocGlobal>(rt: &R, path: &str) {
+    let link = SocketLink::new(rt, rt.alloc(), path);
+    let Service { link, .. } = serve(rt, rt.alloc(), link);
+    drop(link);
+}
+
+fn push_zeros(bytes: &mut Vec<u8>, count: u32) -> Result<(), AllocError> {
+    for _ in 0..count {
+        bytes.push(0)?;
+    }
+    Ok(())
+}
+
+// A column from 0 to 0, whose name is its number in 255 digits.
+fn push_column(bytes: &mut Vec<u8>, number: u32) -> Result<(), AllocError> {
+    bytes.push(255)?;
+    for _ in 0..250 {
+        bytes.push(b'0')?;
+    }
+    for part in [
+        number / 10_000,
+        number / 1_000,
+        number / 100,
+        number / 10,
+        number,
+    ] {
+        bytes.push(b'0' + (part % 10) as u8)?;
+    }
+    push_zeros(bytes, 8)
+}
+
+// Setup with gap 0, many columns, no row and the objective 0, and Work of all of it for the rank.
+fn orders_for(alloc: Global, rank: u8) -> Result<Vec<u8>, AllocError> {
+    let mut bytes = Vec::new(alloc);
+    bytes.extend_from_slice(&[0, 0x28, 0x48, 0xaf, 1])?;
+    push_zeros(&mut bytes, 16)?;
+    bytes.extend_from_slice(&[0, 0, 0x27, 0x10])?;
+    for number in 0..COLUMNS {
+        push_column(&mut bytes, number)?;
+    }
+    push_zeros(&mut bytes, 26)?;
+    bytes.extend_from_slice(&[0, 0, 0, 24, 2])?;
+    push_ticket(&mut bytes, rank)?;
+    push_zeros(&mut bytes, 7)?;
+    Ok(bytes)
+}
+
+// The ticket of the rank: of run 1, and one more than its number.
+fn push_ticket(bytes: &mut Vec<u8>, rank: u8) -> Result<(), AllocError> {
+    bytes.extend_from_slice(&[0, 0, 0, 0, 0, 0, 0, 1, 0, 0, 0, 0, 0, 0, 0])?;
+    bytes.push(rank.saturating_add(1))?;
+    Ok(())
+}
+
+// What comes of the rank: Ready, the one point, Done under its cutoff, 0, with no hand, and Ended.
+fn reports_of(alloc: Global, rank: u8) -> Result<Vec<u8>, AllocError> {
+    let mut bytes = Vec::new(alloc);
+    bytes.extend_from_slice(READY)?;
+    bytes.extend_from_slice(&[0, 0, 0x9c, 0x55, 18])?;
+    push_ticket(&mut bytes, rank)?;
+    bytes.extend_from_slice(&[0, 0, 0x27, 0x10])?;
+    push_zeros(&mut bytes, 40_000)?;
+    bytes.extend_from_slice(&[0, 0, 0, 42, 21])?;
+    push_ticket(&mut bytes, rank)?;
+    bytes.push(1)?;
+    push_zeros(&mut bytes, 24)?;
+    bytes.extend_from_slice(ENDED)?;
+    Ok(bytes)
+}
+
+// What was heard of each rank, and how many are gone.
+#[derive(Drop)]
+struct Heard {
+    ranks: Vec<Vec<u8>>,
+    gone: u32,
+}
+
+impl Heard {
+    // Nothing of three ranks.
+    fn new(alloc: Global) -> Result<Heard, AllocError> {
+        let mut ranks = Vec::new(alloc);
+        for _ in 0..3 {
+            ranks.push(Vec::new(alloc))?;
+        }
+        Ok(Heard { ranks, gone: 0 })
+    }
+
+    // Takes note of bytes of the rank. Whether all reports but Ended came with them.
+    fn add(&mut self, rank: u32, bytes: &[u8]) -> bool {
+        match self.ranks.get_mut(rank as usize) {
+            Some(all) => all.extend_from_slice(bytes).is_ok() && all.len() == REPORTS,
+            None => false,
+        }
+    }
+
+    // Takes note of what comes next, and tells the end to a rank that has searched all. Whether
+    // something came.
+    fn hear<C: Crew>(&mut self, crew: &mut C, buffer: &mut [u8]) -> bool
+        requires { 0 < length buffer.old }
+    {
+        match crew.turn(buffer) {
+            Ok(Came::Bytes { rank, count }) => {
+                !self.add(rank, buffer.get(..count).unwrap_or(&[])) || tell(crew, rank, END)
+            }
+            Ok(Came::Gone { .. }) => {
+                self.gone = self.gone.saturating_add(1);
+                true
+            }
+            Err(_) => false,
+        }
+    }
+
+    // Listens until three ranks are gone.
+    fn listen<C: Crew>(&mut self, crew: &mut C) {
+        let mut buffer = [0u8; 4096];
+        for _ in 0..u64::MAX {
+            if self.gone == 3 || !self.hear(crew, &mut buffer) {
+                return;
+            }
+        }
+    }
+
+    // Whether just that came of the rank.
+    fn has(&self, rank: u8, wanted: &[u8]) -> bool {
+        match self.ranks.get(rank as usize) {
+            Some(all) => all.as_slice() == wanted,
+            None => false,
+        }
+    }
+}
+
+// Each of three ranks is told the problem and its work, and the end once it has searched all; it
+// says just what it has to, and is gone.
+fn say_what_they_have_to<C: Crew>(rt: &impl Abort, alloc: Global, crew: &mut C)
+    requires { 2 < length (C.seen crew.old).lives }
+{
+    holds(rt, start_three(crew));
+    for rank in 0..3u8 {
+        let orders = orders_for(alloc, rank).expect(rt, "memory");
+        holds(rt, orders.len() == SETUP + 28);
+        holds(rt, tell(crew, u32::from(rank), &orders));
+        drop(orders);
+    }
+    let mut heard = Heard::new(alloc).expect(rt, "memory");
+    heard.listen(crew);
+    for rank in 0..3u8 {
+        let wanted = reports_of(alloc, rank).expect(rt, "memory");
+        holds(rt, heard.has(rank, &wanted));
+        drop(wanted);
+    }
+    holds(rt, heard.gone == 3);
+    drop(heard);
+    crew.finish();
+}
+
+#[test]
+fn three_solvers_of_a_large_problem_say_what_they_have_to(rt: HostRuntime) {
+    let alloc = rt.alloc();
+    holds(&rt, make_solver(&rt).is_ok());
+    let mut lines = Vec::new(alloc);
+    let notes = Notes {
+        alloc,
+        lines: &mut lines,
+    };
+    let mut crew = ProcessCrew::new(&rt, alloc, 3, SOLVERS, notes).expect(&rt, "memory");
+    say_what_they_have_to(&rt, alloc, &mut crew);
+    drop(crew);
+    drop(lines);
+    holds(&rt, is_clean(&rt, "sockets"));
+}
