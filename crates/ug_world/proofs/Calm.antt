@@ -13,13 +13,14 @@ use Rattle.ug_rules.specs.declared.heard.Heard.{Heard}
 use Rattle.ug_rules.specs.declared.heard.Heard.TheVariants.{Memory}
 use Rattle.ug_rules.specs.State.{BookState}
 use Rattle.ug_rules.specs.Hearing.{is_deadly}
-use Rattle.ug_coord.specs.Causes.{HasCause, IsEndOf}
+use Rattle.ug_coord.specs.Causes.{HasCause, HasDeadlyAnswer, IsEndOf}
 use Rattle.ug_coord.specs.Deeds.{Broke, Came, Cause, Closed, Decided, Deed, Does, Ended, Failed, Halted, IsCause, IsCourse, Launched, Lost, Nonsense, Passed}
 use Rattle.ug_coord.specs.Deeds.{Sent, SetUp, Standing, Took, Unclosed, Unfed, Unread, Unsent, Unwritten, stream_at}
 use Rattle.ug_coord.specs.Deeds.{Kept as Saved}
 use Rattle.ug_coord.specs.Ends.{ranks_of}
 use Rattle.ug_coord.specs.Hubs.{HasCome, beginning}
 use Rattle.ug_coord.proofs.Coursing.{course_more}
+use Rattle.ug_coord.proofs.Faults.{course_up, faults_up}
 use Rattle.ug_serve.specs.Staffs.{AreAlwaysWorked}
 use Rattle.ug_serve.proofs.Honesty.{nothing_in}
 use Rattle.ug_serve.proofs.Told.{first_or}
@@ -52,55 +53,6 @@ IsQuietDeed Saved = Unit {0}
 
 abbrev pub AreQuiet : List Deed → Type 0
 AreQuiet deeds = (deed : Deed) → Contains deeds deed → IsQuietDeed deed
-
--- a report of the rank got an answer that is its death
-pub record HasDeadlyAnswer (rank : ℕ) (deeds : List Deed) : Type 0 where
-  pub report : Report
-  pub answer : Heard
-  pub among : Contains deeds (Took rank report answer)
-  pub deadly : is_deadly answer ≡ true
-
--- ---- the count of faults never falls
-
-rose_up : (old new : ℕ) → Rose old new → old ≤ new
-rose_up old new (inl less) = omega (arith, less)
-rose_up old new (inr full) = omega (arith, full.1)
-
-cause_up : (old new : Standing) (rank : ℕ) (cause : Cause) → IsCause old new rank cause → old.faults ≤ new.faults
-cause_up old new rank Ended is = rose_up old.faults new.faults is.faults
-cause_up old new rank Failed is = elim is.1 [
-  | inl before ↦ omega (arith, before.1)
-  | inr rose ↦ rose_up old.faults new.faults rose
-]
-cause_up old new rank Nonsense is = omega (arith, is.faults)
-
-same_faults : (old new : Standing) → new.faults ≡ old.faults → old.faults ≤ new.faults
-same_faults old new same = omega (arith, same)
-
-faults_up : (old : Standing) (deed : Deed) (new : Standing) → Does old deed new → old.faults ≤ new.faults
-faults_up old (Launched rank) new does = same_faults old new (ap (λ (s : Standing). s.faults) does.1)
-faults_up old (SetUp rank bytes) new does = same_faults old new (ap (λ (s : Standing). s.faults) does.rest)
-faults_up old (Closed rank) new does = same_faults old new (ap (λ (s : Standing). s.faults) does.rest)
-faults_up old (Came rank bytes) new does = same_faults old new (ap (λ (s : Standing). s.faults) does.rest)
-faults_up old (Took rank report answer) new does =
-    same_faults old new (ap (λ (s : Standing). s.faults) does.rest)
-faults_up old (Lost rank cause) new does = cause_up old new rank cause does.why
-faults_up old Decided new does = same_faults old new (ap (λ (s : Standing). s.faults) does.rest)
-faults_up old (Sent rank order) new does = same_faults old new (ap (λ (s : Standing). s.faults) does.rest)
-faults_up old (Unsent rank order) new does = rose_up old.faults new.faults does.faults
-faults_up old (Passed rank order) new does = same_faults old new (ap (λ (s : Standing). s.faults) does.rest)
-faults_up old Broke new does = rose_up old.faults new.faults does.faults
-faults_up old (Unclosed rank) new does = rose_up old.faults new.faults does.faults
-faults_up old (Halted steps) new does = same_faults old new (ap (λ (s : Standing). s.faults) does.rest)
-faults_up old (Unwritten rank order) new does = same_faults old new (ap (λ (s : Standing). s.faults) does.rest)
-faults_up old (Unfed rank bytes) new does = same_faults old new (ap (λ (s : Standing). s.faults) does.rest)
-faults_up old Unread new does = same_faults old new (ap (λ (s : Standing). s.faults) does.1)
-faults_up old Saved new does = same_faults old new (ap (λ (s : Standing). s.faults) does.rest)
-
-course_up : (old : Standing) (deeds : List Deed) (new : Standing) → IsCourse old deeds new → old.faults ≤ new.faults
-course_up old [] new same = same_faults old new (ap (λ (s : Standing). s.faults) same)
-course_up old (deed ∷ deeds) new (mid, does, more) =
-    omega (arith, faults_up old deed mid does, course_up mid deeds new more)
 
 -- ---- where memory was wanting it is
 
