@@ -18,8 +18,8 @@ use Rattle.ug_restart.specs.declared.outcome.Outcome.{Outcome}
 use Rattle.ug_restart.specs.declared.outcome.End.TheVariants.{Answered, Limited, Stranded, Memory}
 use Rattle.ug_restart.specs.Outcomes.{HasFeasible, IfAnswered, IfBook, IsRight, IsStranded}
 use Rattle.ug_world.specs.Coordinators.{CoordinatorsLoseNothing}
-use Rattle.ug_top.specs.Solved.{Crewed, HasSolved, StaysCalm}
-use Rattle.ug_top.proofs.Solved.{solved_feasible, solved_right, solved_same}
+use Rattle.ug_top.specs.Solved.{CountsSaves, Crewed, HasSolved, StaysCalm}
+use Rattle.ug_top.proofs.Solved.{solved_feasible, solved_right, solved_same, strands_so}
 use Rattle.ug_top.specs.Runs.{IsOf, IsRightFor, IsRun}
 
 -- each point lies in the root
@@ -77,22 +77,25 @@ ends_feasible given Memory p settings of same feasible = tt
 
 -- a run from a book of the problem that has given no ticket
 pub is_run : CoordinatorsLoseNothing → (Began : BookState → Type 0)
-    (Trusted : (b : BookState) → Began b → Type 0)
+    (Trusted : (b : BookState) → Began b → Type 0) (Saves : BookState → ℕ → Type 0)
     (by : Crewed) (p : Instance) (settings : Settings) (outcome : Outcome) (given : BookState)
     → (began : Began given) → IsOf p settings given → given.last ≡ 0
     → (Trusted given began → IsSoundBook given)
     → (solved : HasSolved by given outcome.end)
+    → CountsSaves by given outcome.end solved (Saves given)
     → (StaysCalm by given outcome.end solved → ¬ IsStranded outcome.end)
-    → IsRun Began Trusted by p settings outcome
-is_run law Began Trusted by p settings outcome given began of unused sound solved live =
+    → IsRun Began Trusted Saves by p settings outcome
+is_run law Began Trusted Saves by p settings outcome given began of unused sound solved saves live =
     let same = solved_same by.was by.now given outcome.end solved in
     record {
       given = given;
       began = began;
       solved = solved;
+      saves = saves;
       of = ends_of given outcome.end p settings of same;
       feasible = ends_feasible given outcome.end p settings of same (solved_feasible by.was by.now given outcome.end solved);
       right = λ trusted crew. ends_right given outcome.end p settings of same
           (solved_right law by.was by.now given outcome.end solved unused crew (sound trusted));
       live = live;
+      strands = strands_so by.was by.now given outcome.end solved live;
     }

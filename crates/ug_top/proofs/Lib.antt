@@ -3,6 +3,7 @@ mod Runs
 mod Accounts
 pub mod Books
 pub mod Covering
+mod Exact
 mod Gathered
 mod Scales
 mod Stored

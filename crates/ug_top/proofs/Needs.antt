@@ -1,5 +1,5 @@
 -- What a plan of the words needs, each plan of them does.
-use Rattle.std.proofs.Common.{◌≡◌, List, Option, None, Some, IfSome, subst}
+use Rattle.std.proofs.Common.{List, Option, None, Some, IfSome, subst}
 use Rattle.clap.specs.Walk.{Text}
 use Rattle.ug_cli.specs.declared.plan.Plan.{Plan}
 use Rattle.ug_cli.specs.Taken.{Needs, TakenWords, WordsTellTheNeeds, needs_of}

@@ -159,10 +159,10 @@ solve_complete : OneOutcome → {A : Type 0} (folder : Option A) (asked : Asked)
     → IsComplete asked.bounds.boxed old.source.left (crews_at old new) status
 solve_complete one None asked old new status text t =
     file_complete one _ _ asked old.source.left text (crews_at old new)
-    (λ p o ran. run_live _ _ (crews_at old new) p _ o ran.ran) status t
+    (λ p o ran. run_live _ _ _ (crews_at old new) p _ o ran.ran) status t
 solve_complete one (Some folder) asked old new status text t =
     file_complete one _ _ asked old.source.left text (crews_at old new)
-    (λ p o ran. run_live _ _ (crews_at old new) p _ o ran.ran) status t
+    (λ p o ran. run_live _ _ _ (crews_at old new) p _ o ran.ran) status t
 
 pub lines_complete : OneOutcome → (plan : Plan) (old new : Outside) (status : Status)
     (text : List ℕ) → AreLinesOf plan old new status text → IsCompleteOf plan old.source.left (crews_at old new) status
@@ -170,7 +170,7 @@ lines_complete one (plans.Solve solve) old new status text t =
     solve_complete one solve.checkpoint solve.settings old new status text t
 lines_complete one (plans.Restart restart) old new status text t =
     file_complete one _ _ restart.settings old.source.left text (crews_at old new)
-    (λ p o ran. run_live _ _ (crews_at old new) p _ o ran.ran) status t
+    (λ p o ran. run_live _ _ _ (crews_at old new) p _ o ran.ran) status t
 lines_complete one (plans.Worker worker) old new status text t = tt
 lines_complete one (plans.Show show) old new status text t = tt
 lines_complete one (plans.Gen gen) old new status text t = tt

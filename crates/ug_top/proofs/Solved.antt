@@ -1,10 +1,10 @@
 -- What is so of a run's end, whoever solved.
 use Rattle.std.proofs.Common.{◌≡◌, inl, inr, ℕ, [], Option, None, Some, IfSome, refl, sym, subst}
-use Rattle.std.specs.Prelude.{IsNone, IsSomeAnd, List}
+use Rattle.std.specs.Prelude.{◌↔◌, IsNone, IsSomeAnd, List}
 use Rattle.std.proofs.lemmas.Bool.{false≢true}
 use Rattle.ug_io.specs.Crews.{CrewSeen}
 use Rattle.ug_disk.specs.Crashes.{Leaves}
-use Rattle.ug_disk.specs.Histories.{DiskSeen}
+use Rattle.ug_disk.specs.Histories.{DiskSeen, History}
 use Rattle.ug_checkpoint.specs.declared.saver.Saver.{Saver}
 use Rattle.ug_rules.specs.State.{BookState, held_nodes}
 use Rattle.ug_rules.specs.Books.{IsSoundBook}
@@ -18,7 +18,8 @@ use Rattle.ug_threads.specs.Outcomes.{HasEnded}
 use Rattle.ug_threads.proofs.Endings.{none_ended}
 use Rattle.ug_threads.specs.Ends.{IsReplayOf}
 use Rattle.ug_threads.proofs.Outcomes.{same_run}
-use Rattle.ug_coord.specs.Ends.{is_ended, ranks_of}
+use Rattle.ug_coord.specs.Ends as over
+use Rattle.ug_coord.specs.Ends.{IsExactly, is_ended, ranks_of}
 use Rattle.ug_coord.specs.Hubs.{HasCoordinated, IsFresh}
 use Rattle.ug_coord.specs.Keeping.{AreEachSaved, HasKept, IsKeptSafe, IsNothing}
 use Rattle.ug_coord.proofs.Causes.{AreAlive}
@@ -36,8 +37,9 @@ use Rattle.ug_book.specs.declared.opening.Opening.{Opening}
 use Rattle.ug_book.specs.Openings.{IsOpening, opening_book}
 use Rattle.ug_io.specs.declared.crew.Exchange.{Exchange}
 use Rattle.ug_top.specs.Ends.{HasCrewFor}
-use Rattle.ug_top.specs.Runs.{IsNewRun, IsRun}
-use Rattle.ug_top.specs.Solved.{Crewed, FitsCrew, HasSolved, HasSolvedSafely, IsCalmlyWorked, IsSeenCalm, IsStillThere, KeepsCovered, KeepsCoveredBy, has_solved, is_seen_calm, is_trusted, keeps_by, stays_calm, unchanged}
+use Rattle.ug_restart.specs.Openings.{IsAcknowledgedStart}
+use Rattle.ug_top.specs.Runs.{AreSavedInTurn, IsNewRun, IsRun}
+use Rattle.ug_top.specs.Solved.{Crewed, FitsCrew, HasSolved, HasSolvedSafely, IsCalmlyWorked, IsSeenCalm, IsStillThere, KeepsCovered, KeepsCoveredBy, counts_saves, has_solved, is_seen_calm, is_trusted, keeps_by, stays_calm, strands_just, unchanged}
 
 -- ---- the ending book
 
@@ -103,9 +105,11 @@ unsafely given faults crew end Tried Safe h = record {
   now = h.now;
   come = h.come;
   made = h.made;
+  started = h.started;
   shown = h.shown;
   closed = h.closed;
   ended = h.ended;
+  exact = h.exact;
   failed = h.failed;
   wants = h.wants;
   saved = h.saved;
@@ -113,6 +117,7 @@ unsafely given faults crew end Tried Safe h = record {
   feasible = h.feasible;
   limited = h.limited;
   causes = h.causes;
+  shows = h.shows;
   right = h.right;
   tried = tt;
   safe = λ sound. tt;
@@ -126,9 +131,11 @@ tells_it given faults crew end Tried Safe h = record {
   now = h.now;
   come = h.come;
   made = h.made;
+  started = h.started;
   shown = refl;
   closed = h.closed;
   ended = h.ended;
+  exact = h.exact;
   failed = h.failed;
   wants = h.wants;
   saved = h.saved;
@@ -136,6 +143,7 @@ tells_it given faults crew end Tried Safe h = record {
   feasible = h.feasible;
   limited = h.limited;
   causes = h.causes;
+  shows = h.shows;
   right = h.right;
   tried = tt;
   safe = λ sound. tt;
@@ -144,9 +152,10 @@ tells_it given faults crew end Tried Safe h = record {
 pub crew_safely : CoordinatorsLoseNothing → CalmWorkersLive → (o : Opening) → IsOpening o
     → (was now : CrewSeen) (end : End) (Tried : ℕ → Type 0) (Safe : Type 0)
     → HasCoordinated (opening_book o) was.faults now end Tried Safe
-    → HasSolvedSafely (record { was = Some was; now = Some now }) (opening_book o) end Safe
+    → HasSolvedSafely (record { was = Some was; now = Some now }) (opening_book o) end Tried Safe
 crew_safely law calm_law o opening was now end Tried Safe h = record {
   solved = unsafely (opening_book o) was.faults now end Tried Safe h;
+  saves = h.tried;
   safe = λ trusted sound. h.safe (law (opening_book o) was.faults h.now h.come h.made sound refl trusted).0;
   live = λ served. never_stranded o end was.faults (record now { said = Some h.now.said }) h.now.said
       (λ count. Unit {0}) (Unit {0}) (tells_it (opening_book o) was.faults now end Tried Safe h) refl
@@ -181,30 +190,50 @@ nobody_solved (Some crew) given outcome solvers fits alive none ranks =
     unsafely given crew.faults crew outcome.end (AreEachSaved None outcome disk) (IsKeptSafe None disk disk)
     (nothing_coordinated given crew None outcome disk (subst (IsFresh crew) ranks fits) alive none)
 
+-- where the first image was acknowledged
+pub saved_in_turn : (was now : Option CrewSeen) (given : BookState) (end : End) (h : has_solved was now given end)
+    (saver : Saver) (outcome : Outcome) (new : DiskSeen) (begun : Option History)
+    → IsAcknowledgedStart begun given saver
+    → counts_saves was now given end h (AreEachSaved (Some saver) outcome new)
+    → counts_saves was now given end h (AreSavedInTurn outcome new given)
+saved_in_turn None None given end h saver outcome new begun first saves = tt
+saved_in_turn None (Some now) given end h saver outcome new begun first saves = absurd h
+saved_in_turn (Some was) None given end h saver outcome new begun first saves = absurd h
+saved_in_turn (Some was) (Some now) given end h saver outcome new begun first saves =
+    record { begun = begun; saver = saver; first = first; each = saves }
+
+-- where nothing is asked of the saves
+pub any_saves : (was now : Option CrewSeen) (given : BookState) (end : End) (h : has_solved was now given end)
+    → counts_saves was now given end h (λ count. Unit {0})
+any_saves None None given end h = tt
+any_saves None (Some now) given end h = absurd h
+any_saves (Some was) None given end h = absurd h
+any_saves (Some was) (Some now) given end h = tt
+
 pub still_there : (crew : Option CrewSeen) → IsStillThere crew crew
 still_there None = tt
 still_there (Some crew) = tt
 
 -- ---- at each moment
 
-kept_between : (was now : Option CrewSeen) (given : BookState) (end : End) (old new : DiskSeen) (Safe : Type 0)
-    → HasSolvedSafely (record { was = was; now = now }) given end Safe
+kept_between : (was now : Option CrewSeen) (given : BookState) (end : End) (old new : DiskSeen) (Tried : ℕ → Type 0)
+    (Safe : Type 0) → HasSolvedSafely (record { was = was; now = now }) given end Tried Safe
     → ((IsSoundBook given → Safe) → KeepsCovered old new) → keeps_by was now old new
-kept_between None None given end old new Safe done keeps = keeps (λ sound. done.safe tt sound)
-kept_between None (Some now) given end old new Safe done keeps = absurd done.solved
-kept_between (Some was) None given end old new Safe done keeps = absurd done.solved
-kept_between (Some was) (Some now) given end old new Safe done keeps = inr (record {
+kept_between None None given end old new Tried Safe done keeps = keeps (λ sound. done.safe tt sound)
+kept_between None (Some now) given end old new Tried Safe done keeps = absurd done.solved
+kept_between (Some was) None given end old new Tried Safe done keeps = absurd done.solved
+kept_between (Some was) (Some now) given end old new Tried Safe done keeps = inr (record {
   given = given;
   end = end;
   solved = done.solved;
   kept = λ trusted. keeps (λ sound. done.safe trusted sound);
 })
 
-pub kept_by : (by : Crewed) (given : BookState) (end : End) (old new : DiskSeen) (Safe : Type 0)
-    → HasSolvedSafely by given end Safe → ((IsSoundBook given → Safe) → KeepsCovered old new)
+pub kept_by : (by : Crewed) (given : BookState) (end : End) (old new : DiskSeen) (Tried : ℕ → Type 0) (Safe : Type 0)
+    → HasSolvedSafely by given end Tried Safe → ((IsSoundBook given → Safe) → KeepsCovered old new)
     → KeepsCoveredBy by old new
-kept_by by given end old new Safe done keeps =
-    kept_between by.was by.now given end old new Safe done keeps
+kept_by by given end old new Tried Safe done keeps =
+    kept_between by.was by.now given end old new Tried Safe done keeps
 
 kept_always : (was now : Option CrewSeen) (old new : DiskSeen) → KeepsCovered old new → keeps_by was now old new
 kept_always None None old new keeps = keeps
@@ -239,11 +268,36 @@ seen_calm (Some was) None given end h seen = absurd h
 seen_calm (Some was) (Some now) given end h seen =
     worked_told was.faults now.faults now.said h.now.said h.shown seen
 
-pub run_live : (Began : BookState → Type 0) (Trusted : (b : BookState) → Began b → Type 0) (by : Crewed)
-    (p : Instance) (settings : Settings) (outcome : Outcome) → IsRun Began Trusted by p settings outcome
+pub run_live : (Began : BookState → Type 0) (Trusted : (b : BookState) → Began b → Type 0)
+    (Saves : BookState → ℕ → Type 0) (by : Crewed)
+    (p : Instance) (settings : Settings) (outcome : Outcome) → IsRun Began Trusted Saves by p settings outcome
     → IsSeenCalm by → ¬ IsStranded outcome.end
-run_live Began Trusted by p settings outcome ran seen =
+run_live Began Trusted Saves by p settings outcome ran seen =
     ran.live (seen_calm by.was by.now ran.given outcome.end ran.solved seen)
+
+-- it is so just where that is due
+crew_strands : (end : End) (b : BookState) → is_ended end b → IfBook end (IsExactly end)
+    → IfBook end (λ own. IsStranded end ↔ over.IsStranded own)
+crew_strands (Answered own) b is exact =
+    ((λ stranded. absurd stranded), (λ due. absurd (cc (exact.stranded due))))
+crew_strands (Limited own) b is exact =
+    ((λ stranded. absurd stranded), (λ due. absurd (cc (exact.stranded due))))
+crew_strands (Stranded own) b is exact =
+    ((λ stranded. subst over.IsStranded (sym is.0) is.1), (λ due. tt))
+crew_strands Memory b is exact = tt
+
+threads_strand : (end : End) → ¬ IsStranded end → IfBook end (λ own. ¬ IsStranded end)
+threads_strand (Answered own) not = not
+threads_strand (Limited own) not = not
+threads_strand (Stranded own) not = not
+threads_strand Memory not = tt
+
+pub strands_so : (was now : Option CrewSeen) (given : BookState) (end : End) (h : has_solved was now given end)
+    → (stays_calm was now given end h → ¬ IsStranded end) → IfBook end (strands_just was end)
+strands_so None None given end h live = threads_strand end (live tt)
+strands_so None (Some now) given end h live = absurd h
+strands_so (Some was) None given end h live = absurd h
+strands_so (Some was) (Some now) given end h live = crew_strands end h.now.book h.ended h.exact
 
 -- ---- where there is no crew
 

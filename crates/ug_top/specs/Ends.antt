@@ -1,6 +1,6 @@
 -- How each command ends: its status and its lines, by what it read and what the disk had.
 use Rattle.std.specs.Prelude.{◌≡◌, ℕ, ◌<◌, ◌≤◌, Bool, true, false, List, [], Option, None, Some}
-use Rattle.std.specs.Prelude.{IsSomeAnd}
+use Rattle.std.specs.Prelude.{◌⊎◌, IsSome, IsSomeAnd}
 use Rattle.ug_io.specs.Crews.{CrewSeen}
 use Rattle.ug_io.specs.Links.{LinkSeen}
 use Rattle.ug_io.specs.Outside.{Rose, SourceSeen}
@@ -23,6 +23,7 @@ use Rattle.ug_print.specs.Checkpoints.{AreCheckpointLines}
 use Rattle.ug_gen.specs.Stated.{instance}
 use Rattle.ug_serve.specs.declared.served.Served.{Served}
 use Rattle.ug_serve.specs.declared.served.Served.TheVariants as service
+use Rattle.ug_serve.specs.Endings.{IsLost}
 use Rattle.ug_serve.specs.Serving.{HasServed}
 use Rattle.ug_serve.specs.Courses as links
 use Rattle.ug_coord.specs.Hubs as crews
@@ -100,7 +101,7 @@ BeginsAlways p fault = ⊥
 -- a new solve with a checkpoint
 pub record HasRunSaved (by : Crewed) (asked : Asked) (old new : DiskSeen) (p : Instance)
     (outcome : Outcome) : Type 0 where
-  pub ran : IsSavedRun by p (settings_for asked p) old.told outcome
+  pub ran : IsSavedRun by p (settings_for asked p) old.told new outcome
   pub kept : IsKeptOn (IsBegun p (settings_for asked p) old.told) outcome old new
 
 -- It does not begin: at each moment a crash leaves what a beginning may leave, so nothing was saved
@@ -116,7 +117,7 @@ pub record HasNotBegun (asked : Asked) (old new : DiskSeen) (p : Instance) (faul
 -- a run that goes on from the checkpoint
 pub record HasRunOn (by : Crewed) (asked : Asked) (old new : DiskSeen) (p : Instance)
     (outcome : Outcome) : Type 0 where
-  pub ran : IsRunOn by p (settings_for asked p) old.told outcome
+  pub ran : IsRunOn by p (settings_for asked p) old.told new outcome
   pub kept : IsKeptOn (IsGoneOn p (settings_for asked p) old.told) outcome old new
 
 -- it does not go on, and likewise nothing was saved but, perhaps, its first image, and an image is
@@ -305,6 +306,19 @@ AreWorkerLines link statuses.OtherProblem text = ⊥
 AreWorkerLines link statuses.BadImage text = ⊥
 AreWorkerLines link statuses.Spent text = ⊥
 AreWorkerLines link statuses.SmallerGap text = ⊥
+
+-- the status is this, unless memory was wanting
+abbrev pub IsOrWants : Status → Status → Type 0
+IsOrWants status due = (status ≡ due) ⊎ (status ≡ statuses.Memory)
+
+-- What is seen of the link at the end shows the status: a link fault where a call of it failed or
+-- it has ended. And where it tells what was said: a bad frame where what came from some place on is
+-- no order that is due, and 0 where Ended was told.
+pub record ShowsStatus (seen : LinkSeen) (status : Status) : Type 0 where
+  pub fault : IsLost seen → IsOrWants status statuses.LinkFault
+  pub bad : IsSome seen.said → (at : ℕ) → HasServed seen (service.BadFrame at)
+      → IsOrWants status statuses.BadFrame
+  pub ended : IsSome seen.said → HasServed seen service.Ended → IsOrWants status statuses.Answered
 
 -- ---- any plan
 

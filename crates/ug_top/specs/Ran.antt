@@ -4,6 +4,7 @@ use Rattle.clap.specs.Walk.{Text}
 use Rattle.ug_problem.specs.Instances.{Instance}
 use Rattle.ug_drafts.specs.declared.fault.MpsFault.{MpsFault}
 use Rattle.ug_mps.specs.Reads.{Reads, FirstFault}
+use Rattle.ug_io.specs.Links.{LinkSeen}
 use Rattle.ug_io.specs.Outside.{Rose, SinkSeen, Takes, TakesFront}
 use Rattle.ug_print.specs.Lines.{memory_line}
 use Rattle.ug_cli.specs.Taken.{TakenWords}
@@ -12,8 +13,8 @@ use Rattle.ug_cli.specs.declared.plan.Plan.TheVariants as plans
 use Rattle.ug_top.specs.Outside.{Outside}
 use Rattle.ug_top.specs.Solved.{Crewed, IsSeenCalm, IsStillThere, KeepsCoveredBy}
 use Rattle.ug_mps.specs.Enough.{StopsAtEnd}
-use Rattle.ug_top.specs.Ends.{AreLinesOf, IsAccounted, IsDiskless, IsLeftAlone, crews_at}
-use Rattle.ug_top.specs.Ends.{status_of, text_of}
+use Rattle.ug_top.specs.Ends.{AreLinesOf, IsAccounted, IsDiskless, IsLeftAlone, ShowsStatus}
+use Rattle.ug_top.specs.Ends.{crews_at, status_of, text_of}
 use Rattle.ug_top.specs.declared.ended.Ended.{Ended}
 use Rattle.ug_top.specs.declared.status.Status.{Status}
 use Rattle.ug_top.specs.declared.status.Status.TheVariants.{Usage, Refused, ReadFault, Stranded}
@@ -42,6 +43,14 @@ IsCompleteOf (plans.Worker worker) left by status = Unit {0}
 IsCompleteOf (plans.Show show) left by status = Unit {0}
 IsCompleteOf (plans.Gen gen) left by status = Unit {0}
 
+-- the link shows the status of a plan that serves it
+abbrev pub IsExactOf : Plan → Option LinkSeen → Status → Type 0
+IsExactOf (plans.Solve solve) link status = Unit {0}
+IsExactOf (plans.Restart restart) link status = Unit {0}
+IsExactOf (plans.Worker worker) link status = IfSome link (λ seen. ShowsStatus seen status)
+IsExactOf (plans.Show show) link status = Unit {0}
+IsExactOf (plans.Gen gen) link status = Unit {0}
+
 -- reading stopped with the line ENDATA, unless the source failed or memory was wanting
 abbrev pub IsReadTo : Outside → Outside → Status → Type 0
 IsReadTo old new status = (status ≡ ReadFault)
@@ -58,6 +67,7 @@ pub record IsWorked (words : List Text) (old new : Outside) (status : Status) (t
   pub crew : IsStillThere old.crew new.crew
   pub alone : IsDiskless plan → IsLeftAlone old.disk new.disk
   pub complete : IsCompleteOf plan old.source.left (crews_at old new) status
+  pub exact : IsExactOf plan new.link status
   pub read : IsReadTo old new status
 
 -- the words ask for no plan, and nothing is due

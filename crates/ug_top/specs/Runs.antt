@@ -1,5 +1,5 @@
 -- A run, from a problem to the book with which it ends, and what it leaves on the disk.
-use Rattle.std.specs.Prelude.{◌≡◌, [], ◌∷◌, None, Option, IfSome}
+use Rattle.std.specs.Prelude.{◌≡◌, ℕ, [], ◌∷◌, None, Some, Option, IfSome}
 use Rattle.ug_disk.specs.Crashes.{Leaves}
 use Rattle.ug_disk.specs.Histories.{DiskSeen, History}
 use Rattle.ug_problem.specs.Instances.{Instance}
@@ -12,11 +12,15 @@ use Rattle.ug_book.specs.Starts.{started}
 use Rattle.ug_snapshot.specs.Moments.{IsCovered}
 use Rattle.ug_restart.specs.declared.outcome.Outcome.{Outcome}
 use Rattle.ug_restart.specs.Starts.{IsBegun, IsGoneOn, IsSafeStart}
+use Rattle.ug_checkpoint.specs.declared.saver.Saver.{Saver}
 use Rattle.ug_restart.specs.Moments.{FindsIn, IsOfRun}
+use Rattle.ug_restart.specs.Openings.{IsAcknowledgedStart}
 use Rattle.ug_restart.specs.Outcomes.{IfBook}
 use Rattle.ug_restart.specs.Outcomes.{IfAnswered}
 use Rattle.ug_restart.specs.Outcomes.{IsMissedByFaults, IsSavedOrCounted, IsStranded}
-use Rattle.ug_top.specs.Solved.{Crewed, HasSolved, IsTrusted, StaysCalm}
+use Rattle.ug_coord.specs.Keeping.{AreEachSaved}
+use Rattle.ug_top.specs.Solved.{CountsSaves, Crewed, HasSolved, IsTrusted, StaysCalm}
+use Rattle.ug_top.specs.Solved.{StrandsJustWhere}
 
 -- the book with which a new solve without checkpoints begins: it is run 1, and the root is left
 abbrev pub first_book : Instance → Settings → BookState
@@ -35,33 +39,50 @@ IsRightFor p settings b = Right p settings.gap (one_kept b.best)
 -- The run began with such a book, and solvers led from it to the one with which it ended: threads,
 -- where there is no crew. Whatever it began with, the incumbent then is feasible; where that can be
 -- trusted, and the solvers, an answer is right. Where a crew stayed calm and was worked, and always
--- of threads, the run is not stranded.
+-- of threads, the run is not stranded; of a crew it is so just where that is due,
+-- and what is said of its saves is so of those that stand among its deeds.
 pub record IsRun (Began : BookState → Type 0) (Trusted : (b : BookState) → Began b → Type 0)
-    (by : Crewed) (p : Instance) (settings : Settings) (outcome : Outcome) : Type 0 where
+    (Saves : BookState → ℕ → Type 0) (by : Crewed) (p : Instance) (settings : Settings)
+    (outcome : Outcome) : Type 0 where
   pub given : BookState
   pub began : Began given
   pub solved : HasSolved by given outcome.end
+  pub saves : CountsSaves by given outcome.end solved (Saves given)
   pub of : IfBook outcome.end (IsOf p settings)
   pub feasible : IfBook outcome.end (λ b. IfSome b.best (Feasible p))
   pub right : Trusted given began → IsTrusted by given outcome.end solved
       → IfAnswered outcome.end (IsRightFor p settings)
   pub live : StaysCalm by given outcome.end solved → ¬ IsStranded outcome.end
+  pub strands : IfBook outcome.end (StrandsJustWhere by outcome.end)
 
 -- a new solve without checkpoints
 abbrev pub IsNewRun : Crewed → Instance → Settings → Outcome → Type 0
 IsNewRun by p settings outcome =
-    IsRun (λ b. b ≡ first_book p settings) (λ b t. Unit {0}) by p settings outcome
+    IsRun (λ b. b ≡ first_book p settings) (λ b t. Unit {0}) (λ b count. Unit {0}) by p settings
+    outcome
+
+-- The first image, of the book with which the run begins, was acknowledged. Behind it so many
+-- saves were tried while it worked, and one of the ending book: each that succeeded has the next
+-- sequence, and the others are counted.
+pub record AreSavedInTurn (outcome : Outcome) (new : DiskSeen) (given : BookState) (count : ℕ)
+    : Type 0 where
+  pub begun : Option History
+  pub saver : Saver
+  pub first : IsAcknowledgedStart begun given saver
+  pub each : AreEachSaved (Some saver) outcome new count
 
 -- a new solve on a disk, whatever it had
-abbrev pub IsSavedRun : Crewed → Instance → Settings → Option History → Outcome → Type 0
-IsSavedRun by p settings told outcome =
-    IsRun (IsBegun p settings told) (λ b t. Unit {0}) by p settings outcome
+abbrev pub IsSavedRun : Crewed → Instance → Settings → Option History → DiskSeen → Outcome → Type 0
+IsSavedRun by p settings told new outcome =
+    IsRun (IsBegun p settings told) (λ b t. Unit {0}) (AreSavedInTurn outcome new) by p settings
+    outcome
 
 -- a run that goes on from what the disk had; its answer is right where the very image from which it
 -- goes on was Covered
-abbrev pub IsRunOn : Crewed → Instance → Settings → Option History → Outcome → Type 0
-IsRunOn by p settings told outcome =
-    IsRun (IsGoneOn p settings told) (λ b t. IsCovered t.found.image) by p settings outcome
+abbrev pub IsRunOn : Crewed → Instance → Settings → Option History → DiskSeen → Outcome → Type 0
+IsRunOn by p settings told new outcome =
+    IsRun (IsGoneOn p settings told) (λ b t. IsCovered t.found.image) (AreSavedInTurn outcome new)
+    by p settings outcome
 
 -- Up to some moment a crash leaves what the beginning of such a book may leave. From that moment on
 -- recovery finds an image of this book's problem and run, whatever a crash leaves.

@@ -1,5 +1,5 @@
 -- How solvers led from the book with which a run began to its end, and what is trusted of them.
-use Rattle.std.specs.Prelude.{◌⊎◌, ℕ, List, Option, None, Some, IfSome, IsSomeAnd}
+use Rattle.std.specs.Prelude.{◌⊎◌, ◌↔◌, ℕ, List, Option, None, Some, IfSome, IsSomeAnd}
 use Rattle.ug_io.specs.declared.crew.Exchange.{Exchange}
 use Rattle.ug_io.specs.Crews.{CrewSeen}
 use Rattle.ug_io.specs.Outside.{IsCalm}
@@ -12,6 +12,8 @@ use Rattle.ug_restart.specs.Openings.{CoversWhatIsFound}
 use Rattle.ug_restart.specs.Outcomes.{IsStranded}
 use Rattle.ug_serve.specs.Staffs.{AreAlwaysWorked}
 use Rattle.ug_threads.specs.Outcomes.{HasEnded}
+use Rattle.ug_coord.specs.Deeds.{saves_in}
+use Rattle.ug_coord.specs.Ends as ends
 use Rattle.ug_coord.specs.Hubs.{HasCoordinated, IsFresh}
 use Rattle.ug_world.specs.Coordinators.{IsHonestFrom}
 use Rattle.ug_top.specs.Outside.{seen_if}
@@ -40,6 +42,28 @@ has_solved (Some was) (Some now) given end =
 
 abbrev pub HasSolved : Crewed → BookState → End → Type 0
 HasSolved by given end = has_solved by.was by.now given end
+
+-- A run that ended with this book is stranded just where a crew solved, a node is held, fewer
+-- reports were heard than may be, and no rank is alive.
+abbrev pub strands_just : Option CrewSeen → End → BookState → Type 0
+strands_just None end b = ¬ IsStranded end
+strands_just (Some crew) end b = IsStranded end ↔ ends.IsStranded b
+
+abbrev pub StrandsJustWhere : Crewed → End → BookState → Type 0
+StrandsJustWhere by end b = strands_just by.was end b
+
+-- what is asked of the number of saves is so of those that a crew's deeds have; nothing is asked of
+-- threads
+abbrev pub counts_saves : (was now : Option CrewSeen) (given : BookState) (end : End)
+    → has_solved was now given end → (ℕ → Type 0) → Type 0
+counts_saves None None given end solved Tried = Unit {0}
+counts_saves None (Some now) given end solved Tried = ⊥
+counts_saves (Some was) None given end solved Tried = ⊥
+counts_saves (Some was) (Some now) given end solved Tried = Tried (saves_in solved.come.deeds)
+
+abbrev pub CountsSaves : (by : Crewed) (given : BookState) (end : End) → HasSolved by given end
+    → (ℕ → Type 0) → Type 0
+CountsSaves by given end solved Tried = counts_saves by.was by.now given end solved Tried
 
 -- nothing is to be trusted of threads; of a crew, that what was heard of it is honest
 abbrev pub is_trusted : (was now : Option CrewSeen) (given : BookState) (end : End)
@@ -83,11 +107,12 @@ is_seen_calm (Some was) (Some now) = IsSomeAnd now.said (IsCalmlyWorked was.faul
 abbrev pub IsSeenCalm : Crewed → Type 0
 IsSeenCalm by = is_seen_calm by.was by.now
 
--- Solvers led there. Where they can be trusted, and the run began soundly, it was safe. Where they
--- stayed calm and were worked, the run is not stranded.
-pub record HasSolvedSafely (by : Crewed) (given : BookState) (end : End) (Safe : Type 0)
-    : Type 0 where
+-- Solvers led there, with so many saves. Where they can be trusted, and the run began soundly, it
+-- was safe. Where they stayed calm and were worked, the run is not stranded.
+pub record HasSolvedSafely (by : Crewed) (given : BookState) (end : End) (Tried : ℕ → Type 0)
+    (Safe : Type 0) : Type 0 where
   pub solved : HasSolved by given end
+  pub saves : CountsSaves by given end solved Tried
   pub safe : IsTrusted by given end solved → IsSoundBook given → Safe
   pub live : StaysCalm by given end solved → ¬ IsStranded end
 

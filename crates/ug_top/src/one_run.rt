@@ -1,7 +1,7 @@
 ghost use Rattle.std.specs.Prelude.{Some, IfOk, IfErr, OnErr};
 ghost use Rattle.ug_checkpoint.specs.Savers.{IsKept};
 ghost use Rattle.ug_book.specs.Openings.{IsOpening, opening_book};
-ghost use Rattle.ug_coord.specs.Keeping.{HasKept, IsKeptSafe};
+ghost use Rattle.ug_coord.specs.Keeping.{AreEachSaved, HasKept, IsKeptSafe};
 ghost use Rattle.ug_disk.specs.Crashes.{Leaves};
 ghost use Rattle.ug_rules.specs.Books.{AreSettings};
 ghost use Rattle.ug_restart.specs.Faults.{start_cause};
@@ -66,7 +66,8 @@ pub fn solve_saved<R: Threads + Wait + Sync, D: Disk, O: Observer, C: Crew + Dro
     requires settings { AreSettings settings }
     requires fits { FitsCrew settings.solvers (seen_if C.seen crew.old) }
     ensures ran { IfOk result
-        (IsSavedRun (crewed C.seen crew.old crew.new) problem settings (D.seen disk.old).told) }
+        (IsSavedRun (crewed C.seen crew.old crew.new) problem settings (D.seen disk.old).told
+        (D.seen disk.new)) }
     ensures kept { IfOk result (λ o. IsKeptOn
         (IsBegun problem settings (D.seen disk.old).told) o (D.seen disk.old) (D.seen disk.new)) }
     ensures refused { IfErr result (IsNotBegun (D.seen disk.old).told (D.seen disk.new).told) }
@@ -98,7 +99,8 @@ pub fn go_on<R: Threads + Wait + Sync, D: Disk, O: Observer, C: Crew + Drop>(
     requires settings { AreSettings settings }
     requires fits { FitsCrew settings.solvers (seen_if C.seen crew.old) }
     ensures ran { IfOk result
-        (IsRunOn (crewed C.seen crew.old crew.new) problem settings (D.seen disk.old).told) }
+        (IsRunOn (crewed C.seen crew.old crew.new) problem settings (D.seen disk.old).told
+        (D.seen disk.new)) }
     ensures kept { IfOk result (λ o. IsKeptOn
         (IsGoneOn problem settings (D.seen disk.old).told) o (D.seen disk.old) (D.seen disk.new)) }
     ensures refused { IfErr result (IsNotGoneOn problem settings
@@ -131,6 +133,7 @@ fn solve_from<R: Threads + Wait + Sync, D: Disk, O: Observer, C: Crew + Drop>(
     requires fits { FitsCrew start.opening.settings.solvers (seen_if C.seen crew.old) }
     ensures solved { HasSolvedSafely (crewed C.seen crew.old crew.new)
         (opening_book start.opening) result.end
+        (AreEachSaved (Some start.saver) result (D.seen disk.new))
         (IsKeptSafe (Some start.saver) (D.seen disk.old) (D.seen disk.new)) }
     ensures kept { HasKept (opening_book start.opening) (Some start.saver) result
         (D.seen disk.old) (D.seen disk.new) }

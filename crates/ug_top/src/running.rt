@@ -18,6 +18,7 @@ use ug_disk::Disk;
 use ug_io::{Crew, Failed, Link, Sink, Source};
 use ug_mps::one_outcome;
 use ug_restart::{Host, Observer};
+use ug_serve::services_end_in_one_way;
 
 /// Does all that the program does: reads the words, which are those behind the program's name, does
 /// what they ask for, and writes the lines of it. `Memory` alone has no cause: it may come in place
@@ -104,6 +105,7 @@ where
         (outside S.seen D.seen C.seen L.seen objects.new) (due_status result) (due_text result) }
 {
     one_outcome();
+    services_end_in_one_way();
     crossed_is_not_taken();
     match read_words(host.alloc, words) {
         Ok(plan) => Some(run_plan(host, &plan, objects)),

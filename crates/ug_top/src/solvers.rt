@@ -1,7 +1,7 @@
 ghost use Rattle.std.specs.Prelude.{IfSome};
 ghost use Rattle.ug_checkpoint.specs.Savers.{IsKept};
 ghost use Rattle.ug_book.specs.Openings.{IsOpening, opening_book};
-ghost use Rattle.ug_coord.specs.Keeping.{HasKept, IsKeptSafe};
+ghost use Rattle.ug_coord.specs.Keeping.{AreEachSaved, HasKept, IsKeptSafe};
 ghost use Rattle.ug_top.specs.Outside.{seen_if};
 ghost use Rattle.ug_top.specs.Solved.{FitsCrew, HasSolvedSafely, IsStillThere, crewed};
 
@@ -30,6 +30,7 @@ pub fn solve_by<R: Threads + Wait + Sync, D: Disk, O: Observer, C: Crew + Drop>(
     requires fits { FitsCrew opening.now.settings.solvers (seen_if C.seen crew.old) }
     ensures solved { HasSolvedSafely (crewed C.seen crew.old crew.new)
         (opening_book opening.now) result.end
+        (AreEachSaved saver result (D.seen disk.new))
         (IsKeptSafe saver (D.seen disk.old) (D.seen disk.new)) }
     ensures kept { HasKept (opening_book opening.now) saver result
         (D.seen disk.old) (D.seen disk.new) }

@@ -23,7 +23,7 @@ returns-in-Ok-clause-run g c =
     (HasNotGoneOn c.args.asked.now old new c.args.stated.problem)
     c.args.asked.now.bounds.gap c.in-Ok.outcome c.tell_outcome-ended.result
     (record {
-      ran = subst (λ (s : Settings). IsRunOn (crewed g.C.Crew.seen c.args.crew.now c.go_on.new.crew) c.args.stated.problem s old.told c.in-Ok.outcome) is
+      ran = subst (λ (s : Settings). IsRunOn (crewed g.C.Crew.seen c.args.crew.now c.go_on.new.crew) c.args.stated.problem s old.told new c.in-Ok.outcome) is
           c.in-Ok.ensures.ran;
       kept = subst (λ (s : Settings). IsKeptOn (IsGoneOn c.args.stated.problem s old.told) c.in-Ok.outcome
           old new) is c.in-Ok.ensures.kept;

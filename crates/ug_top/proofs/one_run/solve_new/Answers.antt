@@ -13,7 +13,7 @@ use Rattle.ug_top.specs.Outside.{seen_if}
 use Rattle.ug_top.specs.Runs.{first_book}
 use Rattle.ug_top.specs.Solved.{FitsCrew, crewed, unchanged}
 use Rattle.ug_top.proofs.Books.{is_run, root_is_sound}
-use Rattle.ug_top.proofs.Solved.{nobody_solved, still_there}
+use Rattle.ug_top.proofs.Solved.{any_saves, nobody_solved, still_there}
 use Rattle.ug_top.proofs.one_run.solve_new.Goals as goal
 
 pub solve_by-outcome-requires-clause-fits : goal.solve_by-outcome-requires-clause-fits
@@ -26,7 +26,7 @@ returns-clause-ran g c =
     let is = c.in-Ok.ensures.made in
     let began = ap (λ (o : Opening). opening_book o) is in
     is_run c.coordinators_lose_nothing.ensures (λ b. b ≡ first_book c.args.problem c.args.settings) (λ b t. Unit {0})
-    (crewed g.C.Crew.seen c.args.crew.now c.solve_by-outcome.new.crew) c.args.problem
+    (λ b count. Unit {0}) (crewed g.C.Crew.seen c.args.crew.now c.solve_by-outcome.new.crew) c.args.problem
     c.args.settings c.solve_by-outcome.result (opening_book c.in-Ok.opening) began
     (record {
       its_problem = ap (λ (b : BookState). b.problem) began;
@@ -34,7 +34,9 @@ returns-clause-ran g c =
     })
     refl
     (λ trusted. subst IsSoundBook (sym began) (root_is_sound c.args.problem 1 c.args.settings))
-    c.solve_by-outcome.ensures.solved.solved c.solve_by-outcome.ensures.solved.live
+    c.solve_by-outcome.ensures.solved.solved
+    (any_saves _ _ (opening_book c.in-Ok.opening) _ c.solve_by-outcome.ensures.solved.solved)
+    c.solve_by-outcome.ensures.solved.live
 
 -- where memory was wanting before a solver began
 pub returns-in_default-clause-ran : goal.returns-in_default-clause-ran
@@ -43,13 +45,14 @@ returns-in_default-clause-ran g c =
     let settings = c.args.settings in
     let given = first_book p settings in
     let nothing : Outcome = record { end = Memory; missed = 0; unsaved = 0; last = None } in
-    is_run c.coordinators_lose_nothing.ensures (λ b. b ≡ given) (λ b t. Unit {0})
-    (unchanged (seen_if g.C.Crew.seen c.args.crew.now)) p settings nothing given refl
-    (record { its_problem = refl; its_settings = refl }) refl
-    (λ trusted. root_is_sound p 1 settings)
-    (nobody_solved (seen_if g.C.Crew.seen c.args.crew.now) given nothing settings.solvers c.requires.fits
+    let solved = nobody_solved (seen_if g.C.Crew.seen c.args.crew.now) given nothing settings.solvers c.requires.fits
     (opening_alive (whole p 1 settings))
-    (record { ended = refl; missed = refl; unsaved = refl }) (sym (length-replicate settings.solvers Absent)))
+    (record { ended = refl; missed = refl; unsaved = refl }) (sym (length-replicate settings.solvers Absent)) in
+    is_run c.coordinators_lose_nothing.ensures (λ b. b ≡ given) (λ b t. Unit {0})
+    (λ b count. Unit {0}) (unchanged (seen_if g.C.Crew.seen c.args.crew.now)) p settings nothing given refl
+    (record { its_problem = refl; its_settings = refl }) refl
+    (λ trusted. root_is_sound p 1 settings) solved
+    (any_saves _ _ given _ solved)
     (λ calm stranded. stranded)
 
 pub returns-in_default-clause-crew : goal.returns-in_default-clause-crew

@@ -5,10 +5,11 @@ use Rattle.ug_book.specs.Openings.{opening_book}
 use Rattle.ug_restart.specs.Starts.{IsBegun}
 use Rattle.ug_restart.proofs.Finds.{start_found}
 use Rattle.ug_top.specs.Outside.{seen_if}
+use Rattle.ug_top.specs.Runs.{AreSavedInTurn}
 use Rattle.ug_top.specs.Solved.{FitsCrew, crewed, unchanged}
 use Rattle.ug_top.proofs.Books.{is_run}
 use Rattle.ug_top.proofs.Covering.{begun_sound, refused_covered, run_covered}
-use Rattle.ug_top.proofs.Solved.{kept_anyway, kept_by, still_there}
+use Rattle.ug_top.proofs.Solved.{kept_anyway, kept_by, saved_in_turn, still_there}
 use Rattle.ug_top.proofs.Stored.{missed_from}
 use Rattle.ug_top.proofs.one_run.solve_saved.Goals as goal
 
@@ -33,6 +34,7 @@ returns-in-Ok-clause-ran g c =
     let given = opening_book c.in-Ok.start.opening in
     let began = c.in-Ok.ensures.started.book in
     is_run c.coordinators_lose_nothing.ensures (IsBegun c.args.problem c.args.settings told) (λ b t. Unit {0})
+    (AreSavedInTurn c.solve_from.result (g.D.Disk.seen c.solve_from.new.disk))
     (crewed g.C.Crew.seen c.args.crew.now c.solve_from.new.crew) c.args.problem
     c.args.settings c.solve_from.result given began
     (record {
@@ -41,13 +43,16 @@ returns-in-Ok-clause-ran g c =
     })
     refl
     (λ trusted. begun_sound c.args.problem c.args.settings told given began)
-    c.solve_from.ensures.solved.solved c.solve_from.ensures.solved.live
+    c.solve_from.ensures.solved.solved
+    (saved_in_turn _ _ given _ c.solve_from.ensures.solved.solved c.in-Ok.start.saver c.solve_from.result (g.D.Disk.seen c.solve_from.new.disk)
+    (g.D.Disk.seen c.begin.new.disk).told c.in-Ok.ensures.started.acknowledged c.solve_from.ensures.solved.saves)
+    c.solve_from.ensures.solved.live
 
 pub returns-in-Ok-clause-any_moment : goal.returns-in-Ok-clause-any_moment
 returns-in-Ok-clause-any_moment g c =
     let told = (g.D.Disk.seen c.args.disk.now).told in
     kept_by (crewed g.C.Crew.seen c.args.crew.now c.solve_from.new.crew) (opening_book c.in-Ok.start.opening)
-    c.solve_from.result.end (g.D.Disk.seen c.args.disk.now) (g.D.Disk.seen c.solve_from.new.disk) _
+    c.solve_from.result.end (g.D.Disk.seen c.args.disk.now) (g.D.Disk.seen c.solve_from.new.disk) _ _
     c.solve_from.ensures.solved
     (λ goes covers. run_covered _ _ _ (opening_book c.in-Ok.start.opening) c.in-Ok.start.saver
     (IsBegun c.args.problem c.args.settings told) (begun_sound c.args.problem c.args.settings told)

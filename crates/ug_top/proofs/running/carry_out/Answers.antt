@@ -1,6 +1,7 @@
 use Rattle.std.proofs.Common.{inl}
 use Rattle.ug_top.specs.Outside.{outside}
 use Rattle.ug_top.specs.Ends.{status_of, text_of}
+use Rattle.ug_top.proofs.Exact.{lines_exact}
 use Rattle.ug_top.proofs.Runs.{lines_complete, read_to, taken_planned}
 use Rattle.ug_top.proofs.running.carry_out.Goals as goal
 
@@ -16,6 +17,10 @@ returns-in-Ok g c = inl (record {
   crew = c.run_plan.ensures.crew;
   alone = c.run_plan.ensures.alone;
   complete = lines_complete c.one_outcome.ensures c.in-Ok.plan
+      (outside g.S.Source.seen g.D.Disk.seen g.C.Crew.seen g.L.Link.seen c.args.objects.now)
+      (outside g.S.Source.seen g.D.Disk.seen g.C.Crew.seen g.L.Link.seen c.run_plan.new.objects)
+      (status_of c.run_plan.result) (text_of c.run_plan.result) c.run_plan.ensures.lines;
+  exact = lines_exact c.services_end_in_one_way.ensures c.in-Ok.plan
       (outside g.S.Source.seen g.D.Disk.seen g.C.Crew.seen g.L.Link.seen c.args.objects.now)
       (outside g.S.Source.seen g.D.Disk.seen g.C.Crew.seen g.L.Link.seen c.run_plan.new.objects)
       (status_of c.run_plan.result) (text_of c.run_plan.result) c.run_plan.ensures.lines;

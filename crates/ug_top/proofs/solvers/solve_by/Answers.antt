@@ -3,7 +3,7 @@ use Rattle.std.proofs.lemmas.List.{length-replicate}
 use Rattle.ug_ranks.specs.declared.state.State.TheVariants.{Absent}
 use Rattle.ug_book.specs.Openings.{opening_book}
 use Rattle.ug_coord.specs.Hubs.{IsFresh}
-use Rattle.ug_coord.specs.Keeping.{IsKeptSafe}
+use Rattle.ug_coord.specs.Keeping.{AreEachSaved, IsKeptSafe}
 use Rattle.ug_top.specs.Solved.{FitsCrew, HasSolvedSafely, crewed}
 use Rattle.ug_top.specs.Outside.{seen_if}
 use Rattle.ug_top.proofs.Solved.{crew_safely, threads_kept, threads_safe}
@@ -15,12 +15,15 @@ returns-in-None-clause-solved g c =
     let was : c.args.crew.now ≡ None = search rules in
     subst (λ crew. HasSolvedSafely (crewed g.C.Crew.seen crew c.take.new.self)
     (opening_book c.args.opening.now) c.solve_threads.result.end
+    (AreEachSaved c.args.saver c.solve_threads.result (g.D.Disk.seen c.solve_threads.new.disk))
     (IsKeptSafe c.args.saver (g.D.Disk.seen c.args.disk.now) (g.D.Disk.seen c.solve_threads.new.disk))) (sym was)
     (subst (λ crew. HasSolvedSafely (crewed g.C.Crew.seen None crew) (opening_book c.args.opening.now)
     c.solve_threads.result.end
+    (AreEachSaved c.args.saver c.solve_threads.result (g.D.Disk.seen c.solve_threads.new.disk))
     (IsKeptSafe c.args.saver (g.D.Disk.seen c.args.disk.now) (g.D.Disk.seen c.solve_threads.new.disk)))
     (sym none) (record {
       solved = c.solve_threads.ensures.ended;
+      saves = tt;
       safe = λ trusted sound. threads_safe (opening_book c.args.opening.now) c.args.saver
           (g.D.Disk.seen c.args.disk.now) (g.D.Disk.seen c.solve_threads.new.disk) c.solve_threads.ensures.any_moment sound;
       live = λ calm. c.solve_threads.ensures.ended.stranded;
@@ -47,6 +50,7 @@ returns-in-Some-clause-solved g c =
     subst (λ crew. HasSolvedSafely
     (crewed g.C.Crew.seen crew (Some c.coordinate-outcome.result.crew)) (opening_book c.args.opening.now)
     c.coordinate-outcome.result.outcome.end
+    (AreEachSaved c.args.saver c.coordinate-outcome.result.outcome (g.D.Disk.seen c.coordinate-outcome.new.disk))
     (IsKeptSafe c.args.saver (g.D.Disk.seen c.args.disk.now) (g.D.Disk.seen c.coordinate-outcome.new.disk))) (sym is)
     (crew_safely c.coordinators_lose_nothing.ensures c.calm_workers_live.ensures c.args.opening.now
     c.requires.opening (g.C.Crew.seen c.in-Some.solvers) (g.C.Crew.seen c.coordinate-outcome.result.crew)
