@@ -1,5 +1,6 @@
-//! A crew of workers of which a call fails, or a rank is lost or says what is no report. It costs
-//! that rank's work and nothing else, but for a turn that fails, which no rank outlives.
+//! A crew of workers of which a call fails, or a rank is lost, wants memory or says what is no
+//! report. It costs that rank's work and nothing else, but for a turn that fails, which no rank
+//! outlives.
 
 ghost use Rattle.std.specs.Prelude.{◌≡◌, IfSome};
 ghost use Rattle.ug_io.specs.Crews.{IsAlive};
@@ -26,10 +27,24 @@ use ug_serve::{Visit, WorkerCrew};
 enum Wrong {
     /// The call of this number fails: a launch, a message or a turn.
     Call { number: u64 },
-    /// The rank is gone in the turn of this number, as it is where its worker wants memory.
+    /// The rank is gone in the turn of this number, and what its worker told is not heard.
     Gone { rank: u32, turn: u64 },
+    /// The rank's worker wants memory from the turn of this number on.
+    Wants { rank: u32, turn: u64 },
     /// What comes from the rank are zeros, which are no report.
     Zeros { rank: u32 },
+}
+
+impl Wrong {
+    // The same, in the call or the turn of this number.
+    fn at(self, number: u64) -> Wrong {
+        match self {
+            Wrong::Call { .. } => Wrong::Call { number },
+            Wrong::Gone { rank, .. } => Wrong::Gone { rank, turn: number },
+            Wrong::Wants { rank, .. } => Wrong::Wants { rank, turn: number },
+            Wrong::Zeros { rank } => Wrong::Zeros { rank },
+        }
+    }
 }
 
 /// A crew of workers with which something is wrong. It tells nothing of bytes.
@@ -94,6 +109,17 @@ impl<'a> WrongCrew<'a> {
         }
     }
 
+    // Lets a worker want memory, where that is due in this turn.
+    fn exhaust(&mut self)
+        ensures seen { crew_seen self.new.workers ≡ crew_seen self.old.workers }
+        ensures faults { self.new.faults ≡ self.old.faults }
+    {
+        match self.wrong {
+            Wrong::Wants { rank, turn } if turn == self.turns => self.workers.exhaust(rank),
+            _ => {}
+        }
+    }
+
     // Puts zeros in the place of what came from the rank, if these are what comes from it.
     fn spoil(&self, rank: u32, buffer: &mut [u8]) {
         match self.wrong {
@@ -137,6 +163,7 @@ impl Crew for WrongCrew<'_> {
             self.fail();
             return Ok(Came::Gone { rank });
         }
+        self.exhaust();
         match self.workers.turn(buffer) {
             Ok(Came::Bytes { rank, count }) => {
                 self.spoil(rank, buffer);
@@ -241,15 +268,10 @@ fn faults_of<R: Wait>(rt: &R, alloc: Global, way: Way, wrong: Wrong) -> Option<u
     found
 }
 
-// Whether it ends so whichever call fails, or in whichever turn the rank is gone, of more than so
-// many.
-fn outlives_each<R: Wait>(rt: &R, alloc: Global, way: Way, rank: Option<u32>, many: u64) -> bool {
+// Whether it ends so in whichever call or turn it is wrong, of more than so many.
+fn outlives_each<R: Wait>(rt: &R, alloc: Global, way: Way, wrong: Wrong, many: u64) -> bool {
     for number in 1..1000 {
-        let wrong = match rank {
-            Some(rank) => Wrong::Gone { rank, turn: number },
-            None => Wrong::Call { number },
-        };
-        match faults_of(rt, alloc, way, wrong) {
+        match faults_of(rt, alloc, way, wrong.at(number)) {
             Some(0) => return many < number,
             Some(_) => {}
             None => return false,
@@ -258,11 +280,23 @@ fn outlives_each<R: Wait>(rt: &R, alloc: Global, way: Way, rank: Option<u32>, ma
     false
 }
 
+// In how many of so many turns the rank is gone since its worker wants memory, if each run ends so.
+fn lost_in<R: Wait>(rt: &R, alloc: Global, way: Way, rank: u32, turns: u64) -> Option<u64> {
+    let mut lost = 0u64;
+    for turn in 0..turns {
+        if faults_of(rt, alloc, way, Wrong::Wants { rank, turn })? > 0 {
+            lost = lost.saturating_add(1);
+        }
+    }
+    Some(lost)
+}
+
 #[test]
 fn each_call_of_a_crew_of_workers_fails_in_turn(rt: HostRuntime) {
     for racing in [false, true] {
         let way = Way { racing, ..TWO };
-        holds(&rt, outlives_each(&rt, rt.alloc(), way, None, 30));
+        let wrong = Wrong::Call { number: 1 };
+        holds(&rt, outlives_each(&rt, rt.alloc(), way, wrong, 30));
     }
 }
 
@@ -271,9 +305,25 @@ fn a_rank_is_gone_in_each_turn_or_says_what_is_no_report(rt: HostRuntime) {
     for racing in [false, true] {
         let way = Way { racing, ..TWO };
         for rank in 0..2 {
-            holds(&rt, outlives_each(&rt, rt.alloc(), way, Some(rank), 20));
+            let gone = Wrong::Gone { rank, turn: 1 };
+            holds(&rt, outlives_each(&rt, rt.alloc(), way, gone, 20));
             let zeros = faults_of(&rt, rt.alloc(), way, Wrong::Zeros { rank });
             holds(&rt, zeros.is_some());
+        }
+    }
+}
+
+#[test]
+fn a_worker_wants_memory_in_each_turn(rt: HostRuntime) {
+    for racing in [false, true] {
+        let way = Way {
+            racing,
+            visits: Visits::ByteByByte,
+            ..TWO
+        };
+        for rank in 0..2 {
+            let lost = lost_in(&rt, rt.alloc(), way, rank, 60);
+            holds(&rt, lost.unwrap_or(0) > 4);
         }
     }
 }
