@@ -69,11 +69,15 @@ fn box_goes_over<R: Wait>(rt: &R, desk: &Desk, first: &mut Pass, second: &mut Pa
     hands
 }
 
-/// Whether the first of two passes hands a box, which is then the work of the second.
+/// Whether the first of two passes hands a box, which wakes the second where it rests, and is then
+/// its work.
 pub fn box_is_work<R: Wait>(rt: &R, opened: &mut Opened) -> bool
     requires { AreTwo opened.old.desk opened.old.first opened.old.second }
     ensures { AreTwo opened.new.desk opened.new.first opened.new.second }
 {
-    box_goes_over(rt, &opened.desk, &mut opened.first, &mut opened.second)
-        && takes_upper_half(rt, &opened.desk, &mut opened.second)
+    if !box_goes_over(rt, &opened.desk, &mut opened.first, &mut opened.second) {
+        return false;
+    }
+    opened.desk.rest(rt, &opened.second);
+    takes_upper_half(rt, &opened.desk, &mut opened.second)
 }

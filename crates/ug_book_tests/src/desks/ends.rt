@@ -80,8 +80,8 @@ fn root_is_done<R: Wait>(
     }
 }
 
-/// Whether the root is done by the first of two passes, after three calls, and the desk is over for
-/// the second.
+/// Whether the root is done by the first of two passes, after three calls, which wakes the second
+/// where it rests: the desk is over for it.
 pub fn is_over_with_the_root<R: Wait>(rt: &R, alloc: Global, opened: &mut Opened) -> bool
     requires { AreTwo opened.old.desk opened.old.first opened.old.second }
     ensures { AreTwo opened.new.desk opened.new.first opened.new.second }
@@ -93,5 +93,9 @@ pub fn is_over_with_the_root<R: Wait>(rt: &R, alloc: Global, opened: &mut Opened
         &mut opened.first,
         &mut opened.second,
     );
-    is_done && opened.first.heard() == 3 && is_over(rt, &opened.desk, &mut opened.second)
+    if !is_done || opened.first.heard() != 3 {
+        return false;
+    }
+    opened.desk.rest(rt, &opened.second);
+    is_over(rt, &opened.desk, &mut opened.second)
 }
