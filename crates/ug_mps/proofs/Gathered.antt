@@ -2,7 +2,7 @@
 use Rattle.std.proofs.Common.{◌≡◌, ℕ, ◌+◌, ◌-◌, ◌^◌, ◌≤◌, inl, Bool, List, [], ◌++◌, length, Option, Some, None, IfSome, ap, refl, sym, subst, ◌∙◌, arith, append_assoc, append-nil, take, drop, Result, Ok, Err, OnOk, IsErrOf}
 use Rattle.std.specs.Option.{option_map}
 use Rattle.ug_io.specs.Outside.{Gives, IsAtEnd, Rose}
-use Rattle.std.proofs.lemmas.List.{length-append, length-drop, take-append-drop, take_at}
+use Rattle.std.proofs.lemmas.List.{length-append, length-drop, length-take-le, take-append-drop, take_at}
 use Rattle.ug_mps.specs.declared.ending.Tail.{Tail}
 use Rattle.ug_mps.specs.declared.ending.Tail.TheVariants as tails
 use Rattle.ug_mps.specs.Ending.{HasNoEnd, HasNoFeed, IsEndedAt, IsLineAt, IsUnended}
@@ -188,3 +188,26 @@ stops_at_once a = record {
   kept = record { front = []; open_ = []; parts = refl; whole = inl refl; others = tt; no_feed = tt };
   piece = omega arith;
 }
+
+-- the line that was begun goes on in what came
+pub line_goes_on : (bytes more piece : List ℕ) (line from : ℕ) → more ≡ bytes ++ piece → IsLineAt bytes line from
+    → IsLineAt more line from
+line_goes_on bytes more piece line from put l = record {
+  front = l.front;
+  open_ = l.open_;
+  rest = l.rest ++ piece;
+  parts = put ∙ ap (λ t. t ++ piece) l.parts ∙ append_assoc l.front (l.open_ ++ l.rest) piece
+      ∙ ap (λ t. l.front ++ t) (append_assoc l.open_ l.rest piece);
+  whole = l.whole;
+  others = l.others;
+  no_feed = l.no_feed;
+  begins = l.begins;
+  looked = l.looked;
+  within = l.within;
+}
+
+-- what came is no longer than the buffer
+pub few_more : (bytes more zs : List ℕ) (n most : ℕ) → more ≡ bytes ++ take n zs → n ≤ length zs → length zs ≤ most
+    → length more ≤ length bytes + most
+few_more bytes more zs n most put within few =
+    omega (arith, ap (λ (t : List ℕ). length t) put, length-append bytes (take n zs), length-take-le n zs within, few)

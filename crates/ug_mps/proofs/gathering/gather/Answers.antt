@@ -1,7 +1,8 @@
-use Rattle.std.proofs.Common.{length, drop, subst}
+use Rattle.std.proofs.Common.{◌≡◌, ◌≤◌, length, drop, subst, sym, ◌∙◌, arith, rules}
+use Rattle.ug_io.specs.Outside.{Gives}
 use Rattle.ug_mps.specs.Ending.{IsEndedAt, IsLineAt}
 use Rattle.ug_mps.specs.Enough.{StopsBehind, gather_cause}
-use Rattle.ug_mps.proofs.Gathered.{enough_last, stops_here, stops_behind, stops_last, on_ok}
+use Rattle.ug_mps.proofs.Gathered.{few_more, gives_more, line_goes_on, enough_last, stops_here, stops_behind, stops_last, on_ok}
 use Rattle.ug_mps.proofs.gathering.gather.Goals as goal
 
 pub returns-then-n-eq0-clause-enough : goal.returns-then-n-eq0-clause-enough
@@ -29,3 +30,21 @@ pub returns-in-Err-clause-cause : goal.returns-in-Err-clause-cause
 returns-in-Err-clause-cause g c =
     subst (λ n. gather_cause c.in-Err.error n (g.S.Source.seen c.read_on.new.input).faults)
     c.loop-cut.invariant.calm c.in-Err.ensures.cause
+
+pub loop-cut-preserved : goal.loop-cut-preserved
+loop-cut-preserved g c =
+    let i = c.loop-cut.invariant in
+    let read = c.in-Ok-read_on.ensures in
+    let few : length c.read_on.new.buffer ≤ 65536 = search rules in
+    let from : length c.loop-cut.bytes.items ≡ c.len-from.result = search rules in
+    record {
+      came = subst (λ m. Gives (g.S.Source.seen c.args.input.now).left (g.S.Source.seen c.read_on.new.input).left m) (sym read.came.put)
+          (gives_more _ _ _ _ _ i.came read.came.taken);
+      line = line_goes_on c.loop-cut.bytes.items c.read_on.new.bytes.items _ c.in-Open.begins c.len-from.result read.came.put
+          (subst (λ n. IsLineAt c.loop-cut.bytes.items c.in-Open.begins n) from
+          (subst (λ l. IsLineAt l c.in-Open.begins (length l)) c.deref.ensures.value c.in-Open.ensures.last));
+      few = omega (arith, few_more _ _ _ _ 65536 read.came.put read.came.within few, c.len-from.ensures);
+      room = search rules;
+      small = search rules;
+      calm = read.cause ∙ i.calm;
+    }
