@@ -1,5 +1,5 @@
-//! Tests of the top call and of the command line's words.
-//! They stand apart from the crates that they test, ug_top and ug_cli.
+//! Tests of the top call, of the command line's words and of a solve by threads.
+//! They stand apart from the crates that they test, ug_top, ug_cli and ug_threads.
 //! Texts and their answers, small problems against plain enumeration, outsides that fail at each of
 //! their calls, lists of words. Nothing here is proved but that the tests are safe and end.
 #![tactic(auto)]
@@ -34,5 +34,7 @@ mod runs;
 mod small_problems;
 #[cfg(test)]
 mod texts;
+#[cfg(test)]
+mod threads;
 #[cfg(test)]
 mod words;

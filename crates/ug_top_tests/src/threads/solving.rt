@@ -2,14 +2,15 @@
 
 ghost use Rattle.ug_rules.specs.Books.{AreSettings};
 
-use crate::answer::{Answer, answer_of};
-use crate::problems::{Small, made};
+use crate::running::sound_disk;
+use crate::threads::answer::{Answer, answer_of};
+use crate::threads::problems::{Small, made};
 use std::alloc::Global;
 use std::sync::Wait;
 use std::thread::Threads;
 use ug_book::Opening;
 use ug_branch::Base;
-use ug_disk::{MemoryDisk, Script};
+use ug_disk::MemoryDisk;
 use ug_problem::Shared;
 use ug_restart::{Host, Observer, Outcome, Start, Unobserved, begin};
 use ug_rules::Settings;
@@ -31,17 +32,6 @@ pub fn settings(solvers: u32, racing: bool, limit: u64) -> Settings
         winner: 20,
         gap: 0,
     }
-}
-
-/// A disk with nothing on it, of whose calls these fail, and all after these.
-pub fn empty_disk(alloc: Global, failing: Vec<u64>, stopping: Vec<u64>) -> MemoryDisk {
-    let script = Script { failing, stopping };
-    MemoryDisk::new(alloc, Vec::new(alloc), Vec::new(alloc), script)
-}
-
-/// A disk with nothing on it, of whose calls none fails.
-pub fn sound_disk(alloc: Global) -> MemoryDisk {
-    empty_disk(alloc, Vec::new(alloc), Vec::new(alloc))
 }
 
 /// The outcome of a solve without a saver, if it has not touched the disk.

@@ -1,6 +1,6 @@
 use crate::expect::same;
-use crate::holding::{Coming, Hold, HoldingObserver};
-use crate::yielding::YieldingObserver;
+use crate::threads::holding::{Coming, Hold, HoldingObserver};
+use crate::threads::yielding::YieldingObserver;
 use std::thread::join;
 use ug_restart::{Moment, Observer, Unobserved};
 

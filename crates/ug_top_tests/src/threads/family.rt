@@ -1,6 +1,6 @@
 //! Small problems that are made of a number, by plain formulas.
 
-use crate::problems::SmallRow;
+use crate::threads::problems::SmallRow;
 
 /// Three columns, the factors of two rows and of the objective, and the sides of the rows.
 #[derive(Clone, Copy)]

@@ -1,6 +1,6 @@
 //! Problems whose answers are known by hand.
 
-use crate::problems::{Small, SmallRow};
+use crate::threads::problems::{Small, SmallRow};
 
 /// Two columns whose sum is at least 5 and minimised.
 pub const SQUARE: Small<'static> = Small {

@@ -1,7 +1,7 @@
 //! The answer of a small problem by trying each of its points.
 
-use crate::answer::Answer;
-use crate::problems::{Small, SmallRow};
+use crate::threads::answer::Answer;
+use crate::threads::problems::{Small, SmallRow};
 use std::alloc::{AllocError, Global};
 
 /// The least value of a point that keeps each row.
