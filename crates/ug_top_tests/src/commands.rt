@@ -1,10 +1,7 @@
-//! Commands, one after another over one disk, and what each of them tells. The notation of texts
-//! and lines is that of notation.rt.
+//! Commands, one after another over one disk, and what each of them tells.
 
 use crate::expect::{holds, holds_at, same, same_at};
-use crate::notation::written;
 use crate::running::{disk_with, sound_disk, told};
-use crate::texts::due;
 use std::alloc::{AllocError, Global};
 use std::process::Abort;
 use std::sync::Wait;
@@ -12,35 +9,93 @@ use std::thread::Threads;
 use ug_disk::{MemoryDisk, Slot};
 
 /// The problem without columns.
-pub const EMPTY: &str = "ROWS/ N Z/ENDATA/";
+pub const EMPTY: &str = "ROWS\n N Z\nENDATA\n";
 
-const ONE_MORE: &str = "ROWS/ N Z/RHS/ S Z 1/ENDATA/";
+const ONE_MORE: &str = "ROWS\n N Z\nRHS\n S Z 1\nENDATA\n";
 
 /// Three columns under three rows, of which the greatest value is wanted.
-pub const KNAPSACK: &str =
-    "NAME BASE/OBJSENSE MAX/ROWS/ N Z/ L P/ L Q/ L R/COLUMNS/#/ A Z 5 P 2/ A Q 4 R 3\
-    / B Z 4 P 3/ B Q 1 R 4/ C Z 3 P 1/ C Q 2 R 2/RHS/ S P 5 Q 11/ S R 8/BOUNDS/ UP D A 10\
-    / UP D B 10/ UP D C 10/ENDATA/";
+pub const KNAPSACK: &str = "NAME BASE
+OBJSENSE MAX
+ROWS
+ N Z
+ L P
+ L Q
+ L R
+COLUMNS
+ M 'MARKER' 'INTORG'
+ A Z 5 P 2
+ A Q 4 R 3
+ B Z 4 P 3
+ B Q 1 R 4
+ C Z 3 P 1
+ C Q 2 R 2
+RHS
+ S P 5 Q 11
+ S R 8
+BOUNDS
+ UP D A 10
+ UP D B 10
+ UP D C 10
+ENDATA
+";
+
+/// What is told of it.
+pub const OPTIMUM: &str = "optimal 13\nA 2\nC 1";
 
 // The greatest value of one column from 0 to 3.
-const RAMP: &str = "OBJSENSE MAX/ROWS/ N Z/COLUMNS/#/ X Z 1/BOUNDS/ UP D X 3/ENDATA/";
+const RAMP: &str = "OBJSENSE MAX
+ROWS
+ N Z
+COLUMNS
+ M 'MARKER' 'INTORG'
+ X Z 1
+BOUNDS
+ UP D X 3
+ENDATA
+";
 
-const FRACTIONS: &str =
-    "ROWS/ N Z/ G P/COLUMNS/#/ X Z 0.5 P 1/ Y Z 1.25 P 1/RHS/ P 3/BOUNDS/ UP X 2\
-    / UP Y 5/ENDATA/";
+const FRACTIONS: &str = "ROWS
+ N Z
+ G P
+COLUMNS
+ M 'MARKER' 'INTORG'
+ X Z 0.5 P 1
+ Y Z 1.25 P 1
+RHS
+ P 3
+BOUNDS
+ UP X 2
+ UP Y 5
+ENDATA
+";
 
-/// What is told of the command over the text.
-pub fn tells<R: Threads + Wait + Sync>(
-    rt: &R,
-    alloc: Global,
-    line: &str,
-    text: &str,
-    disk: &mut MemoryDisk,
-) -> Result<Vec<u8>, AllocError> {
-    let text = written(alloc, text)?;
-    let told = told(rt, alloc, line, text.as_slice(), disk);
-    drop(text);
-    told
+// Twice a number is not 7.
+const ODD: &str = "ROWS
+ N Z
+ E P
+COLUMNS
+ M 'MARKER' 'INTORG'
+ X P 2
+RHS
+ P 7
+BOUNDS
+ UP X 10
+ENDATA
+";
+
+/// The status that was told, and the lines, without the last line feed.
+pub fn parts_of(told: &[u8]) -> (u8, &str) {
+    match told {
+        [status, lines @ ..] => (*status, lines_of(lines)),
+        [] => (u8::MAX, ""),
+    }
+}
+
+fn lines_of(lines: &[u8]) -> &str {
+    match str::from_utf8(lines) {
+        Ok(lines) => lines.strip_suffix('\n').unwrap_or("an unended line"),
+        Err(_) => "no text",
+    }
 }
 
 /// The first image of the empty problem: run 1 and sequence 1, no incumbent, and the root.
@@ -72,21 +127,19 @@ fn slot_only(alloc: Global, zero: &[u8]) -> Result<MemoryDisk, AllocError> {
 }
 
 /// A command, the text that it gets, and the status and lines that it is to tell.
-type Case<'a> = (&'a str, &'a str, u8, &'a str);
+pub type Case<'a> = (&'a str, &'a str, u8, &'a str);
 
-// Expects a command to tell what it is to.
-fn tells_so<R: Threads + Wait + Sync + Abort>(
+/// Expects a command to tell what it is to.
+pub fn tells_so<R: Threads + Wait + Sync + Abort>(
     rt: &R,
     alloc: Global,
     disk: &mut MemoryDisk,
     case: &Case<'_>,
 ) {
     let (line, text, status, lines) = *case;
-    let told = tells(rt, alloc, line, text, disk).expect(rt, "memory");
-    let due = due(alloc, status, &[lines]).expect(rt, "memory");
-    same_at(rt, &told, &due, &line);
+    let told = told(rt, alloc, line, text.as_bytes(), disk).expect(rt, "memory");
+    same_at(rt, &parts_of(&told), &(status, lines), &line);
     drop(told);
-    drop(due);
 }
 
 // The same of commands, one after another over one disk.
@@ -120,7 +173,7 @@ const SOLVES: &[&str] = &[
 #[test]
 fn solvers_find_the_optimum(rt: HostRuntime) {
     for line in SOLVES {
-        let case = (*line, KNAPSACK, 0, "optimal 13;A 2;C 1");
+        let case = (*line, KNAPSACK, 0, OPTIMUM);
         tell_so_alone(&rt, rt.alloc(), &[case]);
     }
 }
@@ -130,7 +183,7 @@ const STOPPED: &[Case<'static>] = &[
         "show --checkpoint d",
         "",
         0,
-        "run 1;sequence 2;best none;heard 0;gap 0;nodes 1;node 0 0 0",
+        "run 1\nsequence 2\nbest none\nheard 0\ngap 0\nnodes 1\nnode 0 0 0",
     ),
     (
         "restart f --checkpoint d",
@@ -143,14 +196,14 @@ const STOPPED: &[Case<'static>] = &[
         "show --checkpoint d",
         "",
         0,
-        "run 2;sequence 4;best 0;heard 2;gap 0;nodes 0",
+        "run 2\nsequence 4\nbest 0\nheard 2\ngap 0\nnodes 0",
     ),
     ("restart f --checkpoint d", EMPTY, 0, "optimal 0"),
     (
         "show --checkpoint d",
         "",
         0,
-        "run 3;sequence 6;best 0;heard 0;gap 0;nodes 0",
+        "run 3\nsequence 6\nbest 0\nheard 0\ngap 0\nnodes 0",
     ),
 ];
 
@@ -173,9 +226,9 @@ fn stopped_run_is_shown_and_goes_on(rt: HostRuntime) {
     drop(disk);
 }
 
-/// Whether a run told the optimum or, but for the third, that it is open.
-pub fn is_open_or(told: &[u8], optimum: &[u8], run: usize) -> bool {
-    run < 2 && told.starts_with(b"\x08open ") || told == optimum
+/// Whether a run of the knapsack told the optimum or, but for the third, that it is open.
+pub fn is_open_or_solved(told: &[u8], run: usize) -> bool {
+    run < 2 && told.starts_with(b"\x08open ") || parts_of(told) == (0, OPTIMUM)
 }
 
 // Expects a run of the knapsack to find the optimum or, but for the third, to stay open.
@@ -186,11 +239,9 @@ fn goes_on<R: Threads + Wait + Sync + Abort>(
     run: usize,
     line: &str,
 ) {
-    let told = tells(rt, alloc, line, KNAPSACK, disk).expect(rt, "memory");
-    let optimum = due(alloc, 0, &["optimal 13;A 2;C 1"]).expect(rt, "memory");
-    holds_at(rt, is_open_or(&told, &optimum, run), &line);
+    let told = told(rt, alloc, line, KNAPSACK.as_bytes(), disk).expect(rt, "memory");
+    holds_at(rt, is_open_or_solved(&told, run), &line);
     drop(told);
-    drop(optimum);
 }
 
 /// Expects the disk to show the number of the run.
@@ -201,7 +252,7 @@ pub fn shows_its_number<R: Threads + Wait + Sync + Abort>(
     run: usize,
     line: &str,
 ) {
-    let shown = tells(rt, alloc, "show --checkpoint d", "", disk).expect(rt, "memory");
+    let shown = told(rt, alloc, "show --checkpoint d", b"", disk).expect(rt, "memory");
     let first = format!(in alloc; "\0run {}\n", run.saturating_add(1)).expect(rt, "memory");
     holds_at(rt, shown.starts_with(first.as_bytes()), &line);
     drop(shown);
@@ -236,7 +287,7 @@ fn each_run_has_the_next_number(rt: HostRuntime) {
 }
 
 const GAPS: &[Case<'static>] = &[
-    ("solve f --gap 2", RAMP, 0, "within 2 3;X 3"),
+    ("solve f --gap 2", RAMP, 0, "within 2 3\nX 3"),
     ("solve f --gap 3", RAMP, 0, "within 3 0"),
     ("solve f --gap 3 --checkpoint d", RAMP, 0, "within 3 0"),
     (
@@ -250,7 +301,7 @@ const GAPS: &[Case<'static>] = &[
         "solve f --gap 1 --checkpoint d",
         FRACTIONS,
         0,
-        "within 1 2.25;X 2;Y 1",
+        "within 1 2.25\nX 2\nY 1",
     ),
     (
         "restart f --checkpoint d",
@@ -260,7 +311,7 @@ const GAPS: &[Case<'static>] = &[
     ),
     (
         "solve f --gap 1000000000000000000 --checkpoint d",
-        "ROWS/ N Z/ E P/COLUMNS/#/ X P 2/RHS/ P 7/BOUNDS/ UP X 10/ENDATA/",
+        ODD,
         0,
         "infeasible",
     ),
@@ -272,8 +323,8 @@ fn gap_is_kept_and_printed(rt: HostRuntime) {
     tell_so_alone(&rt, rt.alloc(), GAPS);
 }
 
-fn fifth_line(told: &[u8]) -> &[u8] {
-    told.split(|byte| *byte == b'\n').nth(4).unwrap_or(b"")
+fn fifth_line(told: &[u8]) -> &str {
+    parts_of(told).1.lines().nth(4).unwrap_or("")
 }
 
 // Expects this fifth line of what is shown behind a run with a gap of 1 of an objective of two
@@ -282,11 +333,11 @@ fn shows_gap<R: Threads + Wait + Sync + Abort>(
     rt: &R,
     alloc: Global,
     disk: &mut MemoryDisk,
-    gap: &[u8],
+    gap: &str,
 ) {
     let line = "solve f --gap 1 --checkpoint d";
-    drop(tells(rt, alloc, line, FRACTIONS, disk).expect(rt, "memory"));
-    let shown = tells(rt, alloc, "show --checkpoint d", "", disk).expect(rt, "memory");
+    drop(told(rt, alloc, line, FRACTIONS.as_bytes(), disk).expect(rt, "memory"));
+    let shown = told(rt, alloc, "show --checkpoint d", b"", disk).expect(rt, "memory");
     same(rt, &fifth_line(&shown), &gap);
     drop(shown);
 }
@@ -297,7 +348,7 @@ const GAP_OF_3: &[Case<'static>] = &[
         "show --checkpoint d",
         "",
         0,
-        "run 1;sequence 1;best none;heard 0;gap 3;nodes 1;node 0 0 0",
+        "run 1\nsequence 1\nbest none\nheard 0\ngap 3\nnodes 1\nnode 0 0 0",
     ),
     ("restart f --checkpoint d", EMPTY, 16, "smaller gap 3 0"),
 ];
@@ -305,7 +356,7 @@ const GAP_OF_3: &[Case<'static>] = &[
 #[test]
 fn gap_of_a_slot_is_in_units_of_the_scaled_objective(rt: HostRuntime) {
     let mut disk = sound_disk(rt.alloc());
-    shows_gap(&rt, rt.alloc(), &mut disk, b"gap 100");
+    shows_gap(&rt, rt.alloc(), &mut disk, "gap 100");
     drop(disk);
     let mut disk = changed(rt.alloc(), 84, 3).expect(&rt, "memory");
     tell_so(&rt, rt.alloc(), &mut disk, GAP_OF_3);
@@ -360,7 +411,7 @@ fn instances_are_made_and_solved(rt: HostRuntime) {
 // What a command tells that reads no text and keeps nothing.
 fn told_alone<R: Threads + Wait + Sync + Abort>(rt: &R, alloc: Global, line: &str) -> Vec<u8> {
     let mut disk = sound_disk(alloc);
-    let told = tells(rt, alloc, line, "", &mut disk).expect(rt, "memory");
+    let told = told(rt, alloc, line, b"", &mut disk).expect(rt, "memory");
     drop(disk);
     told
 }

@@ -1,8 +1,8 @@
 //! Commands over a disk of whose calls some fail: a fault while a run begins, a missed save later.
 
-use crate::commands::{EMPTY, KNAPSACK, first_slot, tells};
+use crate::commands::{EMPTY, KNAPSACK, first_slot};
 use crate::expect::{holds, holds_at, same, same_at};
-use crate::running::disk_with;
+use crate::running::{disk_with, told};
 use std::alloc::{AllocError, Global};
 use std::process::Abort;
 use std::sync::Wait;
@@ -52,10 +52,10 @@ fn told_where_it_fails<R: Threads + Wait + Sync + Abort>(
     call: u64,
 ) -> (Told, bool) {
     let mut disk = failing_disk(alloc, zero, &[call]).expect(rt, "memory");
-    let told = tells(rt, alloc, line, EMPTY, &mut disk).expect(rt, "memory");
-    let by = told_by(&told);
-    drop(told);
-    let shown = tells(rt, alloc, "show --checkpoint d", "", &mut disk).expect(rt, "memory");
+    let lines = told(rt, alloc, line, EMPTY.as_bytes(), &mut disk).expect(rt, "memory");
+    let by = told_by(&lines);
+    drop(lines);
+    let shown = told(rt, alloc, "show --checkpoint d", b"", &mut disk).expect(rt, "memory");
     drop(disk);
     let is_found = shown.starts_with(b"\0run ");
     drop(shown);
@@ -110,7 +110,7 @@ fn shows_its_end<R: Threads + Wait + Sync + Abort>(
     alloc: Global,
     disk: &mut MemoryDisk,
 ) -> bool {
-    let shown = tells(rt, alloc, "show --checkpoint d", "", disk).expect(rt, "memory");
+    let shown = told(rt, alloc, "show --checkpoint d", b"", disk).expect(rt, "memory");
     let is_ended = shown.starts_with(b"\0run 1\n") && shown.ends_with(b"\nnodes 0\n");
     drop(shown);
     is_ended
@@ -127,7 +127,7 @@ fn missed_where_it_fails<R: Threads + Wait + Sync + Abort>(
     call: u64,
 ) -> (bool, bool) {
     let mut disk = failing_disk(alloc, b"", &[call]).expect(rt, "memory");
-    let told = tells(rt, alloc, EVERY_ONE, KNAPSACK, &mut disk).expect(rt, "memory");
+    let told = told(rt, alloc, EVERY_ONE, KNAPSACK.as_bytes(), &mut disk).expect(rt, "memory");
     let is_missed = told.as_slice() == b"\0optimal 13\nA 2\nC 1\nmissed 1\n".as_slice();
     drop(told);
     let is_ended = shows_its_end(rt, alloc, &mut disk);
@@ -154,7 +154,7 @@ fn missed_save_of_a_snapshot_is_followed_by_the_last_save(rt: HostRuntime) {
 fn misses_two<R: Threads + Wait + Sync + Abort>(rt: &R, alloc: Global, call: u64) -> bool {
     let calls = [call, call.saturating_add(1)];
     let mut disk = failing_disk(alloc, b"", &calls).expect(rt, "memory");
-    let told = tells(rt, alloc, EVERY_ONE, KNAPSACK, &mut disk).expect(rt, "memory");
+    let told = told(rt, alloc, EVERY_ONE, KNAPSACK.as_bytes(), &mut disk).expect(rt, "memory");
     drop(disk);
     let are_missed = told.as_slice() == b"\0optimal 13\nA 2\nC 1\nmissed 2\n".as_slice();
     drop(told);

@@ -1,5 +1,4 @@
-//! Runs in processes over crews and links in memory. The notation of texts and lines is that of
-//! notation.rt.
+//! Runs in processes over crews and links in memory.
 
 ghost use Rattle.std.specs.Prelude.{IfOk, IfSome};
 ghost use Rattle.ug_cli.specs.Taken.{needs_of};
@@ -7,13 +6,13 @@ ghost use Rattle.ug_top.specs.Ends.{HasCrewFor};
 ghost use Rattle.ug_top.specs.Outside.{seen_if};
 ghost use Rattle.ug_serve.specs.WorkerCrews.{crew_seen};
 
-use crate::commands::{KNAPSACK, RUNS, is_open_or, shows_its_number, tells};
+use crate::commands::{
+    KNAPSACK, OPTIMUM, RUNS, is_open_or_solved, parts_of, shows_its_number, tells_so,
+};
 use crate::expect::{holds_at, same_at};
-use crate::notation::written;
 use crate::running::{
     NOBODY, Partners, behind, link_of, solvers_in, sound_disk, told_with, words_of,
 };
-use crate::texts::due;
 use std::alloc::{AllocError, Global};
 use std::mem;
 use std::process::Abort;
@@ -62,28 +61,35 @@ fn ran_by<'a, R: Threads + Wait + Sync>(
         Err(Usage::Memory) => return Err(AllocError),
         Err(_) => None,
     };
-    objects.crew = workers_of(host.alloc, plan, schedule)?;
-    objects.link = link_of(host.alloc, plan, NOBODY.link);
+    let Ok(crew) = workers_of(host.alloc, plan, schedule) else {
+        return Err(AllocError);
+    };
+    drop(mem::replace(&mut objects.crew, crew));
+    let link = link_of(host.alloc, plan, NOBODY.link);
+    drop(mem::replace(&mut objects.link, link));
     Ok(run(host, words, objects, out))
 }
 
-// The status of a run of the line over a text and a disk, with workers that are visited so, and
-// behind it what was written.
+// The status of a run of the line over the knapsack and a disk, with workers that are visited so,
+// and behind it what was written.
 fn told_by<R: Threads + Wait + Sync>(
     rt: &R,
-    (line, text): (&str, &[u8]),
     alloc: Global,
+    line: &str,
     schedule: &[Visit],
     disk: &mut MemoryDisk,
 ) -> Result<Vec<u8>, AllocError> {
     let words = words_of(alloc, line)?;
     let mut out = MemorySink::new(alloc, Script::new(Vec::new(alloc), 64));
     let mut objects = Objects {
-        input: MemorySource { rest: text },
-        disk: mem::replace(disk, sound_disk(alloc)),
+        input: MemorySource {
+            rest: KNAPSACK.as_bytes(),
+        },
+        disk: sound_disk(alloc),
         crew: None,
         link: None,
     };
+    mem::swap(disk, &mut objects.disk);
     let observer = &Unobserved;
     let host = Host {
         rt,
@@ -93,27 +99,13 @@ fn told_by<R: Threads + Wait + Sync>(
     let ran = ran_by(&host, &words, &mut objects, schedule, &mut out);
     drop(host);
     drop(words);
-    let Objects { disk: own, .. } = objects;
-    drop(mem::replace(disk, own));
+    mem::swap(disk, &mut objects.disk);
+    drop(objects);
     let told = match ran {
         Ok(ran) => behind(alloc, ran.status.code(), out.bytes()),
         Err(error) => Err(error),
     };
     drop(out);
-    told
-}
-
-// The same over a text in the notation.
-fn tells_by<R: Threads + Wait + Sync>(
-    rt: &R,
-    alloc: Global,
-    line: &str,
-    schedule: &[Visit],
-    disk: &mut MemoryDisk,
-) -> Result<Vec<u8>, AllocError> {
-    let text = written(alloc, KNAPSACK)?;
-    let told = told_by(rt, (line, text.as_slice()), alloc, schedule, disk);
-    drop(text);
     told
 }
 
@@ -162,19 +154,28 @@ const SOLVES: &[&str] = &[
     "solve f --mode processes --solvers 3 --low 1 --high 1 --checkpoint d --every 1",
 ];
 
+// Expects a run with workers that are visited so to tell the optimum.
+fn tells_the_optimum<R: Threads + Wait + Sync + Abort>(
+    rt: &R,
+    alloc: Global,
+    line: &str,
+    schedule: &[Visit],
+) {
+    let mut disk = sound_disk(alloc);
+    let told = told_by(rt, alloc, line, schedule, &mut disk).expect(rt, "memory");
+    drop(disk);
+    same_at(rt, &parts_of(&told), &(0, OPTIMUM), &line);
+    drop(told);
+}
+
 #[test]
 fn workers_find_the_optimum(rt: HostRuntime) {
     let alloc = rt.alloc();
     for line in SOLVES {
         for rows in SCHEDULES {
             let schedule = visits(alloc, rows, 50).expect(&rt, "memory");
-            let mut disk = sound_disk(alloc);
-            let told = tells_by(&rt, alloc, line, &schedule, &mut disk).expect(&rt, "memory");
-            let due = due(alloc, 0, &["optimal 13;A 2;C 1"]).expect(&rt, "memory");
-            same_at(&rt, &told, &due, line);
-            drop(told);
-            drop(due);
-            drop(disk);
+            tells_the_optimum(&rt, alloc, line, &schedule);
+            drop(schedule);
         }
     }
 }
@@ -190,11 +191,9 @@ fn goes_on_by<R: Threads + Wait + Sync + Abort>(
     let line = format!(in alloc; "{command} --mode processes --solvers 2 --checkpoint d").expect(
         rt, "memory",
     );
-    let told = tells_by(rt, alloc, line.as_str(), &[], disk).expect(rt, "memory");
-    let optimum = due(alloc, 0, &["optimal 13;A 2;C 1"]).expect(rt, "memory");
-    holds_at(rt, is_open_or(&told, &optimum, run), &line);
+    let told = told_by(rt, alloc, line.as_str(), &[], disk).expect(rt, "memory");
+    holds_at(rt, is_open_or_solved(&told, run), &line);
     drop(told);
-    drop(optimum);
     drop(line);
     shows_its_number(rt, alloc, disk, run, command);
 }
@@ -209,38 +208,41 @@ fn each_run_of_workers_has_the_next_number(rt: HostRuntime) {
     drop(disk);
 }
 
-// A solve whose only solver is gone before it says anything, the checkpoint that it leaves, and a run
-// in the other mode that goes on from there.
+// Its only solver is gone before it says anything.
+const GONE: &[Piece<'static>] = &[Piece {
+    rank: 0,
+    bytes: b"",
+}];
+
+// Expects a solve with that solver to be stranded.
+fn is_stranded<R: Threads + Wait + Sync + Abort>(
+    rt: &R,
+    alloc: Global,
+    line: &str,
+    disk: &mut MemoryDisk,
+) {
+    let partners = Partners {
+        crew: GONE,
+        link: &[],
+    };
+    let input = MemorySource {
+        rest: KNAPSACK.as_bytes(),
+    };
+    let told = told_with(rt, alloc, (line, partners), input, disk).expect(rt, "memory");
+    same_at(rt, &parts_of(&told), &(7, "stranded none 1"), &line);
+    drop(told);
+}
+
+// A run in the other mode goes on from the checkpoint that it leaves.
 #[test]
 fn run_without_solvers_is_stranded_and_goes_on(rt: HostRuntime) {
     let alloc = rt.alloc();
-    let text = written(alloc, KNAPSACK).expect(&rt, "memory");
     let mut disk = sound_disk(alloc);
-    let gone = [Piece {
-        rank: 0,
-        bytes: b"",
-    }];
-    let partners = Partners {
-        crew: &gone,
-        link: &[],
-    };
     let line = "solve f --mode processes --solvers 1 --checkpoint d";
-    let input = MemorySource {
-        rest: text.as_slice(),
-    };
-    let told = told_with(&rt, alloc, (line, partners), input, &mut disk).expect(&rt, "memory");
-    let stranded = due(alloc, 7, &["stranded none 1"]).expect(&rt, "memory");
-    same_at(&rt, &told, &stranded, &line);
-    drop(told);
-    drop(stranded);
+    is_stranded(&rt, alloc, line, &mut disk);
     shows_its_number(&rt, alloc, &mut disk, 0, line);
-    let line = "restart f --checkpoint d";
-    let told = tells(&rt, alloc, line, KNAPSACK, &mut disk).expect(&rt, "memory");
-    let optimum = due(alloc, 0, &["optimal 13;A 2;C 1"]).expect(&rt, "memory");
-    same_at(&rt, &told, &optimum, &line);
-    drop(told);
-    drop(optimum);
-    drop(text);
+    let goes_on = ("restart f --checkpoint d", KNAPSACK, 0, OPTIMUM);
+    tells_so(&rt, alloc, &mut disk, &goes_on);
     drop(disk);
 }
 
@@ -269,20 +271,24 @@ const LINKS: &[(&[&[u8]], u8)] = &[
     (&[&[0, 0, 0, 0]], 14),
 ];
 
+// Expects a worker over whose link these pieces come to end with this status.
+fn ends_so<R: Threads + Wait + Sync + Abort>(rt: &R, alloc: Global, pieces: &[&[u8]], status: u8) {
+    let mut disk = sound_disk(alloc);
+    let partners = Partners {
+        crew: &[],
+        link: pieces,
+    };
+    let words = ("worker --socket s", partners);
+    let input = MemorySource { rest: b"" };
+    let told = told_with(rt, alloc, words, input, &mut disk).expect(rt, "memory");
+    drop(disk);
+    same_at(rt, &told.as_slice(), &[status].as_slice(), &pieces);
+    drop(told);
+}
+
 #[test]
 fn workers_end_as_their_links_do(rt: HostRuntime) {
-    let alloc = rt.alloc();
     for (pieces, status) in LINKS {
-        let mut disk = sound_disk(alloc);
-        let partners = Partners {
-            crew: &[],
-            link: pieces,
-        };
-        let words = ("worker --socket s", partners);
-        let input = MemorySource { rest: b"" };
-        let told = told_with(&rt, alloc, words, input, &mut disk).expect(&rt, "memory");
-        same_at(&rt, &told.as_slice(), &[*status].as_slice(), pieces);
-        drop(told);
-        drop(disk);
+        ends_so(&rt, rt.alloc(), pieces, *status);
     }
 }

@@ -133,8 +133,12 @@ fn ran_with<'a, R: Threads + Wait + Sync, S: Source + Drop>(
         Err(Usage::Memory) => return Err(AllocError),
         Err(_) => None,
     };
-    objects.crew = crew_of(host.alloc, plan, partners.crew)?;
-    objects.link = link_of(host.alloc, plan, partners.link);
+    let Ok(crew) = crew_of(host.alloc, plan, partners.crew) else {
+        return Err(AllocError);
+    };
+    drop(mem::replace(&mut objects.crew, crew));
+    let link = link_of(host.alloc, plan, partners.link);
+    drop(mem::replace(&mut objects.link, link));
     Ok(run(host, words, objects, out))
 }
 
@@ -170,10 +174,11 @@ pub fn told_with<R: Threads + Wait + Sync, S: Source + Drop>(
     let mut out = MemorySink::new(alloc, Script::new(Vec::new(alloc), 64));
     let mut objects = Objects {
         input,
-        disk: mem::replace(disk, sound_disk(alloc)),
+        disk: sound_disk(alloc),
         crew: None,
         link: None,
     };
+    mem::swap(disk, &mut objects.disk);
     let observer = &Unobserved;
     let host = Host {
         rt,
@@ -183,8 +188,8 @@ pub fn told_with<R: Threads + Wait + Sync, S: Source + Drop>(
     let ran = ran_with(&host, &words, &mut objects, partners, &mut out);
     drop(host);
     drop(words);
-    let Objects { disk: own, .. } = objects;
-    drop(mem::replace(disk, own));
+    mem::swap(disk, &mut objects.disk);
+    drop(objects);
     let told = match ran {
         Ok(ran) => behind(alloc, ran.status.code(), out.bytes()),
         Err(error) => Err(error),
