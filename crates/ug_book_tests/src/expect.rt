@@ -12,6 +12,13 @@ pub fn same<T: PartialEq + Debug>(rt: &impl Abort, found: &T, wanted: &T)
     assert_eq!(rt; *found, *wanted);
 }
 
+/// As `same`, and names the case.
+pub fn same_at<T: PartialEq + Debug>(rt: &impl Abort, found: &T, wanted: &T, case: &impl Debug)
+    ensures { T.eq found.now wanted.now ≡ true }
+{
+    assert_eq!(rt; *found, *wanted, "{case:?}");
+}
+
 /// Expects a condition to be true: ends the program where it is not.
 pub fn holds(rt: &impl Abort, condition: bool)
     ensures { condition ≡ true }

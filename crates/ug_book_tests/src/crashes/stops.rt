@@ -2,9 +2,9 @@ ghost use Rattle.std.specs.Prelude.{Some, IfSome};
 ghost use Rattle.ug_disk.specs.Memories.{history_of};
 ghost use Rattle.ug_checkpoint.specs.Savers.{IsKept};
 
+use crate::crashes::savers::{opened, save_bytes};
+use crate::crashes::slots::{disk_with, nothing, settings, slot_of};
 use crate::expect::{holds, holds_at, same};
-use crate::savers::{opened, save_bytes};
-use crate::slots::{disk_with, nothing, settings, slot_of};
 use std::alloc::Global;
 use ug_checkpoint::{Saver, load};
 use ug_disk::{MemoryDisk, Slot};

@@ -1,5 +1,5 @@
+use crate::crashes::slots::disk_with;
 use crate::expect::holds_at;
-use crate::slots::disk_with;
 use std::alloc::Global;
 use ug_checkpoint::{LoadError, load};
 use ug_disk::Slot;

@@ -2,9 +2,9 @@ ghost use Rattle.std.specs.Prelude.{◌≡◌, Some, Ok, IfOk, IsErr, OnErr};
 ghost use Rattle.ug_disk.specs.Memories.{history_of};
 ghost use Rattle.ug_checkpoint.specs.Savers.{IsKept};
 
+use crate::crashes::savers::{opened, save_bytes};
+use crate::crashes::slots::{disk_of, script_of, slot_of};
 use crate::expect::{holds_at, same_at};
-use crate::savers::{opened, save_bytes};
-use crate::slots::{disk_of, script_of, slot_of};
 use std::alloc::{AllocError, Global};
 use std::io;
 use std::io::ErrorKind;

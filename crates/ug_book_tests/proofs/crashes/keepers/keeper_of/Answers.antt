@@ -1,6 +1,6 @@
 use Rattle.std.proofs.Common.{Some}
 use Rattle.ug_disk.specs.Memories.{history_of}
-use Rattle.ug_crash_tests.proofs.keepers.keeper_of.Goals as goal
+use Rattle.ug_book_tests.proofs.crashes.keepers.keeper_of.Goals as goal
 
 pub keep-requires-clause-knows : goal.keep-requires-clause-knows
 keep-requires-clause-knows c =

@@ -3,9 +3,9 @@ ghost use Rattle.ug_disk.specs.Memories.{history_of};
 ghost use Rattle.ug_checkpoint.specs.Runs.{AreSynced};
 ghost use Rattle.ug_checkpoint.specs.Keepers.{Knows};
 
+use crate::crashes::slots::disk_with;
+use crate::crashes::stops::{FILLS, Range, crash};
 use crate::expect::same;
-use crate::slots::disk_with;
-use crate::stops::{FILLS, Range, crash};
 use std::alloc::{AllocError, Global};
 use std::process::Abort;
 use ug_checkpoint::{Keeper, Pieces, read_both};

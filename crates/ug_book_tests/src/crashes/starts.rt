@@ -2,9 +2,9 @@ ghost use Rattle.std.specs.Prelude.{Some, IfSome};
 ghost use Rattle.ug_disk.specs.Memories.{history_of};
 ghost use Rattle.ug_checkpoint.specs.Savers.{IsKept};
 
+use crate::crashes::savers::save;
+use crate::crashes::slots::{disk_with, nothing, settings, slot_of};
 use crate::expect::{holds, holds_at};
-use crate::savers::save;
-use crate::slots::{disk_with, nothing, settings, slot_of};
 use std::alloc::{AllocError, Global};
 use ug_book::Book;
 use ug_checkpoint::{SaveError, Saver};

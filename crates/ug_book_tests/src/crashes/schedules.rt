@@ -3,8 +3,8 @@ ghost use Rattle.ug_disk.specs.Memories.{history_of};
 ghost use Rattle.ug_checkpoint.specs.Savers.{IsKept};
 ghost use Rattle.ug_world.specs.DiskEvents.{IsDiskEvent};
 
+use crate::crashes::slots::{disk_with, nothing, settings, slot_of};
 use crate::expect::{holds, holds_at, same_at};
-use crate::slots::{disk_with, nothing, settings, slot_of};
 use std::alloc::Global;
 use ug_book::{Answered, Book};
 use ug_checkpoint::Saver;

@@ -2,27 +2,12 @@ ghost use Rattle.std.specs.Prelude.{Some};
 ghost use Rattle.ug_disk.specs.Memories.{history_of};
 ghost use Rattle.ug_checkpoint.specs.Savers.{IsKept};
 
+use crate::crashes::savers::{opened, save_bytes};
+use crate::crashes::slots::{disk_of, script_of, slot_of};
 use crate::expect::{holds, same};
-use crate::savers::{opened, save_bytes};
-use crate::slots::{disk_of, script_of};
 use std::alloc::{AllocError, Global};
 use ug_checkpoint::{LoadError, SaveError, Saver, load};
 use ug_disk::{MemoryDisk, Slot};
-
-// A slot with the image of a run of a problem that has neither columns nor rows: the gate, 104
-// bytes, version 3, run 1, the sequence, a record of 30 bytes, no best point, no deliveries, gap 0,
-// and one node, whose name is of ticket 0 and hand 0, without changes.
-fn slot_of(sequence: u8) -> [u8; 113] {
-    let mut slot = [0u8; 113];
-    slot[0] = 1;
-    slot[8] = 104;
-    slot[9] = 3;
-    slot[17] = 1;
-    slot[25] = sequence;
-    slot[29] = 30;
-    slot[92] = 1;
-    slot
-}
 
 // Which slot and which sequence a load finds.
 type Answer = Result<Option<(Slot, u64)>, LoadError>;
@@ -36,9 +21,9 @@ fn answer_of(alloc: Global, disk: &mut MemoryDisk) -> Answer {
     Ok(Some(answer))
 }
 
-// The same with another byte at a place.
+// The slot of run 1 and a sequence with another byte at a place.
 fn changed(sequence: u8, at: usize, byte: u8) -> [u8; 113] {
-    let mut slot = slot_of(sequence);
+    let mut slot = slot_of(1, sequence, 0);
     if at < 113 {
         slot[at] = byte;
     }
@@ -122,7 +107,7 @@ fn saved(
     requires { IsKept saver.old (Some (history_of disk.old)) }
     ensures { IsKept saver.new (Some (history_of disk.new)) }
 {
-    save_bytes(alloc, disk, saver, &slot_of(sequence)[9..])
+    save_bytes(alloc, disk, saver, &slot_of(1, sequence, 0)[9..])
 }
 
 // Whether a save whose gate could not be opened is none.
@@ -135,8 +120,8 @@ fn fails_at_first(alloc: Global, disk: &mut MemoryDisk, saver: &mut Saver) -> bo
 
 // Whether the slots have the images of the first two sequences.
 fn has_both(disk: &MemoryDisk) -> bool {
-    disk.bytes(Slot::Zero) == slot_of(1).as_slice()
-        && disk.bytes(Slot::One) == slot_of(2).as_slice()
+    disk.bytes(Slot::Zero) == slot_of(1, 1, 0).as_slice()
+        && disk.bytes(Slot::One) == slot_of(1, 2, 0).as_slice()
 }
 
 // Whether two saves of a disk behind that one go to the slots in turn.
@@ -156,7 +141,7 @@ fn goes_to_the_first(alloc: Global, disk: &mut MemoryDisk, saver: &mut Saver) ->
 {
     saver.sequence() == 2
         && saved(alloc, disk, saver, 3) == Ok(())
-        && disk.bytes(Slot::Zero) == slot_of(3).as_slice()
+        && disk.bytes(Slot::Zero) == slot_of(1, 3, 0).as_slice()
         && answer_of(alloc, disk) == Ok(Some((Slot::Zero, 3)))
 }
 

@@ -1,8 +1,8 @@
 ghost use Rattle.std.specs.Prelude.{◌≤◌, length};
 ghost use Rattle.ug_disk.specs.Histories.{Reads};
 
+use crate::crashes::slots::{disk_of, script_of};
 use crate::expect::{holds, holds_at, same};
-use crate::slots::{disk_of, script_of};
 use std::alloc::{AllocError, Global};
 use std::process::Abort;
 use ug_disk::{Disk, MemoryDisk, NotAllowed, Slot, read_all, write_synced};
