@@ -1,9 +1,8 @@
 //! Tests of the book, of the small crates that it is made of, of the desk, and of what is saved.
 //! They stand apart from the crates that they test, from ug_nodes to ug_book, ug_world and ug_desk,
 //! and from ug_disk to ug_restart and ug_real. Each call on its usual path, the cases that rules are
-//! easily misread in, long schedules against replies that were worked out elsewhere, many threads on
-//! one desk, and disks that stop anywhere. Nothing here is proved but that the tests are safe and
-//! end, and that a folder in memory keeps the contract of one.
+//! easily misread in, many threads on one desk, and disks that stop anywhere. Nothing here is proved
+//! but that the tests are safe and end, and that a folder in memory keeps the contract of one.
 #![tactic(auto)]
 
 #[cfg(test)]
@@ -19,11 +18,7 @@ mod expect;
 #[cfg(test)]
 mod frames;
 #[cfg(test)]
-mod giving;
-#[cfg(test)]
 mod incumbent;
-#[cfg(test)]
-mod notices;
 #[cfg(test)]
 mod orders;
 #[cfg(test)]
@@ -33,13 +28,9 @@ mod primitives;
 #[cfg(test)]
 mod problems;
 #[cfg(test)]
-mod races;
-#[cfg(test)]
 mod ramp;
 #[cfg(test)]
 mod ranks;
-#[cfg(test)]
-mod schedules;
 #[cfg(test)]
 mod worked;
 #[cfg(test)]

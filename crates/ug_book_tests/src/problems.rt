@@ -21,23 +21,6 @@ BOUNDS
 ENDATA
 ";
 
-const CUBE: &[u8] = b"ROWS
- N Z
- G r
-COLUMNS
- M 'MARKER' 'INTORG'
- x Z 1 r 1
- y Z 1 r 1
- z Z 1 r 1
-RHS
- r 5
-BOUNDS
- UP x 3
- UP y 3
- UP z 3
-ENDATA
-";
-
 const LINE: &[u8] = b"ROWS
  N Z
 COLUMNS
@@ -52,11 +35,6 @@ ENDATA
 /// The problem of the square.
 pub fn square(alloc: Global) -> Result<Problem, MpsError> {
     read(alloc, SQUARE, None)
-}
-
-/// Three columns from 0 to 3, whose sum is at least 5 and minimised.
-pub fn cube(alloc: Global) -> Result<Problem, MpsError> {
-    read(alloc, CUBE, None)
 }
 
 /// One column from 2 to 9, which is minimised.

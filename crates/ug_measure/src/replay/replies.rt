@@ -1,7 +1,7 @@
 ghost use Rattle.std.specs.Prelude.{◌<◌, length, IfSome};
 
 use crate::replay::reports::report;
-use crate::replay::spelling::{push_answer, push_heard, push_holds, push_orders};
+use crate::replay::spelling::{push_answer, push_heard, push_holds, push_left, push_orders};
 use crate::replay::words::{small, word};
 use std::alloc::Global;
 use ug_book::Book;
@@ -42,12 +42,23 @@ fn decide(alloc: Global, text: &mut String, book: &mut Book) -> Option<()> {
     push_orders(alloc, text, book).ok()
 }
 
+// Decides, and looks at no order.
+fn settle(book: &mut Book) -> Option<()> {
+    book.decide().ok()?;
+    while let Some(told) = book.next_order() {
+        drop(told);
+    }
+    Some(())
+}
+
 // Adds what the book replies to these words, which may be nothing.
 fn push_reply(alloc: Global, text: &mut String, book: &mut Book, words: &[&str]) -> Option<()> {
     match word(words, 0) {
         "join" => join(book, words),
         "gone" => gone(book, words),
         "decide" => decide(alloc, text, book),
+        "settle" => settle(book),
+        "left" => push_left(alloc, text, book).ok(),
         "hear" => hear(alloc, text, book, words),
         "answer" => push_answer(alloc, text, book).ok(),
         _ => None,

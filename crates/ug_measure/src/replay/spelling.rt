@@ -233,6 +233,15 @@ fn push_best(alloc: Global, text: &mut String, book: &Book) -> Result<(), AllocE
     }
 }
 
+/// Adds how many nodes a book holds, and its best point.
+pub fn push_left(alloc: Global, text: &mut String, book: &Book) -> Result<(), AllocError> {
+    let nodes = book.held()?;
+    let count = nodes.len();
+    drop(nodes);
+    push(text, format!(in alloc; "held {count}"))?;
+    push_best(alloc, text, book)
+}
+
 /// Adds what a book holds, in the words of the model.
 pub fn push_holds(alloc: Global, text: &mut String, book: &Book) -> Result<(), AllocError> {
     push_held(alloc, text, book)?;

@@ -46,6 +46,24 @@ BOUNDS
 ENDATA
 ";
 
+// The least X + Y + W of at least 5.
+const THREE: &str = r"ROWS
+ N Z
+ G P
+COLUMNS
+ M 'MARKER' 'INTORG'
+ X Z 1 P 1
+ Y Z 1 P 1
+ W Z 1 P 1
+RHS
+ S P 5
+BOUNDS
+ UP B X 3
+ UP B Y 3
+ UP B W 3
+ENDATA
+";
+
 // The settings of a schedule's first line.
 fn settings(words: &[&str]) -> Option<Settings>
     ensures { IfSome result AreSettings }
@@ -61,7 +79,11 @@ fn settings(words: &[&str]) -> Option<Settings>
     Some(Settings {
         solvers,
         racing: word(words, 6) == "1",
-        base: Base::Bound,
+        base: if word(words, 16) == "surrogate" {
+            Base::Surrogate
+        } else {
+            Base::Bound
+        },
         low,
         high,
         every: 1,
@@ -72,7 +94,11 @@ fn settings(words: &[&str]) -> Option<Settings>
 }
 
 fn problem(alloc: Global, name: &str) -> Option<Shared> {
-    let text = if name == "SQUARE" { SQUARE } else { CUBE };
+    let text = match name {
+        "SQUARE" => SQUARE,
+        "THREE" => THREE,
+        _ => CUBE,
+    };
     let problem = read(alloc, text.as_bytes(), None).ok()?;
     Some(Shared::own(problem))
 }
