@@ -114,10 +114,11 @@ fn is_no_frame<M: Side>(alloc: Global, text: &str) -> bool {
     is_so
 }
 
-/// Expects each text to be a frame of no message, by what is wrong with it.
-pub fn each_is_no_frame<M: Side>(rt: &impl Abort, alloc: Global, cases: &[(&str, &str)]) {
-    for (why, text) in cases {
-        holds_at(rt, is_no_frame::<M>(alloc, text), why);
+/// Expects each line to have a frame of no message, behind what is wrong with it.
+pub fn each_is_no_frame<M: Side>(rt: &impl Abort, alloc: Global, lines: &str) {
+    for line in lines.lines() {
+        let (_, text) = line.split_once(": ").unwrap_or(("", ""));
+        holds_at(rt, is_no_frame::<M>(alloc, text), &line);
     }
 }
 
