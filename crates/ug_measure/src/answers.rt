@@ -25,6 +25,18 @@ impl Answers {
         }
     }
 
+    /// Each number with its word.
+    pub fn lines(&self) -> [(&'static str, u64); 6] {
+        [
+            ("kept", self.kept),
+            ("stale", self.stale),
+            ("other", self.other),
+            ("deaths", self.deaths),
+            ("decisions", self.decisions),
+            ("books", self.books),
+        ]
+    }
+
     pub fn count(&mut self, answer: Heard) {
         match answer {
             Heard::Kept => self.kept = self.kept.wrapping_add(1),

@@ -22,6 +22,17 @@ pub struct Replies {
     pub snapshots: u64,
 }
 
+impl Replies {
+    /// Each number with its word.
+    pub fn lines(&self) -> [(&'static str, u64); 3] {
+        [
+            ("going", self.going),
+            ("other", self.other),
+            ("snapshots", self.snapshots),
+        ]
+    }
+}
+
 /// Takes the root of a desk and tells so often what is left of it; each thousandth time a snapshot
 /// is made too.
 pub fn call_desk<R: Wait>(rt: &R, alloc: Global, calls: u64) -> Result<Replies, AllocError> {

@@ -27,7 +27,9 @@ struct Crew {
 /// Drives books through so many messages.
 pub fn drive(alloc: Global, count: u64) -> Result<Answers, AllocError> {
     let problem = problem(alloc)?;
-    drive_with(alloc, &problem, count)
+    let answers = drive_with(alloc, &problem, count);
+    drop(problem);
+    answers
 }
 
 fn drive_with(alloc: Global, problem: &Shared, count: u64) -> Result<Answers, AllocError> {

@@ -21,12 +21,11 @@ mod serving;
 mod start;
 mod steps;
 
-use crate::answers::Answers;
-use crate::calls::{Replies, call_desk};
+use crate::calls::call_desk;
 use crate::driver::drive;
 use crate::frames::{Way, frame_often};
 use crate::replay::replay;
-use crate::saving::{Size, Stage, save_nodes};
+use crate::saving::{Stage, save_nodes};
 use crate::serving::{Telling, serve_file};
 use crate::steps::{Searched, search_file};
 use std::alloc::AllocError;
@@ -113,46 +112,11 @@ fn task_of(what: &str, count: &str) -> Option<Task> {
     Some(Task::Save { nodes, stage })
 }
 
-// What became of a book's messages.
-fn print_answers<R: Print>(rt: &R, answers: &Answers) {
-    let Answers {
-        kept,
-        stale,
-        other,
-        deaths,
-        decisions,
-        books,
-    } = answers;
-    let _ = println!(rt; "kept {kept}");
-    let _ = println!(rt; "stale {stale}");
-    let _ = println!(rt; "other {other}");
-    let _ = println!(rt; "deaths {deaths}");
-    let _ = println!(rt; "decisions {decisions}");
-    let _ = println!(rt; "books {books}");
-}
-
-// What was saved.
-fn print_size<R: Print>(rt: &R, size: &Size) {
-    let Size {
-        nodes,
-        bytes,
-        loaded,
-    } = size;
-    let _ = println!(rt; "nodes {nodes}");
-    let _ = println!(rt; "bytes {bytes}");
-    let _ = println!(rt; "loaded {loaded}");
-}
-
-// What a desk replied.
-fn print_replies<R: Print>(rt: &R, replies: &Replies) {
-    let Replies {
-        going,
-        other,
-        snapshots,
-    } = replies;
-    let _ = println!(rt; "going {going}");
-    let _ = println!(rt; "other {other}");
-    let _ = println!(rt; "snapshots {snapshots}");
+// A line for each number, with its word.
+fn print_all<R: Print>(rt: &R, lines: &[(&str, u64)]) {
+    for (word, number) in lines {
+        let _ = println!(rt; "{word} {number}");
+    }
 }
 
 // What a worker told of a whole problem; first the answer, as the program prints it.
@@ -165,29 +129,33 @@ fn print_telling<R: Print>(rt: &R, telling: &Telling) {
         Some(value) => println!(rt; "optimal {value}"),
         None => println!(rt; "infeasible"),
     };
-    let reports = telling.reports;
-    let _ = println!(rt; "reports {reports}");
+    print_all(rt, &[("reports", telling.reports)]);
 }
 
-// How much was written or read of frames.
-fn print_frames<R: Print>(rt: &R, way: Way, much: u64) {
-    let _ = match way {
-        Way::Encode => println!(rt; "bytes {much}"),
-        Way::Decode => println!(rt; "changes {much}"),
-    };
+// The word of how much was written or read of frames.
+fn word_of(way: Way) -> &'static str {
+    match way {
+        Way::Encode => "bytes",
+        Way::Decode => "changes",
+    }
 }
 
 // Measures what is wanted. Want of memory is the one error.
 fn measure<R: Print + AllocGlobal + Wait>(rt: &R, task: Task) -> Result<(), AllocError> {
     match task {
-        Task::Book { messages } => print_answers(rt, &drive(rt.alloc(), messages)?),
-        Task::Save { nodes, stage } => print_size(rt, &save_nodes(rt.alloc(), nodes, stage)?),
-        Task::Desk { calls } => print_replies(rt, &call_desk(rt, rt.alloc(), calls)?),
+        Task::Book { messages } => print_all(rt, &drive(rt.alloc(), messages)?.lines()),
+        Task::Save { nodes, stage } => {
+            print_all(rt, &save_nodes(rt.alloc(), nodes, stage)?.lines());
+        }
+        Task::Desk { calls } => print_all(rt, &call_desk(rt, rt.alloc(), calls)?.lines()),
         Task::Frames {
             way,
             changes,
             times,
-        } => print_frames(rt, way, frame_often(rt.alloc(), changes, way, times)?),
+        } => {
+            let much = frame_often(rt.alloc(), changes, way, times)?;
+            print_all(rt, &[(word_of(way), much)]);
+        }
     }
     Ok(())
 }

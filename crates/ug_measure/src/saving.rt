@@ -36,6 +36,17 @@ pub struct Size {
     pub loaded: usize,
 }
 
+impl Size {
+    /// Each number with its word.
+    pub fn lines(&self) -> [(&'static str, u64); 3] {
+        [
+            ("nodes", self.nodes as u64),
+            ("bytes", self.bytes),
+            ("loaded", self.loaded as u64),
+        ]
+    }
+}
+
 /// Saves the image of a book of so many nodes, each of ten changes, and loads it.
 pub fn save_nodes(alloc: Global, count: u32, stage: Stage) -> Result<Size, AllocError> {
     let image = image(alloc, count)?;

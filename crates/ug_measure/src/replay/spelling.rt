@@ -1,7 +1,7 @@
 use std::alloc::{AllocError, Global};
 use ug_book::{Answered, Book};
 use ug_frames::Order;
-use ug_nodes::{Change, Changes, Node, Ticket};
+use ug_nodes::{Change, Changes, Name, Node, Ticket};
 use ug_problem::Broken;
 use ug_rows::Point;
 use ug_rules::{Heard, Told};
@@ -50,8 +50,10 @@ fn push_unbacked(
     cutoff: i128,
     incumbent: Option<i128>,
 ) -> Result<(), AllocError> {
-    push(text, format!(in alloc; "Unbacked {cutoff} "))?;
-    push_optional(alloc, text, incumbent)
+    match incumbent {
+        Some(incumbent) => push(text, format!(in alloc; "Unbacked {cutoff} {incumbent}")),
+        None => push(text, format!(in alloc; "Unbacked {cutoff} none")),
+    }
 }
 
 /// Adds what an answer is in the words of the model.
@@ -76,24 +78,16 @@ pub fn push_heard(alloc: Global, text: &mut String, answer: Heard) -> Result<(),
     }
 }
 
-fn push_ticket(alloc: Global, text: &mut String, ticket: Ticket) -> Result<(), AllocError> {
-    let Ticket { run, number } = ticket;
-    push(text, format!(in alloc; "{run}.{number}"))
-}
-
-fn push_change(alloc: Global, text: &mut String, change: Change) -> Result<(), AllocError> {
-    let Change { column, low, high } = change;
-    push(text, format!(in alloc; "{column}={low}..{high}"))
-}
-
+// Each change behind a comma, but for the first.
 fn push_changes(alloc: Global, text: &mut String, changes: &Changes) -> Result<(), AllocError> {
-    let changes = changes.as_slice();
-    if changes.is_empty() {
-        return text.push_str("[]");
+    let mut joint = "";
+    for change in changes.as_slice() {
+        let Change { column, low, high } = *change;
+        push(text, format!(in alloc; "{joint}{column}={low}..{high}"))?;
+        joint = ",";
     }
-    for (at, change) in changes.iter().enumerate() {
-        text.push_str(if at == 0 { "" } else { "," })?;
-        push_change(alloc, text, *change)?;
+    if joint.is_empty() {
+        return text.push_str("[]");
     }
     Ok(())
 }
@@ -105,9 +99,8 @@ fn push_ticketed(
     word: &str,
     ticket: Ticket,
 ) -> Result<(), AllocError> {
-    text.push_str(word)?;
-    text.push_str(" ")?;
-    push_ticket(alloc, text, ticket)
+    let Ticket { run, number } = ticket;
+    push(text, format!(in alloc; "{word} {run}.{number}"))
 }
 
 fn push_collect(
@@ -116,8 +109,8 @@ fn push_collect(
     ticket: Ticket,
     count: u32,
 ) -> Result<(), AllocError> {
-    push_ticketed(alloc, text, "CollectIn", ticket)?;
-    push(text, format!(in alloc; " {count}"))
+    let Ticket { run, number } = ticket;
+    push(text, format!(in alloc; "CollectIn {run}.{number} {count}"))
 }
 
 fn push_work(
@@ -127,9 +120,12 @@ fn push_work(
     params: u8,
     race: bool,
 ) -> Result<(), AllocError> {
-    push_ticketed(alloc, text, "Work", ticket)?;
+    let Ticket { run, number } = ticket;
     let race = u8::from(race);
-    push(text, format!(in alloc; " {params} {race} "))
+    push(
+        text,
+        format!(in alloc; "Work {run}.{number} {params} {race} "),
+    )
 }
 
 // The cutoff of a box, and its changes.
@@ -189,19 +185,18 @@ pub fn push_orders(alloc: Global, text: &mut String, book: &mut Book) -> Result<
 // The own names of the nodes.
 fn push_names(alloc: Global, text: &mut String, nodes: &[&Node]) -> Result<(), AllocError> {
     for node in nodes {
-        let name = node.line.name();
-        let hand = name.hand;
-        text.push_str(" ")?;
-        push_ticket(alloc, text, name.ticket)?;
-        push(text, format!(in alloc; "/{hand}"))?;
+        let Name { ticket, hand } = node.line.name();
+        let Ticket { run, number } = ticket;
+        push(text, format!(in alloc; " {run}.{number}/{hand}"))?;
     }
     Ok(())
 }
 
 fn push_point(alloc: Global, text: &mut String, point: &Point) -> Result<(), AllocError> {
-    for (at, value) in point.as_slice().iter().enumerate() {
-        text.push_str(if at == 0 { "(" } else { ", " })?;
-        push(text, format!(in alloc; "{value}"))?;
+    let mut joint = "(";
+    for value in point.as_slice() {
+        push(text, format!(in alloc; "{joint}{value}"))?;
+        joint = ", ";
     }
     text.push_str(")")
 }
