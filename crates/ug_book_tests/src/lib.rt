@@ -18,10 +18,6 @@ mod expect;
 #[cfg(test)]
 mod frames;
 #[cfg(test)]
-mod incumbent;
-#[cfg(test)]
-mod orders;
-#[cfg(test)]
 mod pools;
 #[cfg(test)]
 mod primitives;
@@ -29,8 +25,6 @@ mod primitives;
 mod problems;
 #[cfg(test)]
 mod ramp;
-#[cfg(test)]
-mod ranks;
 #[cfg(test)]
 mod worked;
 #[cfg(test)]

@@ -64,6 +64,18 @@ BOUNDS
 ENDATA
 ";
 
+// The least X from 2 to 9.
+const LINE: &str = r"ROWS
+ N Z
+COLUMNS
+ M 'MARKER' 'INTORG'
+ X Z 1
+BOUNDS
+ LO B X 2
+ UP B X 9
+ENDATA
+";
+
 // The settings of a schedule's first line.
 fn settings(words: &[&str]) -> Option<Settings>
     ensures { IfSome result AreSettings }
@@ -97,6 +109,7 @@ fn problem(alloc: Global, name: &str) -> Option<Shared> {
     let text = match name {
         "SQUARE" => SQUARE,
         "THREE" => THREE,
+        "LINE" => LINE,
         _ => CUBE,
     };
     let problem = read(alloc, text.as_bytes(), None).ok()?;
