@@ -6,12 +6,10 @@ ghost use Rattle.ug_top.specs.Ends.{HasCrewFor};
 ghost use Rattle.ug_top.specs.Outside.{seen_if};
 ghost use Rattle.ug_serve.specs.WorkerCrews.{crew_seen};
 
-use crate::commands::{
-    KNAPSACK, OPTIMUM, RUNS, is_open_or_solved, parts_of, shows_its_number, tells_so,
-};
+use crate::commands::{KNAPSACK, OPTIMUM, RUNS, is_open_or_solved, parts_of, shows_its_number};
 use crate::expect::{holds_at, same_at};
 use crate::running::{
-    NOBODY, Partners, behind, link_of, solvers_in, sound_disk, told_with, words_of,
+    NOBODY, Partners, behind, link_of, solvers_in, sound_disk, told, told_with, words_of,
 };
 use std::alloc::{AllocError, Global};
 use std::mem;
@@ -241,8 +239,10 @@ fn run_without_solvers_is_stranded_and_goes_on(rt: HostRuntime) {
     let line = "solve f --mode processes --solvers 1 --checkpoint d";
     is_stranded(&rt, alloc, line, &mut disk);
     shows_its_number(&rt, alloc, &mut disk, 0, line);
-    let goes_on = ("restart f --checkpoint d", KNAPSACK, 0, OPTIMUM);
-    tells_so(&rt, alloc, &mut disk, &goes_on);
+    let line = "restart f --checkpoint d";
+    let told = told(&rt, alloc, line, KNAPSACK.as_bytes(), &mut disk).expect(&rt, "memory");
+    same_at(&rt, &parts_of(&told), &(0, OPTIMUM), &line);
+    drop(told);
     drop(disk);
 }
 
