@@ -2,6 +2,7 @@
 //! replayed by ug_measure, whose stored output has the replies of a model.
 
 ghost use Rattle.std.specs.Prelude.{◌≡◌, length, All, IfSome};
+ghost use Rattle.ug_rules.specs.Hearing.{IsHearable};
 ghost use Rattle.ug_world.specs.Events.{IsEvent};
 
 use crate::expect::holds_at;
@@ -37,26 +38,36 @@ fn begin(alloc: Global) -> Option<Book> {
 }
 
 // The point (0, 5), found under the first ticket.
-fn solution(alloc: Global) -> Option<Event>
-    ensures { IfSome result (λ event. (ranks : _) → IsEvent ranks event) }
+fn solution(alloc: Global) -> Option<Report>
+    ensures { IfSome result IsHearable }
 {
     let ticket = Ticket { run: 1, number: 1 };
     let point = Point::from_vec(Vec::from_slice(alloc, &[0, 5]).ok()?);
-    let report = Report::Solution { ticket, point };
-    Some(Event::Send { report })
+    Some(Report::Solution { ticket, point })
 }
 
 // The end of the first ticket below 5.
-fn done() -> Event
-    ensures { (ranks : _) → IsEvent ranks result }
+fn done() -> Report
+    ensures { IsHearable result }
 {
-    let report = Report::Done {
+    Report::Done {
         ticket: Ticket { run: 1, number: 1 },
         cutoff: Some(5),
         count: 0,
         end: Ending::Plain,
-    };
-    Event::Send { report }
+    }
+}
+
+// The report that a letter stands for.
+fn report_of(alloc: Global, letter: u8) -> Option<Report>
+    ensures { IfSome result IsHearable }
+{
+    match letter {
+        b'r' => Some(Report::Ready),
+        b'e' => Some(Report::Ended),
+        b's' => solution(alloc),
+        _ => Some(done()),
+    }
 }
 
 // What a letter of a schedule stands for; a digit hears the report that was sent as that one.
@@ -66,20 +77,15 @@ fn event_of(alloc: Global, letter: u8, ranks: u32) -> Option<Event>
     match letter {
         b'd' => Some(Event::Decide),
         b't' => Some(Event::Tell),
-        b'r' => Some(Event::Send {
-            report: Report::Ready,
+        b'r' | b'e' | b's' | b'f' => Some(Event::Send {
+            report: report_of(alloc, letter)?,
         }),
-        b'e' => Some(Event::Send {
-            report: Report::Ended,
-        }),
-        b's' => solution(alloc),
-        b'f' => Some(done()),
-        _ if ranks == 0 => None,
-        b'j' => Some(Event::Join { rank: 0 }),
-        _ => Some(Event::Hear {
-            place: usize::from(letter.saturating_sub(b'0')),
+        b'j' if 0 < ranks => Some(Event::Join { rank: 0 }),
+        b'0'..=b'9' if 0 < ranks => Some(Event::Hear {
+            place: usize::from(letter - b'0'),
             rank: 0,
         }),
+        _ => None,
     }
 }
 
