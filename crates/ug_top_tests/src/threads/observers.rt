@@ -29,12 +29,12 @@ pub fn each_waits() -> [Hold; 2] {
     [first, second]
 }
 
-/// As `each_waits`; and rank 0 tells for the second time what is left only once rank 1 has asked again,
-/// by when it is known that rank 0 has nodes to hand.
+/// As `each_waits`; and rank 0 calls for the twelfth time only once rank 1 has asked again, by when
+/// rank 0 has told often enough that it has nodes to hand.
 pub fn one_asks_again() -> [Hold; 3] {
     let [first, second] = each_waits();
     let third = Hold {
-        at: coming(0, Moment::Asking, 3),
+        at: coming(0, Moment::Asking, 12),
         until: coming(1, Moment::Answered, 2),
         turns: second.turns,
     };
