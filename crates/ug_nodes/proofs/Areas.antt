@@ -5,7 +5,7 @@ use Rattle.ug_rows.specs.declared.area.Interval.{Interval}
 use Rattle.ug_rows.specs.Boxes.{IsBelow, IsNarrower, interval_at, no_interval}
 use Rattle.ug_rows.proofs.AreaLemmas.{narrower_same, narrower_within}
 use Rattle.ug_nodes.specs.declared.change.Change.{Change}
-use Rattle.ug_nodes.specs.Changes.{IsRising, IsListed, AreChangesOf, Spells, area_by, change_at, change_bounds, no_change}
+use Rattle.ug_nodes.specs.Changes.{IsRising, IsListed, IsDifference, AreChangesOf, AreThere, Spells, Tell, area_by, change_at, change_bounds, no_change}
 use Rattle.ug_nodes.proofs.Lists.{never_bad, listed_or_not, one_box, rising_rest, later}
 
 -- the box is as wide as the root's
@@ -46,18 +46,27 @@ area_by_changed root (c ∷ cs) (suc k) rising h there =
     area_by_changed (set root c.column (change_bounds c)) cs k (rising_rest c cs rising) (omega arith)
     (subst (λ n. (change_at cs k).column < n) (sym (length-set root c.column (change_bounds c))) there)
 
+-- rising changes that are differences tell the box that they make
+pub area_told : (root : List Interval) (changes : List Change) → IsRising changes
+    → ((k : ℕ) → k < length changes → IsDifference root (change_at changes k)) → Tell root changes (area_by root changes)
+area_told root changes rising each = record {
+  width = area_by_width root changes;
+  each = each;
+  changed = λ k h. area_by_changed root changes k rising h (each k h).there;
+  kept = λ j h free. area_by_kept root changes j free;
+}
+
 -- changes that are those of a box below the root spell the box that they make
 pub area_spelled : (root : List Interval) (changes : List Change) → IsRising changes → AreChangesOf root changes
     → Spells root changes (area_by root changes)
 area_spelled root changes rising valid = record {
   valid = valid;
-  told = record {
-    width = area_by_width root changes;
-    each = λ k h. (valid k h).differs;
-    changed = λ k h. area_by_changed root changes k rising h (valid k h).differs.there;
-    kept = λ j h free. area_by_kept root changes j free;
-  };
+  told = area_told root changes rising (λ k h. (valid k h).differs);
 }
+
+-- their columns are there
+pub columns_there : (root : List Interval) (changes : List Change) → AreChangesOf root changes → AreThere (length root) changes
+columns_there root changes valid k h = (valid k h).differs.there
 
 -- and no other
 pub area_only : (root area : List Interval) (changes : List Change) → IsRising changes → Spells root changes area
@@ -89,3 +98,6 @@ spelled_below root area changes rising s =
 
 -- for `area_of`
 pub ruleset made = (never_bad, area_only, spelled_below)
+
+-- for `changed`
+pub ruleset written = (area_spelled, columns_there)

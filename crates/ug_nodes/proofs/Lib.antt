@@ -2,6 +2,7 @@ pub mod Orders
 pub mod Steps
 pub mod Lists
 pub mod Areas
+pub mod DeltaLemmas
 pub mod LineLemmas
 pub mod Passes
 pub mod Floors

@@ -84,14 +84,18 @@ listed_or_not (c ∷ changes) j = elim (cases_eq c.column j) [
     listed_later c changes j ne not zero h e = ne e
     listed_later c changes j ne not (suc k) h e = not (k, omega (arith, h), e)
 
+-- a list tells one box
+pub one_told : (root area other : List Interval) (changes : List Change) → Tell root changes area → Tell root changes other → area ≡ other
+one_told root area other changes s t = ext_get_or no_interval area other (s.width ∙ sym t.width) (λ j h. elim (listed_or_not changes j) [
+  | inl n ↦ subst (λ m. interval_at area m ≡ interval_at other m) n.2 (s.changed n.0 n.1 ∙ sym (t.changed n.0 n.1))
+  | inr not ↦
+      let there = subst (λ m. j < m) s.width h in
+      s.kept j there not ∙ sym (t.kept j there not)
+])
+
 -- a list spells one box
 pub one_box : (root area other : List Interval) (changes : List Change) → Spells root changes area → Spells root changes other → area ≡ other
-one_box root area other changes s t = ext_get_or no_interval area other (s.told.width ∙ sym t.told.width) (λ j h. elim (listed_or_not changes j) [
-  | inl n ↦ subst (λ m. interval_at area m ≡ interval_at other m) n.2 (s.told.changed n.0 n.1 ∙ sym (t.told.changed n.0 n.1))
-  | inr not ↦
-      let there = subst (λ m. j < m) s.told.width h in
-      s.told.kept j there not ∙ sym (t.told.kept j there not)
-])
+one_box root area other changes s t = one_told root area other changes s.told t.told
 
 -- two changes of one column with the same bounds are the same
 same_change : (a b : Change) → a.column ≡ b.column → change_bounds a ≡ change_bounds b → a ≡ b
@@ -167,7 +171,12 @@ same_rising (x ∷ xs) (y ∷ ys) rx ry a b =
     (ap (λ zs. x ∷ zs) (same_rising xs ys (rising_rest x xs rx) (rising_rest x ys ry') (rest_among x xs ys rx a') (rest_among x ys xs ry' b')))
 
 -- a box is told by one rising list
+pub same_list : (root area : List Interval) (changes other : List Change) → IsRising changes → IsRising other
+    → Tell root changes area → Tell root other area → changes ≡ other
+same_list root area changes other r q s t =
+    same_rising changes other r q (are_among root area changes other s t) (are_among root area other changes t s)
+
+-- and spelled by one
 pub one_list : (root area : List Interval) (changes other : List Change) → IsRising changes → IsRising other
     → Spells root changes area → Spells root other area → changes ≡ other
-one_list root area changes other r q s t =
-    same_rising changes other r q (are_among root area changes other s.told t.told) (are_among root area other changes t.told s.told)
+one_list root area changes other r q s t = same_list root area changes other r q s.told t.told

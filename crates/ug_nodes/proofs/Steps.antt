@@ -1,12 +1,12 @@
--- One column more is looked at, and one change more is written.
-use Rattle.std.proofs.Common.{◌≡◌, ◌≢◌, inl, inr, ℕ, ◌+◌, ◌<◌, List, [], ◌∷◌, ◌++◌, length, set, refl, sym, ap, ◌∙◌, subst, arith}
+-- One column more is looked at.
+use Rattle.std.proofs.Common.{◌≡◌, ◌≢◌, inl, inr, ℕ, ◌+◌, ◌<◌, List, [], ◌∷◌, ◌++◌, length, refl, sym, ap, ◌∙◌, subst, arith}
 use Rattle.std.proofs.lemmas.Bool.{cases_eq}
-use Rattle.std.proofs.lemmas.List.{get_or_push, get_or_append_left, length_push, get_or-set_same, get_or-set_other, length-set}
+use Rattle.std.proofs.lemmas.List.{get_or_push, get_or_append_left, length_push}
 use Rattle.ug_rows.specs.declared.area.Interval.{Interval}
-use Rattle.ug_rows.specs.Boxes.{interval_at, no_interval}
+use Rattle.ug_rows.specs.Boxes.{interval_at}
 use Rattle.ug_nodes.specs.declared.change.Change.{Change}
-use Rattle.ug_nodes.specs.Changes.{IsRising, IsListed, IsDifference, AreChangesOf, Spells, change_at, no_change, change_bounds}
-use Rattle.ug_nodes.specs.Steps.{IsToldTo, IsWritten, change_with}
+use Rattle.ug_nodes.specs.Changes.{IsRising, IsListed, IsDifference, change_at, no_change, change_bounds}
+use Rattle.ug_nodes.specs.Steps.{IsToldTo, change_with}
 
 -- what holds of each change and of one more holds of each
 each_push : (P : Change → Type 0) (xs : List Change) (x : Change) → ((k : ℕ) → k < length xs → P (change_at xs k)) → P x
@@ -76,44 +76,3 @@ other_told n root area changes t there ne = record {
     | inr other ↦ t.kept j (omega (arith, other, h)) (λ named. not (listed_push changes _ j named))
   ];
 }
-
--- nothing is written of no change
-pub none_written : (root : List Interval) (changes : List Change) → IsWritten 0 root changes root
-none_written root changes = record {
-  width = refl;
-  changed = λ k h. absurd (omega arith);
-  kept = λ j h. refl;
-}
-
--- a change of a later column is written over none before
-pub one_written : (n : ℕ) (root sides : List Interval) (changes : List Change) → IsWritten n root changes sides
-    → IsRising changes → n < length changes → (change_at changes n).column < length root
-    → IsWritten (n + 1) root changes (set sides (change_at changes n).column (change_bounds (change_at changes n)))
-one_written n root sides changes w rising lt there = record {
-  width = length-set sides (change_at changes n).column _ ∙ w.width;
-  changed = λ k h. elim (cases_eq k n) [
-    | inl same ↦ subst (λ m. interval_at (set sides (change_at changes n).column (change_bounds (change_at changes n))) (change_at changes m).column ≡ change_bounds (change_at changes m)) (sym same)
-        (get_or-set_same sides (change_at changes n).column _ no_interval (subst (λ l. (change_at changes n).column < l) (sym w.width) there))
-    | inr ne ↦
-        let before : (change_at changes k).column < (change_at changes n).column = rising k n (omega (arith, ne, h)) lt in
-        get_or-set_other sides (change_at changes n).column (change_at changes k).column _ no_interval (omega (arith, before)) ∙ w.changed k (omega (arith, ne, h))
-  ];
-  kept = λ j free.
-      let other : j ≢ (change_at changes n).column = λ e. free n (omega arith) (sym e) in
-      get_or-set_other sides (change_at changes n).column j _ no_interval other ∙ w.kept j (λ k h. free k (omega (arith, h)));
-}
-
--- once all are written, the changes spell the box
-pub all_written : (root sides : List Interval) (changes : List Change) → AreChangesOf root changes → IsWritten (length changes) root changes sides → Spells root changes sides
-all_written root sides changes valid w = record {
-  valid = valid;
-  told = record {
-    width = w.width;
-    each = λ k h. (valid k h).differs;
-    changed = w.changed;
-    kept = λ j h not. w.kept j (λ k lt e. not (k, lt, e));
-  };
-}
-
--- for `change_all`
-pub ruleset written = (none_written, one_written, all_written)

@@ -31,6 +31,10 @@ IsRising changes =
     (i k : ℕ) → i < k → k < length changes
     → (change_at changes i).column < (change_at changes k).column
 
+-- the column of each change is one of so many
+abbrev pub AreThere : ℕ → List Change → Type 0
+AreThere width changes = (k : ℕ) → k < length changes → (change_at changes k).column < width
+
 -- some change is of column j
 abbrev pub IsListed : List Change → ℕ → Type 0
 IsListed changes j = (k : ℕ) × (k < length changes) × ((change_at changes k).column ≡ j)

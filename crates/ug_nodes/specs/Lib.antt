@@ -6,3 +6,5 @@ pub mod Outside
 pub mod Steps
 pub mod Primitive
 pub mod SortedLines
+pub mod Deltas
+pub mod Hands

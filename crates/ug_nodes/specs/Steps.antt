@@ -21,15 +21,6 @@ pub record IsToldTo (n : ℕ) (root area : List Interval) (changes : List Change
       → interval_at area (change_at changes k).column ≡ change_bounds (change_at changes k)
   pub kept : (j : ℕ) → j < n → (IsListed changes j → ⊥) → interval_at area j ≡ interval_at root j
 
--- the first n changes are written into the root's intervals, and nothing else
-pub record IsWritten (n : ℕ) (root : List Interval) (changes : List Change) (sides : List Interval)
-    : Type 0 where
-  pub width : length sides ≡ length root
-  pub changed : (k : ℕ) → k < n
-      → interval_at sides (change_at changes k).column ≡ change_bounds (change_at changes k)
-  pub kept : (j : ℕ) → ((k : ℕ) → k < n → (change_at changes k).column ≢ j)
-      → interval_at sides j ≡ interval_at root j
-
 -- each column before the bound fits; before it are the first i changes and n told, and no others
 pub record ArePassed (root : List Interval) (told changes : List Change) (i n : ℕ) : Type 0 where
   pub bound : ℕ

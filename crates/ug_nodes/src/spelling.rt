@@ -2,7 +2,7 @@ ghost use Rattle.std.specs.Prelude.{◌≡◌, ◌≢◌, ◌+◌, ◌≤◌, �
 ghost use Rattle.ug_rows.specs.declared.area.Interval.{Interval};
 ghost use Rattle.ug_rows.specs.Boxes.{IsBelow, IsClosedWithin};
 ghost use Rattle.ug_nodes.specs.declared.spelling.AreaError.TheVariants.{Memory};
-ghost use Rattle.ug_nodes.specs.Changes.{IsChangeOf, IsRising, Tell, Spells, AreChangesOf, IsFirstBad, IsAreaRefused, area_by};
+ghost use Rattle.ug_nodes.specs.Changes.{IsChangeOf, IsRising, Tell, Spells, AreChangesOf, AreThere, IsFirstBad, IsAreaRefused, area_by};
 ghost use Rattle.ug_nodes.specs.Steps.{IsToldTo, change_with};
 
 use crate::change::{Change, Changes};
@@ -42,7 +42,7 @@ pub fn changes_of(alloc: Global, root: &IntBox, area: &IntBox) -> Result<Changes
 }
 
 #[tactic(auto, using(crate::proofs::Steps::none_told))]
-fn differences(
+pub(crate) fn differences(
     alloc: Global,
     root: &[Interval],
     area: &[Interval],
@@ -141,6 +141,7 @@ pub(crate) fn is_change_of(root: &[Interval], change: Change) -> bool
 }
 
 // The root's intervals with those of the changes in their columns.
+#[tactic(auto, using(crate::proofs::Areas::written))]
 fn changed(
     alloc: Global,
     root: &[Interval],
@@ -151,16 +152,15 @@ fn changed(
     ensures { IfOk result (λ sides. Spells root.now changes.now sides.items) }
 {
     let mut sides = Vec::from_slice(alloc, root)?;
-    change_all(&mut sides, changes);
+    write_all(&mut sides, changes);
     Ok(sides)
 }
 
 // Writes the bounds of each change into its column.
-#[tactic(auto, using(crate::proofs::Steps::written))]
-fn change_all(sides: &mut [Interval], changes: &[Change])
-    requires rising { IsRising changes.now }
-    requires valid { AreChangesOf sides.old changes.now }
-    ensures { Spells sides.old changes.now sides.new }
+#[tactic(auto, using(crate::proofs::Areas::area_by_width))]
+pub(crate) fn write_all(sides: &mut Vec<Interval>, changes: &[Change])
+    requires { AreThere (length sides.old.items) changes.now }
+    ensures { sides.new.items ≡ area_by sides.old.items changes.now }
 {
     for change in changes {
         sides[change.column as usize] = change.bounds();
