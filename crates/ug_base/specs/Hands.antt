@@ -10,15 +10,15 @@ use Rattle.ug_base.specs.Floors.{renewed}
 use Rattle.ug_base.specs.Points.{measure_of}
 use Rattle.ug_base.specs.Tasks.{TaskState}
 
--- the box of the first part is moved behind other boxes, and the other parts are renewed
+-- the box of the first part is moved behind those handed, and the other parts are renewed
 pub record IsMoved (work : WorkState) (old new : List Part)
-    (others_old others_new : List (List Interval)) (area : List Interval) : Type 0 where
+    (handed_old handed_new : List (List Interval)) (area : List Interval) : Type 0 where
   pub part : Part
   pub rest : List Part
   pub first : old ≡ part ∷ rest
   pub left : new ≡ renewed None rest
   pub boxes : areas_of work old ≡ area ∷ areas_of work new
-  pub last : others_new ≡ others_old ++ area ∷ []
+  pub last : handed_new ≡ handed_old ++ area ∷ []
 
 -- the first of the boxes left is handed, and its number is its place among the boxes handed;
 -- nothing else changed

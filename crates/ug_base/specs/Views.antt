@@ -14,7 +14,7 @@ state_of t = record {
   cutoff = t.cutoff;
   gap = t.gap;
   boxes = areas_of t.work t.parts.items;
-  handed = t.handed.items;
+  handed = t.handed;
 }
 
 -- the fields are those of a task, whose boxes are parts of its working box over what is searched

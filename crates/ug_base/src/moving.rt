@@ -6,6 +6,7 @@ ghost use Rattle.ug_base.specs.Hands.{IsMoved};
 use crate::lowest::renew;
 use crate::part::{Narrowing, Part};
 use std::alloc::{AllocError, Global};
+use ug_nodes::Hands;
 use ug_propagate::{Trailed, Working};
 use ug_rows::{IntBox, Interval};
 
@@ -45,36 +46,33 @@ pub fn box_of(alloc: Global, work: &Working, part: Part) -> Result<IntBox, Alloc
     Ok(IntBox::from_vec(sides))
 }
 
-// A copy of a box.
-fn copy_of(area: &IntBox) -> Result<IntBox, AllocError>
-    ensures { IfOk result (λ copy. copy ≡ area.now) }
-{
-    let copy = area.clone()?;
-    Ok(copy)
-}
-
-/// Moves the box of the first part behind other boxes, and gives a copy of it. After an error all
-/// are as they were.
+/// Moves the box of the first part behind those handed, and gives it. After an error all are as
+/// they were.
 pub fn move_first(
     alloc: Global,
     work: &Working,
     parts: &mut Vec<Part>,
-    others: &mut Vec<IntBox>,
+    handed: &mut Hands,
 ) -> Result<IntBox, AllocError>
     requires some { 0 < length parts.old.items }
     requires deep { (slice_index_or parts.old.items 0 no_part).depth ≤ length work.now.trail }
     ensures ok { IfOk result
-        (IsMoved work.now parts.old.items parts.new.items others.old.items others.new.items) }
+        (IsMoved work.now parts.old.items parts.new.items handed.old handed.new) }
     ensures parts { OnErr result (parts.new.items ≡ parts.old.items) }
-    ensures others { OnErr result (others.new.items ≡ others.old.items) }
+    ensures handed { OnErr result (handed.new ≡ handed.old) }
 {
     let first = 0;
-    // All memory is taken before a box is moved.
+    // All memory is taken before a part is moved.
     let area = box_of(alloc, work, parts[first])?;
-    let copy = copy_of(&area)?;
-    others.reserve(1)?;
-    others.push_reserved(area);
-    parts.remove(first);
-    renew(parts);
-    Ok(copy)
+    match handed.push(&area) {
+        Ok(()) => {
+            parts.remove(first);
+            renew(parts);
+            Ok(area)
+        }
+        Err(error) => {
+            drop(area);
+            Err(error)
+        }
+    }
 }

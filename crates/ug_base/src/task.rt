@@ -28,7 +28,7 @@ use crate::step::Step;
 use std::alloc::{AllocError, Global};
 use std::marker::Model;
 use ug_branch::{Base, Params};
-use ug_nodes::Ticket;
+use ug_nodes::{Hands, Ticket};
 use ug_problem::{Problem, Shared};
 use ug_propagate::{Rest, Working};
 use ug_rows::{IntBox, Point};
@@ -45,7 +45,7 @@ pub struct Task {
     gap: i128,
     work: Working,
     parts: Vec<Part>,
-    handed: Vec<IntBox>,
+    handed: Hands,
     sharpening: Sharpening,
 }
 
@@ -184,7 +184,7 @@ impl Task {
                 gap,
                 work: begun.work,
                 parts: begun.parts,
-                handed: Vec::new(alloc),
+                handed: Hands::new(alloc),
                 sharpening,
             }),
             Err(error) => {
@@ -408,11 +408,11 @@ impl Task {
     }
 
     /// The boxes handed, in the order in which they were handed. It takes no memory.
-    pub fn handed(&self) -> &[IntBox]
+    pub fn handed(&self) -> &Hands
         ensures value { result.now ≡ self.now.handed }
         ensures below { AreBelow self.now.whole self.now.handed }
     {
-        self.handed.as_slice()
+        &self.handed
     }
 
     /// The problem that is solved.

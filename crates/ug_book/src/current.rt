@@ -5,10 +5,9 @@ ghost use Rattle.ug_book.specs.Currents.{IsCurrentAt};
 
 use crate::book::Book;
 use ug_branch::Params;
-use ug_nodes::{Node, Ticket};
+use ug_nodes::{Hands, Node, Ticket};
 use ug_pool::Entry;
 use ug_ranks::State;
-use ug_rows::IntBox;
 
 /// What a rank works on, or races for, under its ticket. The node is lent.
 #[derive(Clone, Copy)]
@@ -34,11 +33,11 @@ impl Book {
 
     /// The boxes of the hands that were taken under the ticket of a rank, in order; none where it
     /// has no ticket.
-    pub fn taken(&self, rank: u32) -> &[IntBox]
+    pub fn taken(&self, rank: u32) -> &Hands
         requires { rank < length self.now.ranks }
         ensures { result.now ≡ taken_at (state_at self.now.ranks rank) }
     {
-        self.stock.ranks.state(rank).taken()
+        self.stock.ranks.taken(rank)
     }
 
     /// How many hands a rank is still asked for; 0 where it is asked for none.

@@ -1,5 +1,4 @@
 pub mod Columns
-pub mod Agreeing
 pub mod Works
 pub mod Joined
 pub mod Ends

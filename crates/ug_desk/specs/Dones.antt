@@ -1,10 +1,10 @@
 -- What a task that has no box left comes to.
-use Rattle.std.specs.Prelude.{◌≡◌, ◌≢◌, ℕ, ◌<◌, ◌≤◌, List, take, length}
+use Rattle.std.specs.Prelude.{◌≡◌, ◌≢◌, ℕ, List, length}
 use Rattle.ug_rows.specs.declared.area.Interval.{Interval}
-use Rattle.ug_rows.specs.Boxes.{box_at}
 use Rattle.ug_problem.specs.Instances.{Instance, root_of}
 use Rattle.ug_nodes.specs.declared.name.Ticket.{Ticket}
 use Rattle.ug_nodes.specs.declared.node.Node.{Node}
+use Rattle.ug_nodes.specs.Hands.{Agree}
 use Rattle.ug_nodes.specs.Nodes.{box_of}
 use Rattle.ug_frames.specs.declared.report.Ending.TheVariants.{Plain}
 use Rattle.ug_frames.specs.declared.report.Report.TheVariants.{Done}
@@ -26,12 +26,6 @@ pub record IsOfTicket (b : BookState) (r : ℕ) (task : TaskState) : Type 0 wher
   pub work : Current
   pub current : IsCurrent (ledger_of b) r work
   pub its : IsTaskOf b.problem work.ticket work.node task
-
--- the first so many boxes are the same, and the next, if there is one, is another
-pub record Agree (handed taken : List (List Interval)) (count : ℕ) : Type 0 where
-  pub below : count ≤ length taken
-  pub same : take count handed ≡ take count taken
-  pub next : count < length taken → box_at handed count ≢ box_at taken count
 
 -- how many hands of the task the book has taken: where there are as many, the leading ones that
 -- agree

@@ -2,12 +2,12 @@ ghost use Rattle.std.specs.Prelude.{◌≡◌, ◌<◌, [], length};
 ghost use Rattle.ug_rules.specs.Books.{IsSoundBook};
 ghost use Rattle.ug_book.specs.Views.{IsSameRun};
 ghost use Rattle.ug_desk.specs.Answers.{IsTold, told_on};
-ghost use Rattle.ug_desk.specs.Dones.{HasDone, IsOfTicket};
+ghost use Rattle.ug_desk.specs.Dones.{AreFound, HasDone, IsOfTicket};
 
-use crate::agree::found;
 use ug_base::Task;
 use ug_book::Book;
 use ug_frames::{Ending, Report};
+use ug_nodes::Hands;
 use ug_rules::Heard;
 
 /// The end of a task of the rank's ticket, of which no box is left. It takes no memory.
@@ -24,7 +24,7 @@ pub fn done(book: &mut Book, rank: u32, task: &Task) -> Heard
     let handed = task.handed();
     let taken = book.taken(rank);
     let found = found(handed, taken) as u64;
-    let count = count_told(handed.len() as u64, taken.len() as u64, found);
+    let count = count_told(handed, taken, found);
     let heard = book.hear(
         rank,
         Report::Done {
@@ -34,24 +34,40 @@ pub fn done(book: &mut Book, rank: u32, task: &Task) -> Heard
             end: Ending::Plain,
         },
     );
-    told_on(heard, handed.len() as u64, found)
+    told_on(heard, handed, found)
+}
+
+// How many of the boxes that were handed were taken: where as many were, the leading ones that
+// agree.
+fn found(handed: &Hands, taken: &Hands) -> usize
+    ensures { AreFound handed.now taken.now result }
+{
+    if handed.len() != taken.len() {
+        return taken.len();
+    }
+    handed.leading(taken)
 }
 
 // The count of a Done, where so many hands were found: with as many taken it is theirs, so that one
 // that differs makes it short.
-fn count_told(handed: u64, taken: u64, found: u64) -> u64
-    ensures { IsTold handed taken found result }
+fn count_told(handed: &Hands, taken: &Hands, found: u64) -> u64
+    ensures { IsTold (length handed.now) (length taken.now) found result }
 {
-    if handed == taken { found } else { handed }
+    let count = handed.len() as u64;
+    if count == taken.len() as u64 {
+        found
+    } else {
+        count
+    }
 }
 
 // The answer, where a short one names the hands of the task, and those found.
-fn told_on(heard: Heard, handed: u64, found: u64) -> Heard
-    ensures { result ≡ told_on handed found heard }
+fn told_on(heard: Heard, handed: &Hands, found: u64) -> Heard
+    ensures { result ≡ told_on (length handed.now) found heard }
 {
     match heard {
         Heard::Short { .. } => Heard::Short {
-            told: handed,
+            told: handed.len() as u64,
             taken: found,
         },
         _ => heard,

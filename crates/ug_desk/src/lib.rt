@@ -6,7 +6,6 @@
 //! type of its task.
 #![tactic(auto)]
 
-mod agree;
 mod answer;
 mod area;
 mod bell;

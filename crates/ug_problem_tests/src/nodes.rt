@@ -7,8 +7,8 @@ use std::cmp::Ordering;
 use std::process::Abort;
 use ug_lists::Items;
 use ug_nodes::{
-    AreaError, Change, Changes, Line, Name, Node, Ticket, area_of, changes_of, first_outside,
-    floor_of_changes, is_ancestor, is_below,
+    AreaError, Change, Changes, Hands, Line, Name, Node, Ticket, Walk, area_of, changes_of,
+    first_outside, floor_of_changes, is_ancestor, is_below,
 };
 use ug_rows::{IntBox, Interval, Objective, Term, floor};
 
@@ -282,4 +282,116 @@ fn names_go_by_run_and_number_first(rt: HostRuntime) {
     holds(&rt, name(1, 4, 2).order(name(2, 1, 1)) == Ordering::Less);
     let tickets = (name(1, 4, 2).ticket, name(1, 3, 9).ticket);
     holds(&rt, tickets.0.order(tickets.1) == Ordering::Greater);
+}
+
+// The bounds of a box's columns.
+type Sides = &'static [(i32, i32)];
+
+// Two lists of boxes, and how many of the first are the same.
+const HANDS: &[(&[Sides], &[Sides], usize)] = &[
+    (&[], &[], 0),
+    (&[&[(0, 7), (0, 7)]], &[&[(0, 7), (0, 7)]], 1),
+    (&[&[(0, 7), (0, 7)]], &[&[(0, 7), (1, 7)]], 0),
+    // A column that changes and changes back, and a box twice.
+    (
+        &[
+            &[(0, 3), (0, 7)],
+            &[(4, 7), (0, 7)],
+            &[(0, 3), (0, 7)],
+            &[(0, 3), (0, 7)],
+        ],
+        &[
+            &[(0, 3), (0, 7)],
+            &[(4, 7), (0, 7)],
+            &[(0, 3), (0, 7)],
+            &[(0, 3), (0, 7)],
+        ],
+        4,
+    ),
+    (
+        &[
+            &[(0, 3), (0, 7)],
+            &[(4, 7), (0, 7)],
+            &[(0, 3), (0, 7)],
+            &[(0, 3), (0, 7)],
+        ],
+        &[
+            &[(0, 3), (0, 7)],
+            &[(4, 7), (0, 7)],
+            &[(0, 3), (0, 6)],
+            &[(0, 3), (0, 7)],
+        ],
+        2,
+    ),
+    // Other widths, none of them and crossed bounds.
+    (
+        &[&[], &[(2, 1)], &[(2, 1), (5, 6)], &[], &[]],
+        &[&[], &[(2, 1)], &[(2, 1), (5, 6)], &[], &[(0, 0)]],
+        4,
+    ),
+];
+
+// A list of these boxes.
+fn hands_of(rt: &impl Abort, alloc: Global, boxes: &[Sides]) -> Hands {
+    let mut hands = Hands::new(alloc);
+    for sides in boxes {
+        let area = box_of(rt, alloc, *sides);
+        hands.push(&area).expect(rt, "memory");
+        drop(area);
+    }
+    hands
+}
+
+fn box_of(rt: &impl Abort, alloc: Global, sides: Sides) -> IntBox {
+    let mut area = Vec::new(alloc);
+    for (low, high) in sides {
+        let side = Interval {
+            low: *low,
+            high: *high,
+        };
+        area.push(side).expect(rt, "memory");
+    }
+    IntBox::from_vec(area)
+}
+
+// Whether the next box has these bounds.
+fn stands_at(walk: &mut Walk, sides: Sides) -> bool {
+    if !matches!(walk.step(), Ok(true)) || walk.area().len() != sides.len() {
+        return false;
+    }
+    for (side, (low, high)) in walk.area().iter().zip(sides) {
+        if side.low != *low || side.high != *high {
+            return false;
+        }
+    }
+    true
+}
+
+// Whether a walk through the boxes finds these.
+fn walks(hands: &Hands, boxes: &[Sides]) -> bool {
+    let mut walk = hands.walk();
+    let mut is_so = true;
+    for sides in boxes {
+        is_so = is_so && stands_at(&mut walk, *sides);
+    }
+    is_so = is_so && matches!(walk.step(), Ok(false));
+    drop(walk);
+    is_so
+}
+
+// Whether so many of the first boxes of both are the same.
+fn agree(hands: &Hands, others: &Hands, count: usize) -> bool {
+    hands.len() == others.len() && hands.leading(others) == count
+}
+
+#[test]
+fn boxes_handed_agree(rt: HostRuntime) {
+    for (boxes, others, count) in HANDS {
+        let hands = hands_of(&rt, rt.alloc(), *boxes);
+        let those = hands_of(&rt, rt.alloc(), *others);
+        holds(&rt, walks(&hands, *boxes) && walks(&those, *others));
+        holds(&rt, agree(&hands, &those, *count));
+        drop(hands);
+        drop(those);
+    }
 }

@@ -15,6 +15,7 @@ use std::sync::Wait;
 use ug_base::Task;
 use ug_branch::Params;
 use ug_mps::read;
+use ug_nodes::{Hands, Walk};
 use ug_rows::{IntBox, Interval, Point};
 use ug_worker::{Renewal, Reply, Seat, Took, Untaken, cutoff_of_point, work};
 
@@ -160,17 +161,20 @@ const BY_HAND: [[Interval; 2]; 5] = [
 ];
 
 // Whether these are the boxes that the second round leaves.
-fn are_by_hand(handed: &[IntBox]) -> bool {
-    if handed.len() != BY_HAND.len() {
-        return false;
-    }
-    for at in 0..handed.len() {
-        let [a, b] = BY_HAND[at];
-        if handed[at].as_slice() != [a, b, FULL].as_slice() {
+fn are_by_hand(handed: &Hands) -> bool {
+    let mut walk = handed.walk();
+    let is_so = walks_by_hand(&mut walk);
+    drop(walk);
+    is_so
+}
+
+fn walks_by_hand(walk: &mut Walk) -> bool {
+    for [a, b] in BY_HAND {
+        if !matches!(walk.step(), Ok(true)) || walk.area() != [a, b, FULL].as_slice() {
             return false;
         }
     }
-    true
+    matches!(walk.step(), Ok(false))
 }
 
 // The task of all of the stairs, upper halves first.

@@ -8,7 +8,7 @@ use std::alloc::{AllocError, Global};
 use ug_base::{Handed, Step, Task};
 use ug_branch::Params;
 use ug_mps::read;
-use ug_nodes::Ticket;
+use ug_nodes::{Ticket, Walk};
 use ug_problem::{Problem, Shared};
 use ug_rows::{IntBox, Interval, below};
 
@@ -223,12 +223,17 @@ fn gives_all(task: &mut Task) -> bool {
 
 // Whether it keeps what it handed.
 fn has_handed(task: &Task) -> bool {
-    match task.handed() {
-        [first, second] => {
-            first.as_slice() == UPPER.as_slice() && second.as_slice() == LOWER.as_slice()
-        }
-        _ => false,
-    }
+    let mut walk = task.handed().walk();
+    let is_so = stands_at(&mut walk, &UPPER)
+        && stands_at(&mut walk, &LOWER)
+        && matches!(walk.step(), Ok(false));
+    drop(walk);
+    is_so
+}
+
+// Whether the next box has these sides.
+fn stands_at(walk: &mut Walk, sides: &[Interval]) -> bool {
+    matches!(walk.step(), Ok(true)) && walk.area() == sides
 }
 
 // Whether it hands the first boxes left, all but the last, and keeps what it handed.

@@ -10,4 +10,4 @@ mod ranks;
 mod state;
 
 pub use ranks::Ranks;
-pub use state::{Assignment, Boxes, Off, Racer, State, Work};
+pub use state::{Assignment, Off, Racer, State, Work};

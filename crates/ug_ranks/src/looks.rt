@@ -1,9 +1,8 @@
 ghost use Rattle.std.specs.Prelude.{◌≡◌, ◌↔◌, IsTrue, Some};
-ghost use Rattle.ug_ranks.specs.Looks.{asked_at, hands_taken, is_alive, is_idle, is_joined, is_racing, is_working, racer_ticket, taken_at, ticket_at, ticket_below, work_ticket};
+ghost use Rattle.ug_ranks.specs.Looks.{asked_at, hands_taken, is_alive, is_idle, is_joined, is_racing, is_working, racer_ticket, ticket_at, ticket_below, work_ticket};
 
 use crate::state::State;
 use ug_nodes::{Line, Ticket, is_ancestor};
-use ug_rows::IntBox;
 
 impl State {
     pub fn is_idle(&self) -> bool
@@ -83,16 +82,6 @@ impl State {
                 }
             }
             State::Absent | State::Idle | State::Racing(_) | State::Dead(_) => None,
-        }
-    }
-
-    /// The boxes of the hands that were taken from the rank under its ticket, in order.
-    pub fn taken(&self) -> &[IntBox]
-        ensures { result.now ≡ taken_at self.now }
-    {
-        match self {
-            State::Active(work) => work.taken.as_slice(),
-            State::Absent | State::Idle | State::Racing(_) | State::Dead(_) => &[],
         }
     }
 

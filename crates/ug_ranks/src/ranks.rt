@@ -2,31 +2,34 @@ ghost use Rattle.std.specs.Prelude.{◌≡◌, ◌<◌, ◌^◌, [], length, rep
 ghost use Rattle.ug_ranks.specs.declared.state.Off.TheVariants.{Died};
 ghost use Rattle.ug_ranks.specs.declared.state.State.TheVariants.{Absent, Active, Dead, Idle, Racing};
 ghost use Rattle.ug_ranks.specs.States.{IsRacing, held_by, state_at};
+ghost use Rattle.ug_ranks.specs.Looks.{taken_at};
 ghost use Rattle.ug_ranks.specs.Changes.{asked_for, grown, joined, noted, racer_of, won, work_of};
 
-use crate::state::{Assignment, Boxes, Off, Racer, State, Work};
+use crate::state::{Assignment, Off, Racer, State, Work};
 use std::alloc::{AllocError, Global};
 use std::marker::Model;
 use std::mem;
 use ug_branch::Params;
-use ug_nodes::{Node, Ticket};
+use ug_nodes::{Hands, Node, Ticket};
 use ug_rows::IntBox;
 
 /// The states of all ranks.
 #[derive(Drop)]
 pub struct Ranks {
     states: Vec<State>,
+    // No hands, to be lent where a rank has none.
+    none: Hands,
 }
 
 impl Model for Ranks {
-    ghost use Rattle.std.specs.Prelude.{List, ◌<◌, ◌^◌, length};
+    ghost use Rattle.std.specs.Prelude.{◌≡◌, List, [], ◌<◌, ◌^◌, length};
     ghost use Rattle.ug_ranks.specs.declared.state.State.{State};
 
     ghost Value = { List State };
 
     ghost view = { λ ranks. ranks.states.items };
 
-    ghost invariant = { λ ranks. length ranks.states.items < 2 ^ 32 };
+    ghost invariant = { λ ranks. (length ranks.states.items < 2 ^ 32) × (ranks.none ≡ []) };
 }
 
 impl Ranks {
@@ -35,7 +38,10 @@ impl Ranks {
         ensures { IfOk result (λ ranks. ranks ≡ replicate n Absent) }
     {
         let states = absent(alloc, n)?;
-        Ok(Ranks { states })
+        Ok(Ranks {
+            states,
+            none: Hands::new(alloc),
+        })
     }
 
     /// The states of all ranks, in order.
@@ -52,6 +58,17 @@ impl Ranks {
         ensures { result.now ≡ state_at self.now rank }
     {
         &self.states[rank as usize]
+    }
+
+    /// The boxes of the hands that were taken from a rank under its ticket, in order.
+    pub fn taken(&self, rank: u32) -> &Hands
+        requires { rank < length self.now }
+        ensures { result.now ≡ taken_at (state_at self.now rank) }
+    {
+        match &self.states[rank as usize] {
+            State::Active(work) => &work.taken,
+            State::Absent | State::Idle | State::Racing(_) | State::Dead(_) => &self.none,
+        }
     }
 
     /// A rank that is absent or dead becomes idle. At any other state nothing changes.
@@ -74,7 +91,7 @@ impl Ranks {
             node: given.node,
             floor: given.floor,
             params: given.params,
-            taken: Boxes::new(*self.states.allocator()),
+            taken: Hands::new(*self.states.allocator()),
             open: 0,
             reported: 0,
             asked: 0,
@@ -104,7 +121,7 @@ impl Ranks {
         requires racing { IsRacing (state_at self.old rank) }
         ensures { self.new ≡ slice_set self.old rank (won node floor (state_at self.old rank)) }
     {
-        let taken = Boxes::new(*self.states.allocator());
+        let taken = Hands::new(*self.states.allocator());
         crown(&mut self.states[rank as usize], node, floor, taken);
     }
 
@@ -145,12 +162,11 @@ impl Ranks {
     }
 
     /// A rank that works handed this box: it is the last of those taken, and one hand fewer is
-    /// asked, if any was. At any other state nothing changes. After an error nothing has changed,
-    /// and the box is dropped.
-    pub fn take(&mut self, rank: u32, area: IntBox) -> Result<(), AllocError>
+    /// asked, if any was. At any other state nothing changes. After an error nothing has changed.
+    pub fn take(&mut self, rank: u32, area: &IntBox) -> Result<(), AllocError>
         requires { rank < length self.old }
         ensures ok { OnOk result
-            (self.new ≡ slice_set self.old rank (grown area (state_at self.old rank))) }
+            (self.new ≡ slice_set self.old rank (grown area.now (state_at self.old rank))) }
         ensures err { OnErr result (self.new ≡ self.old) }
     {
         take_box(&mut self.states[rank as usize], area)
@@ -178,7 +194,7 @@ fn join(state: &mut State)
 }
 
 // A racer works on the node, with no box taken.
-fn crown(state: &mut State, node: Node, floor: i128, taken: Boxes)
+fn crown(state: &mut State, node: Node, floor: i128, taken: Hands)
     requires racing { IsRacing state.old }
     requires none { taken ≡ [] }
     ensures { state.new ≡ won node floor state.old }
@@ -231,8 +247,8 @@ fn note_asked(state: &mut State, count: u32)
     }
 }
 
-fn take_box(state: &mut State, area: IntBox) -> Result<(), AllocError>
-    ensures ok { OnOk result (state.new ≡ grown area state.old) }
+fn take_box(state: &mut State, area: &IntBox) -> Result<(), AllocError>
+    ensures ok { OnOk result (state.new ≡ grown area.now state.old) }
     ensures err { OnErr result (state.new ≡ state.old) }
 {
     if let State::Active(work) = state {

@@ -1,10 +1,5 @@
 use ug_branch::Params;
-use ug_lists::Items;
-use ug_nodes::{Node, Ticket};
-use ug_rows::IntBox;
-
-/// Boxes, in order.
-pub type Boxes = Items<IntBox>;
+use ug_nodes::{Hands, Node, Ticket};
 
 /// A rank's part in a race, with its last report.
 #[derive(Clone, Copy)]
@@ -26,7 +21,7 @@ pub struct Work {
     pub floor: i128,
     pub params: Params,
     /// The boxes of the hands that were kept.
-    pub taken: Boxes,
+    pub taken: Hands,
     /// How many open nodes it has, 0 before its first report.
     pub open: u64,
     /// The least floor of its open nodes.

@@ -51,7 +51,9 @@ fn take(
     let Ok(area) = area_of(run.alloc, run.problem.problem().root(), &changes) else {
         return Err(AllocError);
     };
-    ranks.take(rank, area)?;
+    let taken = ranks.take(rank, &area);
+    drop(area);
+    taken?;
     pool.put(Node { line, changes }, floor);
     Ok(())
 }

@@ -6,13 +6,12 @@ use Rattle.ug_base.specs.Chains.{no_part}
 use Rattle.ug_base.proofs.Leasts.{moved_boxes}
 use Rattle.ug_base.proofs.moving.move_first.Goals as goal
 
-pub returns-clause-ok : goal.returns-clause-ok
-returns-clause-ok c =
+pub returns-in-Ok-clause-ok : goal.returns-in-Ok-clause-ok
+returns-in-Ok-clause-ok c =
     let old = c.args.parts.now.items in
     let part = c.index.result.now in
     let rest = c.remove.new.self.items in
-    let copy = c.in_ok-copy.copy in
-    let same : copy ≡ c.in_ok-area.area = c.in_ok-copy.ensures in
+    let area = c.in_ok-area.area in
     let first : old ≡ part ∷ rest = drop_more old 0 no_part c.requires.some
     ∙ ap (λ (q : Part). q ∷ drop 1 old) (sym (get_or_read old 0 part c.requires.some c.index.ensures no_part))
     ∙ ap (λ (ps : List Part). part ∷ ps) (sym c.remove.ensures.items) in
@@ -21,9 +20,7 @@ returns-clause-ok c =
       rest = rest;
       first = first;
       left = c.renew.ensures;
-      boxes = moved_boxes c.args.work.now old rest c.renew.new.parts.items part copy first c.renew.ensures
-          (same ∙ c.in_ok-area.ensures);
-      last = c.push_reserved.ensures.items
-          ∙ ap (λ (os : List (List Interval)). os ++ c.in_ok-area.area ∷ []) c.in_ok-reserve.ensures.items
-          ∙ ap (λ (a : List Interval). c.args.others.now.items ++ a ∷ []) (sym same);
+      boxes = moved_boxes c.args.work.now old rest c.renew.new.parts.items part area first c.renew.ensures
+          c.in_ok-area.ensures;
+      last = c.in-Ok.ensures.ok;
     }

@@ -14,7 +14,7 @@ invariant_of-result c =
     rw (c.own.ensures, c.plain.ensures) (record {
       task = new_task _ work c.in-Ok.begun.parts.items c.args.gap _ (subst IsProblem c.problem.ensures.value c.columns-columns.ensures.problem)
           c.requires.below c.requires.cutoff c.requires.gap (search rules) c.in-Ok.ensures.parts c.in-Ok.ensures.trail
-          c.in-Ok.ensures.area refl c.new.ensures.items;
+          c.in-Ok.ensures.area refl c.new.ensures;
       chain = new_chain c.args.problem c.args.whole work c.in-Ok.begun.parts.items
           (subst (λ (p : Instance). c.in-Ok.begun.parts.items ≡ record {
             depth = 0;

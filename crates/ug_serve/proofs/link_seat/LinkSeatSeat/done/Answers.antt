@@ -1,4 +1,4 @@
-use Rattle.std.proofs.Common.{refl, sym, ap}
+use Rattle.std.proofs.Common.{refl, sym, ap, ◌∙◌}
 use Rattle.std.proofs.Common.{List, length}
 use Rattle.ug_rows.specs.declared.area.Interval.{Interval}
 use Rattle.ug_serve.specs.Deeds.{Busy, Free}
@@ -16,7 +16,7 @@ returns-clause-done g c tally e seated done = record {
           its = sym seated.agrees.ticket;
           done = done;
           under = c.cutoff-cutoff.ensures.value;
-          counted = ap (λ (boxes : List (List Interval)). length boxes) c.handed.ensures.value;
+          counted = c.len-count.ensures ∙ ap (λ (boxes : List (List Interval)). length boxes) c.handed.ensures.value;
         },
         refl,
       ) seated.stands;
