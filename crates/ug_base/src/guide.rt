@@ -1,7 +1,7 @@
 //! How boxes are halved: by params, and in a search over more rows by the list of multipliers that
 //! was taken last. In the row that it implies, a column with a great factor costs most where it
-//! leaves the end at which its product is least: halved first, its other half is soon without a good
-//! point. What is searched for does not depend on it.
+//! leaves the end at which its product is least: halved first, its other half is soon without a
+//! good point. What is searched for does not depend on it.
 
 ghost use Rattle.std.specs.Prelude.{◌≡◌, ◌↔◌, ◌≤◌, ◌^◌, length, IfSome, IsNone};
 ghost use Rattle.ug_branch.specs.Choices.{AreClosed, AreHalves, HasNoneOpen};
@@ -130,8 +130,8 @@ fn do_follow(params: Params) -> bool {
     params.pick == Pick::Place && params.end == End::Lowest
 }
 
-// The half that is looked at first: the upper one where the params ask for it, and otherwise the one
-// to which the column leans.
+// The half that is looked at first: the upper one where the params ask for it, and otherwise the
+// one to which the column leans.
 fn first_of(params: Params, half: Option<Half>) -> Half {
     match params.half {
         Half::Lower => half.unwrap_or(Half::Lower),

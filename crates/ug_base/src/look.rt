@@ -37,8 +37,8 @@ struct Choosing<'a> {
     closed: usize,
 }
 
-/// Brings the working box to the one at which a part was split off, with the rows awake that may not
-/// be at rest.
+/// Brings the working box to the one at which a part was split off, with the rows awake that may
+/// not be at rest.
 pub fn begin(
     work: &mut Working,
     problem: &Problem,

@@ -114,16 +114,16 @@ impl Sharpening {
         self.steps <= OFTEN || self.steps % APART == 0
     }
 
-    /// Counts a step, and tells whether rows are to be made anew before it: where a guess is due, or
-    /// the cutoff is another.
+    /// Counts a step, and tells whether rows are to be made anew before it: where a guess is due,
+    /// or the cutoff is another.
     pub fn is_due(&mut self, cutoff: Option<i128>) -> bool {
         self.steps = self.steps.saturating_add(1);
         let is_other = !self.lists.is_empty() && self.under != cutoff;
         self.steps > self.due || (is_other && self.may_renew())
     }
 
-    // Keeps multipliers, unless they are kept already. Where there are as many as may be, the oldest
-    // but the first gives way.
+    // Keeps multipliers, unless they are kept already. Where there are as many as may be, the
+    // oldest but the first gives way.
     fn keep(&mut self, m: Multipliers) -> Result<(), AllocError> {
         if is_among(self.lists.as_slice(), &m) {
             drop(m);

@@ -268,8 +268,8 @@ impl Task {
         self.give()
     }
 
-    /// Hands the first box left to another, the last one too, so that a task may end before all of it
-    /// is searched. None is handed exactly where none is left. After an error it is as it was.
+    /// Hands the first box left to another, the last one too, so that a task may end before all of
+    /// it is searched. None is handed exactly where none is left. After an error it is as it was.
     pub fn give(&mut self) -> Result<Option<Handed>, AllocError>
         ensures given { IfOk result (DidGive self.old self.new) }
         ensures none { IfOk result (λ given. IsNone given ↔ (self.old.boxes ≡ [])) }
@@ -340,8 +340,8 @@ impl Task {
         }
     }
 
-    // Goes over to a stronger formulation of the problem. What is searched for is the same. After an
-    // error the task is as it was.
+    // Goes over to a stronger formulation of the problem. What is searched for is the same. After
+    // an error the task is as it was.
     fn go_over(&mut self, stronger: Problem) -> Result<(), AllocError>
         requires base { self.old.params.base ≡ Surrogate }
         requires follows { Follows self.old.problem self.old.whole self.old.cutoff stronger }

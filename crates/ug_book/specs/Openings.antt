@@ -20,8 +20,8 @@ abbrev pub whole : Instance → ℕ → Settings → Opening
 whole p run settings =
     record { problem = p; run = run; best = None; boxes = [] ∷ []; settings = settings }
 
--- a book can be made of it: it has a run number, its incumbent is feasible, its boxes are changes of
--- the root's, and its settings are within their limits
+-- a book can be made of it: it has a run number, its incumbent is feasible, its boxes are changes
+-- of the root's, and its settings are within their limits
 pub record IsOpening (o : Opening) : Type 0 where
   pub run : 0 < o.run
   pub best : IfSome o.best (Feasible o.problem)

@@ -29,8 +29,8 @@ fn floor_of_race(raced: &Entry, states: &[State]) -> i128 {
     floor
 }
 
-/// The least floor of what is held: in the pool, whose first node has the least, with ranks, and in a
-/// race. The greatest number of all where nothing is held.
+/// The least floor of what is held: in the pool, whose first node has the least, with ranks, and in
+/// a race. The greatest number of all where nothing is held.
 pub fn least_floor(stock: &Stock) -> i128 {
     let states = stock.ranks.as_slice();
     let mut least = match &stock.raced {

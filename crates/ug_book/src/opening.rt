@@ -26,8 +26,8 @@ pub struct Opening {
 }
 
 impl Opening {
-    /// What a run of the whole problem begins with: the root is left, and there is no incumbent. The
-    /// problem is in one place for all that hold it.
+    /// What a run of the whole problem begins with: the root is left, and there is no incumbent.
+    /// The problem is in one place for all that hold it.
     pub fn new(
         alloc: Global,
         problem: Shared,

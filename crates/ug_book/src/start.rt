@@ -18,8 +18,8 @@ use ug_stock::{Queue, Run, Stock};
 
 impl Book {
     /// The book with which a run starts: its nodes have the opening's boxes, and the names that
-    /// they get under ticket 0 of the run, in order. The cutoff of an incumbent that is there counts
-    /// as announced.
+    /// they get under ticket 0 of the run, in order. The cutoff of an incumbent that is there
+    /// counts as announced.
     pub fn new(alloc: Global, opening: &Opening) -> Result<Book, AllocError>
         requires { IsOpening opening.now }
         ensures made { IfOk result (λ book. book ≡ opening_book opening.now) }
@@ -98,7 +98,7 @@ fn start_pool(run: &Run, boxes: &Boxes) -> Result<Pool, AllocError>
     pool.reserve(boxes.len())?;
     let mut hand = 0;
     for changes in boxes.as_slice() {
-        let changes = copy_of(changes)?;
+        let changes = changes.copy()?;
         put_start(run, &mut pool, hand, changes)?;
         hand += 1;
     }
@@ -121,11 +121,4 @@ fn put_start(run: &Run, pool: &mut Pool, hand: u64, changes: Changes) -> Result<
     let floor = run.floor_of(&changes);
     pool.put(Node { line, changes }, floor);
     Ok(())
-}
-
-// A copy of changes.
-fn copy_of(changes: &Changes) -> Result<Changes, AllocError>
-    ensures { IfOk result (λ copy. copy ≡ changes.now) }
-{
-    changes.clone()
 }

@@ -9,8 +9,8 @@ use Rattle.ug_coord.specs.Deeds.{Broke, Came, Closed, Decided, Deed, Halted, Kep
 use Rattle.ug_coord.specs.Deeds.{Nonsense, Sent, SetUp, Took, Unclosed, Unfed, Unread, Unsent}
 use Rattle.ug_coord.specs.Deeds.{Unwritten}
 
--- with the deed the rank is taken for gone: the crew says so, a call for it or a turn failed, or what
--- came from it is no report; an order could not be told to it; or a report of it cannot be so
+-- with the deed the rank is taken for gone: the crew says so, a call for it or a turn failed, or
+-- what came from it is no report; an order could not be told to it; or a report of it cannot be so
 abbrev pub IsEndOf : ℕ → Deed → Type 0
 IsEndOf rank (Launched other) = ⊥
 IsEndOf rank (SetUp other bytes) = ⊥

@@ -27,8 +27,9 @@ use Rattle.ug_coord.specs.declared.pacing.Pacing.{Pacing}
 use Rattle.ug_coord.specs.Ends.{IsOver}
 use Rattle.ug_coord.specs.Pacing.{IsSaveDue, saved_at}
 
--- what a coordinator does next: it decides; or it was decided, and it hears what comes; or something
--- came, and it reads what that is; or a turn failed, or the end is told, and it does neither any more
+-- what a coordinator does next: it decides; or it was decided, and it hears what comes; or
+-- something came, and it reads what that is; or a turn failed, or the end is told, and it does
+-- neither any more
 pub data Pace : Type 0 where
   Deciding : Pace
   Hearing : Pace
@@ -110,7 +111,8 @@ pub record HasMore (w : Waiting) : Type 0 where
 abbrev pub AreReadOut : List Waiting → Type 0
 AreReadOut streams = (rank : ℕ) → ¬ HasMore (slice_index_or streams rank first)
 
--- No end is due, and no order waits: each was told to its rank, or that failed, or the rank is gone.
+-- No end is due, and no order waits: each was told to its rank, or that failed, or the rank is
+-- gone.
 pub record IsSettled (old : Standing) : Type 0 where
   pub more : ¬ IsOver old.book
   pub told : old.book.orders ≡ []
@@ -126,7 +128,8 @@ pub record IsReading (old : Standing) : Type 0 where
   pub settled : IsSettled old
   pub decided : MayBeRead old.pace
 
--- a decision is due, and no end, nor a save: so a save comes right behind the report that asks for it
+-- a decision is due, and no end, nor a save: so a save comes right behind the report that asks for
+-- it
 pub record IsDeciding (old : Standing) : Type 0 where
   pub more : ¬ IsOver old.book
   pub due : MayDecide old.pace

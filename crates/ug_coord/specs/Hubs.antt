@@ -189,9 +189,10 @@ pub record IsFresh (seen : CrewSeen) (ranks : ℕ) : Type 0 where
   pub said : IfSome seen.said (λ said. said ≡ [])
   pub lives : seen.lives ≡ replicate ranks false
 
--- Deeds led from that standing to one with this book, and memory was wanting or not. The crew, where
--- it tells what was said, tells the same, and has failed as often. Each rank that lives was told the
--- end, or that failed. What is saved went on beside them, a save tried in each deed that is one.
+-- Deeds led from that standing to one with this book, and memory was wanting or not. The crew,
+-- where it tells what was said, tells the same, and has failed as often. Each rank that lives was
+-- told the end, or that failed. What is saved went on beside them, a save tried in each deed that
+-- is one.
 pub record EndsFrom (from : Standing) (h : HubSeen) (old new : KeptSeen) : Type 0 where
   pub now : Standing
   pub come : HasCome from now
@@ -210,13 +211,13 @@ pub record StartsAndEnds (ranks : ℕ) (from : Standing) (h : HubSeen) (old new 
   pub ends : EndsFrom from h old new
   pub started : AreStarted ranks ends.come.deeds
 
--- How the work ended: deeds led from the beginning with this book and a crew that had failed so often
--- to the end, none where memory was wanting for the book itself. The first of them start each rank.
--- The crew, where it tells what was said, tells the same, and has failed as often. Each rank that
--- lives was told the end, or that failed. It ended so just where that was due. Memory was wanting in
--- none of the deeds where there is a book, and no save is due any more. Each rank that is dead is so
--- for a cause, which the count of faults shows, or what came from it. So many saves were tried as
--- there are deeds that are one. Where each book of them was sound, it was safe.
+-- How the work ended: deeds led from the beginning with this book and a crew that had failed so
+-- often to the end, none where memory was wanting for the book itself. The first of them start each
+-- rank. The crew, where it tells what was said, tells the same, and has failed as often. Each rank
+-- that lives was told the end, or that failed. It ended so just where that was due. Memory was
+-- wanting in none of the deeds where there is a book, and no save is due any more. Each rank that
+-- is dead is so for a cause, which the count of faults shows, or what came from it. So many saves
+-- were tried as there are deeds that are one. Where each book of them was sound, it was safe.
 pub record HasCoordinated (b : BookState) (faults : ℕ) (seen : CrewSeen) (end : End)
     (Tried : ℕ → Type 0) (Safe : Type 0) : Type 0 where
   pub now : Standing

@@ -115,8 +115,8 @@ IsKeptSafe saver old new =
     IfSome saver (λ s. IsCoveredNow s old.told → AllCovered old.told new.told)
 
 -- So many saves were tried while it worked, and one of the ending book: each that succeeded has the
--- next sequence, and the others are counted. Where the last one succeeded, recovery finds the ending
--- book's image under that sequence.
+-- next sequence, and the others are counted. Where the last one succeeded, recovery finds the
+-- ending book's image under that sequence.
 pub record IsEachSaved (saver : Saver) (count : ℕ) (outcome : Outcome) (told : Option History)
     (b : BookState) : Type 0 where
   pub sequence : ℕ
@@ -130,8 +130,8 @@ AreEachSaved saver outcome new count =
     IfSome saver (λ s. IfBook outcome.end (IsEachSaved s count outcome new.told))
 
 -- What stands on the disk at the end. Without a saver it was not touched. With one the ending book
--- is saved, or that is counted; where recovery found an image of the run, it does so at each moment;
--- and saves are missed as often as the disk failed.
+-- is saved, or that is counted; where recovery found an image of the run, it does so at each
+-- moment; and saves are missed as often as the disk failed.
 pub record HasKept (b : BookState) (saver : Option Saver) (outcome : Outcome) (old new : DiskSeen)
     : Type 0 where
   pub untouched : IsNone saver → IsUntouched outcome old new

@@ -37,9 +37,10 @@ pub struct Coordinated<C> {
     pub crew: C,
 }
 
-/// Solves what the opening has left, with a crew of which nothing was heard yet and no rank of which
-/// lives: starts each rank, and goes on until an end is due. At the end each rank that lives is
-/// told. With a saver the book is saved as often as its settings say, and at last the ending book.
+/// Solves what the opening has left, with a crew of which nothing was heard yet and no rank of
+/// which lives: starts each rank, and goes on until an end is due. At the end each rank that lives
+/// is told. With a saver the book is saved as often as its settings say, and at last the ending
+/// book.
 #[tactic(auto)]
 pub fn coordinate<R: Wait, D: Disk, O: Observer, C: Crew + Drop>(
     host: &Host<'_, R, O>,

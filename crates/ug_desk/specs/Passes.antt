@@ -27,8 +27,8 @@ use Rattle.ug_desk.specs.Entries.{IsReplayed, IsSnapshotOf, LockedState}
 use Rattle.ug_desk.specs.Shelves.{SeatState, ViewState}
 use Rattle.ug_desk.specs.Words.{cutoff_at, floor_of, no_word, word_of}
 
--- at which lock it sits, and for which rank it speaks; what the history began with, the beginning of
--- it that the pass has seen, the pass's own calls, and the least cutoff that it knows, as a word
+-- at which lock it sits, and for which rank it speaks; what the history began with, the beginning
+-- of it that the pass has seen, the pass's own calls, and the least cutoff that it knows, as a word
 pub record PassState : Type 0 where
   pub lock : TableId
   pub rank : ℕ
@@ -102,8 +102,8 @@ abbrev pub calls_of : ℕ → List Entry → List Entry
 calls_of r history = calls_by (λ (e : Entry). e.pass) r history
 
 -- A call of a pass: there is one history, which leads from the opening to what then stands, begins
--- with all that the pass had seen, and ends with this call, if it has an entry. The pass's own calls
--- stand in it, each once.
+-- with all that the pass had seen, and ends with this call, if it has an entry. The pass's own
+-- calls stand in it, each once.
 pub record HasCalledAt (call : Option Call) (after : LockedState) (old new : PassState) : Type 0 where
   pub between : List Entry
   pub seen : new.seen ≡ (old.seen ++ between) ++ told (entry_by old.rank call)
@@ -122,7 +122,8 @@ HasCalled call old new = (after : LockedState) × HasCalledAt call after old new
 abbrev pub IsItsProblem : PassState → Instance → Type 0
 IsItsProblem p problem = IfSome p.opening (λ o. problem ≡ o.problem)
 
--- What there is is taken. Where memory is wanting to make the task of it, it was taken all the same.
+-- What there is is taken. Where memory is wanting to make the task of it, it was taken all the
+-- same.
 abbrev pub HasTakenIn : Result Took Untaken → PassState → PassState → Type 0
 HasTakenIn (Ok took) old new = HasCalled (Some (taken (Ok took))) old new
 HasTakenIn (Err (Deciding stood)) old new =

@@ -1,5 +1,5 @@
--- The incumbent's cutoff as a word, which is read without the lock: how far it is above the floor of
--- the root box, and the greatest word where there is none or it is further.
+-- The incumbent's cutoff as a word, which is read without the lock: how far it is above the floor
+-- of the root box, and the greatest word where there is none or it is further.
 use Rattle.std.specs.Prelude.{ℕ, ℤ, pos, ◌+ℤ◌, ◌-ℤ◌, ◌-◌, ◌^◌, min, Option, Some, None, unsigned_abs}
 use Rattle.std.specs.Prelude.{if◌then◌else◌, nat_eq}
 use Rattle.ug_rows.specs.Sums.{box_floor}

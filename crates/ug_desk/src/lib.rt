@@ -2,8 +2,8 @@
 //! It stands on ug_book, on ug_turn for the lock, on ug_worker for tasks and on ug_snapshot for
 //! images. The calls of `Locked`, the value behind the lock, do exactly what the rules of the book
 //! say. There is one history of calls: each call of a pass goes on from all that the pass had seen,
-//! ends with the call, and has the pass's own calls, each once. That a Done is true follows from the
-//! type of its task.
+//! ends with the call, and has the pass's own calls, each once. That a Done is true follows from
+//! the type of its task.
 #![tactic(auto)]
 
 mod answer;

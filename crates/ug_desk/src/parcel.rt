@@ -50,7 +50,7 @@ impl Parcel {
         requires { AreChangesOf (root_of book.now.problem) node.now.changes }
         ensures { IfOk result (λ parcel. parcel ≡ task_of book.now ticket params node.now) }
     {
-        let changes = copy_of(&node.changes)?;
+        let changes = node.changes.copy()?;
         let cutoff = cutoff_of_best(book);
         let gap = book.settings().gap;
         let problem = match book.problem().share() {
@@ -101,13 +101,6 @@ impl Parcel {
             }
         }
     }
-}
-
-// A copy of changes.
-fn copy_of(changes: &Changes) -> Result<Changes, AllocError>
-    ensures { IfOk result (λ copy. copy ≡ changes.now) }
-{
-    changes.clone()
 }
 
 // The box of a node.

@@ -7,8 +7,8 @@ use ug_book::Book;
 use ug_nodes::{Node, Ticket};
 use ug_problem::Problem;
 
-/// Whether a task of the book's problem is of the current ticket of a rank: ticket and whole box are
-/// the book's. It takes no memory, and looks at no row.
+/// Whether a task of the book's problem is of the current ticket of a rank: ticket and whole box
+/// are the book's. It takes no memory, and looks at no row.
 pub fn is_of_ticket(book: &Book, rank: u32, task: &Task) -> bool
     requires here { rank < length book.now.ranks }
     requires problem { task.now.problem ≡ book.now.problem }

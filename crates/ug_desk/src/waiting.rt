@@ -56,9 +56,9 @@ impl Waiting {
         }
     }
 
-    /// Who is to be woken: all where it is over, else one at most. That is the lowest that was given
-    /// work; or the lowest of all, to which a decision gives first, where an open node waits or it
-    /// is time to look. Who takes what is there wakes the next.
+    /// Who is to be woken: all where it is over, else one at most. That is the lowest that was
+    /// given work; or the lowest of all, to which a decision gives first, where an open node waits
+    /// or it is time to look. Who takes what is there wakes the next.
     pub fn woken(&self, book: &Book) -> Woken {
         if self.count == 0 {
             return Woken::Nobody;

@@ -6,8 +6,8 @@ pub fn begins_covered()
     ensures sound { StartIsSound }
 {}
 
-/// The primitive nodes of a sound ledger are Covered; and where it holds nothing, the points kept are
-/// a right answer.
+/// The primitive nodes of a sound ledger are Covered; and where it holds nothing, the points kept
+/// are a right answer.
 pub fn covered_to_the_end()
     ensures primitive { PrimitiveAreCovered }
     ensures answer { AnswerIsRight }

@@ -1,9 +1,10 @@
 //! The program `ug`: solves bounded integer programs of MPS files, and goes on from checkpoints. It
-//! stands on ug_top, on ug_cli for the words, on ug_print for why a text is refused, and on ug_real.
-//! `main` makes the real objects, a reader of the file, a writer to standard output, the folder of
-//! the checkpoint, and where words ask for it a crew of children or the socket of one; `carry_out`
-//! runs with them, under the contract of `run`, which says what was printed. Standard error gets the
-//! usage line, why a run failed, and, on a terminal or with `UG_PROGRESS` set, how it gets on.
+//! stands on ug_top, on ug_cli for the words, on ug_print for why a text is refused, and on
+//! ug_real. `main` makes the real objects, a reader of the file, a writer to standard output, the
+//! folder of the checkpoint, and where words ask for it a crew of children or the socket of one;
+//! `carry_out` runs with them, under the contract of `run`, which says what was printed. Standard
+//! error gets the usage line, why a run failed, and, on a terminal or with `UG_PROGRESS` set, how
+//! it gets on.
 #![tactic(auto)]
 
 ghost use Rattle.std.specs.Prelude.{◌≡◌, IfOk, IfSome};
@@ -401,7 +402,8 @@ fn explain_refusal<R: Eprint>(rt: &R, file: &str, refusal: Option<Refusal>) {
     }
 }
 
-// Says what is the matter with the checkpoint in this folder, and what helps where solvers are gone.
+// Says what is the matter with the checkpoint in this folder, and what helps where solvers are
+// gone.
 fn advise<R: Eprint>(rt: &R, paths: Paths<'_>, status: Status) {
     let folder = paths.folder;
     let advice = match status {

@@ -5,10 +5,11 @@ use ug_restart::{Begun, Dropped, Moment, Observer, Progress};
 const MILLION: u64 = 1_000_000;
 
 /// Tells on standard error how a run gets on, where that is wanted: a line when it begins, one at
-/// better incumbents, but where they come one behind another no sooner than a sixteenth of all reports
-/// behind the last line, one after 1000, 2000, 5000, 10000 and so on reports, from a million on at each
-/// million, one where a rank is heard no more, and one when it has ended. That a column stands at a
-/// bound that the text does not have is told in any case, since the answer is to be read by it.
+/// better incumbents, but where they come one behind another no sooner than a sixteenth of all
+/// reports behind the last line, one after 1000, 2000, 5000, 10000 and so on reports, from a
+/// million on at each million, one where a rank is heard no more, and one when it has ended. That a
+/// column stands at a bound that the text does not have is told in any case, since the answer is to
+/// be read by it.
 #[derive(Drop)]
 pub struct Teller<'a, R> {
     rt: &'a R,

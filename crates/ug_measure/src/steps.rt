@@ -39,7 +39,8 @@ fn task_of(alloc: Global, problem: Problem, params: u8) -> Option<Task> {
 #[derive(Clone, Copy)]
 pub struct Searched {
     pub steps: u64,
-    /// The least value, multiplied by ten to the objective's scale. None where no point is feasible.
+    /// The least value, multiplied by ten to the objective's scale. None where no point is
+    /// feasible.
     pub best: Option<i128>,
 }
 

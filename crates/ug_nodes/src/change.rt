@@ -1,6 +1,7 @@
-ghost use Rattle.std.specs.Prelude.{◌≡◌, ◌↔◌, IsSome, IsTrue, IfSome};
+ghost use Rattle.std.specs.Prelude.{◌≡◌, ◌↔◌, IsSome, IsTrue, IfOk, IfSome};
 ghost use Rattle.ug_nodes.specs.Changes.{change_bounds, IsRising};
 
+use std::alloc::AllocError;
 use std::marker::Model;
 use ug_lists::{Same, are_same};
 use ug_rows::Interval;
@@ -68,6 +69,13 @@ impl Changes {
             return None;
         }
         Some(Changes { changes })
+    }
+
+    /// A copy.
+    pub fn copy(&self) -> Result<Changes, AllocError>
+        ensures { IfOk result (λ copy. copy ≡ self.now) }
+    {
+        self.clone()
     }
 
     pub fn as_slice(&self) -> &[Change]

@@ -1,9 +1,9 @@
 //! A worker that renews its task, at a seat in memory that notes what it is told and asks for
-//! nothing; and one whose seat knows of a cutoff, or has a task dropped behind its point. By hand, of
-//! the stairs (served/stairs.rt): the first round finds a point and leaves three boxes, the second
-//! finds one and leaves five. The third finds the point with a = 9 by 13 halvings of b and 15 of c,
-//! drops the 30 boxes left of it, halves a from 6..8 to 8 and then b four times: 64 steps, and seven
-//! boxes are left. No value is below -65534.
+//! nothing; and one whose seat knows of a cutoff, or has a task dropped behind its point. By hand,
+//! of the stairs (served/stairs.rt): the first round finds a point and leaves three boxes, the
+//! second finds one and leaves five. The third finds the point with a = 9 by 13 halvings of b and
+//! 15 of c, drops the 30 boxes left of it, halves a from 6..8 to 8 and then b four times: 64 steps,
+//! and seven boxes are left. No value is below -65534.
 
 ghost use Rattle.std.specs.Prelude.{◌≡◌, None};
 
@@ -183,9 +183,9 @@ fn task(alloc: Global) -> Option<Task> {
 }
 
 // A task that is renewed after so many rounds at the least, and whatever part of all they are;
-// after how many the race is won; for which hand there is no memory; which cutoff is known without a
-// report, and whether a task is dropped behind its point; what is told, and whether the boxes handed
-// are those by hand.
+// after how many the race is won; for which hand there is no memory; which cutoff is known without
+// a report, and whether a task is dropped behind its point; what is told, and whether the boxes
+// handed are those by hand.
 #[derive(Clone, Copy)]
 struct Case {
     rounds: u64,

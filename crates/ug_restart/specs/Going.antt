@@ -34,7 +34,8 @@ StaysFound b old new = IfSome old.disk.told (λ history.
     Leaves (FindsIn (IsOfRun b)) (Some history) new.disk.told
     × LastIs (IsOfRun b) (saver_of new.saves) new.disk.told)
 
--- no more saves were missed than the disk failed; or its count of faults stands at its greatest value
+-- no more saves were missed than the disk failed; or its count of faults stands at its greatest
+-- value
 abbrev pub IsEachAFault : Time → Time → Type 0
 IsEachAFault old new =
     (missed_of new.saves + old.disk.faults ≤ missed_of old.saves + new.disk.faults)
@@ -58,9 +59,9 @@ pub record GoesOn (Covers Ours : Type 0) (old new : Time) : Type 0 where
       → IsFoundNow (IsOfRun (book_of old.saves)) (saver_of old.saves) old.disk.told
       → StaysFound (book_of old.saves) old new
 
--- A save became this: an image that has P is found, whatever a crash leaves, under the next sequence,
--- and no count rose; or the disk failed, and one more is missed; or memory was wanting, and one more
--- is unsaved.
+-- A save became this: an image that has P is found, whatever a crash leaves, under the next
+-- sequence, and no count rose; or the disk failed, and one more is missed; or memory was wanting,
+-- and one more is unsaved.
 abbrev pub IsAttempted : (Image → Type 0) → Attempt → Time → Time → Type 0
 IsAttempted P Saved old new =
     FindsOne (IsLastWith P new.saves) new.disk.told

@@ -72,7 +72,8 @@ pub record LastIs (P : Image → Type 0) (saver : Saver) (told : Option History)
   pub last : IsLast (last_slot saver) told (Some found)
   pub is : P found.image
 
--- whatever a crash leaves now, recovery finds an image that has P; so does the last acknowledged one
+-- whatever a crash leaves now, recovery finds an image that has P; so does the last acknowledged
+-- one
 pub record IsFoundNow (P : Image → Type 0) (saver : Saver) (told : Option History) : Type 0 where
   pub could : IfSome told (λ history. (zero one : List ℕ)
       → MayLeaveBoth history.now zero one → FindsIn P zero one)

@@ -26,8 +26,8 @@ pub record IsAcknowledgedStart (told : Option History) (book : BookState) (saver
   pub last : last_slot saver ≡ Some found.slot
   pub written : IsWritten found.slot found.image told
 
--- How a run starts: its book is one of these, and can be made of what it begins with; and an image of
--- it is acknowledged, which the saver knows.
+-- How a run starts: its book is one of these, and can be made of what it begins with; and an image
+-- of it is acknowledged, which the saver knows.
 pub record IsStart (Is : BookState → Type 0) (told : Option History) (s : Start) : Type 0 where
   pub book : Is (opening_book s.opening)
   pub opening : IsOpening s.opening
@@ -53,7 +53,8 @@ IsNotSaved DiskFault = Unit {0}
 IsNotSaved fault = ⊥
 
 -- This was found, if anything was: at some moment between the two times the slots had bytes that a
--- crash could have left at the first, a crash would have left just them, and recovery finds it there.
+-- crash could have left at the first, a crash would have left just them, and recovery finds it
+-- there.
 pub record WasFound (old new : Option History) (found : Option Found) : Type 0 where
   pub mid : Option History
   pub has : HasFound old mid found

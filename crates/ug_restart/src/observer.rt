@@ -25,8 +25,9 @@ pub struct Progress {
     pub heard: u64,
     /// The value of the incumbent as it is printed, if there is one.
     pub best: Option<Vec<u8>>,
-    /// The value as it is printed that no point has a better one than, as far as the ranks told what
-    /// is so: the least of the floors of what is held, and of the incumbent's value less the gap.
+    /// The value as it is printed that no point has a better one than, as far as the ranks told
+    /// what is so: the least of the floors of what is held, and of the incumbent's value less the
+    /// gap.
     pub bound: Option<Vec<u8>>,
     /// How many nodes are left that have no other above them.
     pub nodes: usize,

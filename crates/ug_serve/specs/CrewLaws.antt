@@ -23,8 +23,8 @@ pub record AreReportsAt (said : List Exchange) (rank : ℕ) (heard : List Report
   pub rest : List ℕ
   pub parts : heard_at rank said ≡ flat_map reports.spelled heard ++ rest
 
--- a worker did these deeds from the beginning, by which these reports were told and no others, and a
--- front of the bytes that were told to the rank is all that it heard until then
+-- a worker did these deeds from the beginning, by which these reports were told and no others, and
+-- a front of the bytes that were told to the rank is all that it heard until then
 pub record IsTeller (said : List Exchange) (rank : ℕ) (heard : List Report) (deeds : List Deed)
     : Type 0 where
   pub now : Standing
@@ -34,8 +34,8 @@ pub record IsTeller (said : List Exchange) (rank : ℕ) (heard : List Report) (d
   pub ahead : List ℕ
   pub came : told_at rank said ≡ heard_in now.said ++ ahead
 
--- where a worker is at the rank, the reports that were heard from it are all that a worker told until
--- then, which did and heard no more than that one
+-- where a worker is at the rank, the reports that were heard from it are all that a worker told
+-- until then, which did and heard no more than that one
 abbrev pub WorkersAreHeard : Type 0
 WorkersAreHeard = (said : List Exchange) (rank : ℕ) (heard : List Report) → IsWorked said rank
     → AreReportsAt said rank heard → (deeds : List Deed) × IsTeller said rank heard deeds

@@ -1,5 +1,5 @@
--- What goes between a coordinator and a worker over a link, and what the worker does at each piece of
--- it.
+-- What goes between a coordinator and a worker over a link, and what the worker does at each piece
+-- of it.
 use Rattle.std.specs.Prelude.{◌≡◌, ◌≢◌, ◌⊎◌, ℕ, ℤ, Bool, false, List, [], ◌∷◌, length}
 use Rattle.std.specs.Prelude.{Option, Some}
 use Rattle.ug_rows.specs.declared.area.Interval.{Interval}
@@ -31,9 +31,9 @@ pub record Basis : Type 0 where
   pub problem : Instance
   pub gap : ℤ
 
--- where a worker stands: nothing was ordered yet; the problem came, and Ready is to be told; it has no
--- task; it has one; the end was ordered, and Ended is to be told; nothing comes after. From Ready on
--- it counts its rounds.
+-- where a worker stands: nothing was ordered yet; the problem came, and Ready is to be told; it has
+-- no task; it has one; the end was ordered, and Ended is to be told; nothing comes after. From
+-- Ready on it counts its rounds.
 pub data Stage : Type 0 where
   Blank : Stage
   SetUp : Basis → Stage
@@ -114,8 +114,8 @@ abbrev pub IsTakenFirst : Order → Stage → Type 0
 IsTakenFirst (Setup gap bytes) new = IsSetUp Blank gap bytes new
 IsTakenFirst order new = ⊥
 
--- an order that is due was taken, and this is what it does: a Setup comes first and alone first, and
--- Work where there is no task
+-- an order that is due was taken, and this is what it does: a Setup comes first and alone first,
+-- and Work where there is no task
 abbrev pub IsTaken : Stage → Order → Stage → Type 0
 IsTaken Blank order new = IsTakenFirst order new
 IsTaken (SetUp basis) order new = ⊥

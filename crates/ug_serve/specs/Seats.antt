@@ -41,8 +41,8 @@ abbrev pub stage_of : Basis → Tally → Option Engaged → Stage
 stage_of basis tally None = Free basis tally
 stage_of basis tally (Some e) = Busy basis tally e
 
--- what the seat shows: how its service ended, if it has; its link; what waits; what it keeps; and where
--- the last order began
+-- what the seat shows: how its service ended, if it has; its link; what waits; what it keeps; and
+-- where the last order began
 pub record SeatSeen : Type 0 where
   pub end : Option Served
   pub link : LinkSeen

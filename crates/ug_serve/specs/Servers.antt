@@ -15,8 +15,8 @@ use Rattle.ug_serve.specs.Seats.{IsSeated}
 use Rattle.ug_serve.specs.Serving.{HasServed, IsOn, StandsOn}
 use Rattle.ug_worker.specs.Workers.{IsAtWork}
 
--- a worker's deeds led from the beginning to a standing, and its link shows them; or its service has
--- ended
+-- a worker's deeds led from the beginning to a standing, and its link shows them; or its service
+-- has ended
 abbrev pub IsServing : LinkSeen → Progress → Type 0
 IsServing seen GoesOn = (now : Standing) × IsOn seen now
 IsServing seen Waits = (now : Standing) × IsOn seen now

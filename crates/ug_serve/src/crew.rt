@@ -94,8 +94,8 @@ impl<'a> WorkerCrew<'a> {
         self.faults
     }
 
-    /// At each moment what was heard from each rank was what a worker tells that hears what was told
-    /// to it by then.
+    /// At each moment what was heard from each rank was what a worker tells that hears what was
+    /// told to it by then.
     pub fn is_worked(&self)
         ensures { AreAlwaysWorked (exchanged_of self.now) }
     {

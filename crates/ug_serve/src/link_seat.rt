@@ -175,7 +175,8 @@ impl<L: Link + Drop> LinkSeat<L> {
         }
     }
 
-    // Obeys an order between two rounds, which may lower the cutoff. False where the task is dropped.
+    // Obeys an order between two rounds, which may lower the cutoff. False where the task is
+    // dropped.
     fn obey(&mut self, order: Order, cutoff: &mut Option<i128>) -> bool
         requires { (tally : Tally) × (e : Engaged) × (e.made ≡ 0)
             × IsOrdered (seat_seen L.seen self.old.wire self.old.kept) tally (Some e) order }

@@ -42,8 +42,8 @@ pub struct Moved<L> {
     pub server: Server<L>,
 }
 
-/// A worker whose coordinator is at the other end of a link: it hears the problem, then searches each
-/// box that is ordered, until the end is ordered.
+/// A worker whose coordinator is at the other end of a link: it hears the problem, then searches
+/// each box that is ordered, until the end is ordered.
 #[derive(Drop)]
 pub struct Server<L> {
     pub(crate) alloc: Global,
@@ -73,8 +73,8 @@ impl<L: Link + Drop> Server<L> {
         }
     }
 
-    /// Takes the orders that are there, makes a round of steps where it has a task, and tells what it
-    /// has to tell. It does not wait.
+    /// Takes the orders that are there, makes a round of steps where it has a task, and tells what
+    /// it has to tell. It does not wait.
     pub fn step(self) -> Moved<L>
         requires { IsServer L.seen self }
         ensures { HasMoved L.seen result }

@@ -53,15 +53,16 @@ impl Staff {
         self.exchanged.as_slice()
     }
 
-    /// At each moment what was heard from each rank was what a worker tells that hears what was told
-    /// to it by then.
+    /// At each moment what was heard from each rank was what a worker tells that hears what was
+    /// told to it by then.
     pub fn is_worked(&self)
         ensures { AreAlwaysWorked self.now }
     {
         let _places = &self.places;
     }
 
-    /// Places a worker at the rank, where there is a place and none has it. It reads into this buffer.
+    /// Places a worker at the rank, where there is a place and none has it. It reads into this
+    /// buffer.
     pub fn man(&mut self, rank: u32, input: Vec<u8>) -> bool
         requires { 0 < length input.items }
         ensures { self.new ≡ self.old }

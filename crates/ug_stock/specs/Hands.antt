@@ -58,8 +58,8 @@ abbrev pub IsWorking : State → Type 0
 IsWorking (Active work) = Unit {0}
 IsWorking state = ⊥
 
--- a hand of these changes can be taken of the rank: it works, and they are changes of the root's box,
--- whose floor is known
+-- a hand of these changes can be taken of the rank: it works, and they are changes of the root's
+-- box, whose floor is known
 pub record CanBeTaken (run : Run) (rank : ℕ) (its_changes : List Change) (ranks : List State)
     : Type 0 where
   pub there : rank < length ranks

@@ -28,15 +28,9 @@ pub fn first_changes(pool: &Pool) -> Result<Changes, AllocError>
     ensures { IfOk result (λ changes. changes ≡ (entry_at pool.now.entries 0).node.changes) }
 {
     match pool.first() {
-        Some(first) => first.node.changes.clone(),
+        Some(first) => first.node.changes.copy(),
         None => Err(AllocError),
     }
-}
-
-fn copy(changes: &Changes) -> Result<Changes, AllocError>
-    ensures { IfOk result (λ copy. copy ≡ changes.now) }
-{
-    changes.clone()
 }
 
 /// So many copies of the changes.
@@ -45,7 +39,7 @@ pub fn copies(alloc: Global, changes: &Changes, n: usize) -> Result<Vec<Changes>
 {
     let mut copies = Vec::new(alloc);
     for _ in 0..n {
-        copies.push(copy(changes)?)?;
+        copies.push(changes.copy()?)?;
     }
     Ok(copies)
 }

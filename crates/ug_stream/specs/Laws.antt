@@ -36,8 +36,8 @@ module _ {M : Type 0} (IsCarried : M → Type 0) (spelled : M → List ℕ) wher
   abbrev pub IsOver : List ℕ → Type 0
   IsOver bytes = (message : M) → ¬ BeginsWith IsCarried spelled bytes message
 
-  -- what waited and the pieces are the frames of the messages given and what waits then; each is such
-  -- as comes in a frame
+  -- what waited and the pieces are the frames of the messages given and what waits then; each is
+  -- such as comes in a frame
   pub record HasGiven (rounds : List (Round M)) (old new : Waiting) : Type 0 where
     pub carried : All IsCarried (messages rounds)
     pub same : old.bytes ++ joined rounds ≡ flat_map spelled (messages rounds) ++ new.bytes

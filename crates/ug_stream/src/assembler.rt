@@ -73,8 +73,8 @@ impl Assembler {
         self.at
     }
 
-    /// What comes next. A message leaves with its bytes, and bad bytes leave for good. Memory is taken
-    /// for a message alone.
+    /// What comes next. A message leaves with its bytes, and bad bytes leave for good. Memory is
+    /// taken for a message alone.
     #[tactic(auto, using(crate::proofs::Reading::given_is, crate::proofs::Reading::used_fits))]
     pub fn next<M: Framed + Drop>(&mut self, alloc: Global) -> Result<Next<M>, AllocError>
         ensures ok { IfOk result (IsNext M.carried M.spelled self.old self.new) }
@@ -125,8 +125,8 @@ impl Assembler {
         }
     }
 
-    // Lets go of the bytes that were given, where none waits, or no more than were given and there is
-    // memory for these apart. So a byte is copied but once for one that was given.
+    // Lets go of the bytes that were given, where none waits, or no more than were given and there
+    // is memory for these apart. So a byte is copied but once for one that was given.
     fn settle(&mut self)
         ensures { self.new ≡ self.old }
     {

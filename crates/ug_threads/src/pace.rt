@@ -4,8 +4,9 @@ ghost use Rattle.std.specs.Prelude.{◌≡◌, ◌+◌, ◌*◌, ◌-◌, ◌^�
 
 use std::sync::atomic::{AtomicU64, Ordering};
 
-// All solvers wait while the nodes of a snapshot are copied. So many reports for each node are heard
-// before the next, so that copying takes a small part of the time, however many nodes there are.
+// All solvers wait while the nodes of a snapshot are copied. So many reports for each node are
+// heard before the next, so that copying takes a small part of the time, however many nodes there
+// are.
 const REPORTS_A_NODE: u64 = 8;
 
 /// When a snapshot is due, for all seats of a desk together: behind a report whose number is a

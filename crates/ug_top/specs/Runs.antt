@@ -93,9 +93,9 @@ pub record IsFoundSince (Is : BookState → Type 0) (old new : Option History) :
   pub before : Leaves (IsSafeStart old Is) old begun
   pub since : Leaves (FindsIn (IsOfRun book)) begun new
 
--- Since it had begun an image of the run is found. Recovery finds an image of the ending book, or its
--- save is one of those counted; saves are missed only where the disk failed, and no more than it did,
--- and it did not fail where none was.
+-- Since it had begun an image of the run is found. Recovery finds an image of the ending book, or
+-- its save is one of those counted; saves are missed only where the disk failed, and no more than
+-- it did, and it did not fail where none was.
 pub record IsKeptOn (Is : BookState → Type 0) (outcome : Outcome) (old new : DiskSeen)
     : Type 0 where
   pub found : IsFoundSince Is old.told new.told

@@ -27,7 +27,8 @@ use ug_io::{Crew, Link, Source};
 use ug_restart::{Host, Observer};
 
 /// Does what the plan asks for, up to the lines, which it does not write: it reads the source,
-/// runs, saves to the disk, and works with the crew or over the link, each as far as the plan has it.
+/// runs, saves to the disk, and works with the crew or over the link, each as far as the plan has
+/// it.
 #[tactic(auto, using(crate::proofs::Gathered::has_stopped, crate::proofs::Gathered::stops_unread))]
 pub fn run_plan<
     R: Threads + Wait + Sync,

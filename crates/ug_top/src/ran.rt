@@ -10,8 +10,8 @@ pub struct Refusal {
 }
 
 /// How a run of the program ended, and why its text was refused, where it was. Of a best point that
-/// is no answer yet, of a run that goes on or of a checkpoint, the lines of the columns that are not
-/// 0, if there is one and memory sufficed.
+/// is no answer yet, of a run that goes on or of a checkpoint, the lines of the columns that are
+/// not 0, if there is one and memory sufficed.
 #[derive(Drop)]
 pub struct Ran {
     pub status: Status,

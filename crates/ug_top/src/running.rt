@@ -22,9 +22,8 @@ use ug_serve::services_end_in_one_way;
 
 /// Does all that the program does: reads the words, which are those behind the program's name, does
 /// what they ask for, and writes the lines of it. `Memory` alone has no cause: it may come in place
-/// of any status but `Usage`, or before the outside fails. What the words need, a crew or a link, is
-/// among the objects. Of a text that was refused it answers why,
-/// whatever became of its line.
+/// of any status but `Usage`, or before the outside fails. What the words need, a crew or a link,
+/// is among the objects. Of a text that was refused it answers why, whatever became of its line.
 pub fn run<R, S, K, D, O, C, L>(
     host: &Host<'_, R, O>,
     words: &[String],

@@ -16,8 +16,9 @@ use ug_restart::{Host, Observer, Outcome};
 use ug_threads::solve_threads;
 use ug_world::{calm_workers_live, coordinators_lose_nothing};
 
-/// Solves what the opening has left: by the crew, where there is one, and else by as many threads as
-/// the opening's settings have solvers. With a saver the book is saved, and at last the ending one.
+/// Solves what the opening has left: by the crew, where there is one, and else by as many threads
+/// as the opening's settings have solvers. With a saver the book is saved, and at last the ending
+/// one.
 pub fn solve_by<R: Threads + Wait + Sync, D: Disk, O: Observer, C: Crew + Drop>(
     host: &Host<'_, R, O>,
     crew: &mut Option<C>,

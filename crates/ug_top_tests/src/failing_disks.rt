@@ -149,8 +149,8 @@ fn missed_save_of_a_snapshot_is_followed_by_the_last_save(rt: HostRuntime) {
     same(&rt, &met, &6);
 }
 
-// Whether a solve that saves after each report misses two saves, where this call of its disk and the
-// next one fail: a save ends with the call that fails, and another begins with the next.
+// Whether a solve that saves after each report misses two saves, where this call of its disk and
+// the next one fail: a save ends with the call that fails, and another begins with the next.
 fn misses_two<R: Threads + Wait + Sync + Abort>(rt: &R, alloc: Global, call: u64) -> bool {
     let calls = [call, call.saturating_add(1)];
     let mut disk = failing_disk(alloc, b"", &calls).expect(rt, "memory");

@@ -1,5 +1,5 @@
--- A task in a worker's hands, and what the worker does between two looks at its orders: a round of so
--- many steps, then the boxes that are asked for, then what is left; or, where the task is to be
+-- A task in a worker's hands, and what the worker does between two looks at its orders: a round of
+-- so many steps, then the boxes that are asked for, then what is left; or, where the task is to be
 -- renewed, all boxes.
 use Rattle.std.specs.Prelude.{◌≡◌, ◌⊎◌, ℕ, ℤ, zero, suc, ◌+◌, ◌-◌, ◌<◌, ◌≤◌, Bool, true, false, List, [], length}
 use Rattle.std.specs.Prelude.{Option, Some, None, if◌then◌else◌}
@@ -129,8 +129,8 @@ module _ (At : Option Engaged → Type 0) where
     pub at : At (Some now)
     pub begun : IsBegun now task
 
-  -- the task goes on, under the cutoff told, so many boxes are to be handed, and others have the same
-  -- box or not
+  -- the task goes on, under the cutoff told, so many boxes are to be handed, and others have the
+  -- same box or not
   pub record GoesOn (task : TaskState) (reply : Reply) : Type 0 where
     pub now : Engaged
     pub at : At (Some now)

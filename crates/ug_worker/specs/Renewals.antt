@@ -24,8 +24,8 @@ one_more n = min (n + 1) (2 ^ 64 - 1)
 abbrev pub counted : Tally → Tally
 counted tally = record tally { all = one_more tally.all; task = one_more tally.task }
 
--- The task had enough rounds, and a large enough part of all that its worker made; and no others have
--- the same box.
+-- The task had enough rounds, and a large enough part of all that its worker made; and no others
+-- have the same box.
 pub record IsDue (tally : Tally) (racing : Bool) : Type 0 where
   pub renewal : Renewal
   pub renews : tally.renewal ≡ Some renewal

@@ -59,8 +59,8 @@ impl Search {
         self.obey(seat, reply)
     }
 
-    /// Some steps, and what is then to be handed and told, or all that is left given; how the worker
-    /// stands to a task that ends here.
+    /// Some steps, and what is then to be handed and told, or all that is left given; how the
+    /// worker stands to a task that ends here.
     pub fn round<S: Seat>(&mut self, seat: &mut S) -> Result<(), Left>
         requires { StandsAt (S.at seat.old self.old.tally) self.old.task 0 self.old.asked }
         ensures ok { OnOk result

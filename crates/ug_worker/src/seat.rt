@@ -13,9 +13,9 @@ use std::alloc::AllocError;
 use ug_base::Task;
 use ug_rows::{IntBox, Point};
 
-/// Where a worker sits: what it takes its work from, and tells of it. What the worker has to have done
-/// before a call is the call's condition, over the task as it was at the call before, and the rounds
-/// that the worker made.
+/// Where a worker sits: what it takes its work from, and tells of it. What the worker has to have
+/// done before a call is the call's condition, over the task as it was at the call before, and the
+/// rounds that the worker made.
 pub trait Seat {
     ghost use Rattle.std.specs.Prelude.{Option};
     ghost use Rattle.ug_worker.specs.declared.tally.Tally.{Tally};

@@ -1,5 +1,5 @@
--- The law of a calm crew of workers: where no call failed and memory was not wanting, no rank is taken
--- for gone.
+-- The law of a calm crew of workers: where no call failed and memory was not wanting, no rank is
+-- taken for gone.
 use Rattle.std.specs.Prelude.{◌≡◌, ℕ, false}
 use Rattle.ug_io.specs.Outside.{IsCalm}
 use Rattle.ug_ranks.specs.Looks.{is_joined}
@@ -11,9 +11,9 @@ use Rattle.ug_coord.specs.Hubs.{HasCome, beginning}
 use Rattle.ug_serve.specs.Staffs.{AreAlwaysWorked}
 use Rattle.ug_world.specs.Workers.{IsUnused}
 
--- From a book that has given no ticket, and no rank of which has joined: the count of faults is the same
--- at the end, and memory was not wanting. At each moment what was heard of each rank was what a worker
--- tells.
+-- From a book that has given no ticket, and no rank of which has joined: the count of faults is the
+-- same at the end, and memory was not wanting. At each moment what was heard of each rank was what
+-- a worker tells.
 pub record IsCalmCourse (b : BookState) (faults : ℕ) (now : Standing) : Type 0 where
   pub unused : IsUnused b
   pub away : (rank : ℕ) → is_joined (state_at b.ranks rank) ≡ false
@@ -21,7 +21,8 @@ pub record IsCalmCourse (b : BookState) (faults : ℕ) (now : Standing) : Type 0
   pub calm : IsCalm faults now.faults
   pub memory : now.wants ≡ false
 
--- Then no deed takes a rank for gone: no bytes that come are bad, and no answer to a report is its death.
+-- Then no deed takes a rank for gone: no bytes that come are bad, and no answer to a report is its
+-- death.
 abbrev pub CalmWorkersLive : Type 0
 CalmWorkersLive = (b : BookState) (faults : ℕ) (now : Standing) (come : HasCome (beginning b faults) now)
     → IsCalmCourse b faults now → (rank : ℕ) → HasCause rank come.deeds → ⊥

@@ -92,8 +92,8 @@ abbrev pub IsHonestFrom : (b : BookState) (faults : ℕ) (now : Standing) → Ha
 IsHonestFrom b faults now come = StaysHonest (beginning b faults) nothing come.deeds now come.course
 
 -- From a sound book that has given no ticket: whatever comes of the crew, whichever ranks are gone
--- and whichever calls fail, at each moment the book is sound, so no better point is lost, as long as
--- what is heard is honest.
+-- and whichever calls fail, at each moment the book is sound, so no better point is lost, as long
+-- as what is heard is honest.
 abbrev pub CoordinatorsLoseNothing : Type 0
 CoordinatorsLoseNothing = (b : BookState) (faults : ℕ) (now : Standing)
     (come : HasCome (beginning b faults) now) → IsBook b ⊎ (come.deeds ≡ []) → IsSoundBook b → b.last ≡ 0

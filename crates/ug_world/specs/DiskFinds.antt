@@ -20,8 +20,8 @@ pub record IsOfWorld (past : List DiskWorld) (image : Image) : Type 0 where
   pub among : Contains past world
   pub moment : IsImageOf world.world.book image.sequence image
 
--- it is an image of a book with which a run would go on from what recovery could find in one of these
--- worlds: such a restart may be refused when its image is on the disk
+-- it is an image of a book with which a run would go on from what recovery could find in one of
+-- these worlds: such a restart may be refused when its image is on the disk
 pub record IsOfStart (past : List DiskWorld) (image : Image) : Type 0 where
   pub world : DiskWorld
   pub among : Contains past world

@@ -1,5 +1,5 @@
--- The laws of crashes: no better point is lost, an image is always found, and no run number is taken
--- twice.
+-- The laws of crashes: no better point is lost, an image is always found, and no run number is
+-- taken twice.
 use Rattle.std.specs.Prelude.{◌≡◌, ℕ, ◌<◌, List, [], ◌∷◌, All, None, Some, IfSome}
 use Rattle.ug_disk.specs.Histories.{History}
 use Rattle.ug_disk.specs.Crashes.{Leaves}
@@ -23,8 +23,8 @@ use Rattle.ug_world.specs.DiskFinds.{AreFound}
 use Rattle.ug_world.specs.Machines.{DiskWorld, IsDiskCourse, beginning, left_by}
 
 -- A run has begun: its book is sound and has given no ticket, and its first image is acknowledged:
--- whatever a crash now leaves, recovery finds it. What the disk had before does not matter, nor what
--- earlier runs have sent.
+-- whatever a crash now leaves, recovery finds it. What the disk had before does not matter, nor
+-- what earlier runs have sent.
 pub record HasBegun (w : DiskWorld) : Type 0 where
   pub book : IsBook w.world.book
   pub sound : IsSoundBook w.world.book

@@ -109,8 +109,8 @@ pub record IsSavedOrNot (old new : DiskWorld) : Type 0 where
   pub goes_on : old.refused ≡ None
   pub saves : SavesWhat old.noted old new
 
--- a run goes on from an image that recovery finds, once an image of its book is acknowledged, and no
--- call of the disk failed; no order of it was told yet
+-- a run goes on from an image that recovery finds, once an image of its book is acknowledged, and
+-- no call of the disk failed; no order of it was told yet
 pub record HasGoneOn (settings : Settings) (old new : DiskWorld) : Type 0 where
   pub book : IsGoneOn old.world.book.problem settings (Some old.told) new.world.book
   pub is : IsBook new.world.book

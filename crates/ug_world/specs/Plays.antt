@@ -13,8 +13,8 @@ use Rattle.ug_world.specs.Honest.{IsHonest}
 use Rattle.ug_world.specs.Laws.{LosesNothing}
 
 -- what stands of the next event, where there is one: nothing where a report is not sent or not
--- heard, or an order not told; no rank fails to join or to die, and no decision fails to be made, as
--- far as memory goes
+-- heard, or an order not told; no rank fails to join or to die, and no decision fails to be made,
+-- as far as memory goes
 abbrev pub IsLeftBy : Option Event → BookState → BookState → Type 0
 IsLeftBy None old new = new ≡ old
 IsLeftBy (Some (Send report)) old new = new ≡ old

@@ -30,10 +30,10 @@ CoordinatorsOfWorkersLoseNothing = (b : BookState) (faults : ℕ) (now : Standin
     → AreAlwaysWorked now.said
     → StaysSound (beginning b faults) now come × LosesNothing now.book
 
--- How a solve of what an opening left has ended, where workers did it. The book with which it ended is
--- one of the same run, loses no better point, and has a feasible incumbent, if it has one. An answer is
--- right. At the limit just as many reports were heard as may be, and a node is held. With a saver, where
--- all that recovery could find was Covered, it is so at each moment.
+-- How a solve of what an opening left has ended, where workers did it. The book with which it ended
+-- is one of the same run, loses no better point, and has a feasible incumbent, if it has one. An
+-- answer is right. At the limit just as many reports were heard as may be, and a node is held. With
+-- a saver, where all that recovery could find was Covered, it is so at each moment.
 pub record HasSolved (o : Opening) (saver : Option Saver) (end : End) (old new : DiskSeen) : Type 0 where
   pub same : IfBook end (IsSameRun (opening_book o))
   pub sound : IfBook end LosesNothing

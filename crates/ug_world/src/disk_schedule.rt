@@ -46,8 +46,9 @@ pub struct PlayDiskFault {
 /// restart does not follow.
 ///
 /// What became of each save is told, and a save or a restart fails for the disk only where the disk
-/// failed. As long as solvers are honest each better point lies in a primitive node of the book, and
-/// in a node of an image that recovery finds whatever a crash leaves, at each moment of a save too.
+/// failed. As long as solvers are honest each better point lies in a primitive node of the book,
+/// and in a node of an image that recovery finds whatever a crash leaves, at each moment of a save
+/// too.
 pub fn play_disk(
     alloc: Global,
     book: Book,

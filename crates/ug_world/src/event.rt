@@ -14,6 +14,7 @@ pub enum Event {
     Gone { rank: u32 },
     /// The coordinator decides, as far as memory goes.
     Decide,
-    /// The earliest order that waits is told, and leaves the queue. Where none waits nothing happens.
+    /// The earliest order that waits is told, and leaves the queue. Where none waits nothing
+    /// happens.
     Tell,
 }

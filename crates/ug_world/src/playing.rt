@@ -42,8 +42,8 @@ impl<T: Drop> From<AllocFailed<T>> for Halt {
     }
 }
 
-/// A schedule that is played: the book, which of its orders were told, what was sent, and what those
-/// heard were answered.
+/// A schedule that is played: the book, which of its orders were told, what was sent, and what
+/// those heard were answered.
 #[derive(Drop)]
 pub struct Playing {
     book: Book,

@@ -16,8 +16,8 @@ use ug_checkpoint::load;
 use ug_disk::MemoryDisk;
 use ug_restart::{Attempt, End, Outcome, Unobserved};
 
-// Whether two ranks have found the value of the knapsack, and both are alive then: a caller who solves
-// alone has sent all ranks but 0 away.
+// Whether two ranks have found the value of the knapsack, and both are alive then: a caller who
+// solves alone has sent all ranks but 0 away.
 fn two_have_found_it(outcome: &Outcome) -> bool {
     let both = match &outcome.end {
         End::Answered(book) => {
