@@ -1,53 +1,17 @@
--- Names and the map that finds them: a look-up, distinct names, and a name more.
-use Rattle.std.proofs.Common.{◌≡◌, ℕ, ◌<◌, ◌↔◌, Bool, true, false, List, [], ◌∷◌, ◌++◌, length, Option, Some, None, IfSome, IsNone, Contains, sym, refl, ap, subst, ◌∙◌, arith, ⊎_elim}
-use Rattle.std.specs.BTreeMap.{BTreeMap, UpdatesBy, IsUnchanged}
-use Rattle.std.specs.Cmp.{eq_by_cmp_equiv}
-use Rattle.std.specs.Cmp.Lexicographic.{slice_cmp, bytes_decides, nat_list_cmp_total}
-use Rattle.std.specs.Map.{lookup, KeepsOthers, IsKeyTest, AreApart}
-use Rattle.std.specs.Ordering.{nat_cmp, is_eq}
-use Rattle.std.specs.Str.{bytes_eq}
-use Rattle.std.specs.declared.vec.Vec.{Vec}
-use Rattle.std.proofs.lemmas.Bool.{cases_Bool, cases_lt, false≢true}
+-- Names and their places by the order of their bytes: a search, distinct names, and a name more.
+use Rattle.std.proofs.Common.{Less, Equal, Greater, ◌≡◌, ℕ, ◌+◌, ◌-◌, ◌<◌, List, [], ◌∷◌, ◌++◌, length, get_or, Result, Ok, Err, Contains, sym, refl, ap, subst, ◌∙◌, arith, ⊎_elim}
+use Rattle.std.specs.Cmp.Lexicographic.{bytes_decides}
+use Rattle.std.specs.List.{insert}
+use Rattle.std.specs.List.Sorted.{IsSearchInRange, IsBinarySearchResult, IsSortedBy}
+use Rattle.std.specs.Ordering.{is_eq, is_lt, ordering_reverse}
+use Rattle.std.proofs.lemmas.Bool.{cases_lt, false≢true}
+use Rattle.std.proofs.lemmas.Cmp.{nat_list_cmp_total, tied_itself}
 use Rattle.std.proofs.lemmas.List.{get_or_append_left, get_or_push, get_or_default, length_push}
+use Rattle.std.proofs.lemmas.List.Edits.{length-insert, get_or-insert_below, get_or-insert_at, get_or-insert_above}
+use Rattle.std.proofs.lemmas.List.Elements.{Contains-get_or, Contains-append_right}
+use Rattle.std.proofs.lemmas.List.Sorted.{searchable_from_sorted, IsPermutation-insert, Contains-permutation}
 use Rattle.std.proofs.lemmas.Map.Text.{is_eq-slice_cmp}
-use Rattle.ug_mps.specs.Names.{name_at, place_in, StandsAt, ArePlaces, AreDistinct}
-
-some_same : (i j : ℕ) (o : Option ℕ) → o ≡ Some i → o ≡ Some j → i ≡ j
-some_same i j o p q = cc
-
-pub places_distinct : {A : Type 0} (places : BTreeMap (Vec ℕ A) ℕ) (names : List (List ℕ)) → ArePlaces places names → AreDistinct names
-places_distinct places names h i j a b e = some_same i j (place_in places (name_at names i)) (h.each i a) (ap (place_in places) e ∙ h.each j b)
-
-other_entries : {K X : Type 0} (eq : K → K → Bool) (test : K → Bool) (old new : List (K × X)) → KeepsOthers eq test old new → (other : K → Bool) → IsKeyTest eq other → AreApart test other → lookup other new ≡ lookup other old
-unfolding KeepsOthers
-other_entries eq test old new h = h
-
-apart_names : (a b k : List ℕ) → bytes_eq a b ≡ false → is_eq (slice_cmp nat_cmp a k) ≡ true → is_eq (slice_cmp nat_cmp b k) ≡ false
-apart_names a b k n y =
-    let ak : a ≡ k = (bytes_decides a k).0 (sym (is_eq-slice_cmp a k) ∙ y) in
-    ⊎_elim
-    (λ t. absurd (false≢true (sym n ∙ (bytes_decides a b).1 (ak ∙ sym ((bytes_decides b k).0 t)))))
-    (λ f. is_eq-slice_cmp b k ∙ f)
-    (cases_Bool (bytes_eq b k))
-
--- what the map has at another name after a name is put in
-pub place_after : {A : Type 0} (key : Vec ℕ A) (m n : BTreeMap (Vec ℕ A) ℕ) (w : Option ℕ)
-    → UpdatesBy (λ x y. slice_cmp nat_cmp x.items y.items) (λ k. slice_cmp nat_cmp key.items k.items) m n w
-    → (name : List ℕ) → bytes_eq key.items name ≡ false → place_in n name ≡ place_in m name
-place_after key m n w h name e = other_entries _ _ _ _ h.3 _ (λ x y. (eq_by_cmp_equiv nat_list_cmp_total).congr name x.items y.items) (λ k. apart_names key.items name k.items e)
-
-stands_more : (names : List (List ℕ)) (new name : List ℕ) (j : ℕ) → StandsAt names name j → StandsAt (names ++ new ∷ []) name j
-stands_more names new name j h = record {
-  there = omega (arith, length_push names new, h.there);
-  same = get_or_append_left names (new ∷ []) [] j h.there ∙ h.same;
-}
-
-stands_last : (names : List (List ℕ)) (new : List ℕ) → StandsAt (names ++ new ∷ []) new (length names)
-stands_last names new = record { there = omega (arith, length_push names new); same = get_or_push names new [] (length names) refl }
-
-some_more : (names : List (List ℕ)) (new name : List ℕ) (o : Option ℕ) → IfSome o (StandsAt names name) → IfSome o (StandsAt (names ++ new ∷ []) name)
-some_more names new name None h = h
-some_more names new name (Some j) h = stands_more names new name j h
+use Rattle.ug_mps.specs.Names.{name_at, name_in, name_cmp, StandsAt, AreOrdered, AreDistinct, IsOrderedAt, IsGapFor, IsSearched}
 
 pub contains_at : (names : List (List ℕ)) (name : List ℕ) (j : ℕ) → StandsAt names name j → Contains names name
 contains_at names name j h = (j, h.there, get_or_default names j name [] h.there ∙ h.same)
@@ -55,49 +19,137 @@ contains_at names name j h = (j, h.there, get_or_default names j name [] h.there
 pub at_contains : (names : List (List ℕ)) (name : List ℕ) → (h : Contains names name) → StandsAt names name h.0
 at_contains names name h = record { there = h.1; same = get_or_default names h.0 [] name h.1 ∙ h.2 }
 
-module _ {A : Type 0} (key : Vec ℕ A) (m n : BTreeMap (Vec ℕ A) ℕ) (names : List (List ℕ)) (old : ArePlaces m names) (fresh : ¬ Contains names key.items)
-    (h : UpdatesBy (λ x y. slice_cmp nat_cmp x.items y.items) (λ k. slice_cmp nat_cmp key.items k.items) m n (Some (length names))) where
-  found_more : (name : List ℕ) → IfSome (place_in n name) (StandsAt (names ++ key.items ∷ []) name)
-  found_more name = ⊎_elim
-      (λ t. let same : key.items ≡ name = (bytes_decides key.items name).0 t in
-      subst (λ q. IfSome (place_in n q) (StandsAt (names ++ key.items ∷ []) q)) same
-      (subst (λ o. IfSome o (StandsAt (names ++ key.items ∷ []) key.items)) (sym h.1) (stands_last names key.items)))
-      (λ f. subst (λ o. IfSome o (StandsAt (names ++ key.items ∷ []) name)) (sym (place_after key m n (Some (length names)) h name f)) (some_more names key.items name (place_in m name) (old.found name)))
-      (cases_Bool (bytes_eq key.items name))
+same_names : (a b : List ℕ) → name_cmp a b ≡ Equal → a ≡ b
+same_names a b e = (bytes_decides a b).0 (sym (is_eq-slice_cmp a b) ∙ ap is_eq e)
 
-  other_name : (j : ℕ) → j < length names → bytes_eq key.items (name_at names j) ≡ false
-  other_name j a = ⊎_elim
-      (λ t. absurd (fresh (contains_at names key.items j (record { there = a; same = sym ((bytes_decides key.items (name_at names j)).0 t) }))))
-      (λ f. f)
-      (cases_Bool (bytes_eq key.items (name_at names j)))
+turned : (a b : List ℕ) → name_cmp a b ≡ Less → name_cmp b a ≡ Greater
+turned a b e = nat_list_cmp_total.antisymm b a ∙ ap ordering_reverse e
 
-  each_more : (j : ℕ) → j < length (names ++ key.items ∷ []) → place_in n (name_at (names ++ key.items ∷ []) j) ≡ Some j
-  each_more j a = ⊎_elim
-      (λ l. ap (place_in n) (get_or_append_left names (key.items ∷ []) [] j l) ∙ place_after key m n (Some (length names)) h (name_at names j) (other_name j l) ∙ old.each j l)
-      (λ g. let e : length names ≡ j = omega (arith, length_push names key.items) in
-      ap (place_in n) (get_or_push names key.items [] j e) ∙ h.1 ∙ ap (λ i. Some i) e)
-      (cases_lt j (length names))
+turned_back : (a b : List ℕ) → name_cmp a b ≡ Greater → name_cmp b a ≡ Less
+turned_back a b e = nat_list_cmp_total.antisymm b a ∙ ap ordering_reverse e
 
-  pub places_push : ArePlaces n (names ++ key.items ∷ [])
-  places_push = record { found = found_more; each = each_more }
+not_below_itself : (a : List ℕ) → name_cmp a a ≡ Less → ⊥
+not_below_itself a e = false≢true (ap is_eq (sym e ∙ tied_itself nat_list_cmp_total a))
 
-none_from : (names : List (List ℕ)) (name : List ℕ) (o : Option ℕ) → IfSome o (StandsAt names name) → ((j : ℕ) → StandsAt names name j → o ≡ Some j) → IsNone o ↔ ¬ Contains names name
-none_from names name None h e = (λ _ c. let no : None ≡ Some c.0 = e c.0 (at_contains names name c) in cc, λ _. refl)
-none_from names name (Some j) h e = (λ t. absurd (false≢true (sym t)), λ f. absurd (f (contains_at names name j h)))
+-- the place that stands where the places contain it
+place_at : (order : List ℕ) (j : ℕ) → (c : Contains order j) → get_or order c.0 0 ≡ j
+place_at order j c = get_or_default order c.0 0 j c.1 ∙ c.2
 
--- a name has no place exactly where it is none of the names
-pub no_place : {A : Type 0} (places : BTreeMap (Vec ℕ A) ℕ) (names : List (List ℕ)) (name : List ℕ) → ArePlaces places names → IsNone (place_in places name) ↔ ¬ Contains names name
-no_place places names name h = none_from names name (place_in places name) (h.found name) (λ j s. ap (place_in places) (sym s.same) ∙ h.each j s.there)
+module _ (names : List (List ℕ)) (order : List ℕ) (h : AreOrdered names order) where
+  rises : IsSortedBy (λ a b. is_lt (name_cmp (name_at names a) (name_at names b))) order
+  rises k d low high =
+      let this : get_or order k d ≡ get_or order k 0 = get_or_default order k d 0 (omega (arith, high)) in
+      let next : get_or order (k + 1) d ≡ get_or order (k + 1) 0 = get_or_default order (k + 1) d 0 (omega (arith, high)) in
+      rw (this, next) (ap is_lt (turned (name_in names order k) (name_in names order (k + 1)) (h.rising k (k + 1) (omega arith) (omega (arith, high)))))
 
--- the same, where the place is written in another way
-pub places_add : {A : Type 0} (key : Vec ℕ A) (m n : BTreeMap (Vec ℕ A) ℕ) (names : List (List ℕ)) (j : ℕ) → ArePlaces m names → ¬ Contains names key.items → j ≡ length names
-    → UpdatesBy (λ x y. slice_cmp nat_cmp x.items y.items) (λ k. slice_cmp nat_cmp key.items k.items) m n (Some j) → ArePlaces n (names ++ key.items ∷ [])
-places_add key m n names j old fresh e h =
-    places_push key m n names old fresh (subst (λ i. UpdatesBy (λ x y. slice_cmp nat_cmp x.items y.items) (λ k. slice_cmp nat_cmp key.items k.items) m n (Some i)) e h)
+  -- a binary search ends at the name, or at the gap for it
+  pub searched : (name : List ℕ) (r : Result ℕ ℕ) → IsSearchInRange r (length order)
+      → IsBinarySearchResult (λ place. name_cmp (name_at names place) name) order r → IsSearched names order name r
+  searched name (Ok k) there equal = record { there = there; same = same_names _ _ (equal 0) }
+  searched name (Err k) there parted =
+      let p = parted (searchable_from_sorted nat_list_cmp_total (name_at names) order name rises) in
+      record {
+        there = there;
+        below = λ i lt. p.0 i 0 (omega arith) lt;
+        above = λ i le lt. turned_back (name_in names order i) name (p.1 i 0 le lt);
+      }
 
--- a map with the same entries has the same places
-pub places_same : {A : Type 0} (m n : BTreeMap (Vec ℕ A) ℕ) (names : List (List ℕ)) → IsUnchanged m n → ArePlaces m names → ArePlaces n names
-places_same m n names e h = record {
-  found = λ name. subst (λ es. IfSome (lookup (λ k. is_eq (slice_cmp nat_cmp name k.items)) es) (StandsAt names name)) (sym e) (h.found name);
-  each = λ j a. subst (λ es. lookup (λ k. is_eq (slice_cmp nat_cmp (name_at names j) k.items)) es ≡ Some j) (sym e) (h.each j a);
-}
+  apart : (i k : ℕ) → i < k → k < length order → name_in names order i ≡ name_in names order k → ⊥
+  apart i k lt there e = not_below_itself (name_in names order k) (subst (λ n. name_cmp n (name_in names order k) ≡ Less) e (h.rising i k lt there))
+
+  pub ordered_distinct : AreDistinct names
+  ordered_distinct i j a b e =
+      let p = h.each i a in
+      let q = h.each j b in
+      let here = place_at order i p in
+      let there = place_at order j q in
+      let same : name_in names order p.0 ≡ name_in names order q.0 = ap (name_at names) here ∙ e ∙ sym (ap (name_at names) there) in
+      ⊎_elim
+      (λ lt. absurd (apart p.0 q.0 lt q.1 same))
+      (λ ge. ⊎_elim
+      (λ lt. absurd (apart q.0 p.0 lt p.1 (sym same)))
+      (λ le. let one : p.0 ≡ q.0 = omega (arith, ge, le) in sym here ∙ ap (λ k. get_or order k 0) one ∙ there)
+      (cases_lt q.0 p.0))
+      (cases_lt p.0 q.0)
+
+  -- the name whose place stands there
+  pub stands_ordered : (name : List ℕ) (k : ℕ) → IsOrderedAt names order name k → StandsAt names name (get_or order k 0)
+  stands_ordered name k a = record { there = h.within k a.there; same = a.same }
+
+  -- a name for which there is a gap is none of the names
+  pub gone_in_gap : (name : List ℕ) (k : ℕ) → IsGapFor names order name k → Contains names name → ⊥
+  gone_in_gap name k g c =
+      let s = at_contains names name c in
+      let p = h.each c.0 s.there in
+      let e : name_in names order p.0 ≡ name = ap (name_at names) (place_at order c.0 p) ∙ s.same in
+      ⊎_elim
+      (λ lt. not_below_itself name (subst (λ n. name_cmp n name ≡ Less) e (g.below p.0 lt)))
+      (λ ge. not_below_itself name (subst (λ n. name_cmp name n ≡ Less) e (g.above p.0 ge p.1)))
+      (cases_lt p.0 k)
+
+  module _ (name : List ℕ) (k : ℕ) (g : IsGapFor names order name k) where
+    new_length : length (insert order k (length names)) ≡ length order + 1
+    new_length = length-insert order k (length names) g.there
+
+    place_below : (i : ℕ) → i < k → get_or (insert order k (length names)) i 0 ≡ get_or order i 0
+    place_below i lt = get_or-insert_below order k (length names) 0 i lt g.there
+
+    place_here : get_or (insert order k (length names)) k 0 ≡ length names
+    place_here = get_or-insert_at order k (length names) 0 g.there
+
+    place_above : (i : ℕ) → k < i → get_or (insert order k (length names)) i 0 ≡ get_or order (i - 1) 0
+    place_above i gt = subst (λ q. get_or (insert order k (length names)) q 0 ≡ get_or order (i - 1) 0) {x = i - 1 + 1} (omega (arith, gt)) (get_or-insert_above order k (length names) 0 (i - 1) (omega (arith, gt)) g.there)
+
+    kept : (i : ℕ) → i < length order → name_in (names ++ name ∷ []) order i ≡ name_in names order i
+    kept i lt = get_or_append_left names (name ∷ []) [] (get_or order i 0) (h.within i lt)
+
+    name_below : (i : ℕ) → i < k → name_in (names ++ name ∷ []) (insert order k (length names)) i ≡ name_in names order i
+    name_below i lt = ap (name_at (names ++ name ∷ [])) (place_below i lt) ∙ kept i (omega (arith, g.there))
+
+    name_here : name_in (names ++ name ∷ []) (insert order k (length names)) k ≡ name
+    name_here = ap (name_at (names ++ name ∷ [])) place_here ∙ get_or_push names name [] (length names) refl
+
+    name_above : (i : ℕ) → k < i → i < length order + 1 → name_in (names ++ name ∷ []) (insert order k (length names)) i ≡ name_in names order (i - 1)
+    name_above i gt lt = ap (name_at (names ++ name ∷ [])) (place_above i gt) ∙ kept (i - 1) (omega (arith, gt, lt))
+
+    within_more : (i : ℕ) → i < length (insert order k (length names)) → get_or (insert order k (length names)) i 0 < length (names ++ name ∷ [])
+    within_more i lt = ⊎_elim
+        (λ below. omega (arith, length_push names name, place_below i below, h.within i (omega (arith, g.there))))
+        (λ ge. ⊎_elim
+        (λ above. omega (arith, length_push names name, place_above i above, h.within (i - 1) (omega (arith, new_length, lt, above))))
+        (λ le. let e : i ≡ k = omega (arith, ge, le) in omega (arith, length_push names name, place_here, ap (λ q. get_or (insert order k (length names)) q 0) e))
+        (cases_lt k i))
+        (cases_lt i k)
+
+    each_more : (j : ℕ) → j < length (names ++ name ∷ []) → Contains (insert order k (length names)) j
+    each_more j lt = Contains-permutation (length names ∷ order) (insert order k (length names)) j (IsPermutation-insert order k (length names))
+        (⊎_elim
+        (λ old. Contains-append_right (length names ∷ []) order j (h.each j old))
+        (λ ge. let e : length names ≡ j = omega (arith, length_push names name) in subst (Contains (length names ∷ order)) e (Contains-get_or (length names ∷ order) 0 (length names) (omega arith)))
+        (cases_lt j (length names)))
+
+    less : (a b c d : List ℕ) → a ≡ c → b ≡ d → name_cmp c d ≡ Less → name_cmp a b ≡ Less
+    less a b c d e f l = rw (e, f) l
+
+    rising_more : (i j : ℕ) → i < j → j < length (insert order k (length names))
+        → name_cmp (name_in (names ++ name ∷ []) (insert order k (length names)) i) (name_in (names ++ name ∷ []) (insert order k (length names)) j) ≡ Less
+    rising_more i j lt in_range = ⊎_elim
+        (λ j_below. less _ _ _ _ (name_below i (omega arith)) (name_below j j_below) (h.rising i j lt (omega (arith, g.there))))
+        (λ j_ge. ⊎_elim
+        (λ j_above. ⊎_elim
+        (λ i_below. less _ _ _ _ (name_below i i_below) (name_above j j_above (omega (arith, new_length))) (h.rising i (j - 1) (omega arith) (omega (arith, new_length))))
+        (λ i_ge. ⊎_elim
+        (λ i_above. less _ _ _ _ (name_above i i_above (omega (arith, new_length))) (name_above j j_above (omega (arith, new_length))) (h.rising (i - 1) (j - 1) (omega arith) (omega (arith, new_length))))
+        (λ i_le. let e : i ≡ k = omega (arith, i_ge, i_le) in less _ _ _ _ (ap (name_in (names ++ name ∷ []) (insert order k (length names))) e ∙ name_here) (name_above j j_above (omega (arith, new_length))) (g.above (j - 1) (omega arith) (omega (arith, new_length))))
+        (cases_lt k i))
+        (cases_lt i k))
+        (λ j_le. let e : j ≡ k = omega (arith, j_ge, j_le) in less _ _ _ _ (name_below i (omega arith)) (ap (name_in (names ++ name ∷ []) (insert order k (length names))) e ∙ name_here) (g.below i (omega arith)))
+        (cases_lt k j))
+        (cases_lt j k)
+
+    ordered_more : AreOrdered (names ++ name ∷ []) (insert order k (length names))
+    ordered_more = record { within = within_more; each = each_more; rising = rising_more }
+
+    -- a name more, with its place in the gap
+    pub ordered_add : (j : ℕ) → j ≡ length names → AreOrdered (names ++ name ∷ []) (insert order k j)
+    ordered_add j e = subst (λ i. AreOrdered (names ++ name ∷ []) (insert order k i)) (sym e) ordered_more

@@ -1,28 +1,83 @@
-ghost use Rattle.std.specs.Prelude.{◌≡◌, ◌+◌, ◌<◌, ◌^◌, [], ◌∷◌, ◌++◌, ◌↔◌, length, Contains, IsNone, IfSome, IfOk, OnOk, OnErr};
-ghost use Rattle.ug_mps.specs.Names.{StandsAt, AreDistinct};
+mod guesses;
 
+ghost use Rattle.std.specs.Prelude.{◌≡◌, ◌+◌, ◌<◌, ◌^◌, [], ◌∷◌, ◌++◌, ◌↔◌, length, Contains, IsNone, IfSome, IfOk, OnOk, OnErr};
+ghost use Rattle.ug_mps.specs.Names.{StandsAt, AreDistinct, AreOrdered, IsGapFor, IsSearched, name_at, name_cmp};
+
+use crate::names::guesses::Guesses;
 use std::alloc::{AllocError, Global};
-use std::collections::BTreeMap;
+use std::cmp::Ordering;
 use std::marker::Model;
 use ug_lists::Text;
 
-/// Distinct names in the order in which they were added. A look-up goes by a map from names to
-/// places.
+/// Distinct names in the order in which they were added, each kept once. A look-up first guesses
+/// by a hash where a name stands, and compares it; where no guess is right it searches the places
+/// in the order of their names' bytes, so no choice of names makes it longer than such a search by
+/// more than the guesses.
 #[derive(Drop)]
 pub struct Names {
     names: Vec<Text>,
-    places: BTreeMap<Vec<u8>, u32>,
+    order: Vec<u32>,
+    guesses: Guesses,
 }
 
 impl Model for Names {
     ghost use Rattle.std.specs.Prelude.{ℕ, List};
-    ghost use Rattle.ug_mps.specs.Names.{ArePlaces};
+    ghost use Rattle.ug_mps.specs.Names.{AreOrdered};
 
     ghost Value = { List (List ℕ) };
 
     ghost view = { λ n. n.names.items };
 
-    ghost invariant = { λ n. ArePlaces n.places n.names.items };
+    ghost invariant = { λ n. AreOrdered n.names.items n.order.items };
+}
+
+// The name at a place; none is there behind the last, and the answer empty.
+fn name_at(names: &[Text], place: u32) -> &[u8]
+    ensures { result.now ≡ name_at names.now place }
+{
+    match names.get(place as usize) {
+        Some(name) => name.as_slice(),
+        None => b"",
+    }
+}
+
+// How the name at a place lies to a name, by their bytes.
+fn compared(names: &[Text], place: u32, name: &[u8]) -> Ordering
+    ensures { result ≡ name_cmp (name_at names.now place) name.now }
+{
+    name_at(names, place).cmp(name)
+}
+
+// Where the name is among the ordered places, or where it would go.
+fn search(names: &[Text], order: &[u32], name: &[u8]) -> Result<usize, usize>
+    requires { AreOrdered names.now order.now }
+    ensures { IsSearched names.now order.now name.now result }
+{
+    order.binary_search_by(|place| compared(names, *place, name))
+}
+
+// The place of the name, by the ordered places.
+#[tactic(auto, using(crate::proofs::NamesLemmas::stands_ordered, crate::proofs::NamesLemmas::contains_at, crate::proofs::NamesLemmas::gone_in_gap))]
+fn found(names: &[Text], order: &[u32], name: &[u8]) -> Option<u32>
+    requires { AreOrdered names.now order.now }
+    ensures found { IfSome result (StandsAt names.now name.now) }
+    ensures none { IsNone result ↔ ¬ Contains names.now name.now }
+{
+    match search(names, order, name) {
+        Ok(at) => Some(order[at]),
+        Err(_) => None,
+    }
+}
+
+// Where the place of a new name goes among the ordered places.
+fn gap_for(names: &[Text], order: &[u32], name: &[u8]) -> usize
+    requires ordered { AreOrdered names.now order.now }
+    requires new { ¬ Contains names.now name.now }
+    ensures { IsGapFor names.now order.now name.now result }
+{
+    match search(names, order, name) {
+        Ok(at) | Err(at) => at,
+    }
 }
 
 impl Names {
@@ -31,11 +86,12 @@ impl Names {
     {
         Names {
             names: Vec::new(alloc),
-            places: BTreeMap::new(alloc),
+            order: Vec::new(alloc),
+            guesses: Guesses::new(alloc),
         }
     }
 
-    #[tactic(auto, using(crate::proofs::NamesLemmas::places_distinct))]
+    #[tactic(auto, using(crate::proofs::NamesLemmas::ordered_distinct))]
     pub fn len(&self) -> usize
         ensures value { result ≡ length self.now }
         ensures distinct { AreDistinct self.now }
@@ -44,7 +100,7 @@ impl Names {
     }
 
     /// The names in their order.
-    #[tactic(auto, using(crate::proofs::NamesLemmas::places_distinct))]
+    #[tactic(auto, using(crate::proofs::NamesLemmas::ordered_distinct))]
     pub fn as_slice(&self) -> &[Text]
         ensures value { result.now ≡ self.now }
         ensures distinct { AreDistinct self.now }
@@ -53,17 +109,20 @@ impl Names {
     }
 
     /// The place of a name.
-    #[tactic(auto, using(crate::proofs::NamesLemmas::no_place, crate::proofs::NamesLemmas::places_distinct))]
+    #[tactic(auto, using(crate::proofs::NamesLemmas::contains_at, crate::proofs::NamesLemmas::ordered_distinct))]
     pub fn find(&self, name: &[u8]) -> Option<u32>
         ensures found { IfSome result (StandsAt self.now name.now) }
         ensures none { IsNone result ↔ ¬ Contains self.now name.now }
         ensures distinct { AreDistinct self.now }
     {
-        self.places.get(name).copied()
+        match self.guesses.look(&self.names, name) {
+            Some(place) => Some(place),
+            None => found(&self.names, &self.order, name),
+        }
     }
 
     // The place of the last name, if it is this one.
-    #[tactic(auto, using(crate::proofs::NamesLemmas::places_distinct))]
+    #[tactic(auto, using(crate::proofs::NamesLemmas::ordered_distinct))]
     fn last_place(&self, name: &[u8]) -> Option<u32>
         requires { length self.now < 2 ^ 32 }
         ensures found { IfSome result (StandsAt self.now name.now) }
@@ -95,7 +154,6 @@ impl Names {
     }
 
     /// Adds a name at the end, and says its place. After an error the names are as they were.
-    #[tactic(auto, using(crate::proofs::NamesLemmas::places_push))]
     pub fn add(&mut self, alloc: Global, name: &[u8]) -> Result<u32, AllocError>
         requires new { ¬ Contains self.old name.now }
         requires room { length self.old + 1 < 2 ^ 32 }
@@ -104,11 +162,15 @@ impl Names {
         ensures err { OnErr result (self.new ≡ self.old) }
     {
         let place = self.names.len();
-        let key = Vec::from_slice(alloc, name)?;
+        let at = gap_for(&self.names, &self.order, name);
         let text = Text::from_slice(alloc, name)?;
+        self.guesses.make_room(alloc, &self.names)?;
         self.names.push(text)?;
-        match self.places.insert(key, place as u32) {
-            Ok(_) => Ok(place as u32),
+        match self.order.insert(at, place as u32) {
+            Ok(()) => {
+                self.guesses.note(name, place as u32);
+                Ok(place as u32)
+            }
             Err(_) => {
                 self.names.truncate(place);
                 Err(AllocError)
@@ -117,13 +179,18 @@ impl Names {
     }
 
     /// The names in their order. It takes no memory.
-    #[tactic(auto, using(crate::proofs::NamesLemmas::places_distinct))]
+    #[tactic(auto, using(crate::proofs::NamesLemmas::ordered_distinct))]
     pub fn into_vec(self) -> Vec<Text>
         ensures value { result.items ≡ self }
         ensures distinct { AreDistinct self }
     {
-        let Names { names, places } = self;
-        drop(places);
+        let Names {
+            names,
+            order,
+            guesses,
+        } = self;
+        drop(order);
+        drop(guesses);
         names
     }
 }

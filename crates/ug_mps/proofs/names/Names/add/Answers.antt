@@ -1,20 +1,12 @@
-use Rattle.std.proofs.Common.{Contains, arith}
-use Rattle.std.proofs.lemmas.List.{take_at}
-use Rattle.ug_mps.proofs.NamesLemmas.{places_add, places_same}
+use Rattle.std.proofs.Common.{arith}
+use Rattle.ug_mps.specs.Names.{IsGapFor}
+use Rattle.ug_mps.proofs.NamesLemmas.{ordered_add}
 use Rattle.ug_mps.proofs.names.Names.add.Goals as goal
 
 pub invariant_of-self-in-Ok : goal.invariant_of-self-in-Ok
 invariant_of-self-in-Ok c =
     let names = c.self.inside.names.items in
-    let key = c.in_ok-key.key in
-    let fresh : ¬ Contains names key.items = λ h. c.requires.new (rw (← c.in_ok-key.ensures.items, ← c.self.view_is) h) in
-    rw c.in_ok-push.ensures.items
-    (rw (c.in_ok-text.ensures, ← c.in_ok-key.ensures.items)
-    (places_add key c.self.inside.places c.insert.new.self names _ c.self.invariant fresh (omega (arith, c.self.inside.names.ok.0)) c.in-Ok.ensures.updates))
-
-pub invariant_of-self-in-Err : goal.invariant_of-self-in-Err
-invariant_of-self-in-Err c =
-    let names = c.self.inside.names.items in
-    rw (c.truncate.ensures.items, c.in_ok-push.ensures.items)
-    (rw (take_at names _ c.len-place.result (omega (arith, c.self.inside.names.ok.0)))
-    (places_same c.self.inside.places c.insert.new.self names c.in-Err.ensures.err c.self.invariant))
+    let order = c.self.inside.order.items in
+    let gap : IsGapFor names order c.args.name.now c.gap_for-at.result = rw (← c.deref.ensures.value, ← c.deref-2.ensures.value) c.gap_for-at.ensures in
+    rw (c.in-Ok.ensures.items, c.in_ok-push.ensures.items, c.in_ok-text.ensures)
+    (ordered_add names order c.self.invariant c.args.name.now c.gap_for-at.result gap _ (omega (arith, c.self.inside.names.ok.0)))
