@@ -1,10 +1,11 @@
 -- The first word of a line.
-use Rattle.std.proofs.Common.{◌≡◌, ℕ, ◌+◌, ◌<◌, ◌≤◌, ◌==◌, Bool, true, false, cond, not, List, [], ◌∷◌, length, filter, take, drop, suc, ltb, Some, None, refl, sym, ap, subst, ◌∙◌, arith, inl, inr}
+use Rattle.std.proofs.Common.{◌&&◌, get_or, ◌≡◌, ℕ, ◌+◌, ◌<◌, ◌≤◌, ◌==◌, Bool, true, false, cond, not, List, [], ◌∷◌, length, filter, take, drop, suc, ltb, Some, None, refl, sym, ap, subst, ◌∙◌, arith, inl, inr}
 use Rattle.std.specs.List.{position, position_or_len, slice_split, onto_first}
 use Rattle.std.proofs.lemmas.Bool.{cases_Bool, cond-true, cond-false, ltb-false}
 use Rattle.std.proofs.lemmas.Bool.Decides.{nat_tests}
+use Rattle.std.proofs.lemmas.List.Folds.{list_all_more}
 use Rattle.std.proofs.lemmas.List.Splits.{slice_split-cons_yes, slice_split-cons_no}
-use Rattle.ug_lines.specs.Words.{is_blank, words_of, BeginsWord}
+use Rattle.ug_lines.specs.Words.{is_blank, is_legible, is_line_byte, words_of, BeginsWord}
 
 -- ---- where the first byte of a kind stands
 
@@ -118,3 +119,9 @@ first_is xs n word more p f b some =
 pub none_first : (xs : List ℕ) (n : ℕ) (word : List ℕ) → n ≡ position_or_len is_blank xs → word ≡ take n xs → BeginsWord xs
     → length word ≡ 0 → words_of xs ≡ []
 none_first xs n word p f b none = word_none xs b (ap length (sym (f ∙ ap (λ k. take k xs) p)) ∙ none)
+
+-- ---- a test of each byte
+
+-- one byte more
+pub all_more : (i : ℕ) (xs : List ℕ) → i < length xs → is_legible (take (i + 1) xs) ≡ (is_legible (take i xs) && is_line_byte (get_or xs i 0))
+all_more i xs h = list_all_more is_line_byte xs i 0 h

@@ -24,10 +24,16 @@ pub fn is_line_byte(byte: u8) -> bool
 }
 
 /// Each byte of the line may stand there.
+#[tactic(auto, using(crate::proofs::Firsts::all_more))]
 pub fn is_legible(line: &[u8]) -> bool
     ensures { result ≡ is_legible line.now }
 {
-    line.iter().all(|b| is_line_byte(*b))
+    // No byte ends the loop, so that several can be looked at at once.
+    let mut legible = true;
+    for b in line {
+        legible &= is_line_byte(*b);
+    }
+    legible
 }
 
 // Where the first byte stands that is no blank.
