@@ -5,7 +5,7 @@ use Rattle.std.proofs.lemmas.Bool.{cases_eq, cases_lt}
 use Rattle.std.proofs.lemmas.List.{get_or-set_other, get_or-set_same, get_or_past}
 use Rattle.std.proofs.lemmas.Nat.Bits.{bit_at-zero, bit_at_above, bit_at-trailing_zeros, bit_at_set_same, bit_at_set_other, bit_at_clear_same, bit_at_clear_other}
 use Rattle.std.specs.Int.{bit_at, bit_not, trailing_zeros}
-use Rattle.ug_propagate.specs.Awake.{HasBit, IsFirstBit, IsFound, IsFoundIn, IsNext, NoneFrom, bit_of}
+use Rattle.ug_propagate.specs.Awake.{AreAsleep, HasBit, IsFirstBit, IsFound, IsFoundIn, IsNext, NoneFrom, bit_of}
 
 same_place : (k r : ℕ) → k / 64 ≡ r / 64 → k % 64 ≡ r % 64 → k ≡ r
 same_place k r e f = omega arith
@@ -78,9 +78,40 @@ some_in word low fits some short =
       between = λ k above below. at_shift word low k above ∙ facts.2 (k - low) (omega arith);
     }
 
--- no row from the first of these words on, and below this one, is awake
-abbrev pub AreAsleep : List ℕ → ℕ → ℕ → Type 0
-AreAsleep words from to = (k : ℕ) → from ≤ k → k < to → bit_of words k ≡ 0
+-- a word that is 0 has no row that is awake
+zero_word : (words : List ℕ) (at k : ℕ) → get_or words at 0 ≡ 0 → k / 64 ≡ at → bit_of words k ≡ 0
+zero_word words at k zero same =
+    ap (λ (q : ℕ). bit_at (get_or words q 0) (k % 64)) same ∙ ap (λ (w : ℕ). bit_at w (k % 64)) zero ∙ bit_at-zero (k % 64)
+
+two_asleep : (words : List ℕ) (from mid to : ℕ) → AreAsleep words from mid → AreAsleep words mid to → AreAsleep words from to
+two_asleep words from mid to low high k least less = elim (cases_lt k mid) [
+  | inl below ↦ low k least below
+  | inr above ↦ high k above less
+]
+
+one_asleep : (words : List ℕ) (at : ℕ) → get_or words at 0 ≡ 0 → AreAsleep words (64 * at) (64 * (at + 1))
+one_asleep words at zero k least less = zero_word words at k zero (omega arith)
+
+-- four words that are 0
+pub four_asleep : (words : List ℕ) (at : ℕ) → get_or words at 0 ≡ 0 → get_or words (at + 1) 0 ≡ 0 → get_or words (at + 2) 0 ≡ 0
+    → get_or words (at + 3) 0 ≡ 0 → AreAsleep words (64 * at) (64 * (at + 4))
+four_asleep words at first second third fourth k least less =
+    let a : AreAsleep words (64 * at) (64 * (at + 1)) = one_asleep words at first in
+    let b : AreAsleep words (64 * (at + 1)) (64 * (at + 2)) = λ j l m. zero_word words (at + 1) j second (omega arith) in
+    let c : AreAsleep words (64 * (at + 2)) (64 * (at + 3)) = λ j l m. zero_word words (at + 2) j third (omega arith) in
+    let d : AreAsleep words (64 * (at + 3)) (64 * (at + 4)) = λ j l m. zero_word words (at + 3) j fourth (omega arith) in
+    two_asleep words (64 * at) (64 * (at + 2)) (64 * (at + 4))
+    (two_asleep words (64 * at) (64 * (at + 1)) (64 * (at + 2)) a b)
+    (two_asleep words (64 * (at + 2)) (64 * (at + 3)) (64 * (at + 4)) c d) k least less
+
+pub none_passed : (words : List ℕ) (from : ℕ) → AreAsleep words (64 * from) (64 * (from + 4 * 0))
+none_passed words from k least less = absurd (omega arith)
+
+pub four_passed : (words : List ℕ) (from k : ℕ) → AreAsleep words (64 * from) (64 * (from + 4 * k))
+    → AreAsleep words (64 * (from + 4 * k)) (64 * (from + 4 * k + 4)) → AreAsleep words (64 * from) (64 * (from + 4 * (k + 1)))
+four_passed words from k low high =
+    let all = two_asleep words (64 * from) (64 * (from + 4 * k)) (64 * (from + 4 * k + 4)) low high in
+    λ j least less. all j least (omega arith)
 
 pub word_passed : (words : List ℕ) (from at : ℕ) → AreAsleep words (64 * from) (64 * at) → IsFoundIn (get_or words at 0) 0 None
     → AreAsleep words (64 * from) (64 * (at + 1))

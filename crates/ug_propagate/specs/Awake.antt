@@ -12,6 +12,10 @@ pub record HasBit (r bit : ℕ) (old new : List ℕ) : Type 0 where
   pub here : bit_of new r ≡ bit
   pub others : (k : ℕ) → k ≢ r → bit_of new k ≡ bit_of old k
 
+-- no row from this one on, and below another, is awake
+abbrev pub AreAsleep : List ℕ → ℕ → ℕ → Type 0
+AreAsleep words from to = (k : ℕ) → from ≤ k → k < to → bit_of words k ≡ 0
+
 -- no row from this one on is awake
 abbrev pub NoneFrom : List ℕ → ℕ → Type 0
 NoneFrom words from = (k : ℕ) → from ≤ k → bit_of words k ≡ 0

@@ -1,8 +1,8 @@
 //! Rows that are awake: one bit a row.
 
-ghost use Rattle.std.specs.Prelude.{◌≡◌, ◌≢◌, ℕ, ◌+◌, ◌*◌, ◌/◌, ◌%◌, ◌^◌, ◌<◌, ◌≤◌, length, replicate, slice_index, Some, None};
+ghost use Rattle.std.specs.Prelude.{◌≡◌, ◌≢◌, ℕ, ◌+◌, ◌*◌, ◌/◌, ◌%◌, ◌^◌, ◌<◌, ◌≤◌, length, replicate, slice_index, IsTrue, Some, None};
 ghost use Rattle.std.specs.Int.{bit_at};
-ghost use Rattle.ug_propagate.specs.Awake.{HasBit, IsFound, IsFoundIn, IsNext, NoneFrom, bit_of};
+ghost use Rattle.ug_propagate.specs.Awake.{AreAsleep, HasBit, IsFound, IsFoundIn, IsNext, NoneFrom, bit_of};
 
 /// Wakes a row.
 pub fn wake(words: &mut [u64], r: usize)
@@ -35,13 +35,46 @@ fn next_in(word: u64, low: usize) -> Option<usize>
     Some(low + left.trailing_zeros() as usize)
 }
 
+// Whether no row of four words, this one the first, is awake. All four are read before one is tested:
+// so they are tested together.
+#[tactic(auto, using(crate::proofs::Bits::four_asleep))]
+fn are_asleep(words: &[u64], at: usize) -> bool
+    requires { at + 4 ≤ length words.now }
+    ensures { IsTrue result → AreAsleep words.now (64 * at) (64 * (at + 4)) }
+{
+    let first = words[at];
+    let second = words[at + 1];
+    let third = words[at + 2];
+    let fourth = words[at + 3];
+    first == 0 && second == 0 && third == 0 && fourth == 0
+}
+
+// The first of four words, counted by fours from this one on, of which not all rows are known to be
+// asleep.
+#[tactic(auto, using(crate::proofs::Bits::none_passed, crate::proofs::Bits::four_passed))]
+fn past_asleep(words: &[u64], from: usize) -> usize
+    requires there { from ≤ length words.now }
+    requires few { length words.now ≤ 10 ^ 6 }
+    ensures least { from ≤ result }
+    ensures asleep { AreAsleep words.now (64 * from) (64 * result) }
+{
+    let fours = (words.len() - from) / 4;
+    for k in 0..fours {
+        if !are_asleep(words, from + 4 * k) {
+            return from + 4 * k;
+        }
+    }
+    from + 4 * fours
+}
+
 // The first row of this word or a later one that is awake.
 #[tactic(auto, using(crate::proofs::Bits::word_passed, crate::proofs::Bits::word_found, crate::proofs::Bits::words_passed))]
 fn first_from(words: &[u64], from: usize) -> Option<usize>
-    requires { length words.now ≤ 10 ^ 6 }
+    requires there { from ≤ length words.now }
+    requires few { length words.now ≤ 10 ^ 6 }
     ensures { IsFound words.now (64 * from) result }
 {
-    for at in from..words.len() {
+    for at in past_asleep(words, from)..words.len() {
         if let Some(bit) = next_in(words[at], 0) {
             return Some(64 * at + bit);
         }

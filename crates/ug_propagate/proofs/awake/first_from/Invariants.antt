@@ -1,5 +1,5 @@
 use Rattle.std.proofs.Common.{◌*◌}
-use Rattle.ug_propagate.proofs.Bits.{AreAsleep}
+use Rattle.ug_propagate.specs.Awake.{AreAsleep}
 use Rattle.ug_propagate.proofs.awake.first_from.Given as goal
 
 abbrev pub invariant-loop-at : goal.invariant-loop-at
