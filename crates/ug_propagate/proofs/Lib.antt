@@ -21,3 +21,4 @@ pub mod Waiting
 pub mod Objectives
 pub mod Snug
 pub mod Shorts
+pub mod Nearing

@@ -65,6 +65,11 @@ sum_times a (negsuc (suc n)) f =
     let g : negsuc (suc n) *ℤ f ≡ (negsuc n *ℤ f) -ℤ f = pred_ℤ-*ℤ (negsuc n) f in
     ap (λ (v : ℤ). v *ℤ f) e ∙ pred_ℤ-*ℤ (a +ℤ negsuc n) f ∙ omega (arith, ints, sum_times a (negsuc n) f, g)
 
+-- a factor times a sum
+pub times_sum : (f a b : ℤ) → f *ℤ (a +ℤ b) ≡ (f *ℤ a) +ℤ (f *ℤ b)
+times_sum f a b =
+    *ℤ_comm f (a +ℤ b) ∙ sum_times a b f ∙ ap (λ (v : ℤ). v +ℤ (b *ℤ f)) (*ℤ_comm a f) ∙ ap (λ (v : ℤ). (f *ℤ a) +ℤ v) (*ℤ_comm b f)
+
 back : (a b : ℤ) → a +ℤ (b -ℤ a) ≡ b
 back a b = omega (arith, ints)
 

@@ -1,9 +1,11 @@
 -- Quotients of whole numbers, rounded down and up.
-use Rattle.std.proofs.Common.{◌≡◌, ◌∙◌, refl, subst, ap, ℕ, zero, suc, ◌+◌, ◌*◌, ◌/◌, ◌%◌, ◌<◌, ◌≤◌, ℤ, pos, negsuc, ◌+ℤ◌, ◌*ℤ◌, ◌≤ℤ◌, ◌<ℤ◌, neg_ℤ, unsigned_abs, arith}
+use Rattle.std.proofs.Common.{◌≡◌, ◌∙◌, refl, subst, ap, ℕ, zero, suc, ◌+◌, ◌*◌, ◌/◌, ◌%◌, ◌<◌, ◌≤◌, ℤ, pos, negsuc, ◌+ℤ◌, ◌-ℤ◌, ◌*ℤ◌, ◌≤ℤ◌, ◌<ℤ◌, neg_ℤ, unsigned_abs, arith}
 use Rattle.std.proofs.Math.Nat.{div-le_self}
 use Rattle.std.proofs.lemmas.Int.{ints, fits_signed_from_abs, by_lt_z}
 use Rattle.ug_rows.proofs.EndBounds.{mul_pos}
+use Rattle.std.specs.Int.{int_div_euclid}
 use Rattle.ug_propagate.specs.Rounds.{floor_quotient, ceiling_quotient}
+use Rattle.ug_propagate.proofs.Machine.{times_sum}
 
 -- a quotient is no larger than the number
 pub abs_floor : (n d : ℤ) → unsigned_abs (floor_quotient n d) ≤ unsigned_abs n
@@ -116,3 +118,72 @@ ceiling_within_neg n d =
     let h : (negsuc d *ℤ neg_ℤ q) ≤ℤ neg_ℤ (neg_ℤ n) = mirrored (negsuc d) q (neg_ℤ n) (floor_within_neg (neg_ℤ n) d) in
     let P : ℤ → Type 0 = λ (m : ℤ). (negsuc d *ℤ neg_ℤ q) ≤ℤ m in
     subst P (twice n) h
+
+-- a number between a product with the divisor and that with one more is the quotient
+quotient_is : (n : ℤ) (d : ℕ) (x : ℤ) → 0 < d → (pos d *ℤ x) ≤ℤ n → n <ℤ ((pos d *ℤ x) +ℤ pos d) → floor_quotient n (pos d) ≡ x
+quotient_is n d x some within above =
+    let q : ℤ = floor_quotient n (pos d) in
+    let least : x ≤ℤ q = floor_greatest n d x some within in
+    let most : q ≤ℤ x = by_lt_z x q
+    (λ less. absurd (let k : (pos d *ℤ (x +ℤ pos 1)) ≤ℤ (pos d *ℤ q) = mul_pos d (x +ℤ pos 1) q (next x q less) in
+    omega (arith, ints, k, mul_more d x, floor_within n d some, above)))
+    (λ h. h) in
+    omega (arith, ints, least, most)
+
+-- whole divisors more are as much more of the quotient
+pub quotient_more : (room low : ℤ) (d : ℕ) → 0 < d
+    → floor_quotient (room +ℤ (pos d *ℤ low)) (pos d) ≡ low +ℤ floor_quotient room (pos d)
+quotient_more room low d some =
+    let s : ℤ = floor_quotient room (pos d) in
+    let e : pos d *ℤ (low +ℤ s) ≡ (pos d *ℤ low) +ℤ (pos d *ℤ s) = times_sum (pos d) low s in
+    quotient_is (room +ℤ (pos d *ℤ low)) d (low +ℤ s) some
+    (omega (arith, ints, e, floor_within room d some)) (omega (arith, ints, e, floor_above room d some))
+
+turned_product : (d : ℕ) (x : ℤ) → negsuc d *ℤ x ≡ pos (suc d) *ℤ neg_ℤ x
+turned_product d (pos zero) = omega (arith, ints)
+turned_product d (pos (suc x)) = omega (arith, ints)
+turned_product d (negsuc x) = omega (arith, ints)
+
+negated_sum : (room product : ℤ) → neg_ℤ (product -ℤ room) ≡ room +ℤ neg_ℤ product
+negated_sum room product = omega (arith, ints)
+
+negated_product : (d : ℕ) (x : ℤ) → neg_ℤ (pos d *ℤ x) ≡ pos d *ℤ neg_ℤ x
+negated_product d (pos zero) = omega (arith, ints)
+negated_product d (pos (suc x)) = omega (arith, ints)
+negated_product d (negsuc x) = omega (arith, ints)
+
+twice_turned : (d : ℕ) (x : ℤ) → neg_ℤ (negsuc d *ℤ x) ≡ pos (suc d) *ℤ x
+twice_turned d (pos zero) = omega (arith, ints)
+twice_turned d (pos (suc x)) = omega (arith, ints)
+twice_turned d (negsuc x) = omega (arith, ints)
+
+back_down : (high s : ℤ) → neg_ℤ (neg_ℤ high +ℤ s) ≡ high -ℤ s
+back_down high s = omega (arith, ints)
+
+-- so far a product may be above its least, and below its greatest
+pub up_to_high : (room low : ℤ) (d : ℕ) → 0 < d
+    → floor_quotient (room +ℤ (pos d *ℤ low)) (pos d) ≡ low +ℤ int_div_euclid room (pos d)
+up_to_high room low d some = quotient_more room low d some
+
+pub down_to_high : (room high : ℤ) (d : ℕ)
+    → ceiling_quotient (room +ℤ (negsuc d *ℤ high)) (negsuc d) ≡ high -ℤ int_div_euclid room (pos (suc d))
+down_to_high room high d =
+    let n : ℤ = room +ℤ (negsuc d *ℤ high) in
+    let e : n ≡ room +ℤ (pos (suc d) *ℤ neg_ℤ high) = ap (λ (v : ℤ). room +ℤ v) (turned_product d high) in
+    ap (λ (v : ℤ). neg_ℤ (floor_quotient v (pos (suc d)))) (twice n ∙ e)
+    ∙ ap neg_ℤ (quotient_more room (neg_ℤ high) (suc d) (omega arith)) ∙ back_down high (floor_quotient room (pos (suc d)))
+
+pub down_to_low : (room high : ℤ) (d : ℕ) → 0 < d
+    → ceiling_quotient ((pos d *ℤ high) -ℤ room) (pos d) ≡ high -ℤ int_div_euclid room (pos d)
+down_to_low room high d some =
+    let e : neg_ℤ ((pos d *ℤ high) -ℤ room) ≡ room +ℤ (pos d *ℤ neg_ℤ high) =
+    negated_sum room (pos d *ℤ high) ∙ ap (λ (v : ℤ). room +ℤ v) (negated_product d high) in
+    ap (λ (v : ℤ). neg_ℤ (floor_quotient v (pos d))) e
+    ∙ ap neg_ℤ (quotient_more room (neg_ℤ high) d some) ∙ back_down high (floor_quotient room (pos d))
+
+pub up_to_low : (room low : ℤ) (d : ℕ)
+    → floor_quotient ((negsuc d *ℤ low) -ℤ room) (negsuc d) ≡ low +ℤ int_div_euclid room (pos (suc d))
+up_to_low room low d =
+    let e : neg_ℤ ((negsuc d *ℤ low) -ℤ room) ≡ room +ℤ (pos (suc d) *ℤ low) =
+    negated_sum room (negsuc d *ℤ low) ∙ ap (λ (v : ℤ). room +ℤ v) (twice_turned d low) in
+    ap (λ (v : ℤ). floor_quotient v (pos (suc d))) e ∙ quotient_more room low (suc d) (omega arith)

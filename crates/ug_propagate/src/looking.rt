@@ -16,6 +16,7 @@ ghost use Rattle.ug_propagate.specs.declared.tight.Tight.TheVariants.{Kept};
 use crate::cut::{Cut, cut_at_least, cut_at_most};
 use crate::look::{Look, Looked};
 use crate::measure::{Room, minus, plus, product, room_between, short_room, short_span, span};
+use crate::steps::{near, steps_within};
 use crate::tight::{Reason, Side};
 use crate::working::Working;
 use std::alloc::AllocError;
@@ -46,6 +47,9 @@ fn cut_under_high(look: Look, terms: &[Term], term: Term, room: Room, area: &[In
         return Cut::Whole;
     }
     let side = area[term.column as usize];
+    if let Some(steps) = steps_within(room.high, term.factor.unsigned_abs(), side) {
+        return Cut::To(near(Extreme::Least, term.factor, side, steps));
+    }
     let most = plus(room.high, product(Extreme::Least, term, side));
     let reason = Reason {
         row: look.row,
@@ -67,6 +71,9 @@ fn cut_over_low(look: Look, terms: &[Term], term: Term, room: Room, area: &[Inte
         return Cut::Whole;
     }
     let side = area[term.column as usize];
+    if let Some(steps) = steps_within(room.low, term.factor.unsigned_abs(), side) {
+        return Cut::To(near(Extreme::Greatest, term.factor, side, steps));
+    }
     let least = minus(product(Extreme::Greatest, term, side), room.low);
     let reason = Reason {
         row: look.row,
