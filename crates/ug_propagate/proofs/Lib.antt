@@ -22,3 +22,4 @@ pub mod Objectives
 pub mod Snug
 pub mod Shorts
 pub mod Nearing
+pub mod Sizes

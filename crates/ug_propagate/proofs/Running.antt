@@ -1,5 +1,5 @@
 -- Running sums, and how they change with one column of the box.
-use Rattle.std.proofs.Common.{◌≡◌, ◌≢◌, refl, sym, subst, ◌∙◌, ap, inl, inr, ℕ, suc, ◌+◌, ◌*◌, ◌^◌, ◌<◌, ◌≤◌, ◌⊎◌, ℤ, pos, negsuc, ◌+ℤ◌, ◌-ℤ◌, ◌*ℤ◌, unsigned_abs, List, [], ◌∷◌, ◌++◌, length, set, arith}
+use Rattle.std.proofs.Common.{true, ◌≡◌, ◌≢◌, refl, sym, subst, ◌∙◌, ap, inl, inr, ℕ, suc, ◌+◌, ◌*◌, ◌^◌, ◌<◌, ◌≤◌, ◌⊎◌, ℤ, pos, negsuc, ◌+ℤ◌, ◌-ℤ◌, ◌*ℤ◌, unsigned_abs, List, [], ◌∷◌, ◌++◌, length, set, arith}
 use Rattle.std.proofs.lemmas.Int.{ints}
 use Rattle.std.proofs.lemmas.Bool.{cases_eq}
 use Rattle.std.proofs.lemmas.List.{get_or-set_other, get_or-set_same, get_or-map, get_or_append_left, get_or_at, get_or_push, length_push, length-map, length-set}
@@ -19,7 +19,8 @@ use Rattle.ug_problem.specs.Standings.{AreStandings, standing_at, term_of, terms
 use Rattle.ug_problem.proofs.Linear.{linear_row, linear_objective}
 use Rattle.ug_propagate.specs.declared.measure.Moves.{Moves}
 use Rattle.ug_propagate.specs.declared.sums.Extremes.{Extremes}
-use Rattle.ug_propagate.specs.Running.{AreFirstSums, AreMoves, AreSums, HasMoved, IsSummed, extremes_at, move_of, no_extremes}
+use Rattle.ug_propagate.specs.Running.{AreFirstSums, AreMoves, AreSums, HasMoved, IsRunning, IsSummed, SumsState, extremes_at, move_of, no_extremes}
+use Rattle.ug_propagate.specs.Shorts.{AreShort}
 use Rattle.ug_propagate.proofs.Machine.{times_difference}
 use Rattle.ug_propagate.proofs.Rooms.{small_put}
 
@@ -275,3 +276,11 @@ shift_ends p j area side standings i sums wide are all h = record {
   count = h.count;
   each = λ r there. shift_done p j area side standings r i (extremes_at sums r) are all there (h.each r there);
 }
+
+-- running sums are the sums over their box
+pub sums_of : (p : Instance) (state : SumsState) → IsRunning p state → AreSums p state.area state.sums
+sums_of p state h = record { width = h.width; count = h.count; each = h.each }
+
+-- and sums over a box are running, where they fit if they are kept in 64 bits
+pub running_of : (p : Instance) (state : SumsState) → AreSums p state.area state.sums → (state.short ≡ true → AreShort p) → IsRunning p state
+running_of p state h short = record { width = h.width; count = h.count; each = h.each; short = short }

@@ -2,7 +2,7 @@
 -- objective, without its constant, is the row behind the last.
 use Rattle.std.specs.Prelude.{◌≡◌, ◌≢◌, ℕ, ℤ, pos, negsuc, ◌+◌, ◌-◌, ◌^◌, ◌+ℤ◌, ◌-ℤ◌, ◌*ℤ◌, ◌<◌}
 use Rattle.std.specs.Prelude.{◌≤◌, unsigned_abs, List, length, slice_index_or, slice_set, Option}
-use Rattle.std.specs.Prelude.{Some, None}
+use Rattle.std.specs.Prelude.{Some, None, Bool, true}
 use Rattle.ug_rows.specs.declared.area.Interval.{Interval}
 use Rattle.ug_rows.specs.declared.row.Term.{Term}
 use Rattle.ug_rows.specs.Rows.{IsAmong, term_at}
@@ -15,12 +15,14 @@ use Rattle.ug_problem.specs.Standings.{standing_at, term_of, terms_of}
 use Rattle.ug_problem.specs.declared.standings.Standing.{Standing}
 use Rattle.ug_propagate.specs.declared.measure.Moves.{Moves}
 use Rattle.ug_propagate.specs.declared.sums.Extremes.{Extremes}
+use Rattle.ug_propagate.specs.Shorts.{AreShort}
 use Rattle.ug_propagate.specs.Steps.{HaveSmallColumns}
 
--- a box, and for each row its sums
+-- a box, for each row its sums, and whether these are kept in 64 bits
 pub record SumsState : Type 0 where
   pub area : List Interval
   pub sums : List Extremes
+  pub short : Bool
 
 -- sums that stand for those of a row that is not there
 abbrev pub no_extremes : Extremes
@@ -48,9 +50,14 @@ pub record AreFirstSums (p : Instance) (area : List Interval) (n : ℕ) (sums : 
   pub count : length sums ≡ n
   pub each : (r : ℕ) → r < n → IsSummed (terms_of p r) area (extremes_at sums r)
 
--- the running sums are those of the problem over their box
-abbrev pub IsRunning : Instance → SumsState → Type 0
-IsRunning p state = AreSums p state.area state.sums
+-- the running sums are those of the problem over their box, and are kept in 64 bits only where they
+-- fit whatever the box
+pub record IsRunning (p : Instance) (state : SumsState) : Type 0 where
+  pub width : length state.area ≡ length p.columns
+  pub count : length state.sums ≡ length p.rows + 1
+  pub each : (r : ℕ) → r ≤ length p.rows
+      → IsSummed (terms_of p r) state.area (extremes_at state.sums r)
+  pub short : state.short ≡ true → AreShort p
 
 -- the row is there, or it is the objective
 abbrev pub IsNamedRow : Instance → Option ℕ → Type 0

@@ -16,6 +16,7 @@ mod quotient;
 mod resting;
 mod rounds;
 mod settle;
+mod short;
 mod steps;
 mod sums;
 mod tight;

@@ -253,7 +253,9 @@ impl Model for Sums {
 
     ghost Value = { SumsState };
 
-    ghost view = { λ s. record { area = s.sides.items; sums = s.sums.items } };
+    ghost use Rattle.std.specs.Prelude.{false};
+
+    ghost view = { λ s. record { area = s.sides.items; sums = s.sums.items; short = false } };
 }
 
 impl Sums {

@@ -1,4 +1,4 @@
-use Rattle.std.proofs.Common.{◌≡◌, ◌∙◌, ℕ, List, ap, length, subst, sym, arith}
+use Rattle.std.proofs.Common.{false, ◌≡◌, ◌∙◌, ℕ, List, ap, length, subst, sym, arith}
 use Rattle.std.proofs.lemmas.List.{get_or_read}
 use Rattle.ug_rows.specs.declared.area.Interval.{Interval}
 use Rattle.ug_rows.specs.declared.row.Term.{Term}
@@ -21,7 +21,7 @@ objective_with-requires-clause-summed c =
     let p = c.args.problem.now in
     let sides = c.self.inside.sides.items in
     let sums = c.self.inside.sums.items in
-    let h : IsRunning p (record { area = sides; sums = sums }) =
+    let h : IsRunning p (record { area = sides; sums = sums; short = false }) =
     subst (λ (s : SumsState). IsRunning p s) (sym c.self.view_is) c.requires.sums in
     let last : length c.rows.result.now ≡ length p.rows = ap (λ (rows : List NamedRow). length rows) c.rows.ensures.value in
     let ends : c.index-ends.result.now ≡ extremes_at sums (length p.rows) =
