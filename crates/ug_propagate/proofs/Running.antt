@@ -1,8 +1,8 @@
 -- Running sums, and how they change with one column of the box.
-use Rattle.std.proofs.Common.{true, ◌≡◌, ◌≢◌, refl, sym, subst, ◌∙◌, ap, inl, inr, ℕ, suc, ◌+◌, ◌*◌, ◌^◌, ◌<◌, ◌≤◌, ◌⊎◌, ℤ, pos, negsuc, ◌+ℤ◌, ◌-ℤ◌, ◌*ℤ◌, unsigned_abs, List, [], ◌∷◌, ◌++◌, length, set, arith}
+use Rattle.std.proofs.Common.{true, ◌≡◌, ◌≢◌, refl, sym, subst, ◌∙◌, ap, inl, inr, ℕ, suc, ◌+◌, ◌*◌, ◌^◌, ◌<◌, ◌≤◌, ◌⊎◌, ℤ, pos, negsuc, ◌+ℤ◌, ◌-ℤ◌, ◌*ℤ◌, unsigned_abs, List, [], ◌∷◌, ◌++◌, length, map, set, arith}
 use Rattle.std.proofs.lemmas.Int.{ints}
 use Rattle.std.proofs.lemmas.Bool.{cases_eq}
-use Rattle.std.proofs.lemmas.List.{get_or-set_other, get_or-set_same, get_or-map, get_or_append_left, get_or_at, get_or_push, length_push, length-map, length-set}
+use Rattle.std.proofs.lemmas.List.{get_or-set_other, get_or-set_same, get_or-map, get_or_append_left, get_or_at, get_or_push, length_push, length-map, length-set, map_push, map-set}
 use Rattle.ug_rows.specs.declared.area.Interval.{Interval}
 use Rattle.ug_rows.specs.declared.row.Term.{Term}
 use Rattle.ug_rows.specs.declared.sums.Extreme.{Extreme}
@@ -18,11 +18,13 @@ use Rattle.ug_problem.specs.Limits.{IsProblem}
 use Rattle.ug_problem.specs.Standings.{AreStandings, standing_at, term_of, terms_of, terms_of_rows}
 use Rattle.ug_problem.proofs.Linear.{linear_row, linear_objective}
 use Rattle.ug_propagate.specs.declared.measure.Moves.{Moves}
+use Rattle.ug_propagate.specs.declared.rows.ShortExtremes.{ShortExtremes}
 use Rattle.ug_propagate.specs.declared.sums.Extremes.{Extremes}
-use Rattle.ug_propagate.specs.Running.{AreFirstSums, AreMoves, AreSums, HasMoved, IsRunning, IsSummed, SumsState, extremes_at, move_of, no_extremes}
-use Rattle.ug_propagate.specs.Shorts.{AreShort}
+use Rattle.ug_propagate.specs.Running.{AreFirstSums, AreMoves, AreSums, HasMoved, IsRunning, IsSummed, SumsState, extremes_at, move_of, no_extremes, no_short, short_at, widened}
+use Rattle.ug_propagate.specs.Shorts.{AreShort, IsShortRow}
 use Rattle.ug_propagate.proofs.Machine.{times_difference}
 use Rattle.ug_propagate.proofs.Rooms.{small_put}
+use Rattle.ug_propagate.proofs.Sizes.{factor_within, short_sum}
 
 -- the terms of a row
 pub terms_inner : (p : Instance) (r : ℕ) → r < length p.rows → (row_at p r).terms ≡ terms_of p r
@@ -284,3 +286,69 @@ sums_of p state h = record { width = h.width; count = h.count; each = h.each }
 -- and sums over a box are running, where they fit if they are kept in 64 bits
 pub running_of : (p : Instance) (state : SumsState) → AreSums p state.area state.sums → (state.short ≡ true → AreShort p) → IsRunning p state
 running_of p state h short = record { width = h.width; count = h.count; each = h.each; short = short }
+
+-- the sums of one row more, in 64 bits
+pub short_sums_push : (p : Instance) (area : List Interval) (r : ℕ) (sums : List ShortExtremes) (ends : ShortExtremes)
+    → AreFirstSums p area r (map widened sums) → IsSummed (terms_of p r) area (widened ends)
+    → AreFirstSums p area (r + 1) (map widened (sums ++ ends ∷ []))
+short_sums_push p area r sums ends h here =
+    subst (λ (xs : List Extremes). AreFirstSums p area (r + 1) xs) (sym (map_push widened sums ends))
+    (sums_push p area r (map widened sums) (widened ends) h here)
+
+abbrev pub extreme_of : Extreme → Extremes → ℤ
+extreme_of Least ends = ends.least
+extreme_of Greatest ends = ends.greatest
+
+-- sums of a short row are at most 2^60
+pub summed_short : (e : Extreme) (ts : List Term) (area : List Interval) (ends : Extremes) → IsShortRow ts → IsSummed ts area ends
+    → unsigned_abs (extreme_of e ends) ≤ 2 ^ 60
+summed_short Least ts area ends short h =
+    subst (λ (v : ℤ). unsigned_abs v ≤ 2 ^ 60) (sym h.least) (short_sum Least ts area short h.small)
+summed_short Greatest ts area ends short h =
+    subst (λ (v : ℤ). unsigned_abs v ≤ 2 ^ 60) (sym h.greatest) (short_sum Greatest ts area short h.small)
+
+pub record IsShortReady (standing : Standing) (sums : List ShortExtremes) : Type 0 where
+  pub there : standing.row < length sums
+  pub least : unsigned_abs (short_at sums standing.row).least ≤ 2 ^ 60
+  pub greatest : unsigned_abs (short_at sums standing.row).greatest ≤ 2 ^ 60
+  pub factor : unsigned_abs standing.factor ≤ 2 ^ 29
+
+-- the next row may be shifted in 64 bits
+pub short_ready : (p : Instance) (j : ℕ) (area : List Interval) (side : Interval) (standings : List Standing) (i : ℕ)
+    (sums : List ShortExtremes) → AreShort p → AreStandings p j standings → i < length standings
+    → AreShifted p j area side standings i (map widened sums) → IsShortReady (standing_at standings i) sums
+short_ready p j area side standings i sums short are there h =
+    let r : ℕ = (standing_at standings i).row in
+    let within : r ≤ length p.rows = are.within i there in
+    let now : IsSummed (terms_of p r) area (extremes_at (map widened sums) r) =
+    next_is_ahead p j area side standings i r (extremes_at (map widened sums) r) are there refl (h.each r within) in
+    let long : r < length sums = omega (arith, length-map sums widened, h.count, within) in
+    let at : extremes_at (map widened sums) r ≡ widened (short_at sums r) = get_or-map widened sums r no_short no_extremes long in
+    record {
+      there = long;
+      least = subst (λ (ends : Extremes). unsigned_abs ends.least ≤ 2 ^ 60) at (summed_short Least (terms_of p r) area _ (short r within) now);
+      greatest = subst (λ (ends : Extremes). unsigned_abs ends.greatest ≤ 2 ^ 60) at
+          (summed_short Greatest (terms_of p r) area _ (short r within) now);
+      factor = omega (arith, factor_within (terms_of p r) (term_of j (standing_at standings i)) (are.each i there), short r within);
+    }
+
+-- a row that moved in 64 bits moved, whatever name the factor has
+pub moved_short : (factor same : ℤ) (moves : Moves) (r : ℕ) (old new : List ShortExtremes) (ends : ShortExtremes) → same ≡ factor
+    → r < length old → new ≡ set old r ends → ends.least ≡ (short_at old r).least +ℤ (same *ℤ move_of Least same moves)
+    → ends.greatest ≡ (short_at old r).greatest +ℤ (same *ℤ move_of Greatest same moves)
+    → HasMoved factor moves r (map widened old) (map widened new)
+moved_short factor same moves r old new ends named there put least greatest =
+    let at : widened (short_at old r) ≡ extremes_at (map widened old) r = sym (get_or-map widened old r no_short no_extremes there) in
+    subst (λ (f : ℤ). HasMoved f moves r (map widened old) (map widened new)) named (record {
+      ends = widened ends;
+      put = ap (λ (sums : List ShortExtremes). map widened sums) put ∙ map-set widened old r ends;
+      least = least ∙ ap (λ (e : Extremes). e.least +ℤ (same *ℤ move_of Least same moves)) at;
+      greatest = greatest ∙ ap (λ (e : Extremes). e.greatest +ℤ (same *ℤ move_of Greatest same moves)) at;
+    })
+
+-- sums of 64 bits are read
+pub short_read : (sums : List ShortExtremes) (r : ℕ) (ends : ShortExtremes) → r < length (map widened sums)
+    → ends ≡ short_at sums r → widened ends ≡ extremes_at (map widened sums) r
+short_read sums r ends there same =
+    let within : r < length sums = omega (arith, length-map sums widened, there) in
+    ap widened same ∙ sym (get_or-map widened sums r no_short no_extremes within)

@@ -1,8 +1,9 @@
 -- How large the factors of a row are together, and what its sums are then at most.
-use Rattle.std.proofs.Common.{◌≡◌, subst, sym, ℕ, suc, ◌+◌, ◌*◌, ◌^◌, ◌<◌, ◌≤◌, inl, inr, ℤ, pos, negsuc, unsigned_abs, List, [], ◌∷◌, ◌++◌, length, take, arith}
+use Rattle.std.proofs.Common.{◌≡◌, subst, sym, ℕ, suc, ◌+◌, ◌*◌, ◌^◌, ◌<◌, ◌≤◌, inl, inr, ℤ, pos, negsuc, ◌+ℤ◌, ◌*ℤ◌, unsigned_abs, FitsSigned, List, [], ◌∷◌, ◌++◌, length, take, arith}
 use Rattle.std.proofs.Math.Nat.{mul-le-mul}
-use Rattle.std.proofs.lemmas.Int.{unsigned_abs-mul}
+use Rattle.std.proofs.lemmas.Int.{fits_signed_from_abs, unsigned_abs-mul}
 use Rattle.std.proofs.lemmas.List.{take_more}
+use mir.Syntax.{w64}
 use Rattle.ug_rows.specs.declared.area.Interval.{Interval}
 use Rattle.ug_rows.specs.declared.row.Term.{Term}
 use Rattle.ug_rows.specs.declared.sums.Extreme.{Extreme}
@@ -50,3 +51,10 @@ sum_sized e (t ∷ ts) area small =
 pub short_sum : (e : Extreme) (ts : List Term) (area : List Interval) → IsShortRow ts → HaveSmallColumns ts area
     → unsigned_abs (end_sum e ts area) ≤ 2 ^ 60
 short_sum e ts area short small = omega (arith, short, sum_sized e ts area small)
+
+-- how far a sum moves in 64 bits
+pub abs_moved : (f v : ℤ) → unsigned_abs f ≤ 2 ^ 29 → unsigned_abs v ≤ 2 ^ 32 → unsigned_abs (f *ℤ v) ≤ 2 ^ 61
+abs_moved f v small short = omega (arith, unsigned_abs-mul f v, mul-le-mul small short)
+
+pub short_sum_fits : (a b : ℤ) → unsigned_abs a + unsigned_abs b < 2 ^ 63 → FitsSigned w64 (a +ℤ b)
+short_sum_fits a b small = fits_signed_from_abs w64 (a +ℤ b) (omega (arith, abs_add a b, small))

@@ -2,7 +2,7 @@
 -- objective, without its constant, is the row behind the last.
 use Rattle.std.specs.Prelude.{◌≡◌, ◌≢◌, ℕ, ℤ, pos, negsuc, ◌+◌, ◌-◌, ◌^◌, ◌+ℤ◌, ◌-ℤ◌, ◌*ℤ◌, ◌<◌}
 use Rattle.std.specs.Prelude.{◌≤◌, unsigned_abs, List, length, slice_index_or, slice_set, Option}
-use Rattle.std.specs.Prelude.{Some, None, Bool, true}
+use Rattle.std.specs.Prelude.{Some, None, Bool, true, false, map}
 use Rattle.ug_rows.specs.declared.area.Interval.{Interval}
 use Rattle.ug_rows.specs.declared.row.Term.{Term}
 use Rattle.ug_rows.specs.Rows.{IsAmong, term_at}
@@ -14,6 +14,9 @@ use Rattle.ug_problem.specs.Instances.{Instance, row_at}
 use Rattle.ug_problem.specs.Standings.{standing_at, term_of, terms_of}
 use Rattle.ug_problem.specs.declared.standings.Standing.{Standing}
 use Rattle.ug_propagate.specs.declared.measure.Moves.{Moves}
+use Rattle.ug_propagate.specs.declared.rows.RowSums.{RowSums}
+use Rattle.ug_propagate.specs.declared.rows.RowSums.TheVariants.{Short, Wide}
+use Rattle.ug_propagate.specs.declared.rows.ShortExtremes.{ShortExtremes}
 use Rattle.ug_propagate.specs.declared.sums.Extremes.{Extremes}
 use Rattle.ug_propagate.specs.Shorts.{AreShort}
 use Rattle.ug_propagate.specs.Steps.{HaveSmallColumns}
@@ -31,6 +34,27 @@ no_extremes = record { least = pos 0; greatest = pos 0 }
 -- the sums of row r
 abbrev pub extremes_at : List Extremes → ℕ → Extremes
 extremes_at sums r = slice_index_or sums r no_extremes
+
+-- the same where they are kept in 64 bits
+abbrev pub no_short : ShortExtremes
+no_short = record { least = pos 0; greatest = pos 0 }
+
+abbrev pub short_at : List ShortExtremes → ℕ → ShortExtremes
+short_at sums r = slice_index_or sums r no_short
+
+-- the sums that are kept in 64 bits
+abbrev pub widened : ShortExtremes → Extremes
+widened sums = record { least = sums.least; greatest = sums.greatest }
+
+-- the sums of each row, however they are kept
+abbrev pub sums_in : RowSums → List Extremes
+sums_in (Short sums) = map widened sums.items
+sums_in (Wide sums) = sums.items
+
+-- whether they are kept in 64 bits
+abbrev pub are_in_64_bits : RowSums → Bool
+are_in_64_bits (Short sums) = true
+are_in_64_bits (Wide sums) = false
 
 -- these are the sums of the terms over the box
 pub record IsSummed (terms : List Term) (area : List Interval) (ends : Extremes) : Type 0 where

@@ -1,6 +1,6 @@
 //! Problems whose sums fit in 64 bits.
 
-ghost use Rattle.std.specs.Prelude.{IsTrue};
+ghost use Rattle.std.specs.Prelude.{◌≡◌, ◌+◌, ◌<◌, ◌≤◌, ◌^◌, ◌+ℤ◌, ◌*ℤ◌, unsigned_abs, IsTrue};
 ghost use Rattle.ug_propagate.specs.Shorts.{AreShort, IsShortRow};
 
 use crate::sums::terms_at;
@@ -37,4 +37,35 @@ pub fn are_short(problem: &Problem) -> bool
         }
     }
     true
+}
+
+// The product of a factor and a number of 33 bits.
+fn small_product(factor: i64, by: i64) -> i64
+    requires factor { unsigned_abs factor ≤ 2 ^ 29 }
+    requires by { unsigned_abs by ≤ 2 ^ 32 }
+    ensures value { result ≡ factor *ℤ by }
+    ensures small { unsigned_abs result ≤ 2 ^ 61 }
+{
+    factor * by
+}
+
+// A sum of two numbers.
+fn small_plus(a: i64, b: i64) -> i64
+    requires { unsigned_abs a + unsigned_abs b < 2 ^ 63 }
+    ensures { result ≡ a +ℤ b }
+{
+    a + b
+}
+
+/// Adds the product of a factor and how far an end went. An end that stays costs neither a product
+/// nor a write.
+pub fn add_short_move(sum: &mut i64, factor: i64, by: i64)
+    requires sum { unsigned_abs sum.old ≤ 2 ^ 60 }
+    requires factor { unsigned_abs factor ≤ 2 ^ 29 }
+    requires by { unsigned_abs by ≤ 2 ^ 32 }
+    ensures { sum.new ≡ sum.old +ℤ (factor *ℤ by) }
+{
+    if by != 0 {
+        *sum = small_plus(*sum, small_product(factor, by));
+    }
 }

@@ -9,7 +9,9 @@ ghost use Rattle.ug_problem.specs.Standings.{AreStandings, terms_of};
 ghost use Rattle.ug_propagate.specs.Steps.{IsMeasured};
 ghost use Rattle.ug_propagate.specs.Running.{AreFirstSums, AreSums, HasMoved, IsLastOf, IsObjectiveStanding, IsNamedRow, IsRunning, IsSummed, extremes_at, move_of, terms_named};
 
-use crate::measure::{Ends, Moves, add_move, measure, moves_between};
+use crate::measure::{Ends, measure, moves_between};
+use crate::moving::{move_sums, shift};
+use crate::rows::{RowSums, all_rows, ends_in};
 use std::alloc::{AllocError, Global};
 use std::marker::Model;
 use ug_problem::{NamedRow, Problem, Standing};
@@ -67,101 +69,6 @@ pub fn measured(problem: &Problem, r: usize, area: &[Interval]) -> Ends
     ensures { IsMeasured (terms_of problem.now r) area.now result }
 {
     measure(terms_at(problem, r), area)
-}
-
-// Brings the sums of a row to where the ends of one of its columns went. For a factor below 0 the
-// high end moves the least sum, else the low end does.
-fn move_sums(sums: &mut Extremes, factor: i128, moves: Moves)
-    requires least { unsigned_abs sums.old.least ≤ 3 * 10 ^ 37 }
-    requires greatest { unsigned_abs sums.old.greatest ≤ 3 * 10 ^ 37 }
-    requires factor { unsigned_abs factor ≤ 10 ^ 24 }
-    requires low { unsigned_abs moves.low ≤ 2 ^ 32 }
-    requires high { unsigned_abs moves.high ≤ 2 ^ 32 }
-    ensures least { sums.new.least ≡ sums.old.least +ℤ (factor *ℤ move_of Least factor moves) }
-    ensures greatest { sums.new.greatest
-        ≡ sums.old.greatest +ℤ (factor *ℤ move_of Greatest factor moves) }
-{
-    if factor < 0 {
-        add_move(&mut sums.least, factor, moves.high);
-        add_move(&mut sums.greatest, factor, moves.low);
-    } else {
-        add_move(&mut sums.least, factor, moves.low);
-        add_move(&mut sums.greatest, factor, moves.high);
-    }
-}
-
-// The sums of one row after the ends of one of its columns went so far.
-fn shift_row(sums: &mut [Extremes], standing: Standing, moves: Moves)
-    requires there { standing.row < length sums.old }
-    requires least { unsigned_abs (extremes_at sums.old standing.row).least ≤ 3 * 10 ^ 37 }
-    requires greatest { unsigned_abs (extremes_at sums.old standing.row).greatest ≤ 3 * 10 ^ 37 }
-    requires factor { unsigned_abs standing.factor ≤ 10 ^ 24 }
-    requires low { unsigned_abs moves.low ≤ 2 ^ 32 }
-    requires high { unsigned_abs moves.high ≤ 2 ^ 32 }
-    ensures { HasMoved standing.factor moves standing.row sums.old sums.new }
-{
-    move_sums(&mut sums[standing.row as usize], standing.factor, moves);
-}
-
-// Brings the sums to the box in which a column has another interval. It touches the rows of the
-// column alone.
-fn shift(problem: &Problem, column: usize, area: &[Interval], side: Interval, sums: &mut [Extremes])
-    requires there { column < length area.now }
-    requires sums { AreSums problem.now area.now sums.old }
-    ensures { AreSums problem.now (slice_set area.now column side) sums.new }
-{
-    let standings = problem.standings(column);
-    let moves = moves_between(area[column], side);
-    for standing in standings {
-        shift_row(sums, *standing, moves);
-    }
-}
-
-// The sums of row r over a box.
-fn sums_of(problem: &Problem, r: usize, area: &[Interval]) -> Extremes
-    requires there { r ≤ length problem.now.rows }
-    requires width { length area.now ≡ length problem.now.columns }
-    ensures { IsSummed (terms_of problem.now r) area.now result }
-{
-    let ends = measured(problem, r, area);
-    Extremes {
-        least: ends.least,
-        greatest: ends.greatest,
-    }
-}
-
-// The sums of the first rows over a box, and those of one row more.
-fn add_sums(
-    problem: &Problem,
-    area: &[Interval],
-    sums: &mut Vec<Extremes>,
-    r: usize,
-) -> Result<(), AllocError>
-    requires there { r ≤ length problem.now.rows }
-    requires width { length area.now ≡ length problem.now.columns }
-    requires so_far { AreFirstSums problem.now area.now r sums.old.items }
-    ensures { OnOk result (AreFirstSums problem.now area.now (r + 1) sums.new.items) }
-{
-    let ends = sums_of(problem, r, area);
-    sums.push(ends)?;
-    Ok(())
-}
-
-// The sums of all rows and of the objective over a box.
-fn all_sums(
-    alloc: Global,
-    problem: &Problem,
-    area: &[Interval],
-) -> Result<Vec<Extremes>, AllocError>
-    requires { length area.now ≡ length problem.now.columns }
-    ensures { IfOk result (λ sums. AreSums problem.now area.now sums.items) }
-{
-    let count = problem.rows().len() + 1;
-    let mut sums = Vec::with_capacity(alloc, count)?;
-    for r in 0..count {
-        add_sums(problem, area, &mut sums, r)?;
-    }
-    Ok(sums)
 }
 
 // The last standing, if there is one.
@@ -244,42 +151,46 @@ fn objective_with(
 #[derive(Drop)]
 pub struct Sums {
     sides: Vec<Interval>,
-    sums: Vec<Extremes>,
+    rows: RowSums,
 }
 
 impl Model for Sums {
     ghost use Rattle.ug_propagate.specs.Steps.{IsMeasured};
-    ghost use Rattle.ug_propagate.specs.Running.{SumsState};
+    ghost use Rattle.ug_propagate.specs.Running.{SumsState, are_in_64_bits, sums_in};
 
     ghost Value = { SumsState };
 
-    ghost use Rattle.std.specs.Prelude.{false};
-
-    ghost view = { λ s. record { area = s.sides.items; sums = s.sums.items; short = false } };
+    ghost view = { λ s. record {
+      area = s.sides.items;
+      sums = sums_in s.rows;
+      short = are_in_64_bits s.rows;
+    } };
 }
 
 impl Sums {
     /// The sums over this box. It alone takes memory.
+    #[tactic(auto, using(crate::proofs::Running::running_of))]
     pub fn new(alloc: Global, problem: &Problem, area: &IntBox) -> Result<Sums, AllocError>
         requires { length area.now ≡ length problem.now.columns }
         ensures area { IfOk result (λ s. s.area ≡ area.now) }
         ensures sums { IfOk result (IsRunning problem.now) }
     {
         let sides = Vec::from_slice(alloc, area.as_slice())?;
-        let sums = all_sums(alloc, problem, sides.as_slice())?;
-        Ok(Sums { sides, sums })
+        let rows = all_rows(alloc, problem, sides.as_slice())?;
+        Ok(Sums { sides, rows })
     }
 
     /// Takes the sums of another problem's rows over the same box. After an error nothing was
     /// changed.
+    #[tactic(auto, using(crate::proofs::Running::running_of))]
     pub fn over(&mut self, alloc: Global, problem: &Problem) -> Result<(), AllocError>
         requires { length self.old.area ≡ length problem.now.columns }
         ensures area { self.new.area ≡ self.old.area }
         ensures ok { OnOk result (IsRunning problem.now self.new) }
         ensures err { OnErr result (self.new ≡ self.old) }
     {
-        let sums = all_sums(alloc, problem, self.sides.as_slice())?;
-        self.sums = sums;
+        let rows = all_rows(alloc, problem, self.sides.as_slice())?;
+        self.rows = rows;
         Ok(())
     }
 
@@ -296,19 +207,14 @@ impl Sums {
     }
 
     /// Replaces the interval of a column by this one.
+    #[tactic(auto, using(crate::proofs::Running::sums_of, crate::proofs::Running::running_of))]
     pub fn put(&mut self, problem: &Problem, column: usize, side: Interval)
         requires there { column < length problem.now.columns }
         requires sums { IsRunning problem.now self.old }
         ensures area { self.new.area ≡ slice_set self.old.area column side }
         ensures sums { IsRunning problem.now self.new }
     {
-        shift(
-            problem,
-            column,
-            self.sides.as_slice(),
-            side,
-            self.sums.as_mut_slice(),
-        );
+        shift(problem, column, self.sides.as_slice(), side, &mut self.rows);
         self.sides[column] = side;
     }
 
@@ -317,7 +223,7 @@ impl Sums {
         requires { r < length self.now.sums }
         ensures { result ≡ extremes_at self.now.sums r }
     {
-        self.sums[r]
+        ends_in(&self.rows, r)
     }
 
     /// The interval of a column.
@@ -344,7 +250,7 @@ impl Sums {
         requires sums { IsRunning problem.now self.now }
         ensures { result ≡ greatest_sum (terms_named problem.now row) self.now.area }
     {
-        self.sums[row_index(problem, row)].greatest
+        self.ends(row_index(problem, row)).greatest
     }
 
     /// The least sum of the objective where a column had another interval. It looks at that column
@@ -356,8 +262,8 @@ impl Sums {
             (slice_set self.now.area column side) }
         ensures small { unsigned_abs result ≤ 3 * 10 ^ 37 }
     {
-        let ends = self.sums[problem.rows().len()];
-        let area = self.sides.as_slice();
+        let ends = self.ends(problem.rows().len());
+        let area = self.sides();
         least_in(objective_with(problem, column, area, ends, side))
     }
 

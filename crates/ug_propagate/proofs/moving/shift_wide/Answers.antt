@@ -1,6 +1,6 @@
 use Rattle.std.proofs.Common.{arith}
 use Rattle.ug_propagate.proofs.Running.{next_ready, shift_ends, shift_step}
-use Rattle.ug_propagate.proofs.sums.shift.Goals as goal
+use Rattle.ug_propagate.proofs.moving.shift_wide.Goals as goal
 
 pub shift_row-requires-clause-least : goal.shift_row-requires-clause-least
 shift_row-requires-clause-least c =

@@ -1,5 +1,5 @@
 use Rattle.ug_propagate.proofs.Running.{AreShifted}
-use Rattle.ug_propagate.proofs.sums.shift.Given as goal
+use Rattle.ug_propagate.proofs.moving.shift_wide.Given as goal
 
 -- the rows of the standings so far have their new sums
 abbrev pub invariant-loop-standing : goal.invariant-loop-standing

@@ -1,0 +1,8 @@
+use Rattle.std.proofs.Common.{map}
+use Rattle.ug_propagate.specs.Running.{widened}
+use Rattle.ug_propagate.proofs.Running.{AreShifted}
+use Rattle.ug_propagate.proofs.moving.shift_short.Given as goal
+
+-- the rows of the standings so far have their new sums
+abbrev pub invariant-loop-standing : goal.invariant-loop-standing
+invariant-loop-standing l = AreShifted l.problem l.column l.area l.fn.side l.standings l.standing-index (map widened l.sums)
