@@ -23,3 +23,4 @@ pub mod Snug
 pub mod Shorts
 pub mod Nearing
 pub mod Sizes
+pub mod Near

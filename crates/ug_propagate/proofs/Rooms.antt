@@ -45,7 +45,7 @@ low_room_size low sum room e side small =
     rw e (omega (arith, abs_sub sum (low_of low), low_size low side, small))
 
 -- the sums of a room and their sizes
-room_of : (width : ℕ) (look : Look) (terms : List Term) (area : List Interval) (room : Room) → IsLookable width look terms
+pub room_of : (width : ℕ) (look : Look) (terms : List Term) (area : List Interval) (room : Room) → IsLookable width look terms
     → HaveSmallColumns terms area → room.high ≡ high_of look.high -ℤ least_sum terms area
     → room.low ≡ greatest_sum terms area -ℤ low_of look.low → IsRoomOf look terms area room
 room_of width look terms area room ready small high low = record {

@@ -1,5 +1,5 @@
 -- How large the factors of a row are together, and what its sums are then at most.
-use Rattle.std.proofs.Common.{◌≡◌, subst, sym, ℕ, suc, ◌+◌, ◌*◌, ◌^◌, ◌<◌, ◌≤◌, inl, inr, ℤ, pos, negsuc, ◌+ℤ◌, ◌*ℤ◌, unsigned_abs, FitsSigned, List, [], ◌∷◌, ◌++◌, length, take, arith}
+use Rattle.std.proofs.Common.{◌≡◌, subst, sym, ℕ, suc, ◌+◌, ◌*◌, ◌^◌, ◌<◌, ◌≤◌, inl, inr, ℤ, pos, negsuc, ◌+ℤ◌, ◌-ℤ◌, ◌*ℤ◌, unsigned_abs, FitsSigned, List, [], ◌∷◌, ◌++◌, length, take, arith}
 use Rattle.std.proofs.Math.Nat.{mul-le-mul}
 use Rattle.std.proofs.lemmas.Int.{fits_signed_from_abs, unsigned_abs-mul}
 use Rattle.std.proofs.lemmas.List.{take_more}
@@ -11,7 +11,7 @@ use Rattle.ug_rows.specs.declared.sums.Extreme.TheVariants.{Least, Greatest}
 use Rattle.ug_rows.specs.Boxes.{HasSmallEnds, interval_at}
 use Rattle.ug_rows.specs.Rows.{IsAmong, no_term, term_at}
 use Rattle.ug_rows.specs.Sums.{end_of, end_product, end_sum}
-use Rattle.ug_rows.proofs.Products.{abs_add}
+use Rattle.ug_rows.proofs.Products.{abs_add, abs_sub}
 use Rattle.ug_propagate.specs.Shorts.{IsShortRow, size_of}
 use Rattle.ug_propagate.specs.Steps.{HaveSmallColumns}
 
@@ -58,3 +58,6 @@ abs_moved f v small short = omega (arith, unsigned_abs-mul f v, mul-le-mul small
 
 pub short_sum_fits : (a b : ℤ) → unsigned_abs a + unsigned_abs b < 2 ^ 63 → FitsSigned w64 (a +ℤ b)
 short_sum_fits a b small = fits_signed_from_abs w64 (a +ℤ b) (omega (arith, abs_add a b, small))
+
+pub short_difference_fits : (a b : ℤ) → unsigned_abs a + unsigned_abs b < 2 ^ 63 → FitsSigned w64 (a -ℤ b)
+short_difference_fits a b small = fits_signed_from_abs w64 (a -ℤ b) (omega (arith, abs_sub a b, small))

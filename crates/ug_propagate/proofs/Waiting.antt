@@ -12,14 +12,15 @@ use Rattle.ug_problem.specs.Limits.{IsProblem}
 use Rattle.ug_problem.specs.Standings.{terms_of}
 use Rattle.ug_problem.proofs.Linear.{linear_objective}
 use Rattle.ug_propagate.specs.declared.look.Look.{Look}
+use Rattle.ug_propagate.specs.declared.look.Looked.{Looked}
 use Rattle.ug_propagate.specs.declared.tight.Tight.{Tight}
 use Rattle.ug_propagate.specs.declared.tight.Tight.TheVariants.{Kept, Empty}
 use Rattle.ug_propagate.specs.declared.tight.Reason.{Reason}
 use Rattle.ug_propagate.specs.Awake.{HasBit, bit_of}
 use Rattle.ug_propagate.specs.Rounds.{look_at, over_objective, over_rows, over_terms, round, row_step, are_fixed, last_round, rounds_of}
-use Rattle.ug_propagate.specs.Steps.{IsLookable, row_of}
-use Rattle.ug_propagate.specs.Waiting.{IsNextRow, RestFrom, WentOn, look_to, looks, then_look}
-use Rattle.ug_propagate.specs.Working.{AreResting, IsAtRest, IsStep, IsWorking, WorkState, look_for}
+use Rattle.ug_propagate.specs.Steps.{IsLookable, looked_of, row_of}
+use Rattle.ug_propagate.specs.Waiting.{HasLooked, IsNextRow, RestFrom, WentOn, look_to, looks, then_look}
+use Rattle.ug_propagate.specs.Working.{AreResting, IsAtRest, IsSame, IsStep, IsWorking, RestsWhereChanged, RestsWhereSame, WorkState, look_for}
 use Rattle.ug_propagate.proofs.Bodies.{ready_objective, ready_row}
 use Rattle.ug_propagate.proofs.Parts.{if_bool}
 use Rattle.ug_propagate.proofs.Sweeps.{rounds_stay}
@@ -270,3 +271,16 @@ last_rests p cutoff area awake problem small resting rest =
     let P : Tight → Type 0 = λ (t : Tight). Kept area ≡ t in
     if_bool P (are_fixed area) (round p cutoff (Kept area)) (Kept area)
     (λ _. sym (round_rests p cutoff area awake problem small resting rest)) (λ _. refl)
+
+-- a look at a row, by what its look and its terms are
+pub has_looked : (p : Instance) (cutoff : Option ℤ) (r : ℕ) (look : Look) (ts : List Term) (old new : WorkState) (looked : Looked)
+    → look ≡ look_for p cutoff r → ts ≡ terms_of p r → looked_of looked new.sums.area ≡ row_step look.row (row_of look ts) old.sums.area
+    → IsSame looked old new → RestsWhereSame looked look ts old.sums.area → RestsWhereChanged looked look ts new.sums.area
+    → HasLooked p cutoff r old new looked
+has_looked p cutoff r look ts old new looked named are =
+    let P : Look → List Term → Type 0 = λ (l : Look) (us : List Term).
+    looked_of looked new.sums.area ≡ row_step l.row (row_of l us) old.sums.area
+    → IsSame looked old new → RestsWhereSame looked l us old.sums.area → RestsWhereChanged looked l us new.sums.area
+    → HasLooked p cutoff r old new looked in
+    subst (λ (l : Look). P l ts) (sym named) (subst (λ (us : List Term). P (look_for p cutoff r) us) (sym are)
+    (λ value same rest snug. record { value = value; same = same; rest = rest; snug = snug }))

@@ -1,13 +1,15 @@
 -- Numbers of 64 bits in the place of longer ones: a span of 64 bits is within a room where it is
 -- within the short room.
-use Rattle.std.specs.Prelude.{◌≡◌, ℕ, ℤ, ◌+◌, ◌<◌, ◌≤◌, ◌^◌, ◌≤ℤ◌, List, [], ◌∷◌, length}
-use Rattle.std.specs.Prelude.{unsigned_abs}
+use Rattle.std.specs.Prelude.{◌≡◌, ℕ, ℤ, pos, neg_ℤ, ◌+◌, ◌-ℤ◌, ◌<◌, ◌≤◌, ◌^◌, ◌≤ℤ◌, ◌<ℤ◌, List}
+use Rattle.std.specs.Prelude.{[], ◌∷◌, length, unsigned_abs, Option, Some, None}
 use Rattle.ug_rows.specs.declared.area.Interval.{Interval}
 use Rattle.ug_rows.specs.declared.row.Term.{Term}
 use Rattle.ug_problem.specs.Instances.{Instance}
 use Rattle.ug_problem.specs.Standings.{terms_of}
 use Rattle.ug_propagate.specs.declared.measure.Room.{Room}
-use Rattle.ug_propagate.specs.Steps.{span_of}
+use Rattle.ug_propagate.specs.declared.short_look.ShortLook.{ShortLook}
+use Rattle.ug_propagate.specs.declared.short_look.ShortRoom.{ShortRoom}
+use Rattle.ug_propagate.specs.Steps.{HaveSmallColumns, IsLookable, IsTermOf, room_over, span_of}
 
 -- the span of the term, of 64 bits
 pub record IsShortSpan (t : Term) (area : List Interval) (span : ℤ) : Type 0 where
@@ -35,3 +37,37 @@ IsShortRow ts = size_of ts ≤ 2 ^ 29
 -- so are those of each row and of the objective
 abbrev pub AreShort : Instance → Type 0
 AreShort p = (r : ℕ) → r ≤ length p.rows → IsShortRow (terms_of p r)
+
+-- a term of such a row
+pub record IsShortTerm (width : ℕ) (t : Term) : Type 0 where
+  pub term : IsTermOf width t
+  pub size : unsigned_abs t.factor ≤ 2 ^ 29
+
+-- the side, where a missing one is a number so large that no span is above the room that it leaves
+abbrev pub IsShortHigh : Option ℤ → ℤ → Type 0
+IsShortHigh None side = side ≡ pos (2 ^ 62)
+IsShortHigh (Some high) side = (side ≡ high) × (unsigned_abs high ≤ 2 ^ 61)
+
+abbrev pub IsShortLow : Option ℤ → ℤ → Type 0
+IsShortLow None side = side ≡ neg_ℤ (pos (2 ^ 62))
+IsShortLow (Some low) side = (side ≡ low) × (unsigned_abs low ≤ 2 ^ 61)
+
+-- a look at row r of a problem whose sums are short, with its sides in 64 bits
+pub record IsShortLook (p : Instance) (s : ShortLook) : Type 0 where
+  pub there : s.r ≤ length p.rows
+  pub short : AreShort p
+  pub row : IsLookable (length p.columns) s.look (terms_of p s.r)
+  pub high : IsShortHigh s.look.high s.high
+  pub low : IsShortLow s.look.low s.low
+
+-- the number is the room, or it is one that no span is above, and not above the room
+pub record IsNearRoom (room near : ℤ) : Type 0 where
+  pub below : near ≤ℤ room
+  pub same : near <ℤ pos (2 ^ 61) → near ≡ room
+
+-- so are those of both sides
+pub record AreNearRooms (s : ShortLook) (terms : List Term) (area : List Interval) (room : ShortRoom) :
+    Type 0 where
+  pub small : HaveSmallColumns terms area
+  pub high : IsNearRoom (room_over s.look terms area).high room.high
+  pub low : IsNearRoom (room_over s.look terms area).low room.low

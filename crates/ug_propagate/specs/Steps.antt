@@ -91,3 +91,10 @@ pub record IsRoomOf (look : Look) (terms : List Term) (area : List Interval) (ro
   pub low : room.low ≡ greatest_sum terms area -ℤ low_of look.low
   pub high_size : unsigned_abs room.high ≤ 9 * 10 ^ 37
   pub low_size : unsigned_abs room.low ≤ 9 * 10 ^ 37
+
+-- the room of both sides
+abbrev pub room_over : Look → List Term → List Interval → Room
+room_over look terms area = record {
+  high = high_of look.high -ℤ least_sum terms area;
+  low = greatest_sum terms area -ℤ low_of look.low;
+}

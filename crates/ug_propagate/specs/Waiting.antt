@@ -3,17 +3,26 @@ use Rattle.std.specs.Prelude.{◌≡◌, ℕ, suc, zero, ℤ, ◌<◌, ◌≤◌
 use Rattle.ug_rows.specs.declared.area.Interval.{Interval}
 use Rattle.ug_problem.specs.Instances.{Instance}
 use Rattle.ug_problem.specs.Standings.{terms_of}
+use Rattle.ug_propagate.specs.declared.look.Looked.{Looked}
 use Rattle.ug_propagate.specs.declared.tight.Tight.{Tight}
 use Rattle.ug_propagate.specs.declared.tight.Tight.TheVariants.{Kept, Empty}
 use Rattle.ug_propagate.specs.Awake.{bit_of}
 use Rattle.ug_propagate.specs.Rounds.{row_step}
-use Rattle.ug_propagate.specs.Steps.{row_of}
-use Rattle.ug_propagate.specs.Working.{IsLater, IsWorking, WorkState, look_for}
+use Rattle.ug_propagate.specs.Steps.{looked_of, row_of}
+use Rattle.ug_propagate.specs.Working.{IsLater, IsSame, IsWorking, RestsWhereChanged, RestsWhereSame, WorkState, look_for}
 
 -- what a look at row r makes of a box under a cutoff
 abbrev pub look_to : Instance → Option ℤ → ℕ → List Interval → Tight
 look_to p cutoff r area =
     row_step (look_for p cutoff r).row (row_of (look_for p cutoff r) (terms_of p r)) area
+
+-- what a look at row r made of a working box under a cutoff, and what it tells of how the row rests
+pub record HasLooked (p : Instance) (cutoff : Option ℤ) (r : ℕ) (old new : WorkState) (looked : Looked) :
+    Type 0 where
+  pub value : looked_of looked new.sums.area ≡ look_to p cutoff r old.sums.area
+  pub same : IsSame looked old new
+  pub rest : RestsWhereSame looked (look_for p cutoff r) (terms_of p r) old.sums.area
+  pub snug : RestsWhereChanged looked (look_for p cutoff r) (terms_of p r) new.sums.area
 
 -- the same, where the box is not yet found empty
 abbrev pub then_look : Instance → Option ℤ → ℕ → Tight → Tight

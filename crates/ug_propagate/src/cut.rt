@@ -1,12 +1,16 @@
-ghost use Rattle.std.specs.Prelude.{◌≡◌, ◌≤◌, ◌<◌, ◌^◌, length, unsigned_abs};
+ghost use Rattle.std.specs.Prelude.{◌≡◌, ◌≤◌, ◌<◌, ◌*◌, ◌^◌, ◌+ℤ◌, ◌-ℤ◌, length, unsigned_abs};
 ghost use Rattle.ug_rows.specs.Boxes.{interval_at};
+ghost use Rattle.ug_rows.specs.Sums.{end_product};
+ghost use Rattle.ug_rows.specs.declared.sums.Extreme.TheVariants.{Least, Greatest};
 ghost use Rattle.ug_propagate.specs.Rounds.{keep_at_least, keep_at_most, lower_high, raise_low};
 ghost use Rattle.ug_propagate.specs.Steps.{IsTermOf};
 ghost use Rattle.ug_propagate.specs.Cuts.{IsInnerCut, cut_of};
 
+use crate::measure::{minus, plus, product};
 use crate::quotient::{ceiling_div, floor_div};
+use crate::steps::{near, steps_within};
 use crate::tight::Reason;
-use ug_rows::{Interval, Term};
+use ug_rows::{Extreme, Interval, Term};
 
 /// What a bound makes of the interval of a column.
 #[derive(Clone, Copy)]
@@ -89,4 +93,40 @@ pub fn cut_at_least(reason: Reason, term: Term, least: i128, area: &[Interval]) 
     } else {
         cut_below(reason, column, floor_div(least, term.factor), area)
     }
+}
+
+/// What a room under the high side leaves of the term's column: its product goes at most that far up
+/// from its least.
+pub fn cut_up(reason: Reason, term: Term, room: i128, area: &[Interval]) -> Cut
+    requires term { IsTermOf (length area.now) term }
+    requires room { unsigned_abs room ≤ 9 * 10 ^ 37 }
+    ensures value { cut_of reason term.column area.now result
+        ≡ keep_at_most reason term.factor term.column
+        (room +ℤ end_product Least term area.now) area.now }
+    ensures inner { IsInnerCut (interval_at area.now term.column) result }
+{
+    let side = area[term.column as usize];
+    if let Some(steps) = steps_within(room, term.factor.unsigned_abs(), side) {
+        return Cut::To(near(Extreme::Least, term.factor, side, steps));
+    }
+    let most = plus(room, product(Extreme::Least, term, side));
+    cut_at_most(reason, term, most, area)
+}
+
+/// What a room over the low side leaves of it: its product goes at most that far down from its
+/// greatest.
+pub fn cut_down(reason: Reason, term: Term, room: i128, area: &[Interval]) -> Cut
+    requires term { IsTermOf (length area.now) term }
+    requires room { unsigned_abs room ≤ 9 * 10 ^ 37 }
+    ensures value { cut_of reason term.column area.now result
+        ≡ keep_at_least reason term.factor term.column
+        (end_product Greatest term area.now -ℤ room) area.now }
+    ensures inner { IsInnerCut (interval_at area.now term.column) result }
+{
+    let side = area[term.column as usize];
+    if let Some(steps) = steps_within(room, term.factor.unsigned_abs(), side) {
+        return Cut::To(near(Extreme::Greatest, term.factor, side, steps));
+    }
+    let least = minus(product(Extreme::Greatest, term, side), room);
+    cut_at_least(reason, term, least, area)
 }

@@ -19,6 +19,8 @@ mod rounds;
 mod rows;
 mod settle;
 mod short;
+mod short_look;
+mod short_looking;
 mod steps;
 mod sums;
 mod tight;

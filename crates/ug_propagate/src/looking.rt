@@ -13,15 +13,14 @@ ghost use Rattle.ug_propagate.specs.declared.look.Looked.TheVariants.{Same};
 ghost use Rattle.ug_propagate.specs.declared.tight.Side.TheVariants.{High, Low};
 ghost use Rattle.ug_propagate.specs.declared.tight.Tight.TheVariants.{Kept};
 
-use crate::cut::{Cut, cut_at_least, cut_at_most};
+use crate::cut::{Cut, cut_down, cut_up};
 use crate::look::{Look, Looked};
-use crate::measure::{Room, minus, plus, product, room_between, short_room, short_span, span};
-use crate::steps::{near, steps_within};
+use crate::measure::{Room, room_between, short_room, short_span, span};
 use crate::tight::{Reason, Side};
 use crate::working::Working;
 use std::alloc::AllocError;
 use ug_problem::Problem;
-use ug_rows::{Extreme, Interval, Term};
+use ug_rows::{Interval, Term};
 
 // The room that the sums of row r leave within its sides.
 fn room_of(work: &Working, problem: &Problem, r: usize, look: Look, terms: &[Term]) -> Room
@@ -46,16 +45,11 @@ fn cut_under_high(look: Look, terms: &[Term], term: Term, room: Room, area: &[In
     if span(term, area) <= room.high {
         return Cut::Whole;
     }
-    let side = area[term.column as usize];
-    if let Some(steps) = steps_within(room.high, term.factor.unsigned_abs(), side) {
-        return Cut::To(near(Extreme::Least, term.factor, side, steps));
-    }
-    let most = plus(room.high, product(Extreme::Least, term, side));
     let reason = Reason {
         row: look.row,
         side: Side::High,
     };
-    cut_at_most(reason, term, most, area)
+    cut_up(reason, term, room.high, area)
 }
 
 // What the low side leaves of it: its least product goes up, its greatest stays.
@@ -70,16 +64,11 @@ fn cut_over_low(look: Look, terms: &[Term], term: Term, room: Room, area: &[Inte
     if span(term, area) <= room.low {
         return Cut::Whole;
     }
-    let side = area[term.column as usize];
-    if let Some(steps) = steps_within(room.low, term.factor.unsigned_abs(), side) {
-        return Cut::To(near(Extreme::Greatest, term.factor, side, steps));
-    }
-    let least = minus(product(Extreme::Greatest, term, side), room.low);
     let reason = Reason {
         row: look.row,
         side: Side::Low,
     };
-    cut_at_least(reason, term, least, area)
+    cut_down(reason, term, room.low, area)
 }
 
 // The term under the high side.

@@ -52,8 +52,8 @@ pub fn minus(a: i128, b: i128) -> i128
     a - b
 }
 
-// How far apart two ends are.
-fn apart(near: i32, far: i32) -> i64
+/// How far apart two ends are.
+pub fn apart(near: i32, far: i32) -> i64
     ensures value { result ≡ far -ℤ near }
     ensures small { unsigned_abs result ≤ 2 ^ 32 }
 {

@@ -73,8 +73,8 @@ fn all_sums(
     Ok(sums)
 }
 
-// Sums that fit in 64 bits.
-fn shortened(ends: Extremes) -> ShortExtremes
+/// Sums that fit in 64 bits.
+pub fn shortened(ends: Extremes) -> ShortExtremes
     requires least { unsigned_abs ends.least ≤ 2 ^ 60 }
     requires greatest { unsigned_abs ends.greatest ≤ 2 ^ 60 }
     ensures { widened result ≡ ends }
@@ -153,6 +153,16 @@ pub fn all_rows(alloc: Global, problem: &Problem, area: &[Interval]) -> Result<R
     }
     let sums = all_sums(alloc, problem, area)?;
     Ok(RowSums::Wide(sums))
+}
+
+/// Whether they are kept in 64 bits.
+pub fn is_short_in(rows: &RowSums) -> bool
+    ensures { result ≡ are_in_64_bits rows.now }
+{
+    match rows {
+        RowSums::Short(_) => true,
+        RowSums::Wide(_) => false,
+    }
 }
 
 /// The sums of row r.

@@ -9,13 +9,15 @@ ghost use Rattle.ug_problem.specs.Limits.{IsProblem};
 ghost use Rattle.ug_problem.specs.Standings.{terms_of};
 ghost use Rattle.ug_propagate.specs.Rounds.{last_round, round, rounds_of};
 ghost use Rattle.ug_propagate.specs.Steps.{IsLookable, outcome_of};
-ghost use Rattle.ug_propagate.specs.Waiting.{IsRowFound, RestFrom, WentOn, look_to};
-ghost use Rattle.ug_propagate.specs.Working.{AllRest, HasBits, HasOneSide, IsWorking, look_for};
+ghost use Rattle.ug_propagate.specs.Waiting.{HasLooked, IsRowFound, RestFrom, WentOn, look_to};
+ghost use Rattle.ug_propagate.specs.Working.{AllRest, HasBits, HasOneSide, IsBox, IsStep, IsWorking, look_for};
 ghost use Rattle.ug_propagate.specs.declared.tight.Tight.TheVariants.{Kept};
 
 use crate::look::{Look, Looked};
 use crate::looking::look_at;
 use crate::resting::Rest;
+use crate::short_look::short_look;
+use crate::short_looking::look_short;
 use crate::sums::terms_at;
 use crate::tight::Reason;
 use crate::working::Working;
@@ -97,6 +99,53 @@ fn has_one_side(look: Look) -> bool
     look.low.is_none() || look.high.is_none()
 }
 
+// A look at a row in 128 bits. It is a function of its own so that a look in 64 bits keeps nothing
+// ready for it.
+#[cold]
+#[inline(never)]
+fn look_wide(
+    work: &mut Working,
+    problem: &Problem,
+    cutoff: Option<i128>,
+    r: usize,
+) -> Result<Looked, AllocError>
+    requires there { r ≤ length problem.now.rows }
+    requires cutoff { IsSmallCutoff cutoff }
+    requires work { IsBox problem.now work.old }
+    ensures look { IfOk result (HasLooked problem.now cutoff r work.old work.new) }
+    ensures step { IsStep problem.now work.old work.new }
+{
+    let look = look_under(problem, cutoff, r);
+    let looked = look_at(work, problem, r, look, terms_at(problem, r))?;
+    Ok(looked)
+}
+
+// A look at row r, in 64 bits where the sums and the sides fit.
+fn look_row(
+    work: &mut Working,
+    problem: &Problem,
+    cutoff: Option<i128>,
+    r: usize,
+    look: Look,
+) -> Result<Looked, AllocError>
+    requires there { r ≤ length problem.now.rows }
+    requires cutoff { IsSmallCutoff cutoff }
+    requires problem { IsProblem problem.now }
+    requires look { look ≡ look_for problem.now cutoff r }
+    requires work { IsBox problem.now work.old }
+    ensures look { IfOk result (HasLooked problem.now cutoff r work.old work.new) }
+    ensures step { IsStep problem.now work.old work.new }
+{
+    if work.is_short() {
+        if let Some(s) = short_look(problem, r, look) {
+            let looked = look_short(work, problem, s)?;
+            return Ok(looked);
+        }
+    }
+    let looked = look_wide(work, problem, cutoff, r)?;
+    Ok(looked)
+}
+
 // Looks at row r, which then rests where nothing was changed, or where it has one side alone: its
 // terms then fit.
 fn visit(
@@ -114,7 +163,7 @@ fn visit(
         ≡ look_to problem.now cutoff r work.old.sums.area) }
 {
     let look = look_under(problem, cutoff, r);
-    match look_at(work, problem, r, look, terms_at(problem, r))? {
+    match look_row(work, problem, cutoff, r, look)? {
         Looked::Emptied(reason) => Ok(Some(reason)),
         Looked::Changed => {
             if has_one_side(look) {

@@ -1,6 +1,6 @@
 //! Problems whose sums fit in 64 bits.
 
-ghost use Rattle.std.specs.Prelude.{◌≡◌, ◌+◌, ◌<◌, ◌≤◌, ◌^◌, ◌+ℤ◌, ◌*ℤ◌, unsigned_abs, IsTrue};
+ghost use Rattle.std.specs.Prelude.{◌≡◌, ◌+◌, ◌<◌, ◌≤◌, ◌^◌, ◌+ℤ◌, ◌-ℤ◌, ◌*ℤ◌, unsigned_abs, IsTrue};
 ghost use Rattle.ug_propagate.specs.Shorts.{AreShort, IsShortRow};
 
 use crate::sums::terms_at;
@@ -39,14 +39,22 @@ pub fn are_short(problem: &Problem) -> bool
     true
 }
 
-// The product of a factor and a number of 33 bits.
-fn small_product(factor: i64, by: i64) -> i64
+/// The product of a factor and a number of 33 bits.
+pub fn small_product(factor: i64, by: i64) -> i64
     requires factor { unsigned_abs factor ≤ 2 ^ 29 }
     requires by { unsigned_abs by ≤ 2 ^ 32 }
     ensures value { result ≡ factor *ℤ by }
     ensures small { unsigned_abs result ≤ 2 ^ 61 }
 {
     factor * by
+}
+
+/// A difference of two numbers.
+pub fn small_minus(a: i64, b: i64) -> i64
+    requires { unsigned_abs a + unsigned_abs b < 2 ^ 63 }
+    ensures { result ≡ a -ℤ b }
+{
+    a - b
 }
 
 // A sum of two numbers.

@@ -11,7 +11,7 @@ ghost use Rattle.ug_propagate.specs.Running.{AreFirstSums, AreSums, HasMoved, Is
 
 use crate::measure::{Ends, measure, moves_between};
 use crate::moving::{move_sums, shift};
-use crate::rows::{RowSums, all_rows, ends_in};
+use crate::rows::{RowSums, all_rows, ends_in, is_short_in};
 use std::alloc::{AllocError, Global};
 use std::marker::Model;
 use ug_problem::{NamedRow, Problem, Standing};
@@ -216,6 +216,13 @@ impl Sums {
     {
         shift(problem, column, self.sides.as_slice(), side, &mut self.rows);
         self.sides[column] = side;
+    }
+
+    /// Whether the sums are kept in 64 bits.
+    pub fn is_short(&self) -> bool
+        ensures { result ≡ self.now.short }
+    {
+        is_short_in(&self.rows)
     }
 
     /// The sums of row r.

@@ -249,6 +249,13 @@ impl Working {
         self.sums.sides()
     }
 
+    /// Whether the sums are kept in 64 bits.
+    pub fn is_short(&self) -> bool
+        ensures { result ≡ self.now.sums.short }
+    {
+        self.sums.is_short()
+    }
+
     /// The sums of row r.
     pub fn ends(&self, r: usize) -> Extremes
         requires { r < length self.now.sums.sums }

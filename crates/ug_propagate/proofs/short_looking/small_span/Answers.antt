@@ -1,0 +1,19 @@
+use Rattle.std.proofs.Common.{◌≡◌, ◌^◌, ◌<◌, unsigned_abs, FitsSigned, arith}
+use Rattle.std.proofs.lemmas.Int.{ints, fits_signed_from_abs, to_z-of_z}
+use mir.Syntax.{w64, w128}
+use mir.Val.{to_z, of_z}
+use Rattle.ug_propagate.specs.Shorts.{IsShortSpan}
+use Rattle.ug_propagate.proofs.Machine.{room_same}
+use Rattle.ug_propagate.proofs.Shorts.{short_span_is}
+use Rattle.ug_propagate.proofs.short_looking.small_span.Goals as goal
+
+pub returns-clause-value : goal.returns-clause-value
+returns-clause-value c =
+    let f = c.args.term.factor in
+    let same : to_z w128 (of_z w128 f) ≡ f = room_same f (omega (arith, c.requires.size)) in
+    let is : IsShortSpan c.args.term c.args.area.now (to_z w64 (of_z w64 c.small_change.result)) =
+    short_span_is c.args.term c.args.area.now c.small_change.result c.end_at-near.result c.end_at-far.result same
+    (omega (arith, c.requires.size))
+    (record { sfits = c.end_at-near.type_inv }) (record { sfits = c.end_at-far.type_inv }) c.small_change.ensures.value c.end_at-near.ensures
+    c.end_at-far.ensures (omega (arith, c.small_change.ensures.small)) in
+    is.value
