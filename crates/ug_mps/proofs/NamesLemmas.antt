@@ -1,9 +1,10 @@
 -- Names and their places by the order of their bytes: a search, distinct names, and a name more.
-use Rattle.std.proofs.Common.{Less, Equal, Greater, ◌≡◌, ℕ, ◌+◌, ◌-◌, ◌<◌, List, [], ◌∷◌, ◌++◌, length, get_or, Result, Ok, Err, Contains, sym, refl, ap, subst, ◌∙◌, arith, ⊎_elim}
+use Rattle.std.proofs.Common.{Less, Equal, Greater, ◌≡◌, ℕ, ◌+◌, ◌-◌, ◌<◌, List, [], ◌∷◌, ◌++◌, length, get_or, take, Result, Ok, Err, Contains, sym, refl, ap, subst, ◌∙◌, arith, ⊎_elim}
 use Rattle.std.specs.Cmp.Lexicographic.{bytes_decides}
 use Rattle.std.specs.List.{insert}
 use Rattle.std.specs.List.Sorted.{IsSearchInRange, IsBinarySearchResult, IsSortedBy}
 use Rattle.std.specs.Ordering.{is_eq, is_lt, ordering_reverse}
+use Rattle.std.proofs.Math.Seq.{take-append_seam}
 use Rattle.std.proofs.lemmas.Bool.{cases_lt, false≢true}
 use Rattle.std.proofs.lemmas.Cmp.{nat_list_cmp_total, tied_itself}
 use Rattle.std.proofs.lemmas.List.{get_or_append_left, get_or_push, get_or_default, length_push}
@@ -153,3 +154,9 @@ module _ (names : List (List ℕ)) (order : List ℕ) (h : AreOrdered names orde
     -- a name more, with its place in the gap
     pub ordered_add : (j : ℕ) → j ≡ length names → AreOrdered (names ++ name ∷ []) (insert order k j)
     ordered_add j e = subst (λ i. AreOrdered (names ++ name ∷ []) (insert order k i)) (sym e) ordered_more
+
+-- without the name that was pushed they are what they were
+pub undone : (names pushed left : List (List ℕ)) (name : List ℕ) (place : ℕ) → left ≡ take place pushed
+    → place ≡ length names → pushed ≡ names ++ name ∷ [] → left ≡ names
+undone names pushed left name place truncated there is =
+    rw (truncated, there, is) (take-append_seam names (name ∷ []))

@@ -1,4 +1,5 @@
 use Rattle.std.proofs.Common.{◌≡◌, ◌≤◌, length, drop, subst, sym, ◌∙◌, arith, rules}
+use Rattle.std.proofs.lemmas.Grind.{common_steps}
 use Rattle.ug_io.specs.Outside.{Gives}
 use Rattle.ug_mps.specs.Ending.{IsEndedAt, IsLineAt}
 use Rattle.ug_mps.specs.Enough.{StopsBehind, gather_cause}
@@ -48,3 +49,9 @@ loop-cut-preserved g c =
       small = search rules;
       calm = read.cause ∙ i.calm;
     }
+
+pub loop-cut-smaller : goal.loop-cut-smaller
+loop-cut-smaller g c = grind (arith, common_steps)
+
+pub read_on-requires-clause-open_ : goal.read_on-requires-clause-open_
+read_on-requires-clause-open_ g c = grind (arith, common_steps)
