@@ -1,7 +1,7 @@
 -- Bytes that came from a source, in two calls, and where what came is enough.
-use Rattle.std.proofs.Common.{◌≡◌, ℕ, ◌+◌, ◌-◌, ◌^◌, ◌≤◌, inl, Bool, List, [], ◌++◌, length, Option, Some, None, IfSome, ap, refl, sym, subst, ◌∙◌, arith, append_assoc, append-nil, take, drop, Result, Ok, Err, OnOk, IsErrOf}
+use Rattle.std.proofs.Common.{◌≡◌, ℕ, ◌+◌, ◌-◌, ◌^◌, ◌≤◌, inl, Bool, List, [], ◌++◌, length, Option, Some, None, IfSome, ap, refl, sym, subst, ◌∙◌, arith, append_assoc, append-nil, take, drop, Result, Ok, Err, OnOk}
 use Rattle.std.specs.Option.{option_map}
-use Rattle.ug_io.specs.Outside.{Gives, IsAtEnd, Rose}
+use Rattle.ug_io.specs.Outside.{Gives, IsAtEnd}
 use Rattle.std.proofs.lemmas.List.{length-append, length-drop, length-take-le, take-append-drop, take_at}
 use Rattle.ug_mps.specs.declared.ending.Tail.{Tail}
 use Rattle.ug_mps.specs.declared.ending.Tail.TheVariants as tails
@@ -9,8 +9,6 @@ use Rattle.ug_mps.specs.Ending.{HasNoEnd, HasNoFeed, IsEndedAt, IsLineAt, IsUnen
 use Rattle.ug_mps.specs.Laws.{StatesSame}
 use Rattle.ug_mps.proofs.EndingLemmas.{no_end_of, no_end_behind, no_end_yet}
 use Rattle.ug_mps.proofs.LineTails.{no_feed_both}
-use Rattle.ug_mps.specs.declared.gathering.GatherError.{GatherError}
-use Rattle.ug_mps.specs.declared.gathering.GatherError.TheVariants.{Memory, Fault}
 use Rattle.ug_mps.specs.Enough.{IsEnough, PieceCame, StopsAtEnd, StopsAtFeed, StopsBehind}
 
 -- first some bytes came, then more

@@ -1,5 +1,5 @@
 -- How much of the bytes is enough to see what they state, and how far they are read.
-use Rattle.std.specs.Prelude.{◌≡◌, ℕ, ◌<◌, ◌≤◌, Bool, List, ◌++◌, length, take, Option, Result, OnOk, IsErrOf}
+use Rattle.std.specs.Prelude.{◌≡◌, ℕ, ◌<◌, ◌≤◌, Bool, List, ◌++◌, length, take, Option}
 use Rattle.std.specs.Option.{option_map}
 use Rattle.ug_io.specs.Outside.{Gives, IsAtEnd, Rose}
 use Rattle.ug_mps.specs.declared.ending.Tail.{Tail}
