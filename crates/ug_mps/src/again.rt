@@ -14,7 +14,7 @@ use ug_lines::{
 };
 
 /// Which bounds of a column the text leaves infinite.
-#[derive(Clone, Copy, PartialEq, Eq)]
+#[derive(Clone, Copy)]
 pub struct FreeEnds {
     pub low: bool,
     pub high: bool,
@@ -91,7 +91,12 @@ fn drafted(alloc: Global, text: &[u8]) -> Option<Draft> {
 
 // Whether it is one of these words, in any case of letters.
 fn is_among(word: &[u8], texts: &[&[u8]]) -> bool {
-    texts.iter().any(|text| is_in_any_case(word, text))
+    for text in texts {
+        if is_in_any_case(word, text) {
+            return true;
+        }
+    }
+    false
 }
 
 // The sections that are read.
@@ -166,6 +171,16 @@ fn of_header(section: Option<Section>, word: &[u8]) -> Cause {
     Cause::Plain(Kind::Section)
 }
 
+// Whether one of the words is longer than a name may be.
+fn has_long(words: &[&[u8]]) -> bool {
+    for word in words {
+        if word.len() > 255 {
+            return true;
+        }
+    }
+    false
+}
+
 // Why the words behind OBJSENSE, or of a line below it, are no sense.
 fn of_sense(words: &[&[u8]]) -> Cause {
     match words {
@@ -182,7 +197,7 @@ fn of_words(place: Place<'_>) -> Cause {
     if is_header(place.content) {
         return Cause::Sense;
     }
-    if words.iter().any(|word| word.len() > 255) {
+    if has_long(words) {
         return Cause::LongWord;
     }
     match place.section {

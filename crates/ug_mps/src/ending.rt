@@ -8,7 +8,7 @@ use ug_lines::{END_WORD, is_blank, is_line_byte, line_feed};
 
 /// What the first bytes of a line show: that it is the ENDATA line, or that it is another one,
 /// whatever follows. `Open` is what neither shows yet.
-#[derive(Clone, Copy, PartialEq, Eq)]
+#[derive(Clone, Copy)]
 enum Head {
     Ends,
     Other,
@@ -17,7 +17,7 @@ enum Head {
 
 /// What was seen of the rest of an ENDATA line: the line goes on, behind a carriage return or not;
 /// or it is known whether all its bytes may stand there.
-#[derive(Clone, Copy, PartialEq, Eq)]
+#[derive(Clone, Copy)]
 pub enum Tail {
     Open(bool),
     Legible,
@@ -27,7 +27,7 @@ pub enum Tail {
 /// What the bytes of a text show so far: the first line ENDATA, whose word ends at the place told;
 /// that they pass the limit without one; or, where neither shows yet, the place at which their last
 /// line begins.
-#[derive(Clone, Copy, PartialEq, Eq)]
+#[derive(Clone, Copy)]
 pub enum Seen {
     Ended(usize),
     Passed,

@@ -16,7 +16,7 @@ const MOST: usize = LIMIT + 1;
 const PIECE: usize = 65_536;
 
 /// Why a text was not gathered.
-#[derive(Clone, Copy, PartialEq, Eq)]
+#[derive(Clone, Copy)]
 pub enum GatherError {
     Memory,
     Fault,
