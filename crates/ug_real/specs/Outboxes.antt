@@ -1,5 +1,5 @@
 -- What waits to go to a connection.
-use Rattle.std.specs.Prelude.{◌≡◌, ◌≤◌, ℕ, List, ◌++◌, drop, length}
+use Rattle.std.specs.Prelude.{◌≡◌, ℕ, List, drop}
 use Rattle.ug_real.specs.declared.outbox.Outbox.{Outbox}
 
 -- the bytes that did not go yet

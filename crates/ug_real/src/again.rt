@@ -1,5 +1,6 @@
 ghost use Rattle.std.specs.Prelude.{◌≡◌, ◌≤◌, length, IfOk, IfSome};
 
+use crate::cause::failed_by;
 use std::fs::File;
 use std::io;
 use std::io::{ErrorKind, Read, Write};
@@ -9,13 +10,11 @@ use std::os::unix::fs::FileExt;
 fn unless_interrupted(got: io::Result<usize>) -> Option<io::Result<usize>>
     ensures { IfSome result (λ given. given ≡ got) }
 {
-    match got {
-        Err(error) if error.kind() == ErrorKind::Interrupted => {
-            drop(error);
-            None
-        }
-        given => Some(given),
+    if failed_by(&got, ErrorKind::Interrupted) {
+        drop(got);
+        return None;
     }
+    Some(got)
 }
 
 // The error of a call that signals interrupt at each try.

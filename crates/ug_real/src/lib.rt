@@ -13,6 +13,7 @@
 #![tactic(auto)]
 
 mod again;
+mod cause;
 mod departure;
 mod disk;
 mod faults;

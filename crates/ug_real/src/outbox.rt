@@ -1,6 +1,7 @@
 ghost use Rattle.std.specs.Prelude.{◌≡◌, ◌≤◌, ◌++◌, [], true, false, length, IfOk, OnOk, OnErr};
 
 use crate::again;
+use crate::cause::failed_by;
 use std::alloc::{AllocError, Global};
 use std::io::{ErrorKind, Write};
 use std::{io, mem};
@@ -30,13 +31,14 @@ pub fn write_out<W: Write>(to: &mut W, bytes: &[u8]) -> io::Result<usize>
         if rest.is_empty() {
             break;
         }
-        match again::write(to, rest) {
+        let wrote = again::write(to, rest);
+        if failed_by(&wrote, ErrorKind::WouldBlock) {
+            drop(wrote);
+            break;
+        }
+        match wrote {
             Ok(0) => return Err(io::Error::from(ErrorKind::WriteZero)),
             Ok(n) => sent = sent.saturating_add(n).min(bytes.len()),
-            Err(error) if error.kind() == ErrorKind::WouldBlock => {
-                drop(error);
-                break;
-            }
             Err(error) => return Err(error),
         }
     }

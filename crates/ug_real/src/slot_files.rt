@@ -1,6 +1,7 @@
-ghost use Rattle.std.specs.Prelude.{◌≤◌, length, IfOk};
+ghost use Rattle.std.specs.Prelude.{◌≡◌, ◌≤◌, ◌⊎◌, length, Ok, IfOk};
 
 use crate::again;
+use crate::cause::failed_by;
 use crate::kept::{Kept, keep};
 use std::alloc::Global;
 use std::fs::{File, OpenOptions, TryLockError};
@@ -137,6 +138,17 @@ fn locked_folder<R: Files<File = File>>(rt: &R, path: &str, makes: bool) -> io::
     File::open(rt, path).and_then(locked)
 }
 
+// What a call gave, or this where the error is that there is no file, and none is made.
+fn unless_missing<T: Copy>(got: io::Result<T>, makes: bool, none: T) -> io::Result<T>
+    ensures { IfOk result (λ given. (got ≡ Ok given) ⊎ (given ≡ none)) }
+{
+    if makes || !failed_by(&got, ErrorKind::NotFound) {
+        return got;
+    }
+    drop(got);
+    Ok(none)
+}
+
 impl<'a, R: Files<File = File>> SlotFiles<'a, R> {
     /// Those of the folder of this path, of which nothing is open yet.
     pub fn new(rt: &'a R, alloc: Global, path: &'a str, stage: Stage) -> SlotFiles<'a, R> {
@@ -196,14 +208,11 @@ impl<'a, R: Files<File = File>> SlotFiles<'a, R> {
     /// How many bytes the slot has.
     pub fn len(&mut self, slot: Slot) -> io::Result<u64> {
         let makes = self.makes();
-        match self.file(slot) {
+        let got = match self.file(slot) {
             Ok(file) => len_of(file),
-            Err(error) if !makes && error.kind() == ErrorKind::NotFound => {
-                drop(error);
-                Ok(0)
-            }
             Err(error) => Err(error),
-        }
+        };
+        unless_missing(got, makes, 0)
     }
 
     /// Reads some of the slot's bytes from a place on.
@@ -211,30 +220,16 @@ impl<'a, R: Files<File = File>> SlotFiles<'a, R> {
         ensures { IfOk result (λ n. n ≤ length buffer.new) }
     {
         let makes = self.makes();
-        match self.file(slot) {
+        let got = match self.file(slot) {
             Ok(file) => again::read_at(file, buffer, at),
-            Err(error) if !makes && error.kind() == ErrorKind::NotFound => {
-                drop(error);
-                Ok(0)
-            }
             Err(error) => Err(error),
-        }
+        };
+        unless_missing(got, makes, 0)
     }
 
     // Waits until the names in the folder are on the disk.
     fn sync_folder(&mut self) -> io::Result<()> {
         self.lock().and_then(File::sync_all)
-    }
-
-    // What is only looked at and is not there has nothing that could wait to reach the disk.
-    fn unless_missing(&self, got: io::Result<()>) -> io::Result<()> {
-        match got {
-            Err(error) if !self.makes() && error.kind() == ErrorKind::NotFound => {
-                drop(error);
-                Ok(())
-            }
-            got => got,
-        }
     }
 
     // Writes all of the bytes from a place on.
@@ -350,14 +345,15 @@ impl<R: Files<File = File> + Eprint> SlotFiles<'_, R> {
     /// Waits until the bytes of the slot's file are on the disk.
     pub fn sync(&mut self, slot: Slot) -> io::Result<()> {
         let got = self.file(slot).and_then(File::sync_all);
-        let got = self.unless_missing(got);
+        // What is only looked at and is not there has nothing that could wait to reach the disk.
+        let got = unless_missing(got, self.makes(), ());
         self.noted(got)
     }
 
     /// Waits until the names in the folder are on the disk.
     pub fn sync_names(&mut self) -> io::Result<()> {
         let got = self.sync_folder();
-        match self.unless_missing(got) {
+        match unless_missing(got, self.makes(), ()) {
             Ok(()) => {
                 self.settled();
                 Ok(())

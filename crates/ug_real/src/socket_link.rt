@@ -1,6 +1,7 @@
 ghost use Rattle.std.specs.Prelude.{◌≡◌, ◌≤◌, None, true, false, length, IfOk, IfSome, IsSome};
 
 use crate::again;
+use crate::cause::failed_by;
 use crate::faults::Faults;
 use std::alloc::Global;
 use std::io;
@@ -93,13 +94,14 @@ impl Line {
 
     // Writes what waits to be written, and waits where none can go.
     fn flush(&mut self) -> io::Result<()> {
-        match self.stream.flush() {
-            Err(error) if error.kind() == ErrorKind::WouldBlock => {
-                drop(error);
-                self.set(true)?;
-                self.stream.flush()
-            }
-            got => got,
+        let got = self.stream.flush();
+        if !failed_by(&got, ErrorKind::WouldBlock) {
+            return got;
+        }
+        drop(got);
+        match self.set(true) {
+            Ok(()) => self.stream.flush(),
+            Err(error) => Err(error),
         }
     }
 
@@ -109,13 +111,14 @@ impl Line {
         ensures { IfOk result (λ n. n ≤ length buffer.new) }
     {
         self.flush()?;
-        match again::read(self.stream.get_mut(), buffer) {
-            Err(error) if error.kind() == ErrorKind::WouldBlock => {
-                drop(error);
-                self.set(true)?;
-                again::read(self.stream.get_mut(), buffer)
-            }
-            got => got,
+        let got = again::read(self.stream.get_mut(), buffer);
+        if !failed_by(&got, ErrorKind::WouldBlock) {
+            return got;
+        }
+        drop(got);
+        match self.set(true) {
+            Ok(()) => again::read(self.stream.get_mut(), buffer),
+            Err(error) => Err(error),
         }
     }
 
@@ -125,27 +128,26 @@ impl Line {
     {
         self.flush()?;
         self.set(false)?;
-        match again::read(self.stream.get_mut(), buffer) {
-            Ok(n) => Ok(Some(n)),
-            Err(error) if error.kind() == ErrorKind::WouldBlock => {
-                drop(error);
-                Ok(None)
-            }
-            Err(error) => Err(error),
+        let got = again::read(self.stream.get_mut(), buffer);
+        if failed_by(&got, ErrorKind::WouldBlock) {
+            drop(got);
+            return Ok(None);
         }
+        got.map(Some)
     }
 
     // Takes some bytes to be written, and writes what waits where there is no room for them.
     fn write(&mut self, bytes: &[u8]) -> io::Result<usize>
         ensures { IfOk result (λ n. n ≤ length bytes.now) }
     {
-        match again::write(&mut self.stream, bytes) {
-            Err(error) if error.kind() == ErrorKind::WouldBlock => {
-                drop(error);
-                self.set(true)?;
-                again::write(&mut self.stream, bytes)
-            }
-            got => got,
+        let got = again::write(&mut self.stream, bytes);
+        if !failed_by(&got, ErrorKind::WouldBlock) {
+            return got;
+        }
+        drop(got);
+        match self.set(true) {
+            Ok(()) => again::write(&mut self.stream, bytes),
+            Err(error) => Err(error),
         }
     }
 }

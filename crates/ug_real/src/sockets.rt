@@ -1,3 +1,4 @@
+use crate::cause::failed_by;
 use mio::net::UnixListener;
 use std::alloc::{AllocError, Global};
 use std::fs::{DirBuilder, File, Permissions, TryLockError};
@@ -89,13 +90,12 @@ fn open_folder<R: Files<File = File>>(rt: &R, path: &str) -> io::Result<File> {
 
 // Removes a file that lies at this path.
 fn remove_old<R: Files>(rt: &R, path: &str) -> io::Result<()> {
-    match fs::remove_file(rt, path) {
-        Err(error) if error.kind() == ErrorKind::NotFound => {
-            drop(error);
-            Ok(())
-        }
-        removed => removed,
+    let removed = fs::remove_file(rt, path);
+    if failed_by(&removed, ErrorKind::NotFound) {
+        drop(removed);
+        return Ok(());
     }
+    removed
 }
 
 // Whether the folder is of the user who made this file.

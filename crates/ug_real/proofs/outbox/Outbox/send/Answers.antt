@@ -1,4 +1,4 @@
-use Rattle.std.proofs.Common.{◌≡◌, ◌++◌, length, sym, ◌∙◌, rules}
+use Rattle.std.proofs.Common.{◌++◌, length, sym, ◌∙◌}
 use Rattle.std.proofs.Math.Seq.{drop-length}
 use Rattle.ug_real.specs.Outboxes.{waiting}
 use Rattle.ug_real.proofs.outbox.Outbox.send.Goals as goal
