@@ -1,7 +1,7 @@
 use denote.Param.Send.{sendable}
 use Rattle.std.proofs.Crossing.{crosses}
-use Rattle.ug_turn_tests.proofs.Crossing.{chronicle_seat, chronicle_sync}
-use Rattle.ug_turn_tests.proofs.tests.waited.Goals as goal
+use Rattle.ug_book_tests.proofs.turns.Crossing.{chronicle_seat, chronicle_sync}
+use Rattle.ug_book_tests.proofs.turns.tests.wait_for.Goals as goal
 
 pub join-requires-send-F : goal.join-requires-send-F
 join-requires-send-F g c κs within =

@@ -1,5 +1,5 @@
 use Rattle.std.specs.Prelude.{◌+◌, ◌*◌, length}
-use Rattle.ug_turn_tests.proofs.adding.+crowd.Given as goal
+use Rattle.ug_book_tests.proofs.turns.adding.+crowd.Given as goal
 
 abbrev pub decreases-add_by_each : goal.decreases-add_by_each
 decreases-add_by_each g l = 2 * length l.seats.items

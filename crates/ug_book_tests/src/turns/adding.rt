@@ -3,9 +3,9 @@ ghost use Rattle.std.specs.Thread.{IsSync};
 ghost use mathlib.Core.List.{IsPrefix};
 ghost use Rattle.ug_turn.specs.Locks.{id_of};
 ghost use Rattle.ug_turn.specs.Seats.{IsAtRestAt, view_of};
-ghost use Rattle.ug_turn_tests.specs.Passes.{ArePasses, HasOut, IsPass};
+ghost use Rattle.ug_book_tests.specs.Passes.{ArePasses, HasOut, IsPass};
 
-use crate::chronicle::{Chronicle, Entry};
+use crate::turns::chronicle::{Chronicle, Entry};
 use std::sync::Wait;
 use std::thread::{Threads, join, sleep};
 use std::time::{Clock, Duration};
@@ -46,7 +46,8 @@ pub fn last_two(
 /// Waits for the seat's turn and takes the value.
 pub fn take_out<R: Wait>(rt: &R, turn: &Turn<Chronicle>, seat: &mut SeatOf<Chronicle>) -> Chronicle
     requires { IsAtRestAt (id_of turn.now) seat.old }
-    ensures out { HasOut (id_of turn.now) (view_of seat.old).pass seat.new result }
+    ensures out { HasOut (id_of turn.now) (view_of seat.old).pass seat.new result.start
+        result.entries.items }
     ensures begins { IsPrefix (view_of seat.old).seen (view_of seat.new).seen }
 {
     turn.take(rt, seat)
@@ -59,7 +60,7 @@ pub fn put_home(
     mut value: Chronicle,
     entry: Entry,
 ) -> bool
-    requires { HasOut (id_of turn.now) entry.pass seat.old value }
+    requires { HasOut (id_of turn.now) entry.pass seat.old value.start value.entries.items }
     ensures pass { IsPass (id_of turn.now) entry.pass seat.new }
     ensures begins { IsPrefix (view_of seat.old).seen (view_of seat.new).seen }
 {
@@ -96,30 +97,31 @@ pub fn add_all<R: Wait>(
 ) -> bool
     requires { IsPass (id_of turn.now) pass seat }
 {
+    let mut so = true;
     for number in 0..count {
-        if !add(rt, turn, &mut seat, Entry { pass, number }) {
-            return false;
-        }
+        so = so && add(rt, turn, &mut seat, Entry { pass, number });
     }
-    true
+    drop(seat);
+    so
 }
 
-/// Keeps the value for a while, lets another seat go meanwhile, and puts the value home with one
-/// entry more, if there is memory for it.
+/// Keeps the value for a while, lets another seat go meanwhile, and puts the value home with the
+/// first entry of pass 1, if there is memory for it.
 pub fn hold<R: Clock>(
     rt: &R,
     turn: &Turn<Chronicle>,
     mut seat: SeatOf<Chronicle>,
     value: Chronicle,
-    entry: Entry,
     other: SeatOf<Chronicle>,
 ) -> bool
-    requires { HasOut (id_of turn.now) entry.pass seat value }
+    requires { HasOut (id_of turn.now) 1 seat value.start value.entries.items }
 {
     sleep(rt, Duration::from_millis(100));
     drop(other);
     sleep(rt, Duration::from_millis(50));
-    put_home(turn, &mut seat, value, entry)
+    let so = put_home(turn, &mut seat, value, Entry { pass: 1, number: 0 });
+    drop(seat);
+    so
 }
 
 /// Adds so many entries for each of the passes from 0 on, in a thread each, and says whether there

@@ -1,7 +1,7 @@
 use denote.Param.Send.{sendable}
 use Rattle.std.proofs.Crossing.{crosses}
-use Rattle.ug_turn_tests.proofs.Crossing.{chronicle_seat, chronicle_sync}
-use Rattle.ug_turn_tests.proofs.adding.+crowd.Goals as goal
+use Rattle.ug_book_tests.proofs.turns.Crossing.{chronicle_seat, chronicle_sync}
+use Rattle.ug_book_tests.proofs.turns.adding.+crowd.Goals as goal
 
 pub join-mine-requires-send-F : goal.join-mine-requires-send-F
 join-mine-requires-send-F g t c κs within =

@@ -1,10 +1,8 @@
 -- Seats that stand by the numbers of their passes.
-use Rattle.std.specs.Prelude.{◌≡◌, ℕ, ◌-◌, ◌^◌, List, Some, slice_get, vec_len}
+use Rattle.std.specs.Prelude.{◌≡◌, ℕ, ◌-◌, ◌^◌, List, Some, length, slice_get}
 use Rattle.atomic_table.specs.Seated.{TableId}
 use Rattle.ug_turn.specs.declared.seat.Seat.{Seat}
 use Rattle.ug_turn.specs.Seats.{IsAtRestAt, IsOut, lock_of, view_of}
-use Rattle.ug_turn_tests.specs.declared.chronicle.Chronicle.{Chronicle}
-use Rattle.ug_turn_tests.specs.declared.chronicle.Entry.{Entry}
 
 -- the seat is at rest at this lock, and of pass k
 pub record IsPass {V O E : Type 0} (lock : TableId) (k : ℕ) (s : Seat V O E) : Type 0 where
@@ -16,12 +14,12 @@ abbrev pub ArePasses : {V O E : Type 0} → TableId → List (Seat V O E) → Ty
 ArePasses {V} {O} {E} lock seats =
     (k : ℕ) (s : Seat V O E) → slice_get seats k ≡ Some s → IsPass lock k s
 
--- the value is out with the seat, which is at this lock and of pass k
-pub record HasOut (lock : TableId) (k : ℕ) (s : Seat Chronicle ℕ Entry) (value : Chronicle)
-    : Type 0 where
+-- out with the seat, which is at this lock and of pass k, is what began so and has these entries
+pub record HasOut {V O E : Type 0} (lock : TableId) (k : ℕ) (s : Seat V O E) (start : O)
+    (entries : List E) : Type 0 where
   pub lock_is : lock_of s ≡ lock
   pub out : IsOut s
   pub pass : (view_of s).pass ≡ k
-  pub opened : (view_of s).opening ≡ Some value.start
-  pub replayed : value.entries.items ≡ (view_of s).seen
-  pub level : (view_of s).level ≡ 2 ^ 64 - 1 - vec_len value.entries
+  pub opened : (view_of s).opening ≡ Some start
+  pub replayed : entries ≡ (view_of s).seen
+  pub level : (view_of s).level ≡ 2 ^ 64 - 1 - length entries

@@ -1,7 +1,7 @@
 use ug_turn::Lasting;
 
 /// An entry: the pass that made it, and how many it had made before.
-#[derive(Clone, Copy, Debug, PartialEq, Eq)]
+#[derive(Clone, Copy, PartialEq, Eq)]
 pub struct Entry {
     pub pass: u32,
     pub number: u32,

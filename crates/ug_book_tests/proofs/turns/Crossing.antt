@@ -5,9 +5,9 @@ use Rattle.std.proofs.Crossing.{crosses}
 use Rattle.ug_turn.proofs.Crossing.{seat_send, turn_sync}
 use Rattle.ug_turn.specs.contracts.seat.Seat
 use Rattle.ug_turn.specs.contracts.turn.Turn
-use Rattle.ug_turn_tests.specs.contracts.chronicle.Chronicle
-use Rattle.ug_turn_tests.specs.contracts.chronicle.Entry
-use Rattle.ug_turn_tests.specs.contracts.chronicle.ChronicleLasting.TheImpl as lasting
+use Rattle.ug_book_tests.specs.contracts.turns.chronicle.Chronicle
+use Rattle.ug_book_tests.specs.contracts.turns.chronicle.Entry
+use Rattle.ug_book_tests.specs.contracts.turns.chronicle.ChronicleLasting.TheImpl as lasting
 
 chronicle_send : IsSend Chronicle.the_row
 chronicle_send = search (crosses, sendable) depth 60 fits 20000
