@@ -3,11 +3,10 @@
 //! stops after each call of saves and restarts, crashes by schedule, and what is asked of a folder
 //! and in which order. Real folders are tried with the built program (tests/program).
 
-mod checkpoints;
 mod disks;
 mod fields;
 mod folders;
-mod keepers;
+mod loads;
 mod savers;
 mod schedules;
 mod slots;

@@ -7,8 +7,6 @@
 #![tactic(auto)]
 
 #[cfg(test)]
-mod collecting;
-#[cfg(test)]
 mod coordinated;
 #[cfg(test)]
 mod crashes;
@@ -17,11 +15,7 @@ mod desks;
 #[cfg(test)]
 mod expect;
 #[cfg(test)]
-mod frames;
-#[cfg(test)]
 mod pools;
-#[cfg(test)]
-mod primitives;
 #[cfg(test)]
 mod problems;
 #[cfg(test)]
