@@ -1,8 +1,9 @@
-//! Bounds by multipliers, and rounded sides, on small problems: what is worked out by hand, and
-//! what a slow count over all points of the box gives.
+//! Bounds by multipliers, and rounded sides, on small problems: what is worked out by hand.
+
+ghost use Rattle.std.specs.Prelude.{IsTrue};
+ghost use Rattle.ug_problem.specs.Better.{IsSmallCutoff};
 
 mod cases;
-mod counted;
 mod guesses;
 mod implications;
 mod roundings;
@@ -49,5 +50,17 @@ fn bound_of(problem: &Problem, m: &Multipliers) -> Option<Result<i128, TooBig>> 
         Some(bound(problem, problem.root(), m))
     } else {
         None
+    }
+}
+
+const LARGEST: i128 = 1_000_000_000;
+
+/// Whether the cutoff is one of small numbers.
+pub fn is_small(cutoff: Option<i128>) -> bool
+    ensures { IsTrue result → IsSmallCutoff cutoff }
+{
+    match cutoff {
+        Some(cutoff) => -LARGEST <= cutoff && cutoff <= LARGEST,
+        None => true,
     }
 }

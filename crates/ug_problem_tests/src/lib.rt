@@ -1,31 +1,24 @@
-//! Tests of problems and of what is worked out of one problem alone: numbers and their scales,
-//! limits, bounds by multipliers, records, images and frames byte for byte, links and crews in
-//! memory, workers at a link, changes and boxes, the steps of a task, alone and beside a slow
-//! search over whole boxes, made instances. They stand apart from the crates that they test, from
-//! ug_problem to ug_worker, ug_frames and ug_gen. Nothing here is proved but that the tests are
-//! safe and end.
+//! Tests of problems and of what is worked out of one problem alone: bounds by multipliers, changes
+//! and boxes, records and frames byte for byte, links and crews, in memory and of real children at
+//! sockets, workers at a link, rounds, the steps of a task, searches with and without rows that
+//! follow. They stand apart from the crates that they test, from ug_problem to ug_worker, ug_frames,
+//! ug_real and ug_gen. Nothing here is proved but that the tests are safe and end.
 #![tactic(auto)]
 
 #[cfg(test)]
 mod bounds;
 #[cfg(test)]
-mod crews;
+mod children;
 #[cfg(test)]
-mod decimals;
+mod crews;
 #[cfg(test)]
 mod expect;
 #[cfg(test)]
 mod frames;
 #[cfg(test)]
-mod images;
-#[cfg(test)]
 mod links;
 #[cfg(test)]
-mod made;
-#[cfg(test)]
 mod nodes;
-#[cfg(test)]
-mod problems;
 #[cfg(test)]
 mod records;
 #[cfg(test)]
@@ -33,12 +26,31 @@ mod renewals;
 #[cfg(test)]
 mod rounds;
 #[cfg(test)]
-mod searches;
-#[cfg(test)]
 mod served;
 #[cfg(test)]
 mod sharpened;
 #[cfg(test)]
-mod tasks;
+mod small;
 #[cfg(test)]
-mod whole;
+mod tasks;
+
+#[cfg(test)]
+use crate::children::echo::echo;
+#[cfg(test)]
+use crate::children::solvers::solve;
+#[cfg(test)]
+use std::{env, io};
+
+// The child of a test is the test program, started with the words of a worker, of which the first
+// is this test's name, and one more where it is to solve. Without them there is nothing to do.
+#[test]
+fn worker(rt: HostRuntime) -> io::Result<()> {
+    let mut words = env::args(&rt)?;
+    if let Some(path) = words.nth(3) {
+        match words.next() {
+            Some(_) => solve(&rt, path.as_str()),
+            None => echo(&rt, path.as_str()),
+        }
+    }
+    Ok(())
+}

@@ -114,39 +114,12 @@ const SPOILED: &[(usize, u8, usize)] = &[
     (88, 127, 88), // a factor above 10^24
 ];
 
-// Puts the small record with a second term of the objective, in the column of the first.
-fn put_with_a_term_more(bytes: &mut Vec<u8>) -> bool {
-    bytes.extend_from_slice(SMALL).is_ok()
-        && bytes.extend_from_slice(&[0, 0, 0, 0]).is_ok()
-        && bytes.extend_from_slice(&2i128.to_be_bytes()).is_ok()
-}
-
-// Where its first bad field begins, if it says that there are two.
-fn place_with_a_term_more(alloc: Global) -> Option<Option<usize>> {
-    let mut bytes = Vec::new(alloc);
-    let place = if put_with_a_term_more(&mut bytes) {
-        place_with(alloc, &bytes, 83, 2)
-    } else {
-        None
-    };
-    drop(bytes);
-    place
-}
-
 #[test]
 fn bad_fields_are_named(rt: HostRuntime) {
     for (byte, value, at) in SPOILED {
         let place = place_with(rt.alloc(), SMALL, *byte, *value);
         same_at(&rt, &place, &Some(Some(*at)), byte);
     }
-}
-
-#[test]
-fn record_that_is_too_short_or_too_long_is_named(rt: HostRuntime) {
-    let alloc = rt.alloc();
-    let places = [place(alloc, &[0; 29]), place(alloc, &[0; 31])];
-    same(&rt, &places, &[Some(26), Some(30)]);
-    same(&rt, &place_with_a_term_more(alloc), &Some(Some(104)));
 }
 
 // Whether a record is that of the problem that is read of it.

@@ -3,12 +3,12 @@
 
 ghost use Rattle.ug_problem.specs.Better.{IsSmallCutoff};
 
-use crate::expect::{holds_at, same};
-use crate::whole::is_small;
+use crate::bounds::is_small;
+use crate::expect::holds_at;
 use std::alloc::{AllocError, Global};
 use ug_mps::read;
 use ug_problem::Problem;
-use ug_propagate::{Reason, Side, Sums, Tight, tighten, tighten_plain};
+use ug_propagate::{Reason, Side, Tight, tighten, tighten_plain};
 use ug_rows::Interval;
 
 // 2 x is at most 7.
@@ -119,26 +119,6 @@ BOUNDS
 ENDATA
 ";
 
-// 2 x + 3 y + w is at most 5, and 4 x + y + 2 w at most 11.
-const KNAPSACK: &[u8] = b"ROWS
- N Z
- L r
- L s
-COLUMNS
- M 'MARKER' 'INTORG'
- x Z 1 r 2
- x s 4
- y r 3 s 1
- w r 1 s 2
-RHS
- r 5 s 11
-BOUNDS
- UP x 10
- UP y 10
- UP w 10
-ENDATA
-";
-
 // What is left of each column, or why nothing is.
 type Outcome = Result<&'static [(i32, i32)], Reason>;
 
@@ -224,42 +204,4 @@ fn both_bodies_leave_what_is_worked_out_by_hand(rt: HostRuntime) {
     for (k, (text, cutoff, wanted)) in CASES.iter().enumerate() {
         holds_at(&rt, both_leave(rt.alloc(), text, *cutoff, wanted), &k);
     }
-}
-
-// The greatest sum of row 0 over the root, and sums of rows and of the objective after column 0 was
-// set to 0..2, then to 1..2.
-fn running_sums(alloc: Global, problem: &Problem) -> Option<[i128; 6]> {
-    if problem.columns().len() != 3 || problem.rows().len() != 2 {
-        return None;
-    }
-    let mut sums = Sums::new(alloc, problem, problem.root()).ok()?;
-    let before = sums.greatest(problem, Some(0));
-    sums.set(problem, 0, 0, 2);
-    let first = sums.greatest(problem, Some(0));
-    let second = sums.greatest(problem, Some(1));
-    let least = sums.least(problem, Some(0));
-    sums.set(problem, 0, 1, 2);
-    let told = [
-        before,
-        first,
-        second,
-        least,
-        sums.least(problem, Some(0)),
-        sums.least(problem, None),
-    ];
-    drop(sums);
-    Some(told)
-}
-
-fn sums_of_the_knapsack(alloc: Global) -> Option<[i128; 6]> {
-    let problem = read(alloc, KNAPSACK, None).ok()?;
-    let sums = running_sums(alloc, &problem);
-    drop(problem);
-    sums
-}
-
-#[test]
-fn sums_follow_a_column(rt: HostRuntime) {
-    let sums = sums_of_the_knapsack(rt.alloc());
-    same(&rt, &sums, &Some([60, 44, 38, 0, 2, 1]));
 }

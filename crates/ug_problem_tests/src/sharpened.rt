@@ -4,7 +4,7 @@
 ghost use Rattle.std.specs.Prelude.{◌≤◌, ◌<◌};
 
 use crate::expect::{holds_at, same_at};
-use crate::searches::problem;
+use crate::small::problem;
 use crate::tasks::task_of;
 use std::alloc::Global;
 use std::process::Abort;

@@ -1,6 +1,5 @@
 //! Bounds that were worked out by hand.
 
-use crate::bounds::counted::agrees;
 use crate::bounds::texts::{COSTLY, COVER, KNAPSACK, ODD_SUM, RANGED, WIDE};
 use crate::bounds::{HIGH, LOW, TOO_BIG_OBJECTIVE, TOO_BIG_ROW, bound_of, multipliers_of};
 use crate::expect::holds_at;
@@ -10,15 +9,15 @@ use ug_mps::read;
 use ug_problem::Problem;
 use ug_surrogate::{Side, TooBig};
 
-/// A problem, the weight of its objective, weights of sides of its rows, and the bound of its root.
-pub type Case = (
+// A problem, the weight of its objective, weights of sides of its rows, and the bound of its root.
+type Case = (
     &'static [u8],
     u32,
     &'static [(u32, Side, u32)],
     Result<i128, TooBig>,
 );
 
-pub const CASES: &[Case] = &[
+const CASES: &[Case] = &[
     (SQUARE, 1, &[(0, LOW, 1)], Ok(5)),
     (SQUARE, 2, &[(0, LOW, 1)], Ok(3)),
     (SQUARE, 1, &[], Ok(0)),
@@ -33,26 +32,21 @@ pub const CASES: &[Case] = &[
     (COSTLY, 1_000_000, &[(0, LOW, 1)], Err(TOO_BIG_OBJECTIVE)),
 ];
 
-// Whether the bound is the one of the case; or, if that is asked, is what is counted.
-fn is_right_of(alloc: Global, problem: &Problem, case: &Case, is_counted: bool) -> bool {
+// Whether the bound is the one of the case.
+fn is_right_of(alloc: Global, problem: &Problem, case: &Case) -> bool {
     let Some(m) = multipliers_of(alloc, case.1, case.2) else {
         return false;
     };
-    let is_right = if is_counted {
-        agrees(alloc, problem, &m)
-    } else {
-        bound_of(problem, &m) == Some(case.3)
-    };
+    let is_right = bound_of(problem, &m) == Some(case.3);
     drop(m);
     is_right
 }
 
-/// The same of the problem of the case.
-pub fn is_right(alloc: Global, case: &Case, is_counted: bool) -> bool {
+fn is_right(alloc: Global, case: &Case) -> bool {
     let Ok(problem) = read(alloc, case.0, None) else {
         return false;
     };
-    let is_right = is_right_of(alloc, &problem, case, is_counted);
+    let is_right = is_right_of(alloc, &problem, case);
     drop(problem);
     is_right
 }
@@ -60,6 +54,6 @@ pub fn is_right(alloc: Global, case: &Case, is_counted: bool) -> bool {
 #[test]
 fn bounds_are_what_is_worked_out_by_hand(rt: HostRuntime) {
     for (k, case) in CASES.iter().enumerate() {
-        holds_at(&rt, is_right(rt.alloc(), case, false), &k);
+        holds_at(&rt, is_right(rt.alloc(), case), &k);
     }
 }

@@ -1,10 +1,9 @@
 //! The rows that multipliers imply.
 
 use crate::bounds::texts::{KNAPSACK, RANGED, WIDE};
-use crate::bounds::{HIGH, LOW, TOO_BIG_ROW, multipliers_of};
+use crate::bounds::{HIGH, LOW, TOO_BIG_ROW, is_small, multipliers_of};
 use crate::expect::holds_at;
 use crate::tasks::SQUARE;
-use crate::whole::is_small;
 use std::alloc::Global;
 use ug_mps::read;
 use ug_problem::Problem;

@@ -1,67 +1,30 @@
-use crate::frames::numbers::{
-    BOUND, LONG, VALUE, add, add_bytes, add_changes, add_optional, add_ticket,
-};
-use crate::frames::sides::{Side, each_is_frame, each_is_no_frame};
+use crate::frames::sides::{Side, each_is_so};
 use std::alloc::{AllocError, Global};
 use ug_frames::{Decoded, Order, decode_order, encode_order};
 
-// Orders with the least and the greatest of each field: the frame; its tag and its fields.
-const ORDERS: &[(&str, &[i128])] = &[
-    ("00000011 01 00000000000000000000000000000000", &[1, 0]),
-    (
-        "00000014 01 1e17b84357691b6403d0da8000000000 00ff07",
-        &[1, 2 * VALUE, 0, 255, 7],
-    ),
-    (
-        "00000024 02 0000000000000001 0000000000000001 00 00 00 00000001 00000000 00000000 \
-         00000004",
-        &[2, 1, 1, 0, 0, 0, 1, 0, 0, 4],
-    ),
-    (
-        "00000028 02 0000000000000001 0000000000000002 03 00 01 \
-         f0f423de544b724dfe1792c000000000 00000000",
-        &[2, 1, 2, 3, 0, 1, -VALUE, 0],
-    ),
-    (
-        "0000004c 02 ffffffffffffffff ffffffffffffffff 07 01 01 \
-         0f0bdc21abb48db201e86d4000000000 00000003 00000000 c4653600 c4653600 0000270e \
-         c4653600 3b9aca00 0000270f 3b9aca00 3b9aca00",
-        &[
-            2, LONG, LONG, 7, 1, 1, VALUE, 3, 0, -BOUND, -BOUND, 9998, -BOUND, BOUND, 9999, BOUND,
-            BOUND,
-        ],
-    ),
-    ("00000011 03 f0f423de544b724dfe1792c000000000", &[3, -VALUE]),
-    ("00000011 03 00000000000000000000000000000000", &[3, 0]),
-    ("00000011 03 0f0bdc21abb48db201e86d4000000000", &[3, VALUE]),
-    (
-        "00000015 04 0000000000000001 0000000000000001 00000001",
-        &[4, 1, 1, 1],
-    ),
-    (
-        "00000015 04 ffffffffffffffff ffffffffffffffff ffffffff",
-        &[4, LONG, LONG, 4_294_967_295],
-    ),
-    ("00000011 05 0000000000000001 0000000000000001", &[5, 1, 1]),
-    (
-        "00000011 05 ffffffffffffffff ffffffffffffffff",
-        &[5, LONG, LONG],
-    ),
-    ("00000011 06 0000000000000001 0000000000000001", &[6, 1, 1]),
-    (
-        "00000011 06 ffffffffffffffff ffffffffffffffff",
-        &[6, LONG, LONG],
-    ),
-    ("00000011 07 0000000000000001 0000000000000001", &[7, 1, 1]),
-    (
-        "00000011 07 ffffffffffffffff ffffffffffffffff",
-        &[7, LONG, LONG],
-    ),
-    ("00000001 08", &[8]),
-];
+// Orders with the least and the greatest of each field: what they are, and the frame, in which `t`
+// is the ticket (1, 1), and `z` eight bytes of 0.
+const ORDERS: &str = "\
+Setup, gap 0 and no record: 00000011 01 zz
+Setup, the greatest gap and three bytes: 00000014 01 1e17b84357691b6403d0da8000000000 00ff07
+Work under (1, 1), params 0, no race, no cutoff, and column 0 to 0..4: 00000024 02 t 00 00 00 00000001 00000000 00000000 00000004
+Work under (1, 2), params 3, the least cutoff and no change: 00000028 02 0000000000000001 0000000000000002 03 00 01 f0f423de544b724dfe1792c000000000 00000000
+Work under the greatest ticket, params 7, a race, the greatest cutoff and three changes: 0000004c 02 ffffffffffffffff ffffffffffffffff 07 01 01 0f0bdc21abb48db201e86d4000000000 00000003 00000000 c4653600 c4653600 0000270e c4653600 3b9aca00 0000270f 3b9aca00 3b9aca00
+Incumbent, the least cutoff: 00000011 03 f0f423de544b724dfe1792c000000000
+Incumbent, cutoff 0: 00000011 03 zz
+Incumbent, the greatest cutoff: 00000011 03 0f0bdc21abb48db201e86d4000000000
+CollectIn under (1, 1), one: 00000015 04 t 00000001
+CollectIn, the greatest of each: 00000015 04 ffffffffffffffff ffffffffffffffff ffffffff
+CollectOut under (1, 1): 00000011 05 t
+CollectOut under the greatest ticket: 00000011 05 ffffffffffffffff ffffffffffffffff
+Winner under (1, 1): 00000011 06 t
+Winner under the greatest ticket: 00000011 06 ffffffffffffffff ffffffffffffffff
+Stop under (1, 1): 00000011 07 t
+Stop under the greatest ticket: 00000011 07 ffffffffffffffff ffffffffffffffff
+End: 00000001 08
+";
 
-// Frames that are there and are no order's: what is wrong, and the frame, in which `t` is the
-// ticket (1, 1), and `z` eight bytes of 0.
+// Frames that are there and are no order's: what is wrong, and the frame.
 const NO_ORDERS: &str = "\
 a gap below 0: 00000011 01 ffffffffffffffffffffffffffffffff
 a gap too great: 00000011 01 1e17b84357691b6403d0da8000000001
@@ -112,34 +75,6 @@ impl Side for Order {
         decode_order(alloc, bytes)
     }
 
-    fn add(&self, numbers: &mut Vec<i128>) -> bool {
-        match self {
-            Order::Setup { gap, record } => {
-                add(numbers, &[1, *gap]) & add_bytes(numbers, record.as_slice())
-            }
-            Order::Work {
-                ticket,
-                params,
-                race,
-                cutoff,
-                changes,
-            } => {
-                add_ticket(numbers, 2, *ticket)
-                    & add(numbers, &[i128::from(params.number()), i128::from(*race)])
-                    & add_optional(numbers, *cutoff)
-                    & add_changes(numbers, changes)
-            }
-            Order::Incumbent { cutoff } => add(numbers, &[3, *cutoff]),
-            Order::CollectIn { ticket, count } => {
-                add_ticket(numbers, 4, *ticket) & add(numbers, &[i128::from(*count)])
-            }
-            Order::CollectOut { ticket } => add_ticket(numbers, 5, *ticket),
-            Order::Winner { ticket } => add_ticket(numbers, 6, *ticket),
-            Order::Stop { ticket } => add_ticket(numbers, 7, *ticket),
-            Order::End => add(numbers, &[8]),
-        }
-    }
-
     fn copy(buffer: &mut Vec<u8>, alloc: Global, bytes: &[u8]) -> bool {
         match decode_order(alloc, bytes) {
             Ok(Decoded::Whole { message, .. }) => {
@@ -154,10 +89,6 @@ impl Side for Order {
 
 #[test]
 fn reads_and_writes_orders(rt: HostRuntime) {
-    each_is_frame::<Order>(&rt, rt.alloc(), ORDERS);
-}
-
-#[test]
-fn takes_no_other_orders(rt: HostRuntime) {
-    each_is_no_frame::<Order>(&rt, rt.alloc(), NO_ORDERS);
+    each_is_so::<Order>(&rt, rt.alloc(), ORDERS, true);
+    each_is_so::<Order>(&rt, rt.alloc(), NO_ORDERS, false);
 }

@@ -2,10 +2,10 @@
 
 ghost use Rattle.std.specs.Prelude.{◌<◌, length};
 
-use crate::child::make_solver;
+use crate::children::child::make_solver;
 use crate::expect::holds;
-use crate::listening::{is_clean, start_three, tell};
-use crate::notes::Notes;
+use crate::children::listening::{is_clean, start_three, tell};
+use crate::children::notes::Notes;
 use std::alloc::{AllocError, AllocGlobal, Global};
 use std::net::Net;
 use std::process::Abort;

@@ -2,13 +2,13 @@
 
 ghost use Rattle.std.specs.Prelude.{◌<◌, length};
 
-use crate::child::make_echo;
-use crate::expect::holds;
-use crate::listening::{
+use crate::children::child::make_echo;
+use crate::children::listening::{
     Tally, hears, is_clean, listen, over_and_over, start, start_again, start_three, tell,
     tell_three,
 };
-use crate::notes::{Notes, are_lines};
+use crate::children::notes::{Notes, are_lines};
+use crate::expect::holds;
 use std::alloc::Global;
 use std::fs;
 use std::fs::Files;

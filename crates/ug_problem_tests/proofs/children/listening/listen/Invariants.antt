@@ -1,5 +1,5 @@
 use Rattle.std.proofs.Common.{◌≡◌, length}
-use Rattle.ug_crew_tests.proofs.listening.listen.Given as goal
+use Rattle.ug_problem_tests.proofs.children.listening.listen.Given as goal
 
 abbrev pub invariant-loop : goal.invariant-loop
 invariant-loop g l = record {

@@ -2,10 +2,10 @@
 
 ghost use Rattle.std.specs.Prelude.{◌<◌, length};
 
-use crate::child::make_child;
+use crate::children::child::make_child;
+use crate::children::listening::{hears, is_clean, start, tell};
+use crate::children::notes::{Notes, are_lines};
 use crate::expect::holds;
-use crate::listening::{hears, is_clean, start, tell};
-use crate::notes::{Notes, are_lines};
 use std::alloc::{AllocGlobal, Global};
 use std::fs::{File, Files, Permissions};
 use std::net::Net;
