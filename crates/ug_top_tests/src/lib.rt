@@ -1,8 +1,8 @@
-//! Tests of the top call, of the command line's words and of a solve by threads. They stand apart
-//! from the crates that they test, ug_top, ug_cli and ug_threads. Outsides that fail at each of
-//! their calls, runs in processes over crews and links in memory, lists of words, threads in many
-//! orders. What texts come to, and commands over real folders, are tried with the built program
-//! (tests). Nothing here is proved but that the tests are safe and end.
+//! Tests of the top call and of a solve by threads. They stand apart from the crates that they
+//! test, ug_top and ug_threads. Outsides that fail at each of their calls, runs in processes over
+//! crews and links in memory, threads in many orders. What words and texts come to, and commands
+//! over real folders, are tried with the built program (tests). Nothing here is proved but that the
+//! tests are safe and end.
 #![tactic(auto)]
 
 #[cfg(test)]
@@ -14,12 +14,8 @@ mod failing_disks;
 #[cfg(test)]
 mod processes;
 #[cfg(test)]
-mod refusals;
-#[cfg(test)]
 mod running;
 #[cfg(test)]
 mod runs;
 #[cfg(test)]
 mod threads;
-#[cfg(test)]
-mod words;

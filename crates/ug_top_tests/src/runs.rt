@@ -1,12 +1,12 @@
-//! Sources and sinks that fail, and words that are no command.
+//! Sources and sinks that fail.
 
-use crate::expect::{same, same_at};
-use crate::running::{ran_over, sound_disk, told, told_of};
+use crate::expect::same;
+use crate::running::{ran_over, sound_disk, told_of};
 use std::alloc::{AllocError, Global};
 use std::process::Abort;
 use std::sync::Wait;
 use std::thread::Threads;
-use ug_io::{MemorySink, MemorySource, Script, ScriptedSource};
+use ug_io::{MemorySink, Script, ScriptedSource};
 
 const EMPTY: &str = "ROWS\n N Z\nENDATA\n";
 
@@ -72,34 +72,4 @@ fn is_cut_short<R: Threads + Wait + Sync + Abort>(rt: &R, alloc: Global, call: u
 fn sink_that_fails(rt: HostRuntime) {
     is_cut_short(&rt, rt.alloc(), 1, "");
     is_cut_short(&rt, rt.alloc(), 2, "optima");
-}
-
-const NO_COMMANDS: &[&str] = &[
-    "''",
-    "solve",
-    "check f",
-    "solve f --box",
-    "solve f --solvers 0",
-    "solve f --low 5 --high 4",
-    "solve f --mode process",
-    "restart f",
-    "show",
-    "gen 0 3",
-    "worker s",
-];
-
-// Expects the words of a line to tell nothing, with the status of words that are no command.
-fn is_no_command<R: Threads + Wait + Sync + Abort>(rt: &R, alloc: Global, line: &str) {
-    let mut disk = sound_disk(alloc);
-    let told = told(rt, alloc, line, EMPTY.as_bytes(), &mut disk).expect(rt, "memory");
-    drop(disk);
-    same_at(rt, &told.as_slice(), &b"\x02".as_slice(), &line);
-    drop(told);
-}
-
-#[test]
-fn words_that_are_no_command(rt: HostRuntime) {
-    for line in NO_COMMANDS {
-        is_no_command(&rt, rt.alloc(), line);
-    }
 }

@@ -1,7 +1,6 @@
 use crate::expect::same;
 use crate::threads::holding::{Coming, Hold, HoldingObserver};
 use crate::threads::yielding::YieldingObserver;
-use std::thread::join;
 use ug_restart::{Moment, Observer, Unobserved};
 
 // When a rank has come to a moment so many times.
@@ -46,18 +45,6 @@ fn pass_by<O: Observer>(observer: &O, rank: u32, times: u32) {
         observer.pass(rank, Moment::Asking);
         observer.pass(rank, Moment::Answered);
     }
-}
-
-#[test]
-fn each_rank_waits_for_the_other(rt: HostRuntime) {
-    let observer = HoldingObserver::new(rt.alloc(), 2, &each_waits()).expect(&rt, "memory");
-    join(
-        &rt,
-        || pass_by(&observer, 0, 3),
-        || pass_by(&observer, 1, 2),
-    );
-    same(&rt, &observer.missed(), &0);
-    drop(observer);
 }
 
 #[test]
