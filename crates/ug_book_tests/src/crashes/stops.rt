@@ -11,11 +11,11 @@ use ug_disk::{MemoryDisk, Slot};
 use ug_problem::Shared;
 use ug_restart::restart;
 
-/// Places from one to another, without the last.
+// Places from one to another, without the last.
 #[derive(Clone, Copy)]
-pub struct Range {
-    pub from: usize,
-    pub end: usize,
+struct Range {
+    from: usize,
+    end: usize,
 }
 
 // Puts the image of run 1 under a sequence, of a problem with one column of 16 letters and no rows,
@@ -51,8 +51,8 @@ fn filled(mut bytes: Vec<u8>, places: Range, fill: Option<u8>) -> Vec<u8> {
     bytes
 }
 
-/// A crash leaves what was written but for these places of slot 0, where it leaves this byte.
-pub fn crash(alloc: Global, disk: &mut MemoryDisk, places: Range, fill: Option<u8>) -> Option<()> {
+// A crash leaves what was written but for these places of slot 0, where it leaves this byte.
+fn crash(alloc: Global, disk: &mut MemoryDisk, places: Range, fill: Option<u8>) -> Option<()> {
     let zero = disk.bytes(Slot::Zero).to_vec(alloc).ok()?;
     let Ok(one) = disk.bytes(Slot::One).to_vec(alloc) else {
         drop(zero);
@@ -131,8 +131,8 @@ fn calls_of_three(alloc: Global, nodes: u16) -> Option<u64> {
     if is_saved { Some(calls) } else { None }
 }
 
-/// What a crash may leave of pending places: what was written, or these bytes.
-pub const FILLS: &[Option<u8>] = &[None, Some(0), Some(255), Some(1)];
+// What a crash may leave of pending places: what was written, or these bytes.
+const FILLS: &[Option<u8>] = &[None, Some(0), Some(255), Some(1)];
 
 // What recovery finds where the third save stopped there and a crash leaves its gate so.
 fn found_after(

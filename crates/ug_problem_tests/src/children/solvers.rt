@@ -3,9 +3,9 @@
 ghost use Rattle.std.specs.Prelude.{◌<◌, length};
 
 use crate::children::child::make_solver;
-use crate::expect::holds;
 use crate::children::listening::{is_clean, start_three, tell};
 use crate::children::notes::Notes;
+use crate::expect::holds;
 use std::alloc::{AllocError, AllocGlobal, Global};
 use std::net::Net;
 use std::process::Abort;
@@ -40,68 +40,74 @@ pub fn solve<R: Net + Clock + Wait + AllocGlobal>(rt: &R, path: &str) {
     drop(link);
 }
 
-fn push_zeros(bytes: &mut Vec<u8>, count: u32) -> Result<(), AllocError> {
-    for _ in 0..count {
-        bytes.push(0)?;
-    }
-    Ok(())
+// Adds bytes. Whether there was memory for them, as of each call here.
+fn put(bytes: &mut Vec<u8>, more: &[u8]) -> bool {
+    bytes.extend_from_slice(more).is_ok()
+}
+
+// The last digit of a number.
+fn digit(number: u32) -> u8 {
+    b'0' + (number % 10) as u8
 }
 
 // A column from 0 to 0, whose name is its number in 255 digits.
-fn push_column(bytes: &mut Vec<u8>, number: u32) -> Result<(), AllocError> {
-    bytes.push(255)?;
-    for _ in 0..250 {
-        bytes.push(b'0')?;
-    }
-    for part in [
-        number / 10_000,
-        number / 1_000,
-        number / 100,
-        number / 10,
-        number,
-    ] {
-        bytes.push(b'0' + (part % 10) as u8)?;
-    }
-    push_zeros(bytes, 8)
+fn put_column(bytes: &mut Vec<u8>, number: u32) -> bool {
+    let digits = [
+        digit(number / 10_000),
+        digit(number / 1_000),
+        digit(number / 100),
+        digit(number / 10),
+        digit(number),
+    ];
+    put(bytes, &[255]) & put(bytes, &[b'0'; 250]) & put(bytes, &digits) & put(bytes, &[0; 8])
 }
 
-// Setup with gap 0, many columns, no row and the objective 0, and Work of all of it for the rank.
-fn orders_for(alloc: Global, rank: u8) -> Result<Vec<u8>, AllocError> {
-    let mut bytes = Vec::new(alloc);
-    bytes.extend_from_slice(&[0, 0x28, 0x48, 0xaf, 1])?;
-    push_zeros(&mut bytes, 16)?;
-    bytes.extend_from_slice(&[0, 0, 0x27, 0x10])?;
+fn put_columns(bytes: &mut Vec<u8>) -> bool {
+    let mut so = true;
     for number in 0..COLUMNS {
-        push_column(&mut bytes, number)?;
+        so = so && put_column(bytes, number);
     }
-    push_zeros(&mut bytes, 26)?;
-    bytes.extend_from_slice(&[0, 0, 0, 24, 2])?;
-    push_ticket(&mut bytes, rank)?;
-    push_zeros(&mut bytes, 7)?;
-    Ok(bytes)
+    so
 }
 
 // The ticket of the rank: of run 1, and one more than its number.
-fn push_ticket(bytes: &mut Vec<u8>, rank: u8) -> Result<(), AllocError> {
-    bytes.extend_from_slice(&[0, 0, 0, 0, 0, 0, 0, 1, 0, 0, 0, 0, 0, 0, 0])?;
-    bytes.push(rank.saturating_add(1))?;
-    Ok(())
+fn put_ticket(bytes: &mut Vec<u8>, rank: u8) -> bool {
+    put(bytes, &[0, 0, 0, 0, 0, 0, 0, 1, 0, 0, 0, 0, 0, 0, 0])
+        & put(bytes, &[rank.saturating_add(1)])
+}
+
+// Setup with gap 0, many columns, no row and the objective 0, and Work of all of it for the rank.
+fn put_orders(bytes: &mut Vec<u8>, rank: u8) -> bool {
+    put(bytes, &[0, 0x28, 0x48, 0xaf, 1])
+        & put(bytes, &[0; 16])
+        & put(bytes, &[0, 0, 0x27, 0x10])
+        & put_columns(bytes)
+        & put(bytes, &[0; 26])
+        & put(bytes, &[0, 0, 0, 24, 2])
+        & put_ticket(bytes, rank)
+        & put(bytes, &[0; 7])
+}
+
+// A point of zeros, one for each column.
+fn put_point(bytes: &mut Vec<u8>) -> bool {
+    let mut so = put(bytes, &[0, 0, 0x27, 0x10]);
+    for _ in 0..COLUMNS {
+        so = so && put(bytes, &[0; 4]);
+    }
+    so
 }
 
 // What comes of the rank: Ready, the one point, Done under its cutoff, 0, with no hand, and Ended.
-fn reports_of(alloc: Global, rank: u8) -> Result<Vec<u8>, AllocError> {
-    let mut bytes = Vec::new(alloc);
-    bytes.extend_from_slice(READY)?;
-    bytes.extend_from_slice(&[0, 0, 0x9c, 0x55, 18])?;
-    push_ticket(&mut bytes, rank)?;
-    bytes.extend_from_slice(&[0, 0, 0x27, 0x10])?;
-    push_zeros(&mut bytes, 40_000)?;
-    bytes.extend_from_slice(&[0, 0, 0, 42, 21])?;
-    push_ticket(&mut bytes, rank)?;
-    bytes.push(1)?;
-    push_zeros(&mut bytes, 24)?;
-    bytes.extend_from_slice(ENDED)?;
-    Ok(bytes)
+fn put_reports(bytes: &mut Vec<u8>, rank: u8) -> bool {
+    put(bytes, READY)
+        & put(bytes, &[0, 0, 0x9c, 0x55, 18])
+        & put_ticket(bytes, rank)
+        & put_point(bytes)
+        & put(bytes, &[0, 0, 0, 42, 21])
+        & put_ticket(bytes, rank)
+        & put(bytes, &[1])
+        & put(bytes, &[0; 24])
+        & put(bytes, ENDED)
 }
 
 // What was heard of each rank, and how many are gone.
@@ -165,6 +171,23 @@ impl Heard {
     }
 }
 
+// The rank is told the problem and its work.
+fn is_told<C: Crew>(rt: &impl Abort, alloc: Global, crew: &mut C, rank: u8) {
+    let mut orders = Vec::new(alloc);
+    holds(rt, put_orders(&mut orders, rank));
+    holds(rt, orders.len() == SETUP + 28);
+    holds(rt, tell(crew, u32::from(rank), &orders));
+    drop(orders);
+}
+
+// The rank has said just what it has to.
+fn has_said(rt: &impl Abort, alloc: Global, heard: &Heard, rank: u8) {
+    let mut wanted = Vec::new(alloc);
+    holds(rt, put_reports(&mut wanted, rank));
+    holds(rt, heard.has(rank, &wanted));
+    drop(wanted);
+}
+
 // Each of three ranks is told the problem and its work, and the end once it has searched all; it
 // says just what it has to, and is gone.
 fn say_what_they_have_to<C: Crew>(rt: &impl Abort, alloc: Global, crew: &mut C)
@@ -172,17 +195,12 @@ fn say_what_they_have_to<C: Crew>(rt: &impl Abort, alloc: Global, crew: &mut C)
 {
     holds(rt, start_three(crew));
     for rank in 0..3u8 {
-        let orders = orders_for(alloc, rank).expect(rt, "memory");
-        holds(rt, orders.len() == SETUP + 28);
-        holds(rt, tell(crew, u32::from(rank), &orders));
-        drop(orders);
+        is_told(rt, alloc, crew, rank);
     }
     let mut heard = Heard::new(alloc).expect(rt, "memory");
     heard.listen(crew);
     for rank in 0..3u8 {
-        let wanted = reports_of(alloc, rank).expect(rt, "memory");
-        holds(rt, heard.has(rank, &wanted));
-        drop(wanted);
+        has_said(rt, alloc, &heard, rank);
     }
     holds(rt, heard.gone == 3);
     drop(heard);
