@@ -14,6 +14,8 @@ mod crews;
 #[cfg(test)]
 mod expect;
 #[cfg(test)]
+mod forms;
+#[cfg(test)]
 mod frames;
 #[cfg(test)]
 mod links;

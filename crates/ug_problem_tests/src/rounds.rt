@@ -119,6 +119,53 @@ BOUNDS
 ENDATA
 ";
 
+// The same with factors whose sums are kept in 128 bits.
+const SECOND_WIDE_LOOK: &[u8] = b"ROWS
+ N Z
+ E r
+COLUMNS
+ M 'MARKER' 'INTORG'
+ x Z 1 r 3000000000
+ y r 2000000000
+RHS
+ r 7000000000
+BOUNDS
+ UP x 10
+ UP y 10
+ENDATA
+";
+
+// A side that no room of 64 bits is taken from, and one that is within them.
+const FAR_SIDES: &[u8] = b"ROWS
+ N Z
+ L r
+ G s
+COLUMNS
+ M 'MARKER' 'INTORG'
+ x Z 1 r 2
+ x s -536870912
+RHS
+ r 9000000000000000000
+ s -1610612737
+BOUNDS
+ UP x 2147483647
+ENDATA
+";
+
+// A row whose side is so far off that no point keeps to it.
+const TOO_FAR: &[u8] = b"ROWS
+ N Z
+ G r
+COLUMNS
+ M 'MARKER' 'INTORG'
+ x Z 1 r 1
+RHS
+ r 9000000000000000000
+BOUNDS
+ UP x 2147483647
+ENDATA
+";
+
 // What is left of each column, or why nothing is.
 type Outcome = Result<&'static [(i32, i32)], Reason>;
 
@@ -132,6 +179,10 @@ const CASES: &[(&[u8], Option<i128>, Outcome)] = &[
     (CHASE, None, Err(NO_LOW)),
     (ODD_SUM, None, Ok(&[(0, 3), (0, 3), (0, 3)])),
     (SECOND_LOOK, None, Ok(&[(1, 1), (2, 2)])),
+    (SECOND_WIDE_LOOK, None, Ok(&[(1, 1), (2, 2)])),
+    (FAR_SIDES, Some(3), Ok(&[(0, 2)])),
+    (FAR_SIDES, None, Ok(&[(0, 3)])),
+    (TOO_FAR, None, Err(NO_LOW)),
 ];
 
 const NO_LOW: Reason = Reason {

@@ -96,10 +96,17 @@ impl Sections {
             & push_line(&mut self.bounds, &["UP", "D", column, high])
     }
 
-    // The rows and the columns of a number, three each.
-    fn add(&mut self, number: u32) -> bool {
+    // A row that no point breaks, with a factor so large that no sum is kept in 64 bits.
+    fn add_wide(&mut self) -> bool {
+        push_line(&mut self.rows, &["G", "V"])
+            & push_line(&mut self.columns, &["X", "V", "1000000000000"])
+            & push_line(&mut self.sides, &["V", "-9000000000000000000000"])
+    }
+
+    // The rows and the columns of a number, three each, and where it is to be wide one row more.
+    fn add(&mut self, number: u32, wide: bool) -> bool {
         let mut state = u64::from(number);
-        let mut so = true;
+        let mut so = !wide || self.add_wide();
         for row in ROWS {
             so &= self.add_row(row, &mut state);
         }
@@ -126,21 +133,32 @@ impl Sections {
 }
 
 // Appends the text of a number.
-fn push_text(alloc: Global, text: &mut Vec<u8>, number: u32) -> bool {
+fn push_text(alloc: Global, text: &mut Vec<u8>, number: u32, wide: bool) -> bool {
     let mut sections = Sections::new(alloc);
-    let so = sections.add(number) && sections.push_all(text);
+    let so = sections.add(number, wide) && sections.push_all(text);
     drop(sections);
     so
 }
 
-/// The small problem of a number.
-pub fn problem(alloc: Global, number: u32) -> Option<Problem> {
+// The small problem of a number, where it is to be wide with one row more.
+fn made(alloc: Global, number: u32, wide: bool) -> Option<Problem> {
     let mut text = Vec::new(alloc);
-    let problem = if push_text(alloc, &mut text, number) {
+    let problem = if push_text(alloc, &mut text, number, wide) {
         read(alloc, &text, None).ok()
     } else {
         None
     };
     drop(text);
     problem
+}
+
+/// The small problem of a number.
+pub fn problem(alloc: Global, number: u32) -> Option<Problem> {
+    made(alloc, number, false)
+}
+
+/// The same problem with one row more, which no point breaks and whose factor is so large that no
+/// sum of the problem is kept in 64 bits.
+pub fn wide_problem(alloc: Global, number: u32) -> Option<Problem> {
+    made(alloc, number, true)
 }
