@@ -11,3 +11,4 @@ pub mod Right
 pub mod Shared
 pub mod Standings
 pub mod Offers
+pub mod Losing

@@ -12,6 +12,7 @@ mod error;
 mod feasible;
 mod laws;
 mod limits;
+mod losing;
 mod offered;
 mod print;
 mod problem;
@@ -28,6 +29,7 @@ pub use decimal::{
 pub use error::ProblemError;
 pub use laws::{better_is_below_the_cutoff, gaps_may_grow, one_point_is_kept};
 pub use limits::{MOST_COLUMNS, MOST_FACTOR, MOST_ROWS, MOST_SIDE, MOST_TERMS};
+pub use losing::Inward;
 pub use offered::Offered;
 pub use print::prints_one_text;
 pub use problem::Problem;

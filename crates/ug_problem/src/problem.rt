@@ -7,6 +7,7 @@ ghost use Rattle.ug_problem.specs.Better.{IsGap, cutoff_of};
 ghost use Rattle.ug_problem.specs.Feasible.{Feasible, IsFirstBroken};
 ghost use Rattle.ug_problem.specs.Instances.{IsFormed, bounds_of, instance_of, root_of};
 ghost use Rattle.ug_problem.specs.Limits.{IsProblem, IsRefused};
+ghost use Rattle.ug_problem.specs.Losing.{AreKeptLosing, IsLosing};
 ghost use Rattle.ug_problem.specs.Printed.{IsPrinted};
 ghost use Rattle.ug_problem.specs.Standings.{AreKept, AreStandings};
 
@@ -15,6 +16,7 @@ use crate::column::{Column, Columns, NamedRow, NamedRows};
 use crate::error::ProblemError;
 use crate::feasible::find_broken;
 use crate::limits::check_limits;
+use crate::losing::{Inward, Losing, copied_losing, losing_of, rows_at};
 use crate::print::{shown, spell};
 use crate::standings::{Standing, Standings, copied_standings, gather, standings_of};
 use std::alloc::{AllocError, Global};
@@ -30,12 +32,14 @@ pub struct Problem {
     objective: Objective,
     root: IntBox,
     standings: Standings,
+    losing: Losing,
 }
 
 impl Model for Problem {
     ghost use Rattle.std.specs.Prelude.{◌≡◌};
     ghost use Rattle.ug_problem.specs.Instances.{Instance, root_of};
     ghost use Rattle.ug_problem.specs.Limits.{IsProblem};
+    ghost use Rattle.ug_problem.specs.Losing.{AreKeptLosing};
     ghost use Rattle.ug_problem.specs.Standings.{AreKept};
 
     ghost Value = { Instance };
@@ -46,7 +50,8 @@ impl Model for Problem {
         × (p.root
         ≡ root_of (record { columns = p.columns; rows = p.rows; objective = p.objective }))
         × AreKept (record { columns = p.columns; rows = p.rows; objective = p.objective })
-        p.standings };
+        p.standings
+        × AreKeptLosing p.rows p.standings p.losing };
 }
 
 // The bounds of each column.
@@ -139,9 +144,39 @@ fn copied_parts(
 struct Derived {
     root: IntBox,
     standings: Standings,
+    losing: Losing,
 }
 
-// The box of all bounds, and where each column stands, if the parts are within the limits.
+// Where each column stands, and which rows lose room with it.
+#[derive(Drop)]
+struct Stands {
+    standings: Standings,
+    losing: Losing,
+}
+
+fn stands_of(
+    alloc: Global,
+    columns: &[Column],
+    rows: &[NamedRow],
+    objective: &Objective,
+) -> Result<Stands, AllocError>
+    requires { IsProblem (instance_of columns.now rows.now objective.now) }
+    ensures standings { IfOk result (λ s. AreKept
+        (instance_of columns.now rows.now objective.now) s.standings) }
+    ensures losing { IfOk result (λ s. AreKeptLosing rows.now s.standings s.losing) }
+{
+    let standings = gather(alloc, columns, rows, objective)?;
+    match losing_of(alloc, rows, &standings) {
+        Ok(losing) => Ok(Stands { standings, losing }),
+        Err(error) => {
+            drop(standings);
+            Err(error)
+        }
+    }
+}
+
+// The box of all bounds, where each column stands, and which rows lose room with it, if the parts are
+// within the limits.
 fn derived_from(
     alloc: Global,
     columns: &[Column],
@@ -153,13 +188,18 @@ fn derived_from(
         ≡ root_of (instance_of columns.now rows.now objective.now)) }
     ensures standings { IfOk result (λ g. AreKept
         (instance_of columns.now rows.now objective.now) g.standings) }
+    ensures losing { IfOk result (λ g. AreKeptLosing rows.now g.standings g.losing) }
     ensures kept { OnOk result (IsProblem (instance_of columns.now rows.now objective.now)) }
     ensures refused { IfErr result (IsRefused (instance_of columns.now rows.now objective.now)) }
 {
     check_limits(columns, rows, objective)?;
     let root = IntBox::from_vec(bounds(alloc, columns)?);
-    match gather(alloc, columns, rows, objective) {
-        Ok(standings) => Ok(Derived { root, standings }),
+    match stands_of(alloc, columns, rows, objective) {
+        Ok(Stands { standings, losing }) => Ok(Derived {
+            root,
+            standings,
+            losing,
+        }),
         Err(error) => {
             drop(root);
             Err(ProblemError::from(error))
@@ -167,15 +207,39 @@ fn derived_from(
     }
 }
 
-fn copied_derived(root: &IntBox, standings: &Standings) -> Result<Derived, AllocError>
-    ensures root { IfOk result (λ derived. derived.root ≡ root.now) }
-    ensures standings { IfOk result (λ derived. derived.standings ≡ standings.now) }
+fn copied_stands(standings: &Standings, losing: &Losing) -> Result<Stands, AllocError>
+    ensures standings { IfOk result (λ stands. stands.standings ≡ standings.now) }
+    ensures losing { IfOk result (λ stands. stands.losing ≡ losing.now) }
 {
     let standings = copied_standings(standings)?;
-    match root.clone() {
-        Ok(root) => Ok(Derived { root, standings }),
+    match copied_losing(losing) {
+        Ok(losing) => Ok(Stands { standings, losing }),
         Err(error) => {
             drop(standings);
+            Err(error)
+        }
+    }
+}
+
+fn copied_derived(
+    root: &IntBox,
+    standings: &Standings,
+    losing: &Losing,
+) -> Result<Derived, AllocError>
+    ensures root { IfOk result (λ derived. derived.root ≡ root.now) }
+    ensures standings { IfOk result (λ derived. derived.standings ≡ standings.now) }
+    ensures losing { IfOk result (λ derived. derived.losing ≡ losing.now) }
+{
+    let Stands { standings, losing } = copied_stands(standings, losing)?;
+    match root.clone() {
+        Ok(root) => Ok(Derived {
+            root,
+            standings,
+            losing,
+        }),
+        Err(error) => {
+            drop(standings);
+            drop(losing);
             Err(error)
         }
     }
@@ -196,12 +260,19 @@ impl Problem {
         ensures refused { IfErr result (IsRefused (instance_of columns rows objective)) }
     {
         match derived_from(alloc, columns.as_slice(), rows.as_slice(), &objective) {
-            Ok(Derived { root, standings }) => Ok(Problem {
+            Ok(
+                Derived {
+                    root,
+                    standings,
+                    losing,
+                },
+            ) => Ok(Problem {
                 columns,
                 rows,
                 objective,
                 root,
                 standings,
+                losing,
             }),
             Err(error) => {
                 drop(columns);
@@ -253,11 +324,28 @@ impl Problem {
         standings_of(&self.standings, column)
     }
 
+    /// The rows that lose room where this end of a column goes inwards, in rising order; of the
+    /// objective, the row behind the last, the high side counts as there. It takes no memory.
+    pub fn losing(&self, inward: Inward, column: usize) -> &[u32]
+        requires { column < length self.now.columns }
+        ensures value { IsLosing self.now column inward result.now }
+        ensures problem { IsProblem self.now }
+    {
+        match inward {
+            Inward::Up => rows_at(&self.losing.ups, column),
+            Inward::Down => rows_at(&self.losing.downs, column),
+        }
+    }
+
     /// A copy of the problem.
     pub fn copy(&self) -> Result<Problem, AllocError>
         ensures { IfOk result (λ p. p ≡ self.now) }
     {
-        let Derived { root, standings } = copied_derived(&self.root, &self.standings)?;
+        let Derived {
+            root,
+            standings,
+            losing,
+        } = copied_derived(&self.root, &self.standings, &self.losing)?;
         match copied_parts(&self.columns, &self.rows, &self.objective) {
             Ok(
                 Parts {
@@ -271,10 +359,12 @@ impl Problem {
                 objective,
                 root,
                 standings,
+                losing,
             }),
             Err(error) => {
                 drop(root);
                 drop(standings);
+                drop(losing);
                 Err(error)
             }
         }
