@@ -1,16 +1,15 @@
 -- What better and right come to where one point is kept at most, and under a greater gap.
-use Rattle.std.proofs.Common.{◌≡◌, refl, sym, subst, ap, inl, inr, ℕ, zero, suc, ◌<◌, ℤ, pos, ◌+ℤ◌, ◌≤ℤ◌, ◌<ℤ◌, List, [], ◌∷◌, length, slice_index_or, All, Option, Some, None, IfSome, arith}
+use Rattle.std.proofs.Common.{◌≡◌, refl, subst, ap, zero, suc, ℤ, pos, ◌+ℤ◌, ◌≤ℤ◌, ◌<ℤ◌, List, [], ◌∷◌, All, Option, Some, None, IfSome, arith}
 use Rattle.std.specs.Prelude.{Contains}
 use Rattle.std.specs.Option.{option_map, option_to_list}
 use Rattle.std.proofs.lemmas.Int.{ints, by_lt_z}
-use Rattle.ug_rows.specs.declared.area.Interval.{Interval}
 use Rattle.ug_rows.specs.Rows.{value_of}
 use Rattle.ug_problem.specs.Instances.{Instance}
 use Rattle.ug_problem.specs.Feasible.{Feasible}
-use Rattle.ug_problem.specs.Incumbents.{Incumbent, cutoff_point, one_kept}
-use Rattle.ug_problem.specs.Better.{Better, BetterThanOne, Covered, CoveredUnderMore, IsGap}
+use Rattle.ug_problem.specs.Incumbents.{cutoff_point, one_kept}
+use Rattle.ug_problem.specs.Better.{Better, BetterThanOne, CoveredUnderMore, IsGap}
 use Rattle.ug_problem.specs.Offers.{IsAnswer, best_after}
-use Rattle.ug_problem.specs.Right.{IsOptimal, IsRightAnswer, OneIsKept, Right, answer_of}
+use Rattle.ug_problem.specs.Right.{IsRightAnswer, OneIsKept, Right, answer_of}
 use Rattle.ug_problem.specs.declared.offered.Offered.{Offered}
 use Rattle.ug_problem.specs.declared.offered.Offered.TheVariants.{Taken, NotBetter, Broken}
 

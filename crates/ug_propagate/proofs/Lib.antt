@@ -24,3 +24,4 @@ pub mod Shorts
 pub mod Nearing
 pub mod Sizes
 pub mod Near
+pub mod Kept

@@ -91,7 +91,7 @@ end_small Greatest (pos n) side h = h.high
 end_small Greatest (negsuc n) side h = h.low
 
 -- no span is larger than this
-span_small : (t : Term) (area : List Interval) → unsigned_abs t.factor ≤ 10 ^ 24 → HasSmallEnds (interval_at area t.column)
+pub span_small : (t : Term) (area : List Interval) → unsigned_abs t.factor ≤ 10 ^ 24 → HasSmallEnds (interval_at area t.column)
     → unsigned_abs (span_of t area) ≤ 10 ^ 24 * 2 ^ 32
 span_small t area small ends =
     let g : ℤ = end_of Greatest t.factor (interval_at area t.column) in
