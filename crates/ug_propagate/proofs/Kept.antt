@@ -54,7 +54,7 @@ free_low width ts area linear small =
           (λ more. more);
     }
 
-small_inner : (inner outer : Interval) → HasSmallEnds outer → IsClosedWithin inner outer → HasSmallEnds inner
+pub small_inner : (inner outer : Interval) → HasSmallEnds outer → IsClosedWithin inner outer → HasSmallEnds inner
 small_inner inner outer small closed = record { low = omega (arith, ints, small.low, small.high, closed.low, closed.high, closed.some); high = omega (arith, ints, small.low, small.high, closed.low, closed.high, closed.some) }
 
 pub rest_kept : (width : ℕ) (look : Look) (ts : List Term) (t : Term) (area : List Interval) (side : Interval) → IsLinear width ts

@@ -25,3 +25,4 @@ pub mod Nearing
 pub mod Sizes
 pub mod Near
 pub mod Kept
+pub mod Changing

@@ -61,7 +61,7 @@ later_trans a b c h k = record {
   reach = k.reach ∙ h.reach;
 }
 
-later_change : (p : Instance) (j : ℕ) (side : Interval) (old new : WorkState) → j < length old.sums.area
+pub later_change : (p : Instance) (j : ℕ) (side : Interval) (old new : WorkState) → j < length old.sums.area
     → HasChanged p j side old new → IsLater old new
 later_change p j side old new within h =
     let area : List Interval = old.sums.area in
@@ -106,7 +106,7 @@ span_cut t area j side most there closed h = elim (cases_eq t.column j) [
       subst P (sym at) h
 ]
 
-reach_cut : (p : Instance) (area : List Interval) (reach : List ℤ) (j : ℕ) (side : Interval) → j < length area
+pub reach_cut : (p : Instance) (area : List Interval) (reach : List ℤ) (j : ℕ) (side : Interval) → j < length area
     → IsClosedWithin side (interval_at area j) → AreReached p area reach → AreReached p (set area j side) reach
 reach_cut p area reach j side there closed h = record {
   count = h.count;
@@ -115,7 +115,7 @@ reach_cut p area reach j side there closed h = record {
 }
 
 -- a row without a term of the column stays at rest
-rest_other : (look : Look) (ts : List Term) (area : List Interval) (j : ℕ) (side : Interval)
+pub rest_other : (look : Look) (ts : List Term) (area : List Interval) (j : ℕ) (side : Interval)
     → ((k : ℕ) → k < length ts → (term_at ts k).column ≢ j) → IsAtRest look ts area → IsAtRest look ts (set area j side)
 rest_other look ts area j side other h =
     let same : (k : ℕ) → k < length ts → interval_at (set area j side) (term_at ts k).column ≡ interval_at area (term_at ts k).column =
@@ -139,19 +139,7 @@ rest_other look ts area j side other h =
           subst P (sym (same k there)) (h.each k there);
     }
 
-resting_change : (p : Instance) (j : ℕ) (side : Interval) (old new : WorkState) → HasChanged p j side old new → (cutoff : Option ℤ)
-    → AreResting p cutoff old.sums.area old.awake → AreResting p cutoff new.sums.area new.awake
-resting_change p j side old new h cutoff resting r there asleep =
-    let w = h.woke in
-    let other : (k : ℕ) → k < length (terms_of p r) → (term_at (terms_of p r) k).column ≢ j =
-    λ (k : ℕ) (within : k < length (terms_of p r)) (same : (term_at (terms_of p r) k).column ≡ j).
-    let at = w.are.all r (term_at (terms_of p r) k) (among_at (terms_of p r) k within) same in
-    w.woken.others r at.0 asleep at.1 at.2 in
-    let before : IsAtRest (look_for p cutoff r) (terms_of p r) old.sums.area = resting r there (w.woken.asleep r asleep) in
-    let P : List Interval → Type 0 = λ (a : List Interval). IsAtRest (look_for p cutoff r) (terms_of p r) a in
-    subst P (sym h.area) (rest_other (look_for p cutoff r) (terms_of p r) old.sums.area j side other before)
-
-bits_woken : (p : Instance) (old new : List ℕ) → length new ≡ length old → HasBits p old → HasBits p new
+pub bits_woken : (p : Instance) (old new : List ℕ) → length new ≡ length old → HasBits p old → HasBits p new
 bits_woken p old new same h = record { enough = omega (arith, h.enough, same); few = omega (arith, h.few, same) }
 
 pub step_same : (p : Instance) (work : WorkState) → IsBox p work → IsStep p work work
@@ -163,24 +151,6 @@ step_trans p a b c h k = record {
   later = later_trans a b c h.later k.later;
   resting = λ cutoff r. k.resting cutoff (h.resting cutoff r);
 }
-
--- a column that is cut
-pub step_change : (p : Instance) (j : ℕ) (side : Interval) (old new : WorkState) → IsBox p old → j < length p.columns
-    → IsClosedWithin side (interval_at old.sums.area j) → HasChanged p j side old new → IsStep p old new
-step_change p j side old new box there closed h =
-    let P : List Interval → Type 0 = λ (a : List Interval). AreReached p a old.reach in
-    let Q : List ℤ → Type 0 = λ (r : List ℤ). AreReached p new.sums.area r in
-    let within : j < length old.sums.area = omega (arith, there, box.sums.width) in
-    record {
-      box = record {
-        sums = h.sums;
-        reach = subst Q (sym h.reach)
-            (subst P (sym h.area) (reach_cut p old.sums.area old.reach j side within closed box.reach));
-        bits = bits_woken p old.awake new.awake h.woke.woken.width box.bits;
-      };
-      later = later_change p j side old new within h;
-      resting = resting_change p j side old new h;
-    }
 
 -- the box is as wide as it was
 width_later : (p : Instance) (old new : WorkState) → IsBox p old → IsStep p old new → length old.sums.area ≡ length new.sums.area

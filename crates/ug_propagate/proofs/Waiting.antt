@@ -31,7 +31,7 @@ pub look_inner : (p : Instance) (cutoff : Option ℤ) (r : ℕ) → r < length p
     → look_for p cutoff r ≡ record { row = Some r; low = (row_at p r).low; high = (row_at p r).high }
 look_inner p cutoff r there = rw (lt-ltb r (length p.rows) there) refl
 
-look_last : (p : Instance) (cutoff : Option ℤ) (r : ℕ) → length p.rows ≤ r
+pub look_last : (p : Instance) (cutoff : Option ℤ) (r : ℕ) → length p.rows ≤ r
     → look_for p cutoff r ≡ record { row = None; low = None; high = option_map (λ c. c -ℤ pos 1 -ℤ p.objective.constant) cutoff }
 look_last p cutoff r past = rw (le-ltb r (length p.rows) past) refl
 

@@ -1,19 +1,18 @@
 -- Rows that are woken one after another.
 use Rattle.std.proofs.Common.{◌≡◌, ◌≢◌, ◌∙◌, refl, sym, ap, inl, inr, ℕ, ◌+◌, ◌<◌, ◌≤◌, List, length, arith}
 use Rattle.std.proofs.lemmas.Bool.{cases_eq}
-use Rattle.ug_problem.specs.declared.standings.Standing.{Standing}
-use Rattle.ug_problem.specs.Standings.{standing_at}
+use Rattle.ug_problem.specs.Losing.{listed_at}
 use Rattle.ug_propagate.specs.Awake.{HasBit, bit_of}
 use Rattle.ug_propagate.specs.Working.{AreWoken}
 
--- the rows of the first i standings were woken, and each other is as it was
-pub record AreFirstWoken (standings : List Standing) (i : ℕ) (old new : List ℕ) : Type 0 where
+-- the rows of the first i of these were woken, and each other is as it was
+pub record AreFirstWoken (rows : List ℕ) (i : ℕ) (old new : List ℕ) : Type 0 where
   pub width : length new ≡ length old
   pub asleep : (r : ℕ) → bit_of new r ≡ 0 → bit_of old r ≡ 0
-  pub others : (r k : ℕ) → bit_of new r ≡ 0 → k < i → (standing_at standings k).row ≢ r
+  pub others : (r k : ℕ) → bit_of new r ≡ 0 → k < i → listed_at rows k ≢ r
 
-pub woken_first : (standings : List Standing) (awake : List ℕ) → AreFirstWoken standings 0 awake awake
-woken_first standings awake = record { width = refl; asleep = λ r h. h; others = λ r k h less same. absurd (omega (arith, less)) }
+pub woken_first : (rows : List ℕ) (awake : List ℕ) → AreFirstWoken rows 0 awake awake
+woken_first rows awake = record { width = refl; asleep = λ r h. h; others = λ r k h less same. absurd (omega (arith, less)) }
 
 both_bits : (words : List ℕ) (r : ℕ) → bit_of words r ≡ 0 → bit_of words r ≡ 1 → ⊥
 both_bits words r zero one = let h : 0 ≡ 1 = sym zero ∙ one in omega (arith, h)
@@ -25,24 +24,24 @@ asleep_before row r mid new h zero = elim (cases_eq r row) [
   | inr other ↦ sym (h.others r other) ∙ zero
 ]
 
-pub woken_more : (standings : List Standing) (i : ℕ) (old mid new : List ℕ) → length new ≡ length mid
-    → HasBit (standing_at standings i).row 1 mid new → AreFirstWoken standings i old mid → AreFirstWoken standings (i + 1) old new
-woken_more standings i old mid new width bit h =
-    let row : ℕ = (standing_at standings i).row in
+pub woken_more : (rows : List ℕ) (i : ℕ) (old mid new : List ℕ) → length new ≡ length mid
+    → HasBit (listed_at rows i) 1 mid new → AreFirstWoken rows i old mid → AreFirstWoken rows (i + 1) old new
+woken_more rows i old mid new width bit h =
+    let row : ℕ = listed_at rows i in
     record {
       width = width ∙ h.width;
       asleep = λ r zero. h.asleep r (asleep_before row r mid new bit zero);
       others = λ r k zero less same. elim (cases_eq k i) [
         | inl e ↦
-            let here : row ≡ r = ap (λ (n : ℕ). (standing_at standings n).row) (sym e) ∙ same in
+            let here : row ≡ r = ap (λ (n : ℕ). listed_at rows n) (sym e) ∙ same in
             both_bits new r zero (ap (λ (n : ℕ). bit_of new n) (sym here) ∙ bit.here)
         | inr other ↦ h.others r k (asleep_before row r mid new bit zero) (omega (arith, less, other)) same
       ];
     }
 
-pub woken_all : (standings : List Standing) (i : ℕ) (old new : List ℕ) → length standings ≤ i
-    → AreFirstWoken standings i old new → AreWoken standings old new
-woken_all standings i old new all h = record {
+pub woken_all : (rows : List ℕ) (i : ℕ) (old new : List ℕ) → length rows ≤ i
+    → AreFirstWoken rows i old new → AreWoken rows old new
+woken_all rows i old new all h = record {
   width = h.width;
   asleep = h.asleep;
   others = λ r k zero less. h.others r k zero (omega (arith, less, all));

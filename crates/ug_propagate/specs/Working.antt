@@ -2,15 +2,18 @@
 -- and what was changed.
 use Rattle.std.specs.Prelude.{◌≡◌, ◌≢◌, ℕ, ℤ, pos, ◌+◌, ◌-◌, ◌-ℤ◌, ◌≤ℤ◌, ◌*◌, ◌^◌, ◌<◌, ◌≤◌, ◌⊎◌}
 use Rattle.std.specs.Prelude.{List, [], ◌∷◌, ◌++◌, length, replicate, take, drop, All}
-use Rattle.std.specs.Prelude.{slice_index_or, slice_set, nat_lt, if◌then◌else◌, Option, Some, None}
+use Rattle.std.specs.Prelude.{Bool, true, slice_index_or, slice_set, nat_lt, if◌then◌else◌, Option, Some, None}
 use Rattle.std.specs.Option.{option_map}
 use Rattle.ug_rows.specs.declared.area.Interval.{Interval}
 use Rattle.ug_rows.specs.declared.row.Term.{Term}
 use Rattle.ug_rows.specs.Boxes.{interval_at}
 use Rattle.ug_rows.specs.Rows.{term_at}
-use Rattle.ug_problem.specs.declared.standings.Standing.{Standing}
+use Rattle.ug_problem.specs.declared.losing.Inward.{Inward}
+use Rattle.ug_problem.specs.declared.losing.Inward.TheVariants.{Up, Down}
+use Rattle.ug_problem.specs.Limits.{IsProblem}
+use Rattle.ug_problem.specs.Losing.{IsLosing, listed_at}
 use Rattle.ug_problem.specs.Instances.{Instance, row_at}
-use Rattle.ug_problem.specs.Standings.{AreStandings, standing_at, terms_of}
+use Rattle.ug_problem.specs.Standings.{terms_of}
 use Rattle.ug_propagate.specs.declared.look.Look.{Look}
 use Rattle.ug_propagate.specs.declared.look.Looked.{Looked}
 use Rattle.ug_propagate.specs.declared.look.Looked.TheVariants.{Same, Changed, Emptied}
@@ -104,18 +107,34 @@ pub record IsWorking (p : Instance) (cutoff : Option ℤ) (work : WorkState) : T
   pub box : IsBox p work
   pub resting : AreResting p cutoff work.sums.area work.awake
 
--- the rows of these standings were woken, and each other is as it was
-pub record AreWoken (standings : List Standing) (old new : List ℕ) : Type 0 where
+-- these rows were woken, and each other is as it was
+pub record AreWoken (rows : List ℕ) (old new : List ℕ) : Type 0 where
   pub width : length new ≡ length old
   pub asleep : (r : ℕ) → bit_of new r ≡ 0 → bit_of old r ≡ 0
-  pub others : (r k : ℕ) → bit_of new r ≡ 0 → k < length standings
-      → (standing_at standings k).row ≢ r
+  pub others : (r k : ℕ) → bit_of new r ≡ 0 → k < length rows → listed_at rows k ≢ r
 
--- the rows in which column j stands were woken
-pub record WokeColumn (p : Instance) (j : ℕ) (old new : List ℕ) : Type 0 where
-  pub standings : List Standing
-  pub are : AreStandings p j standings
-  pub woken : AreWoken standings old new
+-- the rows that lose room where this end of column j goes inwards are awake
+pub record AreUp (p : Instance) (j : ℕ) (inward : Inward) (awake : List ℕ) : Type 0 where
+  pub list : List ℕ
+  pub is : IsLosing p j inward list
+  pub up : (r k : ℕ) → bit_of awake r ≡ 0 → k < length list → listed_at list k ≢ r
+
+-- where this end of column j moved, the rows that lose room by it were woken
+pub record WokeEnd (moved : Bool) (p : Instance) (j : ℕ) (inward : Inward) (old new : List ℕ) :
+    Type 0 where
+  pub width : length new ≡ length old
+  pub asleep : (r : ℕ) → bit_of new r ≡ 0 → bit_of old r ≡ 0
+  pub up : moved ≡ true → AreUp p j inward new
+  pub problem : IsProblem p
+
+-- the rows that lose room where column j goes from one interval to another were woken
+pub record WokeColumn (p : Instance) (j : ℕ) (before after : Interval) (old new : List ℕ) :
+    Type 0 where
+  pub width : length new ≡ length old
+  pub asleep : (r : ℕ) → bit_of new r ≡ 0 → bit_of old r ≡ 0
+  pub up : before.low ≢ after.low → AreUp p j Up new
+  pub down : before.high ≢ after.high → AreUp p j Down new
+  pub problem : IsProblem p
 
 -- a column was given another interval, which is on the trail, and its rows are awake
 pub record HasChanged (p : Instance) (j : ℕ) (side : Interval) (old new : WorkState) : Type 0 where
@@ -124,7 +143,7 @@ pub record HasChanged (p : Instance) (j : ℕ) (side : Interval) (old new : Work
   pub reach : new.reach ≡ old.reach
   pub trail : new.trail ≡ old.trail ++ record { column = j; before = interval_at old.sums.area j }
       ∷ []
-  pub woke : WokeColumn p j old.awake new.awake
+  pub woke : WokeColumn p j (interval_at old.sums.area j) side old.awake new.awake
 
 -- the changes are of columns that are there
 abbrev pub AreTrailed : ℕ → List Trailed → Type 0

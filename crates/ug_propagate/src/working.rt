@@ -1,14 +1,14 @@
 //! A working box.
 
 ghost use Rattle.std.specs.Prelude.{◌≡◌, ℕ, [], ◌∷◌, ◌++◌, ◌+◌, ◌*◌, ◌^◌, ◌<◌, ◌≤◌, length, slice_set, OnOk, OnErr, IfOk};
-ghost use Rattle.ug_problem.specs.Standings.{AreStandings, standing_at};
+ghost use Rattle.ug_problem.specs.Losing.{listed_at};
 ghost use Rattle.ug_rows.specs.Boxes.{IsClosedWithin, interval_at};
 ghost use Rattle.ug_rows.specs.Sums.{box_floor};
 ghost use Rattle.ug_propagate.specs.Awake.{HasBit, IsFound};
 ghost use Rattle.ug_propagate.specs.Cuts.{IsInnerCut, cut_of};
 ghost use Rattle.ug_propagate.specs.Steps.{outcome_of};
 ghost use Rattle.ug_propagate.specs.Running.{IsRunning, extremes_at};
-ghost use Rattle.ug_propagate.specs.Working.{AllRest, AreAwake, AreResting, WakesOthers, AreTrailed, AreFirstReached, AreOnes, AreReached, AreWoken, HasBits, HasChanged, HasUndone, WentBack, IsBox, IsOver, IsStep, WokeColumn, reach_at};
+ghost use Rattle.ug_propagate.specs.Working.{AllRest, AreAwake, AreResting, WakesOthers, AreTrailed, AreFirstReached, AreOnes, AreReached, AreWoken, HasBits, HasChanged, HasUndone, WentBack, IsBox, IsOver, IsStep, WokeColumn, WokeEnd, reach_at};
 
 use crate::awake::{fill, next, rest, wake};
 use crate::cut::Cut;
@@ -18,7 +18,7 @@ use crate::sums::{Extremes, Sums, measured};
 use crate::tight::Reason;
 use std::alloc::{AllocError, Global};
 use std::marker::Model;
-use ug_problem::{Problem, Standing};
+use ug_problem::{Inward, Problem};
 use ug_rows::{IntBox, Interval};
 
 /// A column that was changed, and what its interval was before.
@@ -51,14 +51,13 @@ impl Model for Working {
     } };
 }
 
-// Wakes the rows of these standings.
-fn wake_rows(standings: &[Standing], awake: &mut [u64])
-    requires { (k : ℕ) → k < length standings.now
-        → (standing_at standings.now k).row < 64 * length awake.old }
-    ensures { AreWoken standings.now awake.old awake.new }
+// Wakes these rows.
+fn wake_rows(rows: &[u32], awake: &mut [u64])
+    requires { (k : ℕ) → k < length rows.now → listed_at rows.now k < 64 * length awake.old }
+    ensures { AreWoken rows.now awake.old awake.new }
 {
-    for standing in standings {
-        wake(awake, standing.row as usize);
+    for row in rows {
+        wake(awake, *row as usize);
     }
 }
 
@@ -72,13 +71,38 @@ fn note(trail: &mut Vec<Trailed>, column: u32, before: Interval) -> Result<(), A
     Ok(())
 }
 
-// Wakes the rows of a column.
-fn wake_column(problem: &Problem, column: usize, awake: &mut Vec<u64>)
+// Wakes the rows that lose room where this end of a column goes inwards, if it moved.
+fn wake_end(problem: &Problem, column: usize, inward: Inward, moved: bool, awake: &mut Vec<u64>)
     requires there { column < length problem.now.columns }
     requires bits { HasBits problem.now awake.old.items }
-    ensures { WokeColumn problem.now column awake.old.items awake.new.items }
+    ensures { WokeEnd moved problem.now column inward awake.old.items awake.new.items }
 {
-    wake_rows(problem.standings(column), awake.as_mut_slice());
+    let rows = problem.losing(inward, column);
+    if moved {
+        wake_rows(rows, awake.as_mut_slice());
+    }
+}
+
+// Wakes the rows that lose room where a column goes from one interval to another.
+fn wake_column(
+    problem: &Problem,
+    column: usize,
+    before: Interval,
+    after: Interval,
+    awake: &mut Vec<u64>,
+)
+    requires there { column < length problem.now.columns }
+    requires bits { HasBits problem.now awake.old.items }
+    ensures { WokeColumn problem.now column before after awake.old.items awake.new.items }
+{
+    wake_end(problem, column, Inward::Up, before.low != after.low, awake);
+    wake_end(
+        problem,
+        column,
+        Inward::Down,
+        before.high != after.high,
+        awake,
+    );
 }
 
 // So many words in which each bit is 1.
@@ -286,14 +310,15 @@ impl Working {
         ensures err { OnErr result (self.new ≡ self.old) }
     {
         let at = column as usize;
-        note(&mut self.trail, column, self.sums.side(at))?;
+        let before = self.sums.side(at);
+        note(&mut self.trail, column, before)?;
         self.sums.put(problem, at, side);
-        wake_column(problem, at, &mut self.awake);
+        wake_column(problem, at, before, side, &mut self.awake);
         Ok(())
     }
 
     /// The box with this left of a column.
-    #[tactic(auto, using(crate::proofs::Stepping::step_same, crate::proofs::Stepping::step_change))]
+    #[tactic(auto, using(crate::proofs::Stepping::step_same, crate::proofs::Changing::step_change))]
     pub fn take(
         &mut self,
         problem: &Problem,
@@ -362,7 +387,7 @@ impl Working {
     }
 
     /// Narrows a column, and wakes its rows. After an error nothing was changed.
-    #[tactic(auto, using(crate::proofs::Stepping::step_change, crate::proofs::Stepping::step_same))]
+    #[tactic(auto, using(crate::proofs::Changing::step_change, crate::proofs::Stepping::step_same))]
     pub fn cut(&mut self, problem: &Problem, column: u32, side: Interval) -> Result<(), AllocError>
         requires there { column < length problem.now.columns }
         requires work { IsBox problem.now self.old }

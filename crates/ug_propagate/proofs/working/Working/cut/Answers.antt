@@ -1,4 +1,4 @@
-use Rattle.ug_propagate.proofs.Stepping.{step_change}
+use Rattle.ug_propagate.proofs.Changing.{step_change}
 use Rattle.ug_propagate.proofs.working.Working.cut.Goals as goal
 
 pub returns-clause-step : goal.returns-clause-step

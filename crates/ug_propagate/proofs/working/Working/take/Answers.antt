@@ -1,7 +1,7 @@
 use Rattle.std.proofs.Common.{subst}
 use Rattle.ug_rows.specs.Boxes.{interval_at}
 use Rattle.ug_propagate.specs.Cuts.{IsInnerCut}
-use Rattle.ug_propagate.proofs.Stepping.{step_change}
+use Rattle.ug_propagate.proofs.Changing.{step_change}
 use Rattle.ug_propagate.proofs.working.Working.take.Goals as goal
 
 pub returns-in_ok-change-in-To-clause-step : goal.returns-in_ok-change-in-To-clause-step
