@@ -1,5 +1,5 @@
 -- What a change of a column keeps of the rows that rest: those that lose room by it are awake.
-use Rattle.std.proofs.Common.{◌≡◌, ◌≢◌, refl, sym, subst, ◌∙◌, ap, inl, inr, ℕ, zero, suc, ◌+◌, ◌<◌, ◌≤◌, ◌⊎◌, ℤ, pos, negsuc, ◌-ℤ◌, List, [], ◌∷◌, length, set, Option, Some, None, IsSome, true, false, arith}
+use Rattle.std.proofs.Common.{◌≡◌, ◌≢◌, refl, sym, subst, ◌∙◌, ap, inl, inr, ℕ, zero, suc, ◌<◌, ◌⊎◌, ℤ, pos, negsuc, List, [], ◌∷◌, length, set, Option, Some, None, IsSome, true, false, arith}
 use Rattle.std.proofs.lemmas.Int.{ints, by_lt_z}
 use Rattle.std.proofs.lemmas.Bool.{cases_eq, cases_lt}
 use Rattle.ug_rows.specs.declared.area.Interval.{Interval}
@@ -12,7 +12,7 @@ use Rattle.ug_rows.proofs.Replaced.{among_at}
 use Rattle.ug_problem.specs.declared.losing.Inward.{Inward}
 use Rattle.ug_problem.specs.declared.losing.Inward.TheVariants.{Up, Down}
 use Rattle.ug_problem.specs.declared.standings.Standing.{Standing}
-use Rattle.ug_problem.specs.Instances.{Instance, no_row, row_at}
+use Rattle.ug_problem.specs.Instances.{Instance}
 use Rattle.ug_problem.specs.Losing.{HasHighSide, HasLowSide, IsLosing, Loses, listed_at}
 use Rattle.ug_problem.specs.Standings.{standing_at, term_of, terms_of}
 use Rattle.ug_propagate.specs.declared.look.Look.{Look}

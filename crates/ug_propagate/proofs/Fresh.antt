@@ -5,16 +5,23 @@ use Rattle.std.proofs.lemmas.List.{get_or_append_left, get_or_push, get_or-repli
 use Rattle.std.proofs.lemmas.Nat.Bits.{bit_at_ones}
 use Rattle.std.specs.Int.{bit_at}
 use Rattle.ug_rows.specs.declared.area.Interval.{Interval}
+use Rattle.ug_rows.specs.declared.row.Term.{Term}
 use Rattle.ug_rows.specs.Rows.{term_at}
 use Rattle.ug_problem.specs.Instances.{Instance}
 use Rattle.ug_problem.specs.Limits.{IsProblem}
 use Rattle.ug_problem.specs.Standings.{terms_of}
 use Rattle.ug_propagate.specs.declared.measure.Ends.{Ends}
+use Rattle.ug_propagate.specs.declared.rows.ShortExtremes.{ShortExtremes}
+use Rattle.ug_propagate.specs.declared.short_measure.ShortEnds.{ShortEnds}
+use Rattle.ug_propagate.specs.declared.sums.Extremes.{Extremes}
+use Rattle.ug_propagate.specs.Running.{IsSummed}
+use Rattle.ug_propagate.specs.Shorts.{AreShort, IsShortMeasured, IsShortRow, ends_of}
 use Rattle.ug_propagate.specs.Steps.{IsMeasured, span_of}
-use Rattle.ug_propagate.specs.Working.{AllRest, AreResting, IsAtRest, look_for, AreAwake, AreFirstReached, AreOnes, AreReached, HasBits, reach_at}
+use Rattle.ug_propagate.specs.Working.{AllRest, AreFirstShort, AreFirstWide, AreResting, IsAtRest, look_for, AreAwake, AreFirstReached, AreOnes, AreReached, HasBits, reach_at}
 use Rattle.ug_propagate.specs.Awake.{HasBit, bit_of}
 use Rattle.ug_propagate.specs.declared.resting.Rest.TheVariants.{Under}
 use Rattle.ug_propagate.specs.declared.look.Look.{Look}
+use Rattle.ug_propagate.proofs.Running.{short_sums_push, sums_push, sums_whole}
 use Rattle.ug_propagate.proofs.Waiting.{look_inner}
 
 pub all_ones : (n : ℕ) (awake : List ℕ) → AreOnes n awake → AreOnes (n + 1) (awake ++ (2 ^ 64 - 1) ∷ [])
@@ -47,6 +54,41 @@ reached_whole p area n reach all h = record {
   count = h.count ∙ all;
   each = λ r k there within. h.each r k (omega arith) within;
 }
+
+-- what is measured are the sums
+pub summed_of : (ts : List Term) (area : List Interval) (ends : Ends) → IsMeasured ts area ends
+    → IsSummed ts area (record { least = ends.least; greatest = ends.greatest })
+summed_of ts area ends h = record { small = h.small; least = h.least; greatest = h.greatest }
+
+-- one row more, and all rows
+pub wide_push : (p : Instance) (area : List Interval) (r : ℕ) (sums : List Extremes) (reach : List ℤ) (ends : Ends)
+    → AreFirstWide p area r sums reach → IsMeasured (terms_of p r) area ends
+    → AreFirstWide p area (r + 1) (sums ++ record { least = ends.least; greatest = ends.greatest } ∷ []) (reach ++ ends.widest ∷ [])
+wide_push p area r sums reach ends h here = record {
+  sums = sums_push p area r sums _ h.sums (summed_of (terms_of p r) area ends here);
+  reach = reached_push p area r reach ends h.reach here;
+}
+
+-- one short row more, and all rows where each is short
+pub short_push : (p : Instance) (area : List Interval) (r : ℕ) (sums : List ShortExtremes) (reach : List ℤ) (ends : ShortEnds)
+    → AreFirstShort p area r sums reach → IsShortMeasured (terms_of p r) area ends
+    → AreFirstShort p area (r + 1) (sums ++ record { least = ends.least; greatest = ends.greatest } ∷ []) (reach ++ ends.widest ∷ [])
+short_push p area r sums reach ends h here = record {
+  short = λ k less. elim (cases_eq k r) [
+    | inl same ↦ subst (λ (n : ℕ). IsShortRow (terms_of p n)) (sym same) here.short
+    | inr other ↦ h.short k (omega arith)
+  ];
+  sums = short_sums_push p area r sums _ h.sums (summed_of (terms_of p r) area (ends_of ends) here.measured);
+  reach = reached_push p area r reach (ends_of ends) h.reach here.measured;
+}
+
+-- each row is short where all were found to be
+pub short_whole : (p : Instance) (area : List Interval) (n : ℕ) (sums : List ShortExtremes) (reach : List ℤ)
+    → n ≡ length p.rows + 1 → AreFirstShort p area n sums reach → AreShort p
+short_whole p area n sums reach all h r there = h.short r (omega arith)
+
+-- the measures of all rows are those of the first, once these are all
+pub ruleset all_measured = (sums_whole, reached_whole, short_whole)
 
 -- words enough for all rows, in which each bit is 1
 pub ones_bits : (p : Instance) (words : ℕ) (awake : List ℕ) → IsProblem p → words ≡ length p.rows / 64 + 1

@@ -1,16 +1,14 @@
 -- A row at rest stays at rest where a column is cut, if no end moves that takes room from a side which is there.
-use Rattle.std.proofs.Common.{◌≡◌, refl, sym, subst, ◌∙◌, ap, inl, inr, ℕ, ◌*◌, ◌^◌, ◌<◌, ◌≤◌, ◌⊎◌, ℤ, pos, ◌-ℤ◌, ◌≤ℤ◌, unsigned_abs, List, length, set, Option, None, IfSome, arith}
+use Rattle.std.proofs.Common.{◌≡◌, refl, sym, subst, ◌∙◌, ap, inl, inr, ℕ, ◌*◌, ◌^◌, ◌<◌, ◌≤◌, ◌⊎◌, ℤ, pos, ◌-ℤ◌, ◌≤ℤ◌, unsigned_abs, List, length, set, Option, None, arith}
 use Rattle.std.proofs.lemmas.Int.{ints, by_lt_z}
 use Rattle.ug_rows.specs.declared.area.Interval.{Interval}
 use Rattle.ug_rows.specs.declared.row.Term.{Term}
-use Rattle.ug_rows.specs.declared.sums.Extreme.{Extreme}
 use Rattle.ug_rows.specs.declared.sums.Extreme.TheVariants.{Least, Greatest}
 use Rattle.ug_rows.specs.Boxes.{HasSmallEnds, IsClosedWithin, interval_at}
 use Rattle.ug_rows.specs.Rows.{IsAmong, IsLinear, term_at}
 use Rattle.ug_rows.specs.Sums.{end_of, greatest_sum, least_sum}
 use Rattle.ug_rows.proofs.Replaced.{sum_small}
 use Rattle.ug_propagate.specs.declared.look.Look.{Look}
-use Rattle.ug_propagate.specs.declared.measure.Room.{Room}
 use Rattle.ug_propagate.specs.Steps.{HaveSmallColumns, high_of, low_of, room_over, span_of}
 use Rattle.ug_propagate.specs.Working.{IsAtRest}
 use Rattle.ug_propagate.proofs.Rooms.{high_room_size, low_room_size, never_high, never_low, small_put, sum_stays}

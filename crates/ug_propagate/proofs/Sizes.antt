@@ -36,6 +36,13 @@ end_within Least (negsuc n) side h = h.high
 end_within Greatest (pos n) side h = h.high
 end_within Greatest (negsuc n) side h = h.low
 
+-- a product with an end is at most the factor times 2^31
+pub product_sized : (e : Extreme) (f : ℤ) (side : Interval) → HasSmallEnds side
+    → unsigned_abs (f *ℤ end_of e f side) ≤ unsigned_abs f * 2 ^ 31
+product_sized e f side small =
+    let most : unsigned_abs f * unsigned_abs (end_of e f side) ≤ unsigned_abs f * 2 ^ 31 = mul-le-mul (omega arith) (end_within e f side small) in
+    omega (arith, most, unsigned_abs-mul f (end_of e f side))
+
 -- a sum is at most the size times 2^31
 sum_sized : (e : Extreme) (ts : List Term) (area : List Interval) → HaveSmallColumns ts area
     → unsigned_abs (end_sum e ts area) ≤ size_of ts * 2 ^ 31

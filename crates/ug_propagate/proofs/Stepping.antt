@@ -1,5 +1,5 @@
 -- What a change of one column keeps of a working box.
-use Rattle.std.proofs.Common.{◌≡◌, ◌≢◌, refl, sym, subst, ◌∙◌, ap, inl, inr, ℕ, ◌+◌, ◌<◌, ◌≤◌, ℤ, pos, negsuc, ◌-ℤ◌, ◌*ℤ◌, ◌≤ℤ◌, List, [], ◌∷◌, ◌++◌, length, take, drop, set, Option, append_assoc, arith}
+use Rattle.std.proofs.Common.{◌≡◌, ◌≢◌, refl, sym, subst, ◌∙◌, ap, inl, inr, ℕ, ◌+◌, ◌<◌, ◌≤◌, ℤ, pos, negsuc, ◌-ℤ◌, ◌*ℤ◌, ◌≤ℤ◌, List, [], ◌∷◌, ◌++◌, length, take, drop, set, append_assoc, arith}
 use Rattle.std.proofs.lemmas.Int.{ints}
 use Rattle.std.proofs.lemmas.Bool.{cases_eq}
 use Rattle.std.proofs.lemmas.List.{append-nil, drop_all, drop-append-le, get_or-set_other, get_or-set_same, length-set, length_push, set-get_or, set-set, take_all, take-append-le}
@@ -11,7 +11,7 @@ use Rattle.ug_rows.specs.Boxes.{HasSmallEnds, IsBelow, IsClosedWithin, interval_
 use Rattle.ug_rows.specs.Rows.{term_at}
 use Rattle.ug_rows.specs.Sums.{end_of}
 use Rattle.ug_rows.proofs.EndBounds.{mul_neg, mul_pos}
-use Rattle.ug_rows.proofs.Replaced.{among_at, sum_without}
+use Rattle.ug_rows.proofs.Replaced.{sum_without}
 use Rattle.ug_rows.proofs.Orders.{at_most_trans}
 use Rattle.ug_problem.specs.Instances.{Instance}
 use Rattle.ug_problem.specs.Limits.{IsProblem}
@@ -25,7 +25,7 @@ use Rattle.ug_propagate.specs.declared.tight.Tight.TheVariants.{Kept}
 use Rattle.ug_propagate.specs.Rounds.{row_step}
 use Rattle.ug_propagate.proofs.Still.{row_within, terms_still}
 use Rattle.ug_propagate.specs.Steps.{IsLookable, IsRoomOf, IsTermOf, high_of, low_of, row_of, span_of}
-use Rattle.ug_propagate.specs.Working.{AreTrailed, AreReached, AreResting, FitsWhereSame, HasBits, HasChanged, HasUndone, WentBack, IsAtRest, IsBox, IsLater, IsStep, WorkState, look_for, reach_at, undone}
+use Rattle.ug_propagate.specs.Working.{AreTrailed, AreReached, FitsWhereSame, HasBits, HasChanged, HasUndone, WentBack, IsAtRest, IsBox, IsLater, IsStep, WorkState, reach_at, undone}
 
 pub undone_append : (area : List Interval) (xs ys : List Trailed) → undone area (xs ++ ys) ≡ undone (undone area ys) xs
 undone_append area [] ys = refl

@@ -1,15 +1,17 @@
 -- Numbers of 64 bits in the place of longer ones: a span of 64 bits is within a room where it is
 -- within the short room.
-use Rattle.std.specs.Prelude.{◌≡◌, ℕ, ℤ, pos, neg_ℤ, ◌+◌, ◌-ℤ◌, ◌<◌, ◌≤◌, ◌^◌, ◌≤ℤ◌, ◌<ℤ◌, List}
+use Rattle.std.specs.Prelude.{◌≡◌, ℕ, ℤ, pos, neg_ℤ, ◌+◌, ◌<◌, ◌≤◌, ◌^◌, ◌≤ℤ◌, ◌<ℤ◌, List}
 use Rattle.std.specs.Prelude.{[], ◌∷◌, length, unsigned_abs, Option, Some, None}
 use Rattle.ug_rows.specs.declared.area.Interval.{Interval}
 use Rattle.ug_rows.specs.declared.row.Term.{Term}
 use Rattle.ug_problem.specs.Instances.{Instance}
 use Rattle.ug_problem.specs.Standings.{terms_of}
+use Rattle.ug_propagate.specs.declared.measure.Ends.{Ends}
 use Rattle.ug_propagate.specs.declared.measure.Room.{Room}
 use Rattle.ug_propagate.specs.declared.short_look.ShortLook.{ShortLook}
 use Rattle.ug_propagate.specs.declared.short_look.ShortRoom.{ShortRoom}
-use Rattle.ug_propagate.specs.Steps.{HaveSmallColumns, IsLookable, IsTermOf, room_over, span_of}
+use Rattle.ug_propagate.specs.declared.short_measure.ShortEnds.{ShortEnds}
+use Rattle.ug_propagate.specs.Steps.{HaveSmallColumns, IsLookable, IsMeasured, IsTermOf, room_over, span_of}
 
 -- the span of the term, of 64 bits
 pub record IsShortSpan (t : Term) (area : List Interval) (span : ℤ) : Type 0 where
@@ -33,6 +35,15 @@ size_of (t ∷ ts) = unsigned_abs t.factor + size_of ts
 -- sums of these terms over numbers of 32 bits are at most 2^60
 abbrev pub IsShortRow : List Term → Type 0
 IsShortRow ts = size_of ts ≤ 2 ^ 29
+
+-- ends of 64 bits as longer ones
+abbrev pub ends_of : ShortEnds → Ends
+ends_of ends = record { least = ends.least; greatest = ends.greatest; widest = ends.widest }
+
+-- a short row, its sums over the box in 64 bits, and a number that no span of a term is above
+pub record IsShortMeasured (ts : List Term) (area : List Interval) (ends : ShortEnds) : Type 0 where
+  pub short : IsShortRow ts
+  pub measured : IsMeasured ts area (ends_of ends)
 
 -- so are those of each row and of the objective
 abbrev pub AreShort : Instance → Type 0

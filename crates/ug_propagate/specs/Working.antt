@@ -1,7 +1,7 @@
 -- A working box: a box that is tightened in place, with its running sums, the rows that are awake,
 -- and what was changed.
 use Rattle.std.specs.Prelude.{◌≡◌, ◌≢◌, ℕ, ℤ, pos, ◌+◌, ◌-◌, ◌-ℤ◌, ◌≤ℤ◌, ◌*◌, ◌^◌, ◌<◌, ◌≤◌, ◌⊎◌}
-use Rattle.std.specs.Prelude.{List, [], ◌∷◌, ◌++◌, length, replicate, take, drop, All}
+use Rattle.std.specs.Prelude.{List, [], ◌∷◌, ◌++◌, length, map, replicate, take, drop, All}
 use Rattle.std.specs.Prelude.{Bool, true, slice_index_or, slice_set, nat_lt, if◌then◌else◌, Option, Some, None}
 use Rattle.std.specs.Option.{option_map}
 use Rattle.ug_rows.specs.declared.area.Interval.{Interval}
@@ -20,9 +20,14 @@ use Rattle.ug_propagate.specs.declared.look.Looked.TheVariants.{Same, Changed, E
 use Rattle.ug_propagate.specs.declared.measure.Room.{Room}
 use Rattle.ug_propagate.specs.declared.resting.Rest.{Rest}
 use Rattle.ug_propagate.specs.declared.resting.Rest.TheVariants.{Unknown, Under}
+use Rattle.ug_propagate.specs.declared.rows.MeasuredRows.{MeasuredRows}
+use Rattle.ug_propagate.specs.declared.rows.ShortExtremes.{ShortExtremes}
+use Rattle.ug_propagate.specs.declared.sums.Extremes.{Extremes}
 use Rattle.ug_propagate.specs.declared.working.Trailed.{Trailed}
 use Rattle.ug_propagate.specs.Awake.{bit_of}
-use Rattle.ug_propagate.specs.Running.{IsRunning, SumsState}
+use Rattle.ug_propagate.specs.Running.{AreFirstSums, AreSums, IsRunning, SumsState}
+use Rattle.ug_propagate.specs.Running.{are_in_64_bits, sums_in, widened}
+use Rattle.ug_propagate.specs.Shorts.{AreShort, IsShortRow}
 use Rattle.ug_propagate.specs.Steps.{IsRoomOf, span_of}
 
 -- the running sums over the box, a number for each row that no span of its terms is above, the rows
@@ -76,6 +81,25 @@ pub record AreFirstReached (p : Instance) (area : List Interval) (n : ℕ) (reac
   pub count : length reach ≡ n
   pub each : (r k : ℕ) → r < n → k < length (terms_of p r)
       → span_of (term_at (terms_of p r) k) area ≤ℤ reach_at reach r
+
+-- the sums of the first n rows and how far they reach
+pub record AreFirstWide (p : Instance) (area : List Interval) (n : ℕ) (ends : List Extremes)
+    (widest : List ℤ) : Type 0 where
+  pub sums : AreFirstSums p area n ends
+  pub reach : AreFirstReached p area n widest
+
+-- the same in 64 bits, of rows that are short
+pub record AreFirstShort (p : Instance) (area : List Interval) (n : ℕ) (ends : List ShortExtremes)
+    (widest : List ℤ) : Type 0 where
+  pub short : (r : ℕ) → r < n → IsShortRow (terms_of p r)
+  pub sums : AreFirstSums p area n (map widened ends)
+  pub reach : AreFirstReached p area n widest
+
+-- the sums of all rows and how far each reaches, in 64 bits only where these fit whatever the box
+pub record AreMeasured (p : Instance) (area : List Interval) (rows : MeasuredRows) : Type 0 where
+  pub sums : AreSums p area (sums_in rows.sums)
+  pub short : are_in_64_bits rows.sums ≡ true → AreShort p
+  pub reach : AreReached p area rows.reach.items
 
 -- so many words in which each bit is 1
 abbrev pub AreOnes : ℕ → List ℕ → Type 0

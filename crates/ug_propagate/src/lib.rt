@@ -21,6 +21,7 @@ mod settle;
 mod short;
 mod short_look;
 mod short_looking;
+mod short_measure;
 mod steps;
 mod sums;
 mod tight;

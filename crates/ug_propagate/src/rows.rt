@@ -1,13 +1,11 @@
-//! The sums of all rows of a problem over a box.
+//! The sums of all rows of a problem over a box, and how far their terms reach.
 
-ghost use Rattle.std.specs.Prelude.{◌≡◌, true, ◌+◌, ◌<◌, ◌≤◌, ◌^◌, length, map, unsigned_abs, IfOk, OnOk};
-ghost use Rattle.ug_problem.specs.Standings.{terms_of};
-ghost use Rattle.ug_propagate.specs.Shorts.{AreShort};
-ghost use Rattle.ug_propagate.specs.Steps.{IsMeasured};
-ghost use Rattle.ug_propagate.specs.Running.{AreFirstSums, AreSums, IsSummed, are_in_64_bits, extremes_at, sums_in, widened};
+ghost use Rattle.std.specs.Prelude.{◌≡◌, true, ◌+◌, ◌<◌, ◌≤◌, ◌^◌, length, unsigned_abs, IfOk, IfSome, OnOk};
+ghost use Rattle.ug_propagate.specs.Running.{are_in_64_bits, extremes_at, sums_in, widened};
+ghost use Rattle.ug_propagate.specs.Working.{AreFirstShort, AreFirstWide, AreMeasured};
 
-use crate::short::are_short;
-use crate::sums::{Extremes, measured};
+use crate::short_measure::measure_short;
+use crate::sums::{Extremes, measured, terms_at};
 use std::alloc::{AllocError, Global};
 use ug_problem::Problem;
 use ug_rows::Interval;
@@ -26,51 +24,12 @@ pub enum RowSums {
     Wide(Vec<Extremes>),
 }
 
-// The sums of row r over a box.
-fn sums_of(problem: &Problem, r: usize, area: &[Interval]) -> Extremes
-    requires there { r ≤ length problem.now.rows }
-    requires width { length area.now ≡ length problem.now.columns }
-    ensures { IsSummed (terms_of problem.now r) area.now result }
-{
-    let ends = measured(problem, r, area);
-    Extremes {
-        least: ends.least,
-        greatest: ends.greatest,
-    }
-}
-
-// The sums of the first rows over a box, and those of one row more.
-fn add_sums(
-    problem: &Problem,
-    area: &[Interval],
-    sums: &mut Vec<Extremes>,
-    r: usize,
-) -> Result<(), AllocError>
-    requires there { r ≤ length problem.now.rows }
-    requires width { length area.now ≡ length problem.now.columns }
-    requires so_far { AreFirstSums problem.now area.now r sums.old.items }
-    ensures { OnOk result (AreFirstSums problem.now area.now (r + 1) sums.new.items) }
-{
-    let ends = sums_of(problem, r, area);
-    sums.push(ends)?;
-    Ok(())
-}
-
-// The sums of all rows and of the objective over a box.
-fn all_sums(
-    alloc: Global,
-    problem: &Problem,
-    area: &[Interval],
-) -> Result<Vec<Extremes>, AllocError>
-    requires { length area.now ≡ length problem.now.columns }
-    ensures { IfOk result (λ sums. AreSums problem.now area.now sums.items) }
-{
-    let count = problem.rows().len() + 1;
-    let mut sums = Vec::with_capacity(alloc, count)?;
-    for r in 0..count {
-        add_sums(problem, area, &mut sums, r)?;
-    }
-    Ok(sums)
+/// The sums of each row and of the objective over a box, and for each a number that no span of its
+/// terms is above.
+#[derive(Drop)]
+pub struct MeasuredRows {
+    pub sums: RowSums,
+    pub reach: Vec<i128>,
 }
 
 /// Sums that fit in 64 bits.
@@ -94,65 +53,115 @@ fn wide(ends: ShortExtremes) -> Extremes
     }
 }
 
-// The sums of row r over a box, in 64 bits.
-fn short_sums_of(problem: &Problem, r: usize, area: &[Interval]) -> ShortExtremes
-    requires there { r ≤ length problem.now.rows }
-    requires width { length area.now ≡ length problem.now.columns }
-    requires short { AreShort problem.now }
-    ensures { IsSummed (terms_of problem.now r) area.now (widened result) }
-{
-    shortened(sums_of(problem, r, area))
-}
-
-// The sums of the first rows over a box in 64 bits, and those of one row more.
-fn add_short_sums(
+// The measures of the first rows over a box in 64 bits, and those of one row more. It says whether
+// that row is short: where it is not, nothing is added.
+#[tactic(auto, using(crate::proofs::Fresh::short_push))]
+fn add_short(
     problem: &Problem,
     area: &[Interval],
     sums: &mut Vec<ShortExtremes>,
+    reach: &mut Vec<i128>,
+    r: usize,
+) -> Result<bool, AllocError>
+    requires there { r ≤ length problem.now.rows }
+    requires width { length area.now ≡ length problem.now.columns }
+    requires so_far { AreFirstShort problem.now area.now r sums.old.items reach.old.items }
+    ensures { IfOk result (λ short. short ≡ true
+        → AreFirstShort problem.now area.now (r + 1) sums.new.items reach.new.items) }
+{
+    match measure_short(terms_at(problem, r), area) {
+        None => Ok(false),
+        Some(ends) => {
+            sums.push(ShortExtremes {
+                least: ends.least,
+                greatest: ends.greatest,
+            })?;
+            reach.push(i128::from(ends.widest))?;
+            Ok(true)
+        }
+    }
+}
+
+// One pass over all rows and the objective in 64 bits. There is nothing where one of them is not
+// short.
+#[tactic(auto, using(crate::proofs::Fresh::all_measured))]
+fn all_short(
+    alloc: Global,
+    problem: &Problem,
+    area: &[Interval],
+) -> Result<Option<MeasuredRows>, AllocError>
+    requires { length area.now ≡ length problem.now.columns }
+    ensures { IfOk result (λ found. IfSome found (AreMeasured problem.now area.now)) }
+{
+    let count = problem.rows().len() + 1;
+    let mut sums = Vec::with_capacity(alloc, count)?;
+    let mut reach = Vec::with_capacity(alloc, count)?;
+    for r in 0..count {
+        if !add_short(problem, area, &mut sums, &mut reach, r)? {
+            return Ok(None);
+        }
+    }
+    Ok(Some(MeasuredRows {
+        sums: RowSums::Short(sums),
+        reach,
+    }))
+}
+
+// The measures of the first rows over a box, and those of one row more.
+#[tactic(auto, using(crate::proofs::Fresh::wide_push))]
+fn add_wide(
+    problem: &Problem,
+    area: &[Interval],
+    sums: &mut Vec<Extremes>,
+    reach: &mut Vec<i128>,
     r: usize,
 ) -> Result<(), AllocError>
     requires there { r ≤ length problem.now.rows }
     requires width { length area.now ≡ length problem.now.columns }
-    requires short { AreShort problem.now }
-    requires so_far { AreFirstSums problem.now area.now r (map widened sums.old.items) }
-    ensures { OnOk result
-        (AreFirstSums problem.now area.now (r + 1) (map widened sums.new.items)) }
+    requires so_far { AreFirstWide problem.now area.now r sums.old.items reach.old.items }
+    ensures { OnOk result (AreFirstWide problem.now area.now (r + 1) sums.new.items reach.new.items) }
 {
-    let ends = short_sums_of(problem, r, area);
-    sums.push(ends)?;
+    let ends = measured(problem, r, area);
+    sums.push(Extremes {
+        least: ends.least,
+        greatest: ends.greatest,
+    })?;
+    reach.push(ends.widest)?;
     Ok(())
 }
 
-// The sums of all rows and of the objective over a box, in 64 bits.
-fn all_short_sums(
-    alloc: Global,
-    problem: &Problem,
-    area: &[Interval],
-) -> Result<Vec<ShortExtremes>, AllocError>
-    requires width { length area.now ≡ length problem.now.columns }
-    requires short { AreShort problem.now }
-    ensures { IfOk result (λ sums. AreSums problem.now area.now (map widened sums.items)) }
+// One pass over all rows and the objective.
+#[tactic(auto, using(crate::proofs::Fresh::all_measured))]
+fn all_wide(alloc: Global, problem: &Problem, area: &[Interval]) -> Result<MeasuredRows, AllocError>
+    requires { length area.now ≡ length problem.now.columns }
+    ensures { IfOk result (AreMeasured problem.now area.now) }
 {
     let count = problem.rows().len() + 1;
     let mut sums = Vec::with_capacity(alloc, count)?;
+    let mut reach = Vec::with_capacity(alloc, count)?;
     for r in 0..count {
-        add_short_sums(problem, area, &mut sums, r)?;
+        add_wide(problem, area, &mut sums, &mut reach, r)?;
     }
-    Ok(sums)
+    Ok(MeasuredRows {
+        sums: RowSums::Wide(sums),
+        reach,
+    })
 }
 
-/// The sums of all rows and of the objective over a box.
-pub fn all_rows(alloc: Global, problem: &Problem, area: &[Interval]) -> Result<RowSums, AllocError>
+/// The sums of all rows and of the objective over a box and how far each reaches, by one pass over
+/// the terms where they are kept in 64 bits.
+pub fn all_rows(
+    alloc: Global,
+    problem: &Problem,
+    area: &[Interval],
+) -> Result<MeasuredRows, AllocError>
     requires { length area.now ≡ length problem.now.columns }
-    ensures sums { IfOk result (λ rows. AreSums problem.now area.now (sums_in rows)) }
-    ensures short { IfOk result (λ rows. are_in_64_bits rows ≡ true → AreShort problem.now) }
+    ensures { IfOk result (AreMeasured problem.now area.now) }
 {
-    if are_short(problem) {
-        let sums = all_short_sums(alloc, problem, area)?;
-        return Ok(RowSums::Short(sums));
+    match all_short(alloc, problem, area)? {
+        Some(rows) => Ok(rows),
+        None => all_wide(alloc, problem, area),
     }
-    let sums = all_sums(alloc, problem, area)?;
-    Ok(RowSums::Wide(sums))
 }
 
 /// Whether they are kept in 64 bits.

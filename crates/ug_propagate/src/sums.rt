@@ -7,7 +7,7 @@ ghost use Rattle.ug_problem.specs.Instances.{no_row};
 ghost use Rattle.ug_problem.specs.Limits.{IsProblem};
 ghost use Rattle.ug_problem.specs.Standings.{AreStandings, terms_of};
 ghost use Rattle.ug_propagate.specs.Steps.{IsMeasured};
-ghost use Rattle.ug_propagate.specs.Running.{AreFirstSums, AreSums, HasMoved, IsLastOf, IsObjectiveStanding, IsNamedRow, IsRunning, IsSummed, extremes_at, move_of, terms_named};
+ghost use Rattle.ug_propagate.specs.Running.{HasMoved, IsLastOf, IsObjectiveStanding, IsNamedRow, IsRunning, IsSummed, are_in_64_bits, extremes_at, move_of, sums_in, terms_named};
 
 use crate::measure::{Ends, measure, moves_between};
 use crate::moving::{move_sums, shift};
@@ -15,7 +15,7 @@ use crate::rows::{RowSums, all_rows, ends_in, is_short_in};
 use std::alloc::{AllocError, Global};
 use std::marker::Model;
 use ug_problem::{NamedRow, Problem, Standing};
-use ug_rows::{IntBox, Interval, Term};
+use ug_rows::{Interval, Term};
 
 /// The least and the greatest sum of a row over a box.
 #[derive(Clone, Copy)]
@@ -168,16 +168,15 @@ impl Model for Sums {
 }
 
 impl Sums {
-    /// The sums over this box. It alone takes memory.
-    #[tactic(auto, using(crate::proofs::Running::running_of))]
-    pub fn new(alloc: Global, problem: &Problem, area: &IntBox) -> Result<Sums, AllocError>
-        requires { length area.now ≡ length problem.now.columns }
-        ensures area { IfOk result (λ s. s.area ≡ area.now) }
-        ensures sums { IfOk result (IsRunning problem.now) }
+    /// These sums over the box of these intervals.
+    pub fn of(sides: Vec<Interval>, rows: RowSums) -> Sums
+        ensures { result ≡ record {
+          area = sides.items;
+          sums = sums_in rows;
+          short = are_in_64_bits rows;
+        } }
     {
-        let sides = Vec::from_slice(alloc, area.as_slice())?;
-        let rows = all_rows(alloc, problem, sides.as_slice())?;
-        Ok(Sums { sides, rows })
+        Sums { sides, rows }
     }
 
     /// Takes the sums of another problem's rows over the same box. After an error nothing was
@@ -189,8 +188,8 @@ impl Sums {
         ensures ok { OnOk result (IsRunning problem.now self.new) }
         ensures err { OnErr result (self.new ≡ self.old) }
     {
-        let rows = all_rows(alloc, problem, self.sides.as_slice())?;
-        self.rows = rows;
+        let measured = all_rows(alloc, problem, self.sides.as_slice())?;
+        self.rows = measured.sums;
         Ok(())
     }
 

@@ -14,6 +14,7 @@ use crate::awake::{fill, next, rest, wake};
 use crate::cut::Cut;
 use crate::measure::plus;
 use crate::resting::{Rest, is_same};
+use crate::rows::all_rows;
 use crate::sums::{Extremes, Sums, measured};
 use crate::tight::Reason;
 use std::alloc::{AllocError, Global};
@@ -182,24 +183,24 @@ impl Working {
         ensures awake { IfOk result (λ w. AreAwake problem.now w.awake) }
         ensures trail { IfOk result (λ w. w.trail ≡ []) }
     {
-        let sums = Sums::new(alloc, problem, area)?;
-        let reach = match all_reach(alloc, problem, sums.sides()) {
-            Ok(reach) => reach,
+        let sides = Vec::from_slice(alloc, area.as_slice())?;
+        let rows = match all_rows(alloc, problem, sides.as_slice()) {
+            Ok(rows) => rows,
             Err(error) => {
-                drop(sums);
+                drop(sides);
                 return Err(error);
             }
         };
         match all_awake(alloc, problem) {
             Ok(awake) => Ok(Working {
-                sums,
-                reach,
+                sums: Sums::of(sides, rows.sums),
+                reach: rows.reach,
                 awake,
                 trail: Vec::new(alloc),
             }),
             Err(error) => {
-                drop(sums);
-                drop(reach);
+                drop(sides);
+                drop(rows);
                 Err(error)
             }
         }

@@ -1,5 +1,5 @@
 use Rattle.std.proofs.Common.{◌∙◌, ℤ, FitsSigned, ap, arith, rules}
-use Rattle.std.proofs.lemmas.Int.{ints, to_z-of_z}
+use Rattle.std.proofs.lemmas.Int.{to_z-of_z}
 use mir.Syntax.{w128}
 use Rattle.ug_propagate.proofs.Machine.{room_same, span_minus, wider}
 use Rattle.ug_propagate.specs.Rounds.{keep_at_least}

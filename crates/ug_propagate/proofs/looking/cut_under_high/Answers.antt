@@ -1,4 +1,4 @@
-use Rattle.std.proofs.Common.{◌∙◌, ℤ, ◌+ℤ◌, ◌-ℤ◌, ap, sym, length, arith}
+use Rattle.std.proofs.Common.{◌∙◌, ℤ, ◌+ℤ◌, ap, sym, length, arith}
 use Rattle.std.proofs.lemmas.Int.{ints}
 use Rattle.ug_rows.specs.Sums.{end_product}
 use Rattle.ug_rows.specs.declared.sums.Extreme.TheVariants.{Least}

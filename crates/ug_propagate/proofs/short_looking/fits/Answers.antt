@@ -1,5 +1,5 @@
-use Rattle.std.proofs.Common.{◌≡◌, ◌^◌, ℤ, ◌≤ℤ◌, FitsSigned, subst, arith}
-use Rattle.std.proofs.lemmas.Int.{ints, fits_signed_from_abs, to_z-of_z}
+use Rattle.std.proofs.Common.{ℤ, ◌≤ℤ◌, FitsSigned, subst, arith}
+use Rattle.std.proofs.lemmas.Int.{ints, fits_signed_from_abs}
 use mir.Syntax.{w64}
 use Rattle.ug_propagate.specs.Steps.{room_over}
 use Rattle.ug_propagate.proofs.Near.{near_within}

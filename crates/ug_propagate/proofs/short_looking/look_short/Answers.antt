@@ -1,6 +1,5 @@
-use Rattle.std.proofs.Common.{◌≡◌, ◌∙◌, List, ℤ, ◌≤ℤ◌, FitsSigned, ap, length, refl, subst, sym, arith, rules}
-use Rattle.std.proofs.lemmas.Int.{ints, to_z-of_z}
-use mir.Syntax.{w128}
+use Rattle.std.proofs.Common.{◌≡◌, ◌∙◌, List, ℤ, ◌≤ℤ◌, length, refl, subst, sym, arith}
+use Rattle.std.proofs.lemmas.Int.{ints}
 use Rattle.ug_rows.specs.declared.sums.Extreme.TheVariants.{Least, Greatest}
 use Rattle.ug_rows.proofs.Replaced.{sum_small}
 use Rattle.ug_rows.specs.declared.row.Term.{Term}
@@ -9,7 +8,7 @@ use Rattle.ug_propagate.specs.Rounds.{over_terms}
 use Rattle.ug_propagate.specs.Steps.{looked_of, room_over, row_of}
 use Rattle.ug_propagate.specs.Working.{FitWhereSame, RestsWhereChanged}
 use Rattle.ug_propagate.specs.declared.tight.Tight.TheVariants.{Kept}
-use Rattle.ug_propagate.proofs.Near.{fit_rests, look_row, near_none, near_some, near_within, over_is, rooms_named}
+use Rattle.ug_propagate.proofs.Near.{fit_rests, look_row, near_none, near_some, near_within, over_is}
 use Rattle.ug_propagate.proofs.Still.{row_above, row_below, row_within}
 use Rattle.ug_propagate.proofs.Stepping.{reach_rests, rest_is, step_same}
 use Rattle.ug_propagate.proofs.short_looking.look_short.Goals as goal

@@ -1,4 +1,3 @@
-use Rattle.std.proofs.Common.{length, subst, sym}
 use Rattle.ug_propagate.proofs.Near.{look_row, rooms_named, short_term_later}
 use Rattle.ug_propagate.proofs.Stepping.{step_trans}
 use Rattle.ug_propagate.proofs.short_looking.tighten_both.Goals as goal
