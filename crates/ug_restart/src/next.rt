@@ -40,7 +40,10 @@ pub fn of_book(alloc: Global, saver: &Saver, book: &Book) -> Option<Image>
     ensures covered { IsSoundBook book.now → IfSome result IsCovered }
 {
     let sequence = next_sequence(saver)?;
-    image_of(alloc, book, sequence).ok()
+    match image_of(alloc, book, sequence) {
+        Ok(image) => Some(image),
+        Err(_) => None,
+    }
 }
 
 /// Whether an image has less than 2^63 bytes. No memory holds more.
