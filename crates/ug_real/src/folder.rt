@@ -49,8 +49,8 @@ pub trait Folder {
             (λ state. state)) }
         ensures real { AreReal (seen self.old).told };
 
-    /// Waits until the names in the folder are on the disk. A crash then leaves what a read gives of
-    /// the slot whose file is.
+    /// Waits until the names in the folder are on the disk. A crash then leaves what a read gives
+    /// of the slot whose file is.
     fn sync_folder(&mut self) -> io::Result<()>
         ensures ok { OnOk result ((slot : Slot) → IsSettled (seen self.old) slot
             → Steps (seen self.old).told (seen self.new).told slot (λ state. synced state.bytes)) }

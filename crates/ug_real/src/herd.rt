@@ -18,8 +18,8 @@ const EVENTS: usize = 256;
 /// After how many milliseconds a child that is to end soon is looked at again.
 const SOON: u64 = 10;
 
-/// For how many microseconds more is let come once something came. To be woken for each report alone
-/// would cost more than most reports do.
+/// For how many microseconds more is let come once something came. To be woken for each report
+/// alone would cost more than most reports do.
 const GATHER: u64 = 100;
 
 /// How many milliseconds the end of a child is waited for once all were told to end.
@@ -55,11 +55,20 @@ fn missing() -> io::Error {
     io::Error::from(ErrorKind::NotFound)
 }
 
-// A poll, and where it notes events.
-fn new_watch(net: &impl Net, alloc: Global) -> io::Result<Watch> {
-    let poll = Poll::new(net)?;
+// Makes the poll, and where it notes events, where there is none.
+fn open_watch(place: &mut Option<Watch>, net: &impl Net, alloc: Global) -> io::Result<()> {
+    if place.is_some() {
+        return Ok(());
+    }
+    let poll = match Poll::new(net) {
+        Ok(poll) => poll,
+        Err(error) => return Err(error),
+    };
     match Events::with_capacity(alloc, EVENTS) {
-        Ok(events) => Ok(Watch { poll, events }),
+        Ok(events) => {
+            drop(place.replace(Watch { poll, events }));
+            Ok(())
+        }
         Err(error) => {
             drop(poll);
             Err(error.into())
@@ -97,6 +106,21 @@ fn hurry_all<F: Drop>(peers: &mut Slab<Peer<F>>, registry: &Registry, now: Optio
             }
         }
     }
+}
+
+// Tells the bytes to the rank, if there is a child that is it.
+fn send_to<F: Drop>(
+    peers: &mut Slab<Peer<F>>,
+    registry: &Registry,
+    rank: u32,
+    bytes: &[u8],
+) -> io::Result<()> {
+    if let Some(key) = key_of(peers, Sought::Rank(rank)) {
+        if let Some(peer) = peers.get_mut(key) {
+            return peer.send(registry, Token(key), bytes);
+        }
+    }
+    Err(missing())
 }
 
 // Hears one of the children at these keys. One that was shut and has ended is let go.
@@ -187,16 +211,9 @@ impl<F: Drop> Herd<F> {
     pub fn open(&mut self, net: &impl Net, alloc: Global) -> io::Result<()>
         ensures { OnOk result (HasRoomFor self.new.peers 1) }
     {
-        self.peers.reserve(1)?;
-        if self.watch.is_some() {
-            return Ok(());
-        }
-        match new_watch(net, alloc) {
-            Ok(watch) => {
-                drop(self.watch.replace(watch));
-                Ok(())
-            }
-            Err(error) => Err(error),
+        match self.peers.reserve(1) {
+            Ok(()) => open_watch(&mut self.watch, net, alloc),
+            Err(error) => Err(error.into()),
         }
     }
 
@@ -227,11 +244,8 @@ impl<F: Drop> Herd<F> {
 
     /// Tells the bytes to the rank, now or as soon as they can go.
     pub fn send(&mut self, rank: u32, bytes: &[u8]) -> io::Result<()> {
-        let (Some(watch), Some(key)) = (&self.watch, key_of(&self.peers, Sought::Rank(rank))) else {
-            return Err(missing());
-        };
-        match self.peers.get_mut(key) {
-            Some(peer) => Ok(peer.send(watch.poll.registry(), Token(key), bytes)?),
+        match &self.watch {
+            Some(watch) => send_to(&mut self.peers, watch.poll.registry(), rank, bytes),
             None => Err(missing()),
         }
     }
@@ -258,18 +272,19 @@ impl<F: Drop> Herd<F> {
         heard
     }
 
-    // Begins a round. It looks what has become of all children, so that one that never stops talking
-    // keeps no other from coming, being heard or being told, and waits, so many milliseconds at
-    // most, where there is nothing to hear, and then a little longer.
+    // Begins a round. It looks what has become of all children, so that one that never stops
+    // talking keeps no other from coming, being heard or being told, and waits, so many
+    // milliseconds at most, where there is nothing to hear, and then a little longer.
     fn look<R: Clock>(&mut self, clock: &R, most: Option<u64>) -> io::Result<()> {
         self.next = 0;
         if key_of(&self.peers, Sought::Stirred).is_some() {
-            self.wait(clock, Some(0))
-        } else {
-            self.wait(clock, most)?;
-            sleep(clock, Duration::from_micros(GATHER));
-            Ok(())
+            return self.wait(clock, Some(0));
         }
+        let waited = self.wait(clock, most);
+        if waited.is_ok() {
+            sleep(clock, Duration::from_micros(GATHER));
+        }
+        waited
     }
 
     // Waits until there may be something to hear or to send, so many milliseconds at most.
@@ -280,9 +295,11 @@ impl<F: Drop> Herd<F> {
         } else {
             most
         };
-        self.wait_for_events(most)?;
-        self.heed(clock, is_any_leaving);
-        Ok(())
+        let waited = self.wait_for_events(most);
+        if waited.is_ok() {
+            self.heed(clock, is_any_leaving);
+        }
+        waited
     }
 
     // Waits until the poll tells of something, so many milliseconds at most.
@@ -314,18 +331,20 @@ impl<F: Drop> Herd<F> {
             if let Some(heard) = self.hear(buffer) {
                 return Ok(heard);
             }
-            self.look(clock, None)?;
+            if let Err(error) = self.look(clock, None) {
+                return Err(error);
+            }
         }
         Err(io::Error::from(ErrorKind::TimedOut))
     }
 
     /// Lets the child at this key go, and tells why.
     pub fn part<W: Watcher>(&mut self, key: usize, watcher: &mut W) {
-        if let Some(peer) = self.peers.get_mut(key) {
+        if let Some(mut peer) = self.peers.try_remove(key) {
             let why = peer.departure();
             watcher.gone(peer.rank(), &why);
             drop(why);
-            drop(self.peers.try_remove(key));
+            drop(peer);
         }
     }
 

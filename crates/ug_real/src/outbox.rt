@@ -33,7 +33,6 @@ pub fn write_out<W: Write>(to: &mut W, bytes: &[u8]) -> io::Result<usize>
         }
         let wrote = again::write(to, rest);
         if failed_by(&wrote, ErrorKind::WouldBlock) {
-            drop(wrote);
             break;
         }
         match wrote {
@@ -126,10 +125,7 @@ impl Outbox {
                 self.sent = self.sent.saturating_add(n);
                 self.forget();
             }
-            Err(error) => {
-                drop(error);
-                self.close();
-            }
+            Err(_) => self.close(),
         }
     }
 
@@ -147,8 +143,7 @@ impl Outbox {
         }
         match write_out(to, bytes) {
             Ok(n) => self.push(bytes.get(n..).unwrap_or(&[])),
-            Err(error) => {
-                drop(error);
+            Err(_) => {
                 self.close();
                 Ok(())
             }

@@ -1,4 +1,5 @@
 ghost use Rattle.std.specs.Prelude.{◌≤◌, length, IfOk};
+ghost use Rattle.slab.specs.Slab.{HasRoomFor};
 
 use crate::departure::Watcher;
 use crate::herd::{Heard, Herd};
@@ -39,19 +40,22 @@ struct Starter<'a, R> {
     sockets: Sockets<'a>,
 }
 
-// A child of this program and rank that is to come to the door.
-fn start_at<'a, R: Files + Processes<Started = SystemProcess>>(
-    rt: &'a R,
-    alloc: Global,
-    program: &str,
-    rank: u32,
-    door: Door<SocketFile<'a, R>>,
-) -> io::Result<Peer<SocketFile<'a, R>>> {
-    match Ward::start(rt, alloc, program, door.file.path()) {
-        Ok(child) => Ok(Peer::new(alloc, rank, door, child)),
-        Err(error) => {
-            drop(door);
-            Err(error)
+impl<'a, R: Files + Processes<Started = SystemProcess>> Starter<'a, R> {
+    // Starts the child that is this rank and is to come to this door. The herd has room for it.
+    fn start_at(
+        &self,
+        rank: u32,
+        door: Door<SocketFile<'a, R>>,
+        herd: &mut Herd<SocketFile<'a, R>>,
+    ) -> io::Result<()>
+        requires { HasRoomFor herd.old.peers 1 }
+    {
+        match Ward::start(self.rt, self.alloc, self.program, door.file.path()) {
+            Ok(child) => herd.admit(Peer::new(self.alloc, rank, door, child)),
+            Err(error) => {
+                drop(door);
+                Err(error)
+            }
         }
     }
 }
@@ -60,10 +64,12 @@ impl<'a, R> Starter<'a, R>
 where
     R: Files<File = File> + Net + Processes<Started = SystemProcess>,
 {
-    // A child that is to come to the socket of the rank.
-    fn start(&mut self, rank: u32) -> io::Result<Peer<SocketFile<'a, R>>> {
+    // Starts the child that is this rank. The herd has room for it.
+    fn start(&mut self, rank: u32, herd: &mut Herd<SocketFile<'a, R>>) -> io::Result<()>
+        requires { HasRoomFor herd.old.peers 1 }
+    {
         match self.sockets.bind(self.rt, rank) {
-            Ok(door) => start_at(self.rt, self.alloc, self.program, rank, door),
+            Ok(door) => self.start_at(rank, door, herd),
             Err(error) => Err(error),
         }
     }
@@ -89,26 +95,22 @@ where
 
     /// Starts the child that is this rank.
     pub fn launch(&mut self, rank: u32) -> io::Result<()> {
-        self.herd.open(self.starter.rt, self.starter.alloc)?;
-        match self.starter.start(rank) {
-            Ok(peer) => self.herd.admit(peer),
-            Err(error) => Err(error),
+        let opened = self.herd.open(self.starter.rt, self.starter.alloc);
+        if opened.is_err() {
+            return opened;
         }
+        self.starter.start(rank, &mut self.herd)
     }
 
     /// Waits until bytes come from a rank, or one is gone.
     pub fn turn(&mut self, buffer: &mut [u8]) -> io::Result<Heard>
         ensures { IfOk result (λ heard. heard.count ≤ length buffer.new) }
     {
-        match self.herd.turn(self.starter.rt, buffer) {
-            Ok(heard) => {
-                if heard.count == 0 {
-                    self.herd.part(heard.key, &mut self.watcher);
-                }
-                Ok(heard)
-            }
-            Err(error) => Err(error),
+        let turned = self.herd.turn(self.starter.rt, buffer);
+        if let Ok(Heard { key, count: 0, .. }) = turned {
+            self.herd.part(key, &mut self.watcher);
         }
+        turned
     }
 
     /// Lets all go out that was told, and waits until each child has ended. One that has not come

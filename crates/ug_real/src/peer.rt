@@ -1,13 +1,14 @@
 ghost use Rattle.std.specs.Prelude.{◌≤◌, length, IfSome};
 
 use crate::again;
+use crate::cause::failed_by;
 use crate::departure::Departure;
 use crate::outbox::Outbox;
 use crate::sockets::Door;
 use crate::ward::Ward;
 use mio::net::UnixStream;
 use mio::{Interest, Registry, Token};
-use std::alloc::{AllocError, Global};
+use std::alloc::Global;
 use std::io::ErrorKind;
 use std::time::{Duration, Instant};
 use std::{io, mem};
@@ -123,9 +124,7 @@ impl<F: Drop> Peer<F> {
             }
             Err(error) => match error.kind() {
                 // A connection that was given up is none.
-                ErrorKind::WouldBlock | ErrorKind::Interrupted | ErrorKind::ConnectionAborted => {
-                    drop(error);
-                }
+                ErrorKind::WouldBlock | ErrorKind::Interrupted | ErrorKind::ConnectionAborted => {}
                 _ => self.give_up(Departure::Unstarted(error)),
             },
         }
@@ -211,24 +210,22 @@ impl<F: Drop> Peer<F> {
         let Line::Open(stream) = &mut self.line else {
             return None;
         };
-        match again::read(stream, buffer) {
-            Ok(0) => {}
-            Ok(n) => return Some(n),
-            Err(error) => {
-                let waits = error.kind() == ErrorKind::WouldBlock && !self.child.has_ended();
-                drop(error);
-                if waits {
-                    return None;
-                }
-            }
+        let got = again::read(stream, buffer);
+        if failed_by(&got, ErrorKind::WouldBlock) && !self.child.has_ended() {
+            return None;
         }
-        self.close();
-        self.child.look();
-        None
+        match got {
+            Ok(0) | Err(_) => {
+                self.close();
+                self.child.look();
+                None
+            }
+            Ok(n) => Some(n),
+        }
     }
 
-    /// Hears some bytes of it, and says how many, if there are any for now. 0 tells that it is gone,
-    /// which comes behind all that it said.
+    /// Hears some bytes of it, and says how many, if there are any for now. 0 tells that it is
+    /// gone, which comes behind all that it said.
     pub fn hear(&mut self, buffer: &mut [u8]) -> Option<usize>
         ensures { IfSome result (λ n. n ≤ length buffer.new) }
     {
@@ -248,17 +245,16 @@ impl<F: Drop> Peer<F> {
     }
 
     /// Sends it bytes, or keeps them until it can take them.
-    pub fn send(
-        &mut self,
-        registry: &Registry,
-        token: Token,
-        bytes: &[u8],
-    ) -> Result<(), AllocError> {
+    pub fn send(&mut self, registry: &Registry, token: Token, bytes: &[u8]) -> io::Result<()> {
         self.answer(registry, token);
-        match &mut self.line {
+        let sent = match &mut self.line {
             Line::Open(stream) => self.outbox.send(stream, bytes),
             Line::Awaited(_) => self.outbox.push(bytes),
             Line::Closed => Ok(()),
+        };
+        match sent {
+            Ok(()) => Ok(()),
+            Err(error) => Err(error.into()),
         }
     }
 

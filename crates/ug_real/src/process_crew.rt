@@ -1,5 +1,6 @@
-ghost use Rattle.std.specs.Prelude.{◌≡◌, None, false, replicate, IfOk};
-ghost use Rattle.ug_io.specs.Crews.{IsAlive};
+ghost use Rattle.std.specs.Prelude.{◌≡◌, ◌≤◌, None, false, length, replicate, IfOk, OnErr};
+ghost use Rattle.ug_io.specs.Crews.{HasTurned, IsAlive};
+ghost use Rattle.ug_io.specs.Outside.{Rose};
 
 use crate::departure::{Departure, Watcher};
 use crate::faults::Faults;
@@ -30,6 +31,39 @@ fn nobody() -> io::Error {
     io::Error::new(ErrorKind::NotFound, "no rank lives")
 }
 
+// Takes note of what a turn gave. What comes from a rank that does not live is a fault. The buffer
+// is there for the contract alone.
+fn came(
+    lives: &mut Vec<bool>,
+    faults: &mut Faults,
+    buffer: &[u8],
+    got: io::Result<Heard>,
+) -> Result<Came, Failed>
+    requires { IfOk got (λ heard. heard.count ≤ length buffer.now) }
+    ensures came { IfOk result (HasTurned
+        (record { said = None; lives = lives.old.items; faults = faults.old.count })
+        (record { said = None; lives = lives.new.items; faults = faults.new.count })
+        buffer.now) }
+    ensures kept { OnErr result (lives.new ≡ lives.old) }
+    ensures cause { OnErr result (Rose faults.old.count faults.new.count) }
+{
+    match got {
+        Ok(Heard { rank, count, .. }) => {
+            let at = rank as usize;
+            if at >= lives.len() || !lives[at] {
+                return Err(faults.add(nobody()));
+            }
+            if count > 0 {
+                return Ok(Came::Bytes { rank, count });
+            }
+            lives[at] = false;
+            faults.rise();
+            Ok(Came::Gone { rank })
+        }
+        Err(error) => Err(faults.add(error)),
+    }
+}
+
 impl<'a, R, W> ProcessCrew<'a, R, W>
 where
     R: Files<File = File> + Net + Processes<Started = SystemProcess> + Clock,
@@ -47,18 +81,17 @@ where
         ensures lives { IfOk result (λ crew. crew.lives.items ≡ replicate ranks false) }
         ensures faults { IfOk result (λ crew. crew.faults.count ≡ 0) }
     {
-        let lives = match vec![in alloc; false; ranks as usize] {
-            Ok(lives) => lives,
+        match vec![in alloc; false; ranks as usize] {
+            Ok(lives) => Ok(ProcessCrew {
+                pack: Pack::new(rt, alloc, children, watcher),
+                lives,
+                faults: Faults::new(),
+            }),
             Err(error) => {
                 drop(watcher);
-                return Err(error);
+                Err(error)
             }
-        };
-        Ok(ProcessCrew {
-            pack: Pack::new(rt, alloc, children, watcher),
-            lives,
-            faults: Faults::new(),
-        })
+        }
     }
 
     /// Why the last call failed that did, in the system's words.
@@ -98,18 +131,8 @@ where
         if !self.lives.contains(&true) {
             return Err(self.faults.add(nobody()));
         }
-        match self.pack.turn(buffer) {
-            Ok(Heard { rank, count, .. }) if self.is_alive(rank) => {
-                if count > 0 {
-                    return Ok(Came::Bytes { rank, count });
-                }
-                self.lives[rank as usize] = false;
-                self.faults.rise();
-                Ok(Came::Gone { rank })
-            }
-            Ok(_) => Err(self.faults.add(nobody())),
-            Err(error) => Err(self.faults.add(error)),
-        }
+        let got = self.pack.turn(buffer);
+        came(&mut self.lives, &mut self.faults, buffer, got)
     }
 
     fn send(&mut self, rank: u32, bytes: &[u8]) -> Result<(), Failed> {

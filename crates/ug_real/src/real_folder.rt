@@ -35,16 +35,16 @@ impl<'a, R: Files<File = File>> RealFolder<'a, R> {
     /// A folder in which a run begins. The folder and the files are made where they are not there,
     /// at the first call; from then on no other `RealFolder` writes it until this one is dropped: a
     /// call on one that would is an error. Before the first write what the slots have, if they have
-    /// any, is copied to the files `before0` and `before1`, in place of what these had, and standard
-    /// error says so. Where that fails so does the write, and the slots are as they were.
+    /// any, is copied to the files `before0` and `before1`, in place of what these had, and
+    /// standard error says so. Where that fails so does the write, and the slots are as they were.
     pub fn beginning(rt: &'a R, alloc: Global, path: &'a str) -> RealFolder<'a, R> {
         RealFolder {
             access: Access::Writing(SlotFiles::new(rt, alloc, path, Stage::Begins)),
         }
     }
 
-    /// A folder from which a run goes on. Nothing is made before the first write: a file that is not
-    /// there is an empty slot. No other writes it at the same time either.
+    /// A folder from which a run goes on. Nothing is made before the first write: a file that is
+    /// not there is an empty slot. No other writes it at the same time either.
     pub fn going_on(rt: &'a R, alloc: Global, path: &'a str) -> RealFolder<'a, R> {
         RealFolder {
             access: Access::Writing(SlotFiles::new(rt, alloc, path, Stage::Looks)),

@@ -3,6 +3,7 @@ ghost use Rattle.std.specs.Prelude.{◌≡◌, ◌≤◌, ◌⊎◌, length, Ok,
 use crate::again;
 use crate::cause::failed_by;
 use crate::kept::{Kept, keep};
+use crate::saves::Saves;
 use std::alloc::Global;
 use std::fs::{File, OpenOptions, TryLockError};
 use std::io::{Eprint, ErrorKind};
@@ -11,9 +12,6 @@ use std::path::Path;
 use std::rt::Files;
 use std::{fs, io};
 use ug_disk::Slot;
-
-// What is written at a slot's front when all behind it is on the disk: its gate, open.
-const OPEN: &[u8] = &[1];
 
 // The name of the slot's file.
 fn name_of(slot: Slot) -> &'static str {
@@ -50,24 +48,20 @@ pub struct SlotFiles<'a, R: Files<File = File>> {
     alloc: Global,
     path: &'a str,
     stage: Stage,
-    // Whether something is on the disk of what was written.
-    has_saved: bool,
-    // How many writes and syncs failed since.
-    failures: u64,
-    // Whether the last save failed.
-    fails: bool,
-    // Whether the gate of a slot was opened and is not on the disk yet, which ends a save.
-    opens: bool,
-    // How many saves there were.
-    saves: u64,
+    saves: Saves,
     folder: Option<File>,
     kept: Kept<File>,
 }
 
 // Copies all that is left to read of a file, and waits until it is on the disk.
-fn copied(from: &mut File, to: &mut File) -> io::Result<()> {
-    io::copy(from, to)?;
-    to.sync_all()
+fn copied(mut from: File, mut to: File) -> io::Result<()> {
+    let synced = match io::copy(&mut from, &mut to) {
+        Ok(_) => to.sync_all(),
+        Err(error) => Err(error),
+    };
+    drop(from);
+    drop(to);
+    synced
 }
 
 /// The slot's file in the folder, opened in these ways.
@@ -81,6 +75,18 @@ pub fn open_slot<R: Files<File = File>>(
     open_file(rt, alloc, folder, name_of(slot), ways)
 }
 
+// The file in the folder that keeps what the slot had, made anew.
+fn open_before<R: Files<File = File>>(
+    rt: &R,
+    alloc: Global,
+    folder: &str,
+    slot: Slot,
+) -> io::Result<File> {
+    let mut ways = OpenOptions::new();
+    ways.write(true).create(true).truncate(true);
+    open_file(rt, alloc, folder, before_name_of(slot), &ways)
+}
+
 // The file of this name in the folder.
 fn open_file<R: Files<File = File>>(
     rt: &R,
@@ -89,10 +95,14 @@ fn open_file<R: Files<File = File>>(
     name: &str,
     ways: &OpenOptions,
 ) -> io::Result<File> {
-    let path = Path::new(folder).join(alloc, name)?;
-    let file = ways.open(rt, path.as_path());
-    drop(path);
-    file
+    match Path::new(folder).join(alloc, name) {
+        Ok(path) => {
+            let file = ways.open(rt, path.as_path());
+            drop(path);
+            file
+        }
+        Err(error) => Err(error.into()),
+    }
 }
 
 // The file that was opened.
@@ -138,6 +148,16 @@ fn locked_folder<R: Files<File = File>>(rt: &R, path: &str, makes: bool) -> io::
     File::open(rt, path).and_then(locked)
 }
 
+// What copying gave, which keeps what the slots had. Says so on standard error where it succeeded.
+fn kept<R: Eprint>(rt: &R, path: &str, copied: io::Result<()>) -> io::Result<()> {
+    if copied.is_ok() {
+        let _ = eprintln!(rt;
+            "ug: {path}: begins anew; the checkpoint that was there is kept as before0, before1"
+        );
+    }
+    copied
+}
+
 // What a call gave, or this where the error is that there is no file, and none is made.
 fn unless_missing<T: Copy>(got: io::Result<T>, makes: bool, none: T) -> io::Result<T>
     ensures { IfOk result (λ given. (got ≡ Ok given) ⊎ (given ≡ none)) }
@@ -157,11 +177,7 @@ impl<'a, R: Files<File = File>> SlotFiles<'a, R> {
             alloc,
             path,
             stage,
-            has_saved: false,
-            failures: 0,
-            fails: false,
-            opens: false,
-            saves: 0,
+            saves: Saves::new(),
             folder: None,
             kept: Kept::new(),
         }
@@ -169,7 +185,7 @@ impl<'a, R: Files<File = File>> SlotFiles<'a, R> {
 
     /// How many images were saved.
     pub fn saves(&self) -> u64 {
-        self.saves
+        self.saves.count()
     }
 
     // Whether what is not there is made.
@@ -188,10 +204,13 @@ impl<'a, R: Files<File = File>> SlotFiles<'a, R> {
 
     // The slot's file in the locked folder.
     fn open(&mut self, slot: Slot) -> io::Result<File> {
-        let mut ways = OpenOptions::new();
-        ways.read(true).write(true).create(self.makes());
         match self.lock() {
-            Ok(_) => open_slot(self.rt, self.alloc, self.path, slot, &ways),
+            Ok(_) => {
+                let makes = self.makes();
+                let mut ways = OpenOptions::new();
+                ways.read(true).write(true).create(makes);
+                open_slot(self.rt, self.alloc, self.path, slot, &ways)
+            }
             Err(error) => Err(error),
         }
     }
@@ -207,12 +226,8 @@ impl<'a, R: Files<File = File>> SlotFiles<'a, R> {
 
     /// How many bytes the slot has.
     pub fn len(&mut self, slot: Slot) -> io::Result<u64> {
-        let makes = self.makes();
-        let got = match self.file(slot) {
-            Ok(file) => len_of(file),
-            Err(error) => Err(error),
-        };
-        unless_missing(got, makes, 0)
+        let got = self.file(slot).and_then(len_of);
+        unless_missing(got, self.makes(), 0)
     }
 
     /// Reads some of the slot's bytes from a place on.
@@ -242,103 +257,84 @@ impl<'a, R: Files<File = File>> SlotFiles<'a, R> {
 
     // Copies what the slot has to the file that keeps it, in place of what that had.
     fn copy(&mut self, slot: Slot) -> io::Result<()> {
-        let mut ways = OpenOptions::new();
-        ways.write(true).create(true).truncate(true);
-        let mut to = open_file(self.rt, self.alloc, self.path, before_name_of(slot), &ways)?;
-        // Opened anew, so that it is read from its begin on.
-        let mut ways = OpenOptions::new();
-        ways.read(true);
-        let copied = match open_slot(self.rt, self.alloc, self.path, slot, &ways) {
-            Ok(mut from) => {
-                let copied = copied(&mut from, &mut to);
-                drop(from);
-                copied
-            }
-            Err(error) => Err(error),
+        let to = match open_before(self.rt, self.alloc, self.path, slot) {
+            Ok(to) => to,
+            Err(error) => return Err(error),
         };
-        drop(to);
-        copied
+        // Opened anew, so that it is read from its begin on.
+        match open_slot(
+            self.rt,
+            self.alloc,
+            self.path,
+            slot,
+            OpenOptions::new().read(true),
+        ) {
+            Ok(from) => copied(from, to),
+            Err(error) => {
+                drop(to);
+                Err(error)
+            }
+        }
     }
 
     // Copies what both slots have.
     fn copy_both(&mut self) -> io::Result<()> {
-        self.copy(Slot::Zero)?;
-        self.copy(Slot::One)?;
+        let zero = self.copy(Slot::Zero);
+        if zero.is_err() {
+            return zero;
+        }
+        let one = self.copy(Slot::One);
+        if one.is_err() {
+            return one;
+        }
         self.sync_folder()
     }
 
     // Whether some slot has bytes.
     fn has_any(&mut self) -> io::Result<bool> {
-        let zero = self.len(Slot::Zero)?;
-        let one = self.len(Slot::One)?;
-        Ok(zero != 0 || one != 0)
+        match self.len(Slot::Zero) {
+            Ok(zero) => match self.len(Slot::One) {
+                Ok(one) => Ok(zero != 0 || one != 0),
+                Err(error) => Err(error),
+            },
+            Err(error) => Err(error),
+        }
     }
 }
 
 impl<R: Files<File = File> + Eprint> SlotFiles<'_, R> {
     // Keeps what the slots have, if they have any, and says so on standard error.
     fn keep_before(&mut self) -> io::Result<()> {
-        if !self.has_any()? {
-            return Ok(());
-        }
-        self.copy_both()?;
-        let path = self.path;
-        let _ = eprintln!(self.rt;
-            "ug: {path}: begins anew; the checkpoint that was there is kept as before0, before1"
-        );
-        Ok(())
-    }
-
-    // Says on standard error why a call failed that a save made: at the first one, at the second, at
-    // the fourth and so on. A save ends with the first call that fails. The caller tells of the first
-    // save of all.
-    fn noted(&mut self, got: io::Result<()>) -> io::Result<()> {
-        let Err(error) = got else {
-            return Ok(());
-        };
-        self.opens = false;
-        if self.has_saved {
-            self.fails = true;
-            self.failures = self.failures.saturating_add(1);
-            let count = self.failures;
-            if count.is_power_of_two() {
-                let path = self.path;
-                let saves = if count == 1 { "save" } else { "saves" };
-                let _ = eprintln!(self.rt; "ug: {path}: {error}; {count} {saves} failed so far");
+        match self.has_any() {
+            Ok(true) => {
+                let copied = self.copy_both();
+                kept(self.rt, self.path, copied)
             }
+            Ok(false) => Ok(()),
+            Err(error) => Err(error),
         }
-        Err(error)
     }
 
-    // What was written is on the disk, and where that was an opened gate an image is saved. Says so on
-    // standard error where the last save had failed.
-    fn settled(&mut self) {
-        self.has_saved = true;
-        if !self.opens {
-            return;
+    // What a call gave that a save made. That it failed is noted.
+    fn noted(&mut self, got: io::Result<()>) -> io::Result<()> {
+        if let Err(error) = &got {
+            self.saves.failed(self.rt, self.path, error);
         }
-        self.opens = false;
-        self.saves = self.saves.saturating_add(1);
-        if self.fails {
-            self.fails = false;
-            let path = self.path;
-            let count = self.failures;
-            let saves = if count == 1 { "save" } else { "saves" };
-            let _ = eprintln!(self.rt;
-                "ug: {path}: saved again, after {count} {saves} that failed"
-            );
-        }
+        got
     }
 
     /// Writes all of the bytes from a place on. Where a run begins, what the slots had is kept
     /// before the first of them is written.
     pub fn write(&mut self, slot: Slot, at: u64, bytes: &[u8]) -> io::Result<()> {
         if matches!(&self.stage, Stage::Begins) {
-            self.keep_before()?;
+            let kept = self.keep_before();
+            if kept.is_err() {
+                return kept;
+            }
         }
         self.stage = Stage::Writes;
         let got = self.put(slot, at, bytes);
-        self.opens = at == 0 && bytes == OPEN;
+        self.saves.wrote(at, bytes);
         self.noted(got)
     }
 
@@ -355,7 +351,7 @@ impl<R: Files<File = File> + Eprint> SlotFiles<'_, R> {
         let got = self.sync_folder();
         match unless_missing(got, self.makes(), ()) {
             Ok(()) => {
-                self.settled();
+                self.saves.settled(self.rt, self.path);
                 Ok(())
             }
             Err(error) => self.noted(Err(error)),

@@ -1,4 +1,5 @@
-ghost use Rattle.std.specs.Prelude.{◌≡◌, ◌≤◌, None, true, false, length, IfOk, IfSome, IsSome};
+ghost use Rattle.std.specs.Prelude.{◌≡◌, ◌<◌, ◌≤◌, true, false, length, None, IfSome, IsSome};
+ghost use Rattle.std.specs.Prelude.{Ok, IfOk};
 
 use crate::again;
 use crate::cause::failed_by;
@@ -80,7 +81,8 @@ impl Line {
         Ok(())
     }
 
-    // Whether some time has passed since the last look, which is noted then. Without a clock it has.
+    // Whether some time has passed since the last look, which is noted then. Without a clock it
+    // has.
     fn is_due(&mut self, clock: &impl Clock) -> bool {
         let now = Instant::now(clock).ok();
         if let (Some(looked), Some(now)) = (self.looked, now) {
@@ -110,7 +112,9 @@ impl Line {
     fn wait(&mut self, buffer: &mut [u8]) -> io::Result<usize>
         ensures { IfOk result (λ n. n ≤ length buffer.new) }
     {
-        self.flush()?;
+        if let Err(error) = self.flush() {
+            return Err(error);
+        }
         let got = again::read(self.stream.get_mut(), buffer);
         if !failed_by(&got, ErrorKind::WouldBlock) {
             return got;
@@ -126,14 +130,39 @@ impl Line {
     fn look(&mut self, buffer: &mut [u8]) -> io::Result<Option<usize>>
         ensures { IfOk result (λ got. IfSome got (λ n. n ≤ length buffer.new)) }
     {
-        self.flush()?;
-        self.set(false)?;
+        let mut readied = self.flush();
+        if readied.is_ok() {
+            readied = self.set(false);
+        }
+        if let Err(error) = readied {
+            return Err(error);
+        }
         let got = again::read(self.stream.get_mut(), buffer);
         if failed_by(&got, ErrorKind::WouldBlock) {
             drop(got);
             return Ok(None);
         }
         got.map(Some)
+    }
+
+    // Reads some bytes, or none where it is not to wait and none is there, or where it looked a
+    // moment ago.
+    fn read(
+        &mut self,
+        clock: &impl Clock,
+        buffer: &mut [u8],
+        wait: bool,
+    ) -> io::Result<Option<usize>>
+        ensures count { IfOk result (λ got. IfSome got (λ n. n ≤ length buffer.new)) }
+        ensures waits { IfOk result (λ got. wait ≡ true → IsSome got) }
+    {
+        if wait {
+            self.wait(buffer).map(Some)
+        } else if self.is_due(clock) {
+            self.look(buffer)
+        } else {
+            Ok(None)
+        }
     }
 
     // Takes some bytes to be written, and writes what waits where there is no room for them.
@@ -154,12 +183,28 @@ impl Line {
 
 // A connection to the socket of a path.
 fn connected<R: Net>(rt: &R, alloc: Global, path: &str) -> io::Result<Line> {
-    let stream = UnixStream::connect(rt, path)?;
-    Ok(Line {
-        stream: BufWriter::with_capacity(alloc, HELD, stream)?,
-        waits: true,
-        looked: None,
-    })
+    match UnixStream::connect(rt, path) {
+        Ok(stream) => match BufWriter::with_capacity(alloc, HELD, stream) {
+            Ok(stream) => Ok(Line {
+                stream,
+                waits: true,
+                looked: None,
+            }),
+            Err(error) => Err(error),
+        },
+        Err(error) => Err(error),
+    }
+}
+
+// What a write gave. That it took nothing is an error, unless there was nothing.
+fn at_least_one(wrote: io::Result<usize>, bytes: &[u8]) -> io::Result<usize>
+    ensures some { IfOk result (λ n. 0 < length bytes.now → 0 < n) }
+    ensures given { IfOk result (λ n. wrote ≡ Ok n) }
+{
+    match wrote {
+        Ok(0) if !bytes.is_empty() => Err(io::Error::from(ErrorKind::WriteZero)),
+        _ => wrote,
+    }
 }
 
 impl<R: Net + Clock> Wire<'_, R> {
@@ -181,22 +226,19 @@ impl<R: Net + Clock> Wire<'_, R> {
         ensures waits { IfOk result (λ got. wait ≡ true → IsSome got) }
     {
         let clock = self.rt;
-        let line = self.line()?;
-        if wait {
-            line.wait(buffer).map(Some)
-        } else if line.is_due(clock) {
-            line.look(buffer)
-        } else {
-            Ok(None)
+        match self.line() {
+            Ok(line) => line.read(clock, buffer, wait),
+            Err(error) => Err(error),
         }
     }
 
-    // Takes some bytes to be written.
+    // Takes some bytes to be written, at least one where there is one.
     fn write(&mut self, bytes: &[u8]) -> io::Result<usize>
-        ensures { IfOk result (λ n. n ≤ length bytes.now) }
+        ensures some { IfOk result (λ n. 0 < length bytes.now → 0 < n) }
+        ensures within { IfOk result (λ n. n ≤ length bytes.now) }
     {
         match self.line() {
-            Ok(line) => line.write(bytes),
+            Ok(line) => at_least_one(line.write(bytes), bytes),
             Err(error) => Err(error),
         }
     }
@@ -218,12 +260,7 @@ impl<R: Net + Clock> Link for SocketLink<'_, R> {
     }
 
     fn write(&mut self, bytes: &[u8]) -> Result<usize, Failed> {
-        match self.wire.write(bytes) {
-            Ok(0) if !bytes.is_empty() => {
-                Err(self.faults.add(io::Error::from(ErrorKind::WriteZero)))
-            }
-            Ok(n) => Ok(n),
-            Err(error) => Err(self.faults.add(error)),
-        }
+        let wrote = self.wire.write(bytes);
+        self.faults.counted(wrote)
     }
 }

@@ -98,10 +98,20 @@ fn remove_old<R: Files>(rt: &R, path: &str) -> io::Result<()> {
     removed
 }
 
+// Whether this user made the file.
+fn is_of<R: Files>(rt: &R, file: &str, user: u32) -> io::Result<bool> {
+    match fs::symlink_metadata(rt, file) {
+        Ok(metadata) => Ok(metadata.uid() == user),
+        Err(error) => Err(error),
+    }
+}
+
 // Whether the folder is of the user who made this file.
 fn is_own<R: Files>(rt: &R, folder: &File, file: &str) -> io::Result<bool> {
-    let owner = folder.metadata()?.uid();
-    Ok(fs::symlink_metadata(rt, file)?.uid() == owner)
+    match folder.metadata() {
+        Ok(metadata) => is_of(rt, file, metadata.uid()),
+        Err(error) => Err(error),
+    }
 }
 
 // Why no socket is made in a folder whose user did not make it.
@@ -111,10 +121,11 @@ fn not_own() -> io::Error {
 
 // Sees that the folder is of the user who made this file.
 fn own_folder<R: Files>(rt: &R, folder: &File, file: &str) -> io::Result<()> {
-    if is_own(rt, folder, file)? {
-        return Ok(());
+    match is_own(rt, folder, file) {
+        Ok(true) => Ok(()),
+        Ok(false) => Err(not_own()),
+        Err(error) => Err(error),
     }
-    Err(not_own())
 }
 
 // The path to the socket of a rank.
@@ -124,8 +135,10 @@ fn path_of(alloc: Global, folder: &str, rank: u32) -> Result<String, AllocError>
 
 // A socket at this path, which is this address. A file that lies there is removed.
 fn listen_at<R: Files + Net>(rt: &R, path: &str, address: &SocketAddr) -> io::Result<UnixListener> {
-    remove_old(rt, path)?;
-    UnixListener::bind_addr(rt, address)
+    match remove_old(rt, path) {
+        Ok(()) => UnixListener::bind_addr(rt, address),
+        Err(error) => Err(error),
+    }
 }
 
 // The address of a socket at this path.
@@ -167,13 +180,15 @@ impl<'a> Sockets<'a> {
         rt: &'r R,
         rank: u32,
     ) -> io::Result<Door<SocketFile<'r, R>>> {
-        let path = path_of(self.alloc, self.folder, rank)?;
-        match self.listen(rt, path.as_str()) {
-            Ok(listener) => self.guarded(rt, listener, path),
-            Err(error) => {
-                drop(path);
-                Err(error)
-            }
+        match path_of(self.alloc, self.folder, rank) {
+            Ok(path) => match self.listen(rt, path.as_str()) {
+                Ok(listener) => self.guarded(rt, listener, path),
+                Err(error) => {
+                    drop(path);
+                    Err(error)
+                }
+            },
+            Err(error) => Err(error.into()),
         }
     }
 
@@ -183,9 +198,11 @@ impl<'a> Sockets<'a> {
         rt: &R,
         path: &str,
     ) -> io::Result<UnixListener> {
-        let address = address_of(path)?;
-        match self.open(rt) {
-            Ok(()) => listen_at(rt, path, &address),
+        match address_of(path) {
+            Ok(address) => match self.open(rt) {
+                Ok(()) => listen_at(rt, path, &address),
+                Err(error) => Err(error),
+            },
             Err(error) => Err(error),
         }
     }

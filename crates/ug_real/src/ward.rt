@@ -27,10 +27,13 @@ fn spawn<R: Processes<Started = SystemProcess>>(
     command: &mut Command,
     socket: &str,
 ) -> io::Result<Child> {
-    command.args(["worker", "--socket", socket])?;
-    command.stdin(Stdio::piped());
-    command.stdout(Stdio::null());
-    command.spawn(rt)
+    match command.args(["worker", "--socket", socket]) {
+        Ok(command) => command
+            .stdin(Stdio::piped())
+            .stdout(Stdio::null())
+            .spawn(rt),
+        Err(error) => Err(error.into()),
+    }
 }
 
 impl Ward {
