@@ -42,6 +42,11 @@ fn push(text: &mut Vec<u8>, word: &str) -> bool {
     text.extend_from_slice(word.as_bytes()).is_ok()
 }
 
+// Appends a header, and the lines behind it.
+fn push_section(text: &mut Vec<u8>, header: &str, lines: &[u8]) -> bool {
+    push(text, header) && text.extend_from_slice(lines).is_ok()
+}
+
 // What a text says of its rows, and of its columns, section by section, without their headers.
 #[derive(Drop)]
 struct Sections {
@@ -92,8 +97,9 @@ impl Sections {
             }
         }
         let high = spelled(state, 4, 9);
-        so & push_line(&mut self.bounds, &["LO", "D", column, "-1"])
-            & push_line(&mut self.bounds, &["UP", "D", column, high])
+        // Two lines: a word may have an end of a line in it.
+        let bounds = ["LO D", column, "-1\n UP D", column, high];
+        so & push_line(&mut self.bounds, &bounds)
     }
 
     // A row that no point breaks, with a factor so large that no sum is kept in 64 bits.
@@ -118,16 +124,11 @@ impl Sections {
 
     // All of them behind their headers.
     fn push_all(&self, text: &mut Vec<u8>) -> bool {
-        push(text, "ROWS\n N Z\n")
-            & text.extend_from_slice(&self.rows).is_ok()
-            & push(text, "COLUMNS\n M 'MARKER' 'INTORG'\n")
-            & text.extend_from_slice(&self.columns).is_ok()
-            & push(text, "RHS\n Z -2\n")
-            & text.extend_from_slice(&self.sides).is_ok()
-            & push(text, "RANGES\n")
-            & text.extend_from_slice(&self.ranges).is_ok()
-            & push(text, "BOUNDS\n")
-            & text.extend_from_slice(&self.bounds).is_ok()
+        push_section(text, "ROWS\n N Z\n", &self.rows)
+            & push_section(text, "COLUMNS\n M 'MARKER' 'INTORG'\n", &self.columns)
+            & push_section(text, "RHS\n Z -2\n", &self.sides)
+            & push_section(text, "RANGES\n", &self.ranges)
+            & push_section(text, "BOUNDS\n", &self.bounds)
             & push(text, "ENDATA\n")
     }
 }

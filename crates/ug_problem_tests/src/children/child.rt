@@ -1,26 +1,52 @@
 //! Children that do as their ranks say.
 
 use std::alloc::AllocGlobal;
+use std::env;
 use std::fs::{Files, OpenOptions};
-use std::io::{ErrorKind, Write};
+use std::io::Write;
 use std::os::unix::fs::OpenOptionsExt;
 use std::rt::Env;
-use std::{env, io};
 
 // The program of this test.
-fn own_program<R: Env + AllocGlobal>(rt: &R) -> io::Result<String> {
-    match env::args(&(rt, rt.alloc()))?.next() {
-        Some(own) => Ok(own),
-        None => Err(io::Error::from(ErrorKind::NotFound)),
+fn own_program<R: Env + AllocGlobal>(rt: &R) -> Option<String> {
+    match env::args(&(rt, rt.alloc())) {
+        Ok(mut words) => {
+            let own = words.next();
+            drop(words);
+            own
+        }
+        Err(error) => {
+            drop(error);
+            None
+        }
     }
 }
 
-// Makes a program of this text.
-fn make_program<R: Files>(rt: &R, name: &str, text: &str) -> io::Result<()> {
+// Writes these parts, one behind another. Whether it could, as of each call here.
+fn write_parts(file: &mut impl Write, parts: &[&str]) -> bool {
+    for part in parts {
+        if file.write_all(part.as_bytes()).is_err() {
+            return false;
+        }
+    }
+    true
+}
+
+// Makes a program of these parts.
+fn make_program<R: Files>(rt: &R, name: &str, parts: &[&str]) -> bool {
     let mut ways = OpenOptions::new();
     ways.write(true).create(true).truncate(true).mode(0o700);
-    let mut file = ways.open(rt, name)?;
-    file.write_all(text.as_bytes())
+    match ways.open(rt, name) {
+        Ok(mut file) => {
+            let so = write_parts(&mut file, parts);
+            drop(file);
+            so
+        }
+        Err(error) => {
+            drop(error);
+            false
+        }
+    }
 }
 
 // Makes a program of the text that has this test's own program between two parts.
@@ -29,14 +55,19 @@ fn make_around_own<R: Files + Env + AllocGlobal>(
     name: &str,
     before: &str,
     behind: &str,
-) -> io::Result<()> {
-    let own = own_program(rt)?;
-    let text = format!(in rt.alloc(); "{before}{own}{behind}")?;
-    make_program(rt, name, text.as_str())
+) -> bool {
+    match own_program(rt) {
+        Some(own) => {
+            let so = make_program(rt, name, &[before, own.as_str(), behind]);
+            drop(own);
+            so
+        }
+        None => false,
+    }
 }
 
 /// Makes a program `echo` in this folder, which says back what it hears.
-pub fn make_echo<R: Files + Env + AllocGlobal>(rt: &R) -> io::Result<()> {
+pub fn make_echo<R: Files + Env + AllocGlobal>(rt: &R) -> bool {
     let before = "#!/bin/sh
 exec \"";
     let behind = "\" \"$@\"
@@ -45,7 +76,7 @@ exec \"";
 }
 
 /// Makes a program `solver` in this folder, which solves as the coordinator orders.
-pub fn make_solver<R: Files + Env + AllocGlobal>(rt: &R) -> io::Result<()> {
+pub fn make_solver<R: Files + Env + AllocGlobal>(rt: &R) -> bool {
     let before = "#!/bin/sh
 exec \"";
     let behind = "\" \"$@\" solve
@@ -55,7 +86,7 @@ exec \"";
 
 /// Makes a program `child` in this folder. As rank 0 it says back what it hears, as rank 1 a signal
 /// ends it, as rank 2 it ends with status 3, and as any other it never comes to its socket.
-pub fn make_child<R: Files + Env + AllocGlobal>(rt: &R) -> io::Result<()> {
+pub fn make_child<R: Files + Env + AllocGlobal>(rt: &R) -> bool {
     let before = "#!/bin/sh
 case \"$3\" in
 *ug-0.sock) exec \"";

@@ -39,6 +39,29 @@ fn talk(link: &mut impl Link) {
     }
 }
 
+// Whether it goes on, and where it does not, whether it is to stay once its link is closed.
+#[derive(Clone, Copy)]
+enum Next {
+    Hear,
+    Leave { stays: bool },
+}
+
+// Answers a piece, as `echo` does.
+fn answer(rt: &impl Clock, link: &mut impl Link, piece: &[u8]) -> Next {
+    match piece.first() {
+        Some(b'q') | None => {}
+        Some(b'h') => return Next::Leave { stays: true },
+        Some(b's') => stay(rt),
+        Some(b't') => talk(link),
+        Some(_) => {
+            if tell(link, piece) {
+                return Next::Hear;
+            }
+        }
+    }
+    Next::Leave { stays: false }
+}
+
 // Says back what it hears, as `echo` does. Whether it is to stay once its link is closed.
 fn serve(rt: &impl Clock, link: &mut impl Link) -> bool {
     let mut buffer = [0u8; 4096];
@@ -46,22 +69,8 @@ fn serve(rt: &impl Clock, link: &mut impl Link) -> bool {
         let Ok(Got::Bytes(count)) = link.read(&mut buffer, true) else {
             return false;
         };
-        let bytes = buffer.get(..count).unwrap_or(&[]);
-        match bytes.first() {
-            Some(b'q') | None => return false,
-            Some(b'h') => return true,
-            Some(b's') => {
-                stay(rt);
-                return false;
-            }
-            Some(b't') => {
-                talk(link);
-                return false;
-            }
-            Some(_) => {}
-        }
-        if !tell(link, bytes) {
-            return false;
+        if let Next::Leave { stays } = answer(rt, link, buffer.get(..count).unwrap_or(&[])) {
+            return stays;
         }
     }
     false

@@ -1,7 +1,7 @@
 use crate::expect::holds;
 use std::io::{ErrorKind, Read, Write};
 use std::net::Net;
-use std::os::unix::net::UnixListener;
+use std::os::unix::net::{UnixListener, UnixStream};
 use std::process::Abort;
 use std::thread::sleep;
 use std::time::{Clock, Duration};
@@ -22,14 +22,20 @@ fn reads(link: &mut impl Link, bytes: &[u8], waits: bool) -> bool {
     }
 }
 
-// Whether the link gives this where it does not wait.
-fn gives(link: &mut impl Link, wanted: Got) -> bool {
-    link.read(&mut [0u8; 4], false) == Ok(wanted)
-}
-
 // Until a link that does not wait looks again.
 fn pause(rt: &impl Clock) {
     sleep(rt, Duration::from_millis(1));
+}
+
+// Whether the link gives this once it looks again, where it does not wait.
+fn gives(rt: &impl Clock, link: &mut impl Link, wanted: Got) -> bool {
+    pause(rt);
+    link.read(&mut [0u8; 4], false) == Ok(wanted)
+}
+
+// Whether a read of the link fails.
+fn fails(link: &mut impl Link, waits: bool) -> bool {
+    link.read(&mut [0u8; 4], waits).is_err()
 }
 
 // Whether this is why the link's last call failed that did.
@@ -40,47 +46,55 @@ fn has_failed_by<R: Net + Clock>(link: &SocketLink<'_, R>, kind: ErrorKind) -> b
     }
 }
 
-// What was written goes in one piece, once the link looks.
-fn writes_at_a_look(rt: &(impl Abort + Clock), link: &mut impl Link, other: &mut impl Read) {
+// The other end of a link, once it has connected.
+fn other_end(rt: &impl Abort, listener: &UnixListener) -> UnixStream {
+    let (other, _) = listener.accept().expect(rt, "a connection");
+    other
+}
+
+// Whether the other end is told something, and a link that looks finds it there.
+fn tells(rt: &impl Clock, other: &mut impl Write, bytes: &[u8]) -> bool {
+    let so = other.write_all(bytes).is_ok();
+    pause(rt);
+    so
+}
+
+// Whether what was written goes in one piece, once the link looks.
+fn writes_at_a_look(rt: &impl Clock, link: &mut impl Link, other: &mut impl Read) -> bool {
     let mut buffer = [0u8; 4];
-    pause(rt);
-    holds(rt, gives(link, Got::Nothing));
-    holds(rt, other.read(&mut buffer).ok() == Some(4));
-    holds(rt, &buffer == b"hell");
+    gives(rt, link, Got::Nothing) && other.read(&mut buffer).unwrap_or(0) == 4 && &buffer == b"hell"
 }
 
-// What comes is read in pieces, with and without waiting.
-fn reads_in_pieces(rt: &(impl Abort + Clock), link: &mut impl Link, other: &mut impl Write) {
-    holds(rt, other.write_all(b"abcde").is_ok());
-    pause(rt);
-    holds(rt, reads(link, b"abcd", false));
-    holds(rt, reads(link, b"e", true));
-    pause(rt);
-    holds(rt, gives(link, Got::Nothing));
-    holds(rt, other.write_all(b"f").is_ok());
-    holds(rt, reads(link, b"f", true));
+// Whether what comes is read in pieces, with and without waiting.
+fn reads_in_pieces(rt: &impl Clock, link: &mut impl Link, other: &mut impl Write) -> bool {
+    tells(rt, other, b"abcde")
+        && reads(link, b"abcd", false)
+        && reads(link, b"e", true)
+        && gives(rt, link, Got::Nothing)
+        && other.write_all(b"f").is_ok()
+        && reads(link, b"f", true)
 }
 
-// The other end is gone, and has not read all that it was told.
-fn ends(rt: &(impl Abort + Clock), link: &mut impl Link) {
-    holds(rt, link.read(&mut [0u8; 4], true).is_err());
-    pause(rt);
-    holds(rt, gives(link, Got::End));
-    holds(rt, takes(link, b"y"));
-    holds(rt, link.read(&mut [0u8; 4], true).is_err());
+// Whether the link ends, where the other end is gone and has not read all that it was told.
+fn ends(rt: &impl Clock, link: &mut impl Link) -> bool {
+    fails(link, true) && gives(rt, link, Got::End) && takes(link, b"y") && fails(link, true)
+}
+
+// The link connects, and all goes over it, until it ends.
+fn goes_on_until_it_ends(rt: &(impl Abort + Clock), link: &mut impl Link, listener: &UnixListener) {
+    holds(rt, takes(link, b"he") && takes(link, b"llo"));
+    let mut other = other_end(rt, listener);
+    holds(rt, writes_at_a_look(rt, link, &mut other));
+    holds(rt, reads_in_pieces(rt, link, &mut other));
+    drop(other);
+    holds(rt, ends(rt, link));
 }
 
 #[test]
 fn a_link_reads_with_and_without_waiting_and_ends(rt: HostRuntime) {
     let listener = UnixListener::bind(&rt, "here.sock").expect(&rt, "a socket");
     let mut link = SocketLink::new(&rt, rt.alloc(), "here.sock");
-    holds(&rt, takes(&mut link, b"he"));
-    holds(&rt, takes(&mut link, b"llo"));
-    let (mut other, _) = listener.accept().expect(&rt, "a connection");
-    writes_at_a_look(&rt, &mut link, &mut other);
-    reads_in_pieces(&rt, &mut link, &mut other);
-    drop(other);
-    ends(&rt, &mut link);
+    goes_on_until_it_ends(&rt, &mut link, &listener);
     holds(&rt, has_failed_by(&link, ErrorKind::BrokenPipe));
     drop(link);
     drop(listener);
@@ -113,7 +127,7 @@ fn a_link_holds_back_no_more_than_it_has_room_for(rt: HostRuntime) {
     let listener = UnixListener::bind(&rt, "full.sock").expect(&rt, "a socket");
     let mut link = SocketLink::new(&rt, rt.alloc(), "full.sock");
     holds(&rt, takes_much(&mut link));
-    let (mut other, _) = listener.accept().expect(&rt, "a connection");
+    let mut other = other_end(&rt, &listener);
     holds(&rt, come_in_order(&mut other));
     drop(other);
     drop(link);
@@ -123,7 +137,7 @@ fn a_link_holds_back_no_more_than_it_has_room_for(rt: HostRuntime) {
 #[test]
 fn a_link_to_no_socket_is_a_fault_of_its_calls(rt: HostRuntime) {
     let mut link = SocketLink::new(&rt, rt.alloc(), "nowhere.sock");
-    holds(&rt, link.read(&mut [0u8; 4], false).is_err());
+    holds(&rt, fails(&mut link, false));
     holds(&rt, link.write(b"x").is_err());
     holds(&rt, has_failed_by(&link, ErrorKind::NotFound));
     drop(link);

@@ -1,6 +1,6 @@
 ghost use Rattle.std.specs.Prelude.{◌≡◌, ◌<◌, length};
 
-use std::alloc::{AllocError, AllocGlobal, Global};
+use std::alloc::AllocGlobal;
 use std::fs;
 use std::fs::{File, Files};
 use std::io::Read;
@@ -14,13 +14,14 @@ pub struct Tally {
     pub gone: usize,
 }
 
-/// So many times the bytes `a` to `g`.
-pub fn over_and_over(alloc: Global, count: usize) -> Result<Vec<u8>, AllocError> {
-    let mut bytes = Vec::new(alloc);
+/// Adds so many times the bytes `a` to `g`. Whether there was memory for them.
+pub fn put_over_and_over(bytes: &mut Vec<u8>, count: usize) -> bool {
     for _ in 0..count {
-        bytes.extend_from_slice(b"abcdefg")?;
+        if bytes.extend_from_slice(b"abcdefg").is_err() {
+            return false;
+        }
     }
-    Ok(bytes)
+    true
 }
 
 // The byte that comes behind so many.
@@ -134,7 +135,9 @@ pub fn is_clean<R: Files<File = File> + AllocGlobal>(rt: &R, folder: &str) -> bo
         let Ok(path) = format!(in rt.alloc(); "{folder}/ug-{rank}.sock") else {
             return false;
         };
-        if fs::exists(rt, path.as_str()).ok() == Some(true) {
+        let is_there = fs::exists(rt, path.as_str()).unwrap_or(false);
+        drop(path);
+        if is_there {
             return false;
         }
     }
@@ -144,7 +147,14 @@ pub fn is_clean<R: Files<File = File> + AllocGlobal>(rt: &R, folder: &str) -> bo
 // Whether this program has no child, where the system tells it.
 fn is_childless<R: Files<File = File>>(rt: &R) -> bool {
     match File::open(rt, "/proc/thread-self/children") {
-        Ok(mut file) => file.read(&mut [0u8; 8]).ok() == Some(0),
-        Err(_) => true,
+        Ok(mut file) => {
+            let is_empty = file.read(&mut [0u8; 8]).unwrap_or(1) == 0;
+            drop(file);
+            is_empty
+        }
+        Err(error) => {
+            drop(error);
+            true
+        }
     }
 }

@@ -3,62 +3,70 @@
 ghost use Rattle.std.specs.Prelude.{◌<◌, length};
 
 use crate::children::child::make_child;
-use crate::children::listening::{hears, is_clean, start, tell};
+use crate::children::listening::{hears, is_clean, start, start_three, tell};
 use crate::children::notes::{Notes, are_lines};
 use crate::expect::holds;
-use std::alloc::{AllocGlobal, Global};
+use std::alloc::AllocGlobal;
+use std::fs;
 use std::fs::{File, Files, Permissions};
 use std::net::Net;
 use std::os::unix::fs::PermissionsExt;
 use std::os::unix::net::UnixListener;
-use std::process::{Abort, Processes, SystemProcess};
+use std::process::{Processes, SystemProcess};
 use std::time::Clock;
-use std::{fs, io};
 use ug_io::Crew;
 use ug_real::{Children, ProcessCrew};
 
 // Leaves an old socket where the first rank's is to be. Another test may have left the folder.
 fn leave_socket<R: Files + Net>(rt: &R) -> bool {
-    let _ = fs::create_dir(rt, "sockets");
-    UnixListener::bind(rt, "sockets/ug-0.sock").is_ok()
+    drop(fs::create_dir(rt, "sockets"));
+    let listener = UnixListener::bind(rt, "sockets/ug-0.sock");
+    let so = listener.is_ok();
+    drop(listener);
+    so
 }
 
-// Of four ranks two end, one says back what it hears, and one never comes.
-fn loses_two<C: Crew>(rt: &impl Abort, crew: &mut C)
+// Whether of four ranks just the first and the last live.
+fn outer_two_live<C: Crew>(crew: &C) -> bool {
+    crew.is_alive(0) && !crew.is_alive(1) && !crew.is_alive(2) && crew.is_alive(3)
+}
+
+// Whether of four ranks two end, one says back what it hears, and one never comes.
+fn loses_two<C: Crew>(crew: &mut C) -> bool
     requires { 3 < length (C.seen crew.old).lives }
 {
-    holds(rt, start(crew, 3));
-    holds(rt, start(crew, 0));
-    holds(rt, start(crew, 1));
-    holds(rt, start(crew, 2));
-    holds(rt, tell(crew, 0, b"abc"));
-    holds(rt, hears(crew, [3, 0, 0], 2));
-    holds(rt, crew.is_alive(0));
-    holds(rt, !crew.is_alive(1));
-    holds(rt, !crew.is_alive(2));
-    holds(rt, crew.is_alive(3));
-    holds(rt, tell(crew, 0, b"q"));
+    let so = start(crew, 3)
+        && start_three(crew)
+        && tell(crew, 0, b"abc")
+        && hears(crew, [3, 0, 0], 2)
+        && outer_two_live(crew)
+        && tell(crew, 0, b"q");
     crew.finish();
+    so
 }
 
-#[test]
-fn of_children_that_end_by_a_signal_or_before_they_come_each_is_gone_once(rt: HostRuntime) {
+// Whether a crew of four ranks loses two, and nothing is left by then. The lines have why.
+fn loses_two_of_four(rt: &HostRuntime, lines: &mut Vec<String>) -> bool {
     let alloc = rt.alloc();
-    holds(&rt, make_child(&rt).is_ok());
-    holds(&rt, leave_socket(&rt));
     let children = Children {
         program: "./child",
         sockets: "sockets",
     };
-    let mut lines = Vec::new(alloc);
-    let notes = Notes {
-        alloc,
-        lines: &mut lines,
-    };
-    let mut crew = ProcessCrew::new(&rt, alloc, 4, children, notes).expect(&rt, "memory");
-    loses_two(&rt, &mut crew);
-    holds(&rt, is_clean(&rt, "sockets"));
-    drop(crew);
+    match ProcessCrew::new(rt, alloc, 4, children, Notes { alloc, lines }) {
+        Ok(mut crew) => {
+            let so = loses_two(&mut crew) && is_clean(rt, "sockets");
+            drop(crew);
+            so
+        }
+        Err(_) => false,
+    }
+}
+
+#[test]
+fn of_children_that_end_by_a_signal_or_before_they_come_each_is_gone_once(rt: HostRuntime) {
+    let mut lines = Vec::new(rt.alloc());
+    holds(&rt, make_child(&rt) && leave_socket(&rt));
+    holds(&rt, loses_two_of_four(&rt, &mut lines));
     let wanted = ["1 killed by signal 9", "2 ended with status 3"];
     holds(&rt, are_lines(lines, &wanted));
 }
@@ -93,32 +101,10 @@ const CASES: &[(&str, &str, &str)] = &[
 ];
 
 // Makes a folder that others may write, and a file that is no folder.
-fn make_bad_folders<R: Files>(rt: &R) -> io::Result<()> {
-    fs::create_dir(rt, "others")?;
-    fs::set_permissions(rt, "others", Permissions::from_mode(0o733))?;
-    fs::write(rt, "file", b"no folder")
-}
-
-// Whether no child is started with these, for this reason, and nothing is left.
-fn leaves_nothing<R>(rt: &R, alloc: Global, children: Children<'_>, why: &str) -> bool
-where
-    R: Files<File = File> + Net + Processes<Started = SystemProcess> + Clock + AllocGlobal,
-{
-    let mut lines = Vec::new(alloc);
-    let notes = Notes {
-        alloc,
-        lines: &mut lines,
-    };
-    let so = match ProcessCrew::new(rt, alloc, 1, children, notes) {
-        Ok(mut crew) => {
-            let so = is_not_started(&mut crew);
-            drop(crew);
-            so
-        }
-        Err(_) => false,
-    };
-    let is_told = are_lines(lines, &[why]);
-    so && is_told && is_clean(rt, children.sockets)
+fn make_bad_folders<R: Files>(rt: &R) -> bool {
+    fs::create_dir(rt, "others").is_ok()
+        && fs::set_permissions(rt, "others", Permissions::from_mode(0o733)).is_ok()
+        && fs::write(rt, "file", b"no folder").is_ok()
 }
 
 // Whether the one rank is not started, and nothing comes.
@@ -130,12 +116,37 @@ fn is_not_started<C: Crew>(crew: &mut C) -> bool
     so
 }
 
+// Whether no child is started with these, and the lines have why.
+fn starts_none<R>(rt: &R, children: Children<'_>, lines: &mut Vec<String>) -> bool
+where
+    R: Files<File = File> + Net + Processes<Started = SystemProcess> + Clock + AllocGlobal,
+{
+    let alloc = rt.alloc();
+    match ProcessCrew::new(rt, alloc, 1, children, Notes { alloc, lines }) {
+        Ok(mut crew) => {
+            let so = is_not_started(&mut crew);
+            drop(crew);
+            so
+        }
+        Err(_) => false,
+    }
+}
+
+// Whether no child is started with these, for this reason, and nothing is left.
+fn leaves_nothing<R>(rt: &R, children: Children<'_>, why: &str) -> bool
+where
+    R: Files<File = File> + Net + Processes<Started = SystemProcess> + Clock + AllocGlobal,
+{
+    let mut lines = Vec::new(rt.alloc());
+    let so = starts_none(rt, children, &mut lines);
+    are_lines(lines, &[why]) && so && is_clean(rt, children.sockets)
+}
+
 #[test]
 fn a_child_that_cannot_be_started_leaves_nothing(rt: HostRuntime) {
-    holds(&rt, make_child(&rt).is_ok());
-    holds(&rt, make_bad_folders(&rt).is_ok());
+    holds(&rt, make_child(&rt) && make_bad_folders(&rt));
     for &(program, sockets, why) in CASES {
         let children = Children { program, sockets };
-        holds(&rt, leaves_nothing(&rt, rt.alloc(), children, why));
+        holds(&rt, leaves_nothing(&rt, children, why));
     }
 }

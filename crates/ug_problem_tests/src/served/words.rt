@@ -66,18 +66,26 @@ fn put(body: &mut Vec<u8>, bytes: &[u8]) -> bool {
     body.extend_from_slice(bytes).is_ok()
 }
 
-// A tag, and the run and the number of a ticket.
-fn put_ticket(body: &mut Vec<u8>, tag: u8, ticket: Ticket) -> bool {
-    put(body, &[tag])
-        & put(body, &ticket.run.to_be_bytes())
-        & put(body, &ticket.number.to_be_bytes())
+// A number in 64 bits.
+fn put_number(body: &mut Vec<u8>, number: u64) -> bool {
+    put(body, &number.to_be_bytes())
 }
 
-// 0, or 1 and the number.
-fn put_optional(body: &mut Vec<u8>, number: Option<i128>) -> bool {
-    match number {
+// A value in 128 bits.
+fn put_value(body: &mut Vec<u8>, value: i128) -> bool {
+    put(body, &value.to_be_bytes())
+}
+
+// A tag, and the run and the number of a ticket.
+fn put_ticket(body: &mut Vec<u8>, tag: u8, ticket: Ticket) -> bool {
+    put(body, &[tag]) & put_number(body, ticket.run) & put_number(body, ticket.number)
+}
+
+// 0, or 1 and the value.
+fn put_optional(body: &mut Vec<u8>, value: Option<i128>) -> bool {
+    match value {
         None => put(body, &[0]),
-        Some(number) => put(body, &[1]) & put(body, &number.to_be_bytes()),
+        Some(value) => put(body, &[1]) & put_value(body, value),
     }
 }
 
@@ -118,7 +126,7 @@ fn put_order(body: &mut Vec<u8>, order: &Ordered) -> bool {
                 & put_optional(body, work.cutoff)
                 & put_changes(body, work.changes)
         }
-        Ordered::Incumbent { cutoff } => put(body, &[3]) & put(body, &cutoff.to_be_bytes()),
+        Ordered::Incumbent { cutoff } => put(body, &[3]) & put_value(body, *cutoff),
         Ordered::CollectIn { ticket, count } => {
             put_ticket(body, 4, *ticket) & put(body, &count.to_be_bytes())
         }
@@ -141,27 +149,19 @@ fn put_report(body: &mut Vec<u8>, report: &Reported) -> bool {
             number,
             changes,
         } => {
-            put_ticket(body, 19, *ticket)
-                & put(body, &number.to_be_bytes())
-                & put_changes(body, changes)
+            put_ticket(body, 19, *ticket) & put_number(body, *number) & put_changes(body, changes)
         }
         Reported::State {
             ticket,
             left,
             floor,
-        } => {
-            put_ticket(body, 20, *ticket)
-                & put(body, &left.to_be_bytes())
-                & put(body, &floor.to_be_bytes())
-        }
+        } => { put_ticket(body, 20, *ticket) & put_number(body, *left) & put_value(body, *floor) }
         Reported::Done {
             ticket,
             cutoff,
             count,
         } => {
-            put_ticket(body, 21, *ticket)
-                & put_optional(body, *cutoff)
-                & put(body, &count.to_be_bytes())
+            put_ticket(body, 21, *ticket) & put_optional(body, *cutoff) & put_number(body, *count)
         }
         Reported::Ended => put(body, &[22]),
     }
@@ -194,7 +194,7 @@ pub fn add_reports(alloc: Global, bytes: &mut Vec<u8>, reports: &[Reported]) -> 
 fn put_setup(frame: &mut Vec<u8>, gap: i128, record: &[u8]) -> bool {
     put_count(frame, record.len().saturating_add(17))
         & put(frame, &[1])
-        & put(frame, &gap.to_be_bytes())
+        & put_value(frame, gap)
         & put(frame, record)
 }
 
