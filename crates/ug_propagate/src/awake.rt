@@ -35,8 +35,8 @@ fn next_in(word: u64, low: usize) -> Option<usize>
     Some(low + left.trailing_zeros() as usize)
 }
 
-// Whether no row of four words, this one the first, is awake. All four are read before one is tested:
-// so they are tested together.
+// Whether no row of four words, this one the first, is awake. All four are read before one is
+// tested: so they are tested together.
 #[tactic(auto, using(crate::proofs::Bits::four_asleep))]
 fn are_asleep(words: &[u64], at: usize) -> bool
     requires { at + 4 ≤ length words.now }

@@ -95,8 +95,8 @@ pub fn cut_at_least(reason: Reason, term: Term, least: i128, area: &[Interval]) 
     }
 }
 
-/// What a room under the high side leaves of the term's column: its product goes at most that far up
-/// from its least.
+/// What a room under the high side leaves of the term's column: its product goes at most that far
+/// up from its least.
 pub fn cut_up(reason: Reason, term: Term, room: i128, area: &[Interval]) -> Cut
     requires term { IsTermOf (length area.now) term }
     requires room { unsigned_abs room ≤ 9 * 10 ^ 37 }

@@ -1,8 +1,8 @@
 //! Bound propagation: rows that tighten the columns of a box, until nothing changes. It stands on
 //! ug_rows and ug_problem. `tighten` gives what 32 rounds leave, as specs/Rounds.antt says; every
 //! feasible point of the box with a value below the cutoff is left, and where nothing is left it
-//! names the row that shows it. The sums of the rows are kept up, and a row waits until one of its
-//! columns changes; `tighten_plain`, the slow program that the definition is, looks at all rows.
+//! names the row that shows it. The sums of the rows are kept up, and a row waits until it
+//! loses room; `tighten_plain`, the slow program that the definition is, looks at all rows.
 #![tactic(auto)]
 
 mod awake;

@@ -1,5 +1,5 @@
-//! Looks at a row of a working box in 64 bits: the same steps as in 128, where the problem's sums and
-//! the sides of the row fit.
+//! Looks at a row of a working box in 64 bits: the same steps as in 128, where the problem's sums
+//! and the sides of the row fit.
 
 ghost use Rattle.std.specs.Prelude.{◌≡◌, ◌≤◌, ◌^◌, ◌*ℤ◌, ◌-ℤ◌, ◌≤ℤ◌, pos, length, unsigned_abs, IfOk, IsTrue};
 ghost use Rattle.ug_rows.specs.Boxes.{interval_at};

@@ -1,5 +1,5 @@
-//! One pass over the terms of a row in 64 bits: its sums, how far its terms reach, and whether it is
-//! short.
+//! One pass over the terms of a row in 64 bits: its sums, how far its terms reach, and whether it
+//! is short.
 
 ghost use Rattle.std.specs.Prelude.{◌≡◌, ◌+◌, ◌<◌, ◌≤◌, ◌*◌, ◌^◌, ◌+ℤ◌, ◌-ℤ◌, ◌*ℤ◌, ◌≤ℤ◌, ◌⊎◌, length, unsigned_abs, IfSome};
 ghost use Rattle.ug_rows.specs.Boxes.{HasSmallEnds};

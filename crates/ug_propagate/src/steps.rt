@@ -16,8 +16,8 @@ fn are_few(steps: u64, side: Interval) -> bool
     }
 }
 
-/// How many whole steps of a size lie within a room, if they are fewer than the interval is wide, and
-/// room and size are of 64 bits.
+/// How many whole steps of a size lie within a room, if they are fewer than the interval is wide,
+/// and room and size are of 64 bits.
 pub fn steps_within(room: i128, size: u128, side: Interval) -> Option<u64>
     requires { 0 < size }
     ensures { IfSome result (AreSteps room size side) }
@@ -55,8 +55,8 @@ fn down(side: Interval, steps: u64) -> Interval
     }
 }
 
-/// The values at most so many steps from the end at which the product with a factor is the least, or
-/// the greatest.
+/// The values at most so many steps from the end at which the product with a factor is the least,
+/// or the greatest.
 pub fn near(extreme: Extreme, factor: i128, side: Interval, steps: u64) -> Interval
     requires { pos steps <ℤ (side.high -ℤ side.low) }
     ensures { result ≡ near_end extreme factor side steps }

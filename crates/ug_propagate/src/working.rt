@@ -207,8 +207,8 @@ impl Working {
     }
 
     /// Goes over to the rows of another problem of the same columns: its sums are taken over the
-    /// box, how far its rows reach over the whole box, and each row is awake. After an error nothing
-    /// was changed.
+    /// box, how far its rows reach over the whole box, and each row is awake. After an error
+    /// nothing was changed.
     pub fn over(
         &mut self,
         alloc: Global,
@@ -297,7 +297,8 @@ impl Working {
         self.reach[r]
     }
 
-    /// Gives a column another interval, and wakes its rows. After an error nothing was changed.
+    /// Gives a column another interval, and wakes the rows that lose room by it. After an error
+    /// nothing was changed.
     pub fn change(
         &mut self,
         problem: &Problem,
@@ -387,7 +388,8 @@ impl Working {
         self.trail.len()
     }
 
-    /// Narrows a column, and wakes its rows. After an error nothing was changed.
+    /// Narrows a column, and wakes the rows that lose room by it. After an error nothing was
+    /// changed.
     #[tactic(auto, using(crate::proofs::Changing::step_change, crate::proofs::Stepping::step_same))]
     pub fn cut(&mut self, problem: &Problem, column: u32, side: Interval) -> Result<(), AllocError>
         requires there { column < length problem.now.columns }
