@@ -10,7 +10,6 @@ use Rattle.ug_ranks.specs.declared.state.State.{State}
 use Rattle.ug_ranks.specs.declared.state.State.TheVariants.{Idle}
 use Rattle.ug_ranks.specs.States.{state_at}
 use Rattle.ug_ranks.specs.Changes.{won}
-use Rattle.ug_rules.specs.declared.told.Told.{Told}
 use Rattle.ug_rules.specs.State.{BookState, cutoff_of_best}
 use Rattle.ug_rules.specs.Ranks.{of_ranks, racers_freed, rank_if}
 use Rattle.ug_ranks.specs.Looks.{is_idle, is_racing}

@@ -1,4 +1,4 @@
-use Rattle.std.proofs.Common.{ap, length, refl, List, of_z, to_z, arith}
+use Rattle.std.proofs.Common.{ap, length, List, of_z, to_z, arith}
 use mir.Syntax.{w128}
 use Rattle.ug_ranks.specs.declared.state.State.{State}
 use Rattle.ug_rules.specs.State.{nodes_of}

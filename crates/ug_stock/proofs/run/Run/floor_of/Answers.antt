@@ -1,4 +1,4 @@
-use Rattle.std.proofs.Common.{◌≡◌, ◌≤◌, ◌*◌, ◌^◌, ℤ, arith, subst, sym}
+use Rattle.std.proofs.Common.{◌≤◌, ◌*◌, ◌^◌, ℤ, arith, subst, sym}
 use Rattle.std.specs.Prelude.{unsigned_abs}
 use Rattle.std.proofs.lemmas.Int.{fits_signed_from_abs, to_z-of_z}
 use mir.Syntax.{w128}

@@ -1,5 +1,4 @@
 use Rattle.std.proofs.Common.{ap, sym, subst, refl, length, List, arith}
-use Rattle.std.specs.Prelude.{None}
 use Rattle.std.proofs.lemmas.Bool.{false≢true}
 use Rattle.ug_ranks.specs.declared.state.State.{State}
 use Rattle.ug_stock.specs.declared.stock.Stock.{Stock}
