@@ -1,12 +1,11 @@
 //! A lock by turns round one value, which tells the history that it stands for. Who wants the value
-//! goes in at the gate, draws a number, takes the value when it is served, and passes the turn on.
-//! The history stands in proofs alone: what each seat has seen of it is a beginning of it, and the
-//! entries of each pass are the pass's own calls, each once. Beside the lock stands a cutoff, which
-//! only falls and is read without a turn.
+//! goes in at the turnstile, draws a number, takes the value when it is served, and passes the turn
+//! on. The history stands in proofs alone: what each seat has seen of it is a beginning of it, and
+//! the entries of each pass are the pass's own calls, each once. Beside the lock stands a cutoff,
+//! which only falls and is read without a turn.
 #![tactic(auto)]
 
 mod closing;
-mod gate;
 mod held;
 mod lasting;
 mod notes;
@@ -18,6 +17,7 @@ mod seat;
 mod steps;
 mod taking;
 mod turn;
+mod turnstile;
 mod view;
 
 pub use lasting::Lasting;

@@ -9,15 +9,15 @@ const LOOKS: u32 = 100;
 /// within, so that the number is served at once: were they served in the order in which they came,
 /// each that sleeps would keep all behind it waiting until it is awake. No promise rests on it.
 #[derive(Drop)]
-pub struct Gate {
+pub struct Turnstile {
     // 0 where nobody is in, 1 where somebody is, 2 where others may sleep besides.
     word: AtomicU64,
 }
 
-impl Gate {
+impl Turnstile {
     /// Nobody is in.
-    pub fn new() -> Gate {
-        Gate {
+    pub fn new() -> Turnstile {
+        Turnstile {
             word: AtomicU64::new(0),
         }
     }
