@@ -24,8 +24,8 @@ pub enum Half {
     Upper,
 }
 
-/// What a search leaves out: boxes that bound propagation empties, or also those that a weighted sum of
-/// rows bounds.
+/// What a search leaves out: boxes that bound propagation empties, or also those that a weighted
+/// sum of rows bounds.
 #[derive(Clone, Copy, PartialEq, Eq)]
 pub enum Base {
     /// Bound propagation over the problem's rows.

@@ -3,8 +3,8 @@ use crate::row::RowDraft;
 use crate::scaling::{range_of, side_of};
 use ug_problem::{Decimal, MOST_FACTOR, MOST_SIDE};
 
-/// Why a text is refused, by the word at fault: more than its kind tells. No definition pins it, since
-/// it is for standard error alone.
+/// Why a text is refused, by the word at fault: more than its kind tells. No definition pins it,
+/// since it is for standard error alone.
 #[derive(Clone, Copy, PartialEq, Eq)]
 pub enum Cause {
     /// The kind of the fault tells it.

@@ -27,8 +27,8 @@ pub enum Came {
 /// Solvers, each a rank, as their coordinator sees them: programs behind sockets, or a script in
 /// memory. Ranks count from 0.
 pub trait Crew {
-    /// What was heard and told and who is gone, in order, where it tells it; who lives; and how often
-    /// it has failed.
+    /// What was heard and told and who is gone, in order, where it tells it; who lives; and how
+    /// often it has failed.
     ghost seen: { Self → CrewSeen };
 
     /// Whether the rank lives: it was launched, and is neither gone nor shut.

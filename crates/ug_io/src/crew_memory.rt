@@ -9,7 +9,8 @@ use crate::outside::Failed;
 use crate::script::Script;
 use std::alloc::{AllocError, Global};
 
-/// What comes from a rank of a crew in memory: these bytes, or, where there are none, that it is gone.
+/// What comes from a rank of a crew in memory: these bytes, or, where there are none, that it is
+/// gone.
 #[derive(Clone, Copy)]
 pub struct Piece<'a> {
     pub rank: u32,
@@ -17,8 +18,8 @@ pub struct Piece<'a> {
 }
 
 /// Pieces in memory as a crew, which keeps what was heard and told. What comes of a rank that does
-/// not live is passed over; where nothing comes any more a turn fails. It fails too where its script
-/// says, or memory is wanting.
+/// not live is passed over; where nothing comes any more a turn fails. It fails too where its
+/// script says, or memory is wanting.
 #[derive(Drop)]
 pub struct MemoryCrew<'a> {
     alloc: Global,

@@ -1,8 +1,8 @@
 ghost use Rattle.ug_problem.specs.Better.{BetterIsBelowCutoff, CoveredUnderMore};
 ghost use Rattle.ug_problem.specs.Right.{OneIsKept};
 
-/// A point is better than those kept by more than the gap exactly where it is feasible, is not kept,
-/// and its value is below the cutoff of the last, if as many are kept as may be.
+/// A point is better than those kept by more than the gap exactly where it is feasible, is not
+/// kept, and its value is below the cutoff of the last, if as many are kept as may be.
 #[tactic(auto, using(crate::proofs::Cutoffs::better_below_cutoff))]
 pub fn better_is_below_the_cutoff()
     ensures { BetterIsBelowCutoff }

@@ -175,8 +175,8 @@ fn stands_of(
     }
 }
 
-// The box of all bounds, where each column stands, and which rows lose room with it, if the parts are
-// within the limits.
+// The box of all bounds, where each column stands, and which rows lose room with it, if the parts
+// are within the limits.
 fn derived_from(
     alloc: Global,
     columns: &[Column],

@@ -31,6 +31,5 @@ pub use plain::tighten_plain;
 pub use propagation::tighten;
 pub use resting::Rest;
 pub use settle::{propagate, rest_after};
-pub use sums::Sums;
 pub use tight::{Reason, Side, Tight};
 pub use working::{Trailed, Working};

@@ -136,8 +136,8 @@ fn no_row(alloc: Global) -> Row
     }
 }
 
-// Row r with the sides that rounding leaves over a box, if it moves them; one that no point keeps to
-// where it leaves none.
+// Row r with the sides that rounding leaves over a box, if it moves them; one that no point keeps
+// to where it leaves none.
 fn rounded_row(
     alloc: Global,
     problem: &Problem,
@@ -336,9 +336,9 @@ fn with_rows(
     }
 }
 
-/// The problem with more rows, if any follow from these lists of multipliers, from what the box makes
-/// of its rows, and from the cutoff, and if that is within the limits of a problem. Without a cutoff
-/// one more than the greatest value in the box stands in its place.
+/// The problem with more rows, if any follow from these lists of multipliers, from what the box
+/// makes of its rows, and from the cutoff, and if that is within the limits of a problem. Without a
+/// cutoff one more than the greatest value in the box stands in its place.
 #[tactic(auto, using(crate::proofs::Follows::follows_over, crate::proofs::Follows::more_formed))]
 pub fn stronger(
     alloc: Global,

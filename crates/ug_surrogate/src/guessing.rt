@@ -227,8 +227,8 @@ fn allowed(row: &Row, weight: i64) -> i64 {
     weight.max(low).min(high)
 }
 
-// How far the weight of a row goes that misses its side by so much, in weights of the row, which are
-// the lesser the greater its factors are.
+// How far the weight of a row goes that misses its side by so much, in weights of the row, which
+// are the lesser the greater its factors are.
 fn change(miss: i128, size: u32, ratio: i128) -> i64 {
     let by = miss
         .wrapping_mul(ratio)
@@ -314,8 +314,8 @@ impl Guess {
         step_all(self.weights.as_mut_slice(), problem, misses, sizes, ratio);
     }
 
-    // So many steps at most, which are halved some times on the way. It ends where no row is missed, or
-    // where many steps in a row bring nothing.
+    // So many steps at most, which are halved some times on the way. It ends where no row is
+    // missed, or where many steps in a row bring nothing.
     fn search(&mut self, problem: &Problem, area: &[Interval], d: u32, steps: u32) {
         size_all(self.sizes.as_mut_slice(), problem);
         let mut best = i128::MIN;

@@ -2,7 +2,8 @@
 //! ug_rows and ug_problem. `bound` is at most each feasible value of a box, whatever the weights:
 //! `guessed` ones need no proof. `implied` is the row that each feasible point with a value below a
 //! cutoff keeps to. `rounded` moves the sides of a row inwards to the sums that it can have over a
-//! box. `stronger` is the problem with such rows behind its own, which a search may keep to instead.
+//! box. `stronger` is the problem with such rows behind its own, which a search may keep to
+//! instead.
 #![tactic(auto)]
 
 mod columns;
