@@ -1,10 +1,11 @@
 //! A crew in memory: for tests.
 
-ghost use Rattle.std.specs.Prelude.{◌≡◌, ◌<◌, ◌++◌, [], ℕ, List, Some, true, false, length, replicate, IfOk, IfSome, OnOk, OnErr};
+ghost use Rattle.std.specs.Prelude.{◌≡◌, ◌<◌, [], ℕ, List, Some, true, false, length, replicate, IfOk, IfSome, OnErr};
 ghost use Rattle.ug_io.specs.Outside.{Rose};
-ghost use Rattle.ug_io.specs.Crews.{HasTurned, IsAlive, IsSilent, heard_from, told_to};
+ghost use Rattle.ug_io.specs.Crews.{HasTurned, IsAlive, IsSilent};
 
 use crate::crew::{Came, Crew, Exchange};
+use crate::keeping::{keep_from, keep_to};
 use crate::outside::Failed;
 use crate::script::Script;
 use std::alloc::{AllocError, Global};
@@ -115,7 +116,7 @@ impl<'a> MemoryCrew<'a> {
             .script
             .portion(buffer.len().min(self.piece.bytes.len()));
         let (front, after) = self.piece.bytes.split_at(count);
-        if keep_heard(self.alloc, &mut self.exchanged, rank, front).is_err() {
+        if keep_from(self.alloc, &mut self.exchanged, rank, front).is_err() {
             self.script.fail();
             return Err(Failed);
         }
@@ -159,54 +160,6 @@ impl<'a> MemoryCrew<'a> {
     }
 }
 
-// These bytes as heard from the rank.
-fn as_heard(alloc: Global, rank: u32, bytes: &[u8]) -> Result<Vec<Exchange>, AllocError>
-    ensures { IfOk result (λ said. said.items ≡ heard_from rank bytes.now) }
-{
-    bytes
-        .iter()
-        .map(|byte| Exchange::Heard { rank, byte: *byte })
-        .collect(alloc)
-}
-
-// These bytes as told to it.
-fn as_told(alloc: Global, rank: u32, bytes: &[u8]) -> Result<Vec<Exchange>, AllocError>
-    ensures { IfOk result (λ said. said.items ≡ told_to rank bytes.now) }
-{
-    bytes
-        .iter()
-        .map(|byte| Exchange::Told { rank, byte: *byte })
-        .collect(alloc)
-}
-
-// Keeps these bytes as heard from the rank.
-fn keep_heard(
-    alloc: Global,
-    exchanged: &mut Vec<Exchange>,
-    rank: u32,
-    bytes: &[u8],
-) -> Result<(), AllocError>
-    ensures ok { OnOk result (exchanged.new.items ≡ exchanged.old.items ++ heard_from rank bytes.now) }
-    ensures err { OnErr result (exchanged.new.items ≡ exchanged.old.items) }
-{
-    let more = as_heard(alloc, rank, bytes)?;
-    exchanged.extend_from_slice(&more)
-}
-
-// Keeps these bytes as told to it.
-fn keep_told(
-    alloc: Global,
-    exchanged: &mut Vec<Exchange>,
-    rank: u32,
-    bytes: &[u8],
-) -> Result<(), AllocError>
-    ensures ok { OnOk result (exchanged.new.items ≡ exchanged.old.items ++ told_to rank bytes.now) }
-    ensures err { OnErr result (exchanged.new.items ≡ exchanged.old.items) }
-{
-    let more = as_told(alloc, rank, bytes)?;
-    exchanged.extend_from_slice(&more)
-}
-
 impl Crew for MemoryCrew<'_> {
     ghost use Rattle.ug_io.specs.CrewMemories.{crew_seen};
 
@@ -234,7 +187,7 @@ impl Crew for MemoryCrew<'_> {
 
     fn send(&mut self, rank: u32, bytes: &[u8]) -> Result<(), Failed> {
         self.script.step()?;
-        if keep_told(self.alloc, &mut self.exchanged, rank, bytes).is_err() {
+        if keep_to(self.alloc, &mut self.exchanged, rank, bytes).is_err() {
             self.script.fail();
             return Err(Failed);
         }

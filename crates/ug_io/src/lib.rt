@@ -9,6 +9,7 @@
 mod buffer;
 mod crew;
 mod crew_memory;
+mod keeping;
 mod link;
 mod link_memory;
 mod memory;
@@ -18,6 +19,7 @@ mod script;
 pub use buffer::zeros;
 pub use crew::{Came, Crew, Exchange};
 pub use crew_memory::{MemoryCrew, Piece};
+pub use keeping::{keep_from, keep_heard, keep_to, keep_told};
 pub use link::{Got, Link, Said};
 pub use link_memory::MemoryLink;
 pub use memory::{MemorySink, MemorySource, ScriptedSource};

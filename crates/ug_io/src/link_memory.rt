@@ -1,9 +1,10 @@
 //! A link in memory: for tests, and for whoever has the bytes already.
 
-ghost use Rattle.std.specs.Prelude.{◌≡◌, ◌<◌, ◌++◌, [], Some, true, false, length, IsTrue, IfOk, OnOk, OnErr};
+ghost use Rattle.std.specs.Prelude.{◌≡◌, ◌<◌, [], Some, true, false, length, IsTrue, IfOk, OnErr};
 ghost use Rattle.ug_io.specs.Outside.{IsCounted};
-ghost use Rattle.ug_io.specs.Links.{HasRead, IsSilent, heard, told};
+ghost use Rattle.ug_io.specs.Links.{HasRead, IsSilent};
 
+use crate::keeping::{keep_heard, keep_told};
 use crate::link::{Got, Link, Said};
 use crate::outside::Failed;
 use crate::script::Script;
@@ -125,38 +126,6 @@ impl<'a> MemoryLink<'a> {
         }
         self.wait(buffer)
     }
-}
-
-// These bytes as heard.
-fn as_heard(alloc: Global, bytes: &[u8]) -> Result<Vec<Said>, AllocError>
-    ensures { IfOk result (λ said. said.items ≡ heard bytes.now) }
-{
-    bytes.iter().map(|byte| Said::Heard(*byte)).collect(alloc)
-}
-
-// These bytes as told.
-fn as_told(alloc: Global, bytes: &[u8]) -> Result<Vec<Said>, AllocError>
-    ensures { IfOk result (λ said. said.items ≡ told bytes.now) }
-{
-    bytes.iter().map(|byte| Said::Told(*byte)).collect(alloc)
-}
-
-// Keeps these bytes as heard.
-fn keep_heard(alloc: Global, said: &mut Vec<Said>, bytes: &[u8]) -> Result<(), AllocError>
-    ensures ok { OnOk result (said.new.items ≡ said.old.items ++ heard bytes.now) }
-    ensures err { OnErr result (said.new.items ≡ said.old.items) }
-{
-    let more = as_heard(alloc, bytes)?;
-    said.extend_from_slice(&more)
-}
-
-// Keeps these bytes as told.
-fn keep_told(alloc: Global, said: &mut Vec<Said>, bytes: &[u8]) -> Result<(), AllocError>
-    ensures ok { OnOk result (said.new.items ≡ said.old.items ++ told bytes.now) }
-    ensures err { OnErr result (said.new.items ≡ said.old.items) }
-{
-    let more = as_told(alloc, bytes)?;
-    said.extend_from_slice(&more)
 }
 
 impl Link for MemoryLink<'_> {

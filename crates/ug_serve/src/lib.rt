@@ -7,7 +7,6 @@
 #![tactic(auto)]
 
 mod crew;
-mod exchanging;
 mod held;
 mod holding;
 mod kept;

@@ -5,12 +5,11 @@ ghost use Rattle.ug_io.specs.declared.crew.Exchange.{Exchange};
 ghost use Rattle.ug_io.specs.Crews.{heard_from, told_to};
 ghost use Rattle.ug_serve.specs.Staffs.{IsPlace, IsSteady};
 
-use crate::exchanging::keep_to;
 use crate::held::step_queue;
 use crate::queue_link::QueueLink;
 use crate::server::{Moved, Progress, Server};
 use std::alloc::{AllocError, Global};
-use ug_io::Exchange;
+use ug_io::{Exchange, keep_to};
 
 /// Places a worker, where there is none. It reads into this buffer.
 pub fn man(alloc: Global, place: &mut Option<Server<QueueLink>>, input: Vec<u8>) -> bool

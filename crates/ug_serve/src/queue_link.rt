@@ -6,12 +6,11 @@ ghost use Rattle.ug_io.specs.Crews.{heard_from};
 ghost use Rattle.ug_io.specs.Links.{HasRead, HasTold, IsSilent, heard, told};
 ghost use Rattle.ug_serve.specs.Queues.{IsQueue, IsUntouched, queue_seen};
 
-use crate::exchanging::keep_from;
 use crate::parts::{copy_part, least, part};
-use crate::saying::{keep_both, keep_heard};
+use crate::saying::keep_both;
 use std::alloc::{AllocError, Global};
 use std::marker::Model;
-use ug_io::{Exchange, Failed, Got, Link, Said};
+use ug_io::{Exchange, Failed, Got, Link, Said, keep_from, keep_heard};
 
 /// Bytes that were put in wait to be heard, and bytes that were told wait to be taken out. It never
 /// ends. A read where none waits finds nothing; one that is to wait for a byte fails, since none
