@@ -38,7 +38,7 @@ all_terms_long terms = omega (
   terms_long terms,
 )
 
-columns_short : (columns : List Column) → All IsColumn columns
+pub columns_short : (columns : List Column) → All IsColumn columns
     → length (flat_map column_fields columns) ≤ 264 * length columns
 columns_short [] all = omega arith
 columns_short (c ∷ columns) all =
@@ -55,10 +55,10 @@ columns_short (c ∷ columns) all =
       columns_short columns (tail_of IsColumn c columns all),
     )
 
-abbrev in_row : NamedRow → ℕ
+abbrev pub in_row : NamedRow → ℕ
 in_row row = length row.row.terms
 
-rows_short : (width : ℕ) (rows : List NamedRow) → All (IsRow width) rows
+pub rows_short : (width : ℕ) (rows : List NamedRow) → All (IsRow width) rows
     → length (flat_map row_fields rows) ≤ 294 * length rows + 20 * sum_by in_row rows
 rows_short width [] all = omega arith
 rows_short width (r ∷ rows) all =
