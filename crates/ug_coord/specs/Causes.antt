@@ -5,30 +5,15 @@ use Rattle.ug_io.specs.Outside.{Rose}
 use Rattle.ug_frames.specs.declared.report.Report.{Report}
 use Rattle.ug_rules.specs.declared.heard.Heard.{Heard}
 use Rattle.ug_rules.specs.Hearing.{is_deadly}
-use Rattle.ug_coord.specs.Deeds.{Broke, Came, Closed, Decided, Deed, Halted, Kept, Launched, Lost, Passed}
-use Rattle.ug_coord.specs.Deeds.{Nonsense, Sent, SetUp, Took, Unclosed, Unfed, Unread, Unsent}
-use Rattle.ug_coord.specs.Deeds.{Unwritten}
+use Rattle.ug_coord.specs.Deeds.{Deed, Lost, Nonsense, Took, Unsent}
 
 -- with the deed the rank is taken for gone: the crew says so, a call for it or a turn failed, or
 -- what came from it is no report; an order could not be told to it; or a report of it cannot be so
 abbrev pub IsEndOf : ℕ → Deed → Type 0
-IsEndOf rank (Launched other) = ⊥
-IsEndOf rank (SetUp other bytes) = ⊥
-IsEndOf rank (Closed other) = ⊥
-IsEndOf rank (Came other bytes) = ⊥
 IsEndOf rank (Took other report answer) = (other ≡ rank) × (is_deadly answer ≡ true)
 IsEndOf rank (Lost other cause) = other ≡ rank
-IsEndOf rank Decided = ⊥
-IsEndOf rank (Sent other order) = ⊥
 IsEndOf rank (Unsent other order) = other ≡ rank
-IsEndOf rank (Passed other order) = ⊥
-IsEndOf rank Broke = ⊥
-IsEndOf rank (Unclosed other) = ⊥
-IsEndOf rank (Halted steps) = ⊥
-IsEndOf rank (Unwritten other order) = ⊥
-IsEndOf rank (Unfed other bytes) = ⊥
-IsEndOf rank Unread = ⊥
-IsEndOf rank Kept = ⊥
+IsEndOf rank deed = ⊥
 
 -- one of the deeds is such
 pub record HasCause (rank : ℕ) (deeds : List Deed) : Type 0 where

@@ -324,23 +324,8 @@ IsToldEnd rank deeds = Contains deeds (Closed rank) ⊎ Contains deeds (Unclosed
 
 -- how many saves a deed is
 abbrev pub saves_of : Deed → ℕ
-saves_of (Launched rank) = 0
-saves_of (SetUp rank bytes) = 0
-saves_of (Closed rank) = 0
-saves_of (Came rank bytes) = 0
-saves_of (Took rank report answer) = 0
-saves_of (Lost rank cause) = 0
-saves_of Decided = 0
-saves_of (Sent rank order) = 0
-saves_of (Unsent rank order) = 0
-saves_of (Passed rank order) = 0
-saves_of Broke = 0
-saves_of (Unclosed rank) = 0
-saves_of (Halted steps) = 0
-saves_of (Unwritten rank order) = 0
-saves_of (Unfed rank bytes) = 0
-saves_of Unread = 0
 saves_of Kept = 1
+saves_of deed = 0
 
 -- how many of the deeds are saves
 abbrev pub saves_in : List Deed → ℕ

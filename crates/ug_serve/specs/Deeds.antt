@@ -83,8 +83,6 @@ pub record IsForTask (e : Engaged) (ticket : Ticket) (changed old new : Stage) :
 
 -- what the order does to a task, between two rounds
 abbrev pub IsTakenBusy : Basis → Tally → Engaged → Order → Stage → Type 0
-IsTakenBusy basis tally e (Setup gap bytes) new = ⊥
-IsTakenBusy basis tally e (Work ticket params race cutoff changes) new = ⊥
 IsTakenBusy basis tally e (Incumbent cutoff) new = (e.made ≡ 0)
     × (new ≡ Busy basis tally (record e { task = lowered (Some cutoff) e.task }))
 IsTakenBusy basis tally e (CollectIn ticket count) new =
@@ -96,18 +94,15 @@ IsTakenBusy basis tally e (Winner ticket) new =
 IsTakenBusy basis tally e (Stop ticket) new =
     IsForTask e ticket (Free basis tally) (Busy basis tally e) new
 IsTakenBusy basis tally e End new = (e.made ≡ 0) × (new ≡ Ending)
+IsTakenBusy basis tally e order new = ⊥
 
 -- what it does where there is no task
 abbrev pub IsTakenFree : Basis → Tally → Order → Stage → Type 0
 IsTakenFree basis tally (Setup gap bytes) new = ⊥
 IsTakenFree basis tally (Work ticket params race cutoff changes) new =
     IsBegun basis tally ticket params race cutoff changes new
-IsTakenFree basis tally (Incumbent cutoff) new = new ≡ Free basis tally
-IsTakenFree basis tally (CollectIn ticket count) new = new ≡ Free basis tally
-IsTakenFree basis tally (CollectOut ticket) new = new ≡ Free basis tally
-IsTakenFree basis tally (Winner ticket) new = new ≡ Free basis tally
-IsTakenFree basis tally (Stop ticket) new = new ≡ Free basis tally
 IsTakenFree basis tally End new = new ≡ Ending
+IsTakenFree basis tally order new = new ≡ Free basis tally
 
 -- what it does as the first one
 abbrev pub IsTakenFirst : Order → Stage → Type 0
@@ -118,11 +113,9 @@ IsTakenFirst order new = ⊥
 -- and Work where there is no task
 abbrev pub IsTaken : Stage → Order → Stage → Type 0
 IsTaken Blank order new = IsTakenFirst order new
-IsTaken (SetUp basis) order new = ⊥
 IsTaken (Free basis tally) order new = IsTakenFree basis tally order new
 IsTaken (Busy basis tally e) order new = IsTakenBusy basis tally e order new
-IsTaken Ending order new = ⊥
-IsTaken Over order new = ⊥
+IsTaken stage order new = ⊥
 
 -- ---- reports
 
@@ -144,7 +137,6 @@ pub record IsDoneTold (e : Engaged) (ticket : Ticket) (cutoff : Option ℤ) (cou
 
 -- what is told of a task
 abbrev pub IsToldBusy : Basis → Tally → Engaged → Report → Stage → Type 0
-IsToldBusy basis tally e Ready new = ⊥
 IsToldBusy basis tally e (Solution ticket x) new =
     (f : Engaged) × (ticket ≡ e.task.ticket) × IsFoundBy e x f × (new ≡ Busy basis tally f)
 IsToldBusy basis tally e (Hand ticket number changes) new =
@@ -154,7 +146,7 @@ IsToldBusy basis tally e (State ticket nodes floor) new =
     × (new ≡ Busy basis (counted tally) f)
 IsToldBusy basis tally e (Done ticket cutoff count ending) new =
     IsDoneTold e ticket cutoff count × (new ≡ Free basis tally)
-IsToldBusy basis tally e Ended new = ⊥
+IsToldBusy basis tally e report new = ⊥
 
 abbrev pub IsReadyTold : Basis → Report → Stage → Type 0
 IsReadyTold basis Ready new = new ≡ Free basis (fresh (Some usual))
@@ -166,9 +158,7 @@ IsEndTold report new = ⊥
 
 -- a report that is due was told, and what is so then
 abbrev pub IsTold : Stage → Report → Stage → Type 0
-IsTold Blank report new = ⊥
 IsTold (SetUp basis) report new = IsReadyTold basis report new
-IsTold (Free basis tally) report new = ⊥
 IsTold (Busy basis tally e) report new = IsToldBusy basis tally e report new
 IsTold Ending report new = IsEndTold report new
-IsTold Over report new = ⊥
+IsTold stage report new = ⊥

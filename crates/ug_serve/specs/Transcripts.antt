@@ -35,12 +35,8 @@ reports_in (Told report ∷ past) = report ∷ reports_in past
 -- how many boxes were handed
 abbrev pub hands_among : List Report → ℕ
 hands_among [] = 0
-hands_among (Ready ∷ reports) = hands_among reports
-hands_among (Solution ticket x ∷ reports) = hands_among reports
 hands_among (Hand ticket number changes ∷ reports) = suc (hands_among reports)
-hands_among (State ticket nodes floor ∷ reports) = hands_among reports
-hands_among (Done ticket cutoff count ending ∷ reports) = hands_among reports
-hands_among (Ended ∷ reports) = hands_among reports
+hands_among (report ∷ reports) = hands_among reports
 
 -- this problem was ordered, with this gap
 pub record IsSetUpWith (past : List Deed) (basis : Basis) : Type 0 where

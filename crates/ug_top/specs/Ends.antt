@@ -84,10 +84,7 @@ AreFileLines Ran Not asked left statuses.Spent text =
     AreFaultLines Not asked.bounds.boxed left statuses.Spent text
 AreFileLines Ran Not asked left statuses.SmallerGap text =
     AreFaultLines Not asked.bounds.boxed left statuses.SmallerGap text
-AreFileLines Ran Not asked left statuses.Usage text = ⊥
-AreFileLines Ran Not asked left statuses.WriteFault text = ⊥
-AreFileLines Ran Not asked left statuses.LinkFault text = ⊥
-AreFileLines Ran Not asked left statuses.BadFrame text = ⊥
+AreFileLines Ran Not asked left status text = ⊥
 
 -- a new solve without a checkpoint: the disk is left alone, and nothing keeps it from beginning
 pub record HasRunAlone (by : Crewed) (asked : Asked) (old new : DiskSeen) (p : Instance)
@@ -173,26 +170,12 @@ AreShowLines old new statuses.NoCheckpoint text =
 AreShowLines old new statuses.BadImage text = IsBadShown old new text
 AreShowLines old new statuses.DiskFault text = text ≡ fault_line faults.DiskFault
 AreShowLines old new statuses.Memory text = text ≡ memory_line
-AreShowLines old new statuses.Usage text = ⊥
-AreShowLines old new statuses.Refused text = ⊥
-AreShowLines old new statuses.ReadFault text = ⊥
-AreShowLines old new statuses.WriteFault text = ⊥
-AreShowLines old new statuses.Limited text = ⊥
-AreShowLines old new statuses.OtherProblem text = ⊥
-AreShowLines old new statuses.Spent text = ⊥
-AreShowLines old new statuses.SmallerGap text = ⊥
-AreShowLines old new statuses.Stranded text = ⊥
-AreShowLines old new statuses.LinkFault text = ⊥
-AreShowLines old new statuses.BadFrame text = ⊥
+AreShowLines old new status text = ⊥
 
 -- ---- faults
 
 -- the disk was not asked, or none of its calls failed
 abbrev pub IsCalmFor : Status → Type 0
-IsCalmFor statuses.Answered = ⊥
-IsCalmFor statuses.Limited = ⊥
-IsCalmFor statuses.Memory = ⊥
-IsCalmFor statuses.DiskFault = ⊥
 IsCalmFor statuses.Usage = Unit {0}
 IsCalmFor statuses.Refused = Unit {0}
 IsCalmFor statuses.ReadFault = Unit {0}
@@ -202,28 +185,17 @@ IsCalmFor statuses.OtherProblem = Unit {0}
 IsCalmFor statuses.BadImage = Unit {0}
 IsCalmFor statuses.Spent = Unit {0}
 IsCalmFor statuses.SmallerGap = Unit {0}
-IsCalmFor statuses.Stranded = ⊥
 IsCalmFor statuses.LinkFault = Unit {0}
 IsCalmFor statuses.BadFrame = Unit {0}
+IsCalmFor status = ⊥
 
 -- no text was read, so the disk is not asked
 abbrev pub IsUnreadFor : Status → Type 0
 IsUnreadFor statuses.Refused = Unit {0}
 IsUnreadFor statuses.ReadFault = Unit {0}
-IsUnreadFor statuses.Answered = ⊥
-IsUnreadFor statuses.Limited = ⊥
-IsUnreadFor statuses.Memory = ⊥
-IsUnreadFor statuses.DiskFault = ⊥
-IsUnreadFor statuses.Usage = ⊥
-IsUnreadFor statuses.WriteFault = ⊥
-IsUnreadFor statuses.NoCheckpoint = ⊥
-IsUnreadFor statuses.OtherProblem = ⊥
-IsUnreadFor statuses.BadImage = ⊥
-IsUnreadFor statuses.Spent = ⊥
-IsUnreadFor statuses.SmallerGap = ⊥
-IsUnreadFor statuses.Stranded = ⊥
 IsUnreadFor statuses.LinkFault = Unit {0}
 IsUnreadFor statuses.BadFrame = Unit {0}
+IsUnreadFor status = ⊥
 
 -- The count of the disk's faults does not fall. A disk fault is told only where it rose, and it did
 -- not where a run was refused for another cause. Where no text was read the slots are as they were.
@@ -263,19 +235,7 @@ AreGenLines gen old new statuses.Answered text =
 AreGenLines gen old new statuses.Limited text =
     IsMadeRun gen old new statuses.Limited text
 AreGenLines gen old new statuses.Memory text = text ≡ memory_line
-AreGenLines gen old new statuses.Usage text = ⊥
-AreGenLines gen old new statuses.Refused text = ⊥
-AreGenLines gen old new statuses.ReadFault text = ⊥
-AreGenLines gen old new statuses.WriteFault text = ⊥
-AreGenLines gen old new statuses.DiskFault text = ⊥
-AreGenLines gen old new statuses.NoCheckpoint text = ⊥
-AreGenLines gen old new statuses.OtherProblem text = ⊥
-AreGenLines gen old new statuses.BadImage text = ⊥
-AreGenLines gen old new statuses.Spent text = ⊥
-AreGenLines gen old new statuses.SmallerGap text = ⊥
-AreGenLines gen old new statuses.Stranded text = ⊥
-AreGenLines gen old new statuses.LinkFault text = ⊥
-AreGenLines gen old new statuses.BadFrame text = ⊥
+AreGenLines gen old new status text = ⊥
 
 -- ---- a solver at a link
 
@@ -294,18 +254,7 @@ AreWorkerLines link statuses.Answered text = IsServed link service.Ended × (tex
 AreWorkerLines link statuses.LinkFault text = IsServed link service.LinkFault × (text ≡ [])
 AreWorkerLines link statuses.BadFrame text = HasMetBad link × (text ≡ [])
 AreWorkerLines link statuses.Memory text = text ≡ []
-AreWorkerLines link statuses.Limited text = ⊥
-AreWorkerLines link statuses.Stranded text = ⊥
-AreWorkerLines link statuses.Usage text = ⊥
-AreWorkerLines link statuses.Refused text = ⊥
-AreWorkerLines link statuses.ReadFault text = ⊥
-AreWorkerLines link statuses.WriteFault text = ⊥
-AreWorkerLines link statuses.DiskFault text = ⊥
-AreWorkerLines link statuses.NoCheckpoint text = ⊥
-AreWorkerLines link statuses.OtherProblem text = ⊥
-AreWorkerLines link statuses.BadImage text = ⊥
-AreWorkerLines link statuses.Spent text = ⊥
-AreWorkerLines link statuses.SmallerGap text = ⊥
+AreWorkerLines link status text = ⊥
 
 -- the status is this, unless memory was wanting
 abbrev pub IsOrWants : Status → Status → Type 0

@@ -34,8 +34,5 @@ HasStopped old new Memory = Unit {0}
 
 -- how often the source failed: it did only where a read fault is told
 abbrev pub unread_cause : Ended → ℕ → ℕ → Type 0
-unread_cause (Lines status told best) old new = new ≡ old
-unread_cause (Quiet status) old new = new ≡ old
-unread_cause (Refused refusal told) old new = new ≡ old
 unread_cause ReadFault old new = Rose old new
-unread_cause Memory old new = new ≡ old
+unread_cause ended old new = new ≡ old

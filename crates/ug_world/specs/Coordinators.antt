@@ -35,23 +35,12 @@ with_report past report answer =
 
 -- behind a deed
 abbrev pub after : Deed → Past → Past
-after (Launched rank) past = past
-after (SetUp rank bytes) past = past
-after (Closed rank) past = past
-after (Came rank bytes) past = past
 after (Took rank report answer) past = with_report past report answer
-after (Lost rank cause) past = past
-after Decided past = past
 after (Sent rank order) past = with_order past (record { rank = rank; order = order })
 after (Unsent rank order) past = with_order past (record { rank = rank; order = order })
 after (Passed rank order) past = with_order past (record { rank = rank; order = order })
-after Broke past = past
-after (Unclosed rank) past = past
-after (Halted steps) past = past
 after (Unwritten rank order) past = with_order past (record { rank = rank; order = order })
-after (Unfed rank bytes) past = past
-after Unread past = past
-after Saved past = past
+after deed past = past
 
 -- what was heard is honest, of the tickets in orders that left the queue or wait
 abbrev pub IsHonestSo : BookState → List Told → List Report → Type 0

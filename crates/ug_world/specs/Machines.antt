@@ -147,11 +147,8 @@ pub record HasRestarted (settings : Settings) (old new : DiskWorld) : Type 0 whe
 
 -- how the disk stands when an event begins to call it: as a crash leaves it, or as it was
 abbrev pub left_by : DiskEvent → History → History
-left_by (InWorld event) told = told
-left_by Note told = told
-left_by Save told = told
 left_by (Crash zero one settings) told = begun zero.items one.items
-left_by (Stop settings) told = told
+left_by event told = told
 
 -- what an event does
 abbrev pub HappensOnDisk : DiskWorld → DiskEvent → DiskWorld → Type 0

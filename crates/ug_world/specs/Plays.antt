@@ -3,7 +3,7 @@ use Rattle.std.specs.Prelude.{◌≡◌, ℕ, ◌<◌, List, [], length, take, A
 use Rattle.std.specs.Prelude.{Ok, Err, slice_get}
 use Rattle.ug_rules.specs.State.{BookState}
 use Rattle.ug_world.specs.declared.event.Event.{Event}
-use Rattle.ug_world.specs.declared.event.Event.TheVariants.{Send, Hear, Join, Gone, Decide, Tell}
+use Rattle.ug_world.specs.declared.event.Event.TheVariants.{Send, Hear, Tell}
 use Rattle.ug_world.specs.declared.schedule.Played.{Played}
 use Rattle.ug_world.specs.declared.schedule.PlayFault.{PlayFault}
 use Rattle.ug_world.specs.declared.schedule.PlayFault.TheVariants.{NoSuch, Memory}
@@ -19,10 +19,8 @@ abbrev pub IsLeftBy : Option Event → BookState → BookState → Type 0
 IsLeftBy None old new = new ≡ old
 IsLeftBy (Some (Send report)) old new = new ≡ old
 IsLeftBy (Some (Hear place rank)) old new = new ≡ old
-IsLeftBy (Some (Join rank)) old new = ⊥
-IsLeftBy (Some (Gone rank)) old new = ⊥
-IsLeftBy (Some Decide) old new = ⊥
 IsLeftBy (Some Tell) old new = new ≡ old
+IsLeftBy event old new = ⊥
 
 -- so many of the events happened to the book, with nothing sent earlier, and this is what stands
 pub record IsAfter (b : BookState) (events : List Event) (done : ℕ) (course : List World)
