@@ -64,7 +64,7 @@ impl Book {
     }
 
     /// How many reports were heard.
-    pub fn count(&self) -> u64
+    pub fn heard(&self) -> u64
         ensures { result ≡ self.now.heard }
     {
         self.heard

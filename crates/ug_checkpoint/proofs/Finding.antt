@@ -8,7 +8,7 @@ use Rattle.ug_fields.proofs.Bytes.{length-bytes}
 use Rattle.ug_disk.specs.declared.slot.Slot.{Slot}
 use Rattle.ug_disk.specs.declared.slot.Slot.TheVariants.{Zero, One}
 use Rattle.ug_checkpoint.specs.Gates.{IsOpen, HasBody}
-use Rattle.ug_checkpoint.specs.Runs.{image_of, other}
+use Rattle.ug_checkpoint.specs.Runs.{bytes_in, other}
 use Rattle.ug_image.specs.declared.image.Image.{Image}
 use Rattle.ug_image.specs.Images.{IsImage}
 use Rattle.ug_fields.specs.Spelling.{long_field}
@@ -32,7 +32,7 @@ newest image = record {
   least = omega arith;
   most = omega arith;
   gap = λ old. absurd (omega arith);
-  deliveries = λ old. absurd (omega arith);
+  heard = λ old. absurd (omega arith);
   starting = λ old. absurd (omega arith);
 }
 
@@ -145,7 +145,7 @@ chosen_of Zero own others = chosen own others
 chosen_of One own others = chosen others own
 
 pub recovers : (slot : Slot) (zero one : List ℕ) (own others : Option Image)
-    → Stores (image_of slot zero one) own → Stores (image_of (other slot) zero one) others
+    → Stores (bytes_in slot zero one) own → Stores (bytes_in (other slot) zero one) others
     → Recovered zero one (chosen_of slot own others)
 recovers Zero zero one own others first second = record {
   in_zero = own;

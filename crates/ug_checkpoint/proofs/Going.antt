@@ -8,7 +8,7 @@ use Rattle.ug_disk.specs.Crashes.{MayLeaveBoth, Leaves, MayLeaveWriting}
 use Rattle.ug_disk.proofs.Moments.{LeavesNow, starts, steps_on, fails_on, joins, weakens}
 use Rattle.ug_disk.proofs.Writing.{after_sync, after_failed_sync}
 use Rattle.ug_checkpoint.specs.Gates.{IsOpen, Opens}
-use Rattle.ug_checkpoint.specs.Runs.{other, image_of, Stands, Becomes, OnlyOpens}
+use Rattle.ug_checkpoint.specs.Runs.{other, bytes_in, Stands, Becomes, OnlyOpens}
 
 -- from a state of a slot to another
 abbrev pub Becoming : Type 1
@@ -38,8 +38,8 @@ on_err (Err e) P holds = holds
 
 -- the two images, each of its slot
 parted : (slot : Slot) (slots : Slots) (zero one : List ℕ) → MayLeaveBoth slots zero one
-    → MayLeave (slot_of (other slot) slots) (image_of (other slot) zero one)
-    × MayLeave (slot_of slot slots) (image_of slot zero one)
+    → MayLeave (slot_of (other slot) slots) (bytes_in (other slot) zero one)
+    × MayLeave (slot_of slot slots) (bytes_in slot zero one)
 parted Zero slots zero one left = (left.1, left.0)
 parted One slots zero one left = (left.0, left.1)
 
@@ -175,8 +175,8 @@ only_now Q R None (Some new) slot so_far opens = absurd so_far
 only_now Q R (Some old) None slot so_far opens = tt
 only_now Q R (Some old) (Some new) slot so_far opens = λ zero one left.
     let parts = parted slot new.now zero one left in (
-      subst (λ s. MayLeave s (image_of (other slot) zero one)) so_far.0 parts.0,
-      λ opened. opens _ _ so_far.1 (image_of slot zero one) parts.1 opened,
+      subst (λ s. MayLeave s (bytes_in (other slot) zero one)) so_far.0 parts.0,
+      λ opened. opens _ _ so_far.1 (bytes_in slot zero one) parts.1 opened,
     )
 
 -- what a crash leaves at each moment: before the first call
@@ -212,7 +212,7 @@ from_before : (Q Q' : Opened) (R : Becoming) (old mid : Option History) (slot : 
 from_before Q Q' R None mid slot becomes next zero one left = tt
 from_before Q Q' R (Some old) None slot becomes next zero one left = absurd becomes
 from_before Q Q' R (Some old) (Some mid) slot becomes next zero one left = (
-  subst (λ s. MayLeave s (image_of (other slot) zero one)) becomes.0 left.0,
+  subst (λ s. MayLeave s (bytes_in (other slot) zero one)) becomes.0 left.0,
   λ opened. next _ _ _ becomes.1 opened (left.1 opened),
 )
 
@@ -248,10 +248,10 @@ while_writing Q None slot opens zero one left = tt
 while_writing Q (Some told) slot opens zero one left =
     let after = loosened 0 1 (slot_of slot told.now) in
     let parts = parted slot (with_slot slot after told.now) zero one left in (
-      subst (λ s. MayLeave s (image_of (other slot) zero one)) (others_stay slot told.now after)
+      subst (λ s. MayLeave s (bytes_in (other slot) zero one)) (others_stay slot told.now after)
           parts.0,
-      λ opened. opens (image_of slot zero one)
-          (subst (λ s. MayLeave s (image_of slot zero one)) (put_there slot told.now after) parts.1)
+      λ opened. opens (bytes_in slot zero one)
+          (subst (λ s. MayLeave s (bytes_in slot zero one)) (put_there slot told.now after) parts.1)
           opened,
     )
 

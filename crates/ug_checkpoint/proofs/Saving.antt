@@ -8,7 +8,7 @@ use Rattle.ug_disk.specs.Crashes.{MayLeaveBoth, Leaves}
 use Rattle.ug_disk.proofs.Moments.{starts, weakens}
 use Rattle.ug_checkpoint.specs.Gates.{HasBody}
 use Rattle.ug_checkpoint.specs.Keepers.{next_after}
-use Rattle.ug_checkpoint.specs.Runs.{Becomes, OnlyOpens, IsOldOrNew, HasSaved, image_of, other}
+use Rattle.ug_checkpoint.specs.Runs.{Becomes, OnlyOpens, IsOldOrNew, HasSaved, bytes_in, other}
 use Rattle.ug_image.specs.declared.image.Image.{Image}
 use Rattle.ug_checkpoint.specs.declared.found.Found.{Found}
 use Rattle.ug_checkpoint.specs.Bodies.{Has, Stores, body_of}
@@ -19,14 +19,14 @@ use Rattle.ug_checkpoint.proofs.Keeping.{Standing, image_is, twice}
 
 -- two images, each of its slot
 parted : (slot : Slot) (slots : Slots) (zero one : List ℕ) → MayLeaveBoth slots zero one
-    → MayLeave (slot_of (other slot) slots) (image_of (other slot) zero one)
-    × MayLeave (slot_of slot slots) (image_of slot zero one)
+    → MayLeave (slot_of (other slot) slots) (bytes_in (other slot) zero one)
+    × MayLeave (slot_of slot slots) (bytes_in slot zero one)
 parted Zero slots zero one left = (left.1, left.0)
 parted One slots zero one left = (left.0, left.1)
 
 joined : (slot : Slot) (slots : Slots) (zero one : List ℕ)
-    → MayLeave (slot_of (other slot) slots) (image_of (other slot) zero one)
-    → MayLeave (slot_of slot slots) (image_of slot zero one) → MayLeaveBoth slots zero one
+    → MayLeave (slot_of (other slot) slots) (bytes_in (other slot) zero one)
+    → MayLeave (slot_of slot slots) (bytes_in slot zero one) → MayLeaveBoth slots zero one
 joined Zero slots zero one others own = (own, others)
 joined One slots zero one others own = (others, own)
 
@@ -81,10 +81,10 @@ safe_at last sequence history image read above standing zero one left =
     let slot = next_after last in
     let state = slot_of (other slot) history.now in
     let others = last_image last sequence state standing.0 in
-    let kept = last_stored last sequence state standing.0 (image_of (other slot) zero one) left.0 in
+    let kept = last_stored last sequence state standing.0 (bytes_in (other slot) zero one) left.0 in
     ⊎_elim (λ opened. ⊎_elim
     (λ before.
-    let had = standing.1 (image_of slot zero one) before opened in
+    let had = standing.1 (bytes_in slot zero one) before opened in
     let recovered = recovers slot zero one (Some had.0) others had.1 kept in
     record {
       found = chosen_of slot (Some had.0) others;
@@ -99,7 +99,7 @@ safe_at last sequence history image read above standing zero one left =
     (λ has. record {
       found = chosen_of slot (Some image) others;
       recovered = recovers slot zero one (Some image) others
-          (read (image_of slot zero one) has) kept;
+          (read (bytes_in slot zero one) has) kept;
       is = inr (new_found last sequence state slot image standing.0 above);
     })
     (left.1 opened))
@@ -108,7 +108,7 @@ safe_at last sequence history image read above standing zero one left =
       recovered = recovers slot zero one None others shut kept;
       is = inl (inr (last_found last sequence history standing.0));
     })
-    (open_or_not (image_of slot zero one))
+    (open_or_not (bytes_in slot zero one))
 
 -- at each moment of a save
 pub safe : (last : Option Slot) (sequence : ℕ) (old new : Option History) (image : Image)
@@ -146,11 +146,11 @@ finds last sequence (Some old) (Some new) image read above standing saved = λ z
     let parts = parted slot new.now zero one left in
     let state = slot_of (other slot) old.now in
     let others = last_image last sequence state standing.0 in
-    let kept = last_stored last sequence state standing.0 (image_of (other slot) zero one)
-    (subst (λ s. MayLeave s (image_of (other slot) zero one)) saved.0 parts.0) in
-    let has = read (image_of slot zero one)
+    let kept = last_stored last sequence state standing.0 (bytes_in (other slot) zero one)
+    (subst (λ s. MayLeave s (bytes_in (other slot) zero one)) saved.0 parts.0) in
+    let has = read (bytes_in slot zero one)
     (subst (λ (l : List ℕ). HasBody (body_of image) l)
-    (sym (image_is (slot_of slot new.now) (image_of slot zero one) saved.1.0 parts.1)) saved.1.1) in
+    (sym (image_is (slot_of slot new.now) (bytes_in slot zero one) saved.1.0 parts.1)) saved.1.1) in
     subst (λ (o : Option Found). Recovered zero one o)
     (new_found last sequence state slot image standing.0 above)
     (recovers slot zero one (Some image) others has kept)

@@ -12,9 +12,9 @@ other Zero = One
 other One = Zero
 
 -- of two images that of the slot
-abbrev pub image_of : Slot → List ℕ → List ℕ → List ℕ
-image_of Zero zero one = zero
-image_of One zero one = one
+abbrev pub bytes_in : Slot → List ℕ → List ℕ → List ℕ
+bytes_in Zero zero one = zero
+bytes_in One zero one = one
 
 -- the slot stands so, where it is told
 abbrev pub Stands : Option History → Slot → (SlotState → Type 0) → Type 0
@@ -40,8 +40,8 @@ Becomes (Some old) (Some new) slot R =
 abbrev pub OnlyOpens : Option History → Slot → (SlotState → List ℕ → Type 0) → List ℕ → List ℕ
     → Type 0
 OnlyOpens told slot Q zero one = IfSome told (λ history.
-    MayLeave (slot_of (other slot) history.now) (image_of (other slot) zero one)
-    × (IsOpen (image_of slot zero one) → Q (slot_of slot history.now) (image_of slot zero one)))
+    MayLeave (slot_of (other slot) history.now) (bytes_in (other slot) zero one)
+    × (IsOpen (bytes_in slot zero one) → Q (slot_of slot history.now) (bytes_in slot zero one)))
 
 -- what a crash could leave of a slot before a save, or the whole body that is saved
 abbrev pub IsOldOrNew : List ℕ → SlotState → List ℕ → Type 0

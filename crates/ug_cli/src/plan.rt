@@ -17,10 +17,10 @@ pub struct Solvers {
 /// How often is saved, and how far is gone.
 #[derive(Clone, Copy, PartialEq, Eq)]
 pub struct Limits {
-    /// A checkpoint is saved at deliveries whose numbers are multiples of this: in processes at
+    /// A checkpoint is saved at reports whose numbers are multiples of this: in processes at
     /// each, in threads no sooner than eight for each open node of the one before.
     pub every: u32,
-    /// After this many deliveries the run ends.
+    /// After this many reports the run ends.
     pub limit: u64,
     /// The bound of a column that has none in the file.
     pub boxed: Option<u32>,

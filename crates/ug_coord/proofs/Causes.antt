@@ -28,7 +28,7 @@ use Rattle.ug_rules.specs.Ranks.{racers_freed, ranks_that}
 use Rattle.ug_book.specs.declared.opening.Opening.{Opening}
 use Rattle.ug_book.specs.Openings.{opening_book}
 use Rattle.ug_coord.specs.Causes.{HasCause, IsEndOf}
-use Rattle.ug_coord.specs.Deeds.{Broke, Came, Closed, Decided, Deed, Does, Halted, IsCourse, Kept as Saved, Launched, Lost, Passed, Sent, SetUp, Standing, Took, Unclosed, Unfed, Unread, Unsent, Unwritten}
+use Rattle.ug_coord.specs.Deeds.{Broke, Came, Closed, Decided, Deed, Does, Halted, IsCourse, Kept as Saved, Launched, Lost, Passed, Sent, SetUp, HubState, Took, Unclosed, Unfed, Unread, Unsent, Unwritten}
 use Rattle.ug_coord.specs.Ends.{ranks_of}
 
 -- the rank is alive
@@ -335,28 +335,28 @@ same_or_not (suc a) (suc b) = elim (same_or_not a b) [
 ]
 
 -- the rank is alive still, or the deed is its end
-abbrev LivesOrEnds : Standing → Deed → Standing → ℕ → Type 0
+abbrev LivesOrEnds : HubState → Deed → HubState → ℕ → Type 0
 LivesOrEnds old deed new rank = Alive new.book.ranks rank ⊎ IsEndOf rank deed
 
-still : (old new : Standing) (rank : ℕ) → new.book ≡ old.book → Alive old.book.ranks rank → Alive new.book.ranks rank
+still : (old new : HubState) (rank : ℕ) → new.book ≡ old.book → Alive old.book.ranks rank → Alive new.book.ranks rank
 still old new rank same alive = subst (λ (b : BookState). Alive b.ranks rank) (sym same) alive
 
 left : (old new : BookState) (rank : ℕ) → new.ranks ≡ old.ranks → Lives old new rank
 left old new rank same alive = subst (λ (states : List State). Alive states rank) (sym same) alive
 
-pub deed_lives : (old : Standing) (deed : Deed) (new : Standing) (rank : ℕ) → Does old deed new
+pub deed_lives : (old : HubState) (deed : Deed) (new : HubState) (rank : ℕ) → Does old deed new
     → Alive old.book.ranks rank → LivesOrEnds old deed new rank
 deed_lives old (Launched other) new rank does alive =
-    inl (still old new rank (ap (λ (s : Standing). s.book) does.1) alive)
+    inl (still old new rank (ap (λ (s : HubState). s.book) does.1) alive)
 deed_lives old (SetUp other bytes) new rank does alive =
-    inl (still old new rank (ap (λ (s : Standing). s.book) does.rest) alive)
+    inl (still old new rank (ap (λ (s : HubState). s.book) does.rest) alive)
 deed_lives old (Closed other) new rank does alive =
-    inl (still old new rank (ap (λ (s : Standing). s.book) does.rest) alive)
+    inl (still old new rank (ap (λ (s : HubState). s.book) does.rest) alive)
 deed_lives old (Came other bytes) new rank does alive =
-    inl (still old new rank (ap (λ (s : Standing). s.book) does.rest) alive)
+    inl (still old new rank (ap (λ (s : HubState). s.book) does.rest) alive)
 deed_lives old (Took other report answer) new rank does alive =
     let heard = λ (mild : (is_deadly answer ≡ false) ⊎ (other ≢ rank)).
-    subst (λ (s : Standing). Alive s.book.ranks rank) (sym does.rest)
+    subst (λ (s : HubState). Alive s.book.ranks rank) (sym does.rest)
     (heard_lives answer other report old.book rank mild alive) in
     elim (same_or_not other rank) [
       | inl same ↦ elim (cases_Bool (is_deadly answer)) [
@@ -375,34 +375,34 @@ deed_lives old (Sent other order) new rank does alive =
     inl (left old.book new.book rank (ap (λ (b : BookState). b.ranks) does.told.rest) alive)
 deed_lives old (Unsent other order) new rank does alive = elim (same_or_not other rank) [
   | inl same ↦ inr same
-  | inr differ ↦ inl (subst (λ (s : Standing). Alive s.book.ranks rank) (sym does.rest)
+  | inr differ ↦ inl (subst (λ (s : HubState). Alive s.book.ranks rank) (sym does.rest)
       (killed_lives other does.without rank differ
       (left old.book does.without rank (ap (λ (b : BookState). b.ranks) does.told.rest) alive)))
 ]
 deed_lives old (Passed other order) new rank does alive =
     inl (left old.book new.book rank (ap (λ (b : BookState). b.ranks) does.told.rest) alive)
 deed_lives old Broke new rank does alive =
-    inl (still old new rank (ap (λ (s : Standing). s.book) does.rest) alive)
+    inl (still old new rank (ap (λ (s : HubState). s.book) does.rest) alive)
 deed_lives old (Unclosed other) new rank does alive =
-    inl (still old new rank (ap (λ (s : Standing). s.book) does.rest) alive)
+    inl (still old new rank (ap (λ (s : HubState). s.book) does.rest) alive)
 deed_lives old (Halted steps) new rank does alive = inl (stands_lives steps old.book new.book rank does.is alive)
 deed_lives old (Unwritten other order) new rank does alive =
     inl (left old.book new.book rank (ap (λ (b : BookState). b.ranks) does.told.rest) alive)
 deed_lives old (Unfed other bytes) new rank does alive =
-    inl (still old new rank (ap (λ (s : Standing). s.book) does.rest) alive)
+    inl (still old new rank (ap (λ (s : HubState). s.book) does.rest) alive)
 deed_lives old Unread new rank does alive =
-    inl (still old new rank (ap (λ (s : Standing). s.book) does.1) alive)
+    inl (still old new rank (ap (λ (s : HubState). s.book) does.1) alive)
 deed_lives old Saved new rank does alive =
-    inl (still old new rank (ap (λ (s : Standing). s.book) does.rest) alive)
+    inl (still old new rank (ap (λ (s : HubState). s.book) does.rest) alive)
 
 behind : (rank : ℕ) (deed : Deed) (deeds : List Deed) → HasCause rank deeds → HasCause rank (deed ∷ deeds)
 behind rank deed deeds cause =
     record { deed = cause.deed; among = Contains-append_right (deed ∷ []) deeds cause.deed cause.among; ends = cause.ends }
 
 -- it is alive at the end, or one of the deeds was its end
-course_lives : (old : Standing) (deeds : List Deed) (new : Standing) (rank : ℕ) → IsCourse old deeds new
+course_lives : (old : HubState) (deeds : List Deed) (new : HubState) (rank : ℕ) → IsCourse old deeds new
     → Alive old.book.ranks rank → Alive new.book.ranks rank ⊎ HasCause rank deeds
-course_lives old [] new rank same alive = inl (still old new rank (ap (λ (s : Standing). s.book) same) alive)
+course_lives old [] new rank same alive = inl (still old new rank (ap (λ (s : HubState). s.book) same) alive)
 course_lives old (deed ∷ deeds) new rank (mid, does, more) alive = elim (deed_lives old deed mid rank does alive) [
   | inl lives ↦ elim (course_lives mid deeds new rank more lives) [
     | inl now ↦ inl now
@@ -411,7 +411,7 @@ course_lives old (deed ∷ deeds) new rank (mid, does, more) alive = elim (deed_
   | inr ends ↦ inr (record { deed = deed; among = Contains-append_left (deed ∷ []) deeds deed (Contains-push [] deed); ends = ends })
 ]
 
-pub dead_has_cause : (old : Standing) (deeds : List Deed) (new : Standing) (rank : ℕ) → IsCourse old deeds new
+pub dead_has_cause : (old : HubState) (deeds : List Deed) (new : HubState) (rank : ℕ) → IsCourse old deeds new
     → Alive old.book.ranks rank → is_alive (state_at new.book.ranks rank) ≡ false → HasCause rank deeds
 dead_has_cause old deeds new rank course alive dead = elim (course_lives old deeds new rank course alive) [
   | inl now ↦ absurd (false≢true (sym dead ∙ now))

@@ -9,7 +9,7 @@ use Rattle.ug_io.specs.Crews.{Adds, CrewSeen, IsAlive, IsSilent, told_to}
 use Rattle.ug_io.specs.Outside.{Rose}
 use Rattle.ug_frames.specs.declared.order.Order.TheVariants.{End}
 use Rattle.ug_frames.specs.OrderFrames as orders
-use Rattle.ug_coord.specs.Deeds.{Closed, Closing, Deed, Does, IsToldEnd, Standing, Unclosed, saves_in, saves_of}
+use Rattle.ug_coord.specs.Deeds.{Closed, Closing, Deed, Does, IsToldEnd, HubState, Unclosed, saves_in, saves_of}
 use Rattle.ug_coord.specs.Ends.{ranks_of}
 use Rattle.ug_coord.specs.Hubs.{AnyPhase, EndsFrom, HasCome, HasSentTo, HubSeen, IsClosedBelow, IsFit, IsKeptIn, Phase, StaysSound, standing}
 use Rattle.ug_coord.specs.Keeping.{KeptSeen}
@@ -32,7 +32,7 @@ abbrev closing : Phase → Phase
 closing phase = record { broken = phase.broken; pace = Closing }
 
 -- one deed more, by which the rank was told
-closes : (from : Standing) (h next : HubSeen) (old new : KeptSeen) (rank : ℕ) (deed : Deed) (more : List Exchange)
+closes : (from : HubState) (h next : HubSeen) (old new : KeptSeen) (rank : ℕ) (deed : Deed) (more : List Exchange)
     → Adds h.crew.said next.crew.said more
     → ((said : List Exchange) (phase : Phase)
     → Does (standing said phase h) deed (standing (said ++ more) (closing phase) next))
@@ -42,8 +42,8 @@ closes : (from : Standing) (h next : HubSeen) (old new : KeptSeen) (rank : ℕ) 
 closes from h next old new rank deed more adds does lives fits told none k =
     let on = k.kept.on in
     let phase = k.kept.phase in
-    let mid : Standing = standing on.said phase h in
-    let now : Standing = standing (on.said ++ more) (closing phase) next in
+    let mid : HubState = standing on.said phase h in
+    let now : HubState = standing (on.said ++ more) (closing phase) next in
     let come : HasCome from now = record {
       deeds = on.come.deeds ++ deed ∷ [];
       course = course_more from on.come.deeds mid now deed on.come.course (does on.said phase);
@@ -73,7 +73,7 @@ closes from h next old new rank deed more adds does lives fits told none k =
       ];
     }
 
-pub closed_on : (from : Standing) (h next : HubSeen) (old new : KeptSeen) (rank : ℕ) (bytes : List ℕ)
+pub closed_on : (from : HubState) (h next : HubSeen) (old new : KeptSeen) (rank : ℕ) (bytes : List ℕ)
     → bytes ≡ 0 ∷ 0 ∷ 0 ∷ 1 ∷ 8 ∷ [] → IsAlive h.crew rank → HasSentTo h next rank bytes
     → IsClosedBelow rank from h old new → IsClosedBelow (suc rank) from next old new
 closed_on from h next old new rank bytes is alive sent k =
@@ -94,7 +94,7 @@ closed_on from h next old new rank bytes is alive sent k =
     })
     (λ deeds. inl (Contains-push deeds (Closed rank))) refl k
 
-pub unclosed_on : (from : Standing) (h next : HubSeen) (old new : KeptSeen) (rank : ℕ)
+pub unclosed_on : (from : HubState) (h next : HubSeen) (old new : KeptSeen) (rank : ℕ)
     → IsSilent h.crew next.crew → Rose h.crew.faults next.crew.faults → next ≡ record h { crew = next.crew }
     → IsClosedBelow rank from h old new → IsClosedBelow (suc rank) from next old new
 unclosed_on from h next old new rank silent faults rest k =
@@ -117,7 +117,7 @@ unclosed_on from h next old new rank silent faults rest k =
     (λ deeds. inr (Contains-push deeds (Unclosed rank))) refl k
 
 -- a rank that does not live is not told
-pub away_on : (from : Standing) (h : HubSeen) (old new : KeptSeen) (rank : ℕ)
+pub away_on : (from : HubState) (h : HubSeen) (old new : KeptSeen) (rank : ℕ)
     → slice_index_or h.crew.lives rank false ≡ false
     → IsClosedBelow rank from h old new → IsClosedBelow (suc rank) from h old new
 away_on from h old new rank away k = record {
@@ -130,13 +130,13 @@ away_on from h old new rank away k = record {
 }
 
 -- nothing is to be told below 0
-pub none_closed : (from : Standing) (h : HubSeen) (old new : KeptSeen) → IsKeptIn AnyPhase from h old new
+pub none_closed : (from : HubState) (h : HubSeen) (old new : KeptSeen) → IsKeptIn AnyPhase from h old new
     → IsClosedBelow 0 from h old new
 none_closed from h old new k =
     record { kept = k; closed = λ rank below alive. absurd (omega (arith, below)) }
 
 -- a rank beyond the last does not live
-pub all_closed : (from : Standing) (h : HubSeen) (old new : KeptSeen) (n : ℕ) → n ≡ ranks_of h.book
+pub all_closed : (from : HubState) (h : HubSeen) (old new : KeptSeen) (n : ℕ) → n ≡ ranks_of h.book
     → (k : IsClosedBelow n from h old new) → (rank : ℕ) → slice_index_or h.crew.lives rank false ≡ true
     → IsToldEnd rank k.kept.on.come.deeds
 all_closed from h old new n all k rank alive = elim (cases_lt rank n) [
@@ -146,7 +146,7 @@ all_closed from h old new n all k rank alive = elim (cases_lt rank n) [
 ]
 
 -- nothing is said any more
-pub ends_kept : (from : Standing) (h : HubSeen) (seen : CrewSeen) (old new : KeptSeen) (n : ℕ)
+pub ends_kept : (from : HubState) (h : HubSeen) (seen : CrewSeen) (old new : KeptSeen) (n : ℕ)
     → seen.said ≡ h.crew.said → seen.faults ≡ h.crew.faults → n ≡ ranks_of h.book
     → IsClosedBelow n from h old new → EndsFrom from (record h { crew = seen }) old new
 ends_kept from h seen old new n still calm all k =

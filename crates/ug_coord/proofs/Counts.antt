@@ -23,7 +23,7 @@ use Rattle.ug_rules.specs.Hearing.{after_hearing, counted, counted_under, done_a
 use Rattle.ug_rules.specs.Ranks.{ranks_that}
 use Rattle.ug_book.specs.Reads.{IsOrderTold}
 use Rattle.ug_book.specs.Views.{IsSameRun}
-use Rattle.ug_coord.specs.Deeds.{Broke, Came, Closed, Decided, Deed, Does, Halted, IsCourse, Kept as Saved, Launched, Lost, Passed, Sent, SetUp, Standing, Took, Unclosed, Unfed, Unread, Unsent, Unwritten}
+use Rattle.ug_coord.specs.Deeds.{Broke, Came, Closed, Decided, Deed, Does, Halted, IsCourse, Kept as Saved, Launched, Lost, Passed, Sent, SetUp, HubState, Took, Unclosed, Unfed, Unread, Unsent, Unwritten}
 use Rattle.ug_coord.specs.Ends.{IsOver}
 use Rattle.ug_coord.specs.Hubs.{HearsOne, IsOneMore, IsQuiet}
 use Rattle.ug_coord.proofs.Kept.{run_on, same_of}
@@ -283,21 +283,21 @@ one_within old new one below = elim one.heard [
   | inr more ↦ omega (arith, below, more, ap (λ (s : Settings). s.limit) one.settings)
 ]
 
-book_within : (old new : Standing) → (f : new.book ≡ old.book) → IsWithin old.book → IsWithin new.book
+book_within : (old new : HubState) → (f : new.book ≡ old.book) → IsWithin old.book → IsWithin new.book
 book_within old new same within = same_within old.book new.book (ap tally same) within
 
-deed_within : (old : Standing) (deed : Deed) (new : Standing) → Does old deed new → IsWithin old.book
+deed_within : (old : HubState) (deed : Deed) (new : HubState) → Does old deed new → IsWithin old.book
     → IsWithin new.book
 deed_within old (Launched rank) new does within =
-    book_within old new (ap (λ (s : Standing). s.book) does.1) within
+    book_within old new (ap (λ (s : HubState). s.book) does.1) within
 deed_within old (SetUp rank bytes) new does within =
-    book_within old new (ap (λ (s : Standing). s.book) does.rest) within
+    book_within old new (ap (λ (s : HubState). s.book) does.rest) within
 deed_within old (Closed rank) new does within =
-    book_within old new (ap (λ (s : Standing). s.book) does.rest) within
+    book_within old new (ap (λ (s : HubState). s.book) does.rest) within
 deed_within old (Came rank bytes) new does within =
-    book_within old new (ap (λ (s : Standing). s.book) does.rest) within
+    book_within old new (ap (λ (s : HubState). s.book) does.rest) within
 deed_within old (Took rank report answer) new does within =
-    subst (λ (s : Standing). IsWithin s.book) (sym does.rest)
+    subst (λ (s : HubState). IsWithin s.book) (sym does.rest)
     (one_within old.book (after_hearing answer rank report old.book) (heard_one answer rank report old.book)
     (below_limit old.book does.reading.settled.more))
 deed_within old (Lost rank cause) new does within =
@@ -307,27 +307,27 @@ deed_within old Decided new does within =
 deed_within old (Sent rank order) new does within =
     same_within old.book new.book (left_same old.book new.book _ does.told) within
 deed_within old (Unsent rank order) new does within =
-    same_within old.book new.book (ap (λ (s : Standing). tally s.book) does.rest
+    same_within old.book new.book (ap (λ (s : HubState). tally s.book) does.rest
     ∙ killed_same rank does.without ∙ left_same old.book does.without _ does.told) within
 deed_within old (Passed rank order) new does within =
     same_within old.book new.book (left_same old.book new.book _ does.told) within
 deed_within old Broke new does within =
-    book_within old new (ap (λ (s : Standing). s.book) does.rest) within
+    book_within old new (ap (λ (s : HubState). s.book) does.rest) within
 deed_within old (Unclosed rank) new does within =
-    book_within old new (ap (λ (s : Standing). s.book) does.rest) within
+    book_within old new (ap (λ (s : HubState). s.book) does.rest) within
 deed_within old (Halted steps) new does within =
     same_within old.book new.book (stands_same steps old.book new.book does.is) within
 deed_within old (Unwritten rank order) new does within =
     same_within old.book new.book (left_same old.book new.book _ does.told) within
 deed_within old (Unfed rank bytes) new does within =
-    book_within old new (ap (λ (s : Standing). s.book) does.rest) within
+    book_within old new (ap (λ (s : HubState). s.book) does.rest) within
 deed_within old Unread new does within =
-    book_within old new (ap (λ (s : Standing). s.book) does.1) within
+    book_within old new (ap (λ (s : HubState). s.book) does.1) within
 deed_within old Saved new does within =
-    book_within old new (ap (λ (s : Standing). s.book) does.rest) within
+    book_within old new (ap (λ (s : HubState). s.book) does.rest) within
 
-pub course_within : (old : Standing) (deeds : List Deed) (new : Standing) → IsCourse old deeds new
+pub course_within : (old : HubState) (deeds : List Deed) (new : HubState) → IsCourse old deeds new
     → IsWithin old.book → IsWithin new.book
-course_within old [] new same within = book_within old new (ap (λ (s : Standing). s.book) same) within
+course_within old [] new same within = book_within old new (ap (λ (s : HubState). s.book) same) within
 course_within old (deed ∷ deeds) new (mid, does, more) within =
     course_within mid deeds new more (deed_within old deed mid does within)

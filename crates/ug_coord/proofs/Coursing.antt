@@ -26,7 +26,7 @@ use Rattle.ug_rules.specs.Deciding.{IsDecided, Stands}
 use Rattle.ug_rules.specs.Hearing.{IsDue, after_hearing}
 use Rattle.ug_book.specs.Reads.{IsOrderTold}
 use Rattle.ug_book.specs.Views.{IsSameRun}
-use Rattle.ug_coord.specs.Deeds.{AreReadOut, Broke, Came, Closing, Decided, Deciding, Deed, Does, Ended, Failed, Halted, Hearing, IsCourse, IsHearing, IsMoreWanted, IsReading, Kept, Launched, Lost, MayBeRead, MayDecide, Nonsense, Passed, Reading, Sent, SetUp, Standing, Took, Unfed, Unread, Unsent, Unwritten}
+use Rattle.ug_coord.specs.Deeds.{AreReadOut, Broke, Came, Closing, Decided, Deciding, Deed, Does, Ended, Failed, Halted, Hearing, IsCourse, IsHearing, IsMoreWanted, IsReading, Kept, Launched, Lost, MayBeRead, MayDecide, Nonsense, Passed, Reading, Sent, SetUp, HubState, Took, Unfed, Unread, Unsent, Unwritten}
 use Rattle.ug_coord.specs.declared.pacing.Pacing.{Pacing}
 use Rattle.ug_coord.specs.Pacing.{IsSaveDue, saved_at}
 use Rattle.ug_coord.specs.Ends.{IsOver, ranks_of}
@@ -36,14 +36,14 @@ use Rattle.ug_coord.specs.Hubs.{AnyPhase, HasCome, HasFailed, HasHeardReport, Ha
 
 -- ---- one deed more
 
-abbrev pub course_more : (a : Standing) (deeds : List Deed) (b c : Standing) (deed : Deed) → IsCourse a deeds b
+abbrev pub course_more : (a : HubState) (deeds : List Deed) (b c : HubState) (deed : Deed) → IsCourse a deeds b
     → Does b deed c → IsCourse a (deeds ++ deed ∷ []) c
 course_more a [] b c deed same does =
-    (c, subst (λ (old : Standing). Does old deed c) same does, refl)
+    (c, subst (λ (old : HubState). Does old deed c) same does, refl)
 course_more a (one ∷ deeds) b c deed (mid, done, more) does =
     (mid, done, course_more mid deeds b c deed more does)
 
-abbrev pub come_more : (b old new : Standing) (deed : Deed) → HasCome b old → Does old deed new → HasCome b new
+abbrev pub come_more : (b old new : HubState) (deed : Deed) → HasCome b old → Does old deed new → HasCome b new
 come_more b old new deed h does = record {
   deeds = h.deeds ++ deed ∷ [];
   course = course_more b h.deeds old new deed h.course does;
@@ -58,7 +58,7 @@ said_more (Some s) b said more adds same =
     (ap (λ (t : List Exchange). t ++ more) same)
 
 -- in which something was said
-abbrev pub on_more : (phase after : Phase) (b : Standing) (old new : HubSeen) (deed : Deed) (more : List Exchange)
+abbrev pub on_more : (phase after : Phase) (b : HubState) (old new : HubSeen) (deed : Deed) (more : List Exchange)
     → Adds old.crew.said new.crew.said more
     → ((said : List Exchange) → Does (standing said phase old) deed (standing (said ++ more) after new))
     → IsFit new → IsOnAs phase b old → IsOnAs after b new
@@ -71,7 +71,7 @@ on_more phase after b old new deed more adds does fit on = record {
 }
 
 -- in which nothing was
-abbrev pub on_still : (phase after : Phase) (b : Standing) (old new : HubSeen) (deed : Deed)
+abbrev pub on_still : (phase after : Phase) (b : HubState) (old new : HubSeen) (deed : Deed)
     → new.crew.said ≡ old.crew.said
     → ((said : List Exchange) → Does (standing said phase old) deed (standing said after new))
     → IsFit new → IsOnAs phase b old → IsOnAs after b new
@@ -174,7 +174,7 @@ failed_by old crew new rank silent faults there lost ranks =
 
 -- ---- a call failed
 
-abbrev pub failed_on : (phase : Phase) (b : Standing) (old new : HubSeen) (rank : ℕ) → HasFailed old new rank
+abbrev pub failed_on : (phase : Phase) (b : HubState) (old new : HubSeen) (rank : ℕ) → HasFailed old new rank
     → IsOnAs phase b old → IsOnAs phase b new
 failed_on phase b old new rank h on =
     let lives = ap (λ (h : HubSeen). h.crew.lives) h.rest in
@@ -193,7 +193,7 @@ failed_on phase b old new rank h on =
     (fit_without old new rank lives streams h.ranks on.fit) on
 
 -- a turn failed
-pub broke_on : (phase : Phase) (b : Standing) (old new : HubSeen) → ¬ IsOver old.book → old.book.orders ≡ []
+pub broke_on : (phase : Phase) (b : HubState) (old new : HubSeen) → ¬ IsOver old.book → old.book.orders ≡ []
     → phase.pace ≡ Hearing → AreReadOut old.streams → Rose old.crew.faults new.crew.faults
     → new ≡ record old { crew = record old.crew { faults = new.crew.faults } } → IsOnAs phase b old
     → IsOnAs (record { broken = true; pace = Closing }) b new
@@ -213,7 +213,7 @@ broke_on phase b old new more told decided read faults rest on =
     }) on
 
 -- and so each rank is gone
-pub lost_on : (phase : Phase) (b : Standing) (old new : HubSeen) (rank : ℕ) → phase.broken ≡ true
+pub lost_on : (phase : Phase) (b : HubState) (old new : HubSeen) (rank : ℕ) → phase.broken ≡ true
     → rank < ranks_of old.book → new ≡ without rank old
     → ranks_of new.book ≡ ranks_of old.book → IsOnAs phase b old → IsOnAs phase b new
 lost_on phase b old new rank broken there rest ranks on =
@@ -242,7 +242,7 @@ fit_book h before ranks fit = record { lives = fit.lives ∙ sym ranks; streams 
 told_ranks : (old new : BookState) (told : Told) → IsOrderTold old new told → ranks_of new ≡ ranks_of old
 told_ranks old new told h = ap (λ (b : BookState). ranks_of b) h.rest
 
-pub passed_on : (phase : Phase) (b : Standing) (before : BookState) (h : HubSeen) (told : Told)
+pub passed_on : (phase : Phase) (b : HubState) (before : BookState) (h : HubSeen) (told : Told)
     → ¬ IsAlive h.crew told.rank → IsOrderTold before h.book told
     → IsOnAs phase b (record h { book = before }) → IsOnAs phase b h
 passed_on phase b before h told away left on =
@@ -250,7 +250,7 @@ passed_on phase b before h told away left on =
     (λ said. record { away = away_is h.crew told.rank away; told = left; rest = refl })
     (fit_book h before (told_ranks before h.book told left) on.fit) on
 
-pub sent_on : (phase : Phase) (b : Standing) (before : BookState) (h new : HubSeen) (told : Told)
+pub sent_on : (phase : Phase) (b : HubState) (before : BookState) (h new : HubSeen) (told : Told)
     → IsAlive h.crew told.rank → orders.IsCarried told.order → IsOrderTold before h.book told
     → HasSentTo h new told.rank (orders.spelled told.order)
     → IsOnAs phase b (record h { book = before }) → IsOnAs phase b new
@@ -273,7 +273,7 @@ sent_on phase b before h new told alive carried left sent on =
           ∙ sym (told_ranks before new.book told left_new);
     }) on
 
-pub unsent_on : (phase : Phase) (b : Standing) (before : BookState) (h new : HubSeen) (told : Told)
+pub unsent_on : (phase : Phase) (b : HubState) (before : BookState) (h new : HubSeen) (told : Told)
     → IsAlive h.crew told.rank → IsOrderTold before h.book told → HasFailed h new told.rank
     → IsOnAs phase b (record h { book = before }) → IsOnAs phase b new
 unsent_on phase b before h new told alive left failed on =
@@ -293,7 +293,7 @@ unsent_on phase b before h new told alive left failed on =
     (fit_without (record h { book = before }) new told.rank lives streams ranks on.fit) on
 
 -- by what a call that tells came to
-pub told_on : (sent : Bool) (phase : Phase) (b : Standing) (before : BookState) (h new : HubSeen) (told : Told)
+pub told_on : (sent : Bool) (phase : Phase) (b : HubState) (before : BookState) (h new : HubSeen) (told : Told)
     → IsAlive h.crew told.rank → orders.IsCarried told.order → IsOrderTold before h.book told
     → sent_or_failed sent h new told.rank (orders.spelled told.order)
     → IsOnAs phase b (record h { book = before }) → IsOnAs phase b new
@@ -305,7 +305,7 @@ told_on false phase b before h new told alive carried left came on =
 -- ---- the start of a rank
 
 -- the rank was started
-abbrev pub launched_on : (phase : Phase) (b : Standing) (old new : HubSeen) (rank : ℕ)
+abbrev pub launched_on : (phase : Phase) (b : HubState) (old new : HubSeen) (rank : ℕ)
     → slice_index_or old.crew.lives rank false ≡ false
     → new ≡ record old { crew = record old.crew { lives = slice_set old.crew.lives rank true } }
     → IsOnAs phase b old → IsOnAs phase b new
@@ -320,7 +320,7 @@ launched_on phase b old new rank away rest on =
     }) on
 
 -- and told the problem
-abbrev pub set_up_on : (sent : Bool) (phase : Phase) (b : Standing) (old new : HubSeen) (rank : ℕ) (frame : List ℕ)
+abbrev pub set_up_on : (sent : Bool) (phase : Phase) (b : HubState) (old new : HubSeen) (rank : ℕ) (frame : List ℕ)
     → IsAlive old.crew rank → IsSetUpFrame old.book frame → sent_or_failed sent old new rank frame
     → IsOnAs phase b old → IsOnAs phase b new
 set_up_on true phase b old new rank frame alive setup came on =
@@ -346,7 +346,7 @@ set_up_on false phase b old new rank frame alive setup came on = failed_on phase
 
 -- ---- decisions
 
-pub decided_on : (phase : Phase) (b : Standing) (old new : HubSeen) → ¬ IsOver old.book
+pub decided_on : (phase : Phase) (b : HubState) (old new : HubSeen) → ¬ IsOver old.book
     → ¬ IsSaveDue old.pacing old.book → MayDecide phase.pace
     → IsDecided old.book new.book → ranks_of new.book ≡ ranks_of old.book → new ≡ record old { book = new.book }
     → IsOnAs phase b old → IsOnAs (record { broken = phase.broken; pace = Hearing }) b new
@@ -364,7 +364,7 @@ decided_on phase b old new more saved due is ranks rest on =
     }) on
 
 -- a decision was cut short
-pub halted_on : (phase : Phase) (b : Standing) (old new : HubSeen) (steps : ℕ) → ¬ IsOver old.book
+pub halted_on : (phase : Phase) (b : HubState) (old new : HubSeen) (steps : ℕ) → ¬ IsOver old.book
     → ¬ IsSaveDue old.pacing old.book → MayDecide phase.pace → Stands steps old.book new.book → ranks_of new.book ≡ ranks_of old.book
     → new ≡ record old { wants = true; book = new.book } → IsOnAs phase b old
     → IsOnAs (record { broken = phase.broken; pace = Hearing }) b new
@@ -384,7 +384,7 @@ halted_on phase b old new steps more saved due is ranks rest on =
 -- ---- what comes
 
 -- bytes, which were fed to the stream of their rank
-pub fed_on : (phase : Phase) (b : Standing) (old new : HubSeen) (rank : ℕ) → ¬ IsOver old.book
+pub fed_on : (phase : Phase) (b : HubState) (old new : HubSeen) (rank : ℕ) → ¬ IsOver old.book
     → old.book.orders ≡ [] → phase.pace ≡ Hearing → AreReadOut old.streams
     → HasFed old.crew new.crew old.streams new.streams rank → new.book ≡ old.book → new.wants ≡ old.wants
     → new.pacing ≡ old.pacing → IsOnAs phase b old
@@ -431,7 +431,7 @@ fed_on phase b old new rank more told decided read h book wants pacing on =
     }) on
 
 -- and could not be kept
-pub lacked_on : (phase : Phase) (b : Standing) (old new : HubSeen) (rank : ℕ) → ¬ IsOver old.book
+pub lacked_on : (phase : Phase) (b : HubState) (old new : HubSeen) (rank : ℕ) → ¬ IsOver old.book
     → old.book.orders ≡ [] → phase.pace ≡ Hearing → AreReadOut old.streams
     → HasLacked old.crew new.crew old.streams new.streams rank → new.book ≡ old.book → new.wants ≡ true
     → new.pacing ≡ old.pacing → IsOnAs phase b old
@@ -478,7 +478,7 @@ lacked_on phase b old new rank more told decided read h book wants pacing on =
     }) on
 
 -- a report, which is heard
-pub took_on : (phase : Phase) (b : Standing) (old mid new : HubSeen) (rank : ℕ) (stream : Waiting) (report : Report)
+pub took_on : (phase : Phase) (b : HubState) (old mid new : HubSeen) (rank : ℕ) (stream : Waiting) (report : Report)
     → IsGiven reports.IsCarried reports.spelled (slice_index_or old.streams rank first) stream report
     → mid ≡ record old { streams = slice_set old.streams rank stream } → HasHeardReport mid new rank report
     → ¬ IsOver old.book → old.book.orders ≡ [] → MayBeRead phase.pace
@@ -509,7 +509,7 @@ took_on phase b old mid new rank stream report given step heard more told may on
     }) on
 
 -- bytes that are no report
-pub nonsense_on : (phase : Phase) (b : Standing) (old mid new : HubSeen) (rank : ℕ) (stream : Waiting) (at : ℕ)
+pub nonsense_on : (phase : Phase) (b : HubState) (old mid new : HubSeen) (rank : ℕ) (stream : Waiting) (at : ℕ)
     → IsBadAt reports.IsCarried reports.spelled (slice_index_or old.streams rank first) stream at
     → mid ≡ record old { streams = slice_set old.streams rank stream } → new ≡ without rank mid
     → ranks_of new.book ≡ ranks_of mid.book → rank < ranks_of old.book
@@ -546,7 +546,7 @@ nonsense_on phase b old mid new rank stream at bad step lost ranks there more to
     }) on
 
 -- word that a rank is gone
-pub gone_on : (phase : Phase) (b : Standing) (old new : HubSeen) (rank : ℕ)
+pub gone_on : (phase : Phase) (b : HubState) (old new : HubSeen) (rank : ℕ)
     → rank < ranks_of old.book → slice_index_or old.crew.lives rank false ≡ true
     → Adds old.crew.said new.crew.said (Gone rank ∷ []) → Rose old.crew.faults new.crew.faults
     → new.crew.lives ≡ slice_set old.crew.lives rank false → new.streams ≡ old.streams
@@ -594,7 +594,7 @@ frame_still {Z} old new before after run frame h =
 
 -- ---- what is read of a stream
 
-pub took_by : (b : Standing) (old mid new : HubSeen) (rank : ℕ) (report : Report) → ¬ IsOver old.book
+pub took_by : (b : HubState) (old mid new : HubSeen) (rank : ℕ) (report : Report) → ¬ IsOver old.book
     → old.book.orders ≡ []
     → HasRead old.streams mid.streams rank (Message report) → mid ≡ record old { streams = mid.streams }
     → HasHeardReport mid new rank report → IsOnIn MayRead b old → IsOnIn (is_next Deciding) b new
@@ -606,7 +606,7 @@ took_by b old mid new rank report more told read rest heard (phase, may, on) = (
 )
 
 -- a frame that is cut short stays
-pub still_by : (phase : Phase) (b : Standing) (old new : HubSeen) (rank : ℕ)
+pub still_by : (phase : Phase) (b : HubState) (old new : HubSeen) (rank : ℕ)
     → HasRead old.streams new.streams rank NeedMore
     → new ≡ record old { streams = new.streams } → IsOnAs phase b old → IsOnAs phase b new
 still_by phase b old new rank read rest on =
@@ -614,7 +614,7 @@ still_by phase b old new rank read rest on =
     ∙ ap (λ (w : Waiting). record old { streams = slice_set old.streams rank w }) read.is.same
     ∙ ap (λ (l : List Waiting). record old { streams = l }) (set-get_or old.streams rank first))) on
 
-pub nonsense_by : (b : Standing) (old mid new : HubSeen) (rank at : ℕ) → ¬ IsOver old.book
+pub nonsense_by : (b : HubState) (old mid new : HubSeen) (rank at : ℕ) → ¬ IsOver old.book
     → old.book.orders ≡ []
     → HasRead old.streams mid.streams rank (BadFrame at) → mid ≡ record old { streams = mid.streams }
     → new ≡ without rank mid → ranks_of new.book ≡ ranks_of mid.book → rank < ranks_of old.book
@@ -627,7 +627,7 @@ nonsense_by b old mid new rank at more told read rest lost ranks there (phase, m
 )
 
 -- a report could not be read
-pub unread_by : (b : Standing) (old new : HubSeen) → ¬ IsOver old.book → old.book.orders ≡ []
+pub unread_by : (b : HubState) (old new : HubSeen) → ¬ IsOver old.book → old.book.orders ≡ []
     → new ≡ record old { wants = true; streams = new.streams } → new.streams ≡ old.streams → IsOnIn MayRead b old
     → IsOnIn (is_next Deciding) b new
 unread_by b old new more told rest streams (phase, may, on) =
@@ -644,7 +644,7 @@ unread_by b old new more told rest streams (phase, may, on) =
 -- ---- a turn
 
 -- bytes came
-pub fed_by : (b : Standing) (old new : HubSeen) (rank : ℕ) → ¬ IsOver old.book → old.book.orders ≡ []
+pub fed_by : (b : HubState) (old new : HubSeen) (rank : ℕ) → ¬ IsOver old.book → old.book.orders ≡ []
     → AreReadOut old.streams → HasFed old.crew new.crew old.streams new.streams rank → new.book ≡ old.book
     → new.wants ≡ old.wants → new.pacing ≡ old.pacing → IsOnIn (is_next Hearing) b old → IsOnIn (is_next Reading) b new
 fed_by b old new rank more told read h book wants pacing (phase, decided, on) = (
@@ -654,7 +654,7 @@ fed_by b old new rank more told read h book wants pacing (phase, decided, on) = 
 )
 
 -- and memory was wanting to keep them
-pub lacked_by : (b : Standing) (old new : HubSeen) (rank : ℕ) → ¬ IsOver old.book → old.book.orders ≡ []
+pub lacked_by : (b : HubState) (old new : HubSeen) (rank : ℕ) → ¬ IsOver old.book → old.book.orders ≡ []
     → AreReadOut old.streams → HasLacked old.crew new.crew old.streams new.streams rank → new.book ≡ old.book
     → new.wants ≡ true → new.pacing ≡ old.pacing → IsOnIn (is_next Hearing) b old → IsOnIn (is_next Reading) b new
 lacked_by b old new rank more told read h book wants pacing (phase, decided, on) = (
@@ -664,7 +664,7 @@ lacked_by b old new rank more told read h book wants pacing (phase, decided, on)
 )
 
 -- word that a rank is gone
-pub gone_by : (b : Standing) (old new : HubSeen) (rank : ℕ) → ¬ IsOver old.book → old.book.orders ≡ []
+pub gone_by : (b : HubState) (old new : HubSeen) (rank : ℕ) → ¬ IsOver old.book → old.book.orders ≡ []
     → AreReadOut old.streams → HasGone old.crew new.crew old.streams new.streams rank
     → new.book ≡ killed rank old.book → ranks_of new.book ≡ ranks_of old.book → new.wants ≡ old.wants
     → new.pacing ≡ old.pacing → IsOnIn (is_next Hearing) b old → IsOnIn (is_next Deciding) b new
@@ -676,7 +676,7 @@ gone_by b old new rank more told read h book ranks wants pacing (phase, decided,
 )
 
 -- it failed
-pub broke_by : (b : Standing) (old new : HubSeen) → ¬ IsOver old.book → old.book.orders ≡ []
+pub broke_by : (b : HubState) (old new : HubSeen) → ¬ IsOver old.book → old.book.orders ≡ []
     → AreReadOut old.streams → HasBroken old.crew new.crew old.streams new.streams → new.book ≡ old.book
     → new.wants ≡ old.wants → new.pacing ≡ old.pacing → IsOnIn (is_next Hearing) b old → IsOnIn IsBrokenOff b new
 broke_by b old new more told read h book wants pacing (phase, decided, on) = (
@@ -690,7 +690,7 @@ broke_by b old new more told read h book wants pacing (phase, decided, on) = (
       ∙ ap (λ (crew : CrewSeen). record old { crew = crew }) (only_faults old.crew new.crew h.silent)) on,
 )
 
-pub lost_in : (b : Standing) (old new : HubSeen) (rank : ℕ) → rank < ranks_of old.book
+pub lost_in : (b : HubState) (old new : HubSeen) (rank : ℕ) → rank < ranks_of old.book
     → new ≡ without rank old → ranks_of new.book ≡ ranks_of old.book → IsOnIn IsBrokenOff b old
     → IsOnIn IsBrokenOff b new
 lost_in b old new rank there rest ranks (phase, is, on) =
@@ -698,7 +698,7 @@ lost_in b old new rank there rest ranks (phase, is, on) =
 
 -- ---- decisions
 
-pub decided_by : (b : Standing) (old new : HubSeen) → ¬ IsOver old.book → ¬ IsSaveDue old.pacing old.book
+pub decided_by : (b : HubState) (old new : HubSeen) → ¬ IsOver old.book → ¬ IsSaveDue old.pacing old.book
     → IsDecided old.book new.book
     → ranks_of new.book ≡ ranks_of old.book → new ≡ record old { book = new.book } → IsOnIn IsRested b old
     → IsOnIn (is_next Hearing) b new
@@ -708,7 +708,7 @@ decided_by b old new more saved is ranks rest (phase, due, on) = (
   decided_on phase b old new more saved due is ranks rest on,
 )
 
-pub halted_by : (b : Standing) (old new : HubSeen) (steps : ℕ) → ¬ IsOver old.book
+pub halted_by : (b : HubState) (old new : HubSeen) (steps : ℕ) → ¬ IsOver old.book
     → ¬ IsSaveDue old.pacing old.book → Stands steps old.book new.book → ranks_of new.book ≡ ranks_of old.book
     → new ≡ record old { wants = true; book = new.book } → IsOnIn IsRested b old
     → IsOnIn (is_next Hearing) b new
@@ -719,7 +719,7 @@ halted_by b old new steps more saved is ranks rest (phase, due, on) = (
 )
 
 -- the book was saved
-pub kept_on : (phase : Phase) (b : Standing) (old : HubSeen) → IsSaveDue old.pacing old.book → IsOnAs phase b old
+pub kept_on : (phase : Phase) (b : HubState) (old : HubSeen) → IsSaveDue old.pacing old.book → IsOnAs phase b old
     → IsOnAs phase b (record old { pacing = saved_at old.book })
 kept_on phase b old due on =
     on_still phase phase b old (record old { pacing = saved_at old.book }) Kept refl
@@ -727,7 +727,7 @@ kept_on phase b old due on =
     (record { lives = on.fit.lives; streams = on.fit.streams }) on
 
 -- an order could not be put into bytes
-pub unwritten_on : (phase : Phase) (b : Standing) (before : BookState) (h : HubSeen) (told : Told)
+pub unwritten_on : (phase : Phase) (b : HubState) (before : BookState) (h : HubSeen) (told : Told)
     → IsAlive h.crew told.rank → IsOrderTold before h.book told → IsOnAs phase b (record h { book = before })
     → IsOnAs phase b (record h { wants = true })
 unwritten_on phase b before h told alive left on =
@@ -752,38 +752,38 @@ first_order old new told is left =
 
 -- ---- phases
 
-pub in_phase : (P : Phase → Type 0) (phase : Phase) (b : Standing) (h : HubSeen) → P phase → IsOnAs phase b h
+pub in_phase : (P : Phase → Type 0) (phase : Phase) (b : HubState) (h : HubSeen) → P phase → IsOnAs phase b h
     → IsOnIn P b h
 in_phase P phase b h is on = (phase, is, on)
 
 -- what is done in any phase is done in this
-pub stays_in : (P : Phase → Type 0) (b : Standing) (old new : HubSeen)
+pub stays_in : (P : Phase → Type 0) (b : HubState) (old new : HubSeen)
     → ((phase : Phase) → IsOnAs phase b old → IsOnAs phase b new) → IsOnIn P b old → IsOnIn P b new
 stays_in P b old new goes (phase, is, on) = (phase, is, goes phase on)
 
 -- and then what a step does
 pub steps_on : (result : Bool) (P Q : Phase → Type 0) (old mid new : HubSeen)
-    → ((from : Standing) → IsOnIn P from old → IsOnIn Q from mid)
-    → MatchBool result ((from : Standing) → IsOnIn Q from mid → IsOnIn IsRested from new)
-    ((from : Standing) → IsOnIn Q from mid → IsOnIn AnyPhase from new)
-    → MatchBool result ((from : Standing) → IsOnIn P from old → IsOnIn IsRested from new)
-    ((from : Standing) → IsOnIn P from old → IsOnIn AnyPhase from new)
+    → ((from : HubState) → IsOnIn P from old → IsOnIn Q from mid)
+    → MatchBool result ((from : HubState) → IsOnIn Q from mid → IsOnIn IsRested from new)
+    ((from : HubState) → IsOnIn Q from mid → IsOnIn AnyPhase from new)
+    → MatchBool result ((from : HubState) → IsOnIn P from old → IsOnIn IsRested from new)
+    ((from : HubState) → IsOnIn P from old → IsOnIn AnyPhase from new)
 steps_on true P Q old mid new goes on = λ from was. on from (goes from was)
 steps_on false P Q old mid new goes on = λ from was. on from (goes from was)
 
-pub any_in : (P : Phase → Type 0) (b : Standing) (h : HubSeen) → IsOnIn P b h → IsOnIn AnyPhase b h
+pub any_in : (P : Phase → Type 0) (b : HubState) (h : HubSeen) → IsOnIn P b h → IsOnIn AnyPhase b h
 any_in P b h (phase, is, on) = (phase, tt, on)
 
-pub deciding_rests : (b : Standing) (h : HubSeen) → IsOnIn (is_next Deciding) b h → IsOnIn IsRested b h
+pub deciding_rests : (b : HubState) (h : HubSeen) → IsOnIn (is_next Deciding) b h → IsOnIn IsRested b h
 deciding_rests b h (phase, is, on) = (phase, subst MayDecide (sym is) tt, on)
 
-pub reading_rests : (b : Standing) (h : HubSeen) → IsOnIn (is_next Reading) b h → IsOnIn IsRested b h
+pub reading_rests : (b : HubState) (h : HubSeen) → IsOnIn (is_next Reading) b h → IsOnIn IsRested b h
 reading_rests b h (phase, is, on) = (phase, subst MayDecide (sym is) tt, on)
 
-pub hearing_reads : (b : Standing) (h : HubSeen) → IsOnIn (is_next Hearing) b h → IsOnIn MayRead b h
+pub hearing_reads : (b : HubState) (h : HubSeen) → IsOnIn (is_next Hearing) b h → IsOnIn MayRead b h
 hearing_reads b h (phase, is, on) = (phase, subst MayBeRead (sym is) tt, on)
 
-pub reading_reads : (b : Standing) (h : HubSeen) → IsOnIn (is_next Reading) b h → IsOnIn MayRead b h
+pub reading_reads : (b : HubState) (h : HubSeen) → IsOnIn (is_next Reading) b h → IsOnIn MayRead b h
 reading_reads b h (phase, is, on) = (phase, subst MayBeRead (sym is) tt, on)
 
 -- ---- the beginning

@@ -20,7 +20,7 @@ use Rattle.ug_restart.specs.Moments.{FindsIn, IsFoundNow, IsOfRun}
 use Rattle.ug_restart.specs.Going.{time}
 use Rattle.ug_restart.specs.Outcomes.{HasFeasible, IfAnswered, IfBook, IfLimited, IsLastSave, IsLimited, IsRight, IsSavedOrCounted}
 use Rattle.ug_restart.proofs.Outcomes.{none_missed, saved_or_counted, still_covered, still_found, time_covered, time_found, time_missed}
-use Rattle.ug_coord.specs.Deeds.{Standing, saves_in}
+use Rattle.ug_coord.specs.Deeds.{HubState, saves_in}
 use Rattle.ug_coord.specs.declared.pacing.Pacing.{Pacing}
 use Rattle.ug_coord.specs.Pacing.{IsSaveDue}
 use Rattle.ug_coord.specs.Ends.{IsAnswered, IsAtLimit, IsExactly, IsOver, IsStranded, is_ended, ranks_of}
@@ -119,7 +119,7 @@ book_has P (Stranded own) b is holds = subst P (sym is.0) holds
 book_has P Memory b is holds = tt
 
 -- all that was saved
-pub all_moved : (from : Standing) (h : HubSeen) (old mid : KeptSeen) (disk : DiskSeen)
+pub all_moved : (from : HubState) (h : HubSeen) (old mid : KeptSeen) (disk : DiskSeen)
     (outcome : Outcome) (e : EndsFrom from h old mid) → is_ended outcome.end h.book → IsOurs mid h.book
     → (c : HasConcluded outcome mid disk)
     → Moves (StaysSound from e.now e.come) (Unit {0}) old (record { saves = c.saves; disk = disk })
@@ -255,7 +255,7 @@ some_saver Covers Ours None b x y P one holds = tt
 some_saver Covers Ours (Some a) None x y P one holds = absurd one
 some_saver Covers Ours (Some a) (Some b) x y P one holds = holds
 
-pub solved_kept : (o : Opening) (from : Standing) (h : HubSeen) (old mid : KeptSeen) (disk : DiskSeen)
+pub solved_kept : (o : Opening) (from : HubState) (h : HubSeen) (old mid : KeptSeen) (disk : DiskSeen)
     (outcome : Outcome) → EndsFrom from h old mid → is_ended outcome.end h.book → IsOurs mid h.book
     → IfSome old.saves (IsBegun o) → HasConcluded outcome mid disk
     → HasKept (opening_book o) (savers old.saves) outcome old.disk disk

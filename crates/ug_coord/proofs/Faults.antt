@@ -8,7 +8,7 @@ use Rattle.ug_ranks.specs.Looks.{is_alive}
 use Rattle.ug_ranks.specs.States.{state_at}
 use Rattle.ug_coord.specs.Causes.{IsAtFault, IsEndOf, IsShownGone}
 use Rattle.ug_coord.specs.Deeds.{Broke, Came, Cause, Closed, Decided, Deed, Does, Ended, Failed, Halted, IsCause, IsCourse, Kept as Saved, Launched, Lost, Nonsense, Passed}
-use Rattle.ug_coord.specs.Deeds.{Sent, SetUp, Standing, Took, Unclosed, Unfed, Unread, Unsent, Unwritten}
+use Rattle.ug_coord.specs.Deeds.{Sent, SetUp, HubState, Took, Unclosed, Unfed, Unread, Unsent, Unwritten}
 use Rattle.ug_coord.proofs.Causes.{Alive, deed_lives}
 
 -- ---- the count of faults never falls
@@ -17,7 +17,7 @@ pub rose_up : (old new : ℕ) → Rose old new → old ≤ new
 rose_up old new (inl less) = omega (arith, less)
 rose_up old new (inr full) = omega (arith, full.1)
 
-pub cause_up : (old new : Standing) (rank : ℕ) (cause : Cause) → IsCause old new rank cause → old.faults ≤ new.faults
+pub cause_up : (old new : HubState) (rank : ℕ) (cause : Cause) → IsCause old new rank cause → old.faults ≤ new.faults
 cause_up old new rank Ended is = rose_up old.faults new.faults is.faults
 cause_up old new rank Failed is = elim is.1 [
   | inl before ↦ omega (arith, before.1)
@@ -25,31 +25,31 @@ cause_up old new rank Failed is = elim is.1 [
 ]
 cause_up old new rank Nonsense is = omega (arith, is.faults)
 
-pub same_faults : (old new : Standing) → new.faults ≡ old.faults → old.faults ≤ new.faults
+pub same_faults : (old new : HubState) → new.faults ≡ old.faults → old.faults ≤ new.faults
 same_faults old new same = omega (arith, same)
 
-pub faults_up : (old : Standing) (deed : Deed) (new : Standing) → Does old deed new → old.faults ≤ new.faults
-faults_up old (Launched rank) new does = same_faults old new (ap (λ (s : Standing). s.faults) does.1)
-faults_up old (SetUp rank bytes) new does = same_faults old new (ap (λ (s : Standing). s.faults) does.rest)
-faults_up old (Closed rank) new does = same_faults old new (ap (λ (s : Standing). s.faults) does.rest)
-faults_up old (Came rank bytes) new does = same_faults old new (ap (λ (s : Standing). s.faults) does.rest)
+pub faults_up : (old : HubState) (deed : Deed) (new : HubState) → Does old deed new → old.faults ≤ new.faults
+faults_up old (Launched rank) new does = same_faults old new (ap (λ (s : HubState). s.faults) does.1)
+faults_up old (SetUp rank bytes) new does = same_faults old new (ap (λ (s : HubState). s.faults) does.rest)
+faults_up old (Closed rank) new does = same_faults old new (ap (λ (s : HubState). s.faults) does.rest)
+faults_up old (Came rank bytes) new does = same_faults old new (ap (λ (s : HubState). s.faults) does.rest)
 faults_up old (Took rank report answer) new does =
-    same_faults old new (ap (λ (s : Standing). s.faults) does.rest)
+    same_faults old new (ap (λ (s : HubState). s.faults) does.rest)
 faults_up old (Lost rank cause) new does = cause_up old new rank cause does.why
-faults_up old Decided new does = same_faults old new (ap (λ (s : Standing). s.faults) does.rest)
-faults_up old (Sent rank order) new does = same_faults old new (ap (λ (s : Standing). s.faults) does.rest)
+faults_up old Decided new does = same_faults old new (ap (λ (s : HubState). s.faults) does.rest)
+faults_up old (Sent rank order) new does = same_faults old new (ap (λ (s : HubState). s.faults) does.rest)
 faults_up old (Unsent rank order) new does = rose_up old.faults new.faults does.faults
-faults_up old (Passed rank order) new does = same_faults old new (ap (λ (s : Standing). s.faults) does.rest)
+faults_up old (Passed rank order) new does = same_faults old new (ap (λ (s : HubState). s.faults) does.rest)
 faults_up old Broke new does = rose_up old.faults new.faults does.faults
 faults_up old (Unclosed rank) new does = rose_up old.faults new.faults does.faults
-faults_up old (Halted steps) new does = same_faults old new (ap (λ (s : Standing). s.faults) does.rest)
-faults_up old (Unwritten rank order) new does = same_faults old new (ap (λ (s : Standing). s.faults) does.rest)
-faults_up old (Unfed rank bytes) new does = same_faults old new (ap (λ (s : Standing). s.faults) does.rest)
-faults_up old Unread new does = same_faults old new (ap (λ (s : Standing). s.faults) does.1)
-faults_up old Saved new does = same_faults old new (ap (λ (s : Standing). s.faults) does.rest)
+faults_up old (Halted steps) new does = same_faults old new (ap (λ (s : HubState). s.faults) does.rest)
+faults_up old (Unwritten rank order) new does = same_faults old new (ap (λ (s : HubState). s.faults) does.rest)
+faults_up old (Unfed rank bytes) new does = same_faults old new (ap (λ (s : HubState). s.faults) does.rest)
+faults_up old Unread new does = same_faults old new (ap (λ (s : HubState). s.faults) does.1)
+faults_up old Saved new does = same_faults old new (ap (λ (s : HubState). s.faults) does.rest)
 
-pub course_up : (old : Standing) (deeds : List Deed) (new : Standing) → IsCourse old deeds new → old.faults ≤ new.faults
-course_up old [] new same = same_faults old new (ap (λ (s : Standing). s.faults) same)
+pub course_up : (old : HubState) (deeds : List Deed) (new : HubState) → IsCourse old deeds new → old.faults ≤ new.faults
+course_up old [] new same = same_faults old new (ap (λ (s : HubState). s.faults) same)
 course_up old (deed ∷ deeds) new (mid, does, more) =
     omega (arith, faults_up old deed mid does, course_up mid deeds new more)
 
@@ -70,55 +70,55 @@ rose_since start old new since (inr full) = elim (cases_lt start new) [
 ]
 
 -- a turn failed only where it rose
-abbrev IsToldSo : ℕ → Standing → Type 0
+abbrev IsToldSo : ℕ → HubState → Type 0
 IsToldSo start s = s.broken ≡ true → Rose start s.faults
 
-still_so : (start : ℕ) (old new : Standing) → new.broken ≡ old.broken → old.faults ≤ new.faults → IsToldSo start old
+still_so : (start : ℕ) (old new : HubState) → new.broken ≡ old.broken → old.faults ≤ new.faults → IsToldSo start old
     → IsToldSo start new
 still_so start old new same up so broken = rose_on start old.faults new.faults up (so (sym same ∙ broken))
 
-told_so : (start : ℕ) (old : Standing) (deed : Deed) (new : Standing) → Does old deed new → start ≤ old.faults
+told_so : (start : ℕ) (old : HubState) (deed : Deed) (new : HubState) → Does old deed new → start ≤ old.faults
     → IsToldSo start old → IsToldSo start new
 told_so start old (Launched rank) new does since so =
-    still_so start old new (ap (λ (s : Standing). s.broken) does.1) (faults_up old (Launched rank) new does) so
+    still_so start old new (ap (λ (s : HubState). s.broken) does.1) (faults_up old (Launched rank) new does) so
 told_so start old (SetUp rank bytes) new does since so =
-    still_so start old new (ap (λ (s : Standing). s.broken) does.rest) (faults_up old (SetUp rank bytes) new does) so
+    still_so start old new (ap (λ (s : HubState). s.broken) does.rest) (faults_up old (SetUp rank bytes) new does) so
 told_so start old (Closed rank) new does since so =
-    still_so start old new (ap (λ (s : Standing). s.broken) does.rest) (faults_up old (Closed rank) new does) so
+    still_so start old new (ap (λ (s : HubState). s.broken) does.rest) (faults_up old (Closed rank) new does) so
 told_so start old (Came rank bytes) new does since so =
-    still_so start old new (ap (λ (s : Standing). s.broken) does.rest) (faults_up old (Came rank bytes) new does) so
+    still_so start old new (ap (λ (s : HubState). s.broken) does.rest) (faults_up old (Came rank bytes) new does) so
 told_so start old (Took rank report answer) new does since so =
-    still_so start old new (ap (λ (s : Standing). s.broken) does.rest) (faults_up old (Took rank report answer) new does) so
+    still_so start old new (ap (λ (s : HubState). s.broken) does.rest) (faults_up old (Took rank report answer) new does) so
 told_so start old (Lost rank cause) new does since so =
     still_so start old new does.broken (faults_up old (Lost rank cause) new does) so
 told_so start old Decided new does since so =
-    still_so start old new (ap (λ (s : Standing). s.broken) does.rest) (faults_up old Decided new does) so
+    still_so start old new (ap (λ (s : HubState). s.broken) does.rest) (faults_up old Decided new does) so
 told_so start old (Sent rank order) new does since so =
-    still_so start old new (ap (λ (s : Standing). s.broken) does.rest) (faults_up old (Sent rank order) new does) so
+    still_so start old new (ap (λ (s : HubState). s.broken) does.rest) (faults_up old (Sent rank order) new does) so
 told_so start old (Unsent rank order) new does since so =
-    still_so start old new (ap (λ (s : Standing). s.broken) does.rest) (faults_up old (Unsent rank order) new does) so
+    still_so start old new (ap (λ (s : HubState). s.broken) does.rest) (faults_up old (Unsent rank order) new does) so
 told_so start old (Passed rank order) new does since so =
-    still_so start old new (ap (λ (s : Standing). s.broken) does.rest) (faults_up old (Passed rank order) new does) so
+    still_so start old new (ap (λ (s : HubState). s.broken) does.rest) (faults_up old (Passed rank order) new does) so
 told_so start old Broke new does since so = λ broken. rose_since start old.faults new.faults since does.faults
 told_so start old (Unclosed rank) new does since so =
-    still_so start old new (ap (λ (s : Standing). s.broken) does.rest) (faults_up old (Unclosed rank) new does) so
+    still_so start old new (ap (λ (s : HubState). s.broken) does.rest) (faults_up old (Unclosed rank) new does) so
 told_so start old (Halted steps) new does since so =
-    still_so start old new (ap (λ (s : Standing). s.broken) does.rest) (faults_up old (Halted steps) new does) so
+    still_so start old new (ap (λ (s : HubState). s.broken) does.rest) (faults_up old (Halted steps) new does) so
 told_so start old (Unwritten rank order) new does since so =
-    still_so start old new (ap (λ (s : Standing). s.broken) does.rest) (faults_up old (Unwritten rank order) new does) so
+    still_so start old new (ap (λ (s : HubState). s.broken) does.rest) (faults_up old (Unwritten rank order) new does) so
 told_so start old (Unfed rank bytes) new does since so =
-    still_so start old new (ap (λ (s : Standing). s.broken) does.rest) (faults_up old (Unfed rank bytes) new does) so
+    still_so start old new (ap (λ (s : HubState). s.broken) does.rest) (faults_up old (Unfed rank bytes) new does) so
 told_so start old Unread new does since so =
-    still_so start old new (ap (λ (s : Standing). s.broken) does.1) (faults_up old Unread new does) so
+    still_so start old new (ap (λ (s : HubState). s.broken) does.1) (faults_up old Unread new does) so
 told_so start old Saved new does since so =
-    still_so start old new (ap (λ (s : Standing). s.broken) does.rest) (faults_up old Saved new does) so
+    still_so start old new (ap (λ (s : HubState). s.broken) does.rest) (faults_up old Saved new does) so
 
 -- ---- what shows that a rank is gone
 
 alone : (deed : Deed) → Contains (deed ∷ []) deed
 alone deed = Contains-push [] deed
 
-lost_shows : (start : ℕ) (old new : Standing) (rank : ℕ) (cause : Cause) → IsCause old new rank cause
+lost_shows : (start : ℕ) (old new : HubState) (rank : ℕ) (cause : Cause) → IsCause old new rank cause
     → start ≤ old.faults → IsToldSo start old → IsShownGone start new.faults rank (Lost rank cause ∷ [])
 lost_shows start old new rank Ended is since so = inl (rose_since start old.faults new.faults since is.faults)
 lost_shows start old new rank Failed is since so = elim is.1 [
@@ -127,7 +127,7 @@ lost_shows start old new rank Failed is since so = elim is.1 [
 ]
 lost_shows start old new rank Nonsense is since so = inr (inl (alone (Lost rank Nonsense)))
 
-end_shows : (start : ℕ) (old : Standing) (deed : Deed) (new : Standing) (rank : ℕ) → Does old deed new
+end_shows : (start : ℕ) (old : HubState) (deed : Deed) (new : HubState) (rank : ℕ) → Does old deed new
     → IsEndOf rank deed → start ≤ old.faults → IsToldSo start old → IsShownGone start new.faults rank (deed ∷ [])
 end_shows start old (Launched other) new rank does ends since so = absurd ends
 end_shows start old (SetUp other bytes) new rank does ends since so = absurd ends
@@ -187,11 +187,11 @@ later_shows start new rank deed deeds (inr (inr answer)) = inr (inr (record {
 }))
 
 -- it is alive at the end, or that shows
-course_shows : (start : ℕ) (old : Standing) (deeds : List Deed) (new : Standing) (rank : ℕ) → IsCourse old deeds new
+course_shows : (start : ℕ) (old : HubState) (deeds : List Deed) (new : HubState) (rank : ℕ) → IsCourse old deeds new
     → start ≤ old.faults → IsToldSo start old → Alive old.book.ranks rank
     → Alive new.book.ranks rank ⊎ IsShownGone start new.faults rank deeds
 course_shows start old [] new rank same since so alive =
-    inl (subst (λ (s : Standing). Alive s.book.ranks rank) (sym same) alive)
+    inl (subst (λ (s : HubState). Alive s.book.ranks rank) (sym same) alive)
 course_shows start old (deed ∷ deeds) new rank (mid, does, more) since so alive =
     elim (deed_lives old deed mid rank does alive) [
       | inl lives ↦ elim (course_shows start mid deeds new rank more
@@ -203,7 +203,7 @@ course_shows start old (deed ∷ deeds) new rank (mid, does, more) since so aliv
           (end_shows start old deed mid rank does ends since so))
     ]
 
-pub dead_is_shown : (old : Standing) (deeds : List Deed) (new : Standing) (rank : ℕ) → IsCourse old deeds new
+pub dead_is_shown : (old : HubState) (deeds : List Deed) (new : HubState) (rank : ℕ) → IsCourse old deeds new
     → old.broken ≡ false → Alive old.book.ranks rank → is_alive (state_at new.book.ranks rank) ≡ false
     → IsShownGone old.faults new.faults rank deeds
 dead_is_shown old deeds new rank course whole alive dead =

@@ -11,7 +11,7 @@ use Rattle.ug_restart.specs.Saves.{book_of}
 use Rattle.ug_restart.specs.Going.{time}
 use Rattle.ug_restart.proofs.Going.{goes_nowhere, goes_on, goes_where}
 use Rattle.ug_coord.proofs.Coursing.{course_more}
-use Rattle.ug_coord.specs.Deeds.{AreSound, Broke, Came, Closed, Decided, Deed, Does, Halted, IsCourse, Kept as Saved, Launched, Lost, Passed, Sent, SetUp, Standing, Took, Unclosed, Unfed, Unread, Unsent, Unwritten, saves_in, saves_of}
+use Rattle.ug_coord.specs.Deeds.{AreSound, Broke, Came, Closed, Decided, Deed, Does, Halted, IsCourse, Kept as Saved, Launched, Lost, Passed, Sent, SetUp, HubState, Took, Unclosed, Unfed, Unread, Unsent, Unwritten, saves_in, saves_of}
 use Rattle.ug_coord.specs.declared.pacing.Pacing.{Pacing}
 use Rattle.ug_coord.specs.Pacing.{IsSaveDue, is_due, saved_at}
 use Rattle.ug_coord.proofs.Tries.{tried_none, tried_on}
@@ -20,35 +20,35 @@ use Rattle.ug_coord.specs.Keeping.{HasTried, IsOurs, KeptSeen, Moves, moves}
 
 -- ---- courses
 
-abbrev course_joined : (a : Standing) (deeds : List Deed) (b : Standing) (more : List Deed) (c : Standing)
+abbrev course_joined : (a : HubState) (deeds : List Deed) (b : HubState) (more : List Deed) (c : HubState)
     → IsCourse a deeds b → IsCourse b more c → IsCourse a (deeds ++ more) c
-course_joined a [] b more c same then = subst (λ (s : Standing). IsCourse s more c) same then
+course_joined a [] b more c same then = subst (λ (s : HubState). IsCourse s more c) same then
 course_joined a (deed ∷ deeds) b more c (mid, does, rest) then =
     (mid, does, course_joined mid deeds b more c rest then)
 
 -- a front of what is sound is
-sound_first : (a : Standing) (more : List Deed) (c : Standing) (course : IsCourse a more c)
+sound_first : (a : HubState) (more : List Deed) (c : HubState) (course : IsCourse a more c)
     → AreSound a more c course → IsSoundBook a.book
 sound_first a [] c course sound = sound
 sound_first a (deed ∷ more) c (mid, does, rest) sound = sound.0
 
-sound_front : (a : Standing) (deeds : List Deed) (b : Standing) (more : List Deed) (c : Standing)
+sound_front : (a : HubState) (deeds : List Deed) (b : HubState) (more : List Deed) (c : HubState)
     → (one : IsCourse a deeds b) → (two : IsCourse b more c)
     → AreSound a (deeds ++ more) c (course_joined a deeds b more c one two) → AreSound a deeds b one
 sound_front a [] b more c one two sound = sound_first a more c (course_joined a [] b more c one two) sound
 sound_front a (deed ∷ deeds) b more c (mid, does, rest) two sound =
     (sound.0, sound_front mid deeds b more c rest two sound.1)
 
-pub sound_more : (a : Standing) (deeds : List Deed) (b c : Standing) (deed : Deed) (one : IsCourse a deeds b)
+pub sound_more : (a : HubState) (deeds : List Deed) (b c : HubState) (deed : Deed) (one : IsCourse a deeds b)
     → (does : Does b deed c) → AreSound a (deeds ++ deed ∷ []) c (course_more a deeds b c deed one does)
     → AreSound a deeds b one
 sound_more a [] b c deed same does sound = sound.0
 sound_more a (d ∷ deeds) b c deed (mid, done, rest) does sound =
     (sound.0, sound_more mid deeds b c deed rest does sound.1)
 
-pub sound_last : (a : Standing) (deeds : List Deed) (b : Standing) (course : IsCourse a deeds b)
+pub sound_last : (a : HubState) (deeds : List Deed) (b : HubState) (course : IsCourse a deeds b)
     → AreSound a deeds b course → IsSoundBook b.book
-sound_last a [] b same sound = subst (λ (s : Standing). IsSoundBook s.book) (sym same) sound
+sound_last a [] b same sound = subst (λ (s : HubState). IsSoundBook s.book) (sym same) sound
 sound_last a (deed ∷ deeds) b (mid, does, rest) sound = sound_last mid deeds b rest sound.1
 
 -- ---- what is saved
@@ -124,34 +124,34 @@ saves_joined [] more = omega arith
 saves_joined (deed ∷ deeds) more = omega (arith, saves_joined deeds more)
 
 -- with each save the count of reports that it was made at rises, and with no other deed
-deed_saves : (old : Standing) (deed : Deed) (new : Standing) → Does old deed new
+deed_saves : (old : HubState) (deed : Deed) (new : HubState) → Does old deed new
     → old.pacing.since + saves_of deed ≤ new.pacing.since
-deed_saves old (Launched rank) new does = omega (arith, ap (λ (s : Standing). s.pacing.since) does.1)
-deed_saves old (SetUp rank bytes) new does = omega (arith, ap (λ (s : Standing). s.pacing.since) does.rest)
-deed_saves old (Closed rank) new does = omega (arith, ap (λ (s : Standing). s.pacing.since) does.rest)
-deed_saves old (Came rank bytes) new does = omega (arith, ap (λ (s : Standing). s.pacing.since) does.rest)
-deed_saves old (Took rank report answer) new does = omega (arith, ap (λ (s : Standing). s.pacing.since) does.rest)
+deed_saves old (Launched rank) new does = omega (arith, ap (λ (s : HubState). s.pacing.since) does.1)
+deed_saves old (SetUp rank bytes) new does = omega (arith, ap (λ (s : HubState). s.pacing.since) does.rest)
+deed_saves old (Closed rank) new does = omega (arith, ap (λ (s : HubState). s.pacing.since) does.rest)
+deed_saves old (Came rank bytes) new does = omega (arith, ap (λ (s : HubState). s.pacing.since) does.rest)
+deed_saves old (Took rank report answer) new does = omega (arith, ap (λ (s : HubState). s.pacing.since) does.rest)
 deed_saves old (Lost rank cause) new does = omega (arith, ap (λ (p : Pacing). p.since) does.pacing)
-deed_saves old Decided new does = omega (arith, ap (λ (s : Standing). s.pacing.since) does.rest)
-deed_saves old (Sent rank order) new does = omega (arith, ap (λ (s : Standing). s.pacing.since) does.rest)
-deed_saves old (Unsent rank order) new does = omega (arith, ap (λ (s : Standing). s.pacing.since) does.rest)
-deed_saves old (Passed rank order) new does = omega (arith, ap (λ (s : Standing). s.pacing.since) does.rest)
-deed_saves old Broke new does = omega (arith, ap (λ (s : Standing). s.pacing.since) does.rest)
-deed_saves old (Unclosed rank) new does = omega (arith, ap (λ (s : Standing). s.pacing.since) does.rest)
-deed_saves old (Halted steps) new does = omega (arith, ap (λ (s : Standing). s.pacing.since) does.rest)
-deed_saves old (Unwritten rank order) new does = omega (arith, ap (λ (s : Standing). s.pacing.since) does.rest)
-deed_saves old (Unfed rank bytes) new does = omega (arith, ap (λ (s : Standing). s.pacing.since) does.rest)
-deed_saves old Unread new does = omega (arith, ap (λ (s : Standing). s.pacing.since) does.1)
-deed_saves old Saved new does = omega (arith, ap (λ (s : Standing). s.pacing.since) does.rest, does.due.may.since)
+deed_saves old Decided new does = omega (arith, ap (λ (s : HubState). s.pacing.since) does.rest)
+deed_saves old (Sent rank order) new does = omega (arith, ap (λ (s : HubState). s.pacing.since) does.rest)
+deed_saves old (Unsent rank order) new does = omega (arith, ap (λ (s : HubState). s.pacing.since) does.rest)
+deed_saves old (Passed rank order) new does = omega (arith, ap (λ (s : HubState). s.pacing.since) does.rest)
+deed_saves old Broke new does = omega (arith, ap (λ (s : HubState). s.pacing.since) does.rest)
+deed_saves old (Unclosed rank) new does = omega (arith, ap (λ (s : HubState). s.pacing.since) does.rest)
+deed_saves old (Halted steps) new does = omega (arith, ap (λ (s : HubState). s.pacing.since) does.rest)
+deed_saves old (Unwritten rank order) new does = omega (arith, ap (λ (s : HubState). s.pacing.since) does.rest)
+deed_saves old (Unfed rank bytes) new does = omega (arith, ap (λ (s : HubState). s.pacing.since) does.rest)
+deed_saves old Unread new does = omega (arith, ap (λ (s : HubState). s.pacing.since) does.1)
+deed_saves old Saved new does = omega (arith, ap (λ (s : HubState). s.pacing.since) does.rest, does.due.may.since)
 
-course_saves : (old : Standing) (deeds : List Deed) (new : Standing) → IsCourse old deeds new
+course_saves : (old : HubState) (deeds : List Deed) (new : HubState) → IsCourse old deeds new
     → old.pacing.since + saves_in deeds ≤ new.pacing.since
-course_saves old [] new same = omega (arith, ap (λ (s : Standing). s.pacing.since) same)
+course_saves old [] new same = omega (arith, ap (λ (s : HubState). s.pacing.since) same)
 course_saves old (deed ∷ deeds) new (mid, does, more) =
     omega (arith, deed_saves old deed mid does, course_saves mid deeds new more)
 
 -- so where it is the same, nothing was saved
-pub none_saved : (old : Standing) (deeds : List Deed) (new : Standing) → IsCourse old deeds new
+pub none_saved : (old : HubState) (deeds : List Deed) (new : HubState) → IsCourse old deeds new
     → new.pacing ≡ old.pacing → saves_in deeds ≡ 0
 none_saved old deeds new course same =
     omega (arith, course_saves old deeds new course, ap (λ (p : Pacing). p.since) same)
@@ -178,8 +178,8 @@ tried_still old new m n same tried = subst (λ (k : ℕ). HasTried k old new) (s
 -- ---- beside the deeds
 
 -- it may be said to begin where it stands
-pub onto : (P : Phase → Type 0) (from : Standing) (h : HubSeen) → IsOnIn P from h
-    → (mid : Standing) × (h.pacing ≡ mid.pacing) × IsOnIn P mid h
+pub onto : (P : Phase → Type 0) (from : HubState) (h : HubSeen) → IsOnIn P from h
+    → (mid : HubState) × (h.pacing ≡ mid.pacing) × IsOnIn P mid h
 onto P from h (phase, is, on) = (
   standing on.said phase h,
   refl,
@@ -196,7 +196,7 @@ onto P from h (phase, is, on) = (
 )
 
 -- nothing was saved yet
-pub kept_first : (P : Phase → Type 0) (from : Standing) (h : HubSeen) (k : KeptSeen) → h.pacing ≡ from.pacing
+pub kept_first : (P : Phase → Type 0) (from : HubState) (h : HubSeen) (k : KeptSeen) → h.pacing ≡ from.pacing
     → IsOnIn P from h → IsKeptIn P from h k k
 kept_first P from h k same (phase, is, on) = record {
   phase = phase;
@@ -207,20 +207,20 @@ kept_first P from h k same (phase, is, on) = record {
       (none_saved from on.come.deeds (standing on.said phase h) on.come.course same) (tried_none k.saves);
 }
 
-pub is_on : (P : Phase → Type 0) (from : Standing) (h : HubSeen) (old new : KeptSeen) → IsKeptIn P from h old new
+pub is_on : (P : Phase → Type 0) (from : HubState) (h : HubSeen) (old new : KeptSeen) → IsKeptIn P from h old new
     → IsOnIn P from h
 is_on P from h old new k = (k.phase, k.is, k.on)
 
-pub any_kept : (P : Phase → Type 0) (from : Standing) (h : HubSeen) (old new : KeptSeen)
+pub any_kept : (P : Phase → Type 0) (from : HubState) (h : HubSeen) (old new : KeptSeen)
     → IsKeptIn P from h old new → IsKeptIn AnyPhase from h old new
 any_kept P from h old new k = record { phase = k.phase; is = tt; on = k.on; moves = k.moves; tried = k.tried }
 
 -- more was done, and nothing saved
-pub keeps_on : (P Q : Phase → Type 0) (from : Standing) (h next : HubSeen) (old new : KeptSeen)
-    → next.pacing ≡ h.pacing → ((mid : Standing) → IsOnIn P mid h → IsOnIn Q mid next) → IsKeptIn P from h old new
+pub keeps_on : (P Q : Phase → Type 0) (from : HubState) (h next : HubSeen) (old new : KeptSeen)
+    → next.pacing ≡ h.pacing → ((mid : HubState) → IsOnIn P mid h → IsOnIn Q mid next) → IsKeptIn P from h old new
     → IsKeptIn Q from next old new
 keeps_on P Q from h next old new same goes k =
-    let mid : Standing = standing k.on.said k.phase h in
+    let mid : HubState = standing k.on.said k.phase h in
     let after = goes mid (
       k.phase,
       k.is,
@@ -254,14 +254,14 @@ keeps_on P Q from h next old new same goes k =
     }
 
 -- the book was saved
-pub keeps_saved : (P : Phase → Type 0) (from : Standing) (h : HubSeen) (old mid new : KeptSeen)
+pub keeps_saved : (P : Phase → Type 0) (from : HubState) (h : HubSeen) (old mid new : KeptSeen)
     → IsSaveDue h.pacing h.book → IsOurs mid h.book
     → Moves (IsSoundBook h.book) (IsOurs mid h.book) mid new → HasTried 1 mid new → IsKeptIn P from h old mid
     → IsKeptIn P from (record h { pacing = saved_at h.book }) old new
 keeps_saved P from h old mid new due ours saved tried k =
-    let now : Standing = standing k.on.said k.phase h in
+    let now : HubState = standing k.on.said k.phase h in
     let next : HubSeen = record h { pacing = saved_at h.book } in
-    let after : Standing = standing k.on.said k.phase next in
+    let after : HubState = standing k.on.said k.phase next in
     let does : Does now Saved after = record { due = due; rest = refl } in
     let come : HasCome from after = record {
       deeds = k.on.come.deeds ++ Saved ∷ [];
@@ -288,12 +288,12 @@ keeps_saved P from h old mid new due ours saved tried k =
     }
 
 -- what is saved is still of the run
-pub kept_ours : (P : Phase → Type 0) (from : Standing) (h : HubSeen) (old new : KeptSeen) (b c : BookState)
+pub kept_ours : (P : Phase → Type 0) (from : HubState) (h : HubSeen) (old new : KeptSeen) (b c : BookState)
     → IsKeptIn P from h old new → IsSameRun b c → IsOurs old b → IsOurs new c
 kept_ours P from h old new b c k same ours =
     ours_on (StaysSound from (standing k.on.said k.phase h) k.on.come) (Unit {0}) old new b c k.moves same ours
 
-pub ends_ours : (from : Standing) (h : HubSeen) (old new : KeptSeen) (b c : BookState)
+pub ends_ours : (from : HubState) (h : HubSeen) (old new : KeptSeen) (b c : BookState)
     → EndsFrom from h old new → IsSameRun b c → IsOurs old b → IsOurs new c
 ends_ours from h old new b c e same ours =
     ours_on (StaysSound from e.now e.come) (Unit {0}) old new b c e.moves same ours

@@ -7,7 +7,7 @@ use Rattle.std.specs.Prelude.{replicate, slice_index_or, slice_set}
 use Rattle.ug_io.specs.Crews.{IsAlive}
 use Rattle.ug_stream.specs.Streams.{first}
 use Rattle.ug_rules.specs.State.{BookState}
-use Rattle.ug_coord.specs.Deeds.{AreSound, Closed, Deed, Failed, IsCourse, IsToldEnd, Launched, Lost, SetUp, Standing, Unclosed, saves_in}
+use Rattle.ug_coord.specs.Deeds.{AreSound, Closed, Deed, Failed, IsCourse, IsToldEnd, Launched, Lost, SetUp, HubState, Unclosed, saves_in}
 use Rattle.ug_coord.specs.Ends.{ranks_of}
 use Rattle.ug_coord.specs.Hubs.{EndsFrom, HasCome, HasFailed, HubSeen, IsFresh, IsRested, IsSetUpFrame, IsStartedAs, IsStartedIn, Phase, StartsAndEnds, StaysSound, beginning, sent_or_failed, standing}
 use Rattle.ug_coord.specs.Keeping.{KeptSeen}
@@ -23,7 +23,7 @@ set_later lives rank other alive past none =
     get_or-set_other lives rank other alive false (λ same. absurd (omega (arith, past, same))) ∙ none
 
 -- a call for it failed
-pub unstarted_as : (phase : Phase) (b : Standing) (old new : HubSeen) (rank : ℕ) → HasFailed old new rank
+pub unstarted_as : (phase : Phase) (b : HubState) (old new : HubSeen) (rank : ℕ) → HasFailed old new rank
     → IsStartedAs rank phase b old → IsStartedAs (suc rank) phase b new
 unstarted_as phase b old new rank h k = record {
   on = failed_on phase b old new rank h k.on;
@@ -33,7 +33,7 @@ unstarted_as phase b old new rank h k = record {
       ∙ set_later old.crew.lives rank other false past (k.later other (omega (arith, past)));
 }
 
-told_as : (sent : Bool) (phase : Phase) (b : Standing) (old mid new : HubSeen) (rank : ℕ) (frame : List ℕ)
+told_as : (sent : Bool) (phase : Phase) (b : HubState) (old mid new : HubSeen) (rank : ℕ) (frame : List ℕ)
     → slice_index_or old.crew.lives rank false ≡ false
     → mid ≡ record old { crew = record old.crew { lives = slice_set old.crew.lives rank true } }
     → IsAlive mid.crew rank → IsSetUpFrame mid.book frame → sent_or_failed sent mid new rank frame
@@ -69,7 +69,7 @@ told_as false phase b old mid new rank frame away rest alive setup came k = reco
 }
 
 -- it was started, and told the problem or not
-pub started_as : (sent : Bool) (phase : Phase) (b : Standing) (old mid new : HubSeen) (rank : ℕ) (frame : List ℕ)
+pub started_as : (sent : Bool) (phase : Phase) (b : HubState) (old mid new : HubSeen) (rank : ℕ) (frame : List ℕ)
     → rank < length old.crew.lives
     → mid ≡ record old { crew = record old.crew { lives = slice_set old.crew.lives rank true } }
     → IsSetUpFrame mid.book frame → sent_or_failed sent mid new rank frame → IsStartedAs rank phase b old
@@ -109,8 +109,8 @@ begun_started b h fresh book streams wants pacing =
     )
 
 -- it may be said to begin where it stands
-pub starts_here : (phase : Phase) (from : Standing) (h : HubSeen) → IsStartedAs 0 phase from h
-    → (mid : Standing) × IsStartedAs 0 phase mid h
+pub starts_here : (phase : Phase) (from : HubState) (h : HubSeen) → IsStartedAs 0 phase from h
+    → (mid : HubState) × IsStartedAs 0 phase mid h
 starts_here phase from h k = (
   standing k.on.said phase h,
   record {
@@ -128,11 +128,11 @@ starts_here phase from h k = (
 -- ---- and then the rest
 
 -- deeds behind others, which are sound where all of them are
-joined : (a : Standing) (deeds : List Deed) (b : Standing) (more : List Deed) (c : Standing) → IsCourse a deeds b
+joined : (a : HubState) (deeds : List Deed) (b : HubState) (more : List Deed) (c : HubState) → IsCourse a deeds b
     → (two : IsCourse b more c)
     → (one : IsCourse a (deeds ++ more) c) × (AreSound a (deeds ++ more) c one → AreSound b more c two)
 joined a [] b more c same two =
-    subst (λ (s : Standing). (one : IsCourse s more c) × (AreSound s more c one → AreSound b more c two)) same
+    subst (λ (s : HubState). (one : IsCourse s more c) × (AreSound s more c one → AreSound b more c two)) same
     (two, λ sound. sound)
 joined a (deed ∷ deeds) b more c (mid, does, rest) two =
     let after = joined mid deeds b more c rest two in
@@ -144,11 +144,11 @@ still_ended rank deeds more told = elim told [
   | inr failed ↦ inr (Contains-append_right deeds more (Unclosed rank) failed)
 ]
 
-pub starts_and_ends : (n : ℕ) (phase : Phase) (from : Standing) (h last : HubSeen) (old new : KeptSeen)
+pub starts_and_ends : (n : ℕ) (phase : Phase) (from : HubState) (h last : HubSeen) (old new : KeptSeen)
     → (k : IsStartedAs n phase from h) → h.pacing ≡ from.pacing
     → EndsFrom (standing k.on.said phase h) last old new → StartsAndEnds n from last old new
 starts_and_ends n phase from h last old new k same e =
-    let mid : Standing = standing k.on.said phase h in
+    let mid : HubState = standing k.on.said phase h in
     let starts = k.on.come.deeds in
     let all = joined from starts mid e.come.deeds e.now k.on.come.course e.come.course in
     let come : HasCome from e.now = record { deeds = starts ++ e.come.deeds; course = all.0 } in

@@ -53,7 +53,7 @@ MayBeRead Closing = ⊥
 -- what was heard and told and who is gone; who lives; how often the crew failed, and whether a turn
 -- did; whether memory was wanting; what comes next; when the next save may come; the bytes of each
 -- rank of which no report was taken yet; and the book
-pub record Standing : Type 0 where
+pub record HubState : Type 0 where
   pub said : List Exchange
   pub lives : List Bool
   pub faults : ℕ
@@ -96,10 +96,10 @@ pub data Deed : Type 0 where
   Unread : Deed
   Kept : Deed
 
-abbrev pub lives_at : Standing → ℕ → Bool
+abbrev pub lives_at : HubState → ℕ → Bool
 lives_at s rank = slice_index_or s.lives rank false
 
-abbrev pub stream_at : Standing → ℕ → Waiting
+abbrev pub stream_at : HubState → ℕ → Waiting
 stream_at s rank = slice_index_or s.streams rank first
 
 -- a whole report waits in it, or bad bytes, and not just a frame that is cut short
@@ -113,30 +113,30 @@ AreReadOut streams = (rank : ℕ) → ¬ HasMore (slice_index_or streams rank fi
 
 -- No end is due, and no order waits: each was told to its rank, or that failed, or the rank is
 -- gone.
-pub record IsSettled (old : Standing) : Type 0 where
+pub record IsSettled (old : HubState) : Type 0 where
   pub more : ¬ IsOver old.book
   pub told : old.book.orders ≡ []
 
 -- and it was decided since the last report, and all that came was read: so more may be asked for
-pub record IsHearing (old : Standing) : Type 0 where
+pub record IsHearing (old : HubState) : Type 0 where
   pub settled : IsSettled old
   pub decided : old.pace ≡ Hearing
   pub read : AreReadOut old.streams
 
 -- and it was decided, or something came
-pub record IsReading (old : Standing) : Type 0 where
+pub record IsReading (old : HubState) : Type 0 where
   pub settled : IsSettled old
   pub decided : MayBeRead old.pace
 
 -- a decision is due, and no end, nor a save: so a save comes right behind the report that asks for
 -- it
-pub record IsDeciding (old : Standing) : Type 0 where
+pub record IsDeciding (old : HubState) : Type 0 where
   pub more : ¬ IsOver old.book
   pub due : MayDecide old.pace
   pub saved : ¬ IsSaveDue old.pacing old.book
 
 -- the problem's order, with the book's gap
-pub record IsSetUp (old new : Standing) (rank : ℕ) (bytes : List ℕ) : Type 0 where
+pub record IsSetUp (old new : HubState) (rank : ℕ) (bytes : List ℕ) : Type 0 where
   pub its : IsRecordOf bytes old.book.problem
   pub carried : orders.IsCarried (Setup old.book.settings.gap bytes)
   pub alive : lives_at old rank ≡ true
@@ -150,7 +150,7 @@ pub record IsMoreWanted (answer : Heard) (old new : Bool) : Type 0 where
   pub now : new ≡ false → answer ≢ Memory
 
 -- a report was given by the bytes of its rank, and heard
-pub record IsTaken (old new : Standing) (rank : ℕ) (report : Report) (answer : Heard)
+pub record IsTaken (old new : HubState) (rank : ℕ) (report : Report) (answer : Heard)
     : Type 0 where
   pub there : rank < length old.book.ranks
   pub reading : IsReading old
@@ -166,7 +166,7 @@ pub record IsTaken (old new : Standing) (rank : ℕ) (report : Report) (answer :
   }
 
 -- the bytes of the rank that wait are bad, or bad ones came before
-pub record IsNonsense (old new : Standing) (rank : ℕ) : Type 0 where
+pub record IsNonsense (old new : HubState) (rank : ℕ) : Type 0 where
   pub reading : IsReading old
   pub said : new.said ≡ old.said
   pub stream : Waiting
@@ -176,7 +176,7 @@ pub record IsNonsense (old new : Standing) (rank : ℕ) : Type 0 where
   pub faults : new.faults ≡ old.faults
 
 -- it ended, and the crew says so, which counts as a fault
-pub record HasEnded (old new : Standing) (rank : ℕ) : Type 0 where
+pub record HasEnded (old new : HubState) (rank : ℕ) : Type 0 where
   pub hearing : IsHearing old
   pub alive : lives_at old rank ≡ true
   pub said : new.said ≡ old.said ++ Gone rank ∷ []
@@ -184,11 +184,11 @@ pub record HasEnded (old new : Standing) (rank : ℕ) : Type 0 where
   pub faults : Rose old.faults new.faults
 
 -- a turn failed before, or a call for the rank did now
-abbrev pub IsFault : Standing → Standing → Type 0
+abbrev pub IsFault : HubState → HubState → Type 0
 IsFault old new = ((old.broken ≡ true) × (new.faults ≡ old.faults)) ⊎ Rose old.faults new.faults
 
 -- why it is gone, and what the crew says of it then
-abbrev pub IsCause : Standing → Standing → ℕ → Cause → Type 0
+abbrev pub IsCause : HubState → HubState → ℕ → Cause → Type 0
 IsCause old new rank Ended = HasEnded old new rank
 IsCause old new rank Failed = (new.said ≡ old.said) × IsFault old new × (new.streams ≡ old.streams)
 IsCause old new rank Nonsense = IsNonsense old new rank
@@ -200,7 +200,7 @@ next_after Failed pace = pace
 next_after Nonsense pace = Deciding
 
 -- the rank is gone, to the book too, and does not live any more
-pub record IsLost (old new : Standing) (rank : ℕ) (cause : Cause) : Type 0 where
+pub record IsLost (old new : HubState) (rank : ℕ) (cause : Cause) : Type 0 where
   pub there : rank < length old.book.ranks
   pub why : IsCause old new rank cause
   pub lives : new.lives ≡ slice_set old.lives rank false
@@ -211,7 +211,7 @@ pub record IsLost (old new : Standing) (rank : ℕ) (cause : Cause) : Type 0 whe
   pub book : new.book ≡ killed rank old.book
 
 -- the earliest order of the book was told to its rank
-pub record IsSent (old new : Standing) (rank : ℕ) (order : Order) : Type 0 where
+pub record IsSent (old new : HubState) (rank : ℕ) (order : Order) : Type 0 where
   pub alive : lives_at old rank ≡ true
   pub carried : orders.IsCarried order
   pub told : IsOrderTold old.book new.book (record { rank = rank; order = order })
@@ -221,13 +221,13 @@ pub record IsSent (old new : Standing) (rank : ℕ) (order : Order) : Type 0 whe
   }
 
 -- it was passed over, since its rank does not live
-pub record IsPassed (old new : Standing) (rank : ℕ) (order : Order) : Type 0 where
+pub record IsPassed (old new : HubState) (rank : ℕ) (order : Order) : Type 0 where
   pub away : lives_at old rank ≡ false
   pub told : IsOrderTold old.book new.book (record { rank = rank; order = order })
   pub rest : new ≡ record old { book = new.book }
 
 -- it could not be told, so its rank is gone
-pub record IsUnsent (old new : Standing) (rank : ℕ) (order : Order) : Type 0 where
+pub record IsUnsent (old new : HubState) (rank : ℕ) (order : Order) : Type 0 where
   pub there : rank < length old.book.ranks
   pub alive : lives_at old rank ≡ true
   pub without : BookState
@@ -240,13 +240,13 @@ pub record IsUnsent (old new : Standing) (rank : ℕ) (order : Order) : Type 0 w
   }
 
 -- it could not be put into bytes
-pub record IsUnwritten (old new : Standing) (rank : ℕ) (order : Order) : Type 0 where
+pub record IsUnwritten (old new : HubState) (rank : ℕ) (order : Order) : Type 0 where
   pub alive : lives_at old rank ≡ true
   pub told : IsOrderTold old.book new.book (record { rank = rank; order = order })
   pub rest : new ≡ record old { wants = true; book = new.book }
 
 -- bytes came, and stand in the stream of their rank
-pub record IsFed (old new : Standing) (rank : ℕ) (bytes : List ℕ) : Type 0 where
+pub record IsFed (old new : HubState) (rank : ℕ) (bytes : List ℕ) : Type 0 where
   pub hearing : IsHearing old
   pub alive : lives_at old rank ≡ true
   pub rest : new ≡ record old {
@@ -256,7 +256,7 @@ pub record IsFed (old new : Standing) (rank : ℕ) (bytes : List ℕ) : Type 0 w
   }
 
 -- bytes came, and memory was wanting to keep them, so no more is read of their rank
-pub record IsUnfed (old new : Standing) (rank : ℕ) (bytes : List ℕ) : Type 0 where
+pub record IsUnfed (old new : HubState) (rank : ℕ) (bytes : List ℕ) : Type 0 where
   pub hearing : IsHearing old
   pub alive : lives_at old rank ≡ true
   pub rest : new ≡ record old {
@@ -267,14 +267,14 @@ pub record IsUnfed (old new : Standing) (rank : ℕ) (bytes : List ℕ) : Type 0
   }
 
 -- it was decided, or so many steps of that stand; and whether memory is wanting then
-pub record HasDecided (Is : BookState → BookState → Type 0) (wants : Bool) (old new : Standing)
+pub record HasDecided (Is : BookState → BookState → Type 0) (wants : Bool) (old new : HubState)
     : Type 0 where
   pub deciding : IsDeciding old
   pub is : Is old.book new.book
   pub rest : new ≡ record old { wants = wants; book = new.book; pace = Hearing }
 
 -- the end was told to a rank that lives
-pub record IsClosed (old new : Standing) (rank : ℕ) : Type 0 where
+pub record IsClosed (old new : HubState) (rank : ℕ) : Type 0 where
   pub alive : lives_at old rank ≡ true
   pub rest : new ≡ record old {
     said = old.said ++ told_to rank (orders.spelled End);
@@ -282,23 +282,23 @@ pub record IsClosed (old new : Standing) (rank : ℕ) : Type 0 where
   }
 
 -- that failed
-pub record IsUnclosed (old new : Standing) : Type 0 where
+pub record IsUnclosed (old new : HubState) : Type 0 where
   pub faults : Rose old.faults new.faults
   pub rest : new ≡ record old { faults = new.faults; pace = Closing }
 
 -- a turn failed, so nothing is decided or heard any more: the run ends once each rank is gone
-pub record HasBroken (old new : Standing) : Type 0 where
+pub record HasBroken (old new : HubState) : Type 0 where
   pub hearing : IsHearing old
   pub faults : Rose old.faults new.faults
   pub rest : new ≡ record old { faults = new.faults; broken = true; pace = Closing }
 
 -- a save was due, and was tried
-pub record IsKept (old new : Standing) : Type 0 where
+pub record IsKept (old new : HubState) : Type 0 where
   pub due : IsSaveDue old.pacing old.book
   pub rest : new ≡ record old { pacing = saved_at old.book }
 
 -- what a deed does
-abbrev pub Does : Standing → Deed → Standing → Type 0
+abbrev pub Does : HubState → Deed → HubState → Type 0
 Does old (Launched rank) new = (lives_at old rank ≡ false)
     × (new ≡ record old { lives = slice_set old.lives rank true })
 Does old (SetUp rank bytes) new = IsSetUp old new rank bytes
@@ -332,12 +332,12 @@ abbrev pub saves_in : List Deed → ℕ
 saves_in [] = 0
 saves_in (deed ∷ deeds) = saves_of deed + saves_in deeds
 
--- the deeds lead from one standing to the other
-abbrev pub IsCourse : Standing → List Deed → Standing → Type 0
+-- the deeds lead from one state to the other
+abbrev pub IsCourse : HubState → List Deed → HubState → Type 0
 IsCourse old [] new = new ≡ old
-IsCourse old (deed ∷ deeds) new = (mid : Standing) × Does old deed mid × IsCourse mid deeds new
+IsCourse old (deed ∷ deeds) new = (mid : HubState) × Does old deed mid × IsCourse mid deeds new
 
 -- through all of them the book is sound
-abbrev pub AreSound : (old : Standing) (deeds : List Deed) (new : Standing) → IsCourse old deeds new → Type 0
+abbrev pub AreSound : (old : HubState) (deeds : List Deed) (new : HubState) → IsCourse old deeds new → Type 0
 AreSound old [] new course = IsSoundBook old.book
 AreSound old (deed ∷ deeds) new (mid, does, more) = IsSoundBook old.book × AreSound mid deeds new more

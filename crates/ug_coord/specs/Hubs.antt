@@ -19,7 +19,7 @@ use Rattle.ug_restart.specs.declared.outcome.End.{End}
 use Rattle.ug_restart.specs.Outcomes.{HasFeasible, IfAnswered, IfBook, IfLimited, IsRight}
 use Rattle.ug_coord.specs.Ends.{IsAtLimit, IsExactly, is_ended, ranks_of}
 use Rattle.ug_coord.specs.Deeds.{AreSound, Closing, Deciding, Deed, IsCourse, IsMoreWanted, IsToldEnd}
-use Rattle.ug_coord.specs.Deeds.{MayBeRead, MayDecide, Pace, Standing, lives_at, saves_in}
+use Rattle.ug_coord.specs.Deeds.{MayBeRead, MayDecide, Pace, HubState, lives_at, saves_in}
 use Rattle.ug_coord.specs.declared.pacing.Pacing.{Pacing}
 use Rattle.ug_coord.specs.Pacing.{IsSaveDue}
 use Rattle.ug_ranks.specs.Looks.{is_alive}
@@ -29,7 +29,7 @@ use Rattle.ug_coord.specs.Starts.{AreStarted, AreStarts, HasStarted}
 use Rattle.ug_coord.specs.Keeping.{HasTried, KeptSeen, Moves}
 
 -- with a crew of which nothing was said yet, no rank of which lives
-abbrev pub beginning : BookState → ℕ → Standing
+abbrev pub beginning : BookState → ℕ → HubState
 beginning b faults = record {
   said = [];
   lives = replicate (ranks_of b) false;
@@ -42,13 +42,13 @@ beginning b faults = record {
   book = b;
 }
 
--- deeds lead from the one standing to the other
-pub record HasCome (from now : Standing) : Type 0 where
+-- deeds lead from the one state to the other
+pub record HasCome (from now : HubState) : Type 0 where
   pub deeds : List Deed
   pub course : IsCourse from deeds now
 
 -- and through all of them the book is sound
-abbrev pub StaysSound : (from now : Standing) → HasCome from now → Type 0
+abbrev pub StaysSound : (from now : HubState) → HasCome from now → Type 0
 StaysSound from now come = AreSound from come.deeds now come.course
 
 -- what is seen of a coordinator: its crew, whether memory was wanting, when the next save may come,
@@ -107,7 +107,7 @@ pub record Phase : Type 0 where
   pub pace : Pace
 
 -- what was said, and the phase, with what is seen
-abbrev pub standing : List Exchange → Phase → HubSeen → Standing
+abbrev pub standing : List Exchange → Phase → HubSeen → HubState
 standing said phase h = record {
   said = said;
   lives = h.crew.lives;
@@ -120,15 +120,15 @@ standing said phase h = record {
   book = h.book;
 }
 
--- deeds led here from that standing, and the crew, where it tells what was said, tells the same
-pub record IsOnAs (phase : Phase) (from : Standing) (h : HubSeen) : Type 0 where
+-- deeds led here from that state, and the crew, where it tells what was said, tells the same
+pub record IsOnAs (phase : Phase) (from : HubState) (h : HubSeen) : Type 0 where
   pub said : List Exchange
   pub come : HasCome from (standing said phase h)
   pub shown : IfSome h.crew.said (λ told. told ≡ said)
   pub fit : IsFit h
 
 -- in a phase that has P
-abbrev pub IsOnIn : (Phase → Type 0) → Standing → HubSeen → Type 0
+abbrev pub IsOnIn : (Phase → Type 0) → HubState → HubSeen → Type 0
 IsOnIn P from h = (phase : Phase) × P phase × IsOnAs phase from h
 
 -- what comes next is this
@@ -151,19 +151,19 @@ pub record IsBrokenOff (phase : Phase) : Type 0 where
 abbrev pub AnyPhase : Phase → Type 0
 AnyPhase phase = Unit {0}
 
--- deeds led here from that standing, which are the starts of the first n ranks; no other lives yet
-pub record IsStartedAs (n : ℕ) (phase : Phase) (from : Standing) (h : HubSeen) : Type 0 where
+-- deeds led here from that state, which are the starts of the first n ranks; no other lives yet
+pub record IsStartedAs (n : ℕ) (phase : Phase) (from : HubState) (h : HubSeen) : Type 0 where
   pub on : IsOnAs phase from h
   pub starts : AreStarts n on.come.deeds
   pub later : (rank : ℕ) → n ≤ rank → slice_index_or h.crew.lives rank false ≡ false
 
 -- in a phase that has P
-abbrev pub IsStartedIn : (Phase → Type 0) → ℕ → Standing → HubSeen → Type 0
+abbrev pub IsStartedIn : (Phase → Type 0) → ℕ → HubState → HubSeen → Type 0
 IsStartedIn P n from h = (phase : Phase) × P phase × IsStartedAs n phase from h
 
 -- and what is saved went on beside them, a save tried in each deed that is one: where each book of
 -- them was sound, all stays Covered
-pub record IsKeptIn (P : Phase → Type 0) (from : Standing) (h : HubSeen) (old new : KeptSeen)
+pub record IsKeptIn (P : Phase → Type 0) (from : HubState) (h : HubSeen) (old new : KeptSeen)
     : Type 0 where
   pub phase : Phase
   pub is : P phase
@@ -172,7 +172,7 @@ pub record IsKeptIn (P : Phase → Type 0) (from : Standing) (h : HubSeen) (old 
   pub tried : HasTried (saves_in on.come.deeds) old new
 
 -- the end was told to each rank below n that lives, or that failed
-pub record IsClosedBelow (n : ℕ) (from : Standing) (h : HubSeen) (old new : KeptSeen) : Type 0 where
+pub record IsClosedBelow (n : ℕ) (from : HubState) (h : HubSeen) (old new : KeptSeen) : Type 0 where
   pub kept : IsKeptIn AnyPhase from h old new
   pub closed : (rank : ℕ) → rank < n → slice_index_or h.crew.lives rank false ≡ true
       → IsToldEnd rank kept.on.come.deeds
@@ -189,12 +189,12 @@ pub record IsFresh (seen : CrewSeen) (ranks : ℕ) : Type 0 where
   pub said : IfSome seen.said (λ said. said ≡ [])
   pub lives : seen.lives ≡ replicate ranks false
 
--- Deeds led from that standing to one with this book, and memory was wanting or not. The crew,
+-- Deeds led from that state to one with this book, and memory was wanting or not. The crew,
 -- where it tells what was said, tells the same, and has failed as often. Each rank that lives was
 -- told the end, or that failed. What is saved went on beside them, a save tried in each deed that
 -- is one.
-pub record EndsFrom (from : Standing) (h : HubSeen) (old new : KeptSeen) : Type 0 where
-  pub now : Standing
+pub record EndsFrom (from : HubState) (h : HubSeen) (old new : KeptSeen) : Type 0 where
+  pub now : HubState
   pub come : HasCome from now
   pub shown : IfSome h.crew.said (λ told. told ≡ now.said)
   pub its : now.book ≡ h.book
@@ -206,7 +206,7 @@ pub record EndsFrom (from : Standing) (h : HubSeen) (old new : KeptSeen) : Type 
   pub tried : HasTried (saves_in come.deeds) old new
 
 -- and each rank was started before anything else was done
-pub record StartsAndEnds (ranks : ℕ) (from : Standing) (h : HubSeen) (old new : KeptSeen)
+pub record StartsAndEnds (ranks : ℕ) (from : HubState) (h : HubSeen) (old new : KeptSeen)
     : Type 0 where
   pub ends : EndsFrom from h old new
   pub started : AreStarted ranks ends.come.deeds
@@ -220,7 +220,7 @@ pub record StartsAndEnds (ranks : ℕ) (from : Standing) (h : HubSeen) (old new 
 -- were tried as there are deeds that are one. Where each book of them was sound, it was safe.
 pub record HasCoordinated (b : BookState) (faults : ℕ) (seen : CrewSeen) (end : End)
     (Tried : ℕ → Type 0) (Safe : Type 0) : Type 0 where
-  pub now : Standing
+  pub now : HubState
   pub come : HasCome (beginning b faults) now
   pub made : IsBook b ⊎ (come.deeds ≡ [])
   pub started : HasStarted (ranks_of b) come.deeds end

@@ -14,7 +14,7 @@ pub fn is_over(book: &Book) -> bool
     if is_answered(book) {
         return true;
     }
-    if book.settings().limit <= book.count() {
+    if book.settings().limit <= book.heard() {
         return true;
     }
     !is_any_alive(book)

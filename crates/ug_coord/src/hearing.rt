@@ -3,7 +3,7 @@
 ghost use Rattle.std.specs.Prelude.{◌≡◌, ◌<◌, [], false, Some, MatchBool};
 ghost use Rattle.ug_stream.specs.declared.next.Next.TheVariants.{NeedMore};
 ghost use Rattle.ug_rules.specs.Hearing.{IsHearable};
-ghost use Rattle.ug_coord.specs.Deeds.{AreReadOut, Deciding, Hearing, Standing};
+ghost use Rattle.ug_coord.specs.Deeds.{AreReadOut, Deciding, Hearing, HubState};
 ghost use Rattle.ug_coord.specs.Ends.{AllDead, IsOver, ranks_of};
 ghost use Rattle.ug_coord.specs.Hubs.{AnyPhase, HasHeardReport, HearsOne, IsBrokenOff, IsOnAs};
 ghost use Rattle.ug_coord.specs.Hubs.{IsOnIn, IsQuiet, IsRested, MayRead, Phase, is_next};
@@ -24,13 +24,13 @@ impl<R, O: Observer, C: Crew> Hub<'_, R, O, C> {
     /// Hears a report that is there, or waits until something comes. False where that failed, and
     /// all ranks are gone.
     pub fn listen(&mut self) -> bool
-        requires on { (from : Standing) × IsOnIn (is_next Hearing) from (hub_seen C.seen self.old) }
+        requires on { (from : HubState) × IsOnIn (is_next Hearing) from (hub_seen C.seen self.old) }
         requires more { ¬ IsOver self.old.book }
         requires told { self.old.book.orders ≡ [] }
         ensures on { MatchBool result
-            ((from : Standing) → IsOnIn (is_next Hearing) from (hub_seen C.seen self.old)
+            ((from : HubState) → IsOnIn (is_next Hearing) from (hub_seen C.seen self.old)
             → IsOnIn IsRested from (hub_seen C.seen self.new))
-            ((from : Standing) → IsOnIn (is_next Hearing) from (hub_seen C.seen self.old)
+            ((from : HubState) → IsOnIn (is_next Hearing) from (hub_seen C.seen self.old)
             → IsOnIn AnyPhase from (hub_seen C.seen self.new)) }
         ensures hears { MatchBool result (HearsOne self.old.book self.new.book)
             (IsQuiet self.old.book self.new.book) }
@@ -49,14 +49,14 @@ impl<R, O: Observer, C: Crew> Hub<'_, R, O, C> {
     // Waits until something comes, and hears the first report of it. False where that failed, and
     // all ranks are gone.
     fn turn(&mut self) -> bool
-        requires on { (from : Standing) × IsOnIn (is_next Hearing) from (hub_seen C.seen self.old) }
+        requires on { (from : HubState) × IsOnIn (is_next Hearing) from (hub_seen C.seen self.old) }
         requires more { ¬ IsOver self.old.book }
         requires told { self.old.book.orders ≡ [] }
         requires read { AreReadOut self.old.streams.items }
         ensures on { MatchBool result
-            ((from : Standing) → IsOnIn (is_next Hearing) from (hub_seen C.seen self.old)
+            ((from : HubState) → IsOnIn (is_next Hearing) from (hub_seen C.seen self.old)
             → IsOnIn IsRested from (hub_seen C.seen self.new))
-            ((from : Standing) → IsOnIn (is_next Hearing) from (hub_seen C.seen self.old)
+            ((from : HubState) → IsOnIn (is_next Hearing) from (hub_seen C.seen self.old)
             → IsOnIn AnyPhase from (hub_seen C.seen self.new)) }
         ensures hears { MatchBool result (HearsOne self.old.book self.new.book)
             (IsQuiet self.old.book self.new.book) }
@@ -87,15 +87,15 @@ impl<R, O: Observer, C: Crew> Hub<'_, R, O, C> {
     // Hears the next report of the rank, or that what came is none. False where all of it was
     // heard.
     fn hear_next(&mut self, rank: u32) -> bool
-        requires on { (from : Standing) × IsOnIn AnyPhase from (hub_seen C.seen self.old) }
+        requires on { (from : HubState) × IsOnIn AnyPhase from (hub_seen C.seen self.old) }
         requires there { rank < ranks_of self.old.book }
         requires last { self.old.last ≡ Some rank }
         requires more { ¬ IsOver self.old.book }
         requires told { self.old.book.orders ≡ [] }
         ensures on { MatchBool result
-            ((from : Standing) → IsOnIn MayRead from (hub_seen C.seen self.old)
+            ((from : HubState) → IsOnIn MayRead from (hub_seen C.seen self.old)
             → IsOnIn (is_next Deciding) from (hub_seen C.seen self.new))
-            ((phase : Phase) (from : Standing) → IsOnAs phase from (hub_seen C.seen self.old)
+            ((phase : Phase) (from : HubState) → IsOnAs phase from (hub_seen C.seen self.old)
             → IsOnAs phase from (hub_seen C.seen self.new)) }
         ensures hears { HearsOne self.old.book self.new.book }
         ensures nothing { result ≡ false → self.new.book ≡ self.old.book }
@@ -147,7 +147,7 @@ impl<R, O: Observer, C: Crew> Hub<'_, R, O, C> {
 
     // Tells how the run stands, if that is wanted now and memory suffices.
     fn observe(&self, is_better: bool) {
-        if !self.host.observer.wants(self.book.count(), is_better) {
+        if !self.host.observer.wants(self.book.heard(), is_better) {
             return;
         }
         let Ok(image) = image_of(self.host.alloc, &self.book, 1) else {
@@ -166,8 +166,8 @@ impl<R, O, C: Crew> Hub<'_, R, O, C> {
 
     // A turn failed, so all ranks are gone.
     fn lose_all(&mut self)
-        requires on { (from : Standing) × IsOnIn IsBrokenOff from (hub_seen C.seen self.old) }
-        ensures on { (from : Standing) → IsOnIn IsBrokenOff from (hub_seen C.seen self.old)
+        requires on { (from : HubState) × IsOnIn IsBrokenOff from (hub_seen C.seen self.old) }
+        ensures on { (from : HubState) → IsOnIn IsBrokenOff from (hub_seen C.seen self.old)
             → IsOnIn IsBrokenOff from (hub_seen C.seen self.new) }
         ensures all { AllDead self.new.book }
         ensures quiet { IsQuiet self.old.book self.new.book }

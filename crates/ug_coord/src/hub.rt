@@ -2,7 +2,7 @@
 
 ghost use Rattle.std.specs.Prelude.{◌≡◌, ◌<◌, true, false, length, MatchBool};
 ghost use Rattle.ug_book.specs.Views.{IsSameRun};
-ghost use Rattle.ug_coord.specs.Deeds.{Hearing, Standing};
+ghost use Rattle.ug_coord.specs.Deeds.{Hearing, HubState};
 ghost use Rattle.ug_coord.specs.Ends.{IsOver, ranks_of};
 ghost use Rattle.ug_coord.specs.Hubs.{AnyPhase, HearsOne, IsKeptIn, IsOnIn, IsQuiet};
 ghost use Rattle.ug_coord.specs.Hubs.{IsRested, IsSetUpFrame, IsStartedIn, StartsAndEnds, is_next};
@@ -63,7 +63,7 @@ impl<R, O, C: Crew> Hub<'_, R, O, C> {
     fn decide(&mut self)
         requires more { ¬ IsOver self.old.book }
         requires saved { ¬ IsSaveDue self.old.pacing self.old.book }
-        ensures on { (from : Standing) → IsOnIn IsRested from (hub_seen C.seen self.old)
+        ensures on { (from : HubState) → IsOnIn IsRested from (hub_seen C.seen self.old)
             → IsOnIn (is_next Hearing) from (hub_seen C.seen self.new) }
         ensures quiet { IsQuiet self.old.book self.new.book }
         ensures pacing { self.new.pacing ≡ self.old.pacing }
@@ -79,7 +79,7 @@ impl<R, O, C: Crew> Hub<'_, R, O, C> {
         requires due { IsSaveDue self.old.pacing self.old.book }
         requires kept { IsKeptBy (kept_seen keeper.old (D.seen disk.old)) }
         requires ours { IsOurs (kept_seen keeper.old (D.seen disk.old)) self.old.book }
-        ensures on { (from : Standing) (first : KeptSeen)
+        ensures on { (from : HubState) (first : KeptSeen)
             → IsKeptIn IsRested from (hub_seen C.seen self.old) first
             (kept_seen keeper.old (D.seen disk.old))
             → IsKeptIn IsRested from (hub_seen C.seen self.new) first
@@ -99,12 +99,12 @@ impl<R: Wait, O: Observer, C: Crew> Hub<'_, R, O, C> {
     /// Starts the crew, goes on until an end is due, and tells it the end. The book is saved as
     /// often as its settings say.
     pub fn run<D: Disk>(&mut self, keeper: &mut Keeper, disk: &mut D)
-        requires on { (from : Standing) × IsStartedIn IsRested 0 from (hub_seen C.seen self.old) }
+        requires on { (from : HubState) × IsStartedIn IsRested 0 from (hub_seen C.seen self.old) }
         requires frame { IsSetUpFrame self.old.book self.old.frame.items }
         requires saved { ¬ IsSaveDue self.old.pacing self.old.book }
         requires kept { IsKeptBy (kept_seen keeper.old (D.seen disk.old)) }
         requires ours { IsOurs (kept_seen keeper.old (D.seen disk.old)) self.old.book }
-        ensures ends { (from : Standing) → IsStartedIn IsRested 0 from (hub_seen C.seen self.old)
+        ensures ends { (from : HubState) → IsStartedIn IsRested 0 from (hub_seen C.seen self.old)
             → from.pacing ≡ self.old.pacing
             → StartsAndEnds (ranks_of self.old.book) from (hub_seen C.seen self.new)
             (kept_seen keeper.old (D.seen disk.old)) (kept_seen keeper.new (D.seen disk.new)) }
@@ -121,13 +121,13 @@ impl<R: Wait, O: Observer, C: Crew> Hub<'_, R, O, C> {
     // Decides, tells the orders, and hears the next report, or waits until something comes. An end
     // that is due comes before each of them, and then false is answered, as where a turn failed.
     fn step(&mut self) -> bool
-        requires on { (from : Standing) × IsOnIn IsRested from (hub_seen C.seen self.old) }
+        requires on { (from : HubState) × IsOnIn IsRested from (hub_seen C.seen self.old) }
         requires more { ¬ IsOver self.old.book }
         requires saved { ¬ IsSaveDue self.old.pacing self.old.book }
         ensures on { MatchBool result
-            ((from : Standing) → IsOnIn IsRested from (hub_seen C.seen self.old)
+            ((from : HubState) → IsOnIn IsRested from (hub_seen C.seen self.old)
             → IsOnIn IsRested from (hub_seen C.seen self.new))
-            ((from : Standing) → IsOnIn IsRested from (hub_seen C.seen self.old)
+            ((from : HubState) → IsOnIn IsRested from (hub_seen C.seen self.old)
             → IsOnIn AnyPhase from (hub_seen C.seen self.new)) }
         ensures hears { MatchBool result (HearsOne self.old.book self.new.book)
             (IsQuiet self.old.book self.new.book) }
@@ -147,18 +147,18 @@ impl<R: Wait, O: Observer, C: Crew> Hub<'_, R, O, C> {
 
     // A step, and a save where one is due for what was heard in it.
     fn advance<D: Disk>(&mut self, keeper: &mut Keeper, disk: &mut D) -> bool
-        requires on { (from : Standing) × IsOnIn IsRested from (hub_seen C.seen self.old) }
+        requires on { (from : HubState) × IsOnIn IsRested from (hub_seen C.seen self.old) }
         requires more { ¬ IsOver self.old.book }
         requires saved { ¬ IsSaveDue self.old.pacing self.old.book }
         requires kept { IsKeptBy (kept_seen keeper.old (D.seen disk.old)) }
         requires ours { IsOurs (kept_seen keeper.old (D.seen disk.old)) self.old.book }
         ensures on { MatchBool result
-            ((from : Standing) (first : KeptSeen)
+            ((from : HubState) (first : KeptSeen)
             → IsKeptIn IsRested from (hub_seen C.seen self.old) first
             (kept_seen keeper.old (D.seen disk.old))
             → IsKeptIn IsRested from (hub_seen C.seen self.new) first
             (kept_seen keeper.new (D.seen disk.new)))
-            ((from : Standing) (first : KeptSeen)
+            ((from : HubState) (first : KeptSeen)
             → IsKeptIn IsRested from (hub_seen C.seen self.old) first
             (kept_seen keeper.old (D.seen disk.old))
             → IsKeptIn AnyPhase from (hub_seen C.seen self.new) first
@@ -179,11 +179,11 @@ impl<R: Wait, O: Observer, C: Crew> Hub<'_, R, O, C> {
 
     // Goes on until an end is due, or memory is wanting.
     fn go_on<D: Disk>(&mut self, keeper: &mut Keeper, disk: &mut D)
-        requires on { (from : Standing) × IsOnIn IsRested from (hub_seen C.seen self.old) }
+        requires on { (from : HubState) × IsOnIn IsRested from (hub_seen C.seen self.old) }
         requires saved { ¬ IsSaveDue self.old.pacing self.old.book }
         requires kept { IsKeptBy (kept_seen keeper.old (D.seen disk.old)) }
         requires ours { IsOurs (kept_seen keeper.old (D.seen disk.old)) self.old.book }
-        ensures on { (from : Standing) (first : KeptSeen)
+        ensures on { (from : HubState) (first : KeptSeen)
             → IsKeptIn IsRested from (hub_seen C.seen self.old) first
             (kept_seen keeper.old (D.seen disk.old))
             → IsKeptIn AnyPhase from (hub_seen C.seen self.new) first

@@ -32,7 +32,7 @@ impl Pacing {
     pub fn is_due(self, book: &Book) -> bool
         ensures { MatchBool result (IsSaveDue self book.now) (¬ IsSaveDue self book.now) }
     {
-        is_asked_for(book.settings().every, book.count()) && is_apart(self, book.count())
+        is_asked_for(book.settings().every, book.heard()) && is_apart(self, book.heard())
     }
 
     /// The book was saved.
@@ -41,7 +41,7 @@ impl Pacing {
     {
         let open = book.open() as u64;
         Pacing {
-            since: book.count(),
+            since: book.heard(),
             apart: open.saturating_mul(REPORTS_A_NODE),
         }
     }

@@ -140,7 +140,7 @@ fn solve<R: Wait, D: Disk, O: Observer, C: Crew + Drop>(
         input,
         setup,
     } = parts;
-    let pacing = Pacing::new(book.count());
+    let pacing = Pacing::new(book.heard());
     let mut hub = Hub {
         host,
         book,
@@ -288,7 +288,7 @@ fn end_of(book: Book, wants: bool) -> End
     if is_answered(&book) {
         return End::Answered(book);
     }
-    if book.settings().limit <= book.count() {
+    if book.settings().limit <= book.heard() {
         return End::Limited(book);
     }
     End::Stranded(book)

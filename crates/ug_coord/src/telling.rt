@@ -5,7 +5,7 @@ ghost use Rattle.ug_io.specs.Crews.{IsAlive, IsAway};
 ghost use Rattle.ug_frames.specs.Orders.{IsOrder};
 ghost use Rattle.ug_rules.specs.State.{BookState};
 ghost use Rattle.ug_book.specs.Reads.{IsOrderTold};
-ghost use Rattle.ug_coord.specs.Deeds.{Standing};
+ghost use Rattle.ug_coord.specs.Deeds.{HubState};
 ghost use Rattle.ug_coord.specs.Ends.{ranks_of};
 ghost use Rattle.ug_coord.specs.Hubs.{AnyPhase, EndsFrom, IsClosedBelow, IsKeptIn, IsOnAs, IsOnIn};
 ghost use Rattle.ug_coord.specs.Hubs.{IsQuiet, IsSetUpFrame, IsStartedAs, Phase};
@@ -79,11 +79,11 @@ impl<R, O, C: Crew> Hub<'_, R, O, C> {
 
     // Starts the rank, which does not live, and tells it the problem, which the frame is.
     fn start(&mut self, rank: u32)
-        requires on { (phase : Phase) × (from : Standing)
+        requires on { (phase : Phase) × (from : HubState)
             × IsStartedAs rank phase from (hub_seen C.seen self.old) }
         requires there { rank < ranks_of self.old.book }
         requires frame { IsSetUpFrame self.old.book self.old.frame.items }
-        ensures on { (phase : Phase) (from : Standing)
+        ensures on { (phase : Phase) (from : HubState)
             → IsStartedAs rank phase from (hub_seen C.seen self.old)
             → IsStartedAs (suc rank) phase from (hub_seen C.seen self.new) }
         ensures frame { IsSetUpFrame self.new.book self.new.frame.items }
@@ -97,10 +97,10 @@ impl<R, O, C: Crew> Hub<'_, R, O, C> {
 
     /// Starts each rank, none of which lives, and tells it the problem, which the frame is.
     pub fn start_all(&mut self)
-        requires on { (phase : Phase) × (from : Standing)
+        requires on { (phase : Phase) × (from : HubState)
             × IsStartedAs 0 phase from (hub_seen C.seen self.old) }
         requires frame { IsSetUpFrame self.old.book self.old.frame.items }
-        ensures on { (phase : Phase) (from : Standing)
+        ensures on { (phase : Phase) (from : HubState)
             → IsStartedAs 0 phase from (hub_seen C.seen self.old)
             → IsStartedAs (ranks_of self.old.book) phase from (hub_seen C.seen self.new) }
         ensures quiet { IsQuiet self.old.book self.new.book }
@@ -114,10 +114,10 @@ impl<R, O, C: Crew> Hub<'_, R, O, C> {
     // Tells an order that just left the book to its rank, if this lives.
     fn tell(&mut self, told: Told)
         requires order { IsOrder told.order }
-        requires on { (from : Standing) × (before : BookState)
+        requires on { (from : HubState) × (before : BookState)
             × IsOnIn AnyPhase from (record (hub_seen C.seen self.old) { book = before })
             × IsOrderTold before self.old.book told }
-        ensures on { (phase : Phase) (from : Standing) (before : BookState)
+        ensures on { (phase : Phase) (from : HubState) (before : BookState)
             → IsOnAs phase from (record (hub_seen C.seen self.old) { book = before })
             → IsOrderTold before self.old.book told
             → IsOnAs phase from (hub_seen C.seen self.new) }
@@ -144,8 +144,8 @@ impl<R, O, C: Crew> Hub<'_, R, O, C> {
 
     // Tells the earliest order that waits. False where none does.
     fn tell_next(&mut self) -> bool
-        requires on { (from : Standing) × IsOnIn AnyPhase from (hub_seen C.seen self.old) }
-        ensures on { (phase : Phase) (from : Standing) → IsOnAs phase from (hub_seen C.seen self.old)
+        requires on { (from : HubState) × IsOnIn AnyPhase from (hub_seen C.seen self.old) }
+        ensures on { (phase : Phase) (from : HubState) → IsOnAs phase from (hub_seen C.seen self.old)
             → IsOnAs phase from (hub_seen C.seen self.new) }
         ensures quiet { IsQuiet self.old.book self.new.book }
         ensures none { result ≡ false → self.new.book.orders ≡ [] }
@@ -164,7 +164,7 @@ impl<R, O, C: Crew> Hub<'_, R, O, C> {
 
     // Tells the end to the rank, if it lives.
     fn end(&mut self, rank: u32)
-        ensures closed { (from : Standing) (old new : KeptSeen)
+        ensures closed { (from : HubState) (old new : KeptSeen)
             → IsClosedBelow rank from (hub_seen C.seen self.old) old new
             → IsClosedBelow (suc rank) from (hub_seen C.seen self.new) old new }
         ensures same { (self.new.book ≡ self.old.book) × (self.new.wants ≡ self.old.wants) }
@@ -180,7 +180,7 @@ impl<R, O, C: Crew> Hub<'_, R, O, C> {
 
     /// Tells the end to each rank that lives, and waits until all have ended.
     pub fn close(&mut self)
-        ensures ends { (from : Standing) (old new : KeptSeen)
+        ensures ends { (from : HubState) (old new : KeptSeen)
             → IsKeptIn AnyPhase from (hub_seen C.seen self.old) old new
             → EndsFrom from (hub_seen C.seen self.new) old new }
         ensures same { (self.new.book ≡ self.old.book) × (self.new.wants ≡ self.old.wants) }
@@ -198,8 +198,8 @@ impl<R: Wait, O, C: Crew> Hub<'_, R, O, C> {
 
     /// Tells all orders that wait.
     pub fn tell_all(&mut self)
-        requires on { (from : Standing) × IsOnIn AnyPhase from (hub_seen C.seen self.old) }
-        ensures on { (phase : Phase) (from : Standing) → IsOnAs phase from (hub_seen C.seen self.old)
+        requires on { (from : HubState) × IsOnIn AnyPhase from (hub_seen C.seen self.old) }
+        ensures on { (phase : Phase) (from : HubState) → IsOnAs phase from (hub_seen C.seen self.old)
             → IsOnAs phase from (hub_seen C.seen self.new) }
         ensures quiet { IsQuiet self.old.book self.new.book }
         ensures all { self.new.wants ≡ false → self.new.book.orders ≡ [] }

@@ -43,7 +43,7 @@ abbrev pub HasHanded : ℕ → Ticket → ℕ → List Interval → Heard → Bo
 HasHanded r ticket number area answer old new =
     HasHandedBox r ticket number area answer old new ⊎ HasNoMemory answer old new
 
--- the ticket has ended, or as many deliveries were heard as may be
+-- the ticket has ended, or as many reports were heard as may be
 abbrev pub IsStop : BookState → ℕ → Ticket → Type 0
 IsStop b r ticket =
     (ticket_at (state_at b.ranks r) ≢ Some ticket) ⊎ (b.settings.limit ≤ b.heard)

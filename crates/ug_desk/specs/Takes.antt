@@ -26,7 +26,7 @@ use Rattle.ug_desk.specs.DeskStates.{DeskState}
 abbrev pub with_joined : ℕ → BookState → BookState
 with_joined r b = kept r Ready b
 
--- no node is held, or as many deliveries were heard as may be
+-- no node is held, or as many reports were heard as may be
 abbrev pub IsOver : BookState → Type 0
 IsOver b = (held_nodes b ≡ []) ⊎ (b.settings.limit ≤ b.heard)
 

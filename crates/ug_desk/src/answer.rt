@@ -30,18 +30,18 @@ pub fn answer(alloc: Global, book: &Book, rank: u32) -> Result<Given, AllocError
     }
 }
 
-/// Whether no node is held, or as many deliveries were heard as may be.
+/// Whether no node is held, or as many reports were heard as may be.
 pub fn is_over(book: &Book) -> bool
     ensures { MatchBool result (IsOver book.now) (IsUnderWay book.now) }
 {
     book.answer().is_some() || is_spent(book)
 }
 
-/// Whether as many deliveries were heard as may be.
+/// Whether as many reports were heard as may be.
 pub fn is_spent(book: &Book) -> bool
     ensures { MatchBool result
         (book.now.settings.limit ≤ book.now.heard)
         (book.now.heard < book.now.settings.limit) }
 {
-    book.settings().limit <= book.count()
+    book.settings().limit <= book.heard()
 }

@@ -35,7 +35,7 @@ impl Desk {
     {
         let mut shelf = self.out(rt, &mut pass.seat, pass.rank);
         let given = shelf.locked.take(pass.rank);
-        pass.heard = shelf.locked.book().count();
+        pass.heard = shelf.locked.book().heard();
         let woken = shelf.locked.woken();
         let entry = Entry::taken(pass.rank, &given);
         self.turn.put(&mut pass.seat, shelf, Some(entry));
@@ -51,7 +51,7 @@ impl Desk {
         let said = snapshot::Snapshot::of(&point);
         let mut shelf = self.out(rt, &mut pass.seat, pass.rank);
         let heard = shelf.locked.solution(pass.rank, point);
-        pass.heard = shelf.locked.book().count();
+        pass.heard = shelf.locked.book().heard();
         let woken = shelf.locked.woken();
         let entry = Entry::offered(pass.rank, said, &heard);
         self.turn.put(&mut pass.seat, shelf, Some(entry));
@@ -70,7 +70,7 @@ impl Desk {
             return Heard::Stale;
         }
         let heard = shelf.locked.hand(pass.rank, number, area);
-        pass.heard = shelf.locked.book().count();
+        pass.heard = shelf.locked.book().heard();
         let woken = shelf.locked.woken();
         let entry = Entry::handed(pass.rank, number, area, &heard);
         self.turn.put(&mut pass.seat, shelf, Some(entry));
@@ -93,7 +93,7 @@ impl Desk {
     {
         let mut shelf = self.out(rt, &mut pass.seat, pass.rank);
         let reply = shelf.locked.state(pass.rank, left, floor);
-        pass.heard = shelf.locked.book().count();
+        pass.heard = shelf.locked.book().heard();
         let woken = shelf.locked.woken();
         let entry = Entry::stated(pass.rank, left, floor, &reply);
         self.turn.put(&mut pass.seat, shelf, Some(entry));
@@ -114,7 +114,7 @@ impl Desk {
     {
         let mut shelf = self.out(rt, &mut pass.seat, pass.rank);
         let heard = shelf.locked.done(pass.rank, &task);
-        pass.heard = shelf.locked.book().count();
+        pass.heard = shelf.locked.book().heard();
         let woken = shelf.locked.woken();
         if heard == Heard::Stale {
             self.turn.put(&mut pass.seat, shelf, None);
@@ -151,7 +151,7 @@ impl Desk {
             self.wake(woken);
             return;
         }
-        pass.heard = shelf.locked.book().count();
+        pass.heard = shelf.locked.book().heard();
         let entry = Entry::left(pass.rank);
         self.turn.put(&mut pass.seat, shelf, Some(entry));
         self.wake(woken);

@@ -67,7 +67,7 @@ impl Pass {
         self.rank
     }
 
-    /// How many deliveries the book had heard after the pass's last call. It takes neither the lock
+    /// How many reports the book had heard after the pass's last call. It takes neither the lock
     /// nor memory.
     pub fn heard(&self) -> u64 {
         self.heard

@@ -96,7 +96,7 @@ fn reply(book: &Book, rank: u32, ticket: Ticket) -> Reply
     }
 }
 
-// Whether the ticket has ended, or as many deliveries were heard as may be.
+// Whether the ticket has ended, or as many reports were heard as may be.
 fn is_stop(book: &Book, rank: u32, ticket: Ticket) -> bool
     requires { rank < length book.now.ranks }
     ensures { MatchBool result (IsStop book.now rank ticket) (IsGoingOn book.now rank ticket) }

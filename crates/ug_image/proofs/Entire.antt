@@ -13,9 +13,9 @@ use Rattle.ug_fields.proofs.Simple.{small_reader, long_reader}
 use Rattle.ug_image.specs.declared.counts.Counts.{Counts}
 use Rattle.ug_image.specs.declared.image.Image.{Image}
 use Rattle.ug_image.specs.declared.image.SavedNode.{SavedNode}
-use Rattle.ug_image.specs.Spelling.{problem_fields, best_fields, deliveries_field, gap_field, nodes_fields, spelled_in}
-use Rattle.ug_image.specs.Reading.{problem_at, best_at, deliveries_at, gap_at, counts_at, nodes_at, behind_problem, fields_at, image_at}
-use Rattle.ug_image.proofs.Plain.{IsNone, IsGapOf, deliveries_reader, gap_reader}
+use Rattle.ug_image.specs.Spelling.{problem_fields, best_fields, heard_field, gap_field, nodes_fields, spelled_in}
+use Rattle.ug_image.specs.Reading.{problem_at, best_at, heard_at, gap_at, counts_at, nodes_at, behind_problem, fields_at, image_at}
+use Rattle.ug_image.proofs.Plain.{IsNone, IsGapOf, heard_reader, gap_reader}
 use Rattle.ug_image.proofs.Named.{AreReadNodes, nodes_reader, size_of}
 use Rattle.ug_image.proofs.Bests.{IsGoodBest, IsReadProblem, best_reader, problem_reader}
 
@@ -27,7 +27,7 @@ pub record IsRead (version : ℕ) (image : Image) : Type 0 where
   pub sequence : (1 ≤ image.sequence) × (image.sequence < 2 ^ 64)
   pub problem : IsReadProblem image.problem
   pub best : IsGoodBest image.problem image.best
-  pub deliveries : IsNone version image.deliveries
+  pub heard : IsNone version image.heard
   pub gap : IsGapOf version image.gap
   pub count : length image.nodes < 2 ^ 64
   pub nodes : AreReadNodes version image.run (root_of image.problem) (length image.nodes)
@@ -40,11 +40,11 @@ from_count v i = long_field (length i.nodes) ++ nodes_fields v i.nodes
 abbrev pub from_gap : ℕ → Image → List ℕ
 from_gap v i = gap_field v i.gap ++ from_count v i
 
-abbrev pub from_deliveries : ℕ → Image → List ℕ
-from_deliveries v i = deliveries_field v i.deliveries ++ from_gap v i
+abbrev pub from_heard : ℕ → Image → List ℕ
+from_heard v i = heard_field v i.heard ++ from_gap v i
 
 abbrev pub from_best : ℕ → Image → List ℕ
-from_best v i = best_fields i.best ++ from_deliveries v i
+from_best v i = best_fields i.best ++ from_heard v i
 
 abbrev pub from_problem : ℕ → Image → List ℕ
 from_problem v i = problem_fields i.problem ++ from_best v i
@@ -68,40 +68,40 @@ nine a b c d e f g h i =
 
 pub in_order : (v : ℕ) (i : Image) → spelled_in v i ≡ (v ∷ []) ++ from_run v i
 in_order v i = nine (v ∷ []) (long_field i.run) (long_field i.sequence) (problem_fields i.problem)
-    (best_fields i.best) (deliveries_field v i.deliveries) (gap_field v i.gap)
+    (best_fields i.best) (heard_field v i.heard) (gap_field v i.gap)
     (long_field (length i.nodes)) (nodes_fields v i.nodes)
 
 -- what is done with what was read before a field
 module _ (v run sequence : ℕ) where
-  abbrev image_of : Instance → Option (List ℤ) → ℕ → ℤ → List SavedNode → Image
-  image_of p best deliveries gap nodes = record {
+  abbrev image_from : Instance → Option (List ℤ) → ℕ → ℤ → List SavedNode → Image
+  image_from p best heard gap nodes = record {
     run = run;
     sequence = sequence;
     problem = p;
     best = best;
-    deliveries = deliveries;
+    heard = heard;
     gap = gap;
     nodes = nodes;
   }
 
   abbrev after_nodes : Instance → Option (List ℤ) → ℕ → ℤ → List SavedNode × List ℕ
       → Reading Image
-  after_nodes p best deliveries gap nodes =
-      Ok (image_of p best deliveries gap nodes.0, nodes.1)
+  after_nodes p best heard gap nodes =
+      Ok (image_from p best heard gap nodes.0, nodes.1)
 
   abbrev after_count : Instance → Option (List ℤ) → ℕ → ℤ → ℕ × List ℕ → Reading Image
-  after_count p best deliveries gap count =
-      nodes_at v run (root_of p) count.0 count.1 >>= after_nodes p best deliveries gap
+  after_count p best heard gap count =
+      nodes_at v run (root_of p) count.0 count.1 >>= after_nodes p best heard gap
 
   abbrev after_gap : Instance → Option (List ℤ) → ℕ → ℤ × List ℕ → Reading Image
-  after_gap p best deliveries gap = long_at 0 gap.1 >>= after_count p best deliveries gap.0
+  after_gap p best heard gap = long_at 0 gap.1 >>= after_count p best heard gap.0
 
-  abbrev after_deliveries : Instance → Option (List ℤ) → ℕ × List ℕ → Reading Image
-  after_deliveries p best deliveries = gap_at v deliveries.1 >>= after_gap p best deliveries.0
+  abbrev after_heard : Instance → Option (List ℤ) → ℕ × List ℕ → Reading Image
+  after_heard p best heard = gap_at v heard.1 >>= after_gap p best heard.0
 
   abbrev after_counts : Instance → Option (List ℤ) → Counts × List ℕ → Reading Image
   after_counts p best counts = nodes_at v run (root_of p) counts.0.nodes counts.1
-      >>= after_nodes p best counts.0.deliveries counts.0.gap
+      >>= after_nodes p best counts.0.heard counts.0.gap
 
   abbrev after_best : Instance → Option (List ℤ) × List ℕ → Reading Image
   after_best p best = counts_at v best.1 >>= after_counts p best.0
@@ -112,20 +112,20 @@ module _ (v run sequence : ℕ) where
   -- what is read of the counts is read of each
   counts_apart : (p : Instance) (best : Option (List ℤ)) (bytes : List ℕ)
       → (counts_at v bytes >>= after_counts p best)
-      ≡ (deliveries_at v bytes >>= after_deliveries p best)
+      ≡ (heard_at v bytes >>= after_heard p best)
   unfolding counts_at
   counts_apart p best bytes =
-      bind_again (deliveries_at v bytes) (λ deliveries. gap_at v deliveries.1 >>= λ gap.
+      bind_again (heard_at v bytes) (λ heard. gap_at v heard.1 >>= λ gap.
       long_at 0 gap.1 >>= λ nodes.
-      Ok (record { deliveries = deliveries.0; gap = gap.0; nodes = nodes.0 }, nodes.1))
+      Ok (record { heard = heard.0; gap = gap.0; nodes = nodes.0 }, nodes.1))
       (after_counts p best)
-      ∙ bind_same (deliveries_at v bytes) _ _ (λ deliveries.
-      bind_again (gap_at v deliveries.1) (λ gap. long_at 0 gap.1 >>= λ nodes.
-      Ok (record { deliveries = deliveries.0; gap = gap.0; nodes = nodes.0 }, nodes.1))
+      ∙ bind_same (heard_at v bytes) _ _ (λ heard.
+      bind_again (gap_at v heard.1) (λ gap. long_at 0 gap.1 >>= λ nodes.
+      Ok (record { heard = heard.0; gap = gap.0; nodes = nodes.0 }, nodes.1))
       (after_counts p best)
-      ∙ bind_same (gap_at v deliveries.1) _ _ (λ gap.
+      ∙ bind_same (gap_at v heard.1) _ _ (λ gap.
       bind_again (long_at 0 gap.1) (λ nodes.
-      Ok (record { deliveries = deliveries.0; gap = gap.0; nodes = nodes.0 }, nodes.1))
+      Ok (record { heard = heard.0; gap = gap.0; nodes = nodes.0 }, nodes.1))
       (after_counts p best)))
 
 abbrev after_sequence : ℕ → ℕ → ℕ × List ℕ → Reading Image
@@ -144,31 +144,31 @@ record IsTail (v run sequence : ℕ) (p : Instance) (best : Option (List ℤ)) (
   is_sequence : image.sequence ≡ sequence
   is_problem : image.problem ≡ p
   is_best : image.best ≡ best
-  deliveries : IsNone v image.deliveries
+  heard : IsNone v image.heard
   gap : IsGapOf v image.gap
   count : length image.nodes < 2 ^ 64
   nodes : AreReadNodes v run (root_of p) (length image.nodes) image.nodes
 
 module _ (v run sequence : ℕ) (p : Instance) (best : Option (List ℤ)) where
   abbrev Tail : List ℕ → Image → List ℕ → Type 0
-  Tail bytes image rest = Takes bytes (from_deliveries v image) rest
+  Tail bytes image rest = Takes bytes (from_heard v image) rest
       × IsTail v run sequence p best image
 
-  nodes_taken : (deliveries : ℕ) (gap : ℤ) (bytes : List ℕ) (image : Image) (rest : List ℕ)
+  nodes_taken : (heard : ℕ) (gap : ℤ) (bytes : List ℕ) (image : Image) (rest : List ℕ)
       → IsBytes bytes
-      → (long_at 0 bytes >>= after_count v run sequence p best deliveries gap) ≡ Ok (image, rest)
+      → (long_at 0 bytes >>= after_count v run sequence p best heard gap) ≡ Ok (image, rest)
       → (nodes : List SavedNode) × (Takes bytes (long_field (length nodes) ++ nodes_fields v nodes) rest)
       × (length nodes < 2 ^ 64) × AreReadNodes v run (root_of p) (length nodes) nodes
-      × (image ≡ image_of v run sequence p best deliveries gap nodes)
-  nodes_taken deliveries gap bytes image rest h e =
-      let b8 = bind_ok (long_at 0 bytes) (after_count v run sequence p best deliveries gap)
+      × (image ≡ image_from v run sequence p best heard gap nodes)
+  nodes_taken heard gap bytes image rest h e =
+      let b8 = bind_ok (long_at 0 bytes) (after_count v run sequence p best heard gap)
       (image, rest) e in
       let t8 = (long_reader 0).taken bytes b8.0.0 b8.0.1 h b8.1 in
       let b9 = bind_ok (nodes_at v run (root_of p) b8.0.0 b8.0.1)
-      (after_nodes v run sequence p best deliveries gap) (image, rest) b8.2 in
+      (after_nodes v run sequence p best heard gap) (image, rest) b8.2 in
       let t9 = (nodes_reader v run (root_of p) b8.0.0).taken b8.0.1 b9.0.0 b9.0.1
       t8.0.rest_fits b9.1 in
-      let made : Image = image_of v run sequence p best deliveries gap b9.0.0 in
+      let made : Image = image_from v run sequence p best heard gap b9.0.0 in
       let same = ok_is (made, b9.0.1) (image, rest) b9.2 in
       let size : length b9.0.0 ≡ b8.0.0 = size_of v run (root_of p) b8.0.0 b9.0.0 t9.1 in
       let counted : Takes bytes (long_field (length b9.0.0)) b8.0.1 =
@@ -184,26 +184,26 @@ module _ (v run sequence : ℕ) (p : Instance) (best : Option (List ℤ)) where
       )
 
   tail_taken : (bytes : List ℕ) (image : Image) (rest : List ℕ) → IsBytes bytes
-      → (deliveries_at v bytes >>= after_deliveries v run sequence p best) ≡ Ok (image, rest)
+      → (heard_at v bytes >>= after_heard v run sequence p best) ≡ Ok (image, rest)
       → Tail bytes image rest
   tail_taken bytes image rest h e =
-      let b6 = bind_ok (deliveries_at v bytes) (after_deliveries v run sequence p best)
+      let b6 = bind_ok (heard_at v bytes) (after_heard v run sequence p best)
       (image, rest) e in
-      let t6 = (deliveries_reader v).taken bytes b6.0.0 b6.0.1 h b6.1 in
+      let t6 = (heard_reader v).taken bytes b6.0.0 b6.0.1 h b6.1 in
       let b7 = bind_ok (gap_at v b6.0.1) (after_gap v run sequence p best b6.0.0) (image, rest)
       b6.2 in
       let t7 = (gap_reader v).taken b6.0.1 b7.0.0 b7.0.1 t6.0.rest_fits b7.1 in
       let n = nodes_taken b6.0.0 b7.0.0 b7.0.1 image rest t7.0.rest_fits b7.2 in
-      let made : Image = image_of v run sequence p best b6.0.0 b7.0.0 n.0 in
+      let made : Image = image_from v run sequence p best b6.0.0 b7.0.0 n.0 in
       subst (λ i. Tail bytes i rest) (sym n.4) (
-        Takes-then bytes (deliveries_field v b6.0.0) b6.0.1 (from_gap v made) rest t6.0
+        Takes-then bytes (heard_field v b6.0.0) b6.0.1 (from_gap v made) rest t6.0
             (Takes-then b6.0.1 (gap_field v b7.0.0) b7.0.1 (from_count v made) rest t7.0 n.1),
         record {
           is_run = refl;
           is_sequence = refl;
           is_problem = refl;
           is_best = refl;
-          deliveries = t6.1;
+          heard = t6.1;
           gap = t7.1;
           count = n.2;
           nodes = n.3;
@@ -229,12 +229,12 @@ middle_taken v run sequence bytes image rest h e =
     let apart = sym (counts_apart v run sequence b4.0.0 b5.0.0 b5.0.1) ∙ b5.2 in
     let tail = tail_taken v run sequence b4.0.0 b5.0.0 b5.0.1 image rest t5.0.rest_fits apart in
     let all = Takes-then bytes (problem_fields b4.0.0) b4.0.1
-    (best_fields b5.0.0 ++ from_deliveries v image) rest t4.0
-    (Takes-then b4.0.1 (best_fields b5.0.0) b5.0.1 (from_deliveries v image) rest t5.0 tail.0) in
+    (best_fields b5.0.0 ++ from_heard v image) rest t4.0
+    (Takes-then b4.0.1 (best_fields b5.0.0) b5.0.1 (from_heard v image) rest t5.0 tail.0) in
     let p : b4.0.0 ≡ image.problem = sym tail.1.is_problem in
     let best : b5.0.0 ≡ image.best = sym tail.1.is_best in (
       subst (λ text. Takes bytes text rest)
-          (λ i. problem_fields (p i) ++ (best_fields (best i) ++ from_deliveries v image)) all,
+          (λ i. problem_fields (p i) ++ (best_fields (best i) ++ from_heard v image)) all,
       record {
         problem = subst IsReadProblem p t4.1;
         best = subst (λ (y : Instance × Option (List ℤ)). IsGoodBest y.0 y.1)
@@ -281,7 +281,7 @@ fields_taken bytes image rest h e =
         sequence = subst (λ n. (1 ≤ n) × (n < 2 ^ 64)) sequence t3.1;
         problem = m.1.problem;
         best = m.1.best;
-        deliveries = m.1.tail.deliveries;
+        heard = m.1.tail.heard;
         gap = m.1.tail.gap;
         count = m.1.tail.count;
         nodes = subst (λ n. AreReadNodes v n (root_of image.problem) (length image.nodes)
@@ -309,24 +309,24 @@ fields_again v i rest is =
     ∙ ap (λ r. r >>= after_problem v i.run i.sequence)
     (problem_reader.again i.problem (from_best v i ++ rest) is.problem)
     ∙ ap (λ t. best_at i.problem t >>= after_best v i.run i.sequence i.problem)
-    (append_assoc (best_fields i.best) (from_deliveries v i) rest)
+    (append_assoc (best_fields i.best) (from_heard v i) rest)
     ∙ ap (λ r. r >>= after_best v i.run i.sequence i.problem)
-    ((best_reader i.problem).again i.best (from_deliveries v i ++ rest) is.best)
-    ∙ counts_apart v i.run i.sequence i.problem i.best (from_deliveries v i ++ rest)
-    ∙ ap (λ t. deliveries_at v t >>= after_deliveries v i.run i.sequence i.problem i.best)
-    (append_assoc (deliveries_field v i.deliveries) (from_gap v i) rest)
-    ∙ ap (λ r. r >>= after_deliveries v i.run i.sequence i.problem i.best)
-    ((deliveries_reader v).again i.deliveries (from_gap v i ++ rest) is.deliveries)
-    ∙ ap (λ t. gap_at v t >>= after_gap v i.run i.sequence i.problem i.best i.deliveries)
+    ((best_reader i.problem).again i.best (from_heard v i ++ rest) is.best)
+    ∙ counts_apart v i.run i.sequence i.problem i.best (from_heard v i ++ rest)
+    ∙ ap (λ t. heard_at v t >>= after_heard v i.run i.sequence i.problem i.best)
+    (append_assoc (heard_field v i.heard) (from_gap v i) rest)
+    ∙ ap (λ r. r >>= after_heard v i.run i.sequence i.problem i.best)
+    ((heard_reader v).again i.heard (from_gap v i ++ rest) is.heard)
+    ∙ ap (λ t. gap_at v t >>= after_gap v i.run i.sequence i.problem i.best i.heard)
     (append_assoc (gap_field v i.gap) (from_count v i) rest)
-    ∙ ap (λ r. r >>= after_gap v i.run i.sequence i.problem i.best i.deliveries)
+    ∙ ap (λ r. r >>= after_gap v i.run i.sequence i.problem i.best i.heard)
     ((gap_reader v).again i.gap (from_count v i ++ rest) is.gap)
-    ∙ ap (λ t. long_at 0 t >>= after_count v i.run i.sequence i.problem i.best i.deliveries i.gap)
+    ∙ ap (λ t. long_at 0 t >>= after_count v i.run i.sequence i.problem i.best i.heard i.gap)
     (append_assoc (long_field (length i.nodes)) (nodes_fields v i.nodes) rest)
-    ∙ ap (λ r. r >>= after_count v i.run i.sequence i.problem i.best i.deliveries i.gap)
+    ∙ ap (λ r. r >>= after_count v i.run i.sequence i.problem i.best i.heard i.gap)
     ((long_reader 0).again (length i.nodes) (nodes_fields v i.nodes ++ rest)
     (omega arith, is.count))
-    ∙ ap (λ r. r >>= after_nodes v i.run i.sequence i.problem i.best i.deliveries i.gap)
+    ∙ ap (λ r. r >>= after_nodes v i.run i.sequence i.problem i.best i.heard i.gap)
     ((nodes_reader v i.run (root_of i.problem) (length i.nodes)).again i.nodes rest is.nodes)
 
 -- what fails behind a field that was read has no more left than there was
@@ -355,14 +355,14 @@ fields_within bytes left h e =
     (λ run rest2 left2 g2 h2 e2. step _ _ _ (after_sequence v run) (long_reader 1)
     (λ sequence rest3 left3 g3 h3 e3. step _ _ _ (after_problem v run sequence) problem_reader
     (λ p rest4 left4 g4 h4 e4. step _ _ _ (after_best v run sequence p) (best_reader p)
-    (λ best rest5 left5 g5 h5 e5. step _ _ _ (after_deliveries v run sequence p best)
-    (deliveries_reader v)
-    (λ deliveries rest6 left6 g6 h6 e6. step _ _ _ (after_gap v run sequence p best deliveries)
+    (λ best rest5 left5 g5 h5 e5. step _ _ _ (after_heard v run sequence p best)
+    (heard_reader v)
+    (λ heard rest6 left6 g6 h6 e6. step _ _ _ (after_gap v run sequence p best heard)
     (gap_reader v)
     (λ gap rest7 left7 g7 h7 e7. step _ _ _
-    (after_count v run sequence p best deliveries gap) (long_reader 0)
+    (after_count v run sequence p best heard gap) (long_reader 0)
     (λ count rest8 left8 g8 h8 e8. step _ _ _
-    (after_nodes v run sequence p best deliveries gap)
+    (after_nodes v run sequence p best heard gap)
     (nodes_reader v run (root_of p) count)
     (λ nodes rest9 left9 g9 h9 e9. absurd (cc e9)) rest8 left8 h8 e8)
     rest7 left7 h7 e7) rest6 left6 h6 e6) rest5 left5 h5

@@ -18,7 +18,7 @@ use Rattle.ug_image.specs.declared.image.Image.{Image}
 use Rattle.ug_image.specs.declared.image.SavedNode.{SavedNode}
 use Rattle.ug_image.specs.Images.{no_node}
 use Rattle.ug_image.specs.Spelling.{name_fields, change_fields, changes_fields, node_fields}
-use Rattle.ug_image.specs.Rests.{front_line, deliveries_line, best_head, node_head, values_of, from_front, from_problem, from_best, from_value, from_deliveries, from_node, from_change}
+use Rattle.ug_image.specs.Rests.{front_line, heard_line, best_head, node_head, values_of, from_front, from_problem, from_best, from_value, from_heard, from_node, from_change}
 
 -- ---- nodes
 
@@ -105,27 +105,27 @@ change_next i j k nodes n changes d line same there is list inside spelled =
 
 -- ---- the best point
 
-pub deliveries_next : (i : Image) (line : List ℕ)
-    → line ≡ deliveries_line i.deliveries i.gap (length i.nodes)
-    → IsNextLine (from_deliveries i) line (from_node i 0)
-unfolding from_deliveries deliveries_line long_field
-deliveries_next i line same =
-    put_next (from_deliveries i) (deliveries_line i.deliveries i.gap (length i.nodes)) line
+pub heard_next : (i : Image) (line : List ℕ)
+    → line ≡ heard_line i.heard i.gap (length i.nodes)
+    → IsNextLine (from_heard i) line (from_node i 0)
+unfolding from_heard heard_line long_field
+heard_next i line same =
+    put_next (from_heard i) (heard_line i.heard i.gap (length i.nodes)) line
     (from_node i 0) same refl (omega arith)
 
 pub value_past : (i : Image) (k : ℕ) (values : List ℤ) (line after : List ℕ)
-    → values ≡ values_of i.best → length values ≤ k → IsNextLine (from_deliveries i) line after
+    → values ≡ values_of i.best → length values ≤ k → IsNextLine (from_heard i) line after
     → IsNextLine (from_value i k) line after
 unfolding from_value
 value_past i k values line after same end next =
-    past_next bound_field values (values_of i.best) same k (from_deliveries i) line after end next
+    past_next bound_field values (values_of i.best) same k (from_heard i) line after end next
 
 pub value_next : (i : Image) (k : ℕ) (values : List ℤ) (d : ℤ) (line : List ℕ)
     → values ≡ values_of i.best → k < length values → line ≡ bound_field (get_or values k d)
     → IsNextLine (from_value i k) line (from_value i (k + 1))
 unfolding from_value bound_field
 value_next i k values d line same there spelled =
-    place_next bound_field values (values_of i.best) same k (from_deliveries i) line d there spelled
+    place_next bound_field values (values_of i.best) same k (from_heard i) line d there spelled
     (omega arith)
 
 best_some : (b : Option (List ℤ)) → 0 < length (best_head b)

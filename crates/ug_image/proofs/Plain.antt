@@ -11,28 +11,28 @@ use Rattle.ug_fields.specs.Spelling.{long_field, number_field}
 use Rattle.ug_fields.proofs.Takes.{made, reworded}
 use Rattle.ug_fields.proofs.Tests.{le_tells}
 use Rattle.ug_fields.proofs.Simple.{long_reader, amount_reader}
-use Rattle.ug_image.specs.Spelling.{deliveries_field, gap_field}
-use Rattle.ug_image.specs.Reading.{deliveries_at, gap_at}
+use Rattle.ug_image.specs.Spelling.{heard_field, gap_field}
+use Rattle.ug_image.specs.Reading.{heard_at, gap_at}
 
 abbrev pub IsNone : ℕ → ℕ → Type 0
 IsNone version n = (n < 2 ^ 64) × (version ≤ 1 → n ≡ 0)
 
-deliveries_by : (version : ℕ) (there : Bool) → ltb 1 version ≡ there
+heard_by : (version : ℕ) (there : Bool) → ltb 1 version ≡ there
     → IsReader (IsNone version) (λ n. if there then long_field n else [])
     (λ bytes. if there then long_at 0 bytes else Ok (0, bytes))
-deliveries_by version true e =
+heard_by version true e =
     let above = ltb-true _ _ e in
     reworded (λ n. (0 ≤ n) × (n < 2 ^ 64)) long_field (IsNone version) long_field (long_at 0)
     (λ n good. refl) (λ n good. (good.1, λ low. absurd (omega (arith, above, low))))
     (λ n is. (omega arith, is.0)) (long_reader 0)
-deliveries_by version false e =
+heard_by version false e =
     let low = ltb-false _ _ e in
     made (IsNone version) 0 (omega arith, λ l. refl) (λ n is. is.1 (omega (arith, low)))
 
-pub deliveries_reader : (version : ℕ) → IsReader (IsNone version) (deliveries_field version)
-    (deliveries_at version)
-unfolding deliveries_at deliveries_field
-deliveries_reader version = deliveries_by version (ltb 1 version) refl
+pub heard_reader : (version : ℕ) → IsReader (IsNone version) (heard_field version)
+    (heard_at version)
+unfolding heard_at heard_field
+heard_reader version = heard_by version (ltb 1 version) refl
 
 gap_small : (z : ℤ) → IsGap z → unsigned_abs z ≤ 4 * 10 ^ 37
 gap_small (pos n) is = grind (arith, ints, is.high)

@@ -12,7 +12,7 @@ use Rattle.ug_records.specs.Spelling.{record_of}
 use Rattle.ug_records.proofs.Sizes.{plus}
 use Rattle.ug_image.specs.declared.image.Image.{Image}
 use Rattle.ug_image.specs.declared.image.SavedNode.{SavedNode}
-use Rattle.ug_image.specs.Spelling.{problem_fields, point_fields, best_fields, change_fields, changes_fields, name_fields, node_fields, nodes_fields, deliveries_field, gap_field, spelled}
+use Rattle.ug_image.specs.Spelling.{problem_fields, point_fields, best_fields, change_fields, changes_fields, name_fields, node_fields, nodes_fields, heard_field, gap_field, spelled}
 
 abbrev most : ℕ
 most = 2 ^ 64 - 1
@@ -65,10 +65,10 @@ node_long node = omega (
   changes_long node.changes,
 )
 
-version_3 : (i : Image) → length (deliveries_field 3 i.deliveries) + length (gap_field 3 i.gap)
+version_3 : (i : Image) → length (heard_field 3 i.heard) + length (gap_field 3 i.gap)
     ≡ 24
-unfolding deliveries_field gap_field
-version_3 i = omega (arith, long_long i.deliveries, number_long i.gap)
+unfolding heard_field gap_field
+version_3 i = omega (arith, long_long i.heard, number_long i.gap)
 
 nodes_3 : (nodes : List SavedNode) → nodes_fields 3 nodes ≡ flat_map node_fields nodes
 unfolding nodes_fields
@@ -90,16 +90,16 @@ image_long i =
     let sequence = long_field i.sequence in
     let problem = problem_fields i.problem in
     let best = best_fields i.best in
-    let deliveries = deliveries_field 3 i.deliveries in
+    let heard = heard_field 3 i.heard in
     let gap = gap_field 3 i.gap in
     let count = long_field (length i.nodes) in
     omega (
       arith,
-      length-append (v ++ run ++ sequence ++ problem ++ best ++ deliveries ++ gap ++ count)
+      length-append (v ++ run ++ sequence ++ problem ++ best ++ heard ++ gap ++ count)
           (nodes_fields 3 i.nodes),
-      length-append (v ++ run ++ sequence ++ problem ++ best ++ deliveries ++ gap) count,
-      length-append (v ++ run ++ sequence ++ problem ++ best ++ deliveries) gap,
-      length-append (v ++ run ++ sequence ++ problem ++ best) deliveries,
+      length-append (v ++ run ++ sequence ++ problem ++ best ++ heard ++ gap) count,
+      length-append (v ++ run ++ sequence ++ problem ++ best ++ heard) gap,
+      length-append (v ++ run ++ sequence ++ problem ++ best) heard,
       length-append (v ++ run ++ sequence ++ problem) best,
       length-append (v ++ run ++ sequence) problem,
       length-append (v ++ run) sequence,

@@ -349,7 +349,7 @@ read_is_image v image is =
         sequence_fits = is.sequence.1;
         problem = is.problem.is;
         best = feasible_best image.problem image.best is.best;
-        deliveries = is.deliveries.0;
+        heard = is.heard.0;
         gap = is.gap.0;
         count = is.count;
         nodes = of_nodes.0;
@@ -359,7 +359,7 @@ read_is_image v image is =
         least = is.least;
         most = is.most;
         gap = is.gap.1;
-        deliveries = is.deliveries.1;
+        heard = is.heard.1;
         starting = of_nodes.2;
       },
     )
@@ -388,7 +388,7 @@ image_is_read v image is of = record {
   sequence = (is.sequence, is.sequence_fits);
   problem = record { is = is.problem; short = record_short image.problem is.problem };
   best = good_best image.problem image.best is.problem is.best;
-  deliveries = (is.deliveries, of.deliveries);
+  heard = (is.heard, of.heard);
   gap = (is.gap, of.gap);
   count = is.count;
   nodes = nodes_read v image is of;

@@ -45,7 +45,7 @@ pub record IsImage (image : Image) : Type 0 where
   pub sequence_fits : image.sequence < 2 ^ 64
   pub problem : IsProblem image.problem
   pub best : IfSome image.best (Feasible image.problem)
-  pub deliveries : image.deliveries < 2 ^ 64
+  pub heard : image.heard < 2 ^ 64
   pub gap : IsGap image.gap
   pub count : length image.nodes < 2 ^ 64
   pub nodes : AreSavedNodes image.run (root_of image.problem) image.nodes

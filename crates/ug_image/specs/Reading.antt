@@ -86,21 +86,21 @@ feasible_at p bytes = do
 abbrev pub best_at : Instance → List ℕ → Reading (Option (List ℤ))
 best_at p bytes = flagged_at (feasible_at p) bytes
 
--- the deliveries: none before version 2
-unfoldable pub deliveries_at : ℕ → List ℕ → Reading ℕ
-deliveries_at version bytes = if nat_lt 1 version then long_at 0 bytes else Ok (0, bytes)
+-- how many reports were heard: none before version 2
+unfoldable pub heard_at : ℕ → List ℕ → Reading ℕ
+heard_at version bytes = if nat_lt 1 version then long_at 0 bytes else Ok (0, bytes)
 
 -- the gap: 0 before version 3
 unfoldable pub gap_at : ℕ → List ℕ → Reading ℤ
 gap_at version bytes = if nat_lt 2 version then amount_at (4 * 10 ^ 37) bytes else Ok (pos 0, bytes)
 
--- the deliveries, the gap, and how many nodes there are
+-- how many reports were heard, the gap, and how many nodes there are
 unfoldable pub counts_at : ℕ → List ℕ → Reading Counts
 counts_at version bytes = do
-  deliveries ← deliveries_at version bytes
-  gap ← gap_at version deliveries.1
+  heard ← heard_at version bytes
+  gap ← gap_at version heard.1
   nodes ← long_at 0 gap.1
-  Ok (record { deliveries = deliveries.0; gap = gap.0; nodes = nodes.0 }, nodes.1)
+  Ok (record { heard = heard.0; gap = gap.0; nodes = nodes.0 }, nodes.1)
 
 -- whether the bounds are closed and within the side
 abbrev pub is_closed_within : Interval → ℤ → ℤ → Bool
@@ -213,7 +213,7 @@ behind_problem version run sequence problem bytes = do
       sequence = sequence;
       problem = problem;
       best = best.0;
-      deliveries = counts.0.deliveries;
+      heard = counts.0.heard;
       gap = counts.0.gap;
       nodes = nodes.0;
     },

@@ -20,9 +20,9 @@ front_line run sequence bytes =
     (3 ∷ []) ++ (long_field run ++ (long_field sequence ++ count_field bytes))
 
 -- the line before the nodes
-unfoldable pub deliveries_line : ℕ → ℤ → ℕ → List ℕ
-deliveries_line deliveries gap nodes =
-    long_field deliveries ++ (number_field gap ++ long_field nodes)
+unfoldable pub heard_line : ℕ → ℤ → ℕ → List ℕ
+heard_line heard gap nodes =
+    long_field heard ++ (number_field gap ++ long_field nodes)
 
 -- the line before the best point's values
 unfoldable pub best_head : Option (List ℤ) → List ℕ
@@ -47,13 +47,13 @@ unfoldable pub from_change : Image → ℕ → ℕ → List ℕ
 from_change i j k = flat_map change_fields (drop k (node_at i.nodes j).changes)
     ++ from_node i (j + 1)
 
--- from the deliveries on
-unfoldable pub from_deliveries : Image → List ℕ
-from_deliveries i = deliveries_line i.deliveries i.gap (length i.nodes) ++ from_node i 0
+-- from the number of reports on
+unfoldable pub from_heard : Image → List ℕ
+from_heard i = heard_line i.heard i.gap (length i.nodes) ++ from_node i 0
 
 -- from value k of the best point on
 unfoldable pub from_value : Image → ℕ → List ℕ
-from_value i k = flat_map bound_field (drop k (values_of i.best)) ++ from_deliveries i
+from_value i k = flat_map bound_field (drop k (values_of i.best)) ++ from_heard i
 
 -- from the best point on
 unfoldable pub from_best : Image → List ℕ

@@ -49,10 +49,10 @@ unfoldable pub nodes_fields : ℕ → List SavedNode → List ℕ
 nodes_fields version nodes =
     if nat_lt 1 version then flat_map node_fields nodes else flat_map bare_node_fields nodes
 
--- the deliveries, which stand there from version 2 on
-unfoldable pub deliveries_field : ℕ → ℕ → List ℕ
-deliveries_field version deliveries =
-    if nat_lt 1 version then long_field deliveries else []
+-- how many reports were heard, which stands there from version 2 on
+unfoldable pub heard_field : ℕ → ℕ → List ℕ
+heard_field version heard =
+    if nat_lt 1 version then long_field heard else []
 
 -- the gap, which stands there from version 3 on
 unfoldable pub gap_field : ℕ → ℤ → List ℕ
@@ -62,7 +62,7 @@ gap_field version gap = if nat_lt 2 version then number_field gap else []
 abbrev pub spelled_in : ℕ → Image → List ℕ
 spelled_in version image = (version ∷ []) ++ long_field image.run ++ long_field image.sequence
     ++ problem_fields image.problem ++ best_fields image.best
-    ++ deliveries_field version image.deliveries ++ gap_field version image.gap
+    ++ heard_field version image.heard ++ gap_field version image.gap
     ++ long_field (length image.nodes) ++ nodes_fields version image.nodes
 
 -- the image as every save writes it
@@ -75,12 +75,12 @@ AreStarting run nodes = (k : ℕ) → k < length nodes → (node_at nodes k).nam
     ≡ record { ticket = record { run = run; number = 0 }; hand = k }
 
 -- What the image must be for the version to say all of it: version 2 has no gap; version 1 has no
--- gap, no deliveries and no names, whose nodes are the starting ones.
+-- gap, no number of reports and no names, whose nodes are the starting ones.
 pub record IsOfVersion (version : ℕ) (image : Image) : Type 0 where
   pub least : 1 ≤ version
   pub most : version ≤ 3
   pub gap : version ≤ 2 → image.gap ≡ pos 0
-  pub deliveries : version ≤ 1 → image.deliveries ≡ 0
+  pub heard : version ≤ 1 → image.heard ≡ 0
   pub starting : version ≤ 1 → AreStarting image.run image.nodes
 
 -- the bytes spell the image in some version

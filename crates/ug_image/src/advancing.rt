@@ -1,12 +1,10 @@
 ghost use Rattle.std.specs.Prelude.{◌≡◌, []};
 ghost use Rattle.ug_fields.specs.Lines.{IsNextLine};
 ghost use Rattle.ug_image.specs.Images.{IsImage};
-ghost use Rattle.ug_image.specs.Rests.{values_of, rest_at, from_front, from_problem, from_best, from_value, from_deliveries, from_node, from_change};
+ghost use Rattle.ug_image.specs.Rests.{values_of, rest_at, from_front, from_problem, from_best, from_value, from_heard, from_node, from_change};
 
 use crate::image::Image;
-use crate::lines::{
-    put_best_head, put_change, put_deliveries, put_front, put_node_head, put_value,
-};
+use crate::lines::{put_best_head, put_change, put_front, put_heard, put_node_head, put_value};
 use crate::stage::Stage;
 use ug_fields::Line;
 use ug_records::{RecordStage, record_length};
@@ -58,12 +56,12 @@ fn at_change(line: &mut Line, image: &Image, j: usize, k: usize) -> Stage
     Stage::Change(j, k + 1)
 }
 
-fn at_deliveries(line: &mut Line, image: &Image) -> Stage
+fn at_heard(line: &mut Line, image: &Image) -> Stage
     requires fresh { line.old ≡ [] }
     requires image { IsImage image.now }
-    ensures { IsNextLine (from_deliveries image.now) line.new (rest_at image.now result) }
+    ensures { IsNextLine (from_heard image.now) line.new (rest_at image.now result) }
 {
-    put_deliveries(line, image.deliveries, image.gap, image.nodes.len() as u64);
+    put_heard(line, image.heard, image.gap, image.nodes.len() as u64);
     Stage::Node(0)
 }
 
@@ -84,7 +82,7 @@ fn at_value(line: &mut Line, image: &Image, k: usize) -> Stage
 {
     let values = values(&image.best);
     if k >= values.len() {
-        return at_deliveries(line, image);
+        return at_heard(line, image);
     }
     put_value(line, values, k);
     Stage::Value(k + 1)

@@ -1,22 +1,22 @@
 ghost use Rattle.std.specs.Prelude.{◌≡◌};
 ghost use Rattle.ug_fields.specs.Reading.{Gives};
-ghost use Rattle.ug_image.specs.Reading.{deliveries_at, gap_at, counts_at};
+ghost use Rattle.ug_image.specs.Reading.{heard_at, gap_at, counts_at};
 
 use ug_fields::{Fault, amount_at, long_at};
 
 /// What stands between the best point and the nodes.
 #[derive(Clone, Copy)]
 pub struct Counts {
-    pub deliveries: u64,
+    pub heard: u64,
     pub gap: i128,
     /// How many nodes there are.
     pub nodes: u64,
 }
 
-// The deliveries: none before version 2.
-#[tactic(auto, unfolding(crate::specs::Reading::deliveries_at))]
-fn deliveries_at(bytes: &[u8], version: u8) -> Result<(u64, &[u8]), Fault>
-    ensures { Gives (λ x. (x.0, x.1.now)) result (deliveries_at version bytes.now) }
+// How many reports were heard: none before version 2.
+#[tactic(auto, unfolding(crate::specs::Reading::heard_at))]
+fn heard_at(bytes: &[u8], version: u8) -> Result<(u64, &[u8]), Fault>
+    ensures { Gives (λ x. (x.0, x.1.now)) result (heard_at version bytes.now) }
 {
     if version > 1 {
         long_at(bytes, 0)
@@ -39,18 +39,14 @@ fn gap_at(bytes: &[u8], version: u8) -> Result<(i128, &[u8]), Fault>
     }
 }
 
-/// The deliveries, the gap, and how many nodes there are.
+/// How many reports were heard, the gap, and how many nodes there are.
 #[tactic(auto, unfolding(crate::specs::Reading::counts_at))]
 pub fn counts_at(bytes: &[u8], version: u8) -> Result<(Counts, &[u8]), Fault>
     ensures { Gives (λ x. (x.0, x.1.now)) result (counts_at version bytes.now) }
 {
-    let (deliveries, rest) = deliveries_at(bytes, version)?;
+    let (heard, rest) = heard_at(bytes, version)?;
     let (gap, rest) = gap_at(rest, version)?;
     let (nodes, rest) = long_at(rest, 0)?;
-    let counts = Counts {
-        deliveries,
-        gap,
-        nodes,
-    };
+    let counts = Counts { heard, gap, nodes };
     Ok((counts, rest))
 }

@@ -63,7 +63,7 @@ fn behind_problem(
                 sequence: head.sequence,
                 problem,
                 best,
-                deliveries: counts.deliveries,
+                heard: counts.heard,
                 gap: counts.gap,
                 nodes,
             };

@@ -25,7 +25,7 @@ pub struct Image {
     /// The incumbent, which is feasible.
     pub best: Option<Point>,
     /// How many reports the run had heard.
-    pub deliveries: u64,
+    pub heard: u64,
     /// In units of the scaled objective, from 0 to 4*10^37.
     pub gap: i128,
     pub nodes: Saved,

@@ -1,7 +1,7 @@
 ghost use Rattle.std.specs.Prelude.{◌≡◌, ◌<◌, ◌^◌, [], pos, length, slice_index_or, IfSome};
 ghost use Rattle.ug_fields.specs.Spelling.{bound_field};
 ghost use Rattle.ug_image.specs.Spelling.{change_fields};
-ghost use Rattle.ug_image.specs.Rests.{front_line, deliveries_line, best_head, node_head};
+ghost use Rattle.ug_image.specs.Rests.{front_line, heard_line, best_head, node_head};
 
 use crate::image::SavedNode;
 use ug_fields::Line;
@@ -45,13 +45,13 @@ pub fn put_value(line: &mut Line, values: &[i32], k: usize)
     line.put_bound(values[k]);
 }
 
-/// The deliveries, the gap, and how many nodes there are.
-#[tactic(auto, unfolding(crate::specs::Rests::deliveries_line))]
-pub fn put_deliveries(line: &mut Line, deliveries: u64, gap: i128, nodes: u64)
+/// How many reports were heard, the gap, and how many nodes there are.
+#[tactic(auto, unfolding(crate::specs::Rests::heard_line))]
+pub fn put_heard(line: &mut Line, heard: u64, gap: i128, nodes: u64)
     requires { line.old ≡ [] }
-    ensures { line.new ≡ deliveries_line deliveries gap nodes }
+    ensures { line.new ≡ heard_line heard gap nodes }
 {
-    line.put_long(deliveries);
+    line.put_long(heard);
     line.put_number(gap);
     line.put_long(nodes);
 }

@@ -48,7 +48,7 @@ head_lines image best =
     named_line (codes "run") (decimal image.run)
     ++ named_line (codes "sequence") (decimal image.sequence)
     ++ named_line (codes "best") best
-    ++ named_line (codes "heard") (decimal image.deliveries)
+    ++ named_line (codes "heard") (decimal image.heard)
     ++ named_line (codes "gap") (signed_decimal image.gap)
     ++ named_line (codes "nodes") (decimal (length image.nodes))
 

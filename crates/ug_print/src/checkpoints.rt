@@ -57,7 +57,7 @@ fn push_head_lines(
     push_named_number(text, alloc, b"run", image.run)?;
     push_named_number(text, alloc, b"sequence", image.sequence)?;
     push_named(text, b"best", best)?;
-    push_named_number(text, alloc, b"heard", image.deliveries)?;
+    push_named_number(text, alloc, b"heard", image.heard)?;
     push_named_signed(text, alloc, b"gap", image.gap)?;
     push_named_number(text, alloc, b"nodes", image.nodes.len() as u64)
 }

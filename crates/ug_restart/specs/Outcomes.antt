@@ -48,7 +48,7 @@ HasFeasible b = IfSome b.best (Feasible b.problem)
 abbrev pub IsRight : BookState → Type 0
 IsRight b = Right b.problem b.settings.gap (one_kept b.best)
 
--- a node is held, and as many deliveries were heard as may be
+-- a node is held, and as many reports were heard as may be
 pub record IsLimited (b : BookState) : Type 0 where
   pub held : held_nodes b ≢ []
   pub spent : b.settings.limit ≤ b.heard

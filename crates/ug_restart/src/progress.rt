@@ -28,7 +28,7 @@ pub fn tell_begin<O: Observer>(observer: &O, alloc: Global, opening: &Opening) {
 pub fn tell_end<O: Observer>(observer: &O, end: &End) {
     match end {
         End::Answered(book) | End::Limited(book) | End::Stranded(book) => observer.end(
-            book.count(),
+            book.heard(),
         ),
         End::Memory => {}
     }
@@ -51,7 +51,7 @@ pub fn progress_of(alloc: Global, image: &Image, held: Option<i128>) -> Option<P
         None => None,
     };
     Some(Progress {
-        heard: image.deliveries,
+        heard: image.heard,
         best,
         bound,
         nodes: image.nodes.len(),

@@ -29,7 +29,7 @@ use Rattle.ug_rules.specs.Ranks.{racers_freed}
 use Rattle.ug_ranks.specs.Looks.{ticket_at}
 use Rattle.ug_rules.specs.Deaths.{killed}
 
--- one delivery more, up to the end of its count
+-- one report more, up to the end of its count
 abbrev pub counted : BookState → BookState
 counted b = record b { heard = (if nat_lt (b.heard + 1) (2 ^ 64) then b.heard + 1 else b.heard) }
 
@@ -208,7 +208,7 @@ is_deadly Memory = false
 abbrev pub killed_under : Heard → ℕ → BookState → BookState
 killed_under answer r b = (if is_deadly answer then killed r b else b)
 
--- a hand for which there is no memory counts for no delivery
+-- a hand for which there is no memory counts for no report
 abbrev pub counted_under : Heard → BookState → BookState
 counted_under Memory b = b
 counted_under answer b = counted b

@@ -47,7 +47,7 @@ IsTrueReport b r (Done ticket told count ending) =
     → IsTrueDone b.problem b.settings.gap (one_kept b.best) told c
 IsTrueReport b r Ended = Unit {0}
 
--- event by event: a delivery counted
+-- event by event: a report counted
 abbrev pub CountedKeeps : Type 0
 CountedKeeps = (b : BookState) → Keeps b (counted b)
 

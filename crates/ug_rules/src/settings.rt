@@ -13,9 +13,9 @@ pub struct Settings {
     pub low: u32,
     /// So many nodes in the pool are enough; at least `low`.
     pub high: u32,
-    /// How many deliveries lie between two saves.
+    /// How many reports lie between two saves.
     pub every: u64,
-    /// How many deliveries are taken at most.
+    /// How many reports are heard at most.
     pub limit: u64,
     /// How many open nodes a racer needs to win.
     pub winner: u64,

@@ -21,7 +21,7 @@ use Rattle.ug_frames.specs.ReportFrames as reports
 use Rattle.ug_frames.specs.Reports.{ticket_of}
 use Rattle.ug_frames.specs.Honest.{AreHonest, IsBoxOfHand}
 use Rattle.ug_stream.specs.Streams.{Waiting}
-use Rattle.ug_serve.specs.Courses.{IsCourse, Standing, beginning}
+use Rattle.ug_serve.specs.Courses.{IsCourse, ServerState, beginning}
 use Rattle.ug_serve.specs.CrewLaws.{AreReportsAt, reports_of}
 use Rattle.ug_serve.specs.Deeds.{Deed, Came, Took, Told}
 use Rattle.ug_serve.specs.Queues.{heard_in}
@@ -43,7 +43,7 @@ taken_of (Came bytes ∷ deeds) = taken_of deeds
 taken_of (Took order ∷ deeds) = order ∷ taken_of deeds
 taken_of (Told report ∷ deeds) = taken_of deeds
 
-pub taken_carried : (a : Standing) (deeds : List Deed) (b : Standing) → IsCourse a deeds b
+pub taken_carried : (a : ServerState) (deeds : List Deed) (b : ServerState) → IsCourse a deeds b
     → All orders.IsCarried (taken_of deeds)
 taken_carried a [] b same = All-nil orders.IsCarried
 taken_carried a (Came bytes ∷ deeds) b (mid, does, more) = taken_carried mid deeds b more
@@ -52,20 +52,20 @@ taken_carried a (Took order ∷ deeds) b (mid, does, more) =
 taken_carried a (Told report ∷ deeds) b (mid, does, more) = taken_carried mid deeds b more
 
 -- it is their frames, and what waits
-pub heard_parts : (a : Standing) (deeds : List Deed) (b : Standing) (before : List ℕ) → a.waiting.bad ≡ false
+pub heard_parts : (a : ServerState) (deeds : List Deed) (b : ServerState) (before : List ℕ) → a.waiting.bad ≡ false
     → heard_in a.said ≡ before ++ a.waiting.bytes → IsCourse a deeds b
     → heard_in b.said ≡ (before ++ flat_map orders.spelled (taken_of deeds)) ++ b.waiting.bytes
 heard_parts a [] b before fine same course =
-    ap (λ (s : Standing). heard_in s.said) course ∙ same
+    ap (λ (s : ServerState). heard_in s.said) course ∙ same
     ∙ ap (λ (t : List ℕ). t ++ a.waiting.bytes) (sym (append-nil before))
-    ∙ ap (λ (s : Standing). (before ++ []) ++ s.waiting.bytes) (sym course)
+    ∙ ap (λ (s : ServerState). (before ++ []) ++ s.waiting.bytes) (sym course)
 heard_parts a (Came bytes ∷ deeds) b before fine same (mid, does, more) =
     heard_parts mid deeds b before
-    (ap (λ (s : Standing). s.waiting.bad) does ∙ fed_fine a.waiting bytes fine)
-    (ap (λ (s : Standing). heard_in s.said) does ∙ heard_more a.said bytes
+    (ap (λ (s : ServerState). s.waiting.bad) does ∙ fed_fine a.waiting bytes fine)
+    (ap (λ (s : ServerState). heard_in s.said) does ∙ heard_more a.said bytes
     ∙ ap (λ (t : List ℕ). t ++ bytes) same ∙ append_assoc before a.waiting.bytes bytes
     ∙ ap (λ (w : Waiting). before ++ w.bytes)
-    (sym (ap (λ (s : Standing). s.waiting) does ∙ fed_so a.waiting bytes fine))) more
+    (sym (ap (λ (s : ServerState). s.waiting) does ∙ fed_so a.waiting bytes fine))) more
 heard_parts a (Took order ∷ deeds) b before fine same (mid, does, more) =
     heard_parts mid deeds b (before ++ orders.spelled order) does.given.still
     (ap (λ (s : List Said). heard_in s) does.said ∙ same

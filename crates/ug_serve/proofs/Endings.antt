@@ -9,7 +9,7 @@ use Rattle.ug_frames.specs.declared.order.Order.TheVariants as orders
 use Rattle.ug_frames.specs.declared.report.Report.{Report}
 use Rattle.ug_frames.specs.declared.report.Report.TheVariants.{Ready, Solution, Hand, State, Done, Ended}
 use Rattle.ug_frames.specs.ReportFrames as reports
-use Rattle.ug_serve.specs.Courses.{HasCome, IsCourse, Standing, beginning}
+use Rattle.ug_serve.specs.Courses.{HasCome, IsCourse, ServerState, beginning}
 use Rattle.ug_serve.specs.CrewLaws.{reports_of}
 use Rattle.ug_serve.specs.Deeds.{Blank, Busy, Came, Deed, Ending, Free, IsTaken, IsTold, Over, SetUp, Stage, Told, Took}
 use Rattle.ug_serve.specs.Endings.{ServicesEndInOneWay}
@@ -126,16 +126,16 @@ open_on Over shows over = shows
 
 -- ---- courses
 
-over_stays : (a : Standing) (deeds : List Deed) (b : Standing) → IsCourse a deeds b → is_over a.stage ≡ true
+over_stays : (a : ServerState) (deeds : List Deed) (b : ServerState) → IsCourse a deeds b → is_over a.stage ≡ true
     → is_over b.stage ≡ true
-over_stays a [] b same over = ap (λ (s : Standing). is_over s.stage) same ∙ over
+over_stays a [] b same over = ap (λ (s : ServerState). is_over s.stage) same ∙ over
 over_stays a (Came bytes ∷ deeds) b (mid, does, more) over =
-    over_stays mid deeds b more (ap (λ (s : Standing). is_over s.stage) does ∙ over)
+    over_stays mid deeds b more (ap (λ (s : ServerState). is_over s.stage) does ∙ over)
 over_stays a (Took order ∷ deeds) b (mid, does, more) over = absurd (none_taken a.stage order mid.stage does.taken over)
 over_stays a (Told report ∷ deeds) b (mid, does, more) over = absurd (none_told a.stage report mid.stage does.due over)
 
 -- where Ended was told it is over
-ended_over : (a : Standing) (deeds : List Deed) (b : Standing) → IsCourse a deeds b
+ended_over : (a : ServerState) (deeds : List Deed) (b : ServerState) → IsCourse a deeds b
     → Contains (reports_of deeds) Ended → is_over b.stage ≡ true
 ended_over a [] b same there = absurd (none_there Ended there)
 ended_over a (Came bytes ∷ deeds) b (mid, does, more) there = ended_over mid deeds b more there
@@ -148,11 +148,11 @@ ended_over a (Told report ∷ deeds) b (mid, does, more) there =
     ]
 
 -- and there alone
-over_ended : (a : Standing) (deeds : List Deed) (b : Standing) → IsCourse a deeds b → is_over a.stage ≡ false
+over_ended : (a : ServerState) (deeds : List Deed) (b : ServerState) → IsCourse a deeds b → is_over a.stage ≡ false
     → is_over b.stage ≡ true → Contains (reports_of deeds) Ended
-over_ended a [] b same not over = absurd (false≢true (sym not ∙ sym (ap (λ (s : Standing). is_over s.stage) same) ∙ over))
+over_ended a [] b same not over = absurd (false≢true (sym not ∙ sym (ap (λ (s : ServerState). is_over s.stage) same) ∙ over))
 over_ended a (Came bytes ∷ deeds) b (mid, does, more) not over =
-    over_ended mid deeds b more (ap (λ (s : Standing). is_over s.stage) does ∙ not) over
+    over_ended mid deeds b more (ap (λ (s : ServerState). is_over s.stage) does ∙ not) over
 over_ended a (Took order ∷ deeds) b (mid, does, more) not over = elim (cases_Bool (is_over mid.stage)) [
   | inl now ↦ absurd (taken_over a.stage order mid.stage does.taken now)
   | inr on ↦ over_ended mid deeds b more on over
@@ -164,7 +164,7 @@ over_ended a (Told report ∷ deeds) b (mid, does, more) not over = elim (cases_
 ]
 
 -- the same was said, so the same reports were told
-same_reports : (x y : Standing) (one : HasCome x) (two : HasCome y) → x.said ≡ y.said
+same_reports : (x y : ServerState) (one : HasCome x) (two : HasCome y) → x.said ≡ y.said
     → reports_of one.deeds ≡ reports_of two.deeds
 same_reports x y one two same =
     let none = one_way.short [] (inl (omega arith)) in

@@ -16,7 +16,7 @@ use Rattle.ug_frames.proofs.OrderReaders.{body_of as order_body, order_whole, or
 use Rattle.ug_frames.proofs.ReportReaders.{body_of, report_whole, report_small}
 use Rattle.ug_stream.specs.Laws.{IsReadInOneWay}
 use Rattle.ug_stream.proofs.Reading.{in_one_way}
-use Rattle.ug_serve.specs.Courses.{HasCome, IsCourse, Standing, beginning}
+use Rattle.ug_serve.specs.Courses.{HasCome, IsCourse, ServerState, beginning}
 use Rattle.ug_serve.specs.CrewLaws.{WorkersAreHeard, reports_of}
 use Rattle.ug_serve.specs.Deeds.{Deed, Came, Took, Told}
 use Rattle.ug_serve.specs.Queues.{heard_in, told_in}
@@ -71,14 +71,14 @@ front_orders os ns r carried also same =
 
 -- ---- what a course shows
 
-pub shown_told : (a : Standing) (deeds : List Deed) (b : Standing) → IsCourse a deeds b
+pub shown_told : (a : ServerState) (deeds : List Deed) (b : ServerState) → IsCourse a deeds b
     → told_in b.said ≡ told_in a.said ++ flat_map reports.spelled (reports_of deeds)
 shown_told a [] b same =
-    ap (λ (s : Standing). told_in s.said) same ∙ sym (append-nil (told_in a.said))
+    ap (λ (s : ServerState). told_in s.said) same ∙ sym (append-nil (told_in a.said))
 shown_told a (Came bytes ∷ deeds) b (mid, does, more) =
     shown_told mid deeds b more
     ∙ ap (λ (t : List ℕ). t ++ flat_map reports.spelled (reports_of deeds))
-    (ap (λ (s : Standing). told_in s.said) does ∙ told_still a.said bytes)
+    (ap (λ (s : ServerState). told_in s.said) does ∙ told_still a.said bytes)
 shown_told a (Took order ∷ deeds) b (mid, does, more) =
     shown_told mid deeds b more
     ∙ ap (λ (t : List ℕ). t ++ flat_map reports.spelled (reports_of deeds))
@@ -90,7 +90,7 @@ shown_told a (Told report ∷ deeds) b (mid, does, more) =
     ∙ append_assoc (told_in a.said) (reports.spelled report)
     (flat_map reports.spelled (reports_of deeds))
 
-pub all_carried : (a : Standing) (deeds : List Deed) (b : Standing) → IsCourse a deeds b
+pub all_carried : (a : ServerState) (deeds : List Deed) (b : ServerState) → IsCourse a deeds b
     → All reports.IsCarried (reports_of deeds)
 all_carried a [] b same = All-nil reports.IsCarried
 all_carried a (Came bytes ∷ deeds) b (mid, does, more) = all_carried mid deeds b more
@@ -99,16 +99,16 @@ all_carried a (Told report ∷ deeds) b (mid, does, more) =
     All-cons reports.IsCarried report (reports_of deeds) does.carried
     (all_carried mid deeds b more)
 
-shown_heard : (a : Standing) (deeds : List Deed) (b : Standing) → IsCourse a deeds b
+shown_heard : (a : ServerState) (deeds : List Deed) (b : ServerState) → IsCourse a deeds b
     → (more : List ℕ) × (heard_in b.said ≡ heard_in a.said ++ more)
 shown_heard a [] b same =
-    ([], ap (λ (s : Standing). heard_in s.said) same ∙ sym (append-nil (heard_in a.said)))
+    ([], ap (λ (s : ServerState). heard_in s.said) same ∙ sym (append-nil (heard_in a.said)))
 shown_heard a (Came bytes ∷ deeds) b (mid, does, more) =
     let rest = shown_heard mid deeds b more in (
       bytes ++ rest.0,
       rest.1
           ∙ ap (λ (t : List ℕ). t ++ rest.0)
-          (ap (λ (s : Standing). heard_in s.said) does ∙ heard_more a.said bytes)
+          (ap (λ (s : ServerState). heard_in s.said) does ∙ heard_more a.said bytes)
           ∙ append_assoc (heard_in a.said) bytes rest.0,
     )
 shown_heard a (Took order ∷ deeds) b (mid, does, more) =
@@ -128,9 +128,9 @@ shown_heard a (Told report ∷ deeds) b (mid, does, more) =
 -- ---- a front of a course
 
 -- by these deeds just these reports were told, and no more was heard than by all
-record IsCut (a : Standing) (taken : List Report) (b : Standing) : Type 0 where
+record IsCut (a : ServerState) (taken : List Report) (b : ServerState) : Type 0 where
   deeds : List Deed
-  now : Standing
+  now : ServerState
   course : IsCourse a deeds now
   told : reports_of deeds ≡ taken
   ahead : List ℕ
@@ -144,7 +144,7 @@ abbrev behind_first : List Report → List Report
 behind_first [] = []
 behind_first (r ∷ rs) = rs
 
-cut : (a : Standing) (deeds : List Deed) (b : Standing) (taken more : List Report)
+cut : (a : ServerState) (deeds : List Deed) (b : ServerState) (taken more : List Report)
     → IsCourse a deeds b → reports_of deeds ≡ taken ++ more → IsCut a taken b
 cut a deeds b [] more course its =
     let rest = shown_heard a deeds b course in
@@ -188,13 +188,13 @@ cut a (Told report ∷ deeds) b (r ∷ rs) more (mid, does, rest) its =
 -- deeds by which all that it shows was told, and maybe the rest of a report
 record IsWhole (shown : List Said) : Type 0 where
   deeds : List Deed
-  now : Standing
+  now : ServerState
   course : IsCourse beginning deeds now
   rest : List ℕ
   told : flat_map reports.spelled (reports_of deeds) ≡ told_in shown ++ rest
   came : heard_in now.said ≡ heard_in shown
 
-whole : (now : Standing) (shown : List Said) → HasCome now → (shown ≡ now.said) ⊎ IsPartTold now shown
+whole : (now : ServerState) (shown : List Said) → HasCome now → (shown ≡ now.said) ⊎ IsPartTold now shown
     → IsWhole shown
 whole now shown come (inl same) = record {
   deeds = come.deeds;
@@ -206,7 +206,7 @@ whole now shown come (inl same) = record {
   came = ap (λ (s : List Said). heard_in s) (sym same);
 }
 whole now shown come (inr part) =
-    let end : Standing = record {
+    let end : ServerState = record {
       said = now.said ++ told (reports.spelled part.report);
       waiting = now.waiting;
       stage = part.next;

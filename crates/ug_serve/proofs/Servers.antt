@@ -13,7 +13,7 @@ use Rattle.ug_serve.specs.declared.server.Post.{Post}
 use Rattle.ug_serve.specs.declared.server.Progress.{Progress}
 use Rattle.ug_serve.specs.declared.server.Server.{Server}
 use Rattle.ug_serve.specs.declared.wire.Wire.{Wire}
-use Rattle.ug_serve.specs.Courses.{Standing}
+use Rattle.ug_serve.specs.Courses.{ServerState}
 use Rattle.ug_serve.specs.Deeds.{Basis, Blank, Stage}
 use Rattle.ug_worker.specs.Engagements.{Engaged}
 use Rattle.ug_serve.specs.SeatViews.{seat_seen}
@@ -85,7 +85,7 @@ module _ {L : Type 0} (seen : L → LinkSeen) where
   -- ---- what the link shows
 
   posted_on : (post : Option Post) (wire : Wire L) → wire.end ≡ None → is_posted seen post wire
-      → (now : Standing) × IsOn (seen wire.link) now
+      → (now : ServerState) × IsOn (seen wire.link) now
   posted_on None wire none h = (record { said = h.said; waiting = wire.orders; stage = Blank }, h.on)
   posted_on (Some post) wire none h =
       let w = work_seated (seat_seen seen wire post.kept) post.worker.tally post.worker.search h in
@@ -95,7 +95,7 @@ module _ {L : Type 0} (seen : L → LinkSeen) where
       (record { said = on.said; waiting = wire.orders; stage = stage }, on.on)
 
   pub server_on : (post : Option Post) (wire : Wire L) → wire.end ≡ None
-      → is_server seen wire.end post wire → (now : Standing) × IsOn (seen wire.link) now
+      → is_server seen wire.end post wire → (now : ServerState) × IsOn (seen wire.link) now
   server_on post wire none h =
       posted_on post wire none (subst (λ (e : Option Served). is_server seen e post wire) none h)
 
@@ -180,22 +180,22 @@ same_serving progress a b same h = subst (λ (s : LinkSeen). IsServing s progres
 
 -- ---- what a link shows that tells what was said
 
-front_on : (seen : LinkSeen) (now : Standing) → IsOn seen now → IsFront seen now
+front_on : (seen : LinkSeen) (now : ServerState) → IsOn seen now → IsFront seen now
 front_on seen now on = record { come = on.come; said = said_front now seen.said on.said }
 
-front_served : (seen : LinkSeen) (end : Served) → HasServed seen end → (now : Standing) × IsFront seen now
+front_served : (seen : LinkSeen) (end : Served) → HasServed seen end → (now : ServerState) × IsFront seen now
 front_served seen Ended h = (h.now, front_on seen h.now h.on)
 front_served seen LinkFault h = (h.now, h.front)
 front_served seen (BadFrame at) h = (h.now, front_on seen h.now h.on)
 front_served seen Memory h = (h.now, h.front)
 
 front_by : {L : Type 0} (seen : L → LinkSeen) (end : Option Served) (post : Option Post) (wire : Wire L)
-    → wire.end ≡ end → is_server seen end post wire → (now : Standing) × IsFront (seen wire.link) now
+    → wire.end ≡ end → is_server seen end post wire → (now : ServerState) × IsFront (seen wire.link) now
 front_by seen None post wire same h =
     let on = posted_on seen post wire same h in (on.0, front_on (seen wire.link) on.0 on.1)
 front_by seen (Some end) post wire same h = front_served (seen wire.link) end h
 
 -- a worker's deeds led to a standing, and its link shows that, or a part of a report more
 pub server_front : {L : Type 0} (seen : L → LinkSeen) (server : Server L) → IsServer seen server
-    → (now : Standing) × IsFront (seen server.wire.link) now
+    → (now : ServerState) × IsFront (seen server.wire.link) now
 server_front seen server h = front_by seen server.wire.end server.post server.wire refl h

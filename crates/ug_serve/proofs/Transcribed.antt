@@ -29,7 +29,7 @@ use Rattle.ug_worker.specs.Engagements.{Engaged, IsFoundBy, IsRenewed, IsStatedB
 use Rattle.ug_worker.specs.Renewals.{begun, counted}
 use Rattle.ug_serve.specs.Deeds.{Basis, Deed, Came, Took, Told, IsBegun, IsDoneTold, IsHandTold, IsSetUp, IsTaken, IsTold}
 use Rattle.ug_serve.specs.Deeds.{Stage, Blank, SetUp, Free, Busy, Ending, Over}
-use Rattle.ug_serve.specs.Courses.{IsCourse, Standing, beginning}
+use Rattle.ug_serve.specs.Courses.{IsCourse, ServerState, beginning}
 use Rattle.ug_serve.specs.Transcripts.{AreSaid, IsBoxTold, IsEndOfTask, IsKnown, IsRestTold, IsSaid, IsSetUpWith, IsTranscript, IsUnder, Ordered, box_of, last_work, reports_in, since_work, told_since, turned, work_of}
 use Rattle.ug_serve.specs.Laws.{CoursesAreTranscripts}
 use Rattle.ug_worker.proofs.Quiet.{last_below}
@@ -625,13 +625,13 @@ told_holds past report Over new carried told holds = absurd told
 
 -- ---- from the beginning
 
-course_holds : (past : List Deed) (old : Standing) (deeds : List Deed) (now : Standing) → IsCourse old deeds now
+course_holds : (past : List Deed) (old : ServerState) (deeds : List Deed) (now : ServerState) → IsCourse old deeds now
     → Holds past old.stage → Holds (turned past deeds) now.stage
 course_holds past old [] now same holds =
-    subst (λ (s : Standing). Holds past s.stage) (sym same) holds
+    subst (λ (s : ServerState). Holds past s.stage) (sym same) holds
 course_holds past old (Came bytes ∷ deeds) now (mid, does, more) holds =
     course_holds (Came bytes ∷ past) mid deeds now more
-    (subst (λ (s : Standing). Holds (Came bytes ∷ past) s.stage) (sym does)
+    (subst (λ (s : ServerState). Holds (Came bytes ∷ past) s.stage) (sym does)
     (came_holds past bytes old.stage holds))
 course_holds past old (Took order ∷ deeds) now (mid, does, more) holds =
     course_holds (Took order ∷ past) mid deeds now more

@@ -13,19 +13,19 @@ use Rattle.ug_frames.specs.ReportFrames as reports
 use Rattle.ug_stream.specs.Streams.{IsBadAt, Waiting, fed}
 use Rattle.ug_serve.specs.Tellings.{HasToldAll, HasToldFront}
 use Rattle.ug_serve.specs.Deeds.{Deed, Came, Took, Told, Stage, IsTaken, IsTold}
-use Rattle.ug_serve.specs.Courses.{Does, HasCome, IsCourse, IsFresh, Standing, beginning}
+use Rattle.ug_serve.specs.Courses.{Does, HasCome, IsCourse, IsFresh, ServerState, beginning}
 use Rattle.ug_serve.specs.Serving.{HasFailed, HasMetBad, HasNext, HasWanted, IsOn, IsOpen, IsPartTold, StandsOn}
 
 -- ---- one deed more
 
-pub course_more : (a : Standing) (deeds : List Deed) (b c : Standing) (deed : Deed) → IsCourse a deeds b
+pub course_more : (a : ServerState) (deeds : List Deed) (b c : ServerState) (deed : Deed) → IsCourse a deeds b
     → Does b deed c → IsCourse a (deeds ++ deed ∷ []) c
 course_more a [] b c deed same does =
-    (c, subst (λ (old : Standing). Does old deed c) same does, refl)
+    (c, subst (λ (old : ServerState). Does old deed c) same does, refl)
 course_more a (first ∷ deeds) b c deed (mid, done, more) does =
     (mid, done, course_more mid deeds b c deed more does)
 
-pub come_more : (b c : Standing) (deed : Deed) → HasCome b → Does b deed c → HasCome c
+pub come_more : (b c : ServerState) (deed : Deed) → HasCome b → Does b deed c → HasCome c
 come_more b c deed h does = record {
   deeds = h.deeds ++ deed ∷ [];
   course = course_more beginning h.deeds b c deed h.course does;
@@ -40,18 +40,18 @@ fed_so w bytes fine = rw fine refl
 pub fed_fine : (w : Waiting) (bytes : List ℕ) → w.bad ≡ false → (fed w bytes).bad ≡ false
 fed_fine w bytes fine = ap (λ (fed : Waiting). fed.bad) (fed_so w bytes fine) ∙ fine
 
-course_fine : (a : Standing) (deeds : List Deed) (b : Standing) → a.waiting.bad ≡ false
+course_fine : (a : ServerState) (deeds : List Deed) (b : ServerState) → a.waiting.bad ≡ false
     → IsCourse a deeds b → b.waiting.bad ≡ false
-course_fine a [] b fine same = ap (λ (now : Standing). now.waiting.bad) same ∙ fine
+course_fine a [] b fine same = ap (λ (now : ServerState). now.waiting.bad) same ∙ fine
 course_fine a (Came bytes ∷ deeds) b fine (mid, done, more) =
     course_fine mid deeds b
-    (ap (λ (now : Standing). now.waiting.bad) done ∙ fed_fine a.waiting bytes fine) more
+    (ap (λ (now : ServerState). now.waiting.bad) done ∙ fed_fine a.waiting bytes fine) more
 course_fine a (Took order ∷ deeds) b fine (mid, done, more) =
     course_fine mid deeds b done.given.still more
 course_fine a (Told report ∷ deeds) b fine (mid, done, more) =
     course_fine mid deeds b (ap (λ (w : Waiting). w.bad) done.waiting ∙ fine) more
 
-come_fine : (b : Standing) → HasCome b → b.waiting.bad ≡ false
+come_fine : (b : ServerState) → HasCome b → b.waiting.bad ≡ false
 come_fine b h = course_fine beginning h.deeds b refl h.course
 
 -- ---- what the link tells
@@ -69,7 +69,7 @@ said_same : (a b : Option (List Said)) (said : List Said) → b ≡ a
 said_same a b said e same = subst (λ (o : Option (List Said)). IfSome o (λ s. s ≡ said)) (sym e) same
 
 -- all that was said, and no part of a report beside it
-pub said_front : (now : Standing) (b : Option (List Said)) → IfSome b (λ s. s ≡ now.said)
+pub said_front : (now : ServerState) (b : Option (List Said)) → IfSome b (λ s. s ≡ now.said)
     → IfSome b (λ s. (s ≡ now.said) ⊎ IsPartTold now s)
 said_front now None same = tt
 said_front now (Some s) same = inl same
@@ -86,7 +86,7 @@ on_fresh seen fresh = record {
 
 -- ---- bytes that come
 
-abbrev came : List Said → Waiting → Stage → List ℕ → Standing
+abbrev came : List Said → Waiting → Stage → List ℕ → ServerState
 came said w stage bytes =
     record { said = said ++ heard bytes; waiting = fed w bytes; stage = stage }
 
@@ -125,14 +125,14 @@ wanted_came old new w stage bytes adds s = record {
 -- nothing came, and memory ran out
 pub wanted_on : (seen : LinkSeen) (w : Waiting) (stage : Stage) → StandsOn seen w stage → HasWanted seen
 wanted_on seen w stage s =
-    let now : Standing = record { said = s.said; waiting = w; stage = stage } in
+    let now : ServerState = record { said = s.said; waiting = w; stage = stage } in
     record { now = now; front = record { come = s.on.come; said = said_front now seen.said s.on.said } }
 
 -- bad bytes
 pub bad_on : (seen : LinkSeen) (w new : Waiting) (stage : Stage) (at : ℕ) → IsOpen stage
     → IsBadAt orders.IsCarried orders.spelled w new at → StandsOn seen w stage → HasMetBad seen at
 bad_on seen w new stage at running bad s =
-    let now : Standing = record { said = s.said; waiting = w; stage = stage } in
+    let now : ServerState = record { said = s.said; waiting = w; stage = stage } in
     let fine = come_fine now s.on.come in
     record {
       now = now;
@@ -199,7 +199,7 @@ on_told old new w s t report due carried all faults h = record {
   };
 }
 
-part_told : (now : Standing) (report : Report) (next : Stage) (front rest : List ℕ)
+part_told : (now : ServerState) (report : Report) (next : Stage) (front rest : List ℕ)
     (b : Option (List Said)) → IsTold now.stage report next → reports.IsCarried report
     → reports.spelled report ≡ front ++ rest
     → IfSome b (λ s. s ≡ now.said ++ told front)
@@ -225,7 +225,7 @@ pub failed_told : (old new : LinkSeen) (w : Waiting) (s t : Stage) (report : Rep
     → IsTold s report t → reports.IsCarried report → HasToldFront old new (reports.spelled report)
     → Rose old.faults new.faults → StandsOn old w s → HasFailed new
 failed_told old new w s t report due carried front rose h =
-    let now : Standing = record { said = h.said; waiting = w; stage = s } in
+    let now : ServerState = record { said = h.said; waiting = w; stage = s } in
     record {
       now = now;
       front = record {

@@ -11,42 +11,42 @@ use Rattle.ug_serve.specs.Deeds.{Deed, Came, Took, Told, Stage, Blank, IsTaken, 
 
 -- what was said over the link, the bytes that came and of which no order was taken yet, and where
 -- the worker stands
-pub record Standing : Type 0 where
+pub record ServerState : Type 0 where
   pub said : List Said
   pub waiting : Waiting
   pub stage : Stage
 
 -- before anything was said
-abbrev pub beginning : Standing
+abbrev pub beginning : ServerState
 beginning = record { said = []; waiting = first; stage = Blank }
 
 -- an order was taken whose frame was the front of what waited
-pub record TakesOrder (old new : Standing) (order : Order) : Type 0 where
+pub record TakesOrder (old new : ServerState) (order : Order) : Type 0 where
   pub given : IsGiven orders.IsCarried orders.spelled old.waiting new.waiting order
   pub taken : IsTaken old.stage order new.stage
   pub said : new.said ≡ old.said
 
 -- a report was told, by its frame
-pub record TellsReport (old new : Standing) (report : Report) : Type 0 where
+pub record TellsReport (old new : ServerState) (report : Report) : Type 0 where
   pub carried : reports.IsCarried report
   pub due : IsTold old.stage report new.stage
   pub said : new.said ≡ old.said ++ told (reports.spelled report)
   pub waiting : new.waiting ≡ old.waiting
 
 -- what a deed does
-abbrev pub Does : Standing → Deed → Standing → Type 0
+abbrev pub Does : ServerState → Deed → ServerState → Type 0
 Does old (Came bytes) new =
     new ≡ record old { said = old.said ++ heard bytes; waiting = fed old.waiting bytes }
 Does old (Took order) new = TakesOrder old new order
 Does old (Told report) new = TellsReport old new report
 
--- the deeds lead from one standing to the other
-abbrev pub IsCourse : Standing → List Deed → Standing → Type 0
+-- the deeds lead from one state to the other
+abbrev pub IsCourse : ServerState → List Deed → ServerState → Type 0
 IsCourse old [] new = new ≡ old
-IsCourse old (deed ∷ deeds) new = (mid : Standing) × Does old deed mid × IsCourse mid deeds new
+IsCourse old (deed ∷ deeds) new = (mid : ServerState) × Does old deed mid × IsCourse mid deeds new
 
--- a worker's deeds, from the beginning, led to this standing
-pub record HasCome (now : Standing) : Type 0 where
+-- a worker's deeds, from the beginning, led to this state
+pub record HasCome (now : ServerState) : Type 0 where
   pub deeds : List Deed
   pub course : IsCourse beginning deeds now
 

@@ -4,7 +4,7 @@ use Rattle.std.specs.List.{flat_map}
 use Rattle.ug_io.specs.declared.crew.Exchange.{Exchange}
 use Rattle.ug_frames.specs.declared.report.Report.{Report}
 use Rattle.ug_frames.specs.ReportFrames as reports
-use Rattle.ug_serve.specs.Courses.{IsCourse, Standing, beginning}
+use Rattle.ug_serve.specs.Courses.{IsCourse, ServerState, beginning}
 use Rattle.ug_serve.specs.Deeds.{Deed, Came, Took, Told}
 use Rattle.ug_serve.specs.Queues.{heard_in}
 use Rattle.ug_serve.specs.Staffs.{IsWorked, heard_at, told_at}
@@ -27,7 +27,7 @@ pub record AreReportsAt (said : List Exchange) (rank : ℕ) (heard : List Report
 -- a front of the bytes that were told to the rank is all that it heard until then
 pub record IsTeller (said : List Exchange) (rank : ℕ) (heard : List Report) (deeds : List Deed)
     : Type 0 where
-  pub now : Standing
+  pub now : ServerState
   pub course : IsCourse beginning deeds now
   pub transcript : IsTranscript (turned [] deeds)
   pub told : reports_of deeds ≡ heard

@@ -7,13 +7,13 @@ use Rattle.ug_nodes.specs.Changes.{area_by}
 use Rattle.ug_frames.specs.declared.report.Report.{Report}
 use Rattle.ug_frames.specs.Honest.{AreHonest}
 use Rattle.ug_serve.specs.Deeds.{Deed, Came, Took, Told}
-use Rattle.ug_serve.specs.Courses.{IsCourse, Standing, beginning}
+use Rattle.ug_serve.specs.Courses.{IsCourse, ServerState, beginning}
 use Rattle.ug_serve.specs.Transcripts.{IsSetUpWith, IsTranscript, Ordered, order_of, reports_in}
 use Rattle.ug_serve.specs.Transcripts.{turned, work_of}
 
 -- what a worker does from the beginning, whatever it hears, is a transcript
 abbrev pub CoursesAreTranscripts : Type 0
-CoursesAreTranscripts = (deeds : List Deed) (now : Standing) → IsCourse beginning deeds now
+CoursesAreTranscripts = (deeds : List Deed) (now : ServerState) → IsCourse beginning deeds now
     → IsTranscript (turned [] deeds)
 
 -- the ticket of an order of work, if it is one

@@ -9,7 +9,7 @@ use Rattle.ug_frames.specs.Fronts.{BeginsWith, IsDecoded}
 use Rattle.ug_frames.specs.OrderFrames as orders
 use Rattle.ug_frames.specs.ReportFrames as reports
 use Rattle.ug_stream.specs.Streams.{IsGiven, Waiting}
-use Rattle.ug_serve.specs.Courses.{HasCome, Standing}
+use Rattle.ug_serve.specs.Courses.{HasCome, ServerState}
 use Rattle.ug_serve.specs.Deeds.{Blank, Busy, Ending, Free, Over, SetUp, Stage, IsTaken, IsTold}
 use Rattle.ug_serve.specs.declared.served.Served.{Served}
 use Rattle.ug_serve.specs.declared.served.Served.TheVariants.{BadFrame, Ended, LinkFault, Memory}
@@ -23,9 +23,9 @@ IsOpen (Busy basis tally e) = Unit {0}
 IsOpen Ending = ⊥
 IsOpen Over = ⊥
 
--- a worker's deeds led to this standing; the link, where it tells what was said, tells the same; it
+-- a worker's deeds led to this state; the link, where it tells what was said, tells the same; it
 -- has not ended, and no call of it failed
-pub record IsOn (seen : LinkSeen) (now : Standing) : Type 0 where
+pub record IsOn (seen : LinkSeen) (now : ServerState) : Type 0 where
   pub come : HasCome now
   pub said : IfSome seen.said (λ said. said ≡ now.said)
   pub ended : seen.ended ≡ false
@@ -37,7 +37,7 @@ pub record StandsOn (seen : LinkSeen) (waiting : Waiting) (stage : Stage) : Type
   pub on : IsOn seen (record { said = said; waiting = waiting; stage = stage })
 
 -- beside what was said then, a front was told of the frame of a report that was due
-pub record IsPartTold (now : Standing) (said : List Said) : Type 0 where
+pub record IsPartTold (now : ServerState) (said : List Said) : Type 0 where
   pub report : Report
   pub next : Stage
   pub due : IsTold now.stage report next
@@ -48,7 +48,7 @@ pub record IsPartTold (now : Standing) (said : List Said) : Type 0 where
   pub same : said ≡ now.said ++ told front
 
 -- what was told is a front of what a worker tells
-pub record IsFront (seen : LinkSeen) (now : Standing) : Type 0 where
+pub record IsFront (seen : LinkSeen) (now : ServerState) : Type 0 where
   pub come : HasCome now
   pub said : IfSome seen.said (λ said. (said ≡ now.said) ⊎ IsPartTold now said)
 
@@ -60,7 +60,7 @@ pub record IsCutOff (seen : LinkSeen) (stage : Stage) : Type 0 where
 
 -- a call of the link failed, or it ended before the end was ordered
 pub record HasFailed (seen : LinkSeen) : Type 0 where
-  pub now : Standing
+  pub now : ServerState
   pub front : IsFront seen now
   pub cause : (0 < seen.faults) ⊎ IsCutOff seen now.stage
 
@@ -73,7 +73,7 @@ pub record IsUndue (stage : Stage) (bytes : List ℕ) : Type 0 where
 -- from this place on, behind whole orders that were due, none of them End, the bytes that came are
 -- bad, or begin with an order that is not due
 pub record HasMetBad (seen : LinkSeen) (at : ℕ) : Type 0 where
-  pub now : Standing
+  pub now : ServerState
   pub on : IsOn seen now
   pub place : at ≡ now.waiting.at
   pub running : IsOpen now.stage
@@ -82,13 +82,13 @@ pub record HasMetBad (seen : LinkSeen) (at : ℕ) : Type 0 where
 
 -- the end was ordered, and Ended was told
 pub record HasEnded (seen : LinkSeen) : Type 0 where
-  pub now : Standing
+  pub now : ServerState
   pub on : IsOn seen now
   pub over : now.stage ≡ Over
 
 -- memory ran out, and what was told is a front of what a worker tells
 pub record HasWanted (seen : LinkSeen) : Type 0 where
-  pub now : Standing
+  pub now : ServerState
   pub front : IsFront seen now
 
 -- how the service of a link ended

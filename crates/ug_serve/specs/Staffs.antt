@@ -5,7 +5,7 @@ use Rattle.ug_io.specs.declared.crew.Exchange.{Exchange}
 use Rattle.ug_io.specs.declared.crew.Exchange.TheVariants.{Heard, Told, Gone}
 use Rattle.ug_io.specs.declared.link.Said.{Said}
 use Rattle.ug_serve.specs.declared.server.Server.{Server}
-use Rattle.ug_serve.specs.Courses.{HasCome, Standing}
+use Rattle.ug_serve.specs.Courses.{HasCome, ServerState}
 use Rattle.ug_serve.specs.Queues.{IsQueue, Queue, heard_in, queue_seen, told_in}
 use Rattle.ug_serve.specs.Servers.{IsServer}
 use Rattle.ug_serve.specs.Serving.{IsPartTold}
@@ -29,11 +29,11 @@ told_at rank (Heard other byte ∷ said) = told_at rank said
 told_at rank (Told other byte ∷ said) = with (other == rank) byte (told_at rank said)
 told_at rank (Gone other ∷ said) = told_at rank said
 
--- A worker's deeds led from the beginning to a standing. What its link shows is that, or a part of
+-- A worker's deeds led from the beginning to a state. What its link shows is that, or a part of
 -- the frame of a report more that was due. A front of the bytes that were told to the rank is what
 -- the worker heard, and a front of what it told is what was heard from the rank.
 pub record IsWorked (said : List Exchange) (rank : ℕ) : Type 0 where
-  pub now : Standing
+  pub now : ServerState
   pub come : HasCome now
   pub shown : List Said
   pub shows : (shown ≡ now.said) ⊎ IsPartTold now shown

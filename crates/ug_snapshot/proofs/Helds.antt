@@ -155,7 +155,7 @@ module _ (b : BookState) (nodes : List Node) (is : IsBook b) (are : ArePrimitive
         sequence_fits = numbers'.sequence;
         problem = is.problem;
         best = is.incumbent;
-        deliveries = numbers'.deliveries;
+        heard = numbers'.heard;
         gap = is.settings.gap;
         count = numbers'.count;
         nodes = are_saved hands';

@@ -23,14 +23,15 @@ pub record ArePrimitive (b : BookState) (nodes : List Node) : Type 0 where
   pub each : (n : Node) → Contains nodes n ↔ IsPrimitive (held_nodes b) n
   pub rising : AllPairs IsNamedBefore nodes
 
--- the book's problem, run, incumbent, deliveries and gap under this sequence, with these nodes
+-- the book's problem, run, incumbent, number of reports and gap under this sequence, with these
+-- nodes
 abbrev pub image_with : BookState → List Node → ℕ → Image
 image_with b nodes sequence = record {
   run = b.run;
   sequence = sequence;
   problem = b.problem;
   best = b.best;
-  deliveries = b.heard;
+  heard = b.heard;
   gap = b.settings.gap;
   nodes = map saved_of nodes;
 }
@@ -59,5 +60,5 @@ HaveHands nodes = (k : ℕ) → k < length nodes → (node_at nodes k).name.hand
 pub record HasNumbers (image : Image) : Type 0 where
   pub run : image.run < 2 ^ 64
   pub sequence : image.sequence < 2 ^ 64
-  pub deliveries : image.deliveries < 2 ^ 64
+  pub heard : image.heard < 2 ^ 64
   pub count : length image.nodes < 2 ^ 64

@@ -63,7 +63,7 @@ fn with_nodes(
         sequence,
         problem,
         best,
-        deliveries: book.count(),
+        heard: book.heard(),
         gap: book.settings().gap,
         nodes,
     })

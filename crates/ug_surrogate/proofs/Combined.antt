@@ -13,7 +13,7 @@ use Rattle.ug_rows.proofs.EndBounds.{mul_pos}
 use Rattle.ug_problem.specs.Instances.{AreTerms, Instance}
 use Rattle.ug_problem.specs.Limits.{IsProblem}
 use Rattle.ug_surrogate.specs.declared.multipliers.Multipliers.{Multipliers}
-use Rattle.ug_surrogate.specs.Columns.{Part, factor_of, parts_of}
+use Rattle.ug_surrogate.specs.Columns.{WeightedTerms, factor_of, parts_of}
 use Rattle.ug_surrogate.specs.Implied.{AreColumnsBelow, ImpliedIsKept, IsImplied, columns_at, implied_high}
 use Rattle.ug_surrogate.specs.Weights.{AreMultipliers}
 use Rattle.ug_surrogate.proofs.Below.{weighted_below}
@@ -35,11 +35,11 @@ far_below (negsuc z) (pos zero) h k = omega (arith, ints, h, k)
 far_below (negsuc z) (pos (suc n)) h k = omega (arith, ints, h, k)
 far_below (negsuc z) (negsuc n) h k = omega (arith, ints, h, k)
 
-columns_are : (n : ℕ) (parts : List Part) (x : List ℤ) → columns_at n parts x ≡ parts_below n parts x
+columns_are : (n : ℕ) (parts : List WeightedTerms) (x : List ℤ) → columns_at n parts x ≡ parts_below n parts x
 columns_are zero parts x = sym (parts_none parts x)
 columns_are (suc n) parts x = omega (arith, ints, columns_are n parts x, parts_more n parts x)
 
-columns_next : (n : ℕ) (parts : List Part) (x : List ℤ)
+columns_next : (n : ℕ) (parts : List WeightedTerms) (x : List ℤ)
     → columns_at (n + 1) parts x ≡ columns_at n parts x +ℤ (factor_of n parts *ℤ value_at x n)
 columns_next n parts x = let e : n + 1 ≡ suc n = omega arith in ap (λ (k : ℕ). columns_at k parts x) e
 

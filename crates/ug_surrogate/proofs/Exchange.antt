@@ -17,7 +17,7 @@ use Rattle.ug_surrogate.specs.declared.multipliers.Side.{Side}
 use Rattle.ug_surrogate.specs.declared.multipliers.Side.TheVariants.{Low, High}
 use Rattle.ug_surrogate.specs.declared.multipliers.Multiplier.{Multiplier}
 use Rattle.ug_surrogate.specs.declared.multipliers.Multipliers.{Multipliers}
-use Rattle.ug_surrogate.specs.Columns.{Part, constant_of, factor_at, factor_in, factor_of, least_below, least_product, least_to, parts_of, parts_under, sides_under, signed_for}
+use Rattle.ug_surrogate.specs.Columns.{WeightedTerms, constant_of, factor_at, factor_in, factor_of, least_below, least_product, least_to, parts_of, parts_under, sides_under, signed_for}
 use Rattle.ug_surrogate.specs.Weights.{AreMultipliers, HasSide, IsLeastWeighted, excess_over, excesses_at, multiplier_at, side_under, weighted_at}
 use Rattle.ug_surrogate.proofs.Ring.{add_mul, mul_add, mul_assoc, mul_less, neg_mul}
 
@@ -53,18 +53,18 @@ sum_whole n [] x there = refl
 sum_whole n (t ∷ ts) x there = rw (lt-ltb t.column n there.0) (omega (arith, ints, sum_whole n ts x there.1))
 
 -- the parts at x
-abbrev pub parts_at : List Part → List ℤ → ℤ
+abbrev pub parts_at : List WeightedTerms → List ℤ → ℤ
 parts_at [] x = pos 0
 parts_at (part ∷ parts) x = (part.weight *ℤ sum_at part.terms x) +ℤ parts_at parts x
 
-abbrev pub parts_below : ℕ → List Part → List ℤ → ℤ
+abbrev pub parts_below : ℕ → List WeightedTerms → List ℤ → ℤ
 parts_below n [] x = pos 0
 parts_below n (part ∷ parts) x = (part.weight *ℤ sum_below n part.terms x) +ℤ parts_below n parts x
 
 part_more : (w a b f v : ℤ) → a ≡ b +ℤ (f *ℤ v) → w *ℤ a ≡ (w *ℤ b) +ℤ ((w *ℤ f) *ℤ v)
 part_more w a b f v e = ap (λ (z : ℤ). w *ℤ z) e ∙ mul_add w b (f *ℤ v) ∙ ap (λ (z : ℤ). (w *ℤ b) +ℤ z) (mul_assoc w f v)
 
-pub parts_more : (n : ℕ) (parts : List Part) (x : List ℤ)
+pub parts_more : (n : ℕ) (parts : List WeightedTerms) (x : List ℤ)
     → parts_below (suc n) parts x ≡ parts_below n parts x +ℤ (factor_of n parts *ℤ value_at x n)
 parts_more n [] x = omega (arith, ints, zero-*ℤ (value_at x n))
 parts_more n (part ∷ parts) x =
@@ -76,17 +76,17 @@ parts_more n (part ∷ parts) x =
       add_mul (part.weight *ℤ factor_in n part.terms) (factor_of n parts) (value_at x n),
     )
 
-pub parts_none : (parts : List Part) (x : List ℤ) → parts_below 0 parts x ≡ pos 0
+pub parts_none : (parts : List WeightedTerms) (x : List ℤ) → parts_below 0 parts x ≡ pos 0
 parts_none [] x = refl
 parts_none (part ∷ parts) x =
     omega (arith, ints, ap (λ (z : ℤ). part.weight *ℤ z) (sum_none part.terms x), *ℤ-zero part.weight, parts_none parts x)
 
 -- each part's terms are of columns that are there
-abbrev pub ArePartsThere : ℕ → List Part → Type 0
+abbrev pub ArePartsThere : ℕ → List WeightedTerms → Type 0
 ArePartsThere n [] = Unit {0}
 ArePartsThere n (part ∷ parts) = AreThere n part.terms × ArePartsThere n parts
 
-pub parts_whole : (n : ℕ) (parts : List Part) (x : List ℤ) → ArePartsThere n parts → parts_below n parts x ≡ parts_at parts x
+pub parts_whole : (n : ℕ) (parts : List WeightedTerms) (x : List ℤ) → ArePartsThere n parts → parts_below n parts x ≡ parts_at parts x
 parts_whole n [] x there = refl
 parts_whole n (part ∷ parts) x there =
     omega (arith, ints, ap (λ (z : ℤ). part.weight *ℤ z) (sum_whole n part.terms x there.0), parts_whole n parts x there.1)
@@ -96,7 +96,7 @@ product_least : (f : ℤ) (side : Interval) (v : ℤ) → side.low ≤ℤ v → 
 product_least (pos n) side v low high = mul_pos n side.low v low
 product_least (negsuc n) side v low high = mul_neg n v side.high high
 
-least_at_most : (n : ℕ) (parts : List Part) (area : List Interval) (x : List ℤ) → n ≤ length area → IsInside area x
+least_at_most : (n : ℕ) (parts : List WeightedTerms) (area : List Interval) (x : List ℤ) → n ≤ length area → IsInside area x
     → least_below n parts area ≤ℤ parts_below n parts x
 least_at_most zero parts area x h inside = omega (arith, ints, parts_none parts x)
 least_at_most (suc n) parts area x h inside =
@@ -117,15 +117,15 @@ least_next p m area n total e =
     omega (arith, ints, e, g)
 
 -- the point of the ends at which each product is least
-abbrev pub ends_from : ℕ → List Part → List Interval → List ℤ
+abbrev pub ends_from : ℕ → List WeightedTerms → List Interval → List ℤ
 ends_from j parts [] = []
 ends_from j parts (side ∷ sides) = end_of Least (factor_of j parts) side ∷ ends_from (suc j) parts sides
 
-ends_length : (j : ℕ) (parts : List Part) (sides : List Interval) → length (ends_from j parts sides) ≡ length sides
+ends_length : (j : ℕ) (parts : List WeightedTerms) (sides : List Interval) → length (ends_from j parts sides) ≡ length sides
 ends_length j parts [] = refl
 ends_length j parts (side ∷ sides) = ap suc (ends_length (suc j) parts sides)
 
-ends_at : (j k n : ℕ) (parts : List Part) (sides : List Interval) → k < length sides → n ≡ j + k
+ends_at : (j k n : ℕ) (parts : List WeightedTerms) (sides : List Interval) → k < length sides → n ≡ j + k
     → value_at (ends_from j parts sides) k ≡ end_of Least (factor_of n parts) (interval_at sides k)
 ends_at j k n parts [] h e = absurd (omega arith)
 ends_at j zero n parts (side ∷ sides) h e = ap (λ (i : ℕ). end_of Least (factor_of i parts) side) (omega (arith, e))
@@ -135,14 +135,14 @@ end_within : (f : ℤ) (side : Interval) → side.low ≤ℤ side.high → IsWit
 end_within (pos n) side h = record { low = omega (arith, ints); high = h }
 end_within (negsuc n) side h = record { low = h; high = omega (arith, ints) }
 
-ends_inside : (parts : List Part) (area : List Interval) → IsNonEmpty area → IsInside area (ends_from 0 parts area)
+ends_inside : (parts : List WeightedTerms) (area : List Interval) → IsNonEmpty area → IsInside area (ends_from 0 parts area)
 ends_inside parts area some = record {
   width = ends_length 0 parts area;
   each = λ j there. rw (ends_at 0 j j parts area there (omega arith))
       (end_within (factor_of j parts) (interval_at area j) (some j there));
 }
 
-least_reached : (n : ℕ) (parts : List Part) (area : List Interval) → n ≤ length area
+least_reached : (n : ℕ) (parts : List WeightedTerms) (area : List Interval) → n ≤ length area
     → parts_below n parts (ends_from 0 parts area) ≡ least_below n parts area
 least_reached zero parts area h = parts_none parts (ends_from 0 parts area)
 least_reached (suc n) parts area h =

@@ -16,7 +16,7 @@ use Rattle.ug_surrogate.specs.declared.multipliers.Side.{Side}
 use Rattle.ug_surrogate.specs.declared.multipliers.Side.TheVariants.{Low, High}
 use Rattle.ug_surrogate.specs.declared.multipliers.Multiplier.{Multiplier}
 use Rattle.ug_surrogate.specs.declared.multipliers.Multipliers.{Multipliers}
-use Rattle.ug_surrogate.specs.Columns.{IsSomewhereSmall, Part, weighted_side, weighted_side_size, constant_of, factor_at, factor_in, factor_of, least_below, least_product, parts_of, parts_under, sides_under, signed_for, signed_weight}
+use Rattle.ug_surrogate.specs.Columns.{IsSomewhereSmall, WeightedTerms, weighted_side, weighted_side_size, constant_of, factor_at, factor_in, factor_of, least_below, least_product, parts_of, parts_under, sides_under, signed_for, signed_weight}
 use Rattle.ug_surrogate.specs.Magnitudes.{IsSmall, magnitude, magnitudes, reach_of, row_magnitude, size_to}
 use Rattle.ug_surrogate.specs.Weights.{multiplier_at, no_multiplier, side_under}
 
@@ -62,11 +62,11 @@ terms_whole n [] area = omega arith
 terms_whole n (t ∷ ts) area = omega (arith, term_whole n t area, terms_whole n ts area)
 
 -- the magnitudes of the parts, each times its weight's absolute value
-abbrev pub parts_reach : ℕ → List Part → List Interval → ℕ
+abbrev pub parts_reach : ℕ → List WeightedTerms → List Interval → ℕ
 parts_reach n [] area = 0
 parts_reach n (part ∷ parts) area = unsigned_abs part.weight * reach_below n part.terms area + parts_reach n parts area
 
-abbrev pub parts_size : List Part → List Interval → ℕ
+abbrev pub parts_size : List WeightedTerms → List Interval → ℕ
 parts_size [] area = 0
 parts_size (part ∷ parts) area = unsigned_abs part.weight * magnitude part.terms area + parts_size parts area
 
@@ -78,7 +78,7 @@ part_more w f r s s' h =
     ap (λ (z : ℕ). z * r) (unsigned_abs-mul w f) ∙ mul_assoc (unsigned_abs w) (unsigned_abs f) r in
     omega (arith, k, e, mul-add (unsigned_abs w) (unsigned_abs f * r) s)
 
-parts_more : (n : ℕ) (parts : List Part) (area : List Interval)
+parts_more : (n : ℕ) (parts : List WeightedTerms) (area : List Interval)
     → unsigned_abs (factor_of n parts) * reach_of (interval_at area n) + parts_reach n parts area ≤ parts_reach (suc n) parts area
 parts_more n [] area = omega arith
 parts_more n (part ∷ parts) area =
@@ -89,7 +89,7 @@ parts_more n (part ∷ parts) area =
       sum_reach (part.weight *ℤ factor_in n part.terms) (factor_of n parts) (reach_of (interval_at area n)),
     )
 
-parts_whole : (n : ℕ) (parts : List Part) (area : List Interval) → parts_reach n parts area ≤ parts_size parts area
+parts_whole : (n : ℕ) (parts : List WeightedTerms) (area : List Interval) → parts_reach n parts area ≤ parts_size parts area
 parts_whole n [] area = omega arith
 parts_whole n (part ∷ parts) area =
     let h : unsigned_abs part.weight * reach_below n part.terms area ≤ unsigned_abs part.weight * magnitude part.terms area =
@@ -106,7 +106,7 @@ product_reach f side =
     let h : unsigned_abs f * unsigned_abs (end_of Least f side) ≤ unsigned_abs f * reach_of side = mul-le-mul (omega arith) (end_reach f side) in
     omega (arith, h, unsigned_abs-mul f (end_of Least f side))
 
-least_reach : (n : ℕ) (parts : List Part) (area : List Interval) → unsigned_abs (least_below n parts area) ≤ parts_reach n parts area
+least_reach : (n : ℕ) (parts : List WeightedTerms) (area : List Interval) → unsigned_abs (least_below n parts area) ≤ parts_reach n parts area
 least_reach zero parts area = omega arith
 least_reach (suc n) parts area =
     omega (

@@ -26,20 +26,20 @@ abbrev pub signed_weight : Multiplier → ℤ
 signed_weight u = signed_for u.side u.weight
 
 -- a weight and the terms that it weighs
-pub record Part : Type 0 where
+pub record WeightedTerms : Type 0 where
   pub weight : ℤ
   pub terms : List Term
 
-abbrev pub part_of : Instance → Multiplier → Part
+abbrev pub part_of : Instance → Multiplier → WeightedTerms
 part_of p u = record { weight = signed_weight u; terms = (row_at p u.row).terms }
 
 -- the parts of the multipliers
-abbrev pub parts_under : Instance → List Multiplier → List Part
+abbrev pub parts_under : Instance → List Multiplier → List WeightedTerms
 parts_under p [] = []
 parts_under p (u ∷ us) = part_of p u ∷ parts_under p us
 
 -- the parts of the weighted sum, the objective's first
-abbrev pub parts_of : Instance → Multipliers → List Part
+abbrev pub parts_of : Instance → Multipliers → List WeightedTerms
 parts_of p m = record { weight = pos m.d; terms = p.objective.terms } ∷ parts_under p m.list
 
 -- the factor of a term where it is of column j
@@ -52,7 +52,7 @@ factor_in j [] = pos 0
 factor_in j (t ∷ terms) = factor_at j t +ℤ factor_in j terms
 
 -- the factor of column j in the weighted sum
-abbrev pub factor_of : ℕ → List Part → ℤ
+abbrev pub factor_of : ℕ → List WeightedTerms → ℤ
 factor_of j [] = pos 0
 factor_of j (part ∷ parts) = (part.weight *ℤ factor_in j part.terms) +ℤ factor_of j parts
 
@@ -61,7 +61,7 @@ abbrev pub least_product : ℤ → Interval → ℤ
 least_product f side = f *ℤ end_of Least f side
 
 -- the sum over the columns below n of the least products
-abbrev pub least_below : ℕ → List Part → List Interval → ℤ
+abbrev pub least_below : ℕ → List WeightedTerms → List Interval → ℤ
 least_below zero parts area = pos 0
 least_below (suc n) parts area =
     least_below n parts area +ℤ least_product (factor_of n parts) (interval_at area n)

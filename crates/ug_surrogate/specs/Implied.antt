@@ -11,12 +11,12 @@ use Rattle.ug_problem.specs.Better.{IsGood}
 use Rattle.ug_surrogate.specs.declared.implying.ImpliedError.{ImpliedError}
 use Rattle.ug_surrogate.specs.declared.implying.ImpliedError.TheVariants.{Memory, TooBig, TooWide}
 use Rattle.ug_surrogate.specs.declared.multipliers.Multipliers.{Multipliers}
-use Rattle.ug_surrogate.specs.Columns.{Part, constant_of, factor_of, parts_of}
+use Rattle.ug_surrogate.specs.Columns.{WeightedTerms, constant_of, factor_of, parts_of}
 use Rattle.ug_surrogate.specs.Magnitudes.{IsTooBig}
 use Rattle.ug_surrogate.specs.Weights.{AreMultipliers, weighted_at}
 
 -- the sum over the columns below n at x
-abbrev pub columns_at : ℕ → List Part → List ℤ → ℤ
+abbrev pub columns_at : ℕ → List WeightedTerms → List ℤ → ℤ
 columns_at zero parts x = pos 0
 columns_at (suc n) parts x = columns_at n parts x +ℤ (factor_of n parts *ℤ value_at x n)
 

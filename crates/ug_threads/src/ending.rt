@@ -37,7 +37,7 @@ pub fn end_of(ended: Option<Book>) -> End
     if is_answered(&book) {
         return End::Answered(book);
     }
-    if book.settings().limit <= book.count() {
+    if book.settings().limit <= book.heard() {
         return End::Limited(book);
     }
     drop(book);

@@ -7,7 +7,7 @@ pub enum Took {
     Work(Task),
     /// There is nothing for the rank now.
     Wait,
-    /// No node is held, or no more deliveries are taken.
+    /// No node is held, or no more reports are heard.
     Over,
 }
 

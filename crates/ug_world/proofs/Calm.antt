@@ -15,7 +15,7 @@ use Rattle.ug_rules.specs.State.{BookState}
 use Rattle.ug_rules.specs.Hearing.{is_deadly}
 use Rattle.ug_coord.specs.Causes.{HasCause, HasDeadlyAnswer, IsEndOf}
 use Rattle.ug_coord.specs.Deeds.{Broke, Came, Cause, Closed, Decided, Deed, Does, Ended, Failed, Halted, IsCause, IsCourse, Launched, Lost, Nonsense, Passed}
-use Rattle.ug_coord.specs.Deeds.{Sent, SetUp, Standing, Took, Unclosed, Unfed, Unread, Unsent, Unwritten, stream_at}
+use Rattle.ug_coord.specs.Deeds.{Sent, SetUp, HubState, Took, Unclosed, Unfed, Unread, Unsent, Unwritten, stream_at}
 use Rattle.ug_coord.specs.Deeds.{Kept as Saved}
 use Rattle.ug_coord.specs.Ends.{ranks_of}
 use Rattle.ug_coord.specs.Hubs.{HasCome, beginning}
@@ -56,49 +56,49 @@ AreQuiet deeds = (deed : Deed) → Contains deeds deed → IsQuietDeed deed
 
 -- ---- where memory was wanting it is
 
-wanted : (old new : Standing) → new.wants ≡ true → new.wants ≡ false → old.wants ≡ false
+wanted : (old new : HubState) → new.wants ≡ true → new.wants ≡ false → old.wants ≡ false
 wanted old new is none = absurd (false≢true (sym none ∙ is))
 
-wants_back : (old : Standing) (deed : Deed) (new : Standing) → Does old deed new → new.wants ≡ false
+wants_back : (old : HubState) (deed : Deed) (new : HubState) → Does old deed new → new.wants ≡ false
     → old.wants ≡ false
-wants_back old (Launched rank) new does none = sym (ap (λ (s : Standing). s.wants) does.1) ∙ none
-wants_back old (SetUp rank bytes) new does none = sym (ap (λ (s : Standing). s.wants) does.rest) ∙ none
-wants_back old (Closed rank) new does none = sym (ap (λ (s : Standing). s.wants) does.rest) ∙ none
-wants_back old (Came rank bytes) new does none = sym (ap (λ (s : Standing). s.wants) does.rest) ∙ none
+wants_back old (Launched rank) new does none = sym (ap (λ (s : HubState). s.wants) does.1) ∙ none
+wants_back old (SetUp rank bytes) new does none = sym (ap (λ (s : HubState). s.wants) does.rest) ∙ none
+wants_back old (Closed rank) new does none = sym (ap (λ (s : HubState). s.wants) does.rest) ∙ none
+wants_back old (Came rank bytes) new does none = sym (ap (λ (s : HubState). s.wants) does.rest) ∙ none
 wants_back old (Took rank report answer) new does none = does.wants.before none
 wants_back old (Lost rank cause) new does none = sym does.wants ∙ none
-wants_back old Decided new does none = sym (ap (λ (s : Standing). s.wants) does.rest) ∙ none
-wants_back old (Sent rank order) new does none = sym (ap (λ (s : Standing). s.wants) does.rest) ∙ none
-wants_back old (Unsent rank order) new does none = sym (ap (λ (s : Standing). s.wants) does.rest) ∙ none
-wants_back old (Passed rank order) new does none = sym (ap (λ (s : Standing). s.wants) does.rest) ∙ none
-wants_back old Broke new does none = sym (ap (λ (s : Standing). s.wants) does.rest) ∙ none
-wants_back old (Unclosed rank) new does none = sym (ap (λ (s : Standing). s.wants) does.rest) ∙ none
-wants_back old (Halted steps) new does none = wanted old new (ap (λ (s : Standing). s.wants) does.rest) none
+wants_back old Decided new does none = sym (ap (λ (s : HubState). s.wants) does.rest) ∙ none
+wants_back old (Sent rank order) new does none = sym (ap (λ (s : HubState). s.wants) does.rest) ∙ none
+wants_back old (Unsent rank order) new does none = sym (ap (λ (s : HubState). s.wants) does.rest) ∙ none
+wants_back old (Passed rank order) new does none = sym (ap (λ (s : HubState). s.wants) does.rest) ∙ none
+wants_back old Broke new does none = sym (ap (λ (s : HubState). s.wants) does.rest) ∙ none
+wants_back old (Unclosed rank) new does none = sym (ap (λ (s : HubState). s.wants) does.rest) ∙ none
+wants_back old (Halted steps) new does none = wanted old new (ap (λ (s : HubState). s.wants) does.rest) none
 wants_back old (Unwritten rank order) new does none =
-    wanted old new (ap (λ (s : Standing). s.wants) does.rest) none
-wants_back old (Unfed rank bytes) new does none = wanted old new (ap (λ (s : Standing). s.wants) does.rest) none
-wants_back old Unread new does none = wanted old new (ap (λ (s : Standing). s.wants) does.1) none
-wants_back old Saved new does none = sym (ap (λ (s : Standing). s.wants) does.rest) ∙ none
+    wanted old new (ap (λ (s : HubState). s.wants) does.rest) none
+wants_back old (Unfed rank bytes) new does none = wanted old new (ap (λ (s : HubState). s.wants) does.rest) none
+wants_back old Unread new does none = wanted old new (ap (λ (s : HubState). s.wants) does.1) none
+wants_back old Saved new does none = sym (ap (λ (s : HubState). s.wants) does.rest) ∙ none
 
-course_wants : (old : Standing) (deeds : List Deed) (new : Standing) → IsCourse old deeds new → new.wants ≡ false
+course_wants : (old : HubState) (deeds : List Deed) (new : HubState) → IsCourse old deeds new → new.wants ≡ false
     → old.wants ≡ false
-course_wants old [] new same none = sym (ap (λ (s : Standing). s.wants) same) ∙ none
+course_wants old [] new same none = sym (ap (λ (s : HubState). s.wants) same) ∙ none
 course_wants old (deed ∷ deeds) new (mid, does, more) none =
     wants_back old deed mid does (course_wants mid deeds new more none)
 
 -- ---- what was so before each deed
 
 -- no turn failed, and no stream is shut or bad
-record IsFine (s : Standing) : Type 0 where
+record IsFine (s : HubState) : Type 0 where
   whole : s.broken ≡ false
   streams : (rank : ℕ) → (stream_at s rank).bad ≡ false
 
 -- the bytes that wait of a rank can be read
-abbrev IsReadable : Standing → Type 0
+abbrev IsReadable : HubState → Type 0
 IsReadable s = (rank : ℕ) → IsDecoded reports.IsCarried reports.spelled (stream_at s rank).bytes Bad → ⊥
 
 -- no fault came, and memory is not wanting
-record IsCalmDeed (old new : Standing) : Type 0 where
+record IsCalmDeed (old new : HubState) : Type 0 where
   small : old.faults < 2 ^ 64 - 1
   calm : new.faults ≤ old.faults
   memory : new.wants ≡ false
@@ -116,14 +116,14 @@ set_fine (s ∷ streams) (suc at) w zero fine was = was
 set_fine (s ∷ streams) (suc at) w (suc rank) fine was = set_fine streams at w rank fine was
 
 -- nothing came
-still_fine : (old new : Standing) → new.broken ≡ old.broken → new.streams ≡ old.streams → IsFine old → IsFine new
+still_fine : (old new : HubState) → new.broken ≡ old.broken → new.streams ≡ old.streams → IsFine old → IsFine new
 still_fine old new broken streams fine = record {
   whole = broken ∙ fine.whole;
   streams = λ rank. ap (λ (l : List Waiting). (slice_index_or l rank first).bad) streams ∙ fine.streams rank;
 }
 
 -- a stream was set
-set_still : (old new : Standing) (at : ℕ) (w : Waiting) → new.broken ≡ old.broken
+set_still : (old new : HubState) (at : ℕ) (w : Waiting) → new.broken ≡ old.broken
     → new.streams ≡ slice_set old.streams at w → w.bad ≡ false → IsFine old → IsFine new
 set_still old new at w broken streams good fine = record {
   whole = broken ∙ fine.whole;
@@ -131,7 +131,7 @@ set_still old new at w broken streams good fine = record {
       ∙ set_fine old.streams at w rank good (fine.streams rank);
 }
 
-none_lost : (old new : Standing) (rank : ℕ) (cause : Cause) → IsCause old new rank cause → IsCalmDeed old new
+none_lost : (old new : HubState) (rank : ℕ) (cause : Cause) → IsCause old new rank cause → IsCalmDeed old new
     → IsReadable old → IsFine old → ⊥
 none_lost old new rank Ended is c readable fine = no_rise old.faults new.faults c.small c.calm is.faults
 none_lost old new rank Failed is c readable fine = elim is.1 [
@@ -144,60 +144,60 @@ none_lost old new rank Nonsense is c readable fine = elim is.bad.bad [
 ]
 
 -- the deed is quiet, and all is fine behind it
-abbrev GoesOn : Deed → Standing → Type 0
+abbrev GoesOn : Deed → HubState → Type 0
 GoesOn deed new = IsQuietDeed deed × IsFine new
 
-goes_on : (old : Standing) (deed : Deed) (new : Standing) → Does old deed new → IsCalmDeed old new
+goes_on : (old : HubState) (deed : Deed) (new : HubState) → Does old deed new → IsCalmDeed old new
     → IsReadable old → IsFine old → GoesOn deed new
 goes_on old (Launched rank) new does c readable fine =
-    (tt, still_fine old new (ap (λ (s : Standing). s.broken) does.1) (ap (λ (s : Standing). s.streams) does.1) fine)
+    (tt, still_fine old new (ap (λ (s : HubState). s.broken) does.1) (ap (λ (s : HubState). s.streams) does.1) fine)
 goes_on old (SetUp rank bytes) new does c readable fine = (
   tt,
-  still_fine old new (ap (λ (s : Standing). s.broken) does.rest) (ap (λ (s : Standing). s.streams) does.rest) fine,
+  still_fine old new (ap (λ (s : HubState). s.broken) does.rest) (ap (λ (s : HubState). s.streams) does.rest) fine,
 )
 goes_on old (Closed rank) new does c readable fine = (
   tt,
-  still_fine old new (ap (λ (s : Standing). s.broken) does.rest) (ap (λ (s : Standing). s.streams) does.rest) fine,
+  still_fine old new (ap (λ (s : HubState). s.broken) does.rest) (ap (λ (s : HubState). s.streams) does.rest) fine,
 )
 goes_on old (Came rank bytes) new does c readable fine = (
   tt,
-  set_still old new rank (fed (stream_at old rank) bytes) (ap (λ (s : Standing). s.broken) does.rest)
-      (ap (λ (s : Standing). s.streams) does.rest) (fed_fine (stream_at old rank) bytes (fine.streams rank)) fine,
+  set_still old new rank (fed (stream_at old rank) bytes) (ap (λ (s : HubState). s.broken) does.rest)
+      (ap (λ (s : HubState). s.streams) does.rest) (fed_fine (stream_at old rank) bytes (fine.streams rank)) fine,
 )
 goes_on old (Took rank report answer) new does c readable fine = (
   does.wants.now c.memory,
-  set_still old new rank does.stream (ap (λ (s : Standing). s.broken) does.rest)
-      (ap (λ (s : Standing). s.streams) does.rest) does.given.still fine,
+  set_still old new rank does.stream (ap (λ (s : HubState). s.broken) does.rest)
+      (ap (λ (s : HubState). s.streams) does.rest) does.given.still fine,
 )
 goes_on old (Lost rank cause) new does c readable fine =
     absurd (none_lost old new rank cause does.why c readable fine)
 goes_on old Decided new does c readable fine = (
   tt,
-  still_fine old new (ap (λ (s : Standing). s.broken) does.rest) (ap (λ (s : Standing). s.streams) does.rest) fine,
+  still_fine old new (ap (λ (s : HubState). s.broken) does.rest) (ap (λ (s : HubState). s.streams) does.rest) fine,
 )
 goes_on old (Sent rank order) new does c readable fine = (
   tt,
-  still_fine old new (ap (λ (s : Standing). s.broken) does.rest) (ap (λ (s : Standing). s.streams) does.rest) fine,
+  still_fine old new (ap (λ (s : HubState). s.broken) does.rest) (ap (λ (s : HubState). s.streams) does.rest) fine,
 )
 goes_on old (Unsent rank order) new does c readable fine =
     absurd (no_rise old.faults new.faults c.small c.calm does.faults)
 goes_on old (Passed rank order) new does c readable fine = (
   tt,
-  still_fine old new (ap (λ (s : Standing). s.broken) does.rest) (ap (λ (s : Standing). s.streams) does.rest) fine,
+  still_fine old new (ap (λ (s : HubState). s.broken) does.rest) (ap (λ (s : HubState). s.streams) does.rest) fine,
 )
 goes_on old Broke new does c readable fine = absurd (no_rise old.faults new.faults c.small c.calm does.faults)
 goes_on old (Unclosed rank) new does c readable fine =
     absurd (no_rise old.faults new.faults c.small c.calm does.faults)
 goes_on old (Halted steps) new does c readable fine =
-    absurd (false≢true (sym c.memory ∙ ap (λ (s : Standing). s.wants) does.rest))
+    absurd (false≢true (sym c.memory ∙ ap (λ (s : HubState). s.wants) does.rest))
 goes_on old (Unwritten rank order) new does c readable fine =
-    absurd (false≢true (sym c.memory ∙ ap (λ (s : Standing). s.wants) does.rest))
+    absurd (false≢true (sym c.memory ∙ ap (λ (s : HubState). s.wants) does.rest))
 goes_on old (Unfed rank bytes) new does c readable fine =
-    absurd (false≢true (sym c.memory ∙ ap (λ (s : Standing). s.wants) does.rest))
+    absurd (false≢true (sym c.memory ∙ ap (λ (s : HubState). s.wants) does.rest))
 goes_on old Unread new does c readable fine =
-    absurd (false≢true (sym c.memory ∙ ap (λ (s : Standing). s.wants) does.1))
+    absurd (false≢true (sym c.memory ∙ ap (λ (s : HubState). s.wants) does.1))
 goes_on old Saved new does c readable fine =
-    (tt, still_fine old new (ap (λ (s : Standing). s.broken) does.rest) (ap (λ (s : Standing). s.streams) does.rest) fine)
+    (tt, still_fine old new (ap (λ (s : HubState). s.broken) does.rest) (ap (λ (s : HubState). s.streams) does.rest) fine)
 
 -- ---- a course
 
@@ -212,7 +212,7 @@ quiet_more deed deeds is all one there = elim (first_or deed deeds one there) [
 
 module _ (b : BookState) (faults : ℕ) (unused : IsUnused b) (said : List Exchange)
     (worked : AreAlwaysWorked said) where
-  readable : (done : List Deed) (s : Standing) → IsCourse (beginning b faults) done s → (more : List Exchange)
+  readable : (done : List Deed) (s : HubState) → IsCourse (beginning b faults) done s → (more : List Exchange)
       → said ≡ s.said ++ more → IsFine s → IsReadable s
   readable done s so more same fine rank bad =
       let read : IsRead rank s (reports_from rank done) =
@@ -221,7 +221,7 @@ module _ (b : BookState) (faults : ℕ) (unused : IsUnused b) (said : List Excha
       (subst (λ (bytes : List ℕ). IsDecoded reports.IsCarried reports.spelled bytes Bad)
       (sym (read.waits (fine.streams rank))) bad)
 
-  all_quiet : (done : List Deed) (old : Standing) (deeds : List Deed) (new : Standing)
+  all_quiet : (done : List Deed) (old : HubState) (deeds : List Deed) (new : HubState)
       → IsCourse (beginning b faults) done old → IsCourse old deeds new → said ≡ new.said
       → old.faults < 2 ^ 64 - 1 → new.faults ≤ old.faults → new.wants ≡ false → IsFine old → AreQuiet deeds
   all_quiet done old [] new so same ends small calm memory fine = none_quiet
@@ -274,7 +274,7 @@ fine_first b faults = record {
   streams = λ rank. ap (λ (w : Waiting). w.bad) (none_waits (ranks_of b) rank);
 }
 
-pub course_quiet : (b : BookState) (faults : ℕ) (now : Standing) (come : HasCome (beginning b faults) now)
+pub course_quiet : (b : BookState) (faults : ℕ) (now : HubState) (come : HasCome (beginning b faults) now)
     → IsCalmCourse b faults now → AreQuiet come.deeds
 course_quiet b faults now come c =
     all_quiet b faults c.unused now.said c.worked [] (beginning b faults) come.deeds now refl come.course refl

@@ -16,7 +16,7 @@ use Rattle.ug_rules.specs.HearingLaws.{HasRisingChanges}
 use Rattle.ug_rules.specs.Deaths.{killed}
 use Rattle.ug_book.specs.Reads.{IsOrderTold}
 use Rattle.ug_coord.specs.Deeds.{AreSound, Broke, Came, Closed, Decided, Deed, Does, Halted, IsCourse, Launched, Lost, Passed}
-use Rattle.ug_coord.specs.Deeds.{Sent, SetUp, Standing, Took, Unclosed, Unfed, Unread, Unsent, Unwritten, IsTaken, IsUnsent}
+use Rattle.ug_coord.specs.Deeds.{Sent, SetUp, HubState, Took, Unclosed, Unfed, Unread, Unsent, Unwritten, IsTaken, IsUnsent}
 use Rattle.ug_coord.specs.Deeds.{Kept as Saved}
 use Rattle.ug_coord.specs.Hubs.{beginning}
 use Rattle.ug_world.specs.declared.event.Event.TheVariants.{Send, Hear, Gone, Decide, Tell}
@@ -63,7 +63,7 @@ last_there [] report = refl
 last_there (first ∷ sent) report = last_there sent report
 
 -- it comes, and is heard
-took : (n : ℕ) (old mid : Standing) (past : Past) (rank : ℕ) (report : Report) (answer : Heard)
+took : (n : ℕ) (old mid : HubState) (past : Past) (rank : ℕ) (report : Report) (answer : Heard)
     → IsTaken old mid rank report answer → IsHonestSo old.book past.told (past.heard ++ report ∷ [])
     → Keeps n old.book past → Holds n (world_of mid.book (with_report past report answer))
 took n old mid past rank report answer t honest k =
@@ -79,7 +79,7 @@ took n old mid past rank report answer t honest k =
       there = last_there past.heard report;
       rising = rising report t.given.carried.can;
       due = t.due;
-      done = ap (λ (s : Standing). world_of s.book (with_report past report answer)) t.rest;
+      done = ap (λ (s : HubState). world_of s.book (with_report past report answer)) t.rest;
     }) true_ first
 
 -- ---- orders
@@ -113,7 +113,7 @@ gone n old new past rank there dead true_ holds =
     (ap (λ (b : BookState). world_of b past) dead) true_ holds
 
 -- the rank of an order that could not be told
-unsent : (n : ℕ) (old mid : Standing) (past : Past) (rank : ℕ) (order : Order) → IsUnsent old mid rank order
+unsent : (n : ℕ) (old mid : HubState) (past : Past) (rank : ℕ) (order : Order) → IsUnsent old mid rank order
     → IsHonestSo old.book past.told past.heard → Keeps n old.book past
     → Holds n (world_of mid.book (with_order past (record { rank = rank; order = order })))
 unsent n old mid past rank order t honest k =
@@ -123,7 +123,7 @@ unsent n old mid past rank order t honest k =
     (left_honest old.book t.without past told t.told honest) first.known in
     gone n t.without mid.book (with_order past told) rank
     (omega (arith, t.there, ap (λ (b : BookState). length b.ranks) t.told.rest))
-    (ap (λ (s : Standing). s.book) t.rest) true_ first
+    (ap (λ (s : HubState). s.book) t.rest) true_ first
 
 -- ---- each deed
 
@@ -131,17 +131,17 @@ same_holds : (n : ℕ) (old new : BookState) (past : Past) → new ≡ old → K
     → Holds n (world_of new past)
 same_holds n old new past same k = (same_book n old new past same k).holds
 
-deed_holds : (n : ℕ) (old mid : Standing) (past : Past) (deed : Deed) → Does old deed mid
+deed_holds : (n : ℕ) (old mid : HubState) (past : Past) (deed : Deed) → Does old deed mid
     → honest_at old past deed → IsHonestSo old.book past.told past.heard → Keeps n old.book past
     → Holds n (world_of mid.book (after deed past))
 deed_holds n old mid past (Launched rank) (away, rest) now honest k =
-    same_holds n old.book mid.book past (ap (λ (s : Standing). s.book) rest) k
+    same_holds n old.book mid.book past (ap (λ (s : HubState). s.book) rest) k
 deed_holds n old mid past (SetUp rank bytes) does now honest k =
-    same_holds n old.book mid.book past (ap (λ (s : Standing). s.book) does.rest) k
+    same_holds n old.book mid.book past (ap (λ (s : HubState). s.book) does.rest) k
 deed_holds n old mid past (Closed rank) does now honest k =
-    same_holds n old.book mid.book past (ap (λ (s : Standing). s.book) does.rest) k
+    same_holds n old.book mid.book past (ap (λ (s : HubState). s.book) does.rest) k
 deed_holds n old mid past (Came rank bytes) does now honest k =
-    same_holds n old.book mid.book past (ap (λ (s : Standing). s.book) does.rest) k
+    same_holds n old.book mid.book past (ap (λ (s : HubState). s.book) does.rest) k
 deed_holds n old mid past (Took rank report answer) does now honest k =
     took n old mid past rank report answer does now k
 deed_holds n old mid past (Lost rank cause) does now honest k =
@@ -156,28 +156,28 @@ deed_holds n old mid past (Unsent rank order) does now honest k =
 deed_holds n old mid past (Passed rank order) does now honest k =
     left n old.book mid.book past (record { rank = rank; order = order }) does.told k
 deed_holds n old mid past Broke does now honest k =
-    same_holds n old.book mid.book past (ap (λ (s : Standing). s.book) does.rest) k
+    same_holds n old.book mid.book past (ap (λ (s : HubState). s.book) does.rest) k
 deed_holds n old mid past (Unclosed rank) does now honest k =
-    same_holds n old.book mid.book past (ap (λ (s : Standing). s.book) does.rest) k
+    same_holds n old.book mid.book past (ap (λ (s : HubState). s.book) does.rest) k
 deed_holds n old mid past (Halted steps) does now honest k =
     event_holds n (world_of old.book past) (world_of mid.book past) Decide tt
     (record { decided = inr (record { steps = steps; stands = does.is }); rest = refl }) k.true_ k.holds
 deed_holds n old mid past (Unwritten rank order) does now honest k =
     left n old.book mid.book past (record { rank = rank; order = order }) does.told k
 deed_holds n old mid past (Unfed rank bytes) does now honest k =
-    same_holds n old.book mid.book past (ap (λ (s : Standing). s.book) does.rest) k
+    same_holds n old.book mid.book past (ap (λ (s : HubState). s.book) does.rest) k
 deed_holds n old mid past Unread (reading, rest) now honest k =
-    same_holds n old.book mid.book past (ap (λ (s : Standing). s.book) rest) k
+    same_holds n old.book mid.book past (ap (λ (s : HubState). s.book) rest) k
 deed_holds n old mid past Saved does now honest k =
-    same_holds n old.book mid.book past (ap (λ (s : Standing). s.book) does.rest) k
+    same_holds n old.book mid.book past (ap (λ (s : HubState). s.book) does.rest) k
 
-course_keeps : (n : ℕ) (old : Standing) (past : Past) (deeds : List Deed) (new : Standing)
+course_keeps : (n : ℕ) (old : HubState) (past : Past) (deeds : List Deed) (new : HubState)
     → (course : IsCourse old deeds new) → StaysHonest old past deeds new course
     → IsHonestSo old.book past.told past.heard → Keeps n old.book past
     → AreSound old deeds new course × LosesNothing new.book
 course_keeps n old past [] new same stays honest k = (
   k.holds.sound,
-  subst (λ (s : Standing). LosesNothing s.book) (sym same) (loses_nothing old.book k.holds.sound),
+  subst (λ (s : HubState). LosesNothing s.book) (sym same) (loses_nothing old.book k.holds.sound),
 )
 course_keeps n old past (deed ∷ deeds) new (mid, does, more) (now, rest) honest k =
     let holds = deed_holds n old mid past deed does now honest k in
@@ -194,7 +194,7 @@ none_heard b = record {
   dones = λ ticket cutoff count ending among area given x inside good. absurd (omega (arith, among.1));
 }
 
-book_loses_nothing : (b : BookState) (faults : ℕ) (deeds : List Deed) (now : Standing) → IsBook b
+book_loses_nothing : (b : BookState) (faults : ℕ) (deeds : List Deed) (now : HubState) → IsBook b
     → IsSoundBook b → b.last ≡ 0 → (course : IsCourse (beginning b faults) deeds now)
     → StaysHonest (beginning b faults) nothing deeds now course
     → AreSound (beginning b faults) deeds now course × LosesNothing now.book
@@ -206,11 +206,11 @@ book_loses_nothing b faults deeds now book sound unused course stays =
     })
 
 -- without a deed
-none_loses : (b : BookState) (faults : ℕ) (deeds : List Deed) (now : Standing) → deeds ≡ [] → IsSoundBook b
+none_loses : (b : BookState) (faults : ℕ) (deeds : List Deed) (now : HubState) → deeds ≡ [] → IsSoundBook b
     → (course : IsCourse (beginning b faults) deeds now)
     → AreSound (beginning b faults) deeds now course × LosesNothing now.book
 none_loses b faults [] now none sound course =
-    (sound, subst (λ (s : Standing). LosesNothing s.book) (sym course) (loses_nothing b sound))
+    (sound, subst (λ (s : HubState). LosesNothing s.book) (sym course) (loses_nothing b sound))
 none_loses b faults (deed ∷ deeds) now none sound course = absurd cc
 
 pub coordinators_lose_nothing : CoordinatorsLoseNothing

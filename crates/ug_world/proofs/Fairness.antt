@@ -15,7 +15,7 @@ use Rattle.ug_ranks.specs.declared.state.State.TheVariants.{Absent, Idle, Racing
 use Rattle.ug_rules.specs.declared.heard.Heard.{Heard}
 use Rattle.ug_rules.specs.State.{BookState}
 use Rattle.ug_rules.specs.Hearing.{is_deadly, ready_answer}
-use Rattle.ug_coord.specs.Deeds.{Deed, IsCourse, IsTaken, Standing, Took}
+use Rattle.ug_coord.specs.Deeds.{Deed, IsCourse, IsTaken, HubState, Took}
 use Rattle.ug_coord.specs.Hubs.{beginning}
 use Rattle.ug_coord.proofs.Coursing.{course_more}
 use Rattle.ug_serve.specs.CrewLaws.{AreReportsAt, reports_of}
@@ -50,7 +50,7 @@ orders_push gap r (one ∷ done) deed =
 
 -- ---- when a report is heard
 
-module _ (b : BookState) (faults : ℕ) (unused : IsUnused b) (done : List Deed) (old mid : Standing)
+module _ (b : BookState) (faults : ℕ) (unused : IsUnused b) (done : List Deed) (old mid : HubState)
     (so : IsCourse (beginning b faults) done old) (r : ℕ) (report : Report) (answer : Heard)
     (does : IsTaken old mid r report answer) (worked : IsWorked mid.said r) where
   -- what the worker had heard and told when it told the report
@@ -105,7 +105,7 @@ IsOfWork (Reported ticket count floor) = ⊥
 IsOfWork (Done ticket told count ending) = Unit {0}
 IsOfWork Ended = ⊥
 
-module _ (b : BookState) (faults : ℕ) (unused : IsUnused b) (done : List Deed) (old mid : Standing)
+module _ (b : BookState) (faults : ℕ) (unused : IsUnused b) (done : List Deed) (old mid : HubState)
     (so : IsCourse (beginning b faults) done old) (r : ℕ)
     (away : reports_from r done ≡ [] → IsAbsentAt old.book.ranks r) (answer : Heard) where
   -- what is heard of a worker is fair, where its hands and dones are

@@ -16,7 +16,7 @@ use Rattle.ug_rules.specs.State.{BookState}
 use Rattle.ug_rules.specs.Hearing.{after_hearing, is_deadly}
 use Rattle.ug_book.specs.Reads.{IsOrderTold}
 use Rattle.ug_coord.specs.Deeds.{Broke, Came, Closed, Decided, Deed, Does, Halted, IsCourse, IsTaken, Launched, Lost, Passed}
-use Rattle.ug_coord.specs.Deeds.{Sent, SetUp, Standing, Took, Unclosed, Unfed, Unread, Unsent, Unwritten}
+use Rattle.ug_coord.specs.Deeds.{Sent, SetUp, HubState, Took, Unclosed, Unfed, Unread, Unsent, Unwritten}
 use Rattle.ug_coord.specs.Deeds.{Kept as Saved}
 use Rattle.ug_coord.specs.Hubs.{beginning}
 use Rattle.ug_coord.proofs.Coursing.{course_more}
@@ -42,12 +42,12 @@ IsHarmlessDeed (Took rank report answer) = is_deadly answer ≡ false
 IsHarmlessDeed deed = Unit {0}
 
 -- each rank of which nothing was heard has not joined
-abbrev pub AreAway : List Deed → Standing → Type 0
+abbrev pub AreAway : List Deed → HubState → Type 0
 AreAway done s = (rank : ℕ) → reports_from rank done ≡ [] → IsAbsentAt s.book.ranks rank
 
 -- ---- one deed
 
-same_ranks : (old new : Standing) (rank : ℕ) → new.book.ranks ≡ old.book.ranks → IsAbsentAt old.book.ranks rank
+same_ranks : (old new : HubState) (rank : ℕ) → new.book.ranks ≡ old.book.ranks → IsAbsentAt old.book.ranks rank
     → IsAbsentAt new.book.ranks rank
 same_ranks old new rank same absent = subst (λ (states : List State). IsAbsentAt states rank) (sym same) absent
 
@@ -59,19 +59,19 @@ another q rank report none same =
           (sym none ∙ ap (λ (yes : Bool). only yes report) (eq-eqb q rank same)),
     ))
 
-deed_away : (old : Standing) (deed : Deed) (new : Standing) → Does old deed new → IsQuietDeed deed
+deed_away : (old : HubState) (deed : Deed) (new : HubState) → Does old deed new → IsQuietDeed deed
     → IsHarmlessDeed deed → (rank : ℕ) → from_rank rank (taken_in deed) ≡ [] → IsAbsentAt old.book.ranks rank
     → IsAbsentAt new.book.ranks rank
 deed_away old (Launched q) new does quiet harmless rank none absent =
-    same_ranks old new rank (ap (λ (s : Standing). s.book.ranks) does.1) absent
+    same_ranks old new rank (ap (λ (s : HubState). s.book.ranks) does.1) absent
 deed_away old (SetUp q bytes) new does quiet harmless rank none absent =
-    same_ranks old new rank (ap (λ (s : Standing). s.book.ranks) does.rest) absent
+    same_ranks old new rank (ap (λ (s : HubState). s.book.ranks) does.rest) absent
 deed_away old (Closed q) new does quiet harmless rank none absent =
-    same_ranks old new rank (ap (λ (s : Standing). s.book.ranks) does.rest) absent
+    same_ranks old new rank (ap (λ (s : HubState). s.book.ranks) does.rest) absent
 deed_away old (Came q bytes) new does quiet harmless rank none absent =
-    same_ranks old new rank (ap (λ (s : Standing). s.book.ranks) does.rest) absent
+    same_ranks old new rank (ap (λ (s : HubState). s.book.ranks) does.rest) absent
 deed_away old (Took q report answer) new does quiet harmless rank none absent =
-    subst (λ (s : Standing). IsAbsentAt s.book.ranks rank) (sym does.rest)
+    subst (λ (s : HubState). IsAbsentAt s.book.ranks rank) (sym does.rest)
     (heard_stays answer q report old.book rank (another q rank report none) harmless absent)
 deed_away old (Lost q cause) new does quiet harmless rank none absent = absurd quiet
 deed_away old Decided new does quiet harmless rank none absent =
@@ -88,13 +88,13 @@ deed_away old (Unwritten q order) new does quiet harmless rank none absent = abs
 deed_away old (Unfed q bytes) new does quiet harmless rank none absent = absurd quiet
 deed_away old Unread new does quiet harmless rank none absent = absurd quiet
 deed_away old Saved new does quiet harmless rank none absent =
-    same_ranks old new rank (ap (λ (s : Standing). s.book.ranks) does.rest) absent
+    same_ranks old new rank (ap (λ (s : HubState). s.book.ranks) does.rest) absent
 
 both_nil : (rs ts : List Report) → rs ++ ts ≡ [] → (rs ≡ []) × (ts ≡ [])
 both_nil [] ts none = (refl, none)
 both_nil (r ∷ rs) ts none = absurd (omega (arith, ap (λ (l : List Report). length l) none))
 
-away_more : (done : List Deed) (old : Standing) (deed : Deed) (new : Standing) → Does old deed new
+away_more : (done : List Deed) (old : HubState) (deed : Deed) (new : HubState) → Does old deed new
     → IsQuietDeed deed → IsHarmlessDeed deed → AreAway done old → AreAway (done ++ deed ∷ []) new
 away_more done old deed new does quiet harmless away rank none =
     let parts = both_nil (reports_from rank done) (from_rank rank (taken_in deed))
@@ -128,7 +128,7 @@ kept_by o states all all_then heard heard_then same each t =
       on = λ q. subst (λ (rs : List Report). IsOn o all rs (state_at states q)) (sym (each q)) (t.on q);
     })
 
-module _ (done : List Deed) (old : Standing) (deed : Deed) (new : Standing)
+module _ (done : List Deed) (old : HubState) (deed : Deed) (new : HubState)
     (t : IsTrackedBy (left_of done) (λ (q : ℕ). reports_from q done) old.book) where
   abbrev done_then : List Deed
   done_then = done ++ deed ∷ []
@@ -171,7 +171,7 @@ module _ (done : List Deed) (old : Standing) (deed : Deed) (new : Standing)
       ∙ ap (λ (ts : List Told). left_of done ++ ts) (sym is.first)) (unheard untaken) t)
 
 -- a report was heard
-took_tracked : (done : List Deed) (old : Standing) (r : ℕ) (report : Report) (answer : Heard) (new : Standing)
+took_tracked : (done : List Deed) (old : HubState) (r : ℕ) (report : Report) (answer : Heard) (new : HubState)
     → IsTaken old new r report answer → IsFair old.book (state_at old.book.ranks r) report
     → IsReportNamed old.book.last report → is_deadly answer ≡ false → answer ≢ Memory
     → IsTrackedBy (left_of done) (λ (q : ℕ). reports_from q done) old.book
@@ -181,7 +181,7 @@ took_tracked done old r report answer new does fair named harmless some t =
     let deed : Deed = Took r report answer in
     let heard_then : ℕ → List Report = λ q. reports_from q (done ++ deed ∷ []) in
     let same : new.book ≡ after_hearing answer r report old.book =
-    ap (λ (s : Standing). s.book) does.rest in
+    ap (λ (s : HubState). s.book) does.rest in
     let h : HasHeard r report (λ (q : ℕ). reports_from q done) heard_then = record {
       its = reports_push r done deed
           ∙ ap (λ (yes : Bool). reports_from r done ++ only yes report) (eq-eqb r r refl);
@@ -197,23 +197,23 @@ took_tracked done old r report answer new does fair named harmless some t =
     does.due fair named harmless some t))
 
 -- what a deed needs to be fair
-abbrev IsFairDeed : Standing → Deed → Type 0
+abbrev IsFairDeed : HubState → Deed → Type 0
 IsFairDeed old (Took r report answer) =
     IsFair old.book (state_at old.book.ranks r) report × IsReportNamed old.book.last report
 IsFairDeed old deed = Unit {0}
 
-tracked_more : (done : List Deed) (old : Standing) (deed : Deed) (new : Standing) → Does old deed new
+tracked_more : (done : List Deed) (old : HubState) (deed : Deed) (new : HubState) → Does old deed new
     → IsQuietDeed deed → IsHarmlessDeed deed → IsFairDeed old deed
     → IsTrackedBy (left_of done) (λ (q : ℕ). reports_from q done) old.book
     → IsTrackedBy (left_of (done ++ deed ∷ [])) (λ (q : ℕ). reports_from q (done ++ deed ∷ [])) new.book
 tracked_more done old (Launched q) new does quiet harmless fair t =
-    silent done old (Launched q) new t old.book refl refl (ap (λ (s : Standing). s.book) does.1) t
+    silent done old (Launched q) new t old.book refl refl (ap (λ (s : HubState). s.book) does.1) t
 tracked_more done old (SetUp q bytes) new does quiet harmless fair t =
-    silent done old (SetUp q bytes) new t old.book refl refl (ap (λ (s : Standing). s.book) does.rest) t
+    silent done old (SetUp q bytes) new t old.book refl refl (ap (λ (s : HubState). s.book) does.rest) t
 tracked_more done old (Closed q) new does quiet harmless fair t =
-    silent done old (Closed q) new t old.book refl refl (ap (λ (s : Standing). s.book) does.rest) t
+    silent done old (Closed q) new t old.book refl refl (ap (λ (s : HubState). s.book) does.rest) t
 tracked_more done old (Came q bytes) new does quiet harmless fair t =
-    silent done old (Came q bytes) new t old.book refl refl (ap (λ (s : Standing). s.book) does.rest) t
+    silent done old (Came q bytes) new t old.book refl refl (ap (λ (s : HubState). s.book) does.rest) t
 tracked_more done old (Took q report answer) new does quiet harmless fair t =
     took_tracked done old q report answer new does fair.0 fair.1 harmless quiet t
 tracked_more done old (Lost q cause) new does quiet harmless fair t = absurd quiet
@@ -234,12 +234,12 @@ tracked_more done old (Unwritten q order) new does quiet harmless fair t = absur
 tracked_more done old (Unfed q bytes) new does quiet harmless fair t = absurd quiet
 tracked_more done old Unread new does quiet harmless fair t = absurd quiet
 tracked_more done old Saved new does quiet harmless fair t =
-    silent done old Saved new t old.book refl refl (ap (λ (s : Standing). s.book) does.rest) t
+    silent done old Saved new t old.book refl refl (ap (λ (s : HubState). s.book) does.rest) t
 
 -- ---- a course from the beginning
 
 module _ (b : BookState) (faults : ℕ) (unused : IsUnused b) where
-  fair_deed : (done : List Deed) (old : Standing) (deed : Deed) (mid : Standing)
+  fair_deed : (done : List Deed) (old : HubState) (deed : Deed) (mid : HubState)
       → IsCourse (beginning b faults) done old → Does old deed mid → AreWorked mid.said → AreAway done old
       → IsTrackedBy (left_of done) (λ (q : ℕ). reports_from q done) old.book → IsFairDeed old deed
   fair_deed done old (Launched q) mid so does worked away t = tt
@@ -264,7 +264,7 @@ module _ (b : BookState) (faults : ℕ) (unused : IsUnused b) where
   fair_deed done old Unread mid so does worked away t = tt
   fair_deed done old Saved mid so does worked away t = tt
 
-  harmless_deed : (old : Standing) (deed : Deed) (mid : Standing) → Does old deed mid → IsFairDeed old deed
+  harmless_deed : (old : HubState) (deed : Deed) (mid : HubState) → Does old deed mid → IsFairDeed old deed
       → IsHarmlessDeed deed
   harmless_deed old (Launched q) mid does fair = tt
   harmless_deed old (SetUp q bytes) mid does fair = tt
@@ -284,8 +284,8 @@ module _ (b : BookState) (faults : ℕ) (unused : IsUnused b) where
   harmless_deed old Unread mid does fair = tt
   harmless_deed old Saved mid does fair = tt
 
-  all_harmless : (said : List Exchange) → AreAlwaysWorked said → (done : List Deed) (old : Standing)
-      (deeds : List Deed) (new : Standing) → IsCourse (beginning b faults) done old
+  all_harmless : (said : List Exchange) → AreAlwaysWorked said → (done : List Deed) (old : HubState)
+      (deeds : List Deed) (new : HubState) → IsCourse (beginning b faults) done old
       → IsCourse old deeds new → said ≡ new.said → AreQuiet deeds → AreAway done old
       → IsTrackedBy (left_of done) (λ (q : ℕ). reports_from q done) old.book → AreHarmless deeds
   all_harmless said worked done old [] new so course ends quiet away t =

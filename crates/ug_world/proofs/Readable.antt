@@ -17,7 +17,7 @@ use Rattle.ug_frames.specs.Spelling.{framed}
 use Rattle.ug_frames.proofs.Fronts.{framed_long, told_is, unique}
 use Rattle.ug_frames.specs.ReportReading.{report_in}
 use Rattle.ug_frames.proofs.ReportReaders.{body_of, report_small, report_whole}
-use Rattle.ug_serve.specs.Courses.{IsCourse, Standing, beginning}
+use Rattle.ug_serve.specs.Courses.{IsCourse, ServerState, beginning}
 use Rattle.ug_serve.specs.Deeds.{Deed, Came, Took, Told}
 use Rattle.ug_serve.specs.Queues.{told_in}
 use Rattle.ug_serve.specs.Serving.{IsPartTold}
@@ -97,12 +97,12 @@ record IsTold (said : List Said) : Type 0 where
   carried : All reports.IsCarried all
   parts : told_in said ≡ flat_map reports.spelled all
 
-told_by : (a : Standing) (deeds : List Deed) (b : Standing) → IsCourse a deeds b → IsTold a.said → IsTold b.said
-told_by a [] b same t = subst (λ (s : Standing). IsTold s.said) (sym same) t
+told_by : (a : ServerState) (deeds : List Deed) (b : ServerState) → IsCourse a deeds b → IsTold a.said → IsTold b.said
+told_by a [] b same t = subst (λ (s : ServerState). IsTold s.said) (sym same) t
 told_by a (Came bytes ∷ deeds) b (mid, does, more) t = told_by mid deeds b more (record {
   all = t.all;
   carried = t.carried;
-  parts = ap (λ (s : Standing). told_in s.said) does ∙ told_still a.said bytes ∙ t.parts;
+  parts = ap (λ (s : ServerState). told_in s.said) does ∙ told_still a.said bytes ∙ t.parts;
 })
 told_by a (Took order ∷ deeds) b (mid, does, more) t = told_by mid deeds b more (record {
   all = t.all;
@@ -117,7 +117,7 @@ told_by a (Told report ∷ deeds) b (mid, does, more) t = told_by mid deeds b mo
       ∙ one_more a.said t.all report t.parts;
 })
 
-telling : (now : Standing) (shown : List Said) → IsTold now.said → (shown ≡ now.said) ⊎ IsPartTold now shown
+telling : (now : ServerState) (shown : List Said) → IsTold now.said → (shown ≡ now.said) ⊎ IsPartTold now shown
     → IsTelling shown
 telling now shown t (inl same) = record {
   all = t.all;

@@ -23,7 +23,7 @@ use Rattle.ug_rules.specs.declared.settings.Settings.{Settings}
 use Rattle.ug_rules.specs.declared.told.Told.{Told}
 use Rattle.ug_rules.specs.State.{BookState}
 use Rattle.ug_coord.specs.Deeds.{Broke, Came, Closed, Decided, Deed, Halted, IsCourse, IsTaken, Launched, Lost, Passed}
-use Rattle.ug_coord.specs.Deeds.{Sent, SetUp, Standing, Took, Unclosed, Unfed, Unread, Unsent, Unwritten}
+use Rattle.ug_coord.specs.Deeds.{Sent, SetUp, HubState, Took, Unclosed, Unfed, Unread, Unsent, Unwritten}
 use Rattle.ug_coord.specs.Deeds.{Kept as Saved}
 use Rattle.ug_coord.specs.Hubs.{beginning}
 use Rattle.ug_serve.specs.Staffs.{IsWorked}
@@ -105,7 +105,7 @@ ticket_or other (Some ticket) = ticket
 same_own : (own ticket : Ticket) → Some own ≡ Some ticket → own ≡ ticket
 same_own own ticket same = ap (ticket_or own) same
 
-module _ (b : BookState) (faults : ℕ) (unused : IsUnused b) (done : List Deed) (old mid : Standing)
+module _ (b : BookState) (faults : ℕ) (unused : IsUnused b) (done : List Deed) (old mid : HubState)
     (so : IsCourse (beginning b faults) done old) (r : ℕ)
     (t : IsTrackedBy (left_of done) (λ (q : ℕ). reports_from q done) old.book) where
   abbrev o : Outlook

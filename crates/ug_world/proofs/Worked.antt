@@ -20,7 +20,7 @@ use Rattle.ug_stream.specs.Streams.{Waiting, first}
 use Rattle.ug_rules.specs.declared.told.Told.{Told}
 use Rattle.ug_rules.specs.State.{BookState}
 use Rattle.ug_coord.specs.Deeds.{Broke, Came, Closed, Decided, Deed, Does, Halted, IsCourse, Launched, Lost, Passed}
-use Rattle.ug_coord.specs.Deeds.{Sent, SetUp, Standing, Took, Unclosed, Unfed, Unread, Unsent, Unwritten}
+use Rattle.ug_coord.specs.Deeds.{Sent, SetUp, HubState, Took, Unclosed, Unfed, Unread, Unsent, Unwritten}
 use Rattle.ug_coord.specs.Deeds.{Kept as Saved}
 use Rattle.ug_coord.specs.Ends.{ranks_of}
 use Rattle.ug_coord.specs.Hubs.{beginning}
@@ -282,7 +282,7 @@ none_read b faults r = record {
   waits = λ fine. ap (λ (w : Waiting). w.bytes) (sym (none_waits (ranks_of b) r));
 }
 
-module _ (b : BookState) (faults : ℕ) (unused : IsUnused b) (deeds : List Deed) (now : Standing)
+module _ (b : BookState) (faults : ℕ) (unused : IsUnused b) (deeds : List Deed) (now : HubState)
     (course : IsCourse (beginning b faults) deeds now) where
   pub traffic : (r : ℕ) → IsTraffic b.settings.gap r (beginning b faults) now deeds
   traffic r = traffic_is b.settings.gap r (beginning b faults) deeds now refl (fit_first b faults) course
@@ -450,7 +450,7 @@ honest_back old new told heard grows h =
     (subst (λ (p : Instance). AreHonest p (IsGivenWith p (told ++ new.orders)) heard) grows.problem h))
 
 -- what is honest once a report was answered was so before
-now_by : (old mid : Standing) (past : Past) (deed : Deed) → Does old deed mid
+now_by : (old mid : HubState) (past : Past) (deed : Deed) → Does old deed mid
     → IsHonestSo mid.book (after deed past).told (after deed past).heard → honest_at old past deed
 now_by old mid past (Launched rank) does h = tt
 now_by old mid past (SetUp rank bytes) does h = tt
@@ -458,7 +458,7 @@ now_by old mid past (Closed rank) does h = tt
 now_by old mid past (Came rank bytes) does h = tt
 now_by old mid past (Took rank report answer) does h =
     honest_back old.book mid.book past.told (past.heard ++ report ∷ [])
-    (subst (Grows [] old.book) (sym (ap (λ (s : Standing). s.book) does.rest))
+    (subst (Grows [] old.book) (sym (ap (λ (s : HubState). s.book) does.rest))
     (heard_grows answer rank report old.book)) h
 now_by old mid past (Lost rank cause) does h = tt
 now_by old mid past Decided does h = tt
@@ -475,7 +475,7 @@ now_by old mid past Saved does h = tt
 
 module _ (b : BookState) (faults : ℕ) (unused : IsUnused b) (said : List Exchange)
     (worked : AreAlwaysWorked said) where
-  stays_honest : (done : List Deed) (old : Standing) (deeds : List Deed) (new : Standing) (past : Past)
+  stays_honest : (done : List Deed) (old : HubState) (deeds : List Deed) (new : HubState) (past : Past)
       → IsCourse (beginning b faults) done old → (course : IsCourse old deeds new) → (more : List Exchange)
       → said ≡ new.said ++ more → past.told ≡ left_of done → past.heard ≡ heard_of done
       → StaysHonest old past deeds new course

@@ -7,7 +7,7 @@ use Rattle.ug_rules.specs.declared.told.Told.{Told}
 use Rattle.ug_rules.specs.State.{BookState}
 use Rattle.ug_rules.specs.Books.{IsBook, IsSoundBook}
 use Rattle.ug_coord.specs.Deeds.{Broke, Came, Closed, Decided, Deed, Halted, IsCourse}
-use Rattle.ug_coord.specs.Deeds.{Launched, Lost, Passed, Sent, SetUp, Standing, Took, Unclosed, Unfed}
+use Rattle.ug_coord.specs.Deeds.{Launched, Lost, Passed, Sent, SetUp, HubState, Took, Unclosed, Unfed}
 use Rattle.ug_coord.specs.Deeds.{Unread, Unsent, Unwritten}
 use Rattle.ug_coord.specs.Deeds.{Kept as Saved}
 use Rattle.ug_coord.specs.Hubs.{HasCome, StaysSound, beginning}
@@ -47,7 +47,7 @@ abbrev pub IsHonestSo : BookState → List Told → List Report → Type 0
 IsHonestSo b told heard = AreHonest b.problem (IsGivenWith b.problem (told ++ b.orders)) heard
 
 -- also at the moment between that a report comes and that it is answered
-abbrev pub honest_at : Standing → Past → Deed → Type 0
+abbrev pub honest_at : HubState → Past → Deed → Type 0
 honest_at old past (Launched rank) = Unit {0}
 honest_at old past (SetUp rank bytes) = Unit {0}
 honest_at old past (Closed rank) = Unit {0}
@@ -68,7 +68,7 @@ honest_at old past Unread = Unit {0}
 honest_at old past Saved = Unit {0}
 
 -- so it is through all of the deeds
-abbrev pub StaysHonest : (old : Standing) → Past → (deeds : List Deed) → (new : Standing)
+abbrev pub StaysHonest : (old : HubState) → Past → (deeds : List Deed) → (new : HubState)
     → IsCourse old deeds new → Type 0
 StaysHonest old past [] new course = Unit {0}
 StaysHonest old past (deed ∷ deeds) new (mid, does, more) = honest_at old past deed
@@ -76,7 +76,7 @@ StaysHonest old past (deed ∷ deeds) new (mid, does, more) = honest_at old past
     × StaysHonest mid (after deed past) deeds new more)
 
 -- what is heard is honest through a course from the beginning
-abbrev pub IsHonestFrom : (b : BookState) (faults : ℕ) (now : Standing) → HasCome (beginning b faults) now
+abbrev pub IsHonestFrom : (b : BookState) (faults : ℕ) (now : HubState) → HasCome (beginning b faults) now
     → Type 0
 IsHonestFrom b faults now come = StaysHonest (beginning b faults) nothing come.deeds now come.course
 
@@ -84,7 +84,7 @@ IsHonestFrom b faults now come = StaysHonest (beginning b faults) nothing come.d
 -- and whichever calls fail, at each moment the book is sound, so no better point is lost, as long
 -- as what is heard is honest.
 abbrev pub CoordinatorsLoseNothing : Type 0
-CoordinatorsLoseNothing = (b : BookState) (faults : ℕ) (now : Standing)
+CoordinatorsLoseNothing = (b : BookState) (faults : ℕ) (now : HubState)
     (come : HasCome (beginning b faults) now) → IsBook b ⊎ (come.deeds ≡ []) → IsSoundBook b → b.last ≡ 0
     → IsHonestFrom b faults now come
     → StaysSound (beginning b faults) now come × LosesNothing now.book

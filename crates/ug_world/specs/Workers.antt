@@ -9,7 +9,7 @@ use Rattle.ug_book.specs.Openings.{opening_book}
 use Rattle.ug_book.specs.Views.{IsSameRun}
 use Rattle.ug_restart.specs.declared.outcome.End.{End}
 use Rattle.ug_restart.specs.Outcomes.{HasFeasible, IfAnswered, IfBook, IfLimited, IsLimited, IsRight}
-use Rattle.ug_coord.specs.Deeds.{Standing}
+use Rattle.ug_coord.specs.Deeds.{HubState}
 use Rattle.ug_coord.specs.Ends.{IsAtLimit}
 use Rattle.ug_coord.specs.Hubs.{HasCome, StaysSound, beginning}
 use Rattle.ug_coord.specs.Keeping.{IsKeptSafe}
@@ -25,7 +25,7 @@ pub record IsUnused (b : BookState) : Type 0 where
 -- what a worker tells that hears what was told to the rank, at each moment the book is sound, so
 -- no better point is lost. Nothing is asked of what is told.
 abbrev pub CoordinatorsOfWorkersLoseNothing : Type 0
-CoordinatorsOfWorkersLoseNothing = (b : BookState) (faults : ℕ) (now : Standing)
+CoordinatorsOfWorkersLoseNothing = (b : BookState) (faults : ℕ) (now : HubState)
     (come : HasCome (beginning b faults) now) → IsBook b ⊎ (come.deeds ≡ []) → IsSoundBook b → IsUnused b
     → AreAlwaysWorked now.said
     → StaysSound (beginning b faults) now come × LosesNothing now.book

@@ -35,7 +35,7 @@ const PARTS: &[(usize, u8)] = &[
     (149, 1),
 ];
 
-// Whether a place of version 3 is in a version too: the deliveries, the gap and the names of the
+// Whether a place of version 3 is in a version too: the reports, the gap and the names of the
 // nodes are not in the first, and the gap is not in the second.
 fn is_in(version: u8, at: usize) -> bool {
     match version {

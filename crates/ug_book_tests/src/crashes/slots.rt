@@ -14,7 +14,7 @@ use ug_rows::Objective;
 use ug_rules::Settings;
 
 /// A slot with the image of a run of a problem that has neither columns nor rows: the gate, 104
-/// bytes, version 3, the run, the sequence, a record of 30 bytes, no best point, no deliveries, the
+/// bytes, version 3, the run, the sequence, a record of 30 bytes, no best point, no reports, the
 /// gap, and one node, whose name is of ticket 0 and hand 0, without changes.
 pub fn slot_of(run: u8, sequence: u8, gap: u8) -> [u8; 113] {
     let mut slot = [0u8; 113];

@@ -242,7 +242,7 @@ pub fn push_holds(alloc: Global, text: &mut String, book: &Book) -> Result<(), A
     push_held(alloc, text, book)?;
     push_primitive(alloc, text, book)?;
     push_best(alloc, text, book)?;
-    let heard = book.count();
+    let heard = book.heard();
     push(text, format!(in alloc; "; heard {heard}"))
 }
 

@@ -133,7 +133,7 @@ fn threads_in_any_order_find_one_value(rt: HostRuntime) {
 // Whether a run that may hear so much has heard it and ends unanswered, or has found the value.
 fn ends_at(outcome: &Outcome, limit: u64) -> bool {
     match &outcome.end {
-        End::Limited(book) => book.count() >= limit && book.answer().is_none(),
+        End::Limited(book) => book.heard() >= limit && book.answer().is_none(),
         _ => limit > 0 && answer_of(outcome) == Answer::Value(-13),
     }
 }

@@ -24,11 +24,11 @@ returns-then-is_answered-clause-lacks c = c.if-wants.false
 pub returns-then-is_answered-clause-right : goal.returns-then-is_answered-clause-right
 returns-then-is_answered-clause-right c = c.if-is_answered.ensures.right refl
 
-pub returns-then-settings-count-clause-lacks : goal.returns-then-settings-count-clause-lacks
-returns-then-settings-count-clause-lacks c = c.if-wants.false
+pub returns-then-settings-heard-clause-lacks : goal.returns-then-settings-heard-clause-lacks
+returns-then-settings-heard-clause-lacks c = c.if-wants.false
 
-pub returns-then-settings-count-clause-right : goal.returns-then-settings-count-clause-right
-returns-then-settings-count-clause-right c = tt
+pub returns-then-settings-heard-clause-right : goal.returns-then-settings-heard-clause-right
+returns-then-settings-heard-clause-right c = tt
 
 pub returns-clause-lacks : goal.returns-clause-lacks
 returns-clause-lacks c = c.if-wants.false
@@ -39,22 +39,22 @@ returns-clause-right c = tt
 pub returns-then-is_answered-clause-feasible : goal.returns-then-is_answered-clause-feasible
 returns-then-is_answered-clause-feasible c = c.problem-problem.ensures.book.incumbent
 
-pub returns-then-settings-count-clause-ended : goal.returns-then-settings-count-clause-ended
-returns-then-settings-count-clause-ended c = (
+pub returns-then-settings-heard-clause-ended : goal.returns-then-settings-heard-clause-ended
+returns-then-settings-heard-clause-ended c = (
   refl,
   record {
     held = c.if-is_answered.ensures.none;
     spent = omega (
       arith,
-      c.if-settings-count.true,
-      c.count.ensures,
+      c.if-settings-heard.true,
+      c.heard.ensures,
       ap (λ (s : Settings). s.limit) c.settings.ensures.value,
     );
   },
 )
 
-pub returns-then-settings-count-clause-feasible : goal.returns-then-settings-count-clause-feasible
-returns-then-settings-count-clause-feasible c = c.problem-problem.ensures.book.incumbent
+pub returns-then-settings-heard-clause-feasible : goal.returns-then-settings-heard-clause-feasible
+returns-then-settings-heard-clause-feasible c = c.problem-problem.ensures.book.incumbent
 
 pub returns-clause-ended : goal.returns-clause-ended
 returns-clause-ended c = (
@@ -62,8 +62,8 @@ returns-clause-ended c = (
   stranded c.args.book c.if-is_answered.ensures.none
       (omega (
         arith,
-        c.if-settings-count.false,
-        c.count.ensures,
+        c.if-settings-heard.false,
+        c.heard.ensures,
         ap (λ (s : Settings). s.limit) c.settings.ensures.value,
       ))
       (c.requires c.if-wants.false),

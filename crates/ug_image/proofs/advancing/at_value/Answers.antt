@@ -3,8 +3,8 @@ use Rattle.ug_image.proofs.advancing.at_value.Goals as goal
 
 pub returns-then-k-values : goal.returns-then-k-values
 returns-then-k-values c =
-    value_past c.args.image.now c.args.k _ c.at_deliveries.new.line _ c.values-values.ensures
-    c.if-k-values.true c.at_deliveries.ensures
+    value_past c.args.image.now c.args.k _ c.at_heard.new.line _ c.values-values.ensures
+    c.if-k-values.true c.at_heard.ensures
 
 pub returns : goal.returns
 returns c =

@@ -1,5 +1,5 @@
 use Rattle.std.proofs.Common.{◌≡◌}
-use Rattle.ug_coord.specs.Deeds.{Standing}
+use Rattle.ug_coord.specs.Deeds.{HubState}
 use Rattle.ug_coord.specs.Hubs.{AnyPhase, IsClosedBelow, IsKeptIn}
 use Rattle.ug_coord.specs.HubViews.{hub_seen}
 use Rattle.ug_coord.specs.Keeping.{KeptSeen}
@@ -7,7 +7,7 @@ use Rattle.ug_coord.proofs.hub.Hub.close.Given as goal
 
 abbrev pub invariant-loop-rank : goal.invariant-loop-rank
 invariant-loop-rank g l = record {
-  closed : (from : Standing) (old new : KeptSeen)
+  closed : (from : HubState) (old new : KeptSeen)
       → IsKeptIn AnyPhase from (hub_seen g.C.Crew.seen l.initial.self) old new
       → IsClosedBelow l.rank from (hub_seen g.C.Crew.seen l.self) old new;
   book : l.self.book ≡ l.initial.self.book;

@@ -1,5 +1,5 @@
 use Rattle.ug_book.specs.Views.{IsSameRun}
-use Rattle.ug_coord.specs.Deeds.{Standing}
+use Rattle.ug_coord.specs.Deeds.{HubState}
 use Rattle.ug_coord.specs.Hubs.{IsKeptIn, IsRested}
 use Rattle.ug_coord.specs.HubViews.{hub_seen}
 use Rattle.ug_coord.specs.Keeping.{IsKeptBy, KeptSeen}
@@ -10,7 +10,7 @@ use Rattle.ug_coord.proofs.hub.Hub.go_on.Given as goal
 abbrev pub invariant-loop : goal.invariant-loop
 invariant-loop g l = record {
   next : (goal.iterator-loop g).can_next l.iterator' × (goal.iterator-loop g).is_finite l.iterator';
-  on : (from : Standing) (first : KeptSeen) → IsKeptIn IsRested from (hub_seen g.C.Crew.seen l.initial.self) first
+  on : (from : HubState) (first : KeptSeen) → IsKeptIn IsRested from (hub_seen g.C.Crew.seen l.initial.self) first
       (kept_seen l.initial.keeper (g.D.Disk.seen l.initial.disk))
       → IsKeptIn IsRested from (hub_seen g.C.Crew.seen l.self) first (kept_seen l.keeper (g.D.Disk.seen l.disk));
   kept : IsKeptBy (kept_seen l.keeper (g.D.Disk.seen l.disk));

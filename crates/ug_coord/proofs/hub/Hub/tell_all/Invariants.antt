@@ -1,5 +1,5 @@
 use Rattle.std.proofs.Common.{◌≡◌}
-use Rattle.ug_coord.specs.Deeds.{Standing}
+use Rattle.ug_coord.specs.Deeds.{HubState}
 use Rattle.ug_coord.specs.Hubs.{IsOnAs, IsQuiet, Phase}
 use Rattle.ug_coord.specs.HubViews.{hub_seen}
 use Rattle.ug_coord.proofs.hub.Hub.tell_all.Given as goal
@@ -7,7 +7,7 @@ use Rattle.ug_coord.proofs.hub.Hub.tell_all.Given as goal
 abbrev pub invariant-loop : goal.invariant-loop
 invariant-loop g l = record {
   next : (goal.iterator-loop g).can_next l.iterator' × (goal.iterator-loop g).is_finite l.iterator';
-  on : (phase : Phase) (from : Standing) → IsOnAs phase from (hub_seen g.C.Crew.seen l.initial.self)
+  on : (phase : Phase) (from : HubState) → IsOnAs phase from (hub_seen g.C.Crew.seen l.initial.self)
       → IsOnAs phase from (hub_seen g.C.Crew.seen l.self);
   quiet : IsQuiet l.initial.self.book l.self.book;
   pacing : l.self.pacing ≡ l.initial.self.pacing;

@@ -1,7 +1,7 @@
 use Rattle.std.proofs.Common.{Bool, List, true, false, refl, subst, ◌<◌, ℕ, length, sym, ap, ◌∙◌}
 use Rattle.std.specs.Prelude.{MatchBool}
 use Rattle.ug_stream.specs.Streams.{Waiting}
-use Rattle.ug_coord.specs.Deeds.{Deciding, Reading, Standing}
+use Rattle.ug_coord.specs.Deeds.{Deciding, Reading, HubState}
 use Rattle.ug_coord.specs.HubViews.{hub_seen}
 use Rattle.ug_coord.specs.Hubs.{HubSeen, IsBrokenOff, IsOnAs, IsOnIn, IsRested, MayRead, Phase, is_next}
 use Rattle.ug_coord.specs.Reading.{AreReadBut, HasBroken, HasFed, HasGone, HasLacked}
@@ -11,10 +11,10 @@ use Rattle.ug_coord.proofs.Whole.{as_long, broken_whole, fed_whole, gone_whole, 
 use Rattle.ug_coord.proofs.Counts.{lost_quiet, quiet_one, quiet_none}
 use Rattle.ug_coord.proofs.hub.Hub.turn.Goals as goal
 
-pub read_rests : (result : Bool) (from : Standing) (h new : HubSeen)
+pub read_rests : (result : Bool) (from : HubState) (h new : HubSeen)
     → MatchBool result
-    ((b : Standing) → IsOnIn MayRead b h → IsOnIn (is_next Deciding) b new)
-    ((phase : Phase) (b : Standing) → IsOnAs phase b h → IsOnAs phase b new)
+    ((b : HubState) → IsOnIn MayRead b h → IsOnIn (is_next Deciding) b new)
+    ((phase : Phase) (b : HubState) → IsOnAs phase b h → IsOnAs phase b new)
     → IsOnIn (is_next Reading) from h → IsOnIn IsRested from new
 read_rests true from h new goes on = deciding_rests from new (goes from (reading_reads from h on))
 read_rests false from h new goes on =
