@@ -25,7 +25,7 @@ use Rattle.ug_book.specs.Reads.{IsOrderTold}
 use Rattle.ug_book.specs.Views.{IsSameRun}
 use Rattle.ug_coord.specs.Deeds.{Broke, Came, Closed, Decided, Deed, Does, Halted, IsCourse, Kept as Saved, Launched, Lost, Passed, Sent, SetUp, HubState, Took, Unclosed, Unfed, Unread, Unsent, Unwritten}
 use Rattle.ug_coord.specs.Ends.{IsOver}
-use Rattle.ug_coord.specs.Hubs.{HearsOne, IsOneMore, IsQuiet}
+use Rattle.ug_coord.specs.Hubs.{HearsOne, HubSeen, IsOneMore, IsQuiet}
 use Rattle.ug_coord.proofs.Kept.{run_on, same_of}
 
 -- how many reports were heard, and the settings
@@ -215,48 +215,65 @@ heard_one answer r report b =
 
 -- ---- what a coordinator's calls do
 
-pub quiet_by : (old new : BookState) → IsSameRun old new → Same old new → IsQuiet old new
-quiet_by old new run same = record { run = run; heard = ap (λ (t : Tally). t.heard) same }
+quiet_by : (old new : HubSeen) → IsSameRun old.book new.book → Same old.book new.book
+    → new.pacing ≡ old.pacing → IsQuiet old new
+quiet_by old new run same pacing =
+    record { run = run; heard = ap (λ (t : Tally). t.heard) same; pacing = pacing }
 
-pub lost_quiet : (r : ℕ) (old new : BookState) → IsSameRun old new → new ≡ killed r old → IsQuiet old new
-lost_quiet r old new run is = quiet_by old new run (ap tally is ∙ killed_same r old)
+pub lost_quiet : (r : ℕ) (old new : HubSeen) → IsSameRun old.book new.book
+    → new.book ≡ killed r old.book → new.pacing ≡ old.pacing → IsQuiet old new
+lost_quiet r old new run is = quiet_by old new run (ap tally is ∙ killed_same r old.book)
 
-pub decided_quiet : (old new : BookState) → IsSameRun old new → IsDecided old new → IsQuiet old new
-decided_quiet old new run is = quiet_by old new run (decided_same old new is)
+pub decided_quiet : (old new : HubSeen) → IsSameRun old.book new.book → IsDecided old.book new.book
+    → new.pacing ≡ old.pacing → IsQuiet old new
+decided_quiet old new run is = quiet_by old new run (decided_same old.book new.book is)
 
-pub stands_quiet : (steps : ℕ) (old new : BookState) → IsSameRun old new → Stands steps old new
-    → IsQuiet old new
-stands_quiet steps old new run stands = quiet_by old new run (stands_same steps old new stands)
+pub stands_quiet : (steps : ℕ) (old new : HubSeen) → IsSameRun old.book new.book
+    → Stands steps old.book new.book → new.pacing ≡ old.pacing → IsQuiet old new
+stands_quiet steps old new run stands =
+    quiet_by old new run (stands_same steps old.book new.book stands)
 
-pub left_quiet : (old new : BookState) (told : Told) → IsSameRun old new → IsOrderTold old new told
-    → IsQuiet old new
-left_quiet old new told run is = quiet_by old new run (left_same old new told is)
+pub left_quiet : (old new : HubSeen) (told : Told) → IsSameRun old.book new.book
+    → IsOrderTold old.book new.book told → new.pacing ≡ old.pacing → IsQuiet old new
+left_quiet old new told run is = quiet_by old new run (left_same old.book new.book told is)
 
-pub heard_by : (answer : Heard) (r : ℕ) (report : Report) (old new : BookState) → IsSameRun old new
-    → new ≡ after_hearing answer r report old → HearsOne old new
-heard_by answer r report old new run is = record {
+pub heard_by : (answer : Heard) (r : ℕ) (report : Report) (old new : HubSeen)
+    → IsSameRun old.book new.book → new.book ≡ after_hearing answer r report old.book
+    → new.pacing ≡ old.pacing → HearsOne old new
+heard_by answer r report old new run is pacing = record {
   run = run;
-  heard = subst (λ (b : BookState). IsOneMore old.heard b.heard) (sym is)
-      (heard_one answer r report old).heard;
+  heard = subst (λ (b : BookState). IsOneMore old.book.heard b.heard) (sym is)
+      (heard_one answer r report old.book).heard;
+  pacing = pacing;
 }
 
-pub quiet_none : (b : BookState) → IsQuiet b b
-quiet_none b = quiet_by b b (same_of b b refl) refl
+-- where neither the book nor its pacing changed
+pub quiet_none : (old new : HubSeen) → new.book ≡ old.book → new.pacing ≡ old.pacing
+    → IsQuiet old new
+quiet_none old new same pacing =
+    quiet_by old new (same_of old.book new.book same) (ap tally same) pacing
 
-pub quiet_on : (a b c : BookState) → IsQuiet a b → IsQuiet b c → IsQuiet a c
-quiet_on a b c one two = record { run = run_on a b c one.run two.run; heard = two.heard ∙ one.heard }
+pub quiet_on : (a b c : HubSeen) → IsQuiet a b → IsQuiet b c → IsQuiet a c
+quiet_on a b c one two = record {
+  run = run_on a.book b.book c.book one.run two.run;
+  heard = two.heard ∙ one.heard;
+  pacing = two.pacing ∙ one.pacing;
+}
 
-pub quiet_one : (old new : BookState) → IsQuiet old new → HearsOne old new
-quiet_one old new quiet = record { run = quiet.run; heard = inl quiet.heard }
+pub quiet_one : (old new : HubSeen) → IsQuiet old new → HearsOne old new
+quiet_one old new quiet =
+    record { run = quiet.run; heard = inl quiet.heard; pacing = quiet.pacing }
 
-pub hears_after : (a b c : BookState) → IsQuiet a b → HearsOne b c → HearsOne a c
+pub hears_after : (a b c : HubSeen) → IsQuiet a b → HearsOne b c → HearsOne a c
 hears_after a b c quiet hears = record {
-  run = run_on a b c quiet.run hears.run;
-  heard = subst (λ (heard : ℕ). IsOneMore heard c.heard) quiet.heard hears.heard;
+  run = run_on a.book b.book c.book quiet.run hears.run;
+  heard = subst (λ (heard : ℕ). IsOneMore heard c.book.heard) quiet.heard hears.heard;
+  pacing = hears.pacing ∙ quiet.pacing;
 }
 
 -- and then what a step hears
-pub steps_after : (result : Bool) (a b c : BookState) → IsQuiet a b → MatchBool result (HearsOne b c) (IsQuiet b c)
+pub steps_after : (result : Bool) (a b c : HubSeen) → IsQuiet a b
+    → MatchBool result (HearsOne b c) (IsQuiet b c)
     → MatchBool result (HearsOne a c) (IsQuiet a c)
 steps_after true a b c quiet hears = hears_after a b c quiet hears
 steps_after false a b c quiet hears = quiet_on a b c quiet hears

@@ -15,7 +15,7 @@ use Rattle.ug_coord.specs.Deeds.{AreSound, Broke, Came, Closed, Decided, Deed, D
 use Rattle.ug_coord.specs.declared.pacing.Pacing.{Pacing}
 use Rattle.ug_coord.specs.Pacing.{IsSaveDue, is_due, saved_at}
 use Rattle.ug_coord.proofs.Tries.{tried_none, tried_on}
-use Rattle.ug_coord.specs.Hubs.{AnyPhase, EndsFrom, HasCome, HubSeen, IsKeptIn, IsOnIn, Phase, StaysSound, standing}
+use Rattle.ug_coord.specs.Hubs.{AnyPhase, EndsFrom, HasCome, HasKeptUp, HubSeen, IsKeptIn, IsOnIn, Phase, StaysSound, standing}
 use Rattle.ug_coord.specs.Keeping.{HasTried, IsOurs, KeptSeen, Moves, moves}
 
 -- ---- courses
@@ -98,6 +98,16 @@ same_of a b same = record {
   settings = ap (λ (k : BookState). k.settings) same;
   wide = ap (λ (k : BookState). length k.ranks) same;
 }
+
+-- and what is saved keeps up since the first
+pub kept_up : (a b c : HubSeen) (k : KeptSeen) → IsSameRun a.book b.book → HasKeptUp b c k
+    → HasKeptUp a c k
+kept_up a b c k same kept =
+    record {
+      same = run_on a.book b.book c.book same kept.same;
+      saved = kept.saved;
+      kept = kept.kept;
+    }
 
 pub ours_same : (saves : Option Saves) (b c : BookState) → IsSameRun b c
     → IfSome saves (λ s. IsSameRun (book_of s) b) → IfSome saves (λ s. IsSameRun (book_of s) c)

@@ -113,19 +113,19 @@ AreReadOut streams = (rank : ℕ) → ¬ HasMore (slice_index_or streams rank fi
 
 -- No end is due, and no order waits: each was told to its rank, or that failed, or the rank is
 -- gone.
-pub record IsSettled (old : HubState) : Type 0 where
-  pub more : ¬ IsOver old.book
-  pub told : old.book.orders ≡ []
+pub record IsSettled (b : BookState) : Type 0 where
+  pub more : ¬ IsOver b
+  pub told : b.orders ≡ []
 
 -- and it was decided since the last report, and all that came was read: so more may be asked for
 pub record IsHearing (old : HubState) : Type 0 where
-  pub settled : IsSettled old
+  pub settled : IsSettled old.book
   pub decided : old.pace ≡ Hearing
   pub read : AreReadOut old.streams
 
 -- and it was decided, or something came
 pub record IsReading (old : HubState) : Type 0 where
-  pub settled : IsSettled old
+  pub settled : IsSettled old.book
   pub decided : MayBeRead old.pace
 
 -- a decision is due, and no end, nor a save: so a save comes right behind the report that asks for

@@ -7,6 +7,7 @@ use Rattle.ug_io.specs.Outside.{Rose}
 use Rattle.ug_records.specs.Answers.{IsRecordOf}
 use Rattle.ug_frames.specs.declared.order.Order.TheVariants.{Setup}
 use Rattle.ug_frames.specs.OrderFrames as orders
+use Rattle.ug_stream.specs.declared.next.Next.TheVariants.{NeedMore}
 use Rattle.ug_stream.specs.Streams.{Waiting, first}
 use Rattle.ug_rules.specs.State.{BookState}
 use Rattle.ug_rules.specs.Books.{IsBook, IsSoundBook}
@@ -19,14 +20,16 @@ use Rattle.ug_restart.specs.declared.outcome.End.{End}
 use Rattle.ug_restart.specs.Outcomes.{HasFeasible, IfAnswered, IfBook, IfLimited, IsRight}
 use Rattle.ug_coord.specs.Ends.{IsAtLimit, IsExactly, is_ended, ranks_of}
 use Rattle.ug_coord.specs.Deeds.{AreSound, Closing, Deciding, Deed, IsCourse, IsMoreWanted, IsToldEnd}
-use Rattle.ug_coord.specs.Deeds.{MayBeRead, MayDecide, Pace, HubState, lives_at, saves_in}
+use Rattle.ug_coord.specs.Deeds.{AreReadOut, HubState, MayBeRead, MayDecide, Pace, lives_at}
+use Rattle.ug_coord.specs.Deeds.{saves_in}
 use Rattle.ug_coord.specs.declared.pacing.Pacing.{Pacing}
 use Rattle.ug_coord.specs.Pacing.{IsSaveDue}
 use Rattle.ug_ranks.specs.Looks.{is_alive}
 use Rattle.ug_ranks.specs.States.{state_at}
 use Rattle.ug_coord.specs.Causes.{HasCause, IsShownGone}
 use Rattle.ug_coord.specs.Starts.{AreStarted, AreStarts, HasStarted}
-use Rattle.ug_coord.specs.Keeping.{HasTried, KeptSeen, Moves}
+use Rattle.ug_coord.specs.Keeping.{HasTried, IsKeeperOf, IsKeptBy, KeptSeen, Moves}
+use Rattle.ug_coord.specs.Reading.{HasRead}
 
 -- with a crew of which nothing was said yet, no rank of which lives
 abbrev pub beginning : BookState → ℕ → HubState
@@ -246,15 +249,34 @@ pub record HasCoordinated (b : BookState) (faults : ℕ) (seen : CrewSeen) (end 
 abbrev pub IsOneMore : ℕ → ℕ → Type 0
 IsOneMore old new = (new ≡ old) ⊎ (new ≡ old + 1)
 
--- the run is the same, and no report was heard
-pub record IsQuiet (old new : BookState) : Type 0 where
-  pub run : IsSameRun old new
-  pub heard : new.heard ≡ old.heard
+-- the run is the same, no report was heard, and the next save may come when it might before
+pub record IsQuiet (old new : HubSeen) : Type 0 where
+  pub run : IsSameRun old.book new.book
+  pub heard : new.book.heard ≡ old.book.heard
+  pub pacing : new.pacing ≡ old.pacing
 
--- the run is the same, and one report was heard at most
-pub record HearsOne (old new : BookState) : Type 0 where
-  pub run : IsSameRun old new
-  pub heard : IsOneMore old.heard new.heard
+-- so it is, but that one report may have been heard
+pub record HearsOne (old new : HubSeen) : Type 0 where
+  pub run : IsSameRun old.book new.book
+  pub heard : IsOneMore old.book.heard new.book.heard
+  pub pacing : new.pacing ≡ old.pacing
+
+-- what is saved keeps up with the book: no save is due, and it is of the book's run
+pub record KeepsUp (h : HubSeen) (k : KeptSeen) : Type 0 where
+  pub saved : ¬ IsSaveDue h.pacing h.book
+  pub keeper : IsKeeperOf k h.book
+
+-- the run is the same, no save is due, and the saver has what its disk holds
+pub record HasKeptUp (old new : HubSeen) (k : KeptSeen) : Type 0 where
+  pub same : IsSameRun old.book new.book
+  pub saved : ¬ IsSaveDue new.pacing new.book
+  pub kept : IsKeptBy k
+
+-- of the rank only a frame that is cut short was there, and of no rank more is; the book stays
+pub record HasReadAll (old new : HubSeen) (rank : ℕ) : Type 0 where
+  pub short : HasRead old.streams new.streams rank NeedMore
+  pub read : AreReadOut new.streams
+  pub nothing : new.book ≡ old.book
 
 -- a report of the rank was heard, and so answered
 pub record HasHeardReport (old new : HubSeen) (rank : ℕ) (report : Report) : Type 0 where

@@ -35,6 +35,11 @@ IsKeptBy k = IfSome k.saves (λ s. IsKept (saver_of s) k.disk.told)
 abbrev pub IsOurs : KeptSeen → BookState → Type 0
 IsOurs k b = IfSome k.saves (λ s. IsSameRun (book_of s) b)
 
+-- the saver has what its disk holds, and what is saved is of this book's run
+pub record IsKeeperOf (k : KeptSeen) (b : BookState) : Type 0 where
+  pub kept : IsKeptBy k
+  pub ours : IsOurs k b
+
 -- the saves go on; without a saver the disk is not touched
 abbrev pub moves : Type 0 → Type 0 → Option Saves → DiskSeen → Option Saves → DiskSeen → Type 0
 moves Covers Ours None old None new = new ≡ old

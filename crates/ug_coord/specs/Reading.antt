@@ -7,7 +7,9 @@ use Rattle.ug_frames.specs.declared.report.Report.{Report}
 use Rattle.ug_frames.specs.ReportFrames as reports
 use Rattle.ug_stream.specs.declared.next.Next.{Next}
 use Rattle.ug_stream.specs.Streams.{IsNext, Waiting, fed, first, shut}
+use Rattle.ug_rules.specs.State.{BookState}
 use Rattle.ug_coord.specs.Deeds.{HasMore}
+use Rattle.ug_coord.specs.Ends.{ranks_of}
 use Rattle.ug_coord.specs.declared.streams.Turn.{Turn}
 use Rattle.ug_coord.specs.declared.streams.Turn.TheVariants.{Fed, Gone, Failed, Wanting}
 
@@ -15,6 +17,11 @@ use Rattle.ug_coord.specs.declared.streams.Turn.TheVariants.{Fed, Gone, Failed, 
 pub record AreReadBut (last : Option ℕ) (streams : List Waiting) : Type 0 where
   pub there : ForSome last (λ rank. rank < length streams)
   pub only : (rank : ℕ) → HasMore (slice_index_or streams rank first) → last ≡ Some rank
+
+-- the rank is one of the book's, and its bytes came last
+pub record IsLastFed (last : Option ℕ) (b : BookState) (rank : ℕ) : Type 0 where
+  pub there : rank < ranks_of b
+  pub came : last ≡ Some rank
 
 -- this came next of the rank
 pub record HasRead (old new : List Waiting) (rank : ℕ) (next : Next Report) : Type 0 where

@@ -1,13 +1,13 @@
 //! What a coordinator hears of its crew, a report at a time.
 
-ghost use Rattle.std.specs.Prelude.{◌≡◌, ◌<◌, [], false, Some, MatchBool};
-ghost use Rattle.ug_stream.specs.declared.next.Next.TheVariants.{NeedMore};
+ghost use Rattle.std.specs.Prelude.{◌≡◌, ◌<◌, false, MatchBool};
 ghost use Rattle.ug_rules.specs.Hearing.{IsHearable};
-ghost use Rattle.ug_coord.specs.Deeds.{AreReadOut, Deciding, Hearing, HubState};
-ghost use Rattle.ug_coord.specs.Ends.{AllDead, IsOver, ranks_of};
-ghost use Rattle.ug_coord.specs.Hubs.{AnyPhase, HasHeardReport, HearsOne, IsBrokenOff, IsOnAs};
-ghost use Rattle.ug_coord.specs.Hubs.{IsOnIn, IsQuiet, IsRested, MayRead, Phase, is_next};
-ghost use Rattle.ug_coord.specs.Reading.{HasRead};
+ghost use Rattle.ug_coord.specs.Deeds.{AreReadOut, Deciding, Hearing, HubState, IsSettled};
+ghost use Rattle.ug_coord.specs.Ends.{AllDead, ranks_of};
+ghost use Rattle.ug_coord.specs.Hubs.{AnyPhase, HasHeardReport, HasReadAll, HearsOne};
+ghost use Rattle.ug_coord.specs.Hubs.{IsBrokenOff, IsOnAs, IsOnIn, IsQuiet, IsRested, MayRead};
+ghost use Rattle.ug_coord.specs.Hubs.{Phase, is_next};
+ghost use Rattle.ug_coord.specs.Reading.{IsLastFed};
 
 use crate::hub::Hub;
 use crate::streams::{Turn, next_of, take_turn};
@@ -25,16 +25,15 @@ impl<R, O: Observer, C: Crew> Hub<'_, R, O, C> {
     /// all ranks are gone.
     pub fn listen(&mut self) -> bool
         requires on { (from : HubState) × IsOnIn (is_next Hearing) from (hub_seen C.seen self.old) }
-        requires more { ¬ IsOver self.old.book }
-        requires told { self.old.book.orders ≡ [] }
+        requires settled { IsSettled self.old.book }
         ensures on { MatchBool result
             ((from : HubState) → IsOnIn (is_next Hearing) from (hub_seen C.seen self.old)
             → IsOnIn IsRested from (hub_seen C.seen self.new))
             ((from : HubState) → IsOnIn (is_next Hearing) from (hub_seen C.seen self.old)
             → IsOnIn AnyPhase from (hub_seen C.seen self.new)) }
-        ensures hears { MatchBool result (HearsOne self.old.book self.new.book)
-            (IsQuiet self.old.book self.new.book) }
-        ensures pacing { self.new.pacing ≡ self.old.pacing }
+        ensures hears { MatchBool result
+            (HearsOne (hub_seen C.seen self.old) (hub_seen C.seen self.new))
+            (IsQuiet (hub_seen C.seen self.old) (hub_seen C.seen self.new)) }
         ensures all { result ≡ false → AllDead self.new.book }
     {
         let Some(rank) = self.last else {
@@ -50,17 +49,16 @@ impl<R, O: Observer, C: Crew> Hub<'_, R, O, C> {
     // all ranks are gone.
     fn turn(&mut self) -> bool
         requires on { (from : HubState) × IsOnIn (is_next Hearing) from (hub_seen C.seen self.old) }
-        requires more { ¬ IsOver self.old.book }
-        requires told { self.old.book.orders ≡ [] }
+        requires settled { IsSettled self.old.book }
         requires read { AreReadOut self.old.streams.items }
         ensures on { MatchBool result
             ((from : HubState) → IsOnIn (is_next Hearing) from (hub_seen C.seen self.old)
             → IsOnIn IsRested from (hub_seen C.seen self.new))
             ((from : HubState) → IsOnIn (is_next Hearing) from (hub_seen C.seen self.old)
             → IsOnIn AnyPhase from (hub_seen C.seen self.new)) }
-        ensures hears { MatchBool result (HearsOne self.old.book self.new.book)
-            (IsQuiet self.old.book self.new.book) }
-        ensures pacing { self.new.pacing ≡ self.old.pacing }
+        ensures hears { MatchBool result
+            (HearsOne (hub_seen C.seen self.old) (hub_seen C.seen self.new))
+            (IsQuiet (hub_seen C.seen self.old) (hub_seen C.seen self.new)) }
         ensures all { result ≡ false → AllDead self.new.book }
     {
         match take_turn(&mut self.crew, &mut self.streams, &mut self.input) {
@@ -88,21 +86,16 @@ impl<R, O: Observer, C: Crew> Hub<'_, R, O, C> {
     // heard.
     fn hear_next(&mut self, rank: u32) -> bool
         requires on { (from : HubState) × IsOnIn AnyPhase from (hub_seen C.seen self.old) }
-        requires there { rank < ranks_of self.old.book }
-        requires last { self.old.last ≡ Some rank }
-        requires more { ¬ IsOver self.old.book }
-        requires told { self.old.book.orders ≡ [] }
+        requires last { IsLastFed self.old.last self.old.book rank }
+        requires settled { IsSettled self.old.book }
         ensures on { MatchBool result
             ((from : HubState) → IsOnIn MayRead from (hub_seen C.seen self.old)
             → IsOnIn (is_next Deciding) from (hub_seen C.seen self.new))
             ((phase : Phase) (from : HubState) → IsOnAs phase from (hub_seen C.seen self.old)
             → IsOnAs phase from (hub_seen C.seen self.new)) }
-        ensures hears { HearsOne self.old.book self.new.book }
-        ensures nothing { result ≡ false → self.new.book ≡ self.old.book }
-        ensures short { result ≡ false
-            → HasRead self.old.streams.items self.new.streams.items rank NeedMore }
-        ensures read { result ≡ false → AreReadOut self.new.streams.items }
-        ensures pacing { self.new.pacing ≡ self.old.pacing }
+        ensures hears { HearsOne (hub_seen C.seen self.old) (hub_seen C.seen self.new) }
+        ensures read { result ≡ false
+            → HasReadAll (hub_seen C.seen self.old) (hub_seen C.seen self.new) rank }
     {
         match next_of(self.host.alloc, &mut self.streams, rank) {
             Ok(Next::Message(report)) => {
@@ -132,8 +125,7 @@ impl<R, O: Observer, C: Crew> Hub<'_, R, O, C> {
         requires hearable { IsHearable report }
         ensures heard { HasHeardReport (hub_seen C.seen self.old) (hub_seen C.seen self.new) rank
             report }
-        ensures hears { HearsOne self.old.book self.new.book }
-        ensures pacing { self.new.pacing ≡ self.old.pacing }
+        ensures hears { HearsOne (hub_seen C.seen self.old) (hub_seen C.seen self.new) }
     {
         let is_point = is_point(&report);
         let was_alive = self.book.is_alive(rank);
@@ -170,8 +162,7 @@ impl<R, O, C: Crew> Hub<'_, R, O, C> {
         ensures on { (from : HubState) → IsOnIn IsBrokenOff from (hub_seen C.seen self.old)
             → IsOnIn IsBrokenOff from (hub_seen C.seen self.new) }
         ensures all { AllDead self.new.book }
-        ensures quiet { IsQuiet self.old.book self.new.book }
-        ensures pacing { self.new.pacing ≡ self.old.pacing }
+        ensures quiet { IsQuiet (hub_seen C.seen self.old) (hub_seen C.seen self.new) }
     {
         for rank in 0..self.book.settings().solvers {
             self.lose(rank);

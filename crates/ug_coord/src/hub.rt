@@ -1,12 +1,12 @@
 //! A coordinator at work.
 
 ghost use Rattle.std.specs.Prelude.{◌≡◌, ◌<◌, true, false, length, MatchBool};
-ghost use Rattle.ug_book.specs.Views.{IsSameRun};
 ghost use Rattle.ug_coord.specs.Deeds.{Hearing, HubState};
 ghost use Rattle.ug_coord.specs.Ends.{IsOver, ranks_of};
-ghost use Rattle.ug_coord.specs.Hubs.{AnyPhase, HearsOne, IsKeptIn, IsOnIn, IsQuiet};
-ghost use Rattle.ug_coord.specs.Hubs.{IsRested, IsSetUpFrame, IsStartedIn, StartsAndEnds, is_next};
-ghost use Rattle.ug_coord.specs.Keeping.{KeptSeen, IsKeptBy, IsOurs};
+ghost use Rattle.ug_coord.specs.Hubs.{AnyPhase, HasKeptUp, HearsOne, IsKeptIn, IsOnIn, IsQuiet};
+ghost use Rattle.ug_coord.specs.Hubs.{IsRested, IsSetUpFrame, IsStartedIn, KeepsUp, StartsAndEnds};
+ghost use Rattle.ug_coord.specs.Hubs.{is_next};
+ghost use Rattle.ug_coord.specs.Keeping.{KeptSeen, IsKeeperOf, IsKeptBy};
 ghost use Rattle.ug_coord.specs.Pacing.{IsSaveDue};
 ghost use Rattle.ug_coord.specs.Reading.{AreReadBut};
 ghost use Rattle.ug_coord.specs.Keepers.{kept_seen};
@@ -65,8 +65,7 @@ impl<R, O, C: Crew> Hub<'_, R, O, C> {
         requires saved { ¬ IsSaveDue self.old.pacing self.old.book }
         ensures on { (from : HubState) → IsOnIn IsRested from (hub_seen C.seen self.old)
             → IsOnIn (is_next Hearing) from (hub_seen C.seen self.new) }
-        ensures quiet { IsQuiet self.old.book self.new.book }
-        ensures pacing { self.new.pacing ≡ self.old.pacing }
+        ensures quiet { IsQuiet (hub_seen C.seen self.old) (hub_seen C.seen self.new) }
     {
         match self.book.decide() {
             Ok(()) => {}
@@ -77,8 +76,7 @@ impl<R, O, C: Crew> Hub<'_, R, O, C> {
     // Saves the book, which is due.
     fn save<D: Disk>(&mut self, keeper: &mut Keeper, disk: &mut D)
         requires due { IsSaveDue self.old.pacing self.old.book }
-        requires kept { IsKeptBy (kept_seen keeper.old (D.seen disk.old)) }
-        requires ours { IsOurs (kept_seen keeper.old (D.seen disk.old)) self.old.book }
+        requires keeper { IsKeeperOf (kept_seen keeper.old (D.seen disk.old)) self.old.book }
         ensures on { (from : HubState) (first : KeptSeen)
             → IsKeptIn IsRested from (hub_seen C.seen self.old) first
             (kept_seen keeper.old (D.seen disk.old))
@@ -101,17 +99,15 @@ impl<R: Wait, O: Observer, C: Crew> Hub<'_, R, O, C> {
     pub fn run<D: Disk>(&mut self, keeper: &mut Keeper, disk: &mut D)
         requires on { (from : HubState) × IsStartedIn IsRested 0 from (hub_seen C.seen self.old) }
         requires frame { IsSetUpFrame self.old.book self.old.frame.items }
-        requires saved { ¬ IsSaveDue self.old.pacing self.old.book }
-        requires kept { IsKeptBy (kept_seen keeper.old (D.seen disk.old)) }
-        requires ours { IsOurs (kept_seen keeper.old (D.seen disk.old)) self.old.book }
+        requires keeps { KeepsUp (hub_seen C.seen self.old)
+            (kept_seen keeper.old (D.seen disk.old)) }
         ensures ends { (from : HubState) → IsStartedIn IsRested 0 from (hub_seen C.seen self.old)
             → from.pacing ≡ self.old.pacing
             → StartsAndEnds (ranks_of self.old.book) from (hub_seen C.seen self.new)
             (kept_seen keeper.old (D.seen disk.old)) (kept_seen keeper.new (D.seen disk.new)) }
         ensures over { self.new.wants ≡ false → IsOver self.new.book }
-        ensures kept { IsKeptBy (kept_seen keeper.new (D.seen disk.new)) }
-        ensures saved { ¬ IsSaveDue self.new.pacing self.new.book }
-        ensures same { IsSameRun self.old.book self.new.book }
+        ensures kept { HasKeptUp (hub_seen C.seen self.old) (hub_seen C.seen self.new)
+            (kept_seen keeper.new (D.seen disk.new)) }
     {
         self.start_all();
         self.go_on(keeper, disk);
@@ -129,9 +125,9 @@ impl<R: Wait, O: Observer, C: Crew> Hub<'_, R, O, C> {
             → IsOnIn IsRested from (hub_seen C.seen self.new))
             ((from : HubState) → IsOnIn IsRested from (hub_seen C.seen self.old)
             → IsOnIn AnyPhase from (hub_seen C.seen self.new)) }
-        ensures hears { MatchBool result (HearsOne self.old.book self.new.book)
-            (IsQuiet self.old.book self.new.book) }
-        ensures pacing { self.new.pacing ≡ self.old.pacing }
+        ensures hears { MatchBool result
+            (HearsOne (hub_seen C.seen self.old) (hub_seen C.seen self.new))
+            (IsQuiet (hub_seen C.seen self.old) (hub_seen C.seen self.new)) }
         ensures over { result ≡ false → self.new.wants ≡ false → IsOver self.new.book }
     {
         self.decide();
@@ -149,9 +145,8 @@ impl<R: Wait, O: Observer, C: Crew> Hub<'_, R, O, C> {
     fn advance<D: Disk>(&mut self, keeper: &mut Keeper, disk: &mut D) -> bool
         requires on { (from : HubState) × IsOnIn IsRested from (hub_seen C.seen self.old) }
         requires more { ¬ IsOver self.old.book }
-        requires saved { ¬ IsSaveDue self.old.pacing self.old.book }
-        requires kept { IsKeptBy (kept_seen keeper.old (D.seen disk.old)) }
-        requires ours { IsOurs (kept_seen keeper.old (D.seen disk.old)) self.old.book }
+        requires keeps { KeepsUp (hub_seen C.seen self.old)
+            (kept_seen keeper.old (D.seen disk.old)) }
         ensures on { MatchBool result
             ((from : HubState) (first : KeptSeen)
             → IsKeptIn IsRested from (hub_seen C.seen self.old) first
@@ -163,9 +158,8 @@ impl<R: Wait, O: Observer, C: Crew> Hub<'_, R, O, C> {
             (kept_seen keeper.old (D.seen disk.old))
             → IsKeptIn AnyPhase from (hub_seen C.seen self.new) first
             (kept_seen keeper.new (D.seen disk.new))) }
-        ensures kept { IsKeptBy (kept_seen keeper.new (D.seen disk.new)) }
-        ensures same { IsSameRun self.old.book self.new.book }
-        ensures saved { ¬ IsSaveDue self.new.pacing self.new.book }
+        ensures kept { HasKeptUp (hub_seen C.seen self.old) (hub_seen C.seen self.new)
+            (kept_seen keeper.new (D.seen disk.new)) }
         ensures over { result ≡ false → self.new.wants ≡ false → IsOver self.new.book }
     {
         if !self.step() {
@@ -180,18 +174,16 @@ impl<R: Wait, O: Observer, C: Crew> Hub<'_, R, O, C> {
     // Goes on until an end is due, or memory is wanting.
     fn go_on<D: Disk>(&mut self, keeper: &mut Keeper, disk: &mut D)
         requires on { (from : HubState) × IsOnIn IsRested from (hub_seen C.seen self.old) }
-        requires saved { ¬ IsSaveDue self.old.pacing self.old.book }
-        requires kept { IsKeptBy (kept_seen keeper.old (D.seen disk.old)) }
-        requires ours { IsOurs (kept_seen keeper.old (D.seen disk.old)) self.old.book }
+        requires keeps { KeepsUp (hub_seen C.seen self.old)
+            (kept_seen keeper.old (D.seen disk.old)) }
         ensures on { (from : HubState) (first : KeptSeen)
             → IsKeptIn IsRested from (hub_seen C.seen self.old) first
             (kept_seen keeper.old (D.seen disk.old))
             → IsKeptIn AnyPhase from (hub_seen C.seen self.new) first
             (kept_seen keeper.new (D.seen disk.new)) }
         ensures over { self.new.wants ≡ false → IsOver self.new.book }
-        ensures kept { IsKeptBy (kept_seen keeper.new (D.seen disk.new)) }
-        ensures saved { ¬ IsSaveDue self.new.pacing self.new.book }
-        ensures same { IsSameRun self.old.book self.new.book }
+        ensures kept { HasKeptUp (hub_seen C.seen self.old) (hub_seen C.seen self.new)
+            (kept_seen keeper.new (D.seen disk.new)) }
     {
         for _ in self.host.rt.forever() {
             if self.has_stopped() {

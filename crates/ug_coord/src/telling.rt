@@ -29,9 +29,8 @@ impl<R, O, C: Crew> Hub<'_, R, O, C> {
     pub fn lose(&mut self, rank: u32)
         requires { rank < ranks_of self.old.book }
         ensures seen { hub_seen C.seen self.new ≡ without rank (hub_seen C.seen self.old) }
-        ensures quiet { IsQuiet self.old.book self.new.book }
+        ensures quiet { IsQuiet (hub_seen C.seen self.old) (hub_seen C.seen self.new) }
         ensures frame { self.new.frame ≡ self.old.frame }
-        ensures pacing { self.new.pacing ≡ self.old.pacing }
     {
         if self.crew.is_alive(rank) {
             self.crew.shut(rank);
@@ -45,9 +44,8 @@ impl<R, O, C: Crew> Hub<'_, R, O, C> {
         requires alive { IsAlive (C.seen self.old.crew) rank }
         ensures sent { sent_or_failed result (hub_seen C.seen self.old) (hub_seen C.seen self.new)
             rank self.old.frame.items }
-        ensures quiet { IsQuiet self.old.book self.new.book }
+        ensures quiet { IsQuiet (hub_seen C.seen self.old) (hub_seen C.seen self.new) }
         ensures frame { self.new.frame ≡ self.old.frame }
-        ensures pacing { self.new.pacing ≡ self.old.pacing }
     {
         match self.crew.send(rank, &self.frame) {
             Ok(()) => true,
@@ -64,9 +62,8 @@ impl<R, O, C: Crew> Hub<'_, R, O, C> {
         requires there { rank < ranks_of self.old.book }
         ensures launched { launched_or_failed result (hub_seen C.seen self.old)
             (hub_seen C.seen self.new) rank }
-        ensures quiet { IsQuiet self.old.book self.new.book }
+        ensures quiet { IsQuiet (hub_seen C.seen self.old) (hub_seen C.seen self.new) }
         ensures frame { self.new.frame ≡ self.old.frame }
-        ensures pacing { self.new.pacing ≡ self.old.pacing }
     {
         match self.crew.launch(rank) {
             Ok(()) => true,
@@ -87,8 +84,7 @@ impl<R, O, C: Crew> Hub<'_, R, O, C> {
             → IsStartedAs rank phase from (hub_seen C.seen self.old)
             → IsStartedAs (suc rank) phase from (hub_seen C.seen self.new) }
         ensures frame { IsSetUpFrame self.new.book self.new.frame.items }
-        ensures quiet { IsQuiet self.old.book self.new.book }
-        ensures pacing { self.new.pacing ≡ self.old.pacing }
+        ensures quiet { IsQuiet (hub_seen C.seen self.old) (hub_seen C.seen self.new) }
     {
         if self.launch(rank) {
             self.send(rank);
@@ -103,8 +99,7 @@ impl<R, O, C: Crew> Hub<'_, R, O, C> {
         ensures on { (phase : Phase) (from : HubState)
             → IsStartedAs 0 phase from (hub_seen C.seen self.old)
             → IsStartedAs (ranks_of self.old.book) phase from (hub_seen C.seen self.new) }
-        ensures quiet { IsQuiet self.old.book self.new.book }
-        ensures pacing { self.new.pacing ≡ self.old.pacing }
+        ensures quiet { IsQuiet (hub_seen C.seen self.old) (hub_seen C.seen self.new) }
     {
         for rank in 0..self.book.settings().solvers {
             self.start(rank);
@@ -121,8 +116,7 @@ impl<R, O, C: Crew> Hub<'_, R, O, C> {
             → IsOnAs phase from (record (hub_seen C.seen self.old) { book = before })
             → IsOrderTold before self.old.book told
             → IsOnAs phase from (hub_seen C.seen self.new) }
-        ensures quiet { IsQuiet self.old.book self.new.book }
-        ensures pacing { self.new.pacing ≡ self.old.pacing }
+        ensures quiet { IsQuiet (hub_seen C.seen self.old) (hub_seen C.seen self.new) }
     {
         let rank = told.rank;
         if !self.crew.is_alive(rank) {
@@ -147,9 +141,8 @@ impl<R, O, C: Crew> Hub<'_, R, O, C> {
         requires on { (from : HubState) × IsOnIn AnyPhase from (hub_seen C.seen self.old) }
         ensures on { (phase : Phase) (from : HubState) → IsOnAs phase from (hub_seen C.seen self.old)
             → IsOnAs phase from (hub_seen C.seen self.new) }
-        ensures quiet { IsQuiet self.old.book self.new.book }
+        ensures quiet { IsQuiet (hub_seen C.seen self.old) (hub_seen C.seen self.new) }
         ensures none { result ≡ false → self.new.book.orders ≡ [] }
-        ensures pacing { self.new.pacing ≡ self.old.pacing }
     {
         // Each order of a book has a frame.
         let _problem = self.book.problem();
@@ -201,9 +194,8 @@ impl<R: Wait, O, C: Crew> Hub<'_, R, O, C> {
         requires on { (from : HubState) × IsOnIn AnyPhase from (hub_seen C.seen self.old) }
         ensures on { (phase : Phase) (from : HubState) → IsOnAs phase from (hub_seen C.seen self.old)
             → IsOnAs phase from (hub_seen C.seen self.new) }
-        ensures quiet { IsQuiet self.old.book self.new.book }
+        ensures quiet { IsQuiet (hub_seen C.seen self.old) (hub_seen C.seen self.new) }
         ensures all { self.new.wants ≡ false → self.new.book.orders ≡ [] }
-        ensures pacing { self.new.pacing ≡ self.old.pacing }
     {
         for _ in self.host.rt.forever() {
             if self.wants {

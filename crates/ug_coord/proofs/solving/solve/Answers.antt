@@ -40,8 +40,15 @@ run-requires-clause-on g c κs within = (
       (c.in-Ok.ensures.streams ∙ ap (λ (b : BookState). replicate (ranks_of b) first) c.in-Ok.ensures.book) refl (begun_pacing c.in-Ok.parts.book (opening_book c.args.opening.now) _ c.in-Ok.ensures.book (search rules)),
 )
 
-pub run-requires-clause-ours : goal.run-requires-clause-ours
-run-requires-clause-ours g c κs within = begun_ours c.args.opening.now c.args.keeper.saves _ c.requires.begun c.in-Ok.ensures.book
+pub run-requires-clause-keeps : goal.run-requires-clause-keeps
+run-requires-clause-keeps g c κs within = record {
+  saved = search rules;
+  keeper = record {
+    kept = search rules;
+    ours = begun_ours c.args.opening.now c.args.keeper.saves _ c.requires.begun
+        c.in-Ok.ensures.book;
+  };
+}
 
 pub returns-clause-coordinated : goal.returns-clause-coordinated
 returns-clause-coordinated g c =
@@ -62,16 +69,18 @@ returns-clause-coordinated g c =
           c.end_of-end.ensures.ended;
       lacks = subst (λ e. IfBook e (λ own. c.run.new.self.wants ≡ false)) (sym c.conclude-outcome.ensures.end)
           c.end_of-end.ensures.lacks;
-      same = run_on b _ c.run.new.self.book (same_of b _ c.in-Ok.ensures.book) c.run.ensures.same;
+      same = run_on b _ c.run.new.self.book (same_of b _ c.in-Ok.ensures.book)
+          c.run.ensures.kept.same;
       within = omega arith;
       alive = opening_alive c.args.opening.now;
       feasible = subst (λ e. IfBook e HasFeasible) (sym c.conclude-outcome.ensures.end) c.end_of-end.ensures.feasible;
       right = subst (λ e. IfAnswered e (λ own. IsSoundBook own → IsRight own)) (sym c.conclude-outcome.ensures.end)
           c.end_of-end.ensures.right;
     })
-    (ends_ours (beginning b faults) last old mid _ _ all.ends c.run.ensures.same
+    (ends_ours (beginning b faults) last old mid _ _ all.ends c.run.ensures.kept.same
     (begun_ours c.args.opening.now c.args.keeper.saves _ c.requires.begun c.in-Ok.ensures.book))
-    c.run.ensures.saved c.args.opening.now c.requires.begun c.conclude-outcome.ensures.concluded
+    c.run.ensures.kept.saved c.args.opening.now c.requires.begun
+    c.conclude-outcome.ensures.concluded
 
 pub returns-clause-kept : goal.returns-clause-kept
 returns-clause-kept g c =
@@ -86,6 +95,6 @@ returns-clause-kept g c =
     (g.D.Disk.seen c.conclude-outcome.new.disk) c.conclude-outcome.result all.ends
     (subst (λ e. is_ended e c.run.new.self.book) (sym c.conclude-outcome.ensures.end) c.end_of-end.ensures.ended)
     (ends_ours (beginning b faults) (hub_seen g.C.Crew.seen c.run.new.self) old mid _ _ all.ends
-    c.run.ensures.same
+    c.run.ensures.kept.same
     (begun_ours c.args.opening.now c.args.keeper.saves _ c.requires.begun c.in-Ok.ensures.book))
     c.requires.begun c.conclude-outcome.ensures.concluded

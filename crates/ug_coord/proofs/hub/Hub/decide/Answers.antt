@@ -16,8 +16,10 @@ returns-in-Err-clause-on g c from on =
 
 pub returns-in-Ok-clause-quiet : goal.returns-in-Ok-clause-quiet
 returns-in-Ok-clause-quiet g c =
-    decided_quiet c.args.self.now.book _ c.in-Ok.ensures.same c.in-Ok.ensures.decided
+    decided_quiet (hub_seen g.C.Crew.seen c.args.self.now) _ c.in-Ok.ensures.same
+    c.in-Ok.ensures.decided refl
 
 pub returns-in-Err-clause-quiet : goal.returns-in-Err-clause-quiet
 returns-in-Err-clause-quiet g c =
-    stands_quiet _ c.args.self.now.book _ c.in-Err.ensures.same c.in-Err.ensures.stands
+    stands_quiet _ (hub_seen g.C.Crew.seen c.args.self.now) _ c.in-Err.ensures.same
+    c.in-Err.ensures.stands refl

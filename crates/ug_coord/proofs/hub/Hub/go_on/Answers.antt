@@ -2,28 +2,19 @@ use Rattle.std.proofs.Common.{refl}
 use Rattle.ug_coord.specs.HubViews.{hub_seen}
 use Rattle.ug_coord.specs.Hubs.{IsRested}
 use Rattle.ug_coord.specs.Keepers.{kept_seen}
-use Rattle.ug_coord.proofs.Kept.{any_kept, is_on, kept_first, kept_ours, onto, run_on, same_of}
+use Rattle.ug_coord.proofs.Kept.{any_kept, is_on, kept_first, kept_ours, kept_up, onto, same_of}
 use Rattle.ug_coord.proofs.hub.Hub.go_on.Goals as goal
 
 pub advance-requires-clause-on : goal.advance-requires-clause-on
 advance-requires-clause-on g c κs within =
-    let from = onto IsRested c.requires.on.0 (hub_seen g.C.Crew.seen c.args.self.now) c.requires.on.1 in
+    let from = onto IsRested c.requires.on.0 (hub_seen g.C.Crew.seen c.args.self.now)
+    c.requires.on.1 in
     let k = kept_seen c.args.keeper.now (g.D.Disk.seen c.args.disk.now) in (
       from.0,
       is_on IsRested from.0 (hub_seen g.C.Crew.seen c.loop.self) k _
           (c.loop.invariant.on from.0 k
           (kept_first IsRested from.0 (hub_seen g.C.Crew.seen c.args.self.now) k from.1 from.2)),
     )
-
-pub advance-requires-clause-ours : goal.advance-requires-clause-ours
-advance-requires-clause-ours g c κs within =
-    let from = onto IsRested c.requires.on.0 (hub_seen g.C.Crew.seen c.args.self.now) c.requires.on.1 in
-    let k = kept_seen c.args.keeper.now (g.D.Disk.seen c.args.disk.now) in
-    kept_ours IsRested from.0 (hub_seen g.C.Crew.seen c.loop.self) k
-    (kept_seen c.loop.keeper (g.D.Disk.seen c.loop.disk)) c.args.self.now.book c.loop.self.book
-    (c.loop.invariant.on from.0 k
-    (kept_first IsRested from.0 (hub_seen g.C.Crew.seen c.args.self.now) k from.1 from.2))
-    c.loop.invariant.same c.requires.ours
 
 pub returns-then-has_stopped-clause-on : goal.returns-then-has_stopped-clause-on
 returns-then-has_stopped-clause-on g c from first k =
@@ -37,10 +28,9 @@ pub loop-preserved : goal.loop-preserved
 loop-preserved g c = record {
   next = (tt, tt);
   on = λ from first k. c.if-not-advance.ensures.on from first (c.loop.invariant.on from first k);
-  kept = c.advance.ensures.kept;
-  same = run_on c.args.self.now.book c.loop.self.book c.advance.new.self.book c.loop.invariant.same
-      c.advance.ensures.same;
-  saved = c.advance.ensures.saved;
+  kept = kept_up (hub_seen g.C.Crew.seen c.args.self.now) (hub_seen g.C.Crew.seen c.loop.self)
+      (hub_seen g.C.Crew.seen c.advance.new.self) _ c.loop.invariant.kept.same
+      c.advance.ensures.kept;
 }
 
 pub returns-then-not-advance-clause-over : goal.returns-then-not-advance-clause-over
@@ -50,39 +40,41 @@ pub loop-init : goal.loop-init
 loop-init g c = record {
   next = (tt, tt);
   on = λ from first k. k;
-  kept = c.requires.kept;
-  same = same_of c.args.self.now.book c.args.self.now.book refl;
-  saved = c.requires.saved;
+  kept = record {
+    same = same_of c.args.self.now.book c.args.self.now.book refl;
+    saved = c.requires.keeps.saved;
+    kept = c.requires.keeps.keeper.kept;
+  };
 }
 
 pub returns-then-has_stopped-clause-over : goal.returns-then-has_stopped-clause-over
 returns-then-has_stopped-clause-over g c wants = c.if-has_stopped.ensures.stopped refl wants
 
-pub returns-then-has_stopped-clause-kept : goal.returns-then-has_stopped-clause-kept
-returns-then-has_stopped-clause-kept g c = c.loop.invariant.kept
-
-pub returns-then-has_stopped-clause-saved : goal.returns-then-has_stopped-clause-saved
-returns-then-has_stopped-clause-saved g c = c.loop.invariant.saved
-
-pub returns-then-has_stopped-clause-same : goal.returns-then-has_stopped-clause-same
-returns-then-has_stopped-clause-same g c = c.loop.invariant.same
-
 pub advance-requires-clause-more : goal.advance-requires-clause-more
 advance-requires-clause-more g c κs within = (c.if-has_stopped.ensures.on refl).1
 
-pub advance-requires-clause-saved : goal.advance-requires-clause-saved
-advance-requires-clause-saved g c κs within = c.loop.invariant.saved
+pub advance-requires-clause-keeps : goal.advance-requires-clause-keeps
+advance-requires-clause-keeps g c κs within =
+    let from = onto IsRested c.requires.on.0 (hub_seen g.C.Crew.seen c.args.self.now)
+    c.requires.on.1 in
+    let k = kept_seen c.args.keeper.now (g.D.Disk.seen c.args.disk.now) in
+    record {
+      saved = c.loop.invariant.kept.saved;
+      keeper = record {
+        kept = c.loop.invariant.kept.kept;
+        ours = kept_ours IsRested from.0 (hub_seen g.C.Crew.seen c.loop.self) k
+            (kept_seen c.loop.keeper (g.D.Disk.seen c.loop.disk)) c.args.self.now.book
+            c.loop.self.book
+            (c.loop.invariant.on from.0 k
+            (kept_first IsRested from.0 (hub_seen g.C.Crew.seen c.args.self.now) k from.1 from.2))
+            c.loop.invariant.kept.same c.requires.keeps.keeper.ours;
+      };
+    }
 
-pub advance-requires-clause-kept : goal.advance-requires-clause-kept
-advance-requires-clause-kept g c κs within = c.loop.invariant.kept
+pub returns-then-has_stopped-clause-kept : goal.returns-then-has_stopped-clause-kept
+returns-then-has_stopped-clause-kept g c = c.loop.invariant.kept
 
 pub returns-then-not-advance-clause-kept : goal.returns-then-not-advance-clause-kept
-returns-then-not-advance-clause-kept g c = c.advance.ensures.kept
-
-pub returns-then-not-advance-clause-saved : goal.returns-then-not-advance-clause-saved
-returns-then-not-advance-clause-saved g c = c.advance.ensures.saved
-
-pub returns-then-not-advance-clause-same : goal.returns-then-not-advance-clause-same
-returns-then-not-advance-clause-same g c =
-    run_on c.args.self.now.book c.loop.self.book c.advance.new.self.book c.loop.invariant.same
-    c.advance.ensures.same
+returns-then-not-advance-clause-kept g c =
+    kept_up (hub_seen g.C.Crew.seen c.args.self.now) (hub_seen g.C.Crew.seen c.loop.self)
+    (hub_seen g.C.Crew.seen c.advance.new.self) _ c.loop.invariant.kept.same c.advance.ensures.kept

@@ -1,9 +1,7 @@
-use Rattle.ug_book.specs.Views.{IsSameRun}
 use Rattle.ug_coord.specs.Deeds.{HubState}
-use Rattle.ug_coord.specs.Hubs.{IsKeptIn, IsRested}
+use Rattle.ug_coord.specs.Hubs.{HasKeptUp, IsKeptIn, IsRested}
 use Rattle.ug_coord.specs.HubViews.{hub_seen}
-use Rattle.ug_coord.specs.Keeping.{IsKeptBy, KeptSeen}
-use Rattle.ug_coord.specs.Pacing.{IsSaveDue}
+use Rattle.ug_coord.specs.Keeping.{KeptSeen}
 use Rattle.ug_coord.specs.Keepers.{kept_seen}
 use Rattle.ug_coord.proofs.hub.Hub.go_on.Given as goal
 
@@ -13,7 +11,6 @@ invariant-loop g l = record {
   on : (from : HubState) (first : KeptSeen) → IsKeptIn IsRested from (hub_seen g.C.Crew.seen l.initial.self) first
       (kept_seen l.initial.keeper (g.D.Disk.seen l.initial.disk))
       → IsKeptIn IsRested from (hub_seen g.C.Crew.seen l.self) first (kept_seen l.keeper (g.D.Disk.seen l.disk));
-  kept : IsKeptBy (kept_seen l.keeper (g.D.Disk.seen l.disk));
-  same : IsSameRun l.initial.self.book l.self.book;
-  saved : ¬ IsSaveDue l.self.pacing l.self.book;
+  kept : HasKeptUp (hub_seen g.C.Crew.seen l.initial.self) (hub_seen g.C.Crew.seen l.self)
+      (kept_seen l.keeper (g.D.Disk.seen l.disk));
 }

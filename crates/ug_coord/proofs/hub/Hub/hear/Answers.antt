@@ -1,11 +1,13 @@
-use Rattle.ug_coord.proofs.Counts.{heard_by}
 use Rattle.std.proofs.Common.{refl}
+use Rattle.ug_coord.specs.HubViews.{hub_seen}
+use Rattle.ug_coord.proofs.Counts.{heard_by}
 use Rattle.ug_coord.proofs.hub.Hub.hear.Goals as goal
 
 pub returns-clause-hears : goal.returns-clause-hears
 returns-clause-hears g c =
-    heard_by c.hear-heard.result c.args.rank c.args.report c.args.self.now.book c.hear-heard.new.self c.hear-heard.ensures.same
-    c.hear-heard.ensures.done
+    heard_by c.hear-heard.result c.args.rank c.args.report (hub_seen g.C.Crew.seen c.args.self.now)
+    _
+    c.hear-heard.ensures.same c.hear-heard.ensures.done refl
 
 pub is_alive-was_alive-requires : goal.is_alive-was_alive-requires
 is_alive-was_alive-requires g c = c.requires.there
@@ -18,6 +20,3 @@ hear-heard-requires-clause-hearable g c = c.requires.hearable
 
 pub invariant_of-self : goal.invariant_of-self
 invariant_of-self g c = record { room = c.args.self.now.room; read = c.args.self.now.read }
-
-pub returns-clause-pacing : goal.returns-clause-pacing
-returns-clause-pacing g c = refl

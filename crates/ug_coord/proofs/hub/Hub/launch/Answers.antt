@@ -1,7 +1,7 @@
 use Rattle.std.proofs.Common.{true, refl}
 use Rattle.ug_coord.specs.HubViews.{hub_seen}
 use Rattle.ug_coord.proofs.Coursing.{failed_by, set_by}
-use Rattle.ug_coord.proofs.Counts.{quiet_none}
+use Rattle.ug_coord.proofs.Counts.{quiet_none, quiet_on}
 use Rattle.ug_coord.proofs.hub.Hub.launch.Goals as goal
 
 pub launch-requires : goal.launch-requires
@@ -14,13 +14,10 @@ returns-in-Ok-clause-launched g c =
     c.in-Ok.ensures.launched c.in-Ok.ensures.cause
 
 pub returns-in-Ok-clause-quiet : goal.returns-in-Ok-clause-quiet
-returns-in-Ok-clause-quiet g c = quiet_none c.args.self.now.book
+returns-in-Ok-clause-quiet g c = quiet_none (hub_seen g.C.Crew.seen c.args.self.now) _ refl refl
 
 pub returns-in-Ok-clause-frame : goal.returns-in-Ok-clause-frame
 returns-in-Ok-clause-frame g c = refl
-
-pub returns-in-Ok-clause-pacing : goal.returns-in-Ok-clause-pacing
-returns-in-Ok-clause-pacing g c = refl
 
 pub returns-in-Err-clause-launched : goal.returns-in-Err-clause-launched
 returns-in-Err-clause-launched g c =
@@ -30,10 +27,9 @@ returns-in-Err-clause-launched g c =
     c.lose.ensures.seen c.lose.ensures.quiet.run.wide
 
 pub returns-in-Err-clause-quiet : goal.returns-in-Err-clause-quiet
-returns-in-Err-clause-quiet g c = c.lose.ensures.quiet
+returns-in-Err-clause-quiet g c =
+    quiet_on (hub_seen g.C.Crew.seen c.args.self.now) _ (hub_seen g.C.Crew.seen c.lose.new.self)
+    (quiet_none (hub_seen g.C.Crew.seen c.args.self.now) _ refl refl) c.lose.ensures.quiet
 
 pub returns-in-Err-clause-frame : goal.returns-in-Err-clause-frame
 returns-in-Err-clause-frame g c = c.lose.ensures.frame
-
-pub returns-in-Err-clause-pacing : goal.returns-in-Err-clause-pacing
-returns-in-Err-clause-pacing g c = c.lose.ensures.pacing

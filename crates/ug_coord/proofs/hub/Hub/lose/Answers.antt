@@ -1,10 +1,12 @@
-use Rattle.ug_coord.proofs.Counts.{lost_quiet}
 use Rattle.std.proofs.Common.{refl}
+use Rattle.ug_coord.specs.HubViews.{hub_seen}
+use Rattle.ug_coord.proofs.Counts.{lost_quiet}
 use Rattle.ug_coord.proofs.hub.Hub.lose.Goals as goal
 
 pub returns-clause-quiet : goal.returns-clause-quiet
 returns-clause-quiet g c =
-    lost_quiet c.args.rank c.args.self.now.book c.gone.new.self c.gone.ensures.same c.gone.ensures.done
+    lost_quiet c.args.rank (hub_seen g.C.Crew.seen c.args.self.now) _ c.gone.ensures.same
+    c.gone.ensures.done refl
 
 pub gone-requires : goal.gone-requires
 gone-requires g c = c.requires
@@ -14,6 +16,3 @@ invariant_of-self g c = record { room = c.args.self.now.room; read = c.args.self
 
 pub returns-clause-frame : goal.returns-clause-frame
 returns-clause-frame g c = refl
-
-pub returns-clause-pacing : goal.returns-clause-pacing
-returns-clause-pacing g c = refl

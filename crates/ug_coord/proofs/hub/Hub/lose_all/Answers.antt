@@ -1,4 +1,4 @@
-use Rattle.std.proofs.Common.{rules, ◌∙◌, refl, ap, arith}
+use Rattle.std.proofs.Common.{rules, refl, ap, arith}
 use Rattle.ug_rules.specs.declared.settings.Settings.{Settings}
 use Rattle.ug_coord.specs.HubViews.{hub_seen}
 use Rattle.ug_coord.specs.Hubs.{HubSeen}
@@ -13,18 +13,16 @@ loop-rank-preserved g c = record {
       c.loop-rank.rank (search rules) c.lose.ensures.seen c.lose.ensures.quiet.run.wide (c.loop-rank.invariant.on from on);
   all = dead_below c.loop-rank.rank c.loop-rank.self.book c.lose.new.self.book
       (ap (λ (h : HubSeen). h.book) c.lose.ensures.seen) c.loop-rank.invariant.all;
-  quiet = quiet_on c.args.self.now.book c.loop-rank.self.book c.lose.new.self.book
-      c.loop-rank.invariant.quiet
-      c.lose.ensures.quiet;
-  pacing = c.lose.ensures.pacing ∙ c.loop-rank.invariant.pacing;
+  quiet = quiet_on (hub_seen g.C.Crew.seen c.args.self.now)
+      (hub_seen g.C.Crew.seen c.loop-rank.self) (hub_seen g.C.Crew.seen c.lose.new.self)
+      c.loop-rank.invariant.quiet c.lose.ensures.quiet;
 }
 
 pub loop-rank-init : goal.loop-rank-init
 loop-rank-init g c = record {
   on = λ from on. on;
   all = λ rank less. absurd (omega (arith, less));
-  quiet = quiet_none c.args.self.now.book;
-  pacing = refl;
+  quiet = quiet_none (hub_seen g.C.Crew.seen c.args.self.now) _ refl refl;
 }
 
 pub returns-clause-on : goal.returns-clause-on
@@ -32,9 +30,6 @@ returns-clause-on g c = c.loop-rank.invariant.on
 
 pub returns-clause-quiet : goal.returns-clause-quiet
 returns-clause-quiet g c = c.loop-rank.invariant.quiet
-
-pub returns-clause-pacing : goal.returns-clause-pacing
-returns-clause-pacing g c = c.loop-rank.invariant.pacing
 
 pub returns-clause-all : goal.returns-clause-all
 returns-clause-all g c rank there =

@@ -1,4 +1,4 @@
-use Rattle.std.proofs.Common.{◌≡◌, ◌<◌, ℕ}
+use Rattle.std.proofs.Common.{◌<◌, ℕ}
 use Rattle.ug_coord.specs.Deeds.{HubState}
 use Rattle.ug_coord.specs.Hubs.{IsBrokenOff, IsOnIn, IsQuiet}
 use Rattle.ug_coord.specs.HubViews.{hub_seen}
@@ -10,6 +10,5 @@ invariant-loop-rank g l = record {
   on : (from : HubState) → IsOnIn IsBrokenOff from (hub_seen g.C.Crew.seen l.initial.self)
       → IsOnIn IsBrokenOff from (hub_seen g.C.Crew.seen l.self);
   all : (rank : ℕ) → rank < l.rank → IsDead l.self.book.ranks rank;
-  quiet : IsQuiet l.initial.self.book l.self.book;
-  pacing : l.self.pacing ≡ l.initial.self.pacing;
+  quiet : IsQuiet (hub_seen g.C.Crew.seen l.initial.self) (hub_seen g.C.Crew.seen l.self);
 }

@@ -2,9 +2,10 @@ use Rattle.std.proofs.Common.{[], refl, sym, subst, ◌∙◌}
 use Rattle.ug_coord.specs.Ends.{IsOver}
 use Rattle.ug_coord.specs.HubViews.{hub_seen}
 use Rattle.ug_coord.specs.Hubs.{IsRested, standing}
-use Rattle.ug_coord.proofs.Kept.{kept_first, ours_same, unsaved}
+use Rattle.ug_coord.proofs.Kept.{kept_first, ours_same, run_on, unsaved}
 use Rattle.ug_coord.proofs.Starting.{starts_and_ends}
 use Rattle.ug_rules.specs.State.{BookState}
+use Rattle.ug_book.specs.Views.{IsSameRun}
 use Rattle.ug_coord.specs.declared.pacing.Pacing.{Pacing}
 use Rattle.ug_coord.specs.Pacing.{IsSaveDue}
 use Rattle.ug_coord.proofs.hub.Hub.run.Goals as goal
@@ -13,11 +14,6 @@ pub go_on-requires-clause-on : goal.go_on-requires-clause-on
 go_on-requires-clause-on g c κs within =
     let (from, k) = c.requires.on in
     (from, (k.0, k.1, (c.start_all.ensures.on k.0 from k.2).on))
-
-pub go_on-requires-clause-ours : goal.go_on-requires-clause-ours
-go_on-requires-clause-ours g c κs within =
-    ours_same c.args.keeper.now.saves c.args.self.now.book c.start_all.new.self.book c.start_all.ensures.quiet.run
-    c.requires.ours
 
 pub start_all-requires-clause-on : goal.start_all-requires-clause-on
 start_all-requires-clause-on g c =
@@ -29,7 +25,7 @@ returns-clause-ends g c from (phase, is, k) same =
     let h = hub_seen g.C.Crew.seen c.start_all.new.self in
     let now = c.start_all.ensures.on phase from k in
     let mid = standing now.on.said phase h in
-    starts_and_ends _ phase from h _ _ _ now (c.start_all.ensures.pacing ∙ sym same)
+    starts_and_ends _ phase from h _ _ _ now (c.start_all.ensures.quiet.pacing ∙ sym same)
     (c.close.ensures.ends mid _ _ (c.go_on.ensures.on mid _ (kept_first IsRested mid h _ refl (
       phase,
       is,
@@ -45,12 +41,28 @@ pub returns-clause-over : goal.returns-clause-over
 returns-clause-over g c wants =
     subst IsOver (sym c.close.ensures.same.0) (c.go_on.ensures.over (sym c.close.ensures.same.1 ∙ wants))
 
-pub go_on-requires-clause-saved : goal.go_on-requires-clause-saved
-go_on-requires-clause-saved g c κs within =
-    unsaved c.args.self.now.book c.start_all.new.self.book c.args.self.now.pacing c.start_all.new.self.pacing
-    c.start_all.ensures.quiet.run.settings c.start_all.ensures.quiet.heard c.start_all.ensures.pacing c.requires.saved
+pub go_on-requires-clause-keeps : goal.go_on-requires-clause-keeps
+go_on-requires-clause-keeps g c κs within =
+    let quiet = c.start_all.ensures.quiet in
+    record {
+      saved = unsaved c.args.self.now.book c.start_all.new.self.book c.args.self.now.pacing
+          c.start_all.new.self.pacing quiet.run.settings quiet.heard quiet.pacing
+          c.requires.keeps.saved;
+      keeper = record {
+        kept = c.requires.keeps.keeper.kept;
+        ours = ours_same c.args.keeper.now.saves c.args.self.now.book
+            c.start_all.new.self.book quiet.run c.requires.keeps.keeper.ours;
+      };
+    }
 
-pub returns-clause-saved : goal.returns-clause-saved
-returns-clause-saved g c =
-    subst (λ (p : Pacing). ¬ IsSaveDue p c.close.new.self.book) (sym c.close.ensures.pacing)
-    (subst (λ (b : BookState). ¬ IsSaveDue c.go_on.new.self.pacing b) (sym c.close.ensures.same.0) c.go_on.ensures.saved)
+pub returns-clause-kept : goal.returns-clause-kept
+returns-clause-kept g c = record {
+  same = run_on c.args.self.now.book c.start_all.new.self.book c.close.new.self.book
+      c.start_all.ensures.quiet.run
+      (subst (λ (b : BookState). IsSameRun c.start_all.new.self.book b)
+      (sym c.close.ensures.same.0) c.go_on.ensures.kept.same);
+  saved = subst (λ (p : Pacing). ¬ IsSaveDue p c.close.new.self.book) (sym c.close.ensures.pacing)
+      (subst (λ (b : BookState). ¬ IsSaveDue c.go_on.new.self.pacing b) (sym c.close.ensures.same.0)
+      c.go_on.ensures.kept.saved);
+  kept = c.go_on.ensures.kept.kept;
+}

@@ -13,8 +13,9 @@ returns-clause-on g c from first k =
     (kept_seen c.keep.new.self (g.D.Disk.seen c.keep.new.disk)))
     (sym c.saved-self.ensures)
     (keeps_saved IsRested from (hub_seen g.C.Crew.seen c.args.self.now) first
-    (kept_seen c.args.keeper.now (g.D.Disk.seen c.args.disk.now)) (kept_seen c.keep.new.self (g.D.Disk.seen c.keep.new.disk)) c.requires.due c.requires.ours
-    c.keep.ensures.moves c.keep.ensures.tried k)
+    (kept_seen c.args.keeper.now (g.D.Disk.seen c.args.disk.now))
+    (kept_seen c.keep.new.self (g.D.Disk.seen c.keep.new.disk)) c.requires.due
+    c.requires.keeper.ours c.keep.ensures.moves c.keep.ensures.tried k)
 
 pub returns-clause-saved : goal.returns-clause-saved
 returns-clause-saved g c =

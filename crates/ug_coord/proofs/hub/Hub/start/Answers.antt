@@ -41,11 +41,8 @@ returns-then-launch-clause-frame g c =
 
 pub returns-then-launch-clause-quiet : goal.returns-then-launch-clause-quiet
 returns-then-launch-clause-quiet g c =
-    quiet_on c.args.self.now.book c.launch.new.self.book c.send.new.self.book
-    c.launch.ensures.quiet c.send.ensures.quiet
-
-pub returns-then-launch-clause-pacing : goal.returns-then-launch-clause-pacing
-returns-then-launch-clause-pacing g c = c.send.ensures.pacing ∙ c.launch.ensures.pacing
+    quiet_on (hub_seen g.C.Crew.seen c.args.self.now) (hub_seen g.C.Crew.seen c.launch.new.self)
+    (hub_seen g.C.Crew.seen c.send.new.self) c.launch.ensures.quiet c.send.ensures.quiet
 
 pub returns-else-launch-clause-frame : goal.returns-else-launch-clause-frame
 returns-else-launch-clause-frame g c =
@@ -55,6 +52,3 @@ returns-else-launch-clause-frame g c =
 
 pub returns-else-launch-clause-quiet : goal.returns-else-launch-clause-quiet
 returns-else-launch-clause-quiet g c = c.launch.ensures.quiet
-
-pub returns-else-launch-clause-pacing : goal.returns-else-launch-clause-pacing
-returns-else-launch-clause-pacing g c = c.launch.ensures.pacing

@@ -1,4 +1,4 @@
-use Rattle.std.proofs.Common.{ℕ, refl, rules, subst, ◌∙◌, arith}
+use Rattle.std.proofs.Common.{ℕ, refl, rules, subst, arith}
 use Rattle.ug_coord.specs.HubViews.{hub_seen}
 use Rattle.ug_coord.specs.Hubs.{IsStartedAs}
 use Rattle.ug_coord.proofs.Counts.{quiet_none, quiet_on}
@@ -8,8 +8,7 @@ pub loop-rank-init : goal.loop-rank-init
 loop-rank-init g c = record {
   on = λ phase from on. on;
   frame = c.requires.frame;
-  quiet = quiet_none c.args.self.now.book;
-  pacing = refl;
+  quiet = quiet_none (hub_seen g.C.Crew.seen c.args.self.now) _ refl refl;
 }
 
 pub start-requires-clause-on : goal.start-requires-clause-on
@@ -28,10 +27,9 @@ loop-rank-preserved g c = record {
       (λ (n : ℕ). IsStartedAs n phase from (hub_seen g.C.Crew.seen c.start.new.self)) (omega arith)
       (c.start.ensures.on phase from (c.loop-rank.invariant.on phase from on));
   frame = c.start.ensures.frame;
-  quiet = quiet_on c.args.self.now.book c.loop-rank.self.book c.start.new.self.book
-      c.loop-rank.invariant.quiet
-      c.start.ensures.quiet;
-  pacing = c.start.ensures.pacing ∙ c.loop-rank.invariant.pacing;
+  quiet = quiet_on (hub_seen g.C.Crew.seen c.args.self.now)
+      (hub_seen g.C.Crew.seen c.loop-rank.self) (hub_seen g.C.Crew.seen c.start.new.self)
+      c.loop-rank.invariant.quiet c.start.ensures.quiet;
 }
 
 pub returns-clause-on : goal.returns-clause-on
@@ -41,6 +39,3 @@ returns-clause-on g c phase from on =
 
 pub returns-clause-quiet : goal.returns-clause-quiet
 returns-clause-quiet g c = c.loop-rank.invariant.quiet
-
-pub returns-clause-pacing : goal.returns-clause-pacing
-returns-clause-pacing g c = c.loop-rank.invariant.pacing

@@ -1,4 +1,3 @@
-use Rattle.std.proofs.Common.{◌≡◌}
 use Rattle.ug_coord.specs.Deeds.{HubState}
 use Rattle.ug_coord.specs.Hubs.{IsQuiet, IsSetUpFrame, IsStartedAs, Phase}
 use Rattle.ug_coord.specs.HubViews.{hub_seen}
@@ -9,6 +8,5 @@ invariant-loop-rank g l = record {
   on : (phase : Phase) (from : HubState) → IsStartedAs 0 phase from (hub_seen g.C.Crew.seen l.initial.self)
       → IsStartedAs l.rank phase from (hub_seen g.C.Crew.seen l.self);
   frame : IsSetUpFrame l.self.book l.self.frame.items;
-  quiet : IsQuiet l.initial.self.book l.self.book;
-  pacing : l.self.pacing ≡ l.initial.self.pacing;
+  quiet : IsQuiet (hub_seen g.C.Crew.seen l.initial.self) (hub_seen g.C.Crew.seen l.self);
 }

@@ -3,7 +3,7 @@ use Rattle.ug_coord.specs.HubViews.{hub_seen}
 use Rattle.ug_coord.specs.Hubs.{IsRested, is_next}
 use Rattle.ug_coord.proofs.Coursing.{any_in, stays_in, steps_on}
 use Rattle.ug_coord.proofs.Counts.{quiet_on, steps_after}
-use Rattle.std.proofs.Common.{inr, refl, ◌∙◌}
+use Rattle.std.proofs.Common.{inr, refl}
 use Rattle.ug_coord.proofs.hub.Hub.step.Goals as goal
 
 pub tell_all-requires : goal.tell_all-requires
@@ -42,41 +42,32 @@ returns-clause-on g c =
 
 pub returns-clause-hears : goal.returns-clause-hears
 returns-clause-hears g c =
-    steps_after c.listen.result c.args.self.now.book c.tell_all.new.self.book c.listen.new.self.book
-    (quiet_on c.args.self.now.book c.decide.new.self.book c.tell_all.new.self.book c.decide.ensures.quiet
-    c.tell_all.ensures.quiet) c.listen.ensures.hears
+    steps_after c.listen.result (hub_seen g.C.Crew.seen c.args.self.now)
+    (hub_seen g.C.Crew.seen c.tell_all.new.self) (hub_seen g.C.Crew.seen c.listen.new.self)
+    (quiet_on (hub_seen g.C.Crew.seen c.args.self.now)
+    (hub_seen g.C.Crew.seen c.decide.new.self) (hub_seen g.C.Crew.seen c.tell_all.new.self)
+    c.decide.ensures.quiet c.tell_all.ensures.quiet) c.listen.ensures.hears
 
 pub returns-then-has_stopped-2-clause-hears : goal.returns-then-has_stopped-2-clause-hears
 returns-then-has_stopped-2-clause-hears g c =
-    quiet_on c.args.self.now.book c.decide.new.self.book c.tell_all.new.self.book c.decide.ensures.quiet
-    c.tell_all.ensures.quiet
+    quiet_on (hub_seen g.C.Crew.seen c.args.self.now) (hub_seen g.C.Crew.seen c.decide.new.self)
+    (hub_seen g.C.Crew.seen c.tell_all.new.self) c.decide.ensures.quiet c.tell_all.ensures.quiet
 
 pub returns-then-has_stopped-clause-hears : goal.returns-then-has_stopped-clause-hears
 returns-then-has_stopped-clause-hears g c = c.decide.ensures.quiet
 
-pub returns-then-has_stopped-clause-pacing : goal.returns-then-has_stopped-clause-pacing
-returns-then-has_stopped-clause-pacing g c = c.decide.ensures.pacing
-
 pub returns-then-has_stopped-clause-over : goal.returns-then-has_stopped-clause-over
 returns-then-has_stopped-clause-over g c same wants = c.if-has_stopped.ensures.stopped refl wants
-
-pub returns-then-has_stopped-2-clause-pacing : goal.returns-then-has_stopped-2-clause-pacing
-returns-then-has_stopped-2-clause-pacing g c = c.tell_all.ensures.pacing ∙ c.decide.ensures.pacing
 
 pub returns-then-has_stopped-2-clause-over : goal.returns-then-has_stopped-2-clause-over
 returns-then-has_stopped-2-clause-over g c same wants =
     c.if-has_stopped-2.ensures.stopped refl wants
 
-pub listen-requires-clause-more : goal.listen-requires-clause-more
-listen-requires-clause-more g c κs within = (c.if-has_stopped-2.ensures.on refl).1
-
-pub listen-requires-clause-told : goal.listen-requires-clause-told
-listen-requires-clause-told g c κs within =
-    c.tell_all.ensures.all (c.if-has_stopped-2.ensures.on refl).0
-
-pub returns-clause-pacing : goal.returns-clause-pacing
-returns-clause-pacing g c =
-    c.listen.ensures.pacing ∙ c.tell_all.ensures.pacing ∙ c.decide.ensures.pacing
-
 pub returns-clause-over : goal.returns-clause-over
 returns-clause-over g c same wants = inr (inr (c.listen.ensures.all same))
+
+pub listen-requires-clause-settled : goal.listen-requires-clause-settled
+listen-requires-clause-settled g c κs within = record {
+  more = (c.if-has_stopped-2.ensures.on refl).1;
+  told = c.tell_all.ensures.all (c.if-has_stopped-2.ensures.on refl).0;
+}

@@ -1,7 +1,7 @@
 use Rattle.std.proofs.Common.{rules, refl}
 use Rattle.ug_coord.specs.HubViews.{hub_seen}
 use Rattle.ug_coord.proofs.Coursing.{passed_on, told_on, unwritten_on}
-use Rattle.ug_coord.proofs.Counts.{quiet_none}
+use Rattle.ug_coord.proofs.Counts.{quiet_none, quiet_on}
 use Rattle.ug_coord.proofs.hub.Hub.tell.Goals as goal
 
 pub returns-then-not-is_alive-clause-on : goal.returns-then-not-is_alive-clause-on
@@ -26,22 +26,16 @@ pub send-requires-clause-alive : goal.send-requires-clause-alive
 send-requires-clause-alive g c = c.if-not-is_alive.ensures
 
 pub returns-then-not-is_alive-clause-quiet : goal.returns-then-not-is_alive-clause-quiet
-returns-then-not-is_alive-clause-quiet g c = quiet_none c.args.self.now.book
-
-pub returns-then-not-is_alive-clause-pacing : goal.returns-then-not-is_alive-clause-pacing
-returns-then-not-is_alive-clause-pacing g c = refl
+returns-then-not-is_alive-clause-quiet g c =
+    quiet_none (hub_seen g.C.Crew.seen c.args.self.now) _ refl refl
 
 pub returns-in-Ok-clause-quiet : goal.returns-in-Ok-clause-quiet
-returns-in-Ok-clause-quiet g c = c.send.ensures.quiet
-
-pub returns-in-Ok-clause-pacing : goal.returns-in-Ok-clause-pacing
-returns-in-Ok-clause-pacing g c = c.send.ensures.pacing
+returns-in-Ok-clause-quiet g c =
+    quiet_on (hub_seen g.C.Crew.seen c.args.self.now) _ (hub_seen g.C.Crew.seen c.send.new.self)
+    (quiet_none _ _ refl refl) c.send.ensures.quiet
 
 pub returns-in-Err-clause-quiet : goal.returns-in-Err-clause-quiet
-returns-in-Err-clause-quiet g c = quiet_none c.args.self.now.book
-
-pub returns-in-Err-clause-pacing : goal.returns-in-Err-clause-pacing
-returns-in-Err-clause-pacing g c = refl
+returns-in-Err-clause-quiet g c = quiet_none (hub_seen g.C.Crew.seen c.args.self.now) _ refl refl
 
 pub invariant_of-self : goal.invariant_of-self
 invariant_of-self g c = record { room = c.args.self.now.room; read = c.args.self.now.read }

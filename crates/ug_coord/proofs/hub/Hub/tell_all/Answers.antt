@@ -20,8 +20,7 @@ pub loop-init : goal.loop-init
 loop-init g c = record {
   next = (tt, tt);
   on = λ phase from on. on;
-  quiet = quiet_none c.args.self.now.book;
-  pacing = refl;
+  quiet = quiet_none (hub_seen g.C.Crew.seen c.args.self.now) _ refl refl;
 }
 
 pub returns-then-self-clause-on : goal.returns-then-self-clause-on
@@ -33,30 +32,23 @@ returns-then-self-clause-quiet g c = c.loop.invariant.quiet
 pub returns-then-self-clause-all : goal.returns-then-self-clause-all
 returns-then-self-clause-all g c wants = absurd (false≢true (sym wants ∙ c.if-self.true))
 
-pub returns-then-self-clause-pacing : goal.returns-then-self-clause-pacing
-returns-then-self-clause-pacing g c = c.loop.invariant.pacing
-
 pub returns-then-not-tell_next-clause-on : goal.returns-then-not-tell_next-clause-on
 returns-then-not-tell_next-clause-on g c phase from on =
     c.tell_next.ensures.on phase from (c.loop.invariant.on phase from on)
 
 pub returns-then-not-tell_next-clause-quiet : goal.returns-then-not-tell_next-clause-quiet
 returns-then-not-tell_next-clause-quiet g c =
-    quiet_on c.args.self.now.book c.loop.self.book c.tell_next.new.self.book c.loop.invariant.quiet
-    c.tell_next.ensures.quiet
+    quiet_on (hub_seen g.C.Crew.seen c.args.self.now) (hub_seen g.C.Crew.seen c.loop.self)
+    (hub_seen g.C.Crew.seen c.tell_next.new.self) c.loop.invariant.quiet c.tell_next.ensures.quiet
 
 pub returns-then-not-tell_next-clause-all : goal.returns-then-not-tell_next-clause-all
 returns-then-not-tell_next-clause-all g c wants = c.if-not-tell_next.ensures.none refl
-
-pub returns-then-not-tell_next-clause-pacing : goal.returns-then-not-tell_next-clause-pacing
-returns-then-not-tell_next-clause-pacing g c = c.tell_next.ensures.pacing ∙ c.loop.invariant.pacing
 
 pub loop-preserved : goal.loop-preserved
 loop-preserved g c = record {
   next = (tt, tt);
   on = λ phase from on. c.tell_next.ensures.on phase from (c.loop.invariant.on phase from on);
-  quiet = quiet_on c.args.self.now.book c.loop.self.book c.tell_next.new.self.book
-      c.loop.invariant.quiet
+  quiet = quiet_on (hub_seen g.C.Crew.seen c.args.self.now) (hub_seen g.C.Crew.seen c.loop.self)
+      (hub_seen g.C.Crew.seen c.tell_next.new.self) c.loop.invariant.quiet
       c.tell_next.ensures.quiet;
-  pacing = c.tell_next.ensures.pacing ∙ c.loop.invariant.pacing;
 }

@@ -1,4 +1,3 @@
-use Rattle.std.proofs.Common.{◌≡◌}
 use Rattle.ug_coord.specs.Deeds.{HubState}
 use Rattle.ug_coord.specs.Hubs.{IsOnAs, IsQuiet, Phase}
 use Rattle.ug_coord.specs.HubViews.{hub_seen}
@@ -9,6 +8,5 @@ invariant-loop g l = record {
   next : (goal.iterator-loop g).can_next l.iterator' × (goal.iterator-loop g).is_finite l.iterator';
   on : (phase : Phase) (from : HubState) → IsOnAs phase from (hub_seen g.C.Crew.seen l.initial.self)
       → IsOnAs phase from (hub_seen g.C.Crew.seen l.self);
-  quiet : IsQuiet l.initial.self.book l.self.book;
-  pacing : l.self.pacing ≡ l.initial.self.pacing;
+  quiet : IsQuiet (hub_seen g.C.Crew.seen l.initial.self) (hub_seen g.C.Crew.seen l.self);
 }

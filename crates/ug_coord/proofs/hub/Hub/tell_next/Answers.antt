@@ -1,4 +1,5 @@
-use Rattle.std.proofs.Common.{rules, sym}
+use Rattle.std.proofs.Common.{refl, rules, sym}
+use Rattle.ug_coord.specs.HubViews.{hub_seen}
 use Rattle.ug_coord.proofs.Counts.{left_quiet, quiet_on}
 use Rattle.ug_coord.proofs.Coursing.{first_order}
 use Rattle.std.proofs.lemmas.Bool.{false≢true}
@@ -14,9 +15,10 @@ returns-in-Some-clause-on g c phase from on =
 
 pub returns-in-Some-clause-quiet : goal.returns-in-Some-clause-quiet
 returns-in-Some-clause-quiet g c =
-    quiet_on c.args.self.now.book c.next_order.new.self c.tell.new.self.book
-    (left_quiet c.args.self.now.book c.next_order.new.self c.in-Some.told (search rules) c.in-Some.ensures.told)
-    c.tell.ensures.quiet
+    quiet_on (hub_seen g.C.Crew.seen c.args.self.now) _ (hub_seen g.C.Crew.seen c.tell.new.self)
+    (left_quiet (hub_seen g.C.Crew.seen c.args.self.now)
+    (record (hub_seen g.C.Crew.seen c.args.self.now) { book = c.next_order.new.self })
+    c.in-Some.told (search rules) c.in-Some.ensures.told refl) c.tell.ensures.quiet
 
 pub tell-requires-clause-on : goal.tell-requires-clause-on
 tell-requires-clause-on g c =
@@ -24,9 +26,6 @@ tell-requires-clause-on g c =
 
 pub returns-in-Some-clause-none : goal.returns-in-Some-clause-none
 returns-in-Some-clause-none g c same = absurd (false≢true (sym same))
-
-pub returns-in-Some-clause-pacing : goal.returns-in-Some-clause-pacing
-returns-in-Some-clause-pacing g c = c.tell.ensures.pacing
 
 pub invariant_of-self : goal.invariant_of-self
 invariant_of-self g c = record { room = c.args.self.now.room; read = c.args.self.now.read }

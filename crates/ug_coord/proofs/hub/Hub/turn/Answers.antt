@@ -8,7 +8,7 @@ use Rattle.ug_coord.specs.Reading.{AreReadBut, HasBroken, HasFed, HasGone, HasLa
 use Rattle.ug_coord.proofs.Coursing.{any_in, broke_by, deciding_rests, fed_by, gone_by, lacked_by, reading_reads, reading_rests, stays_in}
 use Rattle.ug_coord.proofs.ReadOut.{fed_but, lacked_but}
 use Rattle.ug_coord.proofs.Whole.{as_long, broken_whole, fed_whole, gone_whole, lacked_whole, room_whole}
-use Rattle.ug_coord.proofs.Counts.{lost_quiet, quiet_one, quiet_none}
+use Rattle.ug_coord.proofs.Counts.{hears_after, lost_quiet, quiet_none, quiet_on, quiet_one}
 use Rattle.ug_coord.proofs.hub.Hub.turn.Goals as goal
 
 pub read_rests : (result : Bool) (from : HubState) (h new : HubSeen)
@@ -29,8 +29,8 @@ lose_all-requires g c =
     c.in-Failed.ensures in record {
       on = (
         c.requires.on.0,
-        broke_by c.requires.on.0 (hub_seen g.C.Crew.seen c.args.self.now) _ c.requires.more
-            c.requires.told c.requires.read
+        broke_by c.requires.on.0 (hub_seen g.C.Crew.seen c.args.self.now) _ c.requires.settled.more
+            c.requires.settled.told c.requires.read
             (broken_whole c.args.self.now.streams.len (g.C.Crew.seen c.args.self.now.crew)
             (g.C.Crew.seen c.take_turn.new.crew)
             c.args.self.now.streams.items c.take_turn.new.streams
@@ -48,7 +48,8 @@ hear_next-requires-clause-on g c κs within =
     c.in-Fed.ensures in (
       c.requires.on.0,
       any_in (is_next Reading) c.requires.on.0 _
-          (fed_by c.requires.on.0 (hub_seen g.C.Crew.seen c.args.self.now) _ c.in-Fed.rank c.requires.more c.requires.told
+          (fed_by c.requires.on.0 (hub_seen g.C.Crew.seen c.args.self.now) _ c.in-Fed.rank
+          c.requires.settled.more c.requires.settled.told
           c.requires.read (fed_whole c.args.self.now.streams.len (g.C.Crew.seen c.args.self.now.crew) (g.C.Crew.seen c.take_turn.new.crew)
           c.args.self.now.streams.items c.take_turn.new.streams c.in-Fed.rank (as_long c.deref_mut.ensures.value c.deref_mut.ensures.len) fed) refl refl refl c.requires.on.1),
     )
@@ -61,7 +62,8 @@ returns-in-Fed-clause-on g c from on =
     (g.C.Crew.seen c.take_turn.new.crew) l c.take_turn.new.streams c.in-Fed.rank) c.deref_mut.ensures.value
     c.in-Fed.ensures in
     read_rests c.hear_next.result from _ (hub_seen g.C.Crew.seen c.hear_next.new.self) c.hear_next.ensures.on
-    (fed_by from (hub_seen g.C.Crew.seen c.args.self.now) _ c.in-Fed.rank c.requires.more c.requires.told
+    (fed_by from (hub_seen g.C.Crew.seen c.args.self.now) _ c.in-Fed.rank c.requires.settled.more
+    c.requires.settled.told
     c.requires.read (fed_whole c.args.self.now.streams.len (g.C.Crew.seen c.args.self.now.crew) (g.C.Crew.seen c.take_turn.new.crew)
     c.args.self.now.streams.items c.take_turn.new.streams c.in-Fed.rank (as_long c.deref_mut.ensures.value c.deref_mut.ensures.len) fed) refl refl refl on)
 
@@ -72,8 +74,9 @@ returns-in-Gone-clause-on g c from on =
     subst (λ (l : List Waiting). HasGone (g.C.Crew.seen c.args.self.now.crew)
     (g.C.Crew.seen c.take_turn.new.crew) l c.take_turn.new.streams c.in-Gone.rank) c.deref_mut.ensures.value
     c.in-Gone.ensures in
-    deciding_rests from _ (gone_by from (hub_seen g.C.Crew.seen c.args.self.now) _ c.in-Gone.rank c.requires.more
-    c.requires.told c.requires.read
+    deciding_rests from _ (gone_by from (hub_seen g.C.Crew.seen c.args.self.now) _ c.in-Gone.rank
+    c.requires.settled.more
+    c.requires.settled.told c.requires.read
     (gone_whole c.args.self.now.streams.len (g.C.Crew.seen c.args.self.now.crew) (g.C.Crew.seen c.take_turn.new.crew)
     c.args.self.now.streams.items c.take_turn.new.streams c.in-Gone.rank (as_long c.deref_mut.ensures.value c.deref_mut.ensures.len) gone) c.gone.ensures.done
     c.gone.ensures.same.wide refl refl on)
@@ -86,7 +89,8 @@ returns-in-Failed-clause-on g c from on =
     (g.C.Crew.seen c.take_turn.new.crew) l c.take_turn.new.streams) c.deref_mut.ensures.value
     c.in-Failed.ensures in
     any_in IsBrokenOff from (hub_seen g.C.Crew.seen c.lose_all.new.self) (c.lose_all.ensures.on from
-    (broke_by from (hub_seen g.C.Crew.seen c.args.self.now) _ c.requires.more c.requires.told c.requires.read
+    (broke_by from (hub_seen g.C.Crew.seen c.args.self.now) _ c.requires.settled.more
+    c.requires.settled.told c.requires.read
     (broken_whole c.args.self.now.streams.len (g.C.Crew.seen c.args.self.now.crew) (g.C.Crew.seen c.take_turn.new.crew)
     c.args.self.now.streams.items c.take_turn.new.streams (as_long c.deref_mut.ensures.value c.deref_mut.ensures.len) broken) refl refl refl on))
 
@@ -97,16 +101,22 @@ returns-in-Wanting-clause-on g c from on =
     subst (λ (l : List Waiting). HasLacked (g.C.Crew.seen c.args.self.now.crew)
     (g.C.Crew.seen c.take_turn.new.crew) l c.take_turn.new.streams c.in-Wanting.rank) c.deref_mut.ensures.value
     c.in-Wanting.ensures in
-    reading_rests from _ (lacked_by from (hub_seen g.C.Crew.seen c.args.self.now) _ c.in-Wanting.rank c.requires.more
-    c.requires.told c.requires.read (lacked_whole c.args.self.now.streams.len (g.C.Crew.seen c.args.self.now.crew) (g.C.Crew.seen c.take_turn.new.crew)
+    reading_rests from _ (lacked_by from (hub_seen g.C.Crew.seen c.args.self.now) _
+    c.in-Wanting.rank c.requires.settled.more
+    c.requires.settled.told c.requires.read (lacked_whole c.args.self.now.streams.len
+    (g.C.Crew.seen c.args.self.now.crew) (g.C.Crew.seen c.take_turn.new.crew)
     c.args.self.now.streams.items c.take_turn.new.streams c.in-Wanting.rank (as_long c.deref_mut.ensures.value c.deref_mut.ensures.len) lacked) refl refl refl on)
 
 pub returns-in-Gone-clause-hears : goal.returns-in-Gone-clause-hears
 returns-in-Gone-clause-hears g c =
-    quiet_one c.args.self.now.book _ (lost_quiet c.in-Gone.rank c.args.self.now.book _ c.gone.ensures.same c.gone.ensures.done)
+    quiet_one (hub_seen g.C.Crew.seen c.args.self.now) _
+    (lost_quiet c.in-Gone.rank (hub_seen g.C.Crew.seen c.args.self.now) _ c.gone.ensures.same
+    c.gone.ensures.done refl)
 
 pub returns-in-Failed-clause-hears : goal.returns-in-Failed-clause-hears
-returns-in-Failed-clause-hears g c = c.lose_all.ensures.quiet
+returns-in-Failed-clause-hears g c =
+    quiet_on (hub_seen g.C.Crew.seen c.args.self.now) _ (hub_seen g.C.Crew.seen c.lose_all.new.self)
+    (quiet_none (hub_seen g.C.Crew.seen c.args.self.now) _ refl refl) c.lose_all.ensures.quiet
 
 pub take_turn-requires-clause-room : goal.take_turn-requires-clause-room
 take_turn-requires-clause-room g c =
@@ -189,36 +199,28 @@ invariant_of-self-in-Wanting g c =
           c.in-Wanting.ensures.alive.there) c.requires.read c.args.self.now.read;
     }
 
-pub hear_next-requires-clause-there : goal.hear_next-requires-clause-there
-hear_next-requires-clause-there g c κs within =
-    subst (λ (n : ℕ). c.in-Fed.rank < n) c.requires.on.1.2.fit.lives c.in-Fed.ensures.alive.there
-
-pub hear_next-requires-clause-more : goal.hear_next-requires-clause-more
-hear_next-requires-clause-more g c κs within = c.requires.more
-
-pub hear_next-requires-clause-told : goal.hear_next-requires-clause-told
-hear_next-requires-clause-told g c κs within = c.requires.told
-
 pub gone-requires : goal.gone-requires
 gone-requires g c =
     subst (λ (n : ℕ). c.in-Gone.rank < n) c.requires.on.1.2.fit.lives
     c.in-Gone.ensures.lost.alive.there
 
 pub returns-in-Fed-clause-hears : goal.returns-in-Fed-clause-hears
-returns-in-Fed-clause-hears g c = c.hear_next.ensures.hears
-
-pub returns-in-Fed-clause-pacing : goal.returns-in-Fed-clause-pacing
-returns-in-Fed-clause-pacing g c = c.hear_next.ensures.pacing
-
-pub returns-in-Gone-clause-pacing : goal.returns-in-Gone-clause-pacing
-returns-in-Gone-clause-pacing g c = refl
-
-pub returns-in-Failed-clause-pacing : goal.returns-in-Failed-clause-pacing
-returns-in-Failed-clause-pacing g c = c.lose_all.ensures.pacing
+returns-in-Fed-clause-hears g c =
+    hears_after (hub_seen g.C.Crew.seen c.args.self.now) _
+    (hub_seen g.C.Crew.seen c.hear_next.new.self)
+    (quiet_none (hub_seen g.C.Crew.seen c.args.self.now) _ refl refl) c.hear_next.ensures.hears
 
 pub returns-in-Wanting-clause-hears : goal.returns-in-Wanting-clause-hears
 returns-in-Wanting-clause-hears g c =
-    quiet_one c.args.self.now.book _ (quiet_none c.args.self.now.book)
+    quiet_one (hub_seen g.C.Crew.seen c.args.self.now) _
+    (quiet_none (hub_seen g.C.Crew.seen c.args.self.now) _ refl refl)
 
-pub returns-in-Wanting-clause-pacing : goal.returns-in-Wanting-clause-pacing
-returns-in-Wanting-clause-pacing g c = refl
+pub hear_next-requires-clause-last : goal.hear_next-requires-clause-last
+hear_next-requires-clause-last g c κs within = record {
+  there = subst (λ (n : ℕ). c.in-Fed.rank < n) c.requires.on.1.2.fit.lives
+      c.in-Fed.ensures.alive.there;
+  came = refl;
+}
+
+pub hear_next-requires-clause-settled : goal.hear_next-requires-clause-settled
+hear_next-requires-clause-settled g c κs within = c.requires.settled
