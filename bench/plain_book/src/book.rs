@@ -317,8 +317,7 @@ impl<'a> Book<'a> {
 
     fn collect(&mut self) {
         let len = self.pool.len() as u64;
-        let sight = len + self.ranks.iter().map(promised).sum::<u64>();
-        if sight < self.settings.low {
+        if len < self.settings.low {
             let mut first: Option<(i128, usize)> = None;
             for (rank, state) in self.ranks.iter().enumerate() {
                 if let State::Active(work) = state {
@@ -331,7 +330,7 @@ impl<'a> Book<'a> {
                 }
             }
             if let Some((_, rank)) = first {
-                let count = (self.settings.high - sight) as u32;
+                let count = (self.settings.high - len) as u32;
                 if let State::Active(work) = &mut self.ranks[rank] {
                     work.asked = count;
                     self.orders.push_back(Told { rank: rank as u32, order: Order::CollectIn { count } });
@@ -355,14 +354,6 @@ impl<'a> Book<'a> {
 
     pub fn is_over(&self) -> bool {
         self.pool.is_empty() && !self.ranks.iter().any(|state| matches!(state, State::Active(_)))
-    }
-}
-
-/// How many of the boxes that a rank is asked for it may still hand.
-fn promised(state: &State) -> u64 {
-    match state {
-        State::Active(work) => u64::from(work.asked).min(work.open.saturating_sub(1)),
-        _ => 0,
     }
 }
 

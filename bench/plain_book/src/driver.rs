@@ -115,7 +115,6 @@ struct Crew<'a> {
     solvers: Vec<Solver>,
     random: Random,
     answers: Answers,
-    asked: u32,
 }
 
 impl Crew<'_> {
@@ -134,22 +133,12 @@ impl Crew<'_> {
         self.answers.decisions += 1;
         self.book.decide();
         while let Some(told) = self.book.next_order() {
-            if matches!(told.order, Order::CollectIn { .. }) {
-                self.asked = told.rank;
-            }
             self.solvers[told.rank as usize].obey(&told.order);
         }
     }
 
-    /// The rank that was asked for boxes last, as long as it has some to hand, and else the one drawn.
-    fn speaker(&self, drawn: u32) -> u32 {
-        let solver = &self.solvers[self.asked as usize];
-        if solver.works && solver.asked > 0 { self.asked } else { drawn }
-    }
-
     fn send_one(&mut self) {
-        let drawn = self.random.below(RANKS);
-        let rank = self.speaker(drawn);
+        let rank = self.random.below(RANKS);
         let dice = self.random.below(1000);
         if dice == 0 {
             self.book.gone(rank);
@@ -184,7 +173,6 @@ pub fn drive(count: u64) -> Answers {
         solvers,
         random: Random { state: 1 },
         answers: Answers { kept: 0, stale: 0, other: 0, deaths: 0, decisions: 0, books: 0 },
-        asked: 0,
     };
     crew.all_join();
     for _ in 0..count {

@@ -8,7 +8,7 @@ use crate::start::{RANKS, begin, problem};
 use std::alloc::{AllocError, Global};
 use std::mem;
 use ug_book::Book;
-use ug_frames::{Ending, Order, Report};
+use ug_frames::{Ending, Report};
 use ug_nodes::Ticket;
 use ug_problem::Shared;
 use ug_rows::Point;
@@ -22,8 +22,6 @@ struct Crew {
     solvers: Vec<Solver>,
     random: Random,
     answers: Answers,
-    // The rank that was asked for boxes last.
-    asked: u32,
 }
 
 /// Drives books through so many messages.
@@ -50,7 +48,6 @@ fn crew_of(alloc: Global, problem: &Shared) -> Result<Crew, AllocError> {
             solvers,
             random: Random::new(),
             answers: Answers::new(),
-            asked: 0,
         }),
         Err(error) => {
             drop(solvers);
@@ -111,27 +108,14 @@ impl Crew {
             return Err(AllocError);
         };
         while let Some(told) = self.book.next_order() {
-            if let Order::CollectIn { .. } = told.order {
-                self.asked = told.rank;
-            }
             obey(&mut self.solvers, told)?;
         }
         Ok(())
     }
 
-    // The rank that was asked for boxes last, as long as it has some to hand, since a solver hands
-    // them one behind the other; else the one drawn.
-    fn speaker(&self, drawn: u32) -> u32 {
-        match self.solvers.get(self.asked as usize) {
-            Some(solver) if solver.works && solver.asked > 0 => self.asked,
-            _ => drawn,
-        }
-    }
-
     // One message of some rank, and what follows from it.
     fn send_one(&mut self) -> Result<(), AllocError> {
-        let drawn = self.random.below(RANKS);
-        let rank = self.speaker(drawn);
+        let rank = self.random.below(RANKS);
         let dice = self.random.below(1000);
         if dice == 0 {
             self.lose(rank);

@@ -1,5 +1,5 @@
 -- What is asked of the states of ranks.
-use Rattle.std.specs.Prelude.{if◌then◌else◌, ℕ, ◌+◌, ◌-◌, min, Bool, not, ◌==◌, List, [], ◌∷◌}
+use Rattle.std.specs.Prelude.{if◌then◌else◌, ℕ, ◌+◌, Bool, not, ◌==◌, List, [], ◌∷◌}
 use Rattle.std.specs.Prelude.{◌++◌, map}
 use Rattle.ug_ranks.specs.declared.state.State.{State}
 use Rattle.ug_ranks.specs.declared.state.State.TheVariants.{Idle, Racing, Active}
@@ -38,7 +38,6 @@ member_at r (Active work) =
       floor = work.reported;
       collecting = not
           (work.asked == 0);
-      promised = min work.asked (work.«open» - 1);
     } ∷ []
 member_at r state = []
 

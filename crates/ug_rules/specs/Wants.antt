@@ -1,5 +1,5 @@
 -- What is wanted of the members.
-use Rattle.std.specs.Prelude.{◌≡◌, ℕ, ◌+◌, ◌<◌, ◌≤◌, List, [], ◌∷◌}
+use Rattle.std.specs.Prelude.{◌≡◌, ℕ, ◌+◌, ◌<◌, ◌≤◌, List}
 use Rattle.std.specs.List.{AllPairs}
 use Rattle.ug_rules.specs.declared.member.Member.{Member}
 use Rattle.ug_rules.specs.declared.demand.Wanted.{Wanted}
@@ -7,21 +7,12 @@ use Rattle.ug_rules.specs.declared.demand.Wanted.TheVariants.{Ask, Enough, Nothi
 use Rattle.ug_rules.specs.Asking.{NoneCanBeAsked, IsFirstRank, IsAnyCollecting, IsNoneCollecting}
 use Rattle.ug_rules.specs.Asking.{collecting_ranks}
 
--- how many nodes the members may still hand, as they were asked
-abbrev pub promised_by : List Member → ℕ
-promised_by [] = 0
-promised_by (member ∷ members) = member.promised + promised_by members
-
--- the nodes in sight: so many in the pool, and those that the members may still hand
-abbrev pub in_sight : ℕ → List Member → ℕ
-in_sight len members = len + promised_by members
-
--- fewer nodes are in sight than the low mark: of the first rank that can be asked, as many as bring
--- them to the high mark
+-- the pool is below the low mark: of the first rank that can be asked, as many nodes as bring it
+-- to the high mark
 pub record IsAsk (len low high : ℕ) (members : List Member) (rank count : ℕ) : Type 0 where
-  pub few : in_sight len members < low
+  pub few : len < low
   pub first : IsFirstRank members rank
-  pub up_to_high : in_sight len members + count ≡ high
+  pub up_to_high : len + count ≡ high
 
 -- the pool is at the high mark, and some member is collecting
 pub record IsFull (len high : ℕ) (members : List Member) : Type 0 where
@@ -33,10 +24,9 @@ pub record IsEnough (len high : ℕ) (members : List Member) (ranks : List ℕ) 
   pub full : IsFull len high members
   pub all : ranks ≡ collecting_ranks members
 
--- with fewer nodes in sight than the low mark none can be asked, and at the high mark none is
--- collecting
+-- below the low mark none can be asked, and at the high mark none is collecting
 pub record IsNothing (len low high : ℕ) (members : List Member) : Type 0 where
-  pub few : in_sight len members < low → NoneCanBeAsked members
+  pub few : len < low → NoneCanBeAsked members
   pub many : high ≤ len → IsNoneCollecting members
 
 -- what is wanted with this many nodes in the pool

@@ -8,6 +8,4 @@ pub struct Member {
     pub floor: i128,
     /// Whether it is handing nodes, as it was asked.
     pub collecting: bool,
-    /// How many of these it may still hand: no more than it last reported, but one.
-    pub promised: u64,
 }

@@ -8,7 +8,7 @@ use Rattle.ug_rules.specs.Asking.{CanBeAsked, NoneCanBeAsked, IsAskedBefore, IsA
 
 -- a member that stands for one that is not there
 abbrev pub no_member : Member
-no_member = record { rank = 0; «open» = 0; floor = pos 0; collecting = false; promised = 0 }
+no_member = record { rank = 0; «open» = 0; floor = pos 0; collecting = false }
 
 not_ahead_same : (a : Member) → IsAskedBefore a a → ⊥
 not_ahead_same a (inl h) = omega (arith, ints)

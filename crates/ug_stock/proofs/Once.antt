@@ -7,7 +7,7 @@ use Rattle.ug_rules.specs.declared.member.Member.{Member}
 use Rattle.ug_rules.specs.declared.demand.Wanted.{Wanted}
 use Rattle.ug_rules.specs.declared.demand.Wanted.TheVariants.{Ask, Enough, Nothing}
 use Rattle.ug_rules.specs.Asking.{CanBeAsked, IsAskedBefore, IsFirstRank, NoneCanBeAsked, IsAnyCollecting, IsNoneCollecting}
-use Rattle.ug_rules.specs.Wants.{IsWanted, in_sight}
+use Rattle.ug_rules.specs.Wants.{IsWanted}
 
 same_rank : (a b : Member) → (IsAskedBefore a b → ⊥) → (IsAskedBefore b a → ⊥) → a.rank ≡ b.rank
 same_rank a b h k =
@@ -26,8 +26,8 @@ one_first members one other h k =
 one_count : (len high one other : ℕ) → len + one ≡ high → len + other ≡ high → one ≡ other
 one_count len high one other h k = omega arith
 
-apart : (len low high : ℕ) (members : List Member) → low ≤ high → in_sight len members < low → high ≤ len → ⊥
-apart len low high members h k l = omega arith
+apart : (len low high : ℕ) → low ≤ high → len < low → high ≤ len → ⊥
+apart len low high h k l = omega arith
 
 not_both : (b : Bool) → IsTrue b → b ≡ false → ⊥
 not_both true h e = cc
@@ -46,13 +46,13 @@ pub wanted_once : (len low high : ℕ) (members : List Member) (one other : Want
     → IsWanted len low high members one → IsWanted len low high members other → one ≡ other
 wanted_once len low high members (Ask r n) (Ask s m) marks h k =
     ap (λ x. Ask x n) (one_first members r s h.first k.first)
-    ∙ ap (λ x. Ask s x) (one_count (in_sight len members) high n m h.up_to_high k.up_to_high)
+    ∙ ap (λ x. Ask s x) (one_count len high n m h.up_to_high k.up_to_high)
 wanted_once len low high members (Ask r n) (Enough ys) marks h k =
-    absurd (apart len low high members marks h.few k.full.many)
+    absurd (apart len low high marks h.few k.full.many)
 wanted_once len low high members (Ask r n) Nothing marks h k =
     absurd (ask_or_nothing members r h.first (k.few h.few))
 wanted_once len low high members (Enough xs) (Ask s m) marks h k =
-    absurd (apart len low high members marks k.few h.full.many)
+    absurd (apart len low high marks k.few h.full.many)
 wanted_once len low high members (Enough xs) (Enough ys) marks h k =
     ap (λ zs. Enough zs) (h.all ∙ sym k.all)
 wanted_once len low high members (Enough xs) Nothing marks h k =

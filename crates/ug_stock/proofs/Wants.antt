@@ -1,31 +1,20 @@
 -- What is wanted of the ranks that work can be told.
-use Rattle.std.proofs.Common.{◌≡◌, ℕ, ◌+◌, ◌<◌, ◌≤◌, ◌^◌, List, [], ◌∷◌, ◌++◌, length, take, get_or, filter, refl, sym, subst, ap, arith}
+use Rattle.std.proofs.Common.{◌≡◌, ℕ, ◌+◌, ◌<◌, ◌≤◌, ◌^◌, List, [], ◌∷◌, length, filter, refl, sym, subst, ap, arith}
 use Rattle.std.specs.Prelude.{All, not}
-use Rattle.std.proofs.lemmas.List.{length-map, take_more}
+use Rattle.std.proofs.lemmas.List.{length-map}
 use Rattle.std.proofs.lemmas.List.Elements.{All-append, All-cons, All-contains, All-filter, All-map, All-nil}
 use Rattle.std.proofs.lemmas.List.Filters.{length-filter_both}
 use Rattle.ug_rules.specs.declared.member.Member.{Member}
 use Rattle.ug_rules.specs.declared.demand.Wanted.{Wanted}
 use Rattle.ug_rules.specs.declared.demand.Wanted.TheVariants.{Ask, Enough, Nothing}
 use Rattle.ug_rules.specs.Asking.{collecting_ranks}
-use Rattle.ug_rules.specs.Wants.{IsWanted, in_sight, promised_by}
+use Rattle.ug_rules.specs.Wants.{IsWanted}
 use Rattle.ug_ranks.specs.declared.state.State.{State}
 use Rattle.ug_ranks.specs.declared.state.State.TheVariants.{Absent, Idle, Racing, Active, Dead}
 use Rattle.ug_rules.specs.Ranks.{member_at, members_in, of_ranks}
 use Rattle.ug_stock.specs.Books.{CanBeTold}
-use Rattle.ug_stock.proofs.AskedFirst.{no_member}
 use Rattle.ug_stock.proofs.Works.{few_work}
 use Rattle.ug_stock.proofs.Counts.{members_work}
-
--- the nodes in sight with one member more
-promised_push : (ms : List Member) (m : Member) → promised_by (ms ++ m ∷ []) ≡ promised_by ms + m.promised
-promised_push [] m = omega arith
-promised_push (k ∷ ms) m = omega (arith, promised_push ms m)
-
-pub sight_more : (len : ℕ) (ms : List Member) (i : ℕ) → i < length ms
-    → in_sight len (take (i + 1) ms) ≡ in_sight len (take i ms) + (get_or ms i no_member).promised
-sight_more len ms i h =
-    rw (take_more ms i no_member h) (omega (arith, promised_push (take i ms) (get_or ms i no_member)))
 
 -- the members are some of the ranks
 abbrev IsBelow : ℕ → Member → Type 0

@@ -1,4 +1,4 @@
-ghost use Rattle.std.specs.Prelude.{◌≡◌, ◌<◌, ◌++◌, ◌^◌, ◌-◌, min, IfOk, OnOk, length};
+ghost use Rattle.std.specs.Prelude.{◌≡◌, ◌<◌, ◌++◌, ◌^◌, IfOk, OnOk, length};
 ghost use Rattle.ug_rules.specs.Ranks.{member_at, members_in};
 
 use std::alloc::{AllocError, Global};
@@ -18,16 +18,6 @@ pub fn members_of(alloc: Global, ranks: &Ranks) -> Result<Vec<Member>, AllocErro
     Ok(members)
 }
 
-// How many of the hands that a rank is asked for it may still give: no more than the open nodes
-// that it last reported, but one.
-fn promised(asked: u32, left: u64) -> u64
-    ensures { result ≡ min asked (left - 1) }
-{
-    let asked = u64::from(asked);
-    let most = left.saturating_sub(1);
-    if asked < most { asked } else { most }
-}
-
 // The rank is one of the members, if it works.
 fn add_member(members: &mut Vec<Member>, rank: u32, state: &State) -> Result<(), AllocError>
     ensures { OnOk result (members.new.items ≡ members.old.items ++ member_at rank state.now) }
@@ -38,7 +28,6 @@ fn add_member(members: &mut Vec<Member>, rank: u32, state: &State) -> Result<(),
             open: work.open,
             floor: work.reported,
             collecting: work.asked != 0,
-            promised: promised(work.asked, work.open),
         })?;
     }
     Ok(())

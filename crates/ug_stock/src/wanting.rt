@@ -1,16 +1,15 @@
-ghost use Rattle.std.specs.Prelude.{◌≡◌, ◌≤◌, ◌<◌, ◌++◌, [], ◌∷◌, min, List, MatchBool, IfOk, OnErr};
+ghost use Rattle.std.specs.Prelude.{◌≡◌, ◌≤◌, ◌<◌, ◌++◌, [], ◌∷◌, List, MatchBool, IfOk, OnErr};
 ghost use Rattle.ug_rules.specs.declared.member.Member.{Member};
 ghost use Rattle.ug_rules.specs.declared.demand.Wanted.{Wanted};
 ghost use Rattle.ug_rules.specs.Asking.{CanBeAsked, IsAskedBefore, IsAskedFirst, IsAskedFirstIfAny, IsAnyCollecting, IsNoneCollecting, AreRising, collecting_ranks};
-ghost use Rattle.ug_rules.specs.Wants.{IsFull, IsWanted, HasRisingRanks, in_sight};
+ghost use Rattle.ug_rules.specs.Wants.{IsFull, IsWanted, HasRisingRanks};
 
 use std::alloc::{AllocError, Global};
 use ug_lists::Items;
 use ug_rules::{Member, Wanted};
 
-/// What is wanted with `len` nodes in the pool: more where fewer than `low` are in sight, which are
-/// those and what members may still hand; no more where there are at least `high`. The members are
-/// the ranks with an assignment.
+/// What is wanted with `len` nodes in the pool: more where there are fewer than `low`, no more
+/// where there are at least `high`. The members are the ranks with an assignment.
 #[tactic(auto, using(crate::proofs::Once::wanted_once))]
 pub fn wanted(
     alloc: Global,
@@ -27,7 +26,7 @@ pub fn wanted(
     // Memory is taken for the list of those told to stop alone.
     ensures memory { OnErr result (IsFull len high members.now) }
 {
-    if in_sight(len, low, members) < low {
+    if len < low {
         return Ok(ask(len, low, high, members));
     }
     if !is_full(len, high, members) {
@@ -37,21 +36,9 @@ pub fn wanted(
     Ok(Wanted::Enough(Items::from_vec(ranks)))
 }
 
-// How many nodes are in sight, up to the low mark.
-#[tactic(auto, using(crate::proofs::Wants::sight_more))]
-fn in_sight(len: u64, low: u64, members: &[Member]) -> u64
-    ensures { result ≡ min (in_sight len members.now) low }
-{
-    let mut seen = lesser(len, low);
-    for member in members {
-        seen = lesser(seen.saturating_add(member.promised), low);
-    }
-    seen
-}
-
 // What is wanted below the low mark.
 fn ask(len: u64, low: u64, high: u64, members: &[Member]) -> Wanted
-    requires few { in_sight len members.now < low }
+    requires few { len < low }
     requires marks { low ≤ high }
     ensures wanted { IsWanted len low high members.now result }
     ensures rising { HasRisingRanks result }
@@ -59,7 +46,7 @@ fn ask(len: u64, low: u64, high: u64, members: &[Member]) -> Wanted
     match first(members) {
         Some(member) => Wanted::Ask {
             rank: member.rank,
-            count: high - in_sight(len, low, members),
+            count: high - len,
         },
         None => Wanted::Nothing,
     }
@@ -117,12 +104,6 @@ fn is_ahead(one: Member, other: Member) -> bool
         return one.rank < other.rank;
     }
     one.floor < other.floor
-}
-
-fn lesser(a: u64, b: u64) -> u64
-    ensures { result ≡ min a b }
-{
-    if a < b { a } else { b }
 }
 
 // Whether those that are collecting are told to stop.
