@@ -10,7 +10,7 @@ use Rattle.ug_desk.specs.Givens.{taken_by}
 -- what its fields say
 abbrev pub state_of : Inside → LockedState
 state_of l = record {
-  opening = l.opening;
+  opening = l.began;
   now = record { book = l.book; tickets = l.tickets.items };
   count = l.count;
 }

@@ -27,14 +27,14 @@ use ug_frames::Report;
 use ug_nodes::Ticket;
 use ug_rows::{IntBox, Point};
 use ug_rules::Heard;
-use ug_snapshot::{Snapshot, image_of};
+use ug_snapshot::{Began, Snapshot, image_of};
 use ug_worker::{Reply, Untaken};
 
 /// The value behind the lock of a desk.
 #[derive(Drop)]
 pub struct Locked {
     alloc: Global,
-    opening: Opening,
+    began: Began,
     book: Book,
     // The ticket of the last work of each rank.
     tickets: Vec<Ticket>,
@@ -73,21 +73,23 @@ impl Locked {
             run: opening.run,
             number: 0,
         };
-        let Ok(tickets) = tickets(alloc, opening.settings.solvers, first) else {
-            drop(opening);
+        let count = opening.settings.solvers;
+        let began = Began::new(alloc, opening)?;
+        let Ok(tickets) = tickets(alloc, count, first) else {
+            drop(began);
             return Err(AllocError);
         };
-        let Ok(waiting) = Waiting::new(alloc, opening.settings.solvers) else {
-            drop(opening);
+        let Ok(waiting) = Waiting::new(alloc, count) else {
+            drop(began);
             drop(tickets);
             return Err(AllocError);
         };
-        match Book::new(alloc, &opening) {
+        match Book::new(alloc, began.opening()) {
             Ok(book) => {
                 let word = word_of(&book);
                 Ok(Locked {
                     alloc,
-                    opening,
+                    began,
                     book,
                     tickets,
                     count: 0,
@@ -96,7 +98,7 @@ impl Locked {
                 })
             }
             Err(error) => {
-                drop(opening);
+                drop(began);
                 drop(tickets);
                 drop(waiting);
                 Err(error)
@@ -108,7 +110,7 @@ impl Locked {
     pub fn opening(&self) -> &Opening
         ensures { result.now ≡ self.now.opening }
     {
-        &self.opening
+        self.began.opening()
     }
 
     /// The book. It is the replay of a history from the opening, and sound where that is covered.
@@ -125,13 +127,13 @@ impl Locked {
         ensures locked { IsLocked self }
     {
         let Locked {
-            opening,
+            began,
             book,
             tickets,
             waiting,
             ..
         } = self;
-        drop(opening);
+        drop(began);
         drop(tickets);
         drop(waiting);
         book
@@ -260,11 +262,11 @@ impl Locked {
     fn copy(&self) -> Result<Snapshot, AllocError>
         ensures { IfOk result (IsSnapshotOf self.now (one_more self.now.count)) }
     {
-        let opening = self.opening.copy()?;
+        let began = self.began.share()?;
         match image_of(self.alloc, &self.book, 1) {
-            Ok(image) => Ok(Snapshot::new(opening, image, one_more(self.count))),
+            Ok(image) => Ok(Snapshot::new(began, image, one_more(self.count))),
             Err(error) => {
-                drop(opening);
+                drop(began);
                 Err(error)
             }
         }

@@ -4,4 +4,4 @@ use Rattle.ug_snapshot.specs.Snapshots.{SnapshotState}
 
 -- what its fields say
 abbrev pub snapshot_of : Inside → SnapshotState
-snapshot_of s = record { opening = s.opening; image = s.image; count = s.count }
+snapshot_of s = record { opening = s.began; image = s.image; count = s.count }

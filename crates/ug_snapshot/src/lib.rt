@@ -3,8 +3,10 @@
 //! and an image of it, which is Covered where the opening is.
 #![tactic(auto)]
 
+mod began;
 mod moment;
 mod snapshot;
 
+pub use began::Began;
 pub use moment::image_of;
 pub use snapshot::Snapshot;

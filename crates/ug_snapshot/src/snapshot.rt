@@ -1,6 +1,7 @@
 ghost use Rattle.std.specs.Prelude.{◌≡◌, length};
 ghost use Rattle.ug_snapshot.specs.Snapshots.{IsSnapshot};
 
+use crate::began::Began;
 use std::marker::Model;
 use ug_book::Opening;
 use ug_image::Image;
@@ -8,7 +9,7 @@ use ug_image::Image;
 /// What was held at a moment, to be saved: where its opening is covered, so is its image.
 #[derive(Drop)]
 pub struct Snapshot {
-    opening: Opening,
+    began: Began,
     // Under sequence 1: whoever saves it gives it the one that is next.
     image: Image,
     count: u64,
@@ -26,13 +27,13 @@ impl Model for Snapshot {
 }
 
 impl Snapshot {
-    /// A snapshot of this opening, with this image, after so many calls.
-    pub fn new(opening: Opening, image: Image, count: u64) -> Snapshot
-        requires { IsSnapshot (record { opening = opening; image = image; count = count }) }
-        ensures { result ≡ record { opening = opening; image = image; count = count } }
+    /// A snapshot of what began with this opening, with this image, after so many calls.
+    pub fn new(began: Began, image: Image, count: u64) -> Snapshot
+        requires { IsSnapshot (record { opening = began; image = image; count = count }) }
+        ensures { result ≡ record { opening = began; image = image; count = count } }
     {
         Snapshot {
-            opening,
+            began,
             image,
             count,
         }
@@ -42,7 +43,7 @@ impl Snapshot {
     pub fn opening(&self) -> &Opening
         ensures { result.now ≡ self.now.opening }
     {
-        &self.opening
+        self.began.opening()
     }
 
     /// How many calls the history had.
@@ -64,8 +65,8 @@ impl Snapshot {
         ensures value { result ≡ self.image }
         ensures snapshot { IsSnapshot self }
     {
-        let Snapshot { opening, image, .. } = self;
-        drop(opening);
+        let Snapshot { began, image, .. } = self;
+        drop(began);
         image
     }
 }
