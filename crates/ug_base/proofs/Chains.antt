@@ -13,9 +13,7 @@ use Rattle.ug_propagate.proofs.Stepping.{reach_below, undone_append}
 use Rattle.ug_branch.specs.Choices.{AreClosed}
 use Rattle.ug_base.specs.declared.part.Part.{Part}
 use Rattle.ug_base.specs.Chains.{IsBase, IsChain, IsCut, IsPart, KeepsBases, Rise, area_of, areas_of, base_of, narrowed}
-use Rattle.ug_base.specs.Floors.{AreLeasts, least_of, renewed}
 use Rattle.ug_base.specs.Fronts.{front_of}
-use Rattle.ug_base.proofs.Leasts.{leasts_behind, leasts_renewed, leasts_take, parts_renewed, rise_renewed}
 use Rattle.ug_rows.specs.Sums.{box_floor}
 use Rattle.ug_base.specs.declared.part.Narrowing.{Narrowing}
 use Rattle.ug_propagate.proofs.Parts.{part_nonempty, part_set}
@@ -191,7 +189,6 @@ chain_kept p whole old new parts last chain e base h = record {
   base = base;
   each = all_kept p whole last.depth old new parts h (deepest parts last e chain.rising) chain.each;
   rising = chain.rising;
-  leasts = chain.leasts;
 }
 
 pub areas_kept : (old new : WorkState) (parts : List Part) (last : Part) → Rise parts → parts ≡ front_of parts ++ last ∷ []
@@ -206,6 +203,12 @@ pub last_part : (p : Instance) (whole : List Interval) (work : WorkState) (parts
 last_part p whole work parts last chain e =
     all_last (IsPart p whole work) (front_of parts) last (subst (λ (ps : List Part). All (IsPart p whole work) ps) e chain.each)
 
+-- the first part too
+pub first_part : (p : Instance) (whole : List Interval) (work : WorkState) (parts : List Part) (first : Part) → IsChain p whole work parts
+    → parts ≡ first ∷ drop 1 parts → IsPart p whole work first
+first_part p whole work parts first chain e =
+    All-head (IsPart p whole work) first (drop 1 parts) (subst (λ (ps : List Part). All (IsPart p whole work) ps) e chain.each)
+
 rise_take : (n : ℕ) (parts : List Part) → Rise parts → Rise (take n parts)
 rise_take zero parts h = tt
 rise_take (suc n) [] h = tt
@@ -218,19 +221,17 @@ chain_front p whole work parts chain = record {
   base = chain.base;
   each = All-take (IsPart p whole work) (length parts - 1) parts chain.each;
   rising = rise_take (length parts - 1) parts chain.rising;
-  leasts = leasts_take (length parts - 1) None parts chain.leasts;
 }
 
 -- without the first
 pub chain_rest : (p : Instance) (whole : List Interval) (work : WorkState) (part : Part) (old rest parts : List Part)
-    → IsChain p whole work old → old ≡ part ∷ rest → parts ≡ renewed None rest → IsChain p whole work parts
+    → IsChain p whole work old → old ≡ part ∷ rest → parts ≡ rest → IsChain p whole work parts
 chain_rest p whole work part old rest parts chain e left =
     let c : IsChain p whole work (part ∷ rest) = subst (IsChain p whole work) e chain in
     subst (IsChain p whole work) (sym left) (record {
       base = c.base;
-      each = parts_renewed p whole work None rest (All-tail (IsPart p whole work) part rest c.each);
-      rising = rise_renewed None rest c.rising.1;
-      leasts = leasts_renewed None rest;
+      each = All-tail (IsPart p whole work) part rest c.each;
+      rising = c.rising.1;
     })
 
 rise_two : (parts : List Part) (a b : Part) → Rise parts → All (is_at_most a.depth) parts → a.depth ≤ b.depth
@@ -248,9 +249,8 @@ rise_two (part ∷ parts) a b h deep later =
 -- with two parts of the working box in the last one's place
 pub chain_split : (p : Instance) (whole : List Interval) (work : WorkState) (old : List Part) (first second : Part)
     → IsChain p whole work old → IsPart p whole work first → IsPart p whole work second
-    → first.depth ≡ length work.trail → second.depth ≡ length work.trail
-    → AreLeasts (least_of None (front_of old)) (second ∷ first ∷ []) → IsChain p whole work (front_of old ++ second ∷ first ∷ [])
-chain_split p whole work old first second chain a b deep_first deep_second leasts =
+    → first.depth ≡ length work.trail → second.depth ≡ length work.trail → IsChain p whole work (front_of old ++ second ∷ first ∷ [])
+chain_split p whole work old first second chain a b deep_first deep_second =
     let c : IsChain p whole work (front_of old) = chain_front p whole work old chain in
     let deep : All (is_at_most second.depth) (front_of old) =
     All-weaker (IsPart p whole work) (is_at_most second.depth) (λ part is. omega (arith, is.deep)) (front_of old) c.each in
@@ -260,7 +260,6 @@ chain_split p whole work old first second chain a b deep_first deep_second least
           (All-cons (IsPart p whole work) second (first ∷ []) b
           (All-cons (IsPart p whole work) first [] a (All-nil (IsPart p whole work))));
       rising = rise_two (front_of old) second first c.rising deep (omega arith);
-      leasts = leasts_behind None (front_of old) (second ∷ first ∷ []) c.leasts leasts;
     }
 
 areas_take : (n : ℕ) (work : WorkState) (parts : List Part) → areas_of work (take n parts) ≡ take n (areas_of work parts)

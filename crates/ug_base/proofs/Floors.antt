@@ -1,8 +1,8 @@
 -- The least floor of boxes, and that it bounds the value of each good point.
-use Rattle.std.proofs.Common.{◌≡◌, ℕ, suc, ℤ, pos, ◌+◌, ◌*◌, ◌^◌, ◌<◌, ◌≤◌, ◌≤ℤ◌, ◌⊎◌, inl, inr, List, [], ◌∷◌, ◌++◌, length, drop, slice_index_or, unsigned_abs, Contains, Option, Some, None, IfSome, ap, refl, sym, subst, ◌∙◌, arith}
+use Rattle.std.proofs.Common.{◌≡◌, ℕ, suc, ℤ, pos, ◌+◌, ◌*◌, ◌^◌, ◌<◌, ◌≤◌, ◌≤ℤ◌, ◌⊎◌, inl, inr, List, [], ◌∷◌, length, drop, slice_index_or, unsigned_abs, Contains, Option, Some, None, IfSome, IsNone, ◌↔◌, ap, refl, sym, subst, ◌∙◌, arith}
 use Rattle.std.proofs.lemmas.Int.{ints, by_lt_z}
 use Rattle.std.proofs.lemmas.Bool.{cases_eq}
-use Rattle.std.proofs.lemmas.List.{drop_more, get_or-map, length-append, length-drop, length-map}
+use Rattle.std.proofs.lemmas.List.{drop_more, get_or-map, length-drop, length-map}
 use Rattle.std.proofs.lemmas.List.Elements.{All-contains}
 use Rattle.ug_rows.specs.declared.area.Interval.{Interval}
 use Rattle.ug_rows.specs.declared.row.Objective.{Objective}
@@ -15,10 +15,9 @@ use Rattle.ug_problem.specs.Better.{IsGood}
 use Rattle.ug_problem.proofs.Floors.{floor_bound, floor_within}
 use Rattle.ug_propagate.specs.Working.{WorkState}
 use Rattle.ug_base.specs.declared.part.Part.{Part}
+use Rattle.ug_base.specs.declared.parts.Kept.{Kept}
 use Rattle.ug_base.specs.Chains.{IsChain, area_of, areas_of, no_part}
-use Rattle.ug_base.specs.Floors.{AreLeasts, IsLeastOf, IsLeastSoFar, floor_at, floors_of, least_of}
-use Rattle.ug_base.specs.Fronts.{front_of}
-use Rattle.ug_base.proofs.Leasts.{least_of_last}
+use Rattle.ug_base.specs.Floors.{AreLeasts, IsLeastOf, IsLeastSoFar, floor_at, floors_of, least_of, parts_in}
 use Rattle.ug_base.specs.Tasks.{BoundsTheRest, IsLeastFloor, IsTask, TaskState, lesser_of}
 
 -- the lesser of two is one of them, and at most each
@@ -72,31 +71,50 @@ lowest_next parts n lowest here r there l e same =
     (e ∙ sym (get_or-map (λ (part : Part). part.floor) parts n no_part (pos 0) there)) same
 
 -- the least beside the last part is the least of all floors
-least_from : (all parts : List Part) (n : ℕ) (before : Option ℤ) → n ≤ length all → drop n all ≡ parts
-    → IsLeastSoFar (floors_of all) n before → AreLeasts before parts
-    → IsLeastSoFar (floors_of all) (length all) (least_of before parts)
+least_from : (all : List Part) (kept : List Kept) (n : ℕ) (before : Option ℤ) → n ≤ length all → drop n all ≡ parts_in kept
+    → IsLeastSoFar (floors_of all) n before → AreLeasts before kept
+    → IsLeastSoFar (floors_of all) (length all) (least_of before kept)
 least_from all [] n before within e l h =
     subst (λ (k : ℕ). IsLeastSoFar (floors_of all) k before)
     (omega (arith, within, length-drop n all, ap (λ (ps : List Part). length ps) e)) l
-least_from all (part ∷ parts) n before within e l h =
+least_from all (one ∷ kept) n before within e l h =
     let there : n < length all = omega (arith, length-drop n all, ap (λ (ps : List Part). length ps) e) in
-    let more : slice_index_or all n no_part ∷ drop (n + 1) all ≡ part ∷ parts = sym (drop_more all n no_part there) ∙ e in
-    let here : slice_index_or all n no_part ≡ part = ap (λ (ps : List Part). slice_index_or ps 0 no_part) more in
-    least_from all parts (n + 1) (Some part.least) (omega (arith, there)) (ap (λ (ps : List Part). drop 1 ps) more)
-    (lowest_next all n before part.floor part.least there l (ap (λ (q : Part). q.floor) (sym here)) h.0) h.1
+    let more : slice_index_or all n no_part ∷ drop (n + 1) all ≡ one.part ∷ parts_in kept = sym (drop_more all n no_part there) ∙ e in
+    let here : slice_index_or all n no_part ≡ one.part = ap (λ (ps : List Part). slice_index_or ps 0 no_part) more in
+    least_from all kept (n + 1) (Some one.least) (omega (arith, there)) (ap (λ (ps : List Part). drop 1 ps) more)
+    (lowest_next all n before one.part.floor one.least there l (ap (λ (q : Part). q.floor) (sym here)) h.0) h.1
 
-pub last_is_least : (parts : List Part) (last : Part) → AreLeasts None parts → parts ≡ front_of parts ++ last ∷ []
-    → IsLeastOf (floors_of parts) (length parts) last.least
-last_is_least parts last h e =
-    subst (IsLeastSoFar (floors_of parts) (length parts))
-    (ap (λ (ps : List Part). least_of None ps) e ∙ least_of_last None (front_of parts) last)
-    (least_from parts parts 0 None (omega arith) refl refl h)
+some_least : (floors : List ℤ) (n : ℕ) (low : Option ℤ) → IsLeastSoFar floors n low → IfSome low (IsLeastOf floors n)
+some_least floors n None l = tt
+some_least floors n (Some low) l = l
 
--- where there is a last part, there are parts
-pub some_parts : (parts : List Part) (last : Part) → parts ≡ front_of parts ++ last ∷ [] → parts ≡ [] → ⊥
-some_parts parts last e none =
-    let n = ap (λ (ps : List Part). length ps) (sym none ∙ e) in
-    absurd (omega (arith, n, length-append (front_of parts) (last ∷ [])))
+pub last_is_least : (parts : List Part) (kept : List Kept) (low : Option ℤ) → parts_in kept ≡ parts → AreLeasts None kept
+    → low ≡ least_of None kept → IfSome low (IsLeastOf (floors_of parts) (length parts))
+last_is_least parts kept low same h e =
+    some_least (floors_of parts) (length parts) low
+    (subst (IsLeastSoFar (floors_of parts) (length parts)) (sym e) (least_from parts kept 0 None (omega arith) (sym same) refl h))
+
+none_is : (low : Option ℤ) → IsNone low → low ≡ None
+none_is None h = refl
+none_is (Some low) h = absurd (cc)
+
+some_of : (low : ℤ) (kept : List Kept) → least_of (Some low) kept ≡ None → ⊥
+some_of low [] e = absurd (cc)
+some_of low (one ∷ kept) e = some_of one.least kept e
+
+least_none : (kept : List Kept) → IsNone (least_of None kept) ↔ (parts_in kept ≡ [])
+least_none [] = ((λ h. refl), (λ e. refl))
+least_none (one ∷ kept) = (
+  (λ h. absurd (some_of one.least kept (none_is (least_of (Some one.least) kept) h))),
+  (λ e. absurd (omega (arith, ap (λ (ps : List Part). length ps) e))),
+)
+
+-- there is no least exactly where there is no part
+pub none_least : (parts : List Part) (kept : List Kept) (low : Option ℤ) → parts_in kept ≡ parts → low ≡ least_of None kept
+    → IsNone low ↔ (parts ≡ [])
+none_least parts kept low same e =
+    subst (λ (o : Option ℤ). IsNone o ↔ (parts ≡ [])) (sym e)
+    (subst (λ (ps : List Part). IsNone (least_of None kept) ↔ (ps ≡ [])) same (least_none kept))
 
 -- the least of the floors is the least floor of the boxes
 lowest_by : (p : Instance) (whole : List Interval) (work : WorkState) (parts : List Part) (lowest : Option ℤ)

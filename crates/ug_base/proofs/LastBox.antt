@@ -1,28 +1,27 @@
 -- The last of the boxes left, and which points they have.
-use Rattle.std.proofs.Common.{◌≡◌, ℕ, zero, suc, ℤ, ◌-◌, ◌<◌, ◌⊎◌, inl, inr, List, [], ◌∷◌, ◌++◌, length, take, slice_get, slice_set, All, Some, None, refl, ap, arith}
-use Rattle.std.proofs.lemmas.Option.{slice_get_cases, slice_get_within}
+use Rattle.std.proofs.Common.{◌≡◌, ℕ, zero, suc, ℤ, ◌-◌, ◌<◌, ◌⊎◌, inl, inr, List, [], ◌∷◌, ◌++◌, length, take, slice_index_or, slice_set, All, Option, Some, None, MatchOption, refl, sym, ap, ◌∙◌, arith}
+use Rattle.std.specs.List.{ItemBy}
 use Rattle.std.proofs.lemmas.List.Elements.{All-head, All-tail}
 use Rattle.ug_rows.specs.declared.area.Interval.{Interval}
 use Rattle.ug_rows.specs.Boxes.{IsInside, IsInOne}
 use Rattle.ug_base.specs.Fronts.{front_of}
 
--- the boxes are those before the last, and the last
-split_at : {A : Type 0} (boxes : List A) (n : ℕ) (last : A) → length boxes ≡ suc n → slice_get boxes n ≡ Some last → boxes ≡ take n boxes ++ last ∷ []
-split_at [] n last e h = absurd (omega (arith, e))
-split_at (area ∷ []) zero last e h = grind (arith, h)
-split_at (area ∷ second ∷ boxes) zero last e h = absurd (omega (arith, e))
-split_at (area ∷ boxes) (suc n) last e h = ap (λ bs. area ∷ bs) (split_at boxes n last (omega (arith, e)) h)
+-- all are those before the last, and the last
+read_at : {A : Type 0} (items : List A) (n : ℕ) (last : A) → length items ≡ suc n → last ≡ slice_index_or items n last
+    → items ≡ take n items ++ last ∷ []
+read_at [] n last e h = absurd (omega (arith, e))
+read_at (one ∷ []) zero last e h = ap (λ x. x ∷ []) (sym h)
+read_at (one ∷ second ∷ items) zero last e h = absurd (omega (arith, e))
+read_at (one ∷ items) (suc n) last e h = ap (λ xs. one ∷ xs) (read_at items n last (omega (arith, e)) h)
 
-pub last_split : {A : Type 0} (boxes : List A) (last : A) → slice_get boxes (length boxes - 1) ≡ Some last → boxes ≡ front_of boxes ++ last ∷ []
-last_split boxes last h = split_at boxes (length boxes - 1) last (omega (arith, slice_get_within boxes (length boxes - 1) last h)) h
-
--- there is no last exactly where there is no box
-pub none_last : {A : Type 0} (boxes : List A) → slice_get boxes (length boxes - 1) ≡ None → boxes ≡ []
-none_last [] h = refl
-none_last (area ∷ boxes) h = elim (slice_get_cases (area ∷ boxes) (length boxes)).1 [
-  | inl r ↦ absurd (grind (arith, h, r.2))
-  | inr r ↦ absurd (omega (arith, r.0))
-]
+-- the last, where it was read, and none exactly where there is none
+pub last_read : {R A : Type 0} (now : R → A) (items : List A) (at : ℕ) (read : Option R) → at ≡ length items - 1
+    → ItemBy now items 0 at read → MatchOption read (items ≡ []) (λ last. items ≡ front_of items ++ now last ∷ [])
+last_read now [] at None e h = refl
+last_read now (one ∷ items) at None e h = absurd (omega (arith, h.3))
+last_read now items at (Some last) e h =
+    read_at items (length items - 1) (now last) (omega (arith, h.3.0))
+    (h.1 ∙ ap (λ (n : ℕ). slice_index_or items n (now last)) e)
 
 -- a box put behind the last, and another in the last one's place
 set_last : {A : Type 0} (boxes : List A) (n : ℕ) (first second : A) → length boxes ≡ suc n

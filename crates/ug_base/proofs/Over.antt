@@ -16,41 +16,43 @@ use Rattle.ug_propagate.proofs.Stepping.{reach_below}
 use Rattle.ug_branch.specs.Choices.{AreClosed}
 use Rattle.ug_base.specs.declared.part.Narrowing.{Narrowing}
 use Rattle.ug_base.specs.declared.part.Part.{Part}
-use Rattle.ug_base.specs.Chains.{IsChain, IsCut, IsPart, Rise, area_of, areas_of, base_of, narrowed, no_part, unsettled}
-use Rattle.ug_base.proofs.Leasts.{leasts_unsettled}
+use Rattle.ug_base.specs.Chains.{IsChain, IsCut, IsPart, Rise, area_of, areas_of, base_of, narrowed, unsettled}
+use Rattle.ug_base.specs.declared.parts.Kept.{Kept}
+use Rattle.ug_base.specs.Floors.{unsettled_kept}
+use Rattle.ug_base.proofs.Leasts.{no_kept}
 
--- the first k parts are unsettled, and the others are as they were
-pub record AreUnsettledTo (k : ℕ) (old new : List Part) : Type 0 where
+-- the first k are unsettled, and the others are as they were
+pub record AreUnsettledTo (k : ℕ) (old new : List Kept) : Type 0 where
   pub count : length new ≡ length old
-  pub done : (i : ℕ) → i < k → i < length old → slice_index_or new i no_part ≡ unsettled (slice_index_or old i no_part)
-  pub others : (i : ℕ) → k ≤ i → i < length old → slice_index_or new i no_part ≡ slice_index_or old i no_part
+  pub done : (i : ℕ) → i < k → i < length old → slice_index_or new i no_kept ≡ unsettled_kept (slice_index_or old i no_kept)
+  pub others : (i : ℕ) → k ≤ i → i < length old → slice_index_or new i no_kept ≡ slice_index_or old i no_kept
 
-pub none_unsettled : (parts : List Part) → AreUnsettledTo 0 parts parts
-none_unsettled parts = record {
+pub none_unsettled : (kept : List Kept) → AreUnsettledTo 0 kept kept
+none_unsettled kept = record {
   count = refl;
   done = λ i less there. absurd (omega arith);
   others = λ i past there. refl;
 }
 
-pub one_unsettled : (old now : List Part) (k : ℕ) (part : Part) → k < length old → AreUnsettledTo k old now
-    → part ≡ unsettled (slice_index_or now k no_part) → AreUnsettledTo (k + 1) old (slice_set now k part)
-one_unsettled old now k part there h is = record {
-  count = length-set now k part ∙ h.count;
+pub one_unsettled : (old now : List Kept) (k : ℕ) (one : Kept) → k < length old → AreUnsettledTo k old now
+    → one ≡ unsettled_kept (slice_index_or now k no_kept) → AreUnsettledTo (k + 1) old (slice_set now k one)
+one_unsettled old now k one there h is = record {
+  count = length-set now k one ∙ h.count;
   done = λ i less within. elim (cases_eq i k) [
     | inl same ↦
-        ap (λ (j : ℕ). slice_index_or (slice_set now k part) j no_part) same
-        ∙ get_or-set_same now k part no_part (omega (arith, h.count, there)) ∙ is ∙ ap unsettled (h.others k (omega arith) there)
-        ∙ ap (λ (j : ℕ). unsettled (slice_index_or old j no_part)) (sym same)
-    | inr other ↦ get_or-set_other now k i part no_part (λ e. other e) ∙ h.done i (omega (arith, less, other)) within
+        ap (λ (j : ℕ). slice_index_or (slice_set now k one) j no_kept) same
+        ∙ get_or-set_same now k one no_kept (omega (arith, h.count, there)) ∙ is ∙ ap unsettled_kept (h.others k (omega arith) there)
+        ∙ ap (λ (j : ℕ). unsettled_kept (slice_index_or old j no_kept)) (sym same)
+    | inr other ↦ get_or-set_other now k i one no_kept (λ e. other e) ∙ h.done i (omega (arith, less, other)) within
   ];
   others = λ i past within.
-      get_or-set_other now k i part no_part (λ e. absurd (omega (arith, e, past))) ∙ h.others i (omega (arith, past)) within;
+      get_or-set_other now k i one no_kept (λ e. absurd (omega (arith, e, past))) ∙ h.others i (omega (arith, past)) within;
 }
 
-pub all_unsettled : (old new : List Part) (k : ℕ) → length old ≤ k → AreUnsettledTo k old new → new ≡ map unsettled old
-all_unsettled old new k all h = ext_get_or no_part new (map unsettled old) (h.count ∙ sym (length-map old unsettled))
+pub all_unsettled : (old new : List Kept) (k : ℕ) → length old ≤ k → AreUnsettledTo k old new → new ≡ map unsettled_kept old
+all_unsettled old new k all h = ext_get_or no_kept new (map unsettled_kept old) (h.count ∙ sym (length-map old unsettled_kept))
     (λ i lt. let there : i < length old = omega (arith, lt, h.count) in
-    h.done i (omega (arith, there, all)) there ∙ sym (get_or-map unsettled old i no_part no_part there))
+    h.done i (omega (arith, there, all)) there ∙ sym (get_or-map unsettled_kept old i no_kept no_kept there))
 
 -- the boxes of parts do not depend on how rows rested
 pub areas_unsettled : (work : WorkState) (parts : List Part) → areas_of work (map unsettled parts) ≡ areas_of work parts
@@ -138,5 +140,4 @@ chain_over p s whole old new parts after columns objective problem wide below ov
       };
       each = parts_over p s whole old new parts columns objective over chain.each;
       rising = rise_over parts chain.rising;
-      leasts = leasts_unsettled None parts chain.leasts;
     })

@@ -1,5 +1,5 @@
 -- A new task, and one with a lower cutoff.
-use Rattle.std.proofs.Common.{◌≡◌, refl, ℤ, ◌*◌, ◌^◌, ◌≤◌, ◌<ℤ◌, inl, inr, List, [], ◌∷◌, length, drop, ◌<◌, unsigned_abs, Option, Some, None, IfSome, sym, ap, ◌∙◌, subst, arith}
+use Rattle.std.proofs.Common.{◌≡◌, ℤ, ◌*◌, ◌^◌, ◌≤◌, ◌<ℤ◌, inl, inr, List, [], ◌∷◌, length, drop, ◌<◌, unsigned_abs, Option, Some, None, IfSome, sym, ap, ◌∙◌, subst, arith}
 use Rattle.std.proofs.lemmas.Int.{ints}
 use Rattle.std.proofs.lemmas.List.Elements.{All-cons, All-nil}
 use Rattle.ug_rows.specs.declared.area.Interval.{Interval}
@@ -24,7 +24,7 @@ use Rattle.ug_base.proofs.Floors.{lesser_is}
 -- a task with the whole box left and none handed
 pub new_task : (t : TaskState) (work : WorkState) (parts : List Part) (gap floor : ℤ) → IsProblem t.problem
     → IsBelow t.whole (root_of t.problem) → IsSmallCutoff t.cutoff → IsGap gap → t.gap ≡ gap
-    → parts ≡ record { depth = 0; cut = None; floor = floor; least = floor; rest = Unknown; closed = 0 } ∷ [] → work.trail ≡ [] → work.sums.area ≡ t.whole
+    → parts ≡ record { depth = 0; cut = None; floor = floor; rest = Unknown; closed = 0 } ∷ [] → work.trail ≡ [] → work.sums.area ≡ t.whole
     → t.boxes ≡ areas_of work parts → t.handed ≡ [] → IsTask t
 new_task t work parts gap floor problem below small g same e none area left handed =
     let P : List Interval → Type 0 = λ (a : List Interval). IsBelow a t.whole in
@@ -42,10 +42,10 @@ new_task t work parts gap floor problem below small g same e none area left hand
 
 -- and its one part
 pub new_chain : (p : Instance) (whole : List Interval) (work : WorkState) (parts : List Part)
-    → parts ≡ record { depth = 0; cut = None; floor = box_floor p.objective work.sums.area; least = box_floor p.objective work.sums.area; rest = Unknown; closed = 0 } ∷ []
+    → parts ≡ record { depth = 0; cut = None; floor = box_floor p.objective work.sums.area; rest = Unknown; closed = 0 } ∷ []
     → IsBox p work → work.trail ≡ [] → work.sums.area ≡ whole → IsChain p whole work parts
 new_chain p whole work parts e box none area =
-    let only : Part = record { depth = 0; cut = None; floor = box_floor p.objective work.sums.area; least = box_floor p.objective work.sums.area; rest = Unknown; closed = 0 } in
+    let only : Part = record { depth = 0; cut = None; floor = box_floor p.objective work.sums.area; rest = Unknown; closed = 0 } in
     let C : Trailed → Type 0 = λ (change : Trailed). change.column < length p.columns in
     let base : base_of work only ≡ work.sums.area =
     ap (λ (trail : List Trailed). undone work.sums.area (drop 0 trail)) none in
@@ -65,7 +65,6 @@ new_chain p whole work parts e box none area =
       };
       each = All-cons (IsPart p whole work) only [] is (All-nil (IsPart p whole work));
       rising = (All-nil (λ (later : Part). 0 ≤ later.depth), tt);
-      leasts = (refl, tt);
     })
 
 -- a value below the lesser of two is below the first

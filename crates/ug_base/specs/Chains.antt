@@ -14,7 +14,6 @@ use Rattle.ug_propagate.specs.declared.resting.Rest.TheVariants.{Unknown}
 use Rattle.ug_propagate.specs.Working.{AllRest, AreTrailed, AreReached, IsBox, WorkState, undone}
 use Rattle.ug_base.specs.declared.part.Narrowing.{Narrowing}
 use Rattle.ug_base.specs.declared.part.Part.{Part}
-use Rattle.ug_base.specs.Floors.{AreLeasts}
 use Rattle.ug_base.specs.Fronts.{front_of}
 use Rattle.ug_base.specs.Halvings.{first_half, other_half}
 
@@ -69,7 +68,7 @@ unsettled part = record part { rest = Unknown }
 -- a part that stands for one that is not there
 abbrev pub no_part : Part
 no_part =
-    record { depth = 0; cut = None; floor = pos 0; least = pos 0; rest = Unknown; closed = 0 }
+    record { depth = 0; cut = None; floor = pos 0; rest = Unknown; closed = 0 }
 
 -- how many of the first columns are known to be closed in the last part's box
 abbrev pub closed_of : List Part → ℕ
@@ -86,7 +85,6 @@ pub record IsChain (p : Instance) (whole : List Interval) (work : WorkState) (pa
   pub base : IsBase p whole work
   pub each : All (IsPart p whole work) parts
   pub rising : Rise parts
-  pub leasts : AreLeasts None parts
 
 -- parts with at most so many changes have the boxes that they had
 pub record KeepsBases (depth : ℕ) (old new : WorkState) : Type 0 where

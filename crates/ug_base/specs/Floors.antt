@@ -2,6 +2,8 @@
 use Rattle.std.specs.Prelude.{◌≡◌, ℕ, ℤ, pos, ◌<◌, ◌≤ℤ◌, List, [], ◌∷◌, map, slice_index_or, Option}
 use Rattle.std.specs.Prelude.{Some, None}
 use Rattle.ug_base.specs.declared.part.Part.{Part}
+use Rattle.ug_base.specs.declared.parts.Kept.{Kept}
+use Rattle.ug_base.specs.Chains.{unsettled}
 use Rattle.ug_base.specs.Tasks.{lesser_of}
 
 -- the floors that are kept beside the boxes
@@ -24,23 +26,32 @@ abbrev pub IsLeastSoFar : List ℤ → ℕ → Option ℤ → Type 0
 IsLeastSoFar floors n None = n ≡ 0
 IsLeastSoFar floors n (Some low) = IsLeastOf floors n low
 
--- the part, with the lesser of a floor, if there is one, and its own as the least
-abbrev pub with_least : Option ℤ → Part → Part
-with_least before part = record part { least = lesser_of before part.floor }
+-- the parts that are kept, without the least beside them
+abbrev pub parts_in : List Kept → List Part
+parts_in kept = map (λ (one : Kept). one.part) kept
+
+-- the part, with the lesser of a floor, if there is one, and its own beside it
+abbrev pub with_least : Option ℤ → Part → Kept
+with_least before part = record { part = part; least = lesser_of before part.floor }
 
 -- the parts, each with the lesser of the least before it, if there is one, and its own floor
-abbrev pub renewed : Option ℤ → List Part → List Part
+abbrev pub renewed : Option ℤ → List Part → List Kept
 renewed before [] = []
 renewed before (part ∷ parts) =
     with_least before part ∷ renewed (Some (lesser_of before part.floor)) parts
 
--- the least of each part is the lesser of the least before it, if there is one, and its own floor
-abbrev pub AreLeasts : Option ℤ → List Part → Type 0
+-- the least beside each part is the lesser of the least before it, if there is one, and its own
+-- floor
+abbrev pub AreLeasts : Option ℤ → List Kept → Type 0
 AreLeasts before [] = Unit {0}
-AreLeasts before (part ∷ parts) =
-    (part.least ≡ lesser_of before part.floor) × AreLeasts (Some part.least) parts
+AreLeasts before (one ∷ kept) =
+    (one.least ≡ lesser_of before one.part.floor) × AreLeasts (Some one.least) kept
 
--- the least of the last part, or what was before the first
-abbrev pub least_of : Option ℤ → List Part → Option ℤ
+-- the least beside the last part, or what was before the first
+abbrev pub least_of : Option ℤ → List Kept → Option ℤ
 least_of before [] = before
-least_of before (part ∷ parts) = least_of (Some part.least) parts
+least_of before (one ∷ kept) = least_of (Some one.least) kept
+
+-- the part, of which it is not known how its parent's rows rested, with the least beside it
+abbrev pub unsettled_kept : Kept → Kept
+unsettled_kept one = record one { part = unsettled one.part }

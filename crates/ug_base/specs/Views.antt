@@ -13,13 +13,13 @@ state_of t = record {
   whole = t.whole;
   cutoff = t.cutoff;
   gap = t.gap;
-  boxes = areas_of t.work t.parts.items;
+  boxes = areas_of t.work t.parts;
   handed = t.handed;
 }
 
 -- the fields are those of a task, whose boxes are parts of its working box over what is searched
 pub record AreOfTask (t : Inside) : Type 0 where
   pub task : IsTask (state_of t)
-  pub chain : IsChain t.formulation.searched t.whole t.work t.parts.items
+  pub chain : IsChain t.formulation.searched t.whole t.work t.parts
   pub searched : Searches t.guide.base t.formulation.problem t.whole t.cutoff
       t.formulation.searched

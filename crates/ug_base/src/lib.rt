@@ -7,16 +7,16 @@
 //! each box handed leave less to search.
 #![tactic(auto)]
 
-mod boxes;
 mod formulation;
 mod guide;
 mod halving;
 mod handed;
+mod lesser;
 mod look;
-mod lowest;
 mod lows;
 mod moving;
 mod part;
+mod parts;
 mod sharpening;
 mod split;
 mod step;

@@ -14,6 +14,7 @@ use crate::guide::Guide;
 use crate::halving::Halving;
 use crate::lows::lows;
 use crate::part::{Narrowing, Part};
+use crate::parts::Parts;
 use std::alloc::{AllocError, Global};
 use ug_problem::Problem;
 use ug_propagate::{Working, propagate};
@@ -191,16 +192,16 @@ pub fn look_last(
     whole: &IntBox,
     guide: &Guide,
     cutoff: Option<i128>,
-    parts: &Vec<Part>,
+    parts: &Parts,
     last: Part,
 ) -> Result<Seen, AllocError>
     requires whole { IsBelow whole.now (root_of formulation.now.searched) }
     requires below { IsBelow (area_of work.old last) (root_of formulation.now.searched) }
     requires small { IsSmallCutoff cutoff }
-    requires chain { IsChain formulation.now.searched whole.now work.old parts.now.items }
-    requires last { parts.now.items ≡ front_of parts.now.items ++ last ∷ [] }
-    ensures chain { IsChain formulation.now.searched whole.now work.new parts.now.items }
-    ensures areas { areas_of work.new parts.now.items ≡ areas_of work.old parts.now.items }
+    requires chain { IsChain formulation.now.searched whole.now work.old parts.now }
+    requires last { parts.now ≡ front_of parts.now ++ last ∷ [] }
+    ensures chain { IsChain formulation.now.searched whole.now work.new parts.now }
+    ensures areas { areas_of work.new parts.now ≡ areas_of work.old parts.now }
     ensures seen { IfOk result
         (IsSeen formulation.now.searched cutoff guide.now (area_of work.old last) work.new) }
 {

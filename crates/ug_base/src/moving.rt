@@ -1,10 +1,10 @@
-ghost use Rattle.std.specs.Prelude.{◌≡◌, ◌<◌, ◌≤◌, drop, length, slice_index_or, IfOk, OnErr};
+ghost use Rattle.std.specs.Prelude.{◌≡◌, ◌≤◌, ◌∷◌, drop, length, IfOk, OnErr};
 ghost use Rattle.ug_propagate.specs.Working.{undone};
-ghost use Rattle.ug_base.specs.Chains.{area_of, areas_of, narrowed, no_part};
+ghost use Rattle.ug_base.specs.Chains.{area_of, narrowed};
 ghost use Rattle.ug_base.specs.Hands.{IsMoved};
 
-use crate::lowest::renew;
 use crate::part::{Narrowing, Part};
+use crate::parts::Parts;
 use std::alloc::{AllocError, Global};
 use ug_nodes::Hands;
 use ug_propagate::{Trailed, Working};
@@ -51,23 +51,21 @@ pub fn box_of(alloc: Global, work: &Working, part: Part) -> Result<IntBox, Alloc
 pub fn move_first(
     alloc: Global,
     work: &Working,
-    parts: &mut Vec<Part>,
+    first: Part,
+    parts: &mut Parts,
     handed: &mut Hands,
 ) -> Result<IntBox, AllocError>
-    requires some { 0 < length parts.old.items }
-    requires deep { (slice_index_or parts.old.items 0 no_part).depth ≤ length work.now.trail }
-    ensures ok { IfOk result
-        (IsMoved work.now parts.old.items parts.new.items handed.old handed.new) }
-    ensures parts { OnErr result (parts.new.items ≡ parts.old.items) }
+    requires first { parts.old ≡ first ∷ drop 1 parts.old }
+    requires deep { first.depth ≤ length work.now.trail }
+    ensures ok { IfOk result (IsMoved work.now parts.old parts.new handed.old handed.new) }
+    ensures parts { OnErr result (parts.new ≡ parts.old) }
     ensures handed { OnErr result (handed.new ≡ handed.old) }
 {
-    let first = 0;
-    // All memory is taken before a part is moved.
-    let area = box_of(alloc, work, parts[first])?;
+    // All memory is taken before the part is dropped.
+    let area = box_of(alloc, work, first)?;
     match handed.push(&area) {
         Ok(()) => {
-            parts.remove(first);
-            renew(parts);
+            parts.drop_first();
             Ok(area)
         }
         Err(error) => {

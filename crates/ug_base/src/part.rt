@@ -16,8 +16,6 @@ pub struct Part {
     pub cut: Option<Narrowing>,
     /// The floor of the box.
     pub floor: i128,
-    /// The least floor of the parts up to this one.
-    pub least: i128,
     /// How the rows of its parent rested.
     pub rest: Rest,
     /// So many of the first columns are closed in the box.

@@ -5,11 +5,11 @@ ghost use Rattle.ug_branch.specs.Choices.{AreClosed};
 ghost use Rattle.ug_base.specs.Chains.{HasSplit, IsBase, IsChain, IsPart, area_of, closed_of, first_side, other_side};
 ghost use Rattle.ug_base.specs.Looks.{IsBranched};
 
-use crate::boxes::replace_last;
 use crate::formulation::Formulation;
 use crate::guide::Guide;
 use crate::halving::Halving;
 use crate::part::{Narrowing, Part};
+use crate::parts::Parts;
 use std::alloc::AllocError;
 use ug_branch::Half;
 use ug_problem::Problem;
@@ -98,14 +98,6 @@ struct Known {
     closed: usize,
 }
 
-// How many of the first columns are known to be closed in the last part's box.
-fn closed_last(parts: &Vec<Part>) -> usize
-    requires { 0 < length parts.now.items }
-    ensures { result ≡ closed_of parts.now.items }
-{
-    parts[parts.len() - 1].closed
-}
-
 // How many of the first columns are closed, where so many are known to be.
 #[tactic(auto, using(crate::proofs::Closed::closed_more))]
 fn closed_from(sides: &[Interval], known: usize) -> usize
@@ -125,7 +117,6 @@ fn part_of(depth: usize, column: u32, side: Interval, floor: i128, known: Known)
       depth = depth;
       cut = Some (record { column = column; side = side });
       floor = floor;
-      least = floor;
       rest = known.rest;
       closed = known.closed;
     } }
@@ -134,8 +125,6 @@ fn part_of(depth: usize, column: u32, side: Interval, floor: i128, known: Known)
         depth,
         cut: Some(Narrowing { column, side }),
         floor,
-        // Where it is put among others, that of those before it counts too.
-        least: floor,
         rest: known.rest,
         closed: known.closed,
     }
@@ -174,27 +163,27 @@ pub fn split_last(
     guide: &Guide,
     cutoff: Option<i128>,
     halving: Halving,
-    parts: &mut Vec<Part>,
+    parts: &mut Parts,
 ) -> Result<(), AllocError>
-    requires some { 0 < length parts.old.items }
-    requires chain { IsChain formulation.now.searched whole.now work.now parts.old.items }
+    requires some { 0 < length parts.old }
+    requires chain { IsChain formulation.now.searched whole.now work.now parts.old }
     requires below { IsBelow work.now.sums.area whole.now }
     requires working { IsWorking formulation.now.searched cutoff work.now }
     requires branched { IsBranched guide.now work.now.sums.area halving }
-    requires closed { AreClosed (closed_of parts.old.items) work.now.sums.area }
+    requires closed { AreClosed (closed_of parts.old) work.now.sums.area }
     ensures ok { OnOk result (HasSplit formulation.now.searched whole.now work.now halving.first
-        halving.branch parts.old.items parts.new.items) }
-    ensures err { OnErr result (parts.new.items ≡ parts.old.items) }
+        halving.branch parts.old parts.new) }
+    ensures err { OnErr result (parts.new ≡ parts.old) }
 {
     let problem = formulation.searched();
     let known = Known {
         rest: rest_after(work, problem, cutoff),
-        closed: closed_from(work.sides(), closed_last(parts)),
+        closed: closed_from(work.sides(), parts.closed_last()),
     };
     let sides = sides_at(work, guide, halving);
     let column = halving.branch.column;
     let first = part_with(work, problem, whole, column, sides.first, known);
     let second = part_with(work, problem, whole, column, sides.second, known);
-    replace_last(parts, first, second)?;
+    parts.replace_last(first, second)?;
     Ok(())
 }

@@ -14,14 +14,14 @@ ghost use Rattle.ug_base.specs.Steps.{LeavesLess, TookStep};
 ghost use Rattle.ug_base.specs.Tasks.{AreBelow, BoundsTheRest, IsLeastFloor, lesser_of};
 ghost use Rattle.ug_problem.specs.Better.{AreAllHanded, HasNoGood, IsGap, IsSmallCutoff, cutoff_of};
 
-use crate::boxes::{drop_last, last_of, unsettle};
 use crate::formulation::Formulation;
 use crate::guide::Guide;
 use crate::handed::Handed;
+use crate::lesser::lesser;
 use crate::look::{Seen, begin, look_last};
-use crate::lowest::{lesser, lowest_floor};
 use crate::moving::{box_of, move_first};
 use crate::part::Part;
+use crate::parts::Parts;
 use crate::sharpening::Sharpening;
 use crate::split::split_last;
 use crate::step::Step;
@@ -44,7 +44,7 @@ pub struct Task {
     cutoff: Option<i128>,
     gap: i128,
     work: Working,
-    parts: Vec<Part>,
+    parts: Parts,
     handed: Hands,
     sharpening: Sharpening,
 }
@@ -68,7 +68,6 @@ fn only_part(work: &Working, problem: &Problem) -> Part
       depth = 0;
       cut = None;
       floor = box_floor problem.now.objective work.now.sums.area;
-      least = box_floor problem.now.objective work.now.sums.area;
       rest = Unknown;
       closed = 0;
     } }
@@ -78,35 +77,31 @@ fn only_part(work: &Working, problem: &Problem) -> Part
         depth: 0,
         cut: None,
         floor,
-        least: floor,
         rest: Rest::Unknown,
         closed: 0,
     }
 }
 
 // The same, alone.
-fn only_left(alloc: Global, work: &Working, problem: &Problem) -> Result<Vec<Part>, AllocError>
+fn only_left(alloc: Global, work: &Working, problem: &Problem) -> Result<Parts, AllocError>
     requires { IsBox problem.now work.now }
-    ensures { IfOk result (λ parts. parts.items
+    ensures { IfOk result (λ parts. parts
         ≡ record {
           depth = 0;
           cut = None;
           floor = box_floor problem.now.objective work.now.sums.area;
-          least = box_floor problem.now.objective work.now.sums.area;
           rest = Unknown;
           closed = 0;
         } ∷ []) }
 {
-    let mut parts = Vec::new(alloc);
-    parts.push(only_part(work, problem))?;
-    Ok(parts)
+    Parts::of(alloc, only_part(work, problem))
 }
 
 // What a search begins with.
 #[derive(Drop)]
 struct Beginning {
     work: Working,
-    parts: Vec<Part>,
+    parts: Parts,
 }
 
 // The working box of the whole box, and this as the one box left.
@@ -115,12 +110,11 @@ fn begun(alloc: Global, problem: &Problem, whole: &IntBox) -> Result<Beginning, 
     ensures area { IfOk result (λ b. b.work.sums.area ≡ whole.now) }
     ensures work { IfOk result (λ b. IsBox problem.now b.work) }
     ensures trail { IfOk result (λ b. b.work.trail ≡ []) }
-    ensures parts { IfOk result (λ b. b.parts.items
+    ensures parts { IfOk result (λ b. b.parts
         ≡ record {
           depth = 0;
           cut = None;
           floor = box_floor problem.now.objective b.work.sums.area;
-          least = box_floor problem.now.objective b.work.sums.area;
           rest = Unknown;
           closed = 0;
         } ∷ []) }
@@ -216,7 +210,7 @@ impl Task {
         ensures less { IfOk result (LeavesLess self.old self.new) }
         ensures err { OnErr result (self.new ≡ self.old) }
     {
-        let Some(last) = last_of(&self.parts) else {
+        let Some(last) = self.parts.last() else {
             return Ok(Step::Empty);
         };
         match look_last(
@@ -230,13 +224,13 @@ impl Task {
             last,
         )? {
             Seen::Hopeless => {
-                drop_last(&mut self.parts);
+                self.parts.drop_last();
                 Ok(Step::Pruned)
             }
             Seen::Solved(point) => {
                 let cutoff = cutoff_at(self.formulation.problem(), self.gap, &point);
                 self.cutoff = cutoff;
-                drop_last(&mut self.parts);
+                self.parts.drop_last();
                 Ok(Step::Found(point))
             }
             Seen::Halved(halving) => {
@@ -276,11 +270,17 @@ impl Task {
         ensures less { IfOk result (HandsLess self.old self.new) }
         ensures err { OnErr result (self.new ≡ self.old) }
     {
-        if self.parts.is_empty() {
+        let Some(first) = self.parts.first() else {
             return Ok(None);
-        }
+        };
         let number = self.handed.len() as u64;
-        let area = move_first(self.alloc, &self.work, &mut self.parts, &mut self.handed)?;
+        let area = move_first(
+            self.alloc,
+            &self.work,
+            first,
+            &mut self.parts,
+            &mut self.handed,
+        )?;
         Ok(Some(Handed { number, area }))
     }
 
@@ -306,7 +306,7 @@ impl Task {
         requires base { self.old.params.base ≡ Surrogate }
         ensures same { self.new ≡ self.old }
     {
-        let Some(last) = last_of(&self.parts) else {
+        let Some(last) = self.parts.last() else {
             return Ok(());
         };
         let area = box_of(self.alloc, &self.work, last)?;
@@ -347,7 +347,7 @@ impl Task {
         requires follows { Follows self.old.problem self.old.whole self.old.cutoff stronger }
         ensures same { self.new ≡ self.old }
     {
-        let Some(last) = last_of(&self.parts) else {
+        let Some(last) = self.parts.last() else {
             drop(stronger);
             return Ok(());
         };
@@ -362,7 +362,7 @@ impl Task {
         );
         match self.work.over(self.alloc, &stronger, &self.whole) {
             Ok(()) => {
-                unsettle(&mut self.parts);
+                self.parts.unsettle();
                 self.formulation.take(stronger);
                 Ok(())
             }
@@ -396,7 +396,7 @@ impl Task {
     }
 
     /// The least value that the objective could have in a box left. It takes no memory: the least
-    /// floor of the boxes up to each is kept beside it.
+    /// floor of the boxes up to each is kept beside it, and taken anew where boxes were handed.
     pub fn lowest(&mut self) -> Option<i128>
         ensures same { self.new ≡ self.old }
         ensures none { IsNone result ↔ (self.old.boxes ≡ []) }
@@ -404,7 +404,7 @@ impl Task {
         ensures bound { IfSome result (BoundsTheRest self.old) }
         ensures small { IfSome result (λ low. unsigned_abs low ≤ 2 * 10 ^ 37) }
     {
-        lowest_floor(&self.parts)
+        self.parts.lowest()
     }
 
     /// The boxes handed, in the order in which they were handed. It takes no memory.

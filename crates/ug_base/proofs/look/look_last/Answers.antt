@@ -13,26 +13,26 @@ look-requires-clause-can c =
 pub look-requires-clause-part : goal.look-requires-clause-part
 look-requires-clause-part c =
     subst (λ (p : Instance). IsPart p c.args.whole.now c.args.work.now c.args.last) (sym c.searched.ensures.value)
-    (last_part c.args.formulation.now.searched c.args.whole.now c.args.work.now c.args.parts.now.items c.args.last c.requires.chain c.requires.last)
+    (last_part c.args.formulation.now.searched c.args.whole.now c.args.work.now c.args.parts.now c.args.last c.requires.chain c.requires.last)
 
 pub returns-in_err-seen-clause-chain : goal.returns-in_err-seen-clause-chain
 returns-in_err-seen-clause-chain c =
-    chain_kept c.args.formulation.now.searched c.args.whole.now c.args.work.now c.look.new.work c.args.parts.now.items c.args.last c.requires.chain
+    chain_kept c.args.formulation.now.searched c.args.whole.now c.args.work.now c.look.new.work c.args.parts.now c.args.last c.requires.chain
     c.requires.last (subst (λ (p : Instance). IsBase p c.args.whole.now c.look.new.work) c.searched.ensures.value c.look.ensures.base)
     c.look.ensures.kept
 
 pub returns-clause-chain : goal.returns-clause-chain
 returns-clause-chain c =
-    chain_kept c.args.formulation.now.searched c.args.whole.now c.args.work.now c.look.new.work c.args.parts.now.items c.args.last c.requires.chain
+    chain_kept c.args.formulation.now.searched c.args.whole.now c.args.work.now c.look.new.work c.args.parts.now c.args.last c.requires.chain
     c.requires.last (subst (λ (p : Instance). IsBase p c.args.whole.now c.look.new.work) c.searched.ensures.value c.look.ensures.base)
     c.look.ensures.kept
 
 pub returns-in_err-seen-clause-areas : goal.returns-in_err-seen-clause-areas
 returns-in_err-seen-clause-areas c =
-    areas_kept c.args.work.now c.look.new.work c.args.parts.now.items c.args.last c.requires.chain.rising c.requires.last
+    areas_kept c.args.work.now c.look.new.work c.args.parts.now c.args.last c.requires.chain.rising c.requires.last
     c.look.ensures.kept
 
 pub returns-clause-areas : goal.returns-clause-areas
 returns-clause-areas c =
-    areas_kept c.args.work.now c.look.new.work c.args.parts.now.items c.args.last c.requires.chain.rising c.requires.last
+    areas_kept c.args.work.now c.look.new.work c.args.parts.now c.args.last c.requires.chain.rising c.requires.last
     c.look.ensures.kept

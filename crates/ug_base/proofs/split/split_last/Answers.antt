@@ -1,12 +1,9 @@
-use Rattle.std.proofs.Common.{◌∙◌, ap, sym, subst, set, List, [], ◌∷◌, Some, None}
+use Rattle.std.proofs.Common.{◌∙◌, ap, sym, subst, set, List}
 use Rattle.ug_rows.specs.declared.area.Interval.{Interval}
 use Rattle.ug_problem.specs.Instances.{Instance}
 use Rattle.ug_base.specs.declared.part.Part.{Part}
 use Rattle.ug_base.specs.Chains.{IsChain, IsPart}
-use Rattle.ug_base.specs.Floors.{least_of, with_least}
-use Rattle.ug_base.specs.Fronts.{front_of}
 use Rattle.ug_base.proofs.Chains.{chain_split}
-use Rattle.ug_base.proofs.Leasts.{leasts_renewed, part_renewed}
 use Rattle.ug_rows.specs.Boxes.{IsClosedWithin, interval_at}
 use Rattle.ug_base.proofs.Splits.{first_half_is, first_inner, other_half_is, second_inner}
 use Rattle.ug_base.proofs.split.split_last.Goals as goal
@@ -29,11 +26,8 @@ returns-clause-ok c =
     let work = c.args.work.now in
     let area = work.sums.area in
     let branch = c.args.halving.branch in
-    let before = least_of None (front_of c.args.parts.now.items) in
-    let made_first = c.part_with-first.result in
-    let made_second = c.part_with-second.result in
-    let second = with_least before made_second in
-    let first = with_least (Some second.least) made_first in
+    let second = c.part_with-second.result in
+    let first = c.part_with-first.result in
     let put = c.in_ok-replace_last.ensures.ok in
     let same = c.searched-problem.ensures.value in
     record {
@@ -45,11 +39,8 @@ returns-clause-ok c =
       area_second = c.part_with-second.ensures.area ∙ ap (λ (s : Interval). set area branch.column s) c.sides_at-sides.ensures.second
           ∙ other_half_is c.args.halving.first area branch;
       chain = subst (λ (ps : List Part). IsChain p c.args.whole.now work ps) (sym put)
-          (chain_split p c.args.whole.now work c.args.parts.now.items first second c.requires.chain
-          (part_renewed p c.args.whole.now work (Some second.least) made_first
-          (subst (λ (q : Instance). IsPart q c.args.whole.now work made_first) same c.part_with-first.ensures.part))
-          (part_renewed p c.args.whole.now work before made_second
-          (subst (λ (q : Instance). IsPart q c.args.whole.now work made_second) same c.part_with-second.ensures.part))
-          c.part_with-first.ensures.depth c.part_with-second.ensures.depth
-          (leasts_renewed before (made_second ∷ made_first ∷ [])));
+          (chain_split p c.args.whole.now work c.args.parts.now first second c.requires.chain
+          (subst (λ (q : Instance). IsPart q c.args.whole.now work first) same c.part_with-first.ensures.part)
+          (subst (λ (q : Instance). IsPart q c.args.whole.now work second) same c.part_with-second.ensures.part)
+          c.part_with-first.ensures.depth c.part_with-second.ensures.depth);
     }

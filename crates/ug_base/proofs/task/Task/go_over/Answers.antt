@@ -21,14 +21,14 @@ pub begin-requires-clause-part : goal.begin-requires-clause-part
 begin-requires-clause-part c =
     let s = c.self.inside.formulation.searched in
     subst (λ (q : Instance). IsPart q c.self.inside.whole c.self.inside.work c.in-Some.last) (sym c.searched.ensures.value)
-    (last_part s c.self.inside.whole c.self.inside.work c.self.inside.parts.items c.in-Some.last c.self.invariant.chain c.in-Some.ensures)
+    (last_part s c.self.inside.whole c.self.inside.work c.self.inside.parts c.in-Some.last c.self.invariant.chain c.in-Some.ensures)
 
 pub invariant_of-self : goal.invariant_of-self
 invariant_of-self c =
     let t = state_of c.self.inside in
     let s = c.self.inside.formulation.searched in
     let work = c.self.inside.work in
-    let parts = c.self.inside.parts.items in
+    let parts = c.self.inside.parts in
     let begun = c.begin.new.work in
     let base : IsBase s t.whole begun =
     subst (λ (q : Instance). IsBase q t.whole begun) c.searched.ensures.value c.begin.ensures.base in
@@ -46,12 +46,12 @@ invariant_of-self c =
     let below : IsBelow begun.sums.area t.whole = subst (λ (a : List Interval). IsBelow a t.whole) (sym c.begin.ensures.area) part.below in
     let wide : length t.whole ≡ length new.columns = c.self.invariant.task.whole.width ∙ length-map t.problem.columns bounds_of
     ∙ ap (λ (cs : List Column). length cs) (sym follows.columns) in
-    let areas : areas_of c.over.new.self c.unsettle.new.parts.items ≡ areas_of work parts =
-    areas_over c.args.stronger t.whole begun c.over.new.self parts c.unsettle.new.parts.items c.in-Ok.ensures.ok c.unsettle.ensures
+    let areas : areas_of c.over.new.self c.unsettle.new.self ≡ areas_of work parts =
+    areas_over c.args.stronger t.whole begun c.over.new.self parts c.unsettle.new.self c.in-Ok.ensures.ok c.unsettle.ensures
     ∙ same in
     rw c.take.ensures (record {
       task = subst (λ bs. IsTask (record t { boxes = bs })) (sym areas) c.self.invariant.task;
-      chain = chain_over s new t.whole begun c.over.new.self parts c.unsettle.new.parts.items (follows.columns ∙ sym f.columns)
+      chain = chain_over s new t.whole begun c.over.new.self parts c.unsettle.new.self (follows.columns ∙ sym f.columns)
           (follows.objective ∙ sym f.objective) c.columns-columns.ensures.problem wide below c.in-Ok.ensures.ok c.unsettle.ensures chain;
       searched = subst (λ (b : Base). Searches b t.problem t.whole t.cutoff new) (sym surrogate) follows;
     })
@@ -61,7 +61,7 @@ invariant_of-self-in-Err c =
     let t = state_of c.self.inside in
     let s = c.self.inside.formulation.searched in
     let work = c.self.inside.work in
-    let parts = c.self.inside.parts.items in
+    let parts = c.self.inside.parts in
     let begun = c.begin.new.work in
     let base : IsBase s t.whole begun =
     subst (λ (q : Instance). IsBase q t.whole begun) c.searched.ensures.value c.begin.ensures.base in
@@ -81,14 +81,14 @@ returns-in-Ok c =
     let t = state_of c.self.inside in
     let s = c.self.inside.formulation.searched in
     let work = c.self.inside.work in
-    let parts = c.self.inside.parts.items in
+    let parts = c.self.inside.parts in
     let begun = c.begin.new.work in
     let base : IsBase s t.whole begun =
     subst (λ (q : Instance). IsBase q t.whole begun) c.searched.ensures.value c.begin.ensures.base in
     let same : areas_of begun parts ≡ areas_of work parts =
     areas_kept work begun parts c.in-Some.last c.self.invariant.chain.rising c.in-Some.ensures c.begin.ensures.kept in
-    let areas : areas_of c.over.new.self c.unsettle.new.parts.items ≡ areas_of work parts =
-    areas_over c.args.stronger t.whole begun c.over.new.self parts c.unsettle.new.parts.items c.in-Ok.ensures.ok c.unsettle.ensures
+    let areas : areas_of c.over.new.self c.unsettle.new.self ≡ areas_of work parts =
+    areas_over c.args.stronger t.whole begun c.over.new.self parts c.unsettle.new.self c.in-Ok.ensures.ok c.unsettle.ensures
     ∙ same in
     rw c.take.ensures (record { same = ap (λ bs. record t { boxes = bs }) areas ∙ c.self.view_is })
 
@@ -97,7 +97,7 @@ returns-in-Err c =
     let t = state_of c.self.inside in
     let s = c.self.inside.formulation.searched in
     let work = c.self.inside.work in
-    let parts = c.self.inside.parts.items in
+    let parts = c.self.inside.parts in
     let begun = c.begin.new.work in
     let base : IsBase s t.whole begun =
     subst (λ (q : Instance). IsBase q t.whole begun) c.searched.ensures.value c.begin.ensures.base in

@@ -26,7 +26,7 @@ look_last-requires-clause-below c =
     let f = follows_of t.params.base t.problem t.whole t.cutoff s c.self.invariant.searched in
     subst (IsBelow area) (sym (root_same t.problem t.whole t.cutoff s f))
     (last_ready t area c.self.invariant.task
-    (last_of_fields t c.self.inside.work c.self.inside.parts.items c.in-Some.last refl c.in-Some.ensures)).below
+    (last_of_fields t c.self.inside.work c.self.inside.parts c.in-Some.last refl c.in-Some.ensures)).below
 
 pub look_last-requires-clause-whole : goal.look_last-requires-clause-whole
 look_last-requires-clause-whole c =
@@ -44,14 +44,14 @@ invariant_of-self-in-Hopeless c =
     let area = area_of c.self.inside.work c.in-Some.last in
     let f = follows_of t.params.base t.problem t.whole t.cutoff s c.self.invariant.searched in
     let below = last_below t area c.self.invariant.task
-    (last_of_fields t c.self.inside.work c.self.inside.parts.items c.in-Some.last refl c.in-Some.ensures) in
+    (last_of_fields t c.self.inside.work c.self.inside.parts c.in-Some.last refl c.in-Some.ensures) in
     record {
-      task = after_hopeless t c.self.inside.work after c.self.inside.parts.items _ c.in-Some.last refl c.self.invariant.task
+      task = after_hopeless t c.self.inside.work after c.self.inside.parts _ c.in-Some.last refl c.self.invariant.task
           c.in-Some.ensures c.in_ok-look_last.ensures.areas
           (none_good t.problem t.whole t.cutoff s area f below (subst P c.in-Hopeless.is c.in_ok-look_last.ensures.seen).none)
           c.drop_last.ensures;
       chain = subst (λ (ps : List Part). IsChain s t.whole after ps) (sym c.drop_last.ensures)
-          (chain_front s t.whole after c.self.inside.parts.items c.in_ok-look_last.ensures.chain);
+          (chain_front s t.whole after c.self.inside.parts c.in_ok-look_last.ensures.chain);
       searched = c.self.invariant.searched;
     }
 
@@ -64,15 +64,15 @@ invariant_of-self-in-Solved c =
     let area = area_of c.self.inside.work c.in-Some.last in
     let f = follows_of t.params.base t.problem t.whole t.cutoff s c.self.invariant.searched in
     let below = last_below t area c.self.invariant.task
-    (last_of_fields t c.self.inside.work c.self.inside.parts.items c.in-Some.last refl c.in-Some.ensures) in
+    (last_of_fields t c.self.inside.work c.self.inside.parts c.in-Some.last refl c.in-Some.ensures) in
     let seen = subst P c.in-Solved.is c.in_ok-look_last.ensures.seen in
     let only = only_good t.problem t.whole t.cutoff s area f below c.in-Solved.point seen.only in
     record {
-      task = after_solved t c.self.inside.work after c.self.inside.parts.items _ c.in-Some.last c.in-Solved.point
+      task = after_solved t c.self.inside.work after c.self.inside.parts _ c.in-Some.last c.in-Solved.point
           c.cutoff_at-cutoff.result refl c.self.invariant.task c.in-Some.ensures c.in_ok-look_last.ensures.areas
           only c.drop_last-in-Solved.ensures (search rules);
       chain = subst (λ (ps : List Part). IsChain s t.whole after ps) (sym c.drop_last-in-Solved.ensures)
-          (chain_front s t.whole after c.self.inside.parts.items c.in_ok-look_last.ensures.chain);
+          (chain_front s t.whole after c.self.inside.parts c.in_ok-look_last.ensures.chain);
       searched = searches_found t s c.in-Solved.point c.cutoff_at-cutoff.result c.self.invariant.task only.good (search rules)
           c.self.invariant.searched;
     }
@@ -96,7 +96,7 @@ split_last-requires-clause-below c =
     let s = c.self.inside.formulation.searched in
     let after = c.look_last.new.work in
     let P : Seen → Type 0 = λ (seen : Seen). IsSeen s t.cutoff t.params (area_of c.self.inside.work c.in-Some.last) after seen in
-    left_below t s c.self.inside.work after c.self.inside.parts.items c.in-Some.last c.in-Halved.halving refl c.self.invariant.task
+    left_below t s c.self.inside.work after c.self.inside.parts c.in-Some.last c.in-Halved.halving refl c.self.invariant.task
     c.in-Some.ensures (subst P c.in-Halved.is c.in_ok-look_last.ensures.seen)
 
 pub split_last-requires-clause-closed : goal.split_last-requires-clause-closed
@@ -105,7 +105,7 @@ split_last-requires-clause-closed c =
     let s = c.self.inside.formulation.searched in
     let after = c.look_last.new.work in
     let P : Seen → Type 0 = λ (seen : Seen). IsSeen s t.cutoff t.params (area_of c.self.inside.work c.in-Some.last) after seen in
-    left_closed s t.whole t.cutoff t.params c.self.inside.work after c.self.inside.parts.items c.in-Some.last c.in-Halved.halving
+    left_closed s t.whole t.cutoff t.params c.self.inside.work after c.self.inside.parts c.in-Some.last c.in-Halved.halving
     c.self.invariant.chain c.in-Some.ensures (subst P c.in-Halved.is c.in_ok-look_last.ensures.seen)
 
 pub invariant_of-self-in_err-split_last-in-Halved : goal.invariant_of-self-in_err-split_last-in-Halved
@@ -116,7 +116,7 @@ invariant_of-self-in_err-split_last-in-Halved c =
     let same = c.in_err-split_last-in-Halved.ensures.err in
     record {
       task = subst (λ (ps : List Part). IsTask (record t { boxes = areas_of after ps })) (sym same)
-          (same_task t c.self.inside.work after c.self.inside.parts.items refl c.in_ok-look_last.ensures.areas c.self.invariant.task);
+          (same_task t c.self.inside.work after c.self.inside.parts refl c.in_ok-look_last.ensures.areas c.self.invariant.task);
       chain = subst (λ (ps : List Part). IsChain s t.whole after ps) (sym same) c.in_ok-look_last.ensures.chain;
       searched = c.self.invariant.searched;
     }
@@ -130,10 +130,10 @@ invariant_of-self-in-Halved c =
     let area = area_of c.self.inside.work c.in-Some.last in
     let f = follows_of t.params.base t.problem t.whole t.cutoff s c.self.invariant.searched in
     let below = last_below t area c.self.invariant.task
-    (last_of_fields t c.self.inside.work c.self.inside.parts.items c.in-Some.last refl c.in-Some.ensures) in
+    (last_of_fields t c.self.inside.work c.self.inside.parts c.in-Some.last refl c.in-Some.ensures) in
     let seen = subst P c.in-Halved.is c.in_ok-look_last.ensures.seen in
     record {
-      task = after_halved t s c.self.inside.work after c.self.inside.parts.items _ c.in-Some.last c.in-Halved.halving refl
+      task = after_halved t s c.self.inside.work after c.self.inside.parts _ c.in-Some.last c.in-Halved.halving refl
           c.self.invariant.task c.in-Some.ensures c.in_ok-look_last.ensures.areas
           (good_halves t.problem t.whole t.cutoff s area f below (halves_at c.in-Halved.halving.first after.sums.area c.in-Halved.halving.branch) seen.halved.good)
           c.in_ok-split_last-in-Halved.ensures.ok;
@@ -149,9 +149,9 @@ returns-in-Hopeless-clause-took c =
     let P : Seen → Type 0 = λ (seen : Seen). IsSeen s t.cutoff t.params (area_of c.self.inside.work c.in-Some.last) after seen in
     let area = area_of c.self.inside.work c.in-Some.last in
     let below = last_below t area c.self.invariant.task
-    (last_of_fields t c.self.inside.work c.self.inside.parts.items c.in-Some.last refl c.in-Some.ensures) in
-    subst (λ (q : TaskState). IsPruned q (record t { boxes = areas_of after c.drop_last.new.parts.items })) c.self.view_is
-    (pruned_step t c.self.inside.work after c.self.inside.parts.items c.drop_last.new.parts.items c.in-Some.last refl c.in-Some.ensures
+    (last_of_fields t c.self.inside.work c.self.inside.parts c.in-Some.last refl c.in-Some.ensures) in
+    subst (λ (q : TaskState). IsPruned q (record t { boxes = areas_of after c.drop_last.new.self })) c.self.view_is
+    (pruned_step t c.self.inside.work after c.self.inside.parts c.drop_last.new.self c.in-Some.last refl c.in-Some.ensures
     c.in_ok-look_last.ensures.areas
     (leaves_none t.params.base t.problem t.whole t.cutoff s area c.self.invariant.searched below
     (subst P c.in-Hopeless.is c.in_ok-look_last.ensures.seen)) c.drop_last.ensures)
@@ -161,8 +161,8 @@ returns-in-Hopeless-clause-less c =
     let t = state_of c.self.inside in
     let s = c.self.inside.formulation.searched in
     let after = c.look_last.new.work in
-    subst (λ (q : TaskState). measure_of (areas_of after c.drop_last.new.parts.items) < measure_of q.boxes) c.self.view_is
-    (left_dropped_less t c.self.inside.work after c.self.inside.parts.items c.drop_last.new.parts.items c.in-Some.last refl
+    subst (λ (q : TaskState). measure_of (areas_of after c.drop_last.new.self) < measure_of q.boxes) c.self.view_is
+    (left_dropped_less t c.self.inside.work after c.self.inside.parts c.drop_last.new.self c.in-Some.last refl
     c.in-Some.ensures c.in_ok-look_last.ensures.areas c.drop_last.ensures)
 
 pub returns-in-Solved-clause-took : goal.returns-in-Solved-clause-took
@@ -174,12 +174,12 @@ returns-in-Solved-clause-took c =
     let area = area_of c.self.inside.work c.in-Some.last in
     let f = follows_of t.params.base t.problem t.whole t.cutoff s c.self.invariant.searched in
     let below = last_below t area c.self.invariant.task
-    (last_of_fields t c.self.inside.work c.self.inside.parts.items c.in-Some.last refl c.in-Some.ensures) in
+    (last_of_fields t c.self.inside.work c.self.inside.parts c.in-Some.last refl c.in-Some.ensures) in
     subst (λ (q : TaskState). IsFound q (record t {
-      boxes = areas_of after c.drop_last-in-Solved.new.parts.items;
+      boxes = areas_of after c.drop_last-in-Solved.new.self;
       cutoff = c.cutoff_at-cutoff.result;
     }) c.in-Solved.point) c.self.view_is
-    (found_step t c.self.inside.work after c.self.inside.parts.items c.drop_last-in-Solved.new.parts.items c.in-Some.last
+    (found_step t c.self.inside.work after c.self.inside.parts c.drop_last-in-Solved.new.self c.in-Some.last
     c.in-Solved.point c.cutoff_at-cutoff.result refl c.in-Some.ensures c.in_ok-look_last.ensures.areas
     (point_left t.params.base t.problem t.whole t.cutoff s area c.in-Solved.point c.self.invariant.searched below
     (subst P c.in-Solved.is c.in_ok-look_last.ensures.seen)) c.drop_last-in-Solved.ensures (search rules))
@@ -189,15 +189,15 @@ returns-in-Solved-clause-empty c =
     let t = state_of c.self.inside in
     let s = c.self.inside.formulation.searched in
     subst (λ (q : TaskState). (Found c.in-Solved.point ≡ Empty) ↔ (q.boxes ≡ [])) c.self.view_is
-    ((λ e. absurd (cc)), (λ none. absurd (some_left t c.self.inside.work c.self.inside.parts.items c.in-Some.last refl c.in-Some.ensures none)))
+    ((λ e. absurd (cc)), (λ none. absurd (some_left t c.self.inside.work c.self.inside.parts c.in-Some.last refl c.in-Some.ensures none)))
 
 pub returns-in-Solved-clause-less : goal.returns-in-Solved-clause-less
 returns-in-Solved-clause-less c =
     let t = state_of c.self.inside in
     let s = c.self.inside.formulation.searched in
     let after = c.look_last.new.work in
-    subst (λ (q : TaskState). measure_of (areas_of after c.drop_last-in-Solved.new.parts.items) < measure_of q.boxes) c.self.view_is
-    (left_dropped_less t c.self.inside.work after c.self.inside.parts.items c.drop_last-in-Solved.new.parts.items c.in-Some.last refl
+    subst (λ (q : TaskState). measure_of (areas_of after c.drop_last-in-Solved.new.self) < measure_of q.boxes) c.self.view_is
+    (left_dropped_less t c.self.inside.work after c.self.inside.parts c.drop_last-in-Solved.new.self c.in-Some.last refl
     c.in-Some.ensures c.in_ok-look_last.ensures.areas c.drop_last-in-Solved.ensures)
 
 pub returns-in_ok-split_last-in-Halved-clause-took : goal.returns-in_ok-split_last-in-Halved-clause-took
@@ -209,10 +209,10 @@ returns-in_ok-split_last-in-Halved-clause-took c =
     let area = area_of c.self.inside.work c.in-Some.last in
     let f = follows_of t.params.base t.problem t.whole t.cutoff s c.self.invariant.searched in
     let below = last_below t area c.self.invariant.task
-    (last_of_fields t c.self.inside.work c.self.inside.parts.items c.in-Some.last refl c.in-Some.ensures) in
+    (last_of_fields t c.self.inside.work c.self.inside.parts c.in-Some.last refl c.in-Some.ensures) in
     let seen = subst P c.in-Halved.is c.in_ok-look_last.ensures.seen in
-    subst (λ (q : TaskState). IsSplit q (record t { boxes = areas_of after c.split_last.new.parts.items })) c.self.view_is
-    (split_step t s c.self.inside.work after c.self.inside.parts.items c.split_last.new.parts.items c.in-Some.last c.in-Halved.halving
+    subst (λ (q : TaskState). IsSplit q (record t { boxes = areas_of after c.split_last.new.parts })) c.self.view_is
+    (split_step t s c.self.inside.work after c.self.inside.parts c.split_last.new.parts c.in-Some.last c.in-Halved.halving
     refl c.in-Some.ensures c.in_ok-look_last.ensures.areas
     (leaves t.params.base t.problem t.whole t.cutoff s area after.sums.area c.self.invariant.searched below seen.left seen.below seen.keeps)
     seen.branched c.in_ok-split_last-in-Halved.ensures.ok)
@@ -222,7 +222,7 @@ returns-in_ok-split_last-in-Halved-clause-empty c =
     let t = state_of c.self.inside in
     let s = c.self.inside.formulation.searched in
     subst (λ (q : TaskState). (Split ≡ Empty) ↔ (q.boxes ≡ [])) c.self.view_is
-    ((λ e. absurd (cc)), (λ none. absurd (some_left t c.self.inside.work c.self.inside.parts.items c.in-Some.last refl c.in-Some.ensures none)))
+    ((λ e. absurd (cc)), (λ none. absurd (some_left t c.self.inside.work c.self.inside.parts c.in-Some.last refl c.in-Some.ensures none)))
 
 pub returns-in_ok-split_last-in-Halved-clause-less : goal.returns-in_ok-split_last-in-Halved-clause-less
 returns-in_ok-split_last-in-Halved-clause-less c =
@@ -230,8 +230,8 @@ returns-in_ok-split_last-in-Halved-clause-less c =
     let s = c.self.inside.formulation.searched in
     let after = c.look_last.new.work in
     let P : Seen → Type 0 = λ (seen : Seen). IsSeen s t.cutoff t.params (area_of c.self.inside.work c.in-Some.last) after seen in
-    subst (λ (q : TaskState). measure_of (areas_of after c.split_last.new.parts.items) < measure_of q.boxes) c.self.view_is
-    (left_halved_less t s c.self.inside.work after c.self.inside.parts.items c.split_last.new.parts.items c.in-Some.last
+    subst (λ (q : TaskState). measure_of (areas_of after c.split_last.new.parts) < measure_of q.boxes) c.self.view_is
+    (left_halved_less t s c.self.inside.work after c.self.inside.parts c.split_last.new.parts c.in-Some.last
     c.in-Halved.halving refl c.in-Some.ensures c.in_ok-look_last.ensures.areas
     (subst P c.in-Halved.is c.in_ok-look_last.ensures.seen) c.in_ok-split_last-in-Halved.ensures.ok)
 
@@ -244,7 +244,7 @@ pub invariant_of-self : goal.invariant_of-self
 invariant_of-self c =
     let t = state_of c.self.inside in
     record {
-      task = same_task t c.self.inside.work c.look_last.new.work c.self.inside.parts.items refl c.look_last.ensures.areas
+      task = same_task t c.self.inside.work c.look_last.new.work c.self.inside.parts refl c.look_last.ensures.areas
           c.self.invariant.task;
       chain = c.look_last.ensures.chain;
       searched = c.self.invariant.searched;

@@ -12,15 +12,14 @@ pub invariant_of-result : goal.invariant_of-result
 invariant_of-result c =
     let work = c.in-Ok.begun.work in
     rw (c.own.ensures, c.plain.ensures) (record {
-      task = new_task _ work c.in-Ok.begun.parts.items c.args.gap _ (subst IsProblem c.problem.ensures.value c.columns-columns.ensures.problem)
+      task = new_task _ work c.in-Ok.begun.parts c.args.gap _ (subst IsProblem c.problem.ensures.value c.columns-columns.ensures.problem)
           c.requires.below c.requires.cutoff c.requires.gap (search rules) c.in-Ok.ensures.parts c.in-Ok.ensures.trail
           c.in-Ok.ensures.area refl c.new.ensures;
-      chain = new_chain c.args.problem c.args.whole work c.in-Ok.begun.parts.items
-          (subst (λ (p : Instance). c.in-Ok.begun.parts.items ≡ record {
+      chain = new_chain c.args.problem c.args.whole work c.in-Ok.begun.parts
+          (subst (λ (p : Instance). c.in-Ok.begun.parts ≡ record {
             depth = 0;
             cut = None;
             floor = box_floor p.objective work.sums.area;
-            least = box_floor p.objective work.sums.area;
             rest = Unknown;
             closed = 0;
           } ∷ []) c.problem-3.ensures.value c.in-Ok.ensures.parts)
