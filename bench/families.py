@@ -8,8 +8,8 @@ import collections
 import itertools
 import random
 
-# The bounds of each integer column as (low, high), rows as (kind, {column: factor}, side), and the
-# costs as {column: factor}.
+# The bounds of each integer column as (low, high), rows as (kind, {column: coefficient}, side), and the
+# costs as {column: coefficient}.
 Problem = collections.namedtuple("Problem", "bounds rows costs maximise", defaults=[False])
 
 
@@ -309,7 +309,7 @@ COSTS = {
     "splits": each(splits, (1, 20, 3), (2, 24, 3), (3, 24, 4), (4, 26, 4)),
 }
 
-# Of the same families, those that take long enough for the times of many solvers to tell.
+# Instances of the same families that run long enough to compare the times of many solvers.
 LONGER = {
     "job shop": each(job_shop, (7, 8, 4), (11, 7, 4), (12, 8, 3)),
     "golomb": each(golomb, (9, 40), (9, 41), (9, 42), (9, 43)),
