@@ -93,7 +93,7 @@ best_changes params area n c h open_ a = record {
   ];
 }
 
--- where each column is ahead of all those behind it, the best so far is the best of all
+-- if each column is ahead of all those behind it, the best so far is the best of all
 pub first_wins : (params : Params) (area : List Interval) (n c : ℕ) → IsBestOf params area n c → IsFirstAhead params → n ≤ length area → IsBestOf params area (length area) c
 first_wins params area n c h first within = record {
   below = omega (arith, h.below, within);
@@ -104,7 +104,7 @@ first_wins params area n c h first within = record {
   ];
 }
 
--- the best of so many columns or more is the best of all
+-- the best of this many columns or more is the best of all
 pub best_of_all : (params : Params) (area : List Interval) (n : ℕ) (best : Option ℕ) → IsBest params area n best → length area ≤ n
     → IsBest params area (length area) best
 best_of_all params area n None h all = λ j k. h j (omega (arith, k, all))

@@ -1,4 +1,4 @@
--- The two halves of a box.
+-- The two branches of a box.
 use Rattle.std.proofs.Common.{◌≡◌, ℕ, ℤ, pos, ◌+ℤ◌, ◌*ℤ◌, ◌<◌, ◌≤ℤ◌, ◌<ℤ◌, ◌⊎◌, inl, inr, List, length, set, refl, sym, ◌∙◌, subst, arith}
 use Rattle.std.proofs.lemmas.Int.{ints, by_lt_z}
 use Rattle.std.proofs.lemmas.Bool.{cases_eq}
@@ -59,7 +59,7 @@ lower_side side m a b = record { low = omega (arith, ints); high = omega (arith,
 upper_side : (side : Interval) (m : ℤ) → side.low ≤ℤ m → m <ℤ side.high → IsNarrower (record { low = m +ℤ pos 1; high = side.high }) side
 upper_side side m a b = record { low = omega (arith, ints); high = omega (arith, ints); open_ = λ _. omega (arith, ints) }
 
--- a point of the box is in one of the halves
+-- a point of the box is in one of the branches
 in_a_half : (area : List Interval) (c : ℕ) (m : ℤ) (x : List ℤ) → c < length area → IsInside area x
     → IsInside (set area c (record { low = (interval_at area c).low; high = m })) x
     ⊎ IsInside (set area c (record { low = m +ℤ pos 1; high = (interval_at area c).high })) x
@@ -71,7 +71,7 @@ in_a_half area c m x k h = by_lt_z m (value_at x c)
 next_within : (m high : ℤ) → m <ℤ high → (m +ℤ pos 1) ≤ℤ high
 next_within m high h = omega (arith, ints)
 
--- the halves at the middle of an open column
+-- the branches at the middle of an open column
 pub are_halves : (area : List Interval) (branch : Branch) → IsOpen area branch.column
     → IsMiddle (interval_at area branch.column) branch.middle → AreHalves area branch
 are_halves area branch o m =

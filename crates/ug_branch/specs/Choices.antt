@@ -1,4 +1,4 @@
--- Which column of a box is halved, at which value, and what its halves are.
+-- Which column of a box is branched on, at which value, and what its branches are.
 use Rattle.std.specs.Prelude.{◌≡◌, ◌↔◌, ℕ, ℤ, pos, ◌+ℤ◌, ◌-ℤ◌, ◌*ℤ◌, ◌<◌, ◌≤◌, ◌≤ℤ◌, ◌<ℤ◌, ◌⊎◌}
 use Rattle.std.specs.Prelude.{List, length, slice_set, Option, Some, None}
 use Rattle.ug_rows.specs.declared.area.Interval.{Interval}
@@ -92,7 +92,7 @@ upper_half area branch =
 abbrev pub HasValue : List Interval → ℕ → Type 0
 HasValue area c = (interval_at area c).low ≤ℤ (interval_at area c).high
 
--- the two halves of a box: each of its points is in one of them and in one alone, and each is a
+-- the two branches of a box: each of its points is in one of them and in one alone, and each is a
 -- narrower box
 pub record AreHalves (area : List Interval) (branch : Branch) : Type 0 where
   pub halves : (x : List ℤ)

@@ -5,19 +5,19 @@ ghost use Rattle.ug_branch.specs.Choices.{width_of, IsOpen, HasNoneOpen, AreClos
 use crate::params::{End, Params, Pick};
 use ug_rows::{IntBox, Interval};
 
-/// Where a box is halved: the column, and the value that ends its lower half.
+/// Where a box is branched on: the column, and the value that ends its lower half.
 #[derive(Clone, Copy, PartialEq, Eq)]
 pub struct Branch {
     pub column: u32,
     pub middle: i32,
 }
 
-/// Where to halve the box, or none if each of its columns has its high at most its low.
+/// If to branch the box, or none if each of its columns has its high at most its low.
 pub fn choose(params: Params, area: &IntBox) -> Option<Branch>
     requires { length area.now ≤ 10 ^ 4 }
     ensures none { IsNone result ↔ HasNoneOpen area.now }
     ensures chosen { IfSome result (IsChosen params area.now) }
-    // Each point of the box is in one of the two halves, and in one alone.
+    // Each point of the box is in one of the two branches, and in one alone.
     ensures halves { IfSome result (AreHalves area.now) }
 {
     branch_of(params, area.as_slice())
@@ -33,7 +33,7 @@ pub fn branch_of(params: Params, sides: &[Interval]) -> Option<Branch>
     branch_from(params, sides, 0)
 }
 
-/// The same where the first columns are known to be closed, so many: they are not looked at.
+/// The same where the first columns are known to be closed, this many: they are not examined.
 #[tactic(auto, using(crate::proofs::ChoiceLemmas::is_chosen, crate::proofs::ChoiceLemmas::is_not_fixed))]
 pub fn branch_from(params: Params, sides: &[Interval], first: usize) -> Option<Branch>
     requires few { length sides.now ≤ 10 ^ 4 }
@@ -71,9 +71,9 @@ fn middle(side: Interval) -> i32
     sum.div_euclid(2) as i32
 }
 
-// The open column that is ahead of all open ones, if there is one. Where the place decides and the
+// The open column that is ahead of all open ones, if there is one. If the place decides and the
 // lowest wins it is the first open one, and the columns behind it, thousands in a wide box, are not
-// looked at.
+// examined.
 #[tactic(auto, using(crate::proofs::ChoiceLemmas::first_wins, crate::proofs::ChoiceLemmas::best_of_all))]
 fn best_column(params: Params, sides: &[Interval], first: usize) -> Option<usize>
     requires { AreClosed first sides.now }

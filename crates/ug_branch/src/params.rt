@@ -17,7 +17,7 @@ pub enum End {
     Highest,
 }
 
-/// Which half is looked at first.
+/// Which half is examined first.
 #[derive(Clone, Copy, PartialEq, Eq)]
 pub enum Half {
     Lower,
@@ -34,7 +34,7 @@ pub enum Base {
     Surrogate,
 }
 
-/// How a box is searched: how it is branched on, and what is left out.
+/// How a box is searched: how it is branched on, and what is omitted.
 #[derive(Clone, Copy, PartialEq, Eq)]
 pub struct Params {
     pub pick: Pick,

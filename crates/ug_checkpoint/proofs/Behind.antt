@@ -55,7 +55,7 @@ pub behind_all : (body bytes : List ℕ) (w : ℕ) → length body ≤ w → Has
 behind_all body bytes w all behind =
     subst (λ (l : List ℕ). HasBehind l bytes) (take_all w body all) behind
 
--- what stands behind the gate begins with the body, so where all of it stands, the body does
+-- what follows the gate begins with the body, so where all of it stands, the body does
 pub body_of_all : (body bytes image : List ℕ) → HasBehind body bytes
     → HasBody (drop 1 bytes) image → HasBody body image
 body_of_all body bytes image behind all =

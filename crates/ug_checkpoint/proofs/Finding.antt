@@ -26,7 +26,7 @@ field_again : (n : ℕ) → n < 2 ^ 64 → from_be_bytes w64 (long_field n) ≡ 
 unfolding long_field
 field_again n small = from_be_bytes-to_be_bytes_8 n small
 
--- every image can be told in version 3
+-- every image can be reported in version 3
 newest : (image : Image) → IsOfVersion 3 image
 newest image = record {
   least = omega arith;
@@ -119,7 +119,7 @@ image_same s t a b is =
 apart : (a b : Image) → here Zero a ≡ here One b → ⊥
 apart a b is = let slots = slot_same Zero One a b is in absurd (cc slots)
 
--- where the greater one comes from
+-- where the larger one comes from
 pub chosen_zero : (a b : Option Image) (image : Image) → here Zero image ≡ chosen a b
     → a ≡ Some image
 chosen_zero None None image is = absurd (cc is)

@@ -1,4 +1,4 @@
--- How a run goes on in which one of the slots changes and the other stays.
+-- How a run continues in which one of the slots changes and the other stays.
 use Rattle.std.proofs.Common.{◌≡◌, inl, inr, ℕ, ◌≤◌, List, length, Option, None, Some, Result, Ok, Err, OnErr, refl, sym, ◌∙◌, subst, arith}
 use Rattle.ug_disk.specs.declared.slot.Slot.{Slot}
 use Rattle.ug_disk.specs.declared.slot.Slot.TheVariants.{Zero, One}
@@ -121,7 +121,7 @@ becomes_is R S None (Some new) slot so_far next = absurd so_far
 becomes_is R S (Some old) None slot so_far next = absurd so_far
 becomes_is R S (Some old) (Some new) slot so_far next = (so_far.0, next _ _ so_far.1)
 
--- with what stood at the start
+-- with what was at the start
 pub becomes_from : (P : SlotState → Type 0) (R S : Becoming) (old new : Option History) (slot : Slot)
     → Stands old slot P → Becomes old new slot R → ((a b : SlotState) → P a → R a b → S a b)
     → Becomes old new slot S
@@ -143,7 +143,7 @@ becomes_joins R S T (Some old) (Some mid) None slot first second next = absurd s
 becomes_joins R S T (Some old) (Some mid) (Some new) slot first second next =
     (second.0 ∙ first.0, next _ _ _ first.1 second.1)
 
--- what stands at the end
+-- what is at the end
 pub stands_after : (R : Becoming) (P : SlotState → Type 0) (old new : Option History) (slot : Slot)
     → Becomes old new slot R → ((a b : SlotState) → R a b → P b) → Stands new slot P
 stands_after R P None None slot so_far next = tt

@@ -30,7 +30,7 @@ joined : (slot : Slot) (slots : Slots) (zero one : List ℕ)
 joined Zero slots zero one others own = (own, others)
 joined One slots zero one others own = (others, own)
 
--- the image that stands in the slot which is left alone
+-- the image that is in the slot which is left alone
 abbrev last_image : (last : Option Slot) (sequence : ℕ) (state : SlotState)
     → Rests last sequence state → Option Image
 last_image None sequence state rests = None

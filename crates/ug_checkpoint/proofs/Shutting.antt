@@ -116,7 +116,7 @@ loose_again before after free (inr loose) =
       loose_may (read_as loose.bytes (loosened 0 1 before)) (gate_loose before),
     )
 
--- while a gate is opened, an image that is open has what stood behind it
+-- while a gate is opened, an image that is open has what followed it
 pub opens_body : (state : SlotState) → IsSynced state
     → Opens (HasBody (drop 1 state.bytes)) (loosened 0 1 state)
 opens_body state is image left opened =

@@ -16,11 +16,11 @@ body_of image = long_field (length (spelled image)) ++ spelled image
 abbrev pub counted : List ℕ → ℕ
 counted slot = from_be_bytes w64 (take 8 (drop 1 slot))
 
--- the field is there, and so many bytes behind it
+-- the field is there, and this many bytes behind it
 abbrev pub IsWhole : List ℕ → Type 0
 IsWhole slot = 9 + counted slot ≤ length slot
 
--- these bytes; what stands behind them is not looked at
+-- these bytes; what follows them is not examined
 abbrev pub stored : List ℕ → List ℕ
 stored slot = take (counted slot) (drop 9 slot)
 

@@ -10,11 +10,11 @@ abbrev pub gate_byte : Bool → ℕ
 gate_byte true = 1
 gate_byte false = 0
 
--- the gate of the image is open: it is 1, and something stands behind it
+-- the gate of the image is open: it is 1, and something follows it
 abbrev pub IsOpen : List ℕ → Type 0
 IsOpen image = (2 ≤ length image) × (slice_index image 0 ≡ 1)
 
--- these bytes stand behind the gate; what stands behind them is not looked at
+-- these bytes follow the gate; what follows them is not examined
 abbrev pub HasBehind : List ℕ → List ℕ → Type 0
 HasBehind bytes image = take (length bytes) (drop 1 image) ≡ bytes
 
@@ -39,7 +39,7 @@ pub record IsShut (state : SlotState) : Type 0 where
   pub shut : slice_index state.bytes 0 ≢ 1
 
 -- While the gate is being written no image is open that a crash could not leave before. So what
--- stands behind it may be looked at.
+-- follows it may be examined.
 abbrev pub MayBeShut : SlotState → Type 0
 MayBeShut state = Opens (MayLeave state) (loosened 0 1 state)
 

@@ -31,7 +31,7 @@ abbrev pub with_gate : Slot → Gate → Keeper → Keeper
 with_gate Zero gate keeper = record keeper { zero = gate }
 with_gate One gate keeper = record keeper { one = gate }
 
--- what the keeper knows of the gates is so, where it is told
+-- what the keeper knows of the gates is so, where it is known
 abbrev pub Knows : Keeper → Option History → Type 0
 Knows keeper told = IfSome told (λ history.
     IsGate keeper.zero history.now.zero × IsGate keeper.one history.now.one)

@@ -10,7 +10,7 @@ use Rattle.ug_checkpoint.specs.declared.error.LoadError.TheVariants.{Memory, Fau
 use Rattle.ug_checkpoint.specs.declared.found.Found.{Found}
 use Rattle.ug_checkpoint.specs.Bodies.{Stores, IsBad}
 
--- of the images of two slots the one with the greater sequence, on a tie that of slot 0
+-- of the images of two slots the one with the larger sequence, on a tie that of slot 0
 abbrev pub chosen : Option Image → Option Image → Option Found
 chosen None None = None
 chosen (Some zero) None = Some (record { slot = Zero; image = zero })

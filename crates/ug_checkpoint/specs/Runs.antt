@@ -16,16 +16,16 @@ abbrev pub bytes_in : Slot → List ℕ → List ℕ → List ℕ
 bytes_in Zero zero one = zero
 bytes_in One zero one = one
 
--- the slot stands so, where it is told
+-- the slot stands so, where it is known
 abbrev pub Stands : Option History → Slot → (SlotState → Type 0) → Type 0
 Stands told slot P = IfSome told (λ history. P (slot_of slot history.now))
 
--- both slots are synced, where it is told
+-- both slots are synced, where it is known
 abbrev pub AreSynced : Option History → Type 0
 AreSynced told = IfSome told (λ history. IsSynced history.now.zero × IsSynced history.now.one)
 
 -- The other slot stands as it did, and this one went from a state to one to which R leads, where it
--- is told.
+-- is known.
 abbrev pub Becomes : Option History → Option History → Slot → (SlotState → SlotState → Type 0)
     → Type 0
 Becomes None None slot R = Unit {0}

@@ -75,7 +75,7 @@ abbrev pub Finds : Option History → Found → Type 0
 Finds told found = IfSome told (λ history. (zero one : List ℕ)
     → MayLeaveBoth history.now zero one → Recovered zero one (Some found))
 
--- a read of the slot gives the image, where it is told
+-- a read of the slot gives the image, where it is known
 abbrev pub IsWritten : Slot → Image → Option History → Type 0
 IsWritten slot image told = Stands told slot (λ state. Has state.bytes image)
 

@@ -11,7 +11,7 @@ pub struct Found {
     pub image: Image,
 }
 
-/// Of the images of two slots the one with the greater sequence, on a tie that of slot 0.
+/// Of the images of two slots the one with the larger sequence, on a tie that of slot 0.
 pub fn greater(zero: Option<Image>, one: Option<Image>) -> Option<Found>
     ensures { result ≡ chosen zero one }
 {

@@ -12,7 +12,7 @@ use crate::stored::image_in;
 use std::alloc::Global;
 use ug_disk::{Disk, Slot};
 
-/// Finds the last checkpoint: of the slots that are open the image with the greater sequence, and
+/// Finds the last checkpoint: of the slots that are open the image with the larger sequence, and
 /// none where both are shut. Both slots are synced first, so that nothing older is pending.
 #[tactic(auto, using(crate::proofs::Causes::unread, crate::proofs::Causes::unfound))]
 pub fn load<D: Disk>(alloc: Global, disk: &mut D) -> Result<Option<Found>, LoadError>

@@ -1,4 +1,4 @@
--- How a run of calls goes on from moment to moment.
+-- How a run of calls resumes from moment to moment.
 use Rattle.std.proofs.Common.{◌≡◌, ◌⊎◌, inl, inr, ⊎_elim, ℕ, List, [], ◌∷◌, ◌++◌, Option, None, Some, IfSome, refl, sym, ◌∙◌, ap, subst, append_assoc}
 use Rattle.ug_disk.specs.declared.slot.Slot.{Slot}
 use Rattle.ug_disk.specs.Slots.{SlotState}
@@ -8,7 +8,7 @@ use Rattle.ug_disk.specs.Crashes.{MayLeaveBoth, MightHaveLeft, Leaves}
 abbrev pub Images : Type 1
 Images = List ℕ → List ℕ → Type 0
 
--- what a crash now may leave has P, where it is told
+-- what a crash now may leave has P, where it is known
 abbrev pub LeavesNow : Images → Option History → Type 0
 LeavesNow P told = IfSome told (λ history. (zero one : List ℕ)
     → MayLeaveBoth history.now zero one → P zero one)

@@ -4,7 +4,7 @@ use Rattle.std.proofs.lemmas.List.{take_at}
 use Rattle.ug_disk.specs.declared.slot.Slot.{Slot}
 use Rattle.ug_disk.specs.Histories.{History, Reads, slot_of}
 
--- a front with the next piece is a front
+-- a front with the next piece is a prefix
 front_more : (there bytes piece later : List ℕ) (m n : ℕ) → bytes ≡ take m there
     → piece ≡ take n (drop m there)
     → later ≡ bytes ++ piece → later ≡ take (length later) there

@@ -21,7 +21,7 @@ pub record LeavesOnly (P : List ℕ → List ℕ → Type 0) (old new : History)
   pub later : moments new ≡ since ++ moments old
   pub each : (zero one : List ℕ) → MightHaveLeft (since ++ old.now ∷ []) zero one → P zero one
 
--- the same, where it is told
+-- the same, if the disk shows it
 abbrev pub Leaves : (List ℕ → List ℕ → Type 0) → Option History → Option History → Type 0
 Leaves P None new = Unit {0}
 Leaves P (Some old) None = ⊥

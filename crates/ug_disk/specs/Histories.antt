@@ -37,13 +37,12 @@ stepped slot change history = record {
   before = moments history;
 }
 
--- what is seen of a disk: what became of its slots so far, where it tells it, and how often it has
--- failed
+-- a disk as it is seen: the history of its slots, if it shows it, and the number of failed calls
 pub record DiskSeen : Type 0 where
   pub told : Option History
   pub faults : ℕ
 
--- this became of a slot, and nothing else changed, where it is told
+-- this happened to a slot, and nothing else changed, if the disk shows it
 abbrev pub Steps : Option History → Option History → Slot → (SlotState → SlotState) → Type 0
 Steps old new slot change = new ≡ option_map (stepped slot change) old
 
@@ -59,7 +58,7 @@ pub record Shakes (old new : Option History) (slot : Slot) (change : SlotState �
 abbrev pub Fails : Option History → Option History → Slot → (SlotState → SlotState) → Type 0
 Fails old new slot change = (new ≡ old) ⊎ Shakes old new slot change
 
--- what a read of the slot gives, where it is told, is so
+-- if the disk shows it, what a read of the slot returns satisfies this
 abbrev pub Reads : Option History → Slot → (List ℕ → Type 0) → Type 0
 Reads told slot P = IfSome told (λ history. P (slot_of slot history.now).bytes)
 

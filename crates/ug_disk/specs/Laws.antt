@@ -1,4 +1,4 @@
--- What the model of a disk comes to.
+-- Consequences of the model of a disk.
 use Rattle.std.specs.Prelude.{◌≡◌, ◌⊎◌, ◌↔◌, ℕ, ◌+◌, ◌<◌, ◌≤◌, max, List, length, take, drop}
 use Rattle.ug_disk.specs.Slots.{SlotState, IsLoose, MayLeave, IsReal, synced, loosened, written}
 

@@ -1,4 +1,4 @@
--- What a disk in memory has, and how what it keeps of each change tells what was before.
+-- The contents of a disk in memory, and how the record of each change shows what was before.
 use Rattle.std.specs.Prelude.{◌≡◌, ℕ, ◌+◌, ◌-◌, List, [], ◌∷◌, ◌++◌, length, take, drop, reverse}
 use Rattle.std.specs.Prelude.{IsTrue}
 use Rattle.ug_disk.specs.declared.slot.Slot.{Slot}
@@ -41,7 +41,7 @@ all_earlier [] slots = []
 all_earlier (undo ∷ undos) slots =
     earlier undo slots ∷ all_earlier undos (earlier undo slots)
 
--- this became of a slot, and what is kept of it tells what was before
+-- this happened to a slot, and the record of it shows what was before
 pub record HasChanged (slot : Slot) (f : SlotState → SlotState) (old new : StoredSlots)
     (undo : Undo) : Type 0 where
   pub now : slots_of new ≡ with_slot slot (f (slot_of slot (slots_of old))) (slots_of old)

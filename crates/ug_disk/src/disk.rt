@@ -9,10 +9,10 @@ use ug_io::Failed;
 /// Two slots of bytes that outlast the program: files in a folder, or vectors in memory. Nobody
 /// else writes them.
 pub trait Disk {
-    /// What became of the slots so far, where the disk tells it, and how often it has failed.
+    /// The history of the slots, if the disk shows it, and the number of failed calls.
     ghost seen: { Self → DiskSeen };
 
-    /// How many bytes the slot has.
+    /// Returns the length of the slot in bytes.
     fn len(&mut self, slot: Slot) -> Result<u64, Failed>
         ensures len { IfOk result (λ n. Reads (seen self.old).told slot
             (λ bytes. n ≡ length bytes)) }
@@ -20,8 +20,8 @@ pub trait Disk {
         ensures real { AreReal (seen self.old).told }
         ensures cause { IsCounted result (seen self.old).faults (seen self.new).faults };
 
-    /// Reads some of the slot's bytes from a place on into the front of the buffer, and says how
-    /// many. For a buffer that is not empty, 0 is the end.
+    /// Reads some of the slot's bytes from a place on into the buffer and returns their number. For
+    /// a buffer that is not empty, 0 is the end.
     fn read_at(&mut self, slot: Slot, at: u64, buffer: &mut [u8]) -> Result<usize, Failed>
         ensures within { IfOk result (λ n. n ≤ length buffer.new) }
         ensures bytes { IfOk result (λ n. Reads (seen self.old).told slot (λ bytes.
@@ -32,8 +32,8 @@ pub trait Disk {
         ensures real { AreReal (seen self.old).told }
         ensures cause { IsCounted result (seen self.old).faults (seen self.new).faults };
 
-    /// Writes over the slot's bytes from a place on, and past their end. Until a sync that succeeds
-    /// a crash may leave any bytes there, also where the write failed.
+    /// Overwrites the slot's bytes from a place on, and extends them. Until a sync succeeds, a
+    /// crash may leave any bytes there, even if the write failed.
     fn write_at(&mut self, slot: Slot, at: u64, bytes: &[u8]) -> Result<(), Failed>
         requires { Reads (seen self.old).told slot (λ bytes. at ≤ length bytes) }
         ensures ok { OnOk result (Steps (seen self.old).told (seen self.new).told slot
@@ -43,8 +43,8 @@ pub trait Disk {
         ensures real { AreReal (seen self.old).told }
         ensures cause { IsCounted result (seen self.old).faults (seen self.new).faults };
 
-    /// After it a crash leaves what a read of the slot gives. Where it fails, what a crash may
-    /// leave is as before.
+    /// Syncs the slot: from then on a crash leaves what a read returns. If it fails, a crash may
+    /// leave what it could leave before.
     fn sync(&mut self, slot: Slot) -> Result<(), Failed>
         ensures ok { OnOk result (Steps (seen self.old).told (seen self.new).told slot
             (λ state. synced state.bytes)) }

@@ -1,8 +1,8 @@
-//! The disk through which checkpoints are written: two slots, and what a crash may leave of them.
-//! It stands on ug_io, whose `Failed` and count of faults it shares. `Disk` is a trait whose
-//! contract is the model of a disk: where a disk tells it, what a read gives, which images a crash
-//! may leave at each moment so far, and how often the disk has failed. `MemoryDisk` keeps it over
-//! vectors and tells all. Its calls fail as its `Script` says.
+//! Disks for checkpoints: two slots, and what a crash may leave of them. Depends on ug_io, whose
+//! `Failed` and count of faults it shares. `Disk` is a trait whose contract models a disk: if the
+//! disk shows it, what a read returns, which images a crash may leave at each moment so far, and
+//! the number of failed calls. `MemoryDisk` satisfies it with vectors and shows everything. Its
+//! calls fail as its `Script` says.
 #![tactic(auto)]
 
 mod disk;

@@ -1,4 +1,4 @@
-//! A disk in memory: for tests, and for whoever wants to see what a crash may leave.
+//! A disk in memory, for tests and for examining what a crash may leave.
 
 ghost use Rattle.std.specs.Prelude.{◌≡◌, ◌≤◌, ◌<◌, ℕ, [], Some, length, take, drop, IfErr, IsOk, IsErr, OnOk, OnErr};
 ghost use Rattle.ug_io.specs.Outside.{IsCounted, Rose};
@@ -15,9 +15,9 @@ use std::alloc::{AllocError, Global};
 use std::mem;
 use ug_io::Failed;
 
-/// Two slots of bytes in memory. It keeps what is pending and what each change took away, so it
-/// tells all that a disk tells. Its calls fail where its script says, or where memory is wanting,
-/// and all of them once it has stopped.
+/// Two slots of bytes in memory. It records what is pending and what each change replaced, so it
+/// shows the whole history. A call fails if its script says so, or if it runs out of memory; all
+/// calls fail once the disk has stopped.
 #[derive(Drop)]
 pub struct MemoryDisk {
     alloc: Global,
@@ -29,7 +29,7 @@ pub struct MemoryDisk {
 impl MemoryDisk {
     ghost use Rattle.ug_disk.specs.Memories.{history_of, faults_of, calls_of, begun, HasStopped, IsFirstForbidden};
 
-    /// A disk whose slots have these bytes, with nothing pending.
+    /// Returns a disk whose slots have these bytes, with nothing pending.
     pub fn new(alloc: Global, zero: Vec<u8>, one: Vec<u8>, script: Script) -> MemoryDisk
         ensures told { history_of result ≡ begun zero.items one.items }
         ensures calls { calls_of result ≡ 0 }
@@ -43,22 +43,23 @@ impl MemoryDisk {
         }
     }
 
-    /// What a read of the slot gives.
+    /// Returns what a read of the slot returns.
     pub fn bytes(&self, slot: Slot) -> &[u8]
         ensures { result.now ≡ (slot_of slot (history_of self.now).now).bytes }
     {
         self.slots.bytes(slot)
     }
 
-    /// How many calls of `Disk` there were, among them those that failed.
+    /// Returns the number of calls of `Disk`, failed ones included.
     pub fn calls(&self) -> u64
         ensures { result ≡ calls_of self.now }
     {
         self.calls.count
     }
 
-    /// Leaves these images, if a crash now may leave them: then nothing is pending, calls go on,
-    /// and the history begins anew. Else the first slot is named whose image it may not leave.
+    /// Crashes: leaves these images if a crash may leave them now. Then nothing is pending, a
+    /// stopped disk works again, and the history starts anew. Otherwise names the first slot whose
+    /// image a crash may not leave.
     pub fn crash(&mut self, zero: Vec<u8>, one: Vec<u8>) -> Result<(), NotAllowed>
         ensures allowed { OnOk result
             (MayLeaveBoth (history_of self.old).now zero.items one.items) }
@@ -80,7 +81,7 @@ impl MemoryDisk {
         Ok(())
     }
 
-    /// Lets calls go on where the disk has stopped. What is pending stays so.
+    /// Lets a stopped disk work again. Pending writes stay pending.
     pub fn resume(&mut self)
         ensures told { history_of self.new ≡ history_of self.old }
         ensures goes { ¬ HasStopped self.new }
@@ -89,7 +90,7 @@ impl MemoryDisk {
         self.calls.resume();
     }
 
-    // One call more, and what becomes of it.
+    // Counts a call and returns what happens to it.
     fn next(&mut self) -> Turn
         ensures told { history_of self.new ≡ history_of self.old }
         ensures real { AreReal (Some (history_of self.old)) }
@@ -101,7 +102,7 @@ impl MemoryDisk {
         self.calls.next()
     }
 
-    // One call more, if it is one that is made.
+    // Counts a call. Fails if the script says so.
     fn goes(&mut self) -> Result<(), Failed>
         ensures told { history_of self.new ≡ history_of self.old }
         ensures real { AreReal (Some (history_of self.old)) }
@@ -113,7 +114,7 @@ impl MemoryDisk {
         }
     }
 
-    // Want of memory is a fault that counts.
+    // Counts out of memory as a fault.
     fn counted(&mut self, done: Result<(), AllocError>) -> Result<(), Failed>
         ensures ok { OnOk result (IsOk done) }
         ensures err { OnErr result (IsErr done) }
@@ -127,7 +128,7 @@ impl MemoryDisk {
         Ok(())
     }
 
-    // Writes, and keeps what was there.
+    // Writes, and records what was there.
     fn put(&mut self, slot: Slot, at: u64, bytes: &[u8]) -> Result<(), AllocError>
         requires { at ≤ length (slot_of slot (history_of self.old).now).bytes }
         ensures ok { OnOk result (history_of self.new
@@ -141,7 +142,7 @@ impl MemoryDisk {
         Ok(())
     }
 
-    // A write fails on its way.
+    // Fails a write that has begun.
     fn tear(&mut self, slot: Slot, at: u64, bytes: &[u8])
         requires { at ≤ length (slot_of slot (history_of self.old).now).bytes }
         ensures told { Fails (Some (history_of self.old)) (Some (history_of self.new)) slot
@@ -153,7 +154,7 @@ impl MemoryDisk {
         let _ = self.loosen(slot, at, bytes);
     }
 
-    // A crash may leave any bytes in the place of a write, if there is memory to keep it.
+    // Lets a crash leave any bytes in the place of a write, if there is memory to record it.
     fn loosen(&mut self, slot: Slot, at: u64, bytes: &[u8]) -> Result<(), AllocError>
         requires { at ≤ length (slot_of slot (history_of self.old).now).bytes }
         ensures ok { OnOk result (history_of self.new
@@ -167,7 +168,7 @@ impl MemoryDisk {
         Ok(())
     }
 
-    // Ends what is pending, and keeps it.
+    // Ends what is pending, and records it.
     fn settle(&mut self, slot: Slot) -> Result<(), AllocError>
         ensures ok { OnOk result (history_of self.new
             ≡ stepped slot (λ state. synced state.bytes) (history_of self.old)) }
@@ -219,7 +220,7 @@ impl Disk for MemoryDisk {
     }
 }
 
-// Copies bytes from a place on into the front of the buffer, as many as there are and it takes.
+// Copies bytes from a place on into the buffer and returns their number.
 fn copy_from(bytes: &[u8], at: u64, buffer: &mut [u8]) -> usize
     ensures within { result ≤ length buffer.new }
     ensures bytes { take result buffer.new ≡ take result (drop at bytes.now) }

@@ -8,19 +8,19 @@ use crate::slot::Slot;
 use std::alloc::Global;
 use ug_io::zeros;
 
-/// How many bytes are asked for at once.
+/// The number of bytes read at once.
 const PIECE: usize = 65_536;
 
-/// Why a slot was not read.
+/// Why a slot could not be read.
 #[derive(Clone, Copy, Debug, PartialEq, Eq)]
 pub enum ReadError {
     Memory,
-    /// The disk's count of faults rose.
+    /// The disk failed: its count of faults has risen.
     Fault,
 }
 
-/// Reads all bytes of the slot. It takes memory for the bytes that are there and a piece more,
-/// whatever length the slot tells.
+/// Reads all bytes of the slot. It allocates for the bytes that are there and one piece more,
+/// whatever length the slot reports.
 pub fn read_all<D: Disk>(alloc: Global, disk: &mut D, slot: Slot) -> Result<Vec<u8>, ReadError>
     ensures bytes { IfOk result (λ bytes. Reads (D.seen disk.old).told slot
         (λ there. bytes.items ≡ there)) }
@@ -36,7 +36,7 @@ pub fn read_all<D: Disk>(alloc: Global, disk: &mut D, slot: Slot) -> Result<Vec<
     read
 }
 
-// The same, by pieces that the buffer takes.
+// The same, in pieces of the buffer's length.
 fn read_by<D: Disk>(
     alloc: Global,
     disk: &mut D,

@@ -3,7 +3,8 @@ ghost use Rattle.std.specs.List.{Contains};
 ghost use Rattle.ug_io.specs.Outside.{Rose};
 ghost use Rattle.ug_disk.specs.Scripts.{IsTurn};
 
-/// Which calls of a disk in memory fail, and after which calls it stops. Calls are counted from 1.
+/// Says which calls of a disk in memory fail, and after which calls it stops. Calls are counted
+/// from 1.
 #[derive(Drop)]
 pub struct Script {
     pub failing: Vec<u64>,
@@ -19,19 +20,19 @@ pub struct Calls {
     pub is_stopped: bool,
 }
 
-/// What becomes of a call.
+/// What happens to a call.
 #[derive(Clone, Copy, PartialEq, Eq)]
 pub enum Turn {
-    /// It is made.
+    /// It succeeds.
     Goes,
-    /// It fails on its way.
+    /// It fails after it has begun.
     Fails,
-    /// The disk has stopped, and nothing is done.
+    /// The disk has stopped, and nothing happens.
     Stopped,
 }
 
 impl Calls {
-    /// No call yet.
+    /// Returns the state before the first call.
     pub fn new(script: Script) -> Calls
         ensures { result ≡ record { script = script; count = 0; faults = 0; is_stopped = false } }
     {
@@ -43,7 +44,7 @@ impl Calls {
         }
     }
 
-    /// One call more, and what becomes of it.
+    /// Counts a call and returns what happens to it.
     pub fn next(&mut self) -> Turn
         ensures turn { IsTurn self.old self.new.count result }
         ensures stops { IsTrue self.new.is_stopped
@@ -63,7 +64,7 @@ impl Calls {
         turn
     }
 
-    // What becomes of the call of this number.
+    // Returns what happens to the call of this number.
     fn turn(&self) -> Turn
         ensures { IsTurn self.now self.now.count result }
     {
@@ -76,7 +77,7 @@ impl Calls {
         }
     }
 
-    /// One fault more.
+    /// Counts a fault.
     pub fn fail(&mut self)
         ensures rose { Rose self.old.faults self.new.faults }
         ensures never_falls { self.old.faults ≤ self.new.faults }
@@ -85,7 +86,7 @@ impl Calls {
         self.faults = self.faults.saturating_add(1);
     }
 
-    /// Calls go on.
+    /// Lets a stopped disk work again.
     pub fn resume(&mut self)
         ensures { self.new ≡ record self.old { is_stopped = false } }
     {

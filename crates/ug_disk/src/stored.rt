@@ -45,7 +45,7 @@ pub struct StoredSlots {
 }
 
 impl Stored {
-    /// A slot of these bytes, with nothing pending.
+    /// Returns a slot with these bytes and nothing pending.
     pub fn new(alloc: Global, bytes: Vec<u8>) -> Stored
         ensures { result ≡ synced bytes.items }
     {
@@ -58,21 +58,21 @@ impl Stored {
         }
     }
 
-    /// What a read gives.
+    /// Returns what a read returns.
     pub fn bytes(&self) -> &[u8]
         ensures { result.now ≡ self.now.bytes }
     {
         self.bytes.as_slice()
     }
 
-    /// It is one of the images that a crash may leave.
+    /// Shows that a read returns one of the images that a crash may leave.
     pub fn is_real(&self)
         ensures { IsReal self.now }
     {
         let _bytes = &self.bytes;
     }
 
-    /// Whether a crash may leave the image.
+    /// May a crash leave the image?
     pub fn may_leave(&self, image: &[u8]) -> bool
         ensures { IsTrue result ↔ MayLeave self.now image.now }
     {
@@ -83,7 +83,7 @@ impl Stored {
         keep(&self.loose, &self.bytes, image, self.shortest)
     }
 
-    /// Writes over the bytes from a place on, and past their end. It gives what was there.
+    /// Overwrites the bytes from a place on, and extends them. Returns what was there.
     pub fn write(&mut self, alloc: Global, at: u64, piece: &[u8]) -> Result<Kept, AllocError>
         requires { at ≤ length self.old.bytes }
         ensures ok { OnOk result (self.new ≡ written at piece.now self.old) }
@@ -111,7 +111,8 @@ impl Stored {
         })
     }
 
-    /// What a write does that fails on its way: a crash may leave any bytes in its place.
+    /// Does what a failed write does: a crash may leave any bytes in its place. Returns what was
+    /// there.
     pub fn loosen(&mut self, alloc: Global, at: u64, piece: &[u8]) -> Result<Kept, AllocError>
         requires { at ≤ length self.old.bytes }
         ensures ok { OnOk result (self.new ≡ loosened at (length piece.now) self.old) }
@@ -135,7 +136,7 @@ impl Stored {
         })
     }
 
-    /// Nothing is pending any more. It gives what was.
+    /// Ends what is pending, and returns it.
     pub fn sync(&mut self, alloc: Global) -> Kept
         ensures now { self.new ≡ synced self.old.bytes }
         ensures kept { restored result self.new ≡ self.old }
@@ -152,7 +153,7 @@ impl Stored {
     }
 }
 
-// A copy of the bytes at a place, as far as they go.
+// Returns a copy of the bytes at a place, as far as they go.
 fn copy(alloc: Global, bytes: &[u8], at: u64, len: usize) -> Result<Vec<u8>, AllocError>
     requires { at ≤ length bytes.now }
     ensures { IfOk result (λ copy. copy.items ≡ take len (drop at bytes.now)) }
@@ -162,7 +163,7 @@ fn copy(alloc: Global, bytes: &[u8], at: u64, len: usize) -> Result<Vec<u8>, All
     rest[..len].to_vec(alloc)
 }
 
-// Puts a piece in the place of the bytes from there on, and behind their end.
+// Overwrites the bytes from a place on with the piece, and extends them.
 fn overwrite(bytes: &mut Vec<u8>, at: usize, piece: &[u8]) -> Result<(), AllocError>
     requires { at ≤ length bytes.old.items }
     ensures ok { OnOk result (bytes.new.items ≡ put_at at piece.now bytes.old.items) }
@@ -175,7 +176,7 @@ fn overwrite(bytes: &mut Vec<u8>, at: usize, piece: &[u8]) -> Result<(), AllocEr
     Ok(())
 }
 
-// Whether each of the bytes up to an end is in the image, but for those at loose places.
+// Does the image agree with the bytes up to `end`, except at loose places?
 fn keep(loose: &[Span], bytes: &[u8], image: &[u8], end: u64) -> bool
     requires bytes { end ≤ length bytes.now }
     requires image { end ≤ length image.now }
@@ -191,7 +192,7 @@ fn keep(loose: &[Span], bytes: &[u8], image: &[u8], end: u64) -> bool
     true
 }
 
-// Whether the place lies in one of these.
+// Does the place lie in one of the spans?
 fn is_loose(loose: &[Span], place: u64) -> bool
     ensures { IsTrue result ↔ IsLoose loose.now place }
 {

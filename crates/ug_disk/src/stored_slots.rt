@@ -9,7 +9,7 @@ use crate::stored::{Stored, StoredSlots};
 use crate::undo::{Kept, Undo};
 use std::alloc::{AllocError, Global};
 
-// What undoes the change of a slot that took this from it.
+// Returns what undoes the change of a slot.
 fn changed(slot: Slot, kept: Result<Kept, AllocError>) -> Result<Undo, AllocError>
     ensures ok { IfOk result (λ change. (change.slot ≡ slot) × (kept ≡ Ok change.kept)) }
     ensures err { OnErr result (IsErr kept) }
@@ -21,7 +21,7 @@ fn changed(slot: Slot, kept: Result<Kept, AllocError>) -> Result<Undo, AllocErro
 }
 
 impl StoredSlots {
-    /// Slots of these bytes, with nothing pending.
+    /// Returns slots with these bytes and nothing pending.
     pub fn new(alloc: Global, zero: Vec<u8>, one: Vec<u8>) -> StoredSlots
         ensures { slots_of result ≡ record { zero = synced zero.items; one = synced one.items } }
     {
@@ -31,7 +31,7 @@ impl StoredSlots {
         }
     }
 
-    /// What a read of the slot gives.
+    /// Returns what a read of the slot returns.
     pub fn bytes(&self, slot: Slot) -> &[u8]
         ensures bytes { result.now ≡ (slot_of slot (slots_of self.now)).bytes }
     {
@@ -41,7 +41,7 @@ impl StoredSlots {
         }
     }
 
-    /// The first slot whose image a crash may not leave.
+    /// Returns the first slot whose image a crash may not leave.
     pub fn first_forbidden(&self, zero: &[u8], one: &[u8]) -> Option<Slot>
         ensures allowed { IsNone result ↔ MayLeaveBoth (slots_of self.now) zero.now one.now }
         ensures forbidden { IfSome result (IsFirstForbidden (slots_of self.now) zero.now one.now) }
@@ -55,7 +55,7 @@ impl StoredSlots {
         None
     }
 
-    /// Writes over the slot's bytes.
+    /// Overwrites the slot's bytes.
     pub fn write(
         &mut self,
         alloc: Global,
@@ -74,7 +74,7 @@ impl StoredSlots {
         changed(slot, kept)
     }
 
-    /// What a write does that fails on its way.
+    /// Does what a failed write does.
     pub fn loosen(
         &mut self,
         alloc: Global,
@@ -94,7 +94,7 @@ impl StoredSlots {
         changed(slot, kept)
     }
 
-    /// Nothing is pending in the slot any more.
+    /// Ends what is pending in the slot.
     pub fn sync(&mut self, alloc: Global, slot: Slot) -> Undo
         ensures { HasChanged slot (λ state. synced state.bytes) self.old self.new result }
     {

@@ -8,9 +8,9 @@ use crate::disk::Disk;
 use crate::slot::Slot;
 use ug_io::Failed;
 
-/// Writes over the slot's bytes from a place on, and past their end, and then syncs it. At each
-/// moment of the call, also where it fails, a crash leaves what it may leave while the bytes are
-/// being written; after it, what a read gives.
+/// Overwrites the slot's bytes from a place on, extends them, and syncs. At each moment of the
+/// call, also if it fails, a crash leaves what it may leave while the bytes are being written;
+/// after it, what a read returns.
 pub fn write_synced<D: Disk>(disk: &mut D, slot: Slot, at: u64, bytes: &[u8]) -> Result<(), Failed>
     requires { Reads (D.seen disk.old).told slot (λ there. at ≤ length there) }
     ensures ok { OnOk result (IsNow (D.seen disk.old).told (D.seen disk.new).told slot

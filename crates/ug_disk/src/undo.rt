@@ -1,6 +1,6 @@
 use crate::slot::{Slot, Span};
 
-/// What is kept of a change of a slot, so that it can be told what the slot was before.
+/// What a change replaced, so that the slot before the change is known.
 #[derive(Drop)]
 pub struct Undo {
     pub slot: Slot,
@@ -10,7 +10,7 @@ pub struct Undo {
 /// What a change took from a slot.
 #[derive(Drop)]
 pub enum Kept {
-    /// A write, or one that failed on its way: the bytes in its place, and the greatest length.
+    /// A write, also a failed one: the bytes in its place, and the larger length.
     Bytes {
         at: u64,
         len: u64,

@@ -15,7 +15,7 @@ use Rattle.ug_drafts.specs.Roles.{is_objective, is_ignored, is_sided}
 use Rattle.ug_drafts.specs.RowNumbers.{is_wide, signed_terms}
 use Rattle.ug_drafts.specs.Made.{numbers_kept, made_of, made_if, row_with, row_fault_kept, and_row}
 
--- the factors of the first i terms are negated
+-- the coefficients of the first i terms are negated
 pub record IsNegatedTo (old : List Term) (i : ℕ) (now : List Term) : Type 0 where
   pub long : length now ≡ length old
   pub done : (k : ℕ) → k < i → term_at now k ≡ record { column = (term_at old k).column; factor = neg_ℤ (term_at old k).factor }

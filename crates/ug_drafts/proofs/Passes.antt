@@ -26,7 +26,7 @@ none_push fault (y ∷ xs) x n e = ⊎_elim
     (λ (p : (f : MpsFault) × (fault y ≡ Some f)). let bad : Some p.0 ≡ None = rw p.1 at n in absurd (cc))
     (elim (fault y) as (λ o. (o ≡ None) ⊎ ((f : MpsFault) × (o ≡ Some f))) [ None ↦ inl refl | Some f ↦ inr (f, refl) ])
 
--- where the items before it have none, it is that of the item
+-- if the items before it have none, it is that of the item
 pub first_at : {X : Type 0} (fault : X → Option MpsFault) (xs : List X) (k : ℕ) (x : X) (f : MpsFault) → k < length xs → first_fault fault (take k xs) ≡ None → x ≡ get_or xs k x → fault x ≡ Some f → first_fault fault xs ≡ Some f
 first_at fault [] k x f a n g e = absurd (omega (arith, a))
 first_at fault (y ∷ xs) zero x f a n g e = let same : fault y ≡ Some f = ap fault (sym g) ∙ e in rw same refl

@@ -11,7 +11,7 @@ use Rattle.ug_drafts.specs.declared.row.Factor.{Factor}
 use Rattle.ug_drafts.specs.RowNumbers.{most_places, scaled_term, is_above}
 use Rattle.ug_drafts.specs.Made.{below, terms_scaled, are_terms_wide, terms_if}
 
--- a factor that stands for one that is not there
+-- a coefficient that stands for one that is not there
 abbrev pub no_factor : Factor
 no_factor = record { column = 0; number = zero_decimal }
 
@@ -24,7 +24,7 @@ most_push (g ∷ fs) f = rw (most_push fs f) (omega arith)
 pub most_more : (fs : List Factor) (i : ℕ) → i < length fs → most_places (take (i + 1) fs) ≡ max (places_of (get_or fs i no_factor).number) (most_places (take i fs))
 most_more fs i h = rw (take_more fs i no_factor h) (most_push (take i fs) (get_or fs i no_factor))
 
--- no factor has more than the most
+-- no coefficient has more than the most
 pub most_at : (fs : List Factor) (i : ℕ) → i < length fs → places_of (get_or fs i no_factor).number ≤ most_places fs
 most_at [] i h = absurd (omega (arith, h))
 most_at (f ∷ fs) zero h = omega arith
@@ -32,12 +32,12 @@ most_at (f ∷ fs) (suc i) h = let rest : places_of (get_or fs i no_factor).numb
 
 -- ---- terms
 
--- the first i factors are scaled, and none of them is too wide
+-- the first i coefficients are scaled, and none of them is too wide
 pub record AreNarrowSoFar (scale : ℕ) (fs : List Factor) (i : ℕ) (terms : List Term) : Type 0 where
   pub made : terms ≡ terms_scaled scale (take i fs)
   pub narrow : are_terms_wide terms ≡ false
 
--- a factor that is too wide makes the terms too wide
+-- a coefficient that is too wide makes the terms too wide
 any_at : {X : Type 0} (test : X → Bool) (xs : List X) (i : ℕ) (d : X) → i < length xs → test (get_or xs i d) ≡ true → list_any test xs ≡ true
 any_at test [] i d h e = absurd (omega (arith, h))
 any_at test (x ∷ xs) zero d h e = or_left (test x) (list_any test xs) e

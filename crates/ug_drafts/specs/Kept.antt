@@ -1,4 +1,4 @@
--- What is kept of a column and of a row.
+-- The draft of a column and of a row.
 use Rattle.std.specs.Prelude.{ℕ, ◌==◌, ◌||◌, Bool, true, false, List, [], ◌∷◌, ◌++◌, Option, Some}
 use Rattle.std.specs.Prelude.{None, if◌then◌else◌}
 use Rattle.ug_problem.specs.declared.decimal.Decimal.{Decimal}
@@ -19,7 +19,7 @@ with_change change c = record {
   high = high_after change c.high;
 }
 
--- the terms with a factor more, if it is not 0
+-- the terms with one more coefficient, if it is not 0
 abbrev pub with_factor : ℕ → Decimal → List Factor → List Factor
 with_factor j d terms = if d.digits == 0 then terms
     else terms ++ record { column = j; number = d } ∷ []

@@ -1,4 +1,4 @@
--- What is made of the columns and rows that are kept, each with its name.
+-- The columns and rows of the problem, from the drafts with their names.
 use Rattle.std.specs.Prelude.{ℕ, ℤ, pos, neg_ℤ, ◌^◌, ◌||◌, ◌&&◌, not, Bool, List, [], ◌∷◌, ◌++◌}
 use Rattle.std.specs.Prelude.{map, filter, Option, Some, None, is_none, unwrap_or, if◌then◌else◌}
 use Rattle.std.specs.List.{list_any}
@@ -38,7 +38,7 @@ low_kept c = unwrap_or c.low (Finite (pos 0))
 abbrev pub high_kept : ColumnDraft → Bound
 high_kept c = unwrap_or c.high Infinite
 
--- why it is no column of a problem
+-- why it is not a column of a problem
 abbrev pub column_kind : Option ℕ → ColumnDraft → Option Kind
 column_kind boxed c = if not c.integer then Some kinds.Continuous
     else (if is_none boxed && (is_infinite (low_kept c) || is_infinite (high_kept c))
@@ -74,7 +74,7 @@ HasDecimals r = AreDecimals (numbers_kept r)
 abbrev pub below : ℕ → ℤ → Option ℤ
 below limit z = if is_above limit (Some z) then None else Some z
 
--- the factors times 10^scale, and whether one is above 10^24
+-- the coefficients times 10^scale, and whether one is above 10^24
 abbrev pub terms_scaled : ℕ → List Factor → List Term
 terms_scaled scale fs = map (scaled_term scale) fs
 

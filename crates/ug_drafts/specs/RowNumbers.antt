@@ -14,14 +14,14 @@ use Rattle.ug_drafts.specs.declared.role.Role.{Role}
 use Rattle.ug_drafts.specs.declared.role.Role.TheVariants.{Objective, AtMost, AtLeast, Equal}
 use Rattle.ug_drafts.specs.declared.row.Factor.{Factor}
 
--- what is given of a row: its terms, its right-hand side, 0 where none is given, and its range, if
--- one is given
+-- the numbers of a row: its terms, its right-hand side, which is 0 by default, and its range, if
+-- there is one
 pub record Numbers : Type 0 where
   pub terms : List Factor
   pub side : Decimal
   pub range : Option Decimal
 
--- a range is none of the objective's
+-- the objective has no range
 abbrev pub range_of : Role → Option Decimal → Option Decimal
 range_of Objective range = None
 range_of role range = range
@@ -33,7 +33,7 @@ abbrev pub places_if : Option Decimal → ℕ
 places_if None = 0
 places_if (Some d) = places_of d
 
--- the most places behind the point that a factor has
+-- the most places behind the point of a coefficient
 abbrev pub most_places : List Factor → ℕ
 most_places [] = 0
 most_places (f ∷ fs) = max (places_of f.number) (most_places fs)

@@ -3,17 +3,17 @@ use crate::row::RowDraft;
 use crate::scaling::{range_of, side_of};
 use ug_problem::{Decimal, MOST_FACTOR, MOST_SIDE};
 
-/// Why a text is refused, by the word at fault: more than its kind tells. No definition pins it,
+/// Why a file is refused, by the word at fault: more than its kind reports. No definition pins it,
 /// since it is for standard error alone.
 #[derive(Clone, Copy, PartialEq, Eq)]
 pub enum Cause {
-    /// The kind of the fault tells it.
+    /// The kind of the fault reports it.
     Plain(Kind),
-    /// The first line is none of a text.
+    /// The first line is none of a file.
     NoText,
-    /// A byte order mark stands ahead of the text.
+    /// A byte order mark precedes the file.
     ByteOrderMark,
-    /// It is a text in LP format.
+    /// It is a file in LP format.
     LpText,
     /// A section's name in small letters.
     SmallLetters,
@@ -21,7 +21,7 @@ pub enum Cause {
     SecondSection,
     /// A section of what is not solved.
     Unsolved,
-    /// A sense stands in the place of a header.
+    /// A sense is in the place of a header.
     SenseAsHeader,
     /// A word behind OBJSENSE is no sense.
     Sense,
@@ -37,7 +37,7 @@ pub enum Cause {
     InfiniteBound,
     /// A row whose numbers want more than 60 places.
     WideScale,
-    /// A factor of a row, once it is whole.
+    /// A coefficient of a row, once it is whole.
     WideFactor,
     /// The right-hand side of a row, or the constant of the objective.
     WideSide,
@@ -45,9 +45,9 @@ pub enum Cause {
     WideRange,
     /// A side of a row with its range.
     WideSum,
-    /// So many columns are not integer.
+    /// This many columns are not integer.
     Continuous(u64),
-    /// So many columns have an infinite bound.
+    /// This many columns have an infinite bound.
     Unbounded(u64),
 }
 

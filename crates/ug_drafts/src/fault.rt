@@ -3,7 +3,7 @@ ghost use Rattle.std.specs.Prelude.{◌≡◌};
 use std::alloc::{AllocError, AllocFailed};
 use ug_lists::Text;
 
-/// Why a text is refused. The word at fault is printed behind the kind, where one is named here.
+/// Why a file is refused. The word at fault is printed behind the kind, where one is named here.
 #[derive(Clone, Copy, PartialEq, Eq)]
 pub enum Kind {
     /// A byte that no word, blank or line end may hold, outside comments.
@@ -34,7 +34,7 @@ pub enum Kind {
     TooMany,
     /// More bytes than the limit allows before ENDATA.
     TooLong,
-    /// The text ends without an ENDATA line.
+    /// The file ends without an ENDATA line.
     NoEnd,
     /// A column that is not integer: its name.
     Continuous,
@@ -42,7 +42,7 @@ pub enum Kind {
     Unbounded,
 }
 
-/// A fault of the text: the first one.
+/// A fault of the file: the first one.
 #[derive(Drop)]
 pub struct MpsFault {
     /// The line, counted from 1; 0 for an empty text.

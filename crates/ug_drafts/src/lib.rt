@@ -1,5 +1,5 @@
-//! What the rows and columns that are kept of a problem come to. It stands on ug_problem, and knows
-//! nothing of texts and their lines. An amount comes to what it sets of a column's bounds;
+//! What the rows and columns that are kept of a problem come to. It depends on ug_problem, and
+//! knows nothing of texts and their lines. An amount comes to what it sets of a column's bounds;
 //! `make_columns` gives the columns, `make_rows` the rows and the objective, each row times the
 //! least power of ten that makes its numbers whole, or the first fault. specs/ says what each of
 //! them is; memory grows by what is made alone.

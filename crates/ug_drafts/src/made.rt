@@ -10,7 +10,7 @@ use ug_lists::{Items, Text};
 use ug_problem::NamedRow;
 use ug_rows::{Objective, Row, Term, Terms};
 
-/// The most digits that may stand behind the point.
+/// The most digits that may follow the point.
 const MOST_SCALE: u32 = 60;
 
 /// The numbers of a row times 10^`scale`, which are whole.
@@ -43,7 +43,7 @@ pub fn make(alloc: Global, draft: &RowDraft) -> Result<Option<Made>, AllocError>
     }))
 }
 
-// Negates the factors.
+// Negates the coefficients.
 fn negate(terms: &mut [Term])
     requires { AreSmall terms.old }
     ensures { terms.new ≡ signed_terms true terms.old }

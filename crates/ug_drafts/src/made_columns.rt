@@ -108,7 +108,7 @@ pub fn make_columns(
     Ok(columns)
 }
 
-// Adds a column of the problem, or tells its fault.
+// Adds a column of the problem, or reports its fault.
 fn push_column(
     columns: &mut Vec<Column>,
     boxed: Option<u32>,

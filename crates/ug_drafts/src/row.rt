@@ -19,7 +19,7 @@ pub struct RowDraft {
     /// The line that names it.
     pub line: u64,
     pub role: Role,
-    /// The factors that are not 0.
+    /// The coefficients that are not 0.
     pub terms: Items<Factor>,
     /// The right-hand side, if it was given.
     pub side: Option<Decimal>,
@@ -55,7 +55,7 @@ impl RowDraft {
         }
     }
 
-    // Adds a factor, if it is not 0.
+    // Adds a coefficient, if it is not 0.
     fn add_factor(&mut self, column: u32, number: Decimal) -> Result<(), AllocError>
         ensures { OnOk result (self.new
             ≡ record self.old { terms = with_factor column number self.old.terms }) }

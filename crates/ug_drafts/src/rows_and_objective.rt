@@ -35,7 +35,7 @@ impl RowsAndObjective {
         }
     }
 
-    // Takes the next row, or tells its fault. A row that is ignored is passed over.
+    // Takes the next row, or reports its fault. A row that is ignored is passed over.
     fn take(
         &mut self,
         alloc: Global,

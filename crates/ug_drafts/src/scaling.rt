@@ -42,7 +42,7 @@ pub fn range_of(draft: &RowDraft) -> Option<Decimal>
 }
 
 #[tactic(auto, using(crate::proofs::ScalingLemmas::most_more))]
-// The most places behind the point that a factor has.
+// The most places behind the point that a coefficient has.
 fn most_places(terms: &[Factor]) -> u32
     requires { All (λ (f : Factor). IsDecimal f.number) terms.now }
     ensures { result ≡ most_places terms.now }
@@ -75,7 +75,7 @@ pub fn scale_of(draft: &RowDraft) -> u32
     terms.max(side.max(places_if(range_of(draft))))
 }
 
-// A factor times 10^scale, if it is at most 10^24.
+// A coefficient times 10^scale, if it is at most 10^24.
 fn scaled_factor(number: Decimal, scale: u32) -> Option<i128>
     requires decimal { IsDecimal number }
     requires whole { places_of number ≤ scale }
@@ -89,7 +89,7 @@ fn scaled_factor(number: Decimal, scale: u32) -> Option<i128>
     Some(factor)
 }
 
-/// The terms of a row times 10^scale, if no factor is too wide.
+/// The terms of a row times 10^scale, if no coefficient is too wide.
 pub fn scaled_terms(
     alloc: Global,
     terms: &[Factor],

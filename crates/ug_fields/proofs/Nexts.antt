@@ -28,7 +28,7 @@ none_next rest line after empty none behind = record {
   last = λ l. behind;
 }
 
--- the same where nothing stands behind
+-- the same where nothing follows
 pub bare_next : (rest line after : List ℕ) → IsNextLine (rest ++ []) line (after ++ [])
     → IsNextLine rest line after
 bare_next rest line after next = record {
@@ -70,7 +70,7 @@ module _ {X : Type 0} (xs ys : List X) (same : xs ≡ ys) (k : ℕ) where
   lent x d there is = own x is ∙ get_or_default ys k x d (here there)
 
 module _ {X : Type 0} (f : X → List ℕ) (xs ys : List X) (same : xs ≡ ys) (k : ℕ) where
-  -- behind the last item comes what stands behind the list
+  -- behind the last item comes what follows the list
   pub past_next : (behind line after : List ℕ) → length xs ≤ k → IsNextLine behind line after
       → IsNextLine (flat_map f (drop k ys) ++ behind) line after
   past_next behind line after h next =

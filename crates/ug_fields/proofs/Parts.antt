@@ -12,7 +12,7 @@ pub nothing : {X : Type 0} → (xs : List X) → length xs ≡ 0 → xs ≡ []
 nothing [] size = refl
 nothing (x ∷ xs) size = absurd (omega (arith, size))
 
--- a part is set apart from what stands behind it
+-- a part is set apart from what follows it
 pub two : (a b r : List ℕ) → a ++ b ++ r ≡ a ++ (b ++ r)
 two a b r = append_assoc a b r
 

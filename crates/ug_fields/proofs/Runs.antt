@@ -17,7 +17,7 @@ after_all after state (x ∷ xs) = after_all after (after state x) xs
 
 module _ {S X : Type 0} (next : S → List ℕ → Reading X) (after : S → X → S) (Good : S → X → Type 0)
     (field : X → List ℕ) (reader : (state : S) → IsReader (Good state) field (next state)) where
-  -- so many values, one good after the other, and what stands then
+  -- this many values, one good after the other, and what stands then
   abbrev IsRun : ℕ → S → List X × S → Type 0
   IsRun n state x = (length x.0 ≡ n) × Chain Good after state x.0
       × (x.1 ≡ after_all after state x.0)

@@ -15,7 +15,7 @@ use Rattle.ug_fields.proofs.Takes.{reworded, made, joined}
 use Rattle.ug_fields.proofs.Tests.{both_true, passed, stopped, single, single_stops, le_tells, le_told}
 use Rattle.ug_fields.proofs.Tested.{tested}
 
--- a value of so many bytes, under a test
+-- a value of this many bytes, under a test
 pub record IsFixed {X : Type 0} (k : ℕ) (field : X → List ℕ) (value : List ℕ → X) (Good : X → Type 0)
     (test : X → Bool) : Type 0 where
   pub long : (x : X) → Good x → length (field x) ≡ k

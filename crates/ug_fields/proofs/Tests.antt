@@ -1,4 +1,4 @@
--- What a test tells that was passed, or not.
+-- What a test says that was passed, or not.
 use Rattle.std.proofs.Common.{◌≡◌, ℕ, ℤ, Bool, true, false, T, cond, Ok, Err, refl}
 use Rattle.std.specs.Prelude.{◌&&◌, ◌≤ℤ◌, int_le}
 use Rattle.std.proofs.lemmas.Float.{T_from_true}

@@ -6,7 +6,7 @@ use Rattle.ug_fields.specs.Reading.{Reading}
 abbrev pub IsBytes : List ℕ → Type 0
 IsBytes bytes = (i : ℕ) → get_or bytes i 0 < 256
 
--- the text is the front of the bytes, and the rest stands behind it
+-- the spelling is the front of the bytes, and the rest follows it
 pub record Takes (bytes text rest : List ℕ) : Type 0 where
   pub parts : bytes ≡ text ++ rest
   pub rest_fits : IsBytes rest

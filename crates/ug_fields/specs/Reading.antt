@@ -32,7 +32,7 @@ small_at least most [] = Err 0
 small_at least most (b ∷ rest) =
     if nat_le least b && nat_le b most then Ok (b, rest) else Err (length (b ∷ rest))
 
--- a count of at most so many, in four bytes
+-- a count of at most this many, in four bytes
 unfoldable pub count_at : ℕ → List ℕ → Reading ℕ
 count_at most bytes =
     if nat_lt (length bytes) 4 then Err (length bytes)
@@ -94,7 +94,7 @@ amount_at most bytes = do
   number ← number_at most bytes
   if int_le (pos 0) number.0 then Ok number else Err (length bytes)
 
--- so many bytes of a word
+-- this many bytes of a word
 unfoldable pub word_at : ℕ → List ℕ → Reading (List ℕ)
 word_at n bytes =
     if nat_lt (length bytes) n then Err (length bytes)
@@ -103,7 +103,7 @@ word_at n bytes =
     else Err (length bytes)
     )
 
--- a name: its length, and so many bytes of a word
+-- a name: its length, and this many bytes of a word
 unfoldable pub name_at : List ℕ → Reading (List ℕ)
 name_at bytes = do
   n ← small_at 1 255 bytes
@@ -126,7 +126,7 @@ flagged_at read bytes = do
 abbrev pub optional_at : ℕ → List ℕ → Reading (Option ℤ)
 optional_at most bytes = flagged_at (number_at most) bytes
 
--- so many values, one after the other, each read by what stands after the one before it, and what
+-- this many values, one after the other, each read by what stands after the one before it, and what
 -- stands then
 unfoldable pub many_at : {S X : Type 0} → (S → List ℕ → Reading X) → (S → X → S) → ℕ → S → List ℕ
     → Reading (List X × S)

@@ -7,7 +7,7 @@ use std::alloc::{AllocError, AllocFailed};
 #[derive(Clone, Copy, PartialEq, Eq)]
 pub enum Fault {
     Memory,
-    /// It is cut short or breaks a rule; so many bytes are left from its first one on.
+    /// It is cut short or breaks a rule; this many bytes are left from its first one on.
     Bad(usize),
 }
 

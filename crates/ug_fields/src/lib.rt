@@ -1,5 +1,5 @@
 //! Single fields of bytes, as records, images and messages have them: numbers, names, flags. It
-//! stands on ug_lines for the bytes of a word. Each field has a spelling in specs/, writers, which
+//! depends on ug_lines for the bytes of a word. Each field has a spelling in specs/, writers, which
 //! put it at the end of a `Line` or of a buffer with room for it, and a reader, which gives it with
 //! the bytes behind it, or a `Fault` that counts the bytes left from it on. A reader gives what was
 //! spelled, of other bytes nothing, and never more than is there.

@@ -7,7 +7,7 @@ use crate::fault::Fault;
 use crate::numbers::small_at;
 use ug_lines::is_word_byte;
 
-/// A name: its length, from 1 to 255, and so many bytes of a word, which are lent.
+/// A name: its length, from 1 to 255, and this many bytes of a word, which are lent.
 #[tactic(auto, unfolding(crate::specs::Reading::name_at))]
 pub fn name_at(bytes: &[u8]) -> Result<(&[u8], &[u8]), Fault>
     ensures { Gives (λ x. (x.0.now, x.1.now)) result (name_at bytes.now) }
@@ -16,7 +16,7 @@ pub fn name_at(bytes: &[u8]) -> Result<(&[u8], &[u8]), Fault>
     word_at(rest, n)
 }
 
-// So many bytes of a word.
+// This many bytes of a word.
 #[tactic(auto, unfolding(crate::specs::Reading::word_at))]
 fn word_at(bytes: &[u8], n: u8) -> Result<(&[u8], &[u8]), Fault>
     ensures { Gives (λ x. (x.0.now, x.1.now)) result (word_at n bytes.now) }

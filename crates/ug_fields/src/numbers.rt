@@ -14,7 +14,7 @@ pub fn small_at(bytes: &[u8], least: u8, most: u8) -> Result<(u8, &[u8]), Fault>
     }
 }
 
-/// A count of at most so many, in four bytes.
+/// A count of at most this many, in four bytes.
 #[tactic(auto, unfolding(crate::specs::Reading::count_at))]
 pub fn count_at(bytes: &[u8], most: u64) -> Result<(u32, &[u8]), Fault>
     ensures { Gives (λ x. (x.0, x.1.now)) result (count_at most bytes.now) }

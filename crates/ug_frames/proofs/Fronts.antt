@@ -1,4 +1,4 @@
--- What stands at the front of bytes, by what is read behind its length.
+-- What is at the front of bytes, by what is read behind its length.
 use Rattle.std.proofs.Common.{◌≡◌, ℕ, ◌+◌, ◌^◌, ◌<◌, ◌≤◌, List, ◌++◌, length, take, drop, Result, Ok, Err, IfOk, refl, sym, ◌∙◌, ap, subst, append_assoc, arith, inl, inr}
 use Rattle.std.specs.Int.{w32, from_be_bytes}
 use Rattle.std.proofs.lemmas.List.{take_at, drop_at, take-append-drop, append_cancel_left, length-append, length-take, length-drop}
@@ -125,7 +125,7 @@ module _ {M : Type 0} (IsCarried : M → Type 0) (body : M → List ℕ) (read :
       ∙ ap read (text_is (body message) b.rest (small message b.carried))
       ∙ whole.again message b.carried
 
-  -- where a frame is there, and its message is read, this is at the front
+  -- if a frame is there, and its message is read, this is at the front
   told_whole : (bytes frame : List ℕ) (message : M) → IsBytes bytes
       → IsThere bytes × (frame ≡ behind_length bytes) → read frame ≡ Ok message
       → IsDecoded IsCarried spelled bytes (Whole message (4 + length frame))
@@ -144,7 +144,7 @@ module _ {M : Type 0} (IsCarried : M → Type 0) (body : M → List ℕ) (read :
             ∙ ap (λ text. length (framed text)) t.0,
       )
 
-  -- where a frame is there, and none is read, none is at the front
+  -- if a frame is there, and none is read, none is at the front
   told_bad : (bytes frame : List ℕ) (left : ℕ)
       → IsThere bytes × (frame ≡ behind_length bytes) → read frame ≡ Err left
       → IsDecoded IsCarried spelled bytes Bad

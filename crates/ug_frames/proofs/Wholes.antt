@@ -9,8 +9,8 @@ use Rattle.ug_fields.proofs.Tests.{single}
 use Rattle.ug_fields.proofs.Parts.{nothing}
 use Rattle.ug_frames.specs.Reading.{alone}
 
--- of at most so many bytes the reader gives good values alone, whose spelling the bytes are; and it
--- reads each good value's spelling
+-- of at most this many bytes the reader gives good values alone, whose spelling the bytes are; and
+-- it reads each good value's spelling
 pub record IsWhole {X : Type 0} (most : ℕ) (Good : X → Type 0) (field : X → List ℕ)
     (read : List ℕ → Result X ℕ) : Type 0 where
   pub taken : (bytes : List ℕ) (x : X) → IsBytes bytes → length bytes ≤ most → read bytes ≡ Ok x

@@ -10,14 +10,14 @@ use Rattle.ug_frames.specs.declared.decoded.Decoded.{Decoded}
 use Rattle.ug_frames.specs.declared.decoded.Decoded.TheVariants as decoded
 use Rattle.ug_frames.specs.Fronts.{length_told, IsLength, IsCutShort, IsThere}
 
--- what stands behind the length of the frame at the front
+-- what follows the length of the frame at the front
 abbrev pub IsFront : List ℕ → Front → Type 0
 IsFront bytes CutShort = IsCutShort bytes
 IsFront bytes Bad = (4 ≤ length bytes) × ¬ IsLength (length_told bytes)
 IsFront bytes (There frame) =
     IsThere bytes × (frame.now ≡ take (length_told bytes) (drop 4 bytes))
 
--- what is said of a frame of so many bytes, by what was read of it
+-- what is said of a frame of this many bytes, by what was read of it
 abbrev pub whole_of : {M : Type 0} → Result M Fault → ℕ → Result (Decoded M) AllocError
 whole_of (Ok message) used = Ok (decoded.Whole message used)
 whole_of (Err fault.Memory) used = Err alloc_error

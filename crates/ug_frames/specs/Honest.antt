@@ -20,7 +20,7 @@ pub record IsBoxOfHand (root : List Interval) (sent : List Report) (ticket : Tic
   pub valid : AreChangesOf root changes
   pub box : area ≡ area_by root changes
 
--- x lies in the box of one of the first hands under the ticket, of so many
+-- x lies in the box of one of the first hands under the ticket, of this many
 pub record IsInHands (root : List Interval) (sent : List Report) (ticket : Ticket) (count : ℕ)
     (x : List ℤ) : Type 0 where
   pub hand : ℕ

@@ -4,7 +4,7 @@ use Rattle.ug_nodes.specs.declared.name.Ticket.{Ticket}
 use Rattle.ug_nodes.specs.declared.change.Change.{Change}
 use Rattle.ug_nodes.specs.Changes.{IsRising}
 
--- the greatest length that a frame can tell, which is counted in bytes after the length itself
+-- the greatest length that a frame can carry, which is counted in bytes after the length itself
 abbrev pub longest : ℕ
 longest = 67108860
 

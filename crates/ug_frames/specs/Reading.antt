@@ -64,7 +64,7 @@ change_at least bytes = do
   change ← any_change_at bytes
   if is_change least change.0 then Ok change else Err (length bytes)
 
--- so many changes, each column behind the one before it
+-- this many changes, each column behind the one before it
 abbrev pub changes_from : ℕ → List ℕ → Reading (List Change × ℕ)
 changes_from n bytes = many_at change_at (λ least (c : Change). c.column + 1) n 0 bytes
 
@@ -75,7 +75,7 @@ changes_at bytes = do
   changes ← changes_from n.0 n.1
   Ok (changes.0.0, changes.1)
 
--- so many values
+-- this many values
 abbrev pub values_at : ℕ → List ℕ → Reading (List ℤ × Unit {0})
 values_at n bytes =
     many_at (λ (state : Unit {0}). bound_at) (λ state (value : ℤ). state) n tt bytes

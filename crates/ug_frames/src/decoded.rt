@@ -1,4 +1,4 @@
-/// What stands at the front of the bytes that came.
+/// What is at the front of the bytes that came.
 #[derive(Drop)]
 pub enum Decoded<M> {
     /// A frame that is not all there yet.

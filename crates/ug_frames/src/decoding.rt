@@ -16,7 +16,7 @@ use crate::report::Report;
 use std::alloc::{AllocError, Global};
 use ug_fields::Fault;
 
-// What was read of a frame of so many bytes.
+// What was read of a frame of this many bytes.
 fn whole<M>(read: Result<M, Fault>, used: usize) -> Result<Decoded<M>, AllocError>
     ensures { result ≡ whole_of read used }
 {
@@ -27,7 +27,7 @@ fn whole<M>(read: Result<M, Fault>, used: usize) -> Result<Decoded<M>, AllocErro
     }
 }
 
-/// What stands at the front of the bytes, of orders. Memory is wanting only for one that is there.
+/// What is at the front of the bytes, of orders. Memory runs out only for one that is there.
 pub fn decode_order(alloc: Global, bytes: &[u8]) -> Result<Decoded<Order>, AllocError>
     // The answer is right, and no other is.
     ensures read { IfOk result (IsDecoded IsCarried spelled bytes.now) }
@@ -42,7 +42,7 @@ pub fn decode_order(alloc: Global, bytes: &[u8]) -> Result<Decoded<Order>, Alloc
     }
 }
 
-/// What stands at the front of the bytes, of reports. Memory is wanting only for one that is there.
+/// What is at the front of the bytes, of reports. Memory runs out only for one that is there.
 pub fn decode_report(alloc: Global, bytes: &[u8]) -> Result<Decoded<Report>, AllocError>
     // The answer is right, and no other is.
     ensures read { IfOk result (IsDecoded IsCarriedReport spelled_report bytes.now) }

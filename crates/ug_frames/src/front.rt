@@ -3,10 +3,10 @@ ghost use Rattle.std.specs.Int.{w32, from_be_bytes};
 ghost use Rattle.ug_frames.specs.Fronts.{length_told};
 ghost use Rattle.ug_frames.specs.Behind.{IsFront};
 
-/// The greatest length that a frame can tell.
+/// The greatest length that a frame can carry.
 const LONGEST: u32 = 67_108_860;
 
-/// What stands behind a frame's length.
+/// What follows a frame's length.
 pub enum Front<'a> {
     /// Not all that it counts, or the length itself is not all there.
     CutShort,
@@ -24,7 +24,7 @@ fn length_told(bytes: &[u8]) -> u32
     u32::from_be_bytes([bytes[0], bytes[1], bytes[2], bytes[3]])
 }
 
-/// What stands behind the length of the frame at the front.
+/// What follows the length of the frame at the front.
 pub fn front_of(bytes: &[u8]) -> Front<'_>
     ensures { IsFront bytes.now result }
 {

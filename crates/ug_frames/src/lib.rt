@@ -1,10 +1,10 @@
-//! What a coordinator and a solver in another process tell each other, and its bytes.
-//! It stands on ug_fields for single fields, and on ug_lists, ug_rows, ug_problem, ug_nodes and
+//! What a coordinator and a solver in another process send each other, and its bytes.
+//! It depends on ug_fields for single fields, and on ug_lists, ug_rows, ug_problem, ug_nodes and
 //! ug_branch for what the messages say.
 //! `Order` and `Report` are plain data; `ticket` says of which assignment one speaks, and which it
 //! is that speaks of none. `IsOrder` and `IsReport`, in specs/, say which values a frame can carry,
 //! and `spelled` which bytes the frame is. `encode_order` and `encode_report` put a frame at the
-//! end of a buffer; `decode_order` and `decode_report` tell of any bytes whether a frame stands at
+//! end of a buffer; `decode_order` and `decode_report` report of any bytes whether a frame is at
 //! their front, and whose.
 #![tactic(auto)]
 

@@ -2,7 +2,8 @@ use ug_branch::Params;
 use ug_lists::Bytes;
 use ug_nodes::{Changes, Ticket};
 
-/// What the coordinator tells a solver. Values and cutoffs are of the minimised, scaled objective.
+/// What the coordinator sends a solver. Values and cutoffs are of the minimised, scaled
+/// objective.
 #[derive(Drop)]
 pub enum Order {
     /// The problem, as its record, and how far from the best an answer may be. It comes first.

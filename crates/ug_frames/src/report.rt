@@ -5,11 +5,12 @@ use ug_rows::Point;
 /// How a task ended.
 #[derive(Clone, Copy)]
 pub enum Ending {
-    /// It was worked off, and nothing is told of how.
+    /// It was worked off, and nothing is reported of how.
     Plain,
 }
 
-/// What a solver tells the coordinator. Values and cutoffs are of the minimised, scaled objective.
+/// What a solver sends the coordinator. Values and cutoffs are of the minimised, scaled
+/// objective.
 #[derive(Drop)]
 pub enum Report {
     /// The problem is there.
@@ -32,7 +33,7 @@ pub enum Report {
         floor: i128,
     },
     /// No open node is left: no point of the box with a value below the cutoff is outside the boxes
-    /// that were handed out, of which there are so many.
+    /// that were handed out, of which there are this many.
     Done {
         ticket: Ticket,
         cutoff: Option<i128>,

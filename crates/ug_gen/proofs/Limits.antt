@@ -39,7 +39,7 @@ column_is_column j h = record {
   high = omega arith;
 }
 
--- a rule that gives column j a term with a factor that is not 0 makes the terms of a row
+-- a rule that gives column j a term with a coefficient that is not 0 makes the terms of a row
 each_are_terms : (rule : ℕ → Term) → (size : ℕ) → ((j : ℕ) → (rule j).column ≡ j)
     → ((j : ℕ) → (rule j).factor ≢ pos 0) → AreTerms size (each rule size)
 each_are_terms rule size named nonzero = record {

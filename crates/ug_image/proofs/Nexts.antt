@@ -165,7 +165,7 @@ module _ (i : Image) (p : Instance) (is : p ≡ i.problem) (stage next : RecordS
       ∙ ap (λ r. r ++ from_best i)
       (one.parts ∙ (λ k. empty k ++ one.last empty k))) best
 
--- what a look at a line tells
+-- what a look at a line says
 pub is_emptied : (seen line : List ℕ) (b : Bool) → b ≡ (length seen == 0) → seen ≡ line → b ≡ true
     → line ≡ []
 is_emptied seen line b test same e =

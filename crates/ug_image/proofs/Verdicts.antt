@@ -1,4 +1,4 @@
--- What reading an image tells about the bytes.
+-- What reading an image reports about the bytes.
 use Rattle.std.proofs.Common.{◌≡◌, ℕ, ◌-◌, List, length, Ok, Err, ◌∙◌, ap, arith}
 use Rattle.ug_rows.specs.declared.area.Interval.{Interval}
 use Rattle.ug_nodes.specs.declared.change.Change.{Change}

@@ -24,8 +24,8 @@ unfoldable pub within_record : Result Instance ℕ → List ℕ → Reading Inst
 within_record (Ok p) rest = Ok (p, rest)
 within_record (Err left) rest = Err (left + length rest)
 
--- so many bytes of a record, where they are there; else the field that counts them is bad, from
--- which on so many bytes are left
+-- this many bytes of a record, where they are there; else the field that counts them is bad, from
+-- which on this many bytes are left
 unfoldable pub record_in : ℕ → ℕ → List ℕ → Reading Instance
 record_in left n bytes =
     if nat_lt (length bytes) n then Err left
@@ -37,7 +37,7 @@ problem_at bytes = do
   n ← count_at (2 ^ 32) bytes
   record_in (length bytes) n.0 n.1
 
--- so many values
+-- this many values
 abbrev pub values_at : ℕ → List ℕ → Reading (List ℤ × Unit {0})
 values_at n bytes =
     many_at (λ (state : Unit {0}). bound_at) (λ state (value : ℤ). state) n tt bytes
@@ -67,7 +67,7 @@ abbrev pub is_at_most : Option ℤ → ℤ → Bool
 is_at_most None sum = true
 is_at_most (Some high) sum = int_le sum high
 
--- whether the point keeps to the row
+-- whether the point satisfies the row
 abbrev pub keeps : List ℤ → NamedRow → Bool
 keeps x named = is_at_least named.row.low (sum_at named.row.terms x)
     && is_at_most named.row.high (sum_at named.row.terms x)
@@ -86,7 +86,7 @@ feasible_at p bytes = do
 abbrev pub best_at : Instance → List ℕ → Reading (Option (List ℤ))
 best_at p bytes = flagged_at (feasible_at p) bytes
 
--- how many reports were heard: none before version 2
+-- how many reports were received: none before version 2
 unfoldable pub heard_at : ℕ → List ℕ → Reading ℕ
 heard_at version bytes = if nat_lt 1 version then long_at 0 bytes else Ok (0, bytes)
 
@@ -94,7 +94,7 @@ heard_at version bytes = if nat_lt 1 version then long_at 0 bytes else Ok (0, by
 unfoldable pub gap_at : ℕ → List ℕ → Reading ℤ
 gap_at version bytes = if nat_lt 2 version then amount_at (4 * 10 ^ 37) bytes else Ok (pos 0, bytes)
 
--- how many reports were heard, the gap, and how many nodes there are
+-- how many reports were received, the gap, and how many nodes there are
 unfoldable pub counts_at : ℕ → List ℕ → Reading Counts
 counts_at version bytes = do
   heard ← heard_at version bytes
@@ -134,7 +134,7 @@ change_at root least bytes = do
   change ← any_change_at bytes
   if is_change root least change.0 then Ok change else Err (length bytes)
 
--- so many changes, each column behind the one before it
+-- this many changes, each column behind the one before it
 abbrev pub changes_from : List Interval → ℕ → List ℕ → Reading (List Change × ℕ)
 changes_from root n bytes =
     many_at (change_at root) (λ least (c : Change). c.column + 1) n 0 bytes
@@ -146,7 +146,7 @@ changes_at root bytes = do
   changes ← changes_from root n.0 n.1
   Ok (changes.0.0, changes.1)
 
--- whether the name stands behind the one before it, where there is one
+-- whether the name follows the one before it, where there is one
 abbrev pub is_behind : Option Name → Name → Bool
 is_behind None name = true
 is_behind (Some last) name = nat_lt last.ticket.number name.ticket.number
@@ -172,7 +172,7 @@ node_at run root last bytes = do
   changes ← changes_at root name.1
   Ok (record { name = name.0; changes = changes.0 }, changes.1)
 
--- so many nodes, each behind the one before it
+-- this many nodes, each behind the one before it
 abbrev pub named_at : ℕ → List Interval → ℕ → List ℕ → Reading (List SavedNode × Option Name)
 named_at run root n bytes =
     many_at (node_at run root) (λ last (node : SavedNode). Some node.name) n None bytes
@@ -189,7 +189,7 @@ starting_at run root k bytes = do
     changes.1,
   )
 
--- so many nodes without names
+-- this many nodes without names
 abbrev pub bare_at : ℕ → List Interval → ℕ → List ℕ → Reading (List SavedNode × ℕ)
 bare_at run root n bytes =
     many_at (starting_at run root) (λ k (node : SavedNode). k + 1) n 0 bytes
@@ -220,7 +220,7 @@ behind_problem version run sequence problem bytes = do
     nodes.1,
   )
 
--- the fields of an image, and what stands behind them
+-- the fields of an image, and what follows them
 unfoldable pub fields_at : List ℕ → Reading Image
 fields_at bytes = do
   version ← small_at 1 3 bytes

@@ -49,12 +49,12 @@ unfoldable pub nodes_fields : ℕ → List SavedNode → List ℕ
 nodes_fields version nodes =
     if nat_lt 1 version then flat_map node_fields nodes else flat_map bare_node_fields nodes
 
--- how many reports were heard, which stands there from version 2 on
+-- how many reports were received, which is there from version 2 on
 unfoldable pub heard_field : ℕ → ℕ → List ℕ
 heard_field version heard =
     if nat_lt 1 version then long_field heard else []
 
--- the gap, which stands there from version 3 on
+-- the gap, which is there from version 3 on
 unfoldable pub gap_field : ℕ → ℤ → List ℕ
 gap_field version gap = if nat_lt 2 version then number_field gap else []
 

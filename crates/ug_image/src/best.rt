@@ -15,7 +15,7 @@ fn push_value(values: &mut Items<i32>, value: i32) -> Result<(), AllocError>
     values.push(value)
 }
 
-// So many values, which are put into an empty list.
+// This many values, which are put into an empty list.
 fn values_at<'a>(bytes: &'a [u8], count: u32, values: &mut Items<i32>) -> Result<&'a [u8], Fault>
     requires { values.old ≡ [] }
     ensures { Gives (λ rest. ((values.new, tt), rest.now)) result (values_at count bytes.now) }

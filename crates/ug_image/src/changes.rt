@@ -68,7 +68,7 @@ fn change_at<'a>(bytes: &'a [u8], root: &IntBox, least: u64) -> Result<(Change, 
     }
 }
 
-// So many changes, which are put into an empty list, and the least column of another.
+// This many changes, which are put into an empty list, and the least column of another.
 fn changes_from<'a>(
     bytes: &'a [u8],
     root: &IntBox,

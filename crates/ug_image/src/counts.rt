@@ -13,7 +13,7 @@ pub struct Counts {
     pub nodes: u64,
 }
 
-// How many reports were heard: none before version 2.
+// How many reports were received: none before version 2.
 #[tactic(auto, unfolding(crate::specs::Reading::heard_at))]
 fn heard_at(bytes: &[u8], version: u8) -> Result<(u64, &[u8]), Fault>
     ensures { Gives (λ x. (x.0, x.1.now)) result (heard_at version bytes.now) }
@@ -39,7 +39,7 @@ fn gap_at(bytes: &[u8], version: u8) -> Result<(i128, &[u8]), Fault>
     }
 }
 
-/// How many reports were heard, the gap, and how many nodes there are.
+/// How many reports were received, the gap, and how many nodes there are.
 #[tactic(auto, unfolding(crate::specs::Reading::counts_at))]
 pub fn counts_at(bytes: &[u8], version: u8) -> Result<(Counts, &[u8]), Fault>
     ensures { Gives (λ x. (x.0, x.1.now)) result (counts_at version bytes.now) }

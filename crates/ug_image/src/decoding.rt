@@ -28,7 +28,7 @@ pub fn decode(alloc: Global, bytes: &[u8]) -> Result<Image, ImageError>
     }
 }
 
-// Where the first bad field begins, from which on so many bytes are left.
+// If the first bad field begins, from which on this many bytes are left.
 fn first_bad(bytes: &[u8], left: usize) -> usize
     requires { image_at bytes.now ≡ Err left }
     ensures place { IsFirstBad bytes.now result }

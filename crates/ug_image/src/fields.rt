@@ -12,7 +12,7 @@ use std::alloc::Global;
 use ug_fields::{Fault, long_at, small_at};
 use ug_problem::Shared;
 
-// The fields of an image, and what stands behind them.
+// The fields of an image, and what follows them.
 #[tactic(auto, unfolding(crate::specs::Reading::fields_at))]
 fn fields_at(alloc: Global, bytes: &[u8]) -> Result<(Image, &[u8]), Fault>
     ensures { Gives (λ x. (x.0, x.1.now)) result (fields_at bytes.now) }

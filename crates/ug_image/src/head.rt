@@ -1,4 +1,4 @@
-/// What stands ahead of the problem.
+/// What precedes the problem.
 #[derive(Clone, Copy)]
 pub struct Head {
     pub version: u8,

@@ -24,7 +24,7 @@ pub struct Image {
     pub problem: Shared,
     /// The incumbent, which is feasible.
     pub best: Option<Point>,
-    /// How many reports the run had heard.
+    /// How many reports the run had received.
     pub heard: u64,
     /// In units of the scaled objective, from 0 to 4*10^37.
     pub gap: i128,

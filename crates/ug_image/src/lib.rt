@@ -1,5 +1,5 @@
 //! The image of a run: what a checkpoint saves, and its bytes, block by block and read back.
-//! It stands on ug_fields and ug_records for fields and the problem's record, and on ug_nodes.
+//! It depends on ug_fields and ug_records for fields and the problem's record, and on ug_nodes.
 //! `Image` is what is saved; its spelling in specs/ names its bytes, field by field, by version.
 //! `decode` reads every spelling back, of versions 1, 2 and 3, and says of all other bytes where
 //! the first bad field stands. `Blocks` fills buffers with a spelling, and takes memory for a line.

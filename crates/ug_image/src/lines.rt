@@ -45,7 +45,7 @@ pub fn put_value(line: &mut Line, values: &[i32], k: usize)
     line.put_bound(values[k]);
 }
 
-/// How many reports were heard, the gap, and how many nodes there are.
+/// How many reports were received, the gap, and how many nodes there are.
 #[tactic(auto, unfolding(crate::specs::Rests::heard_line))]
 pub fn put_heard(line: &mut Line, heard: u64, gap: i128, nodes: u64)
     requires { line.old ≡ [] }

@@ -12,7 +12,7 @@ use ug_lists::Items;
 use ug_nodes::{Name, Ticket};
 use ug_rows::IntBox;
 
-// Whether the name stands behind the one before it, where there is one.
+// Whether the name follows the one before it, where there is one.
 fn is_behind(last: Option<Name>, name: Name) -> bool
     ensures { result ≡ is_behind last name }
 {
@@ -65,7 +65,7 @@ fn node_at<'a>(
     Ok((SavedNode { name, changes }, rest))
 }
 
-// So many nodes, each behind the one before it, and the name of the last.
+// This many nodes, each behind the one before it, and the name of the last.
 fn named_at<'a>(
     alloc: Global,
     bytes: &'a [u8],
@@ -105,7 +105,7 @@ fn starting_at<'a>(
     Ok((SavedNode { name, changes }, rest))
 }
 
-// So many nodes without names.
+// This many nodes without names.
 fn bare_at<'a>(
     alloc: Global,
     bytes: &'a [u8],

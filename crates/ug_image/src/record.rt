@@ -7,8 +7,8 @@ use ug_fields::{Fault, count_at};
 use ug_problem::Shared;
 use ug_records::{RecordError, from_record};
 
-// The problem whose record the next bytes are, so many; where they are not there, so many bytes are
-// left from the bad field on.
+// The problem whose record the next bytes are, this many; if they are not there, this many bytes
+// are left from the bad field on.
 #[tactic(auto, unfolding(crate::specs::Reading::record_in, crate::specs::Reading::within_record))]
 fn record_in(alloc: Global, bytes: &[u8], left: usize, count: u32) -> Result<(Shared, &[u8]), Fault>
     ensures { Gives (λ x. (x.0, x.1.now)) result (record_in left count bytes.now) }

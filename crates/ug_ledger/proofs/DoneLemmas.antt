@@ -1,4 +1,4 @@
--- A node that was worked off, and what its Done tells.
+-- A node that was worked off, and what its Done reports.
 use Rattle.std.proofs.Common.{inl, inr, ℕ, ℤ, ◌≤ℤ◌, ◌<ℤ◌, List, ◌∷◌, subst, arith}
 use Rattle.std.specs.Prelude.{Contains, Option, Some, None, IfSome, IsSomeAnd}
 use Rattle.std.proofs.lemmas.Int.{ints}
@@ -68,7 +68,7 @@ module _ (p : Instance) (gap : ℤ) (best : Incumbent) (old new : Ledger) (r : �
       let g = l.handed r c m.current n (m.less.held n h) i below in
       begins_has n.line c.node.line name (hand_name c.ticket i ∷ g.on.0, g.on.1) k
 
-  -- where a ticket's box was searched, its node may go
+  -- if a ticket's box was searched, its node may go
   pub done_lossless : IsSearched p gap best c → LosesNone p gap best old → LosesNone p gap best new
   done_lossless searched s = record {
     covered = covered_by p gap best old.held new.held (λ n h x b inside. elim (m.others n h) [

@@ -1,4 +1,4 @@
--- What the names and tickets of a ledger tell.
+-- What the names and tickets of a ledger report.
 use Rattle.std.proofs.Common.{◌<◌, inl, inr, arith}
 use Rattle.std.proofs.lemmas.List.Elements.{Contains-get_or}
 use Rattle.ug_nodes.specs.declared.name.Ticket.{Ticket}

@@ -1,4 +1,4 @@
--- By which name a line goes on.
+-- By which name a line continues.
 use Rattle.std.proofs.Common.{◌≡◌, ◌⊎◌, inl, inr, List, [], ◌∷◌, ◌++◌, length, refl, ap, sym, ◌∙◌, subst, arith}
 use Rattle.std.specs.Prelude.{Contains}
 use Rattle.std.proofs.lemmas.List.{append_assoc, get_or_push, length_push}
@@ -8,7 +8,7 @@ use Rattle.ug_nodes.specs.Names.{no_name}
 use Rattle.ug_nodes.specs.Lines.{BeginsWith, GoesOn, IsAncestor, line_name_at}
 use Rattle.ug_nodes.proofs.LineLemmas.{ancestor_either, ancestor_of_child, begins_from_ancestor, begins_reads}
 
--- the name by which a line goes on stands right behind the front
+-- the name by which a line continues stands right behind the front
 next_name : (line front : List Name) (name : Name) → GoesOn line front name
     → line_name_at line (length front) ≡ name
 next_name line front name g =
@@ -29,13 +29,13 @@ has_next line front name g =
     subst (λ l. Contains l name) (sym g.1)
     (Contains-append_right front (name ∷ g.0) name (0, omega arith, refl))
 
--- what a line goes on by, each line goes on by that begins with it
+-- what a line continues by, each line continues by that begins with it
 further : (line mid front : List Name) (name : Name) → BeginsWith line mid → GoesOn mid front name
     → GoesOn line front name
 further line mid front name b g =
     (g.0 ++ b.0, b.1 ∙ (ap (λ l. l ++ b.0) g.1 ∙ append_assoc front (name ∷ g.0) b.0))
 
--- a line with a name more goes on by this name, or by one by which the line goes on
+-- a line with a name more continues by this name, or by one by which the line continues
 pub goes_on_child : (a line : List Name) (m name : Name) → GoesOn (line ++ name ∷ []) a m
     → ((a ≡ line) × (m ≡ name)) ⊎ GoesOn line a m
 goes_on_child a line m name g =
@@ -48,7 +48,7 @@ goes_on_child a line m name g =
           inr (subst (λ n. GoesOn line a n) (one_way_on long a h.0 m on g) h.1)
     ]
 
--- where a line goes on from two fronts, the name after the second is in the first, or the second is
+-- if a line resumes from two prefixes, the name after the second is in the first, or the second is
 -- the first, or below it
 pub fork : (line a b : List Name) (name : Name) → IsAncestor a line → GoesOn line b name
     → Contains a name ⊎ ((b ≡ a) ⊎ IsAncestor a b)

@@ -13,7 +13,7 @@ use Rattle.ug_nodes.proofs.Orders.{same_name, same_ticket}
 use Rattle.ug_ledger.specs.Names.{AreNamed}
 use Rattle.ug_nodes.specs.Primitive.{times}
 
--- the test of two names tells whether they are the same
+-- the test of two names says whether they are the same
 same_or_not : (a b : Name)
     → ((is_same_name a b ≡ true) × (a ≡ b)) ⊎ ((is_same_name a b ≡ false) × (a ≡ b → ⊥))
 same_or_not a b = elim (cases_Bool (is_same_name a b)) [
@@ -113,7 +113,7 @@ one_of name (n ∷ nodes) once a b (suc j, la, sa) (suc k, lb, sb) ea eb =
     one_of name nodes (omega (arith, once, times_least name n nodes)) a b
     (j, omega (arith, la), sa) (k, omega (arith, lb), sb) ea eb
 
--- where each name is once there, a name tells its node
+-- if each name is once there, a name reports its node
 pub one_name : (nodes : List Node) → AreNamed nodes → (a b : Node) → Contains nodes a
     → Contains nodes b → own_name a.line ≡ own_name b.line → a ≡ b
 one_name nodes named a b ha hb e =

@@ -1,4 +1,4 @@
--- What a Done tells of its ticket, and when it is enough.
+-- What a Done claims of its ticket, and when that is enough.
 use Rattle.std.specs.Prelude.{ℤ, ◌≤ℤ◌, List, Option, IfSome, IsSomeAnd}
 use Rattle.ug_rows.specs.Boxes.{IsInOne, IsInside}
 use Rattle.ug_problem.specs.Instances.{Instance, root_of}

@@ -28,7 +28,7 @@ PrimitiveAreCovered =
     → Sound p gap best l → ((n : Node) → IsPrimitive l.held n → Contains nodes n)
     → Covered p gap best (boxes_of (root_of p) nodes)
 
--- where a sound ledger holds nothing, the points kept are a right answer
+-- if a sound ledger holds nothing, the points kept are a right answer
 abbrev pub AnswerIsRight : Type 0
 AnswerIsRight =
     (p : Instance) (gap : ℤ) (best : Incumbent) (l : Ledger) → l.held ≡ []

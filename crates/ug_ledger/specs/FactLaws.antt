@@ -1,4 +1,4 @@
--- What is so of every ledger.
+-- Facts of every ledger.
 use Rattle.std.specs.Prelude.{◌≡◌, ◌≢◌, ℕ, ℤ, ◌<◌, ◌↔◌, List, length, Contains, Option}
 use Rattle.ug_rows.specs.declared.area.Interval.{Interval}
 use Rattle.ug_problem.specs.Instances.{Instance, root_of}
@@ -9,7 +9,7 @@ use Rattle.ug_nodes.specs.Names.{own_name}
 use Rattle.ug_ledger.specs.Ledgers.{Current, IsCurrent, Ledger}
 use Rattle.ug_ledger.specs.Sound.{IsLedger, LosesNone, Sound}
 
--- the six parts are two halves: what every ledger is, and that no better point is lost
+-- the six parts are two branches: what every ledger is, and that no better point is lost
 abbrev pub SoundIsBoth : Type 0
 SoundIsBoth =
     (p : Instance) (gap : ℤ) (best : Incumbent) (l : Ledger)

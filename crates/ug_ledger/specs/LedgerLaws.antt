@@ -18,7 +18,7 @@ abbrev pub LessIsLedger : Type 0
 LessIsLedger =
     (root : List Interval) → KeepsLedger root (λ old new. IsLess old new × KeepsWork old new)
 
--- where one node alone is held, as in a race, no ticket's end leaves work undone
+-- if one node alone is held, as in a race, no ticket's end leaves work undone
 abbrev pub AloneKeepsWork : Type 0
 AloneKeepsWork =
     (old new : Ledger) (only : Node) → ((n : Node) → Contains new.held n → n ≡ only)

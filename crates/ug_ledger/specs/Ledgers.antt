@@ -1,4 +1,4 @@
--- What is held, and for what the tickets of the ranks are current.
+-- The nodes held, and the assignments for which the tickets of the ranks are current.
 use Rattle.std.specs.Prelude.{◌≡◌, ℕ, ℤ, ◌≤◌, List, Contains, Option, Some, None, map}
 use Rattle.std.specs.Prelude.{slice_index_or}
 use Rattle.ug_rows.specs.declared.area.Interval.{Interval}

@@ -33,7 +33,7 @@ KeepsWork old new =
     (r : ℕ) (c : Current) → IsCurrent old r c → Contains new.held c.node
     → (n : Node) → Contains new.held n → IsAncestor c.node.line n.line → IsCurrent new r c
 
--- tickets ended, and each node is held as before: a race lost a rank, or came to its end
+-- tickets ended, and each node is held as before: a racer was lost, or the race ended
 pub record HasEnded (old new : Ledger) : Type 0 where
   pub less : IsLess old new
   pub kept : HoldsAllOf new old
@@ -61,8 +61,8 @@ pub record HasDone (old new : Ledger) (r : ℕ) (c : Current) : Type 0 where
   pub tickets : (q : ℕ) (d : Current) → IsCurrent old q d
       → (d.node ≡ c.node) ⊎ IsCurrent new q d
 
--- rank r died, and its node took in what was held below: these nodes went, the tickets for them and
--- for the node ended, and all else stayed
+-- rank r was lost, and its node took in what was held below: these nodes left, the tickets for them
+-- and for the node ended, and everything else stayed
 pub record HasTakenIn (old new : Ledger) (r : ℕ) (c : Current) : Type 0 where
   pub less : IsLess old new
   pub current : IsCurrent old r c

@@ -1,4 +1,4 @@
--- When a ledger is sound: in six parts, four of which hold whatever was heard.
+-- When a ledger is sound: in six parts, four of which hold whatever was received.
 use Rattle.std.specs.Prelude.{◌≡◌, ℕ, ℤ, ◌<◌, List, length, Contains, Option}
 use Rattle.ug_rows.specs.declared.area.Interval.{Interval}
 use Rattle.ug_rows.specs.Boxes.{IsBelow, IsInside, box_at}
@@ -36,7 +36,7 @@ AreNested root l =
     (a b : Node) → Contains l.held a → Contains l.held b → IsAncestor a.line b.line
     → IsBelow (box_of root b) (box_of root a)
 
--- the line goes on from that of the ticket's node by the name of hand i, and this hand was kept
+-- the line continues that of the ticket's node by the name of hand i, and this hand was kept
 pub record GoesThrough (line : List Name) (c : Current) (i : ℕ) : Type 0 where
   pub on : GoesOn line c.node.line (hand_name c.ticket i)
   pub kept : i < length c.taken
@@ -62,7 +62,7 @@ pub record IsWorkedOn (l : Ledger) (n : Node) (ticket : Ticket) : Type 0 where
   pub its_node : work.node ≡ n
   pub its_ticket : work.ticket ≡ ticket
 
--- where a held line goes on from that of a held node by a name, a rank works on this node under the
+-- if a held line continues that of a held node by a name, a rank works on this node under the
 -- ticket of the name
 abbrev pub AreWorkedOn : Ledger → Type 0
 AreWorkedOn l =
@@ -78,7 +78,7 @@ pub record Sound (p : Instance) (gap : ℤ) (best : Incumbent) (l : Ledger) : Ty
   pub backed : AreBacked p gap best l
   pub worked : AreWorkedOn l
 
--- what every ledger is, whatever was heard
+-- the invariant of every ledger, whatever was received
 pub record IsLedger (root : List Interval) (l : Ledger) : Type 0 where
   pub ticketed : AreTicketed l
   pub nested : AreNested root l

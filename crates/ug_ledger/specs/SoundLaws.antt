@@ -22,7 +22,7 @@ DroppedIsSound =
     (p : Instance) (gap : ℤ) (best : Incumbent)
     → KeepsSound p gap best (HasDropped p gap best)
 
--- where the ticket's box was searched
+-- if the ticket's box was searched
 abbrev pub DoneIsSound : Type 0
 DoneIsSound =
     (p : Instance) (gap : ℤ) (best : Incumbent) (r : ℕ) (c : Current)

@@ -1,12 +1,12 @@
 ghost use Rattle.ug_ledger.specs.FactLaws.{NameIsOfOne, NamesCountFromOne, NoneIsBelow, NoneIsCurrent, SoundIsBoth, TicketsCountFromOne};
 
-/// A ledger is sound exactly where it is a ledger, which it is whatever was heard, and no better
+/// A ledger is sound exactly if it is a ledger, which it is whatever was received, and no better
 /// point is lost.
 pub fn sound_in_two_halves()
     ensures { SoundIsBoth }
 {}
 
-/// A name tells its held node.
+/// A name determines its held node.
 pub fn names_tell_nodes()
     ensures { NameIsOfOne }
 {}

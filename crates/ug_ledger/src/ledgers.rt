@@ -1,6 +1,6 @@
 ghost use Rattle.ug_ledger.specs.LedgerLaws.{AloneKeepsWork, DoneIsLedger, DroppedIsLedger, EndedIsLedger, GivenIsLedger, HandedIsLedger, LessIsLedger, TakenInIsLedger};
 
-/// Where less is held after an event, that is a ledger again, whatever was heard.
+/// If less is held after an event, that is a ledger again, whatever was received.
 pub fn less_is_a_ledger()
     ensures less { LessIsLedger }
     ensures alone { AloneKeepsWork }

@@ -1,8 +1,8 @@
-//! What a coordinator holds, as a ledger of nodes and tickets, and the laws of what happens to it.
-//! It stands on ug_nodes, ug_problem, ug_rows and ug_lists.
-//! specs/Sound.antt says in six parts when a ledger is sound, specs/Moves.antt what an event does.
-//! The laws: each event keeps the six, with a premise where a node was worked off and nowhere else;
-//! the primitive nodes of a sound ledger are Covered; where it holds nothing its answer is right.
+//! The theory of the coordinator: a ledger of held nodes and current tickets, and the laws of what
+//! happens to it. Depends on ug_nodes, ug_problem, ug_rows and ug_lists. specs/Sound.antt says in
+//! six parts when a ledger is sound, specs/Moves.antt what an event does. The laws: each event
+//! keeps the six parts, with one assumption, when a node is done; the primitive nodes of a sound
+//! ledger are Covered; if it holds nothing, its answer is right.
 #![tactic(auto)]
 
 mod ends;

@@ -1,7 +1,7 @@
 ghost use Rattle.ug_ledger.specs.SoundLaws.{DoneIsSearched, DoneIsSound, DroppedIsSound, EndedIsSound, GivenIsSound, HandedIsSound, ImprovedIsSound, TakenInIsSound};
 
-/// Each event keeps a sound ledger sound: where a node was worked off, if its box was searched, and
-/// else without a premise.
+/// Each event keeps a sound ledger sound: a Done if its box was searched, every other event without
+/// an assumption.
 pub fn moves_keep_sound()
     ensures ended { EndedIsSound }
     ensures dropped { DroppedIsSound }

@@ -11,7 +11,7 @@ use Rattle.ug_lines.specs.declared.kinds.RowKind.TheVariants.{Objective, AtMost,
 use Rattle.ug_lines.specs.declared.kinds.BoundKind.{BoundKind}
 use Rattle.ug_lines.specs.declared.kinds.BoundKind.TheVariants as bounds
 
--- the word that ends a text
+-- the word that ends a file
 abbrev pub end_word : List ℕ
 end_word = codes "ENDATA"
 

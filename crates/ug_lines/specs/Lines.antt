@@ -1,4 +1,4 @@
--- The lines of a text.
+-- The lines of a file.
 use Rattle.std.specs.Prelude.{ℕ, ◌+◌, ◌==◌, ◌||◌, Bool, List, [], ◌∷◌, length, if◌then◌else◌}
 use Rattle.std.specs.List.{onto_first}
 use Rattle.std.specs.Str.{bytes_eq}
@@ -17,7 +17,7 @@ abbrev pub content_of : List ℕ → List ℕ
 content_of [] = []
 content_of (b ∷ bs) = if is_line_end (b ∷ bs) then [] else b ∷ content_of bs
 
--- a line: what stands in it, and how many bytes of the text there are up to its end
+-- a line: its bytes, and the number of bytes of the file up to its end
 pub record Line : Type 0 where
   pub content : List ℕ
   pub through : ℕ
@@ -29,6 +29,6 @@ lines_after n (piece ∷ more) =
     record { content = content_of piece; through = n + length piece }
     ∷ lines_after (n + length piece) more
 
--- the lines of a text, in order
+-- the lines of a file, in order
 abbrev pub lines_of : List ℕ → List Line
 lines_of text = lines_after 0 (pieces text)

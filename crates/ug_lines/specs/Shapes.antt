@@ -61,7 +61,7 @@ numbered_bound_of kind (set ∷ name ∷ number ∷ []) = Some (bound kind (Some
 numbered_bound_of kind _ = None
 
 -- a bound without a number, behind its type: a column; a set's name, a column and a word that is
--- not looked at; or two words, a set's name and a column or a column and a word that is not looked
+-- not examined; or two words, a set's name and a column or a column and a word that is not looked
 -- at
 abbrev pub bare_bound_of : BoundKind → List (List ℕ) → Option Shape
 bare_bound_of kind (name ∷ []) = Some (bound kind None name None)

@@ -11,11 +11,11 @@ is_blank b = (b == 32) || (b == 9)
 abbrev pub is_word_byte : ℕ → Bool
 is_word_byte b = (nat_le 33 b && nat_le b 126) || nat_le 128 b
 
--- a byte that may stand in a line: a blank, or one that a word may hold
+-- a byte that is allowed in a line: a blank, or one that is allowed in a word
 abbrev pub is_line_byte : ℕ → Bool
 is_line_byte b = is_blank b || is_word_byte b
 
--- each byte of the line may stand there
+-- each byte of the line is allowed
 abbrev pub is_legible : List ℕ → Bool
 is_legible line = list_all is_line_byte line
 
@@ -23,7 +23,7 @@ is_legible line = list_all is_line_byte line
 abbrev pub words_of : List ℕ → List (List ℕ)
 words_of line = filter (λ word. not (length word == 0)) (slice_split is_blank line)
 
--- nothing, or a byte that is no blank, stands first
+-- the bytes are empty, or the first one is not a blank
 abbrev pub BeginsWord : List ℕ → Type 0
 BeginsWord [] = Unit {0}
 BeginsWord (b ∷ bs) = is_blank b ≡ false

@@ -1,4 +1,4 @@
-//! Cuts an MPS text into lines and each line into words, and says what they are. It stands on
+//! Cuts an MPS text into lines and each line into words, and says what they are. It depends on
 //! nothing but std. `cut` and `content` give the lines; `words_of` the first words of one;
 //! `shape_of` what the words of a data line are by their section and number; `section_of` and the
 //! calls beside it what a single word names. Each is its definition in specs/, word by word. Words

@@ -9,7 +9,7 @@ pub fn line_feed(text: &[u8]) -> Option<usize>
     text.iter().position(|b| *b == b'\n')
 }
 
-/// Cuts a text behind its first line feed: the first piece and the rest.
+/// Cuts a file behind its first line feed: the first piece and the rest.
 pub fn cut(text: &[u8]) -> (&[u8], &[u8])
     requires { 0 < length text.now }
     ensures pieces { pieces text.now ≡ result.0.now ∷ pieces result.1.now }

@@ -2,10 +2,10 @@ ghost use Rattle.std.specs.Prelude.{◌≡◌};
 ghost use Rattle.std.specs.Str.{bytes_eq};
 ghost use Rattle.ug_lines.specs.Kinds.{section_of_word};
 
-/// The word that ends a text.
+/// The word that ends a file.
 pub const END_WORD: &[u8] = b"ENDATA";
 
-/// The sections of a text.
+/// The sections of a file.
 #[derive(Clone, Copy, PartialEq, Eq)]
 pub enum Section {
     Name,

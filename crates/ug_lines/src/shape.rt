@@ -38,7 +38,7 @@ pub enum LineShape<'a> {
     /// one.
     Bound(BoundKind, Option<&'a [u8]>, &'a [u8], Option<&'a [u8]>),
     /// A bound's type without a number, and two words: a set's name and a column, or a column and a
-    /// word that is not looked at.
+    /// word that is not examined.
     Either(BoundKind, &'a [u8], &'a [u8]),
 }
 

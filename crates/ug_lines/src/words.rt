@@ -16,19 +16,19 @@ pub fn is_word_byte(byte: u8) -> bool
     matches!(byte, 33..=126 | 128..)
 }
 
-/// A byte that may stand in a line.
+/// A byte that may be in a line.
 pub fn is_line_byte(byte: u8) -> bool
     ensures { result ≡ is_line_byte byte }
 {
     is_blank(byte) || is_word_byte(byte)
 }
 
-/// Each byte of the line may stand there.
+/// Each byte of the line may be there.
 #[tactic(auto, using(crate::proofs::Firsts::all_more))]
 pub fn is_legible(line: &[u8]) -> bool
     ensures { result ≡ is_legible line.now }
 {
-    // No byte ends the loop, so that several can be looked at at once.
+    // No byte ends the loop, so that several can be examined at once.
     let mut legible = true;
     for b in line {
         legible &= is_line_byte(*b);

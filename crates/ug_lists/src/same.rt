@@ -4,7 +4,7 @@ ghost use Rattle.std.specs.Prelude.{◌≡◌, ◌↔◌, IsTrue};
 
 use crate::items::Items;
 
-/// What can tell whether another is the same.
+/// What can say whether another is the same.
 pub trait Same {
     /// Whether another is the same.
     fn is(&self, other: &Self) -> bool

@@ -14,9 +14,9 @@ use ug_worker::Took;
 /// What a desk answered to those who said what is left.
 #[derive(Clone, Copy)]
 pub struct Replies {
-    /// How many may go on.
+    /// How many may continue.
     pub going: u64,
-    /// How many are to stop, or were not answered for want of memory.
+    /// How many are to stop, or were not answered for lack of memory.
     pub other: u64,
     /// How many snapshots were made.
     pub snapshots: u64,
@@ -33,8 +33,8 @@ impl Replies {
     }
 }
 
-/// Takes the root of a desk and tells so often what is left of it; each thousandth time a snapshot
-/// is made too.
+/// Takes the root of a desk and asks N times for what is left of it; each thousandth time a
+/// snapshot is made too.
 pub fn call_desk<R: Wait>(rt: &R, alloc: Global, calls: u64) -> Result<Replies, AllocError> {
     let opening = Opening::new(alloc, problem(alloc)?, 1, settings())?;
     let (desk, passes) = Desk::new(alloc, opening)?;
@@ -43,7 +43,7 @@ pub fn call_desk<R: Wait>(rt: &R, alloc: Global, calls: u64) -> Result<Replies, 
     Ok(replies)
 }
 
-// Takes what there is for the last of the passes, and tells so often what is left of it.
+// Takes what there is for the last of the passes, and asks N times for what is left of it.
 fn tell_all<R: Wait>(rt: &R, desk: &Desk, mut passes: Vec<Pass>, calls: u64) -> Replies
     requires { (k : _) (p : _) → slice_get passes.items k ≡ Some p → p.lock ≡ lock_of_desk desk.now }
 {
@@ -83,7 +83,7 @@ fn is_copied<R: Wait>(rt: &R, desk: &Desk, pass: &mut Pass) -> bool
     is_made
 }
 
-// Tells so often that two boxes are left.
+// Reports so often that two boxes are left.
 fn tell<R: Wait>(rt: &R, desk: &Desk, pass: &mut Pass, calls: u64, replies: &mut Replies)
     requires { pass.old.lock ≡ lock_of_desk desk.now }
     ensures lock { pass.new.lock ≡ pass.old.lock }

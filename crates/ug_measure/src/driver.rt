@@ -24,7 +24,7 @@ struct Crew {
     answers: Answers,
 }
 
-/// Drives books through so many messages.
+/// Drives books through this many messages.
 pub fn drive(alloc: Global, count: u64) -> Result<Answers, AllocError> {
     let problem = problem(alloc)?;
     let answers = drive_with(alloc, &problem, count);
@@ -65,7 +65,7 @@ fn solvers(alloc: Global) -> Result<Vec<Solver>, AllocError> {
 }
 
 impl Crew {
-    // So many messages; where a book is over another is begun.
+    // This many messages; where a book is over another is begun.
     fn send(&mut self, problem: &Shared, count: u64) -> Result<Answers, AllocError> {
         self.all_join()?;
         for _ in 0..count {
@@ -141,7 +141,7 @@ impl Crew {
         }
     }
 
-    // The rank dies, and joins again.
+    // The rank is lost, and joins again.
     fn lose(&mut self, rank: u32) {
         if rank < self.book.settings().solvers {
             self.book.gone(rank);
@@ -154,7 +154,7 @@ impl Crew {
     }
 }
 
-// The solver of the rank that is told an order obeys.
+// The solver of the rank that is reported an order obeys.
 fn obey(solvers: &mut [Solver], told: Told) -> Result<(), AllocError> {
     let obeyed = match solvers.get_mut(told.rank as usize) {
         Some(solver) => solver.obey(&told.order),

@@ -13,7 +13,7 @@ pub enum Way {
 // The ticket (1, 1), params 0, no race and no cutoff.
 const HEAD: &[u8] = &[0, 0, 0, 0, 0, 0, 0, 1, 0, 0, 0, 0, 0, 0, 0, 1, 0, 0, 0];
 
-// The frame of an order to work with so many changes, from column 0 on, each to 0..1.
+// The frame of an order to work with this many changes, from column 0 on, each to 0..1.
 fn put_work(bytes: &mut Vec<u8>, changes: u16) -> Result<(), AllocError> {
     let count = u32::from(changes);
     bytes.extend_from_slice(&(24 + 12 * count).to_be_bytes())?;
@@ -81,7 +81,7 @@ fn repeat(alloc: Global, bytes: &[u8], way: Way, times: u64) -> Result<u64, Allo
     }
 }
 
-/// Encodes an order to work with so many changes so often, and says how many bytes it wrote; or
+/// Encodes an order to work with this many changes so often, and says how many bytes it wrote; or
 /// decodes it, and says how many changes it read. More than 10,000 changes are none.
 pub fn frame_often(alloc: Global, changes: u16, way: Way, times: u64) -> Result<u64, AllocError> {
     let mut bytes = Vec::new(alloc);

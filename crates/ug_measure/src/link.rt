@@ -3,8 +3,8 @@ ghost use Rattle.std.specs.Prelude.{◌≡◌, None, false};
 use ug_io::{Failed, Got, Link};
 
 /// The coordinator's end of a link, of one task. Orders come where they are waited for alone, so
-/// the last of them comes once the task is done. What is told is kept; want of memory for it is a
-/// fault. The link tells nothing of what is said, as one of a system's does not.
+/// the last of them comes once the task is done. What is reported is kept; lack of memory for it is
+/// a fault. The link reports nothing of what is said, as one of a system's does not.
 #[derive(Drop)]
 pub struct TaskLink<'a> {
     // The orders up to that of the task, as far as they are still to come.
@@ -31,7 +31,7 @@ impl<'a> TaskLink<'a> {
         }
     }
 
-    // Goes on to the last order where the others came.
+    // Continues to the last order where the others came.
     fn go_on(&mut self)
         ensures ended { self.new.ended ≡ self.old.ended }
         ensures faults { self.new.faults ≡ self.old.faults }

@@ -1,6 +1,6 @@
 //! A program for measuring and comparing: `ug_measure book N` drives a book of 256 ranks through N
 //! made messages; `image N` makes the image of a book of N nodes, `save N` saves it to a disk in
-//! memory, `load N` loads it again; `desk N` tells a desk N times what is left; `encode N TIMES`
+//! memory, `load N` loads it again; `desk N` reports a desk N times what is left; `encode N TIMES`
 //! writes the frame of an order with N changes so often, and `decode N TIMES` reads it; `serve
 //! FILE` serves a worker at a link with the whole problem of a file, and `steps FILE N` searches it
 //! under the params of that number, and says in how many steps and what was found; with no words it
@@ -119,7 +119,7 @@ fn print_all<R: Print>(rt: &R, lines: &[(&str, u64)]) {
     }
 }
 
-// What a worker told of a whole problem; first the answer, as the program prints it.
+// What a worker reported of a whole problem; first the answer, as the program prints it.
 fn print_telling<R: Print>(rt: &R, telling: &Telling) {
     let value = telling
         .value
@@ -140,7 +140,7 @@ fn word_of(way: Way) -> &'static str {
     }
 }
 
-// Measures what is wanted. Want of memory is the one error.
+// Measures what is needed. Lack of memory is the one error.
 fn measure<R: Print + AllocGlobal + Wait>(rt: &R, task: Task) -> Result<(), AllocError> {
     match task {
         Task::Book { messages } => print_all(rt, &drive(rt.alloc(), messages)?.lines()),

@@ -49,8 +49,8 @@ impl Solver {
         Ok(())
     }
 
-    /// The next box that it hands: its own with the next column halved that is whole, if there is
-    /// one.
+    /// The next box that it hands: its own with the next column branched on that is whole, if there
+    /// is one.
     pub fn next_box(&self, alloc: Global) -> Result<Option<Changes>, AllocError> {
         let column = match self.changes.last() {
             Some(change) => change.column.wrapping_add(1),

@@ -32,7 +32,7 @@ fn push_reply(
     }
 }
 
-// Adds the line with what books of 256 ranks answer to so many made messages.
+// Adds the line with what books of 256 ranks answer to this many made messages.
 fn push_driven(alloc: Global, text: &mut String, line: &str, messages: u64) -> Option<()> {
     let Answers {
         kept,

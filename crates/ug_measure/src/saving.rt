@@ -47,7 +47,7 @@ impl Size {
     }
 }
 
-/// Saves the image of a book of so many nodes, each of ten changes, and loads it.
+/// Saves the image of a book of this many nodes, each of ten changes, and loads it.
 pub fn save_nodes(alloc: Global, count: u32, stage: Stage) -> Result<Size, AllocError> {
     let image = image(alloc, count)?;
     let size = size_of(alloc, &image, stage);
@@ -71,7 +71,7 @@ fn size_of(alloc: Global, image: &Image, stage: Stage) -> Result<Size, AllocErro
     })
 }
 
-// The image of a book of so many nodes.
+// The image of a book of this many nodes.
 fn image(alloc: Global, count: u32) -> Result<Image, AllocError>
     ensures { IfOk result IsImage }
 {
@@ -115,7 +115,7 @@ fn new_disk(alloc: Global) -> MemoryDisk {
     MemoryDisk::new(alloc, Vec::new(alloc), Vec::new(alloc), script)
 }
 
-// A book of one solver with so many boxes.
+// A book of one solver with this many boxes.
 fn book_of(alloc: Global, count: u32) -> Result<Book, AllocError> {
     let problem = problem(alloc)?;
     let boxes = match boxes_of(alloc, problem.problem().root(), count) {

@@ -19,7 +19,7 @@ const LONGEST: usize = 67_108_843;
 /// The frame of the last order.
 const END: &[u8] = &[0, 0, 0, 1, 8];
 
-/// What a worker told of the whole problem.
+/// What a worker reported of the whole problem.
 #[derive(Drop)]
 pub struct Telling {
     /// How many reports.
@@ -54,7 +54,7 @@ impl Heard {
         }
     }
 
-    // Hears the report whose frame is at the front, and says how many bytes it has.
+    // Receives the report whose frame is at the front, and says how many bytes it has.
     fn hear_first(&mut self, alloc: Global, bytes: &[u8]) -> Option<usize> {
         let Ok(Decoded::Whole { message, used }) = decode_report(alloc, bytes) else {
             return None;
@@ -63,7 +63,7 @@ impl Heard {
         Some(used)
     }
 
-    // Hears the reports whose frames these are.
+    // Receives the reports whose frames these are.
     fn hear_all(&mut self, alloc: Global, bytes: &[u8]) {
         let mut rest = bytes;
         for _ in 0..bytes.len() {
@@ -122,7 +122,7 @@ fn orders_of(alloc: Global, problem: &Problem) -> Result<Vec<u8>, AllocError> {
     Err(AllocError)
 }
 
-// What is told over a link of these orders.
+// What is sent over a link of these orders.
 fn heard_over<R: Wait>(rt: &R, alloc: Global, orders: &[u8]) -> Heard {
     let service = serve(rt, alloc, TaskLink::new(orders, END, Vec::new(alloc)));
     let mut heard = Heard::new();
@@ -133,7 +133,7 @@ fn heard_over<R: Wait>(rt: &R, alloc: Global, orders: &[u8]) -> Heard {
     heard
 }
 
-// What is told of the whole problem, if the task was done.
+// What is reported of the whole problem, if the task was done.
 fn telling_of<R: Wait>(rt: &R, alloc: Global, problem: &Problem) -> Option<Telling> {
     let orders = orders_of(alloc, problem).ok()?;
     let heard = heard_over(rt, alloc, &orders);
@@ -161,8 +161,8 @@ pub fn problem_of<R: Files>(rt: &R, alloc: Global, path: &str) -> Option<Problem
     problem.ok()
 }
 
-/// Serves a worker with the whole problem of a file as its one task. None where the text is
-/// refused, a call fails or memory is wanting.
+/// Serves a worker with the whole problem of a file as its one task. None where the file is
+/// refused, a call fails or memory runs out.
 pub fn serve_file<R: Files + Wait>(rt: &R, alloc: Global, path: &str) -> Option<Telling> {
     let problem = problem_of(rt, alloc, path)?;
     let telling = telling_of(rt, alloc, &problem);

@@ -59,8 +59,8 @@ fn search(task: &mut Task) -> Option<Searched> {
     None
 }
 
-/// Searches all of the problem of a file under the params of a number. None where the text is
-/// refused, memory is wanting or the number is above 15.
+/// Searches all of the problem of a file under the params of a number. None where the file is
+/// refused, memory runs out or the number is above 15.
 pub fn search_file<R: Files>(rt: &R, alloc: Global, path: &str, params: u8) -> Option<Searched> {
     let problem = problem_of(rt, alloc, path)?;
     let mut task = task_of(alloc, problem, params)?;

@@ -64,7 +64,7 @@ any_append test (x ∷ xs) ys = elim (test x) as (λ b. (b || list_any test (xs 
 pub any_push : {X : Type 0} (test : X → Bool) (xs : List X) (y : X) → list_any test (xs ++ y ∷ []) ≡ (list_any test xs || (test y || false))
 any_push test xs y = any_append test xs (y ∷ [])
 
--- a name that stands at a place is among the names, and no other is
+-- a name that is at a place is among the names, and no other is
 pub any_true : (names : List (List ℕ)) (name : List ℕ) (j : ℕ) → StandsAt names name j → list_any (λ n. bytes_eq name n) names ≡ true
 any_true [] name j h = absurd (omega (arith, h.there))
 any_true (n ∷ ns) name zero h = or_left (bytes_eq name n) (list_any (λ n. bytes_eq name n) ns) (bytes_same name n (sym h.same))

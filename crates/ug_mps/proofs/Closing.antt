@@ -1,4 +1,5 @@
--- Two texts state the same where they differ only from a line on that closes both: it has the same fault in both, or it is their end.
+-- Two texts state the same where they differ only from a line on that closes both: it has the same
+-- fault in both, or it is their end.
 use Rattle.std.proofs.Common.{◌≡◌, ℕ, ◌+◌, ◌<◌, ◌≤◌, inl, inr, true, false, List, [], ◌∷◌, ◌++◌, length, take, get_or, Option, Some, refl, sym, ap, ◌∙◌, subst, arith}
 use Rattle.std.specs.Prelude.{reverse}
 use Rattle.std.proofs.lemmas.Bool.{cases_lt, false≢true}
@@ -13,7 +14,7 @@ use Rattle.ug_mps.specs.Reads.{no_line, lines_before, Says, IsFaulty, IsEndless,
 use Rattle.ug_mps.specs.Laws.{StatesSame}
 use Rattle.ug_mps.proofs.Outcome.{line_at, says_parts, says_more, says_less, after_end, stops}
 
--- the two lines have the same fault, or say the same and end the text
+-- the two lines have the same fault, or say the same and end the file
 pub record CloseSame (a b : Line) : Type 0 where
   pub fault : (h : List Entry) → line_fault h a ≡ line_fault h b
   pub same : (h : List Entry) (n : ℕ) → after h n a ≡ after h n b
@@ -46,7 +47,7 @@ module _ (text other : List ℕ) (lines : List Line) (a b : Line) (t : HasLine t
   count' : length lines < length (lines_of other)
   count' = count_of other lines b u
 
-  -- what the lines up to the closing one say ends the text
+  -- what the lines up to the closing one say ends the file
   closed : (h : List Entry) → Says text (length lines + 1) h → is_ended h ≡ true
   closed h s =
       let q = says_parts text (length lines) h s in

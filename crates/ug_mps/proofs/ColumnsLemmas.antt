@@ -63,7 +63,7 @@ columns_kept e h c same so old = record {
   drafts = old.drafts ∙ map_same (column_so_far h) (column_so_far (e ∷ h)) (columns_of h) (λ d. sym (so d)) ∙ ap (map (column_so_far (e ∷ h))) (sym same);
 }
 
--- a line of a column that goes on
+-- a line of a column that continues
 pub columns_going : (line : ℕ) (name : List ℕ) (pairs : List Pair) (h : List Entry) (c : KeptColumns) → goes_on h name ≡ true → AreColumns h c → AreColumns (column line name pairs ∷ h) c
 columns_going line name pairs h c t old = columns_kept (column line name pairs) h c (rw t refl) (λ d. refl) old
 
@@ -87,7 +87,7 @@ columns_new line name pairs h c integer g f gone i old =
           ∙ ap (map (column_so_far (e ∷ h))) (sym more);
     }
 
--- writing one column of those that are told apart by their names
+-- writing one column of those that are distinguished by their names
 set_column : (cs : List ColumnBegun) (at : ℕ) (name : List ℕ) (f g : ColumnBegun → ColumnDraft) (v : ColumnDraft) → AreDistinct (map (λ (c : ColumnBegun). c.name) cs) → StandsAt (map (λ (c : ColumnBegun). c.name) cs) name at
     → ((c : ColumnBegun) → bytes_eq c.name name ≡ false → g c ≡ f c) → ((c : ColumnBegun) → c.name ≡ name → f c ≡ column_at (map f cs) at → g c ≡ v) → map g cs ≡ set (map f cs) at v
 set_column cs at name f g v apart here others this = same_lists (map g cs) (set (map f cs) at v)

@@ -47,7 +47,7 @@ coefficients_few (column line n pairs ∷ h) g =
     omega (arith, room, length-append (coefficients h) (placed (place_of h n) pairs), length-map pairs (λ (p : Pair). let c : Coefficient = record { place = place_of h n; row = p.row; number = p.number } in c))
 coefficients_few (_ ∷ h) g = coefficients_few h g.1
 
--- ---- rows are told apart by their names
+-- ---- rows are distinguished by their names
 
 abbrev AreRowsApart : List RowNamed → Type 0
 AreRowsApart [] = Unit {0}
@@ -161,7 +161,7 @@ not_both roles.AtMost e = absurd (false≢true e)
 not_both roles.AtLeast e = absurd (false≢true e)
 not_both roles.Equal e = absurd (false≢true e)
 
--- the objective has as many terms as its row has factors
+-- the objective has as many terms as its row has coefficients
 objective_count : (h : List Entry) (r : RowNamed) (rows : List RowNamed) → is_objective r.role ≡ true → length (objective_in h (r ∷ rows)).terms ≡ length (terms_of (coefficients h) r.name)
 objective_count h r rows t = rw t (signed_count (is_maximised h) (scaled_terms (numbers_of h r)) ∙ scaled_count h r)
 

@@ -1,4 +1,5 @@
--- Lines that close a text alike: two ENDATA lines, both legible or neither; and two others beyond the limit.
+-- Lines that close a file alike: two ENDATA lines, both legible or neither; and two others beyond
+-- the limit.
 use Rattle.std.proofs.Common.{◌≡◌, ℕ, ◌<◌, Bool, true, false, List, [], ◌∷◌, ◌++◌, length, Option, Some, None, refl, sym, ap, ◌∙◌, arith, ⊎_elim}
 use Rattle.std.specs.Prelude.{◌==◌, ◌&&◌, not, filter, codes, nat_lt}
 use Rattle.std.specs.List.{slice_split}

@@ -1,4 +1,4 @@
--- What the bytes so far show of a text.
+-- What the bytes so far show of a file.
 use Rattle.std.proofs.Common.{◌≡◌, ◌≢◌, ℕ, ◌+◌, ◌<◌, ◌≤◌, inr, Bool, true, false, List, [], ◌∷◌, ◌++◌, length, take, drop, Some, refl, sym, ap, ◌∙◌, subst, arith, append_assoc, append-nil}
 use Rattle.std.specs.Prelude.{◌==◌, codes}
 use Rattle.std.specs.List.{position}
@@ -126,7 +126,7 @@ others_more front open_ w n o e =
     lines_behind front piece w ∙ ap (λ ps. lines_of front ++ lines_after (length front) ps) (one_piece open_ n) in
     subst AreOthers (sym lines) (others_push (lines_of front) (record { content = content_of piece; through = length front + length piece }) o e)
 
--- behind ENDATA a front of a carriage return ends no word
+-- behind ENDATA a prefix of a carriage return ends no word
 return_only : (rest more : List ℕ) → 13 ∷ [] ≡ rest ++ more → ends_word rest ≡ true → ⊥
 return_only [] more s e = false≢true e
 return_only (b ∷ []) more s e = let is : 13 ≡ b = cc in false≢true (subst (λ x. ends_word (x ∷ []) ≡ true) (sym is) e)
@@ -192,7 +192,7 @@ line_to bytes line from at l f =
 pub ended_to : (bytes : List ℕ) (line at : ℕ) → IsLineTo bytes line at → BeginsEnd (drop line bytes) → IsEndedAt bytes (line + 6)
 ended_to bytes line at l e = ended_at bytes l.front (l.open_ ++ 10 ∷ l.rest) line l.parts l.whole l.others l.begins (subst BeginsEnd l.left e)
 
--- a front of ENDATA and a carriage return has no line feed
+-- a prefix of ENDATA and a carriage return has no line feed
 open_feed : (open_ rest more : List ℕ) → codes "ENDATA" ++ 13 ∷ [] ≡ (open_ ++ 10 ∷ rest) ++ more → ⊥
 open_feed open_ rest more e =
     let none : HasNoFeed (codes "ENDATA" ++ 13 ∷ []) = (refl, (refl, (refl, (refl, (refl, (refl, (refl, tt))))))) in
@@ -250,7 +250,7 @@ module _ (bytes : List ℕ) (line at : ℕ) (r : Head) (l : IsLineTo bytes line 
 
 -- ---- up to the end of the bytes
 
--- no line feed follows: all were looked at
+-- no line feed follows: all were examined
 pub looked_all : (bytes : List ℕ) (line from : ℕ) → IsLineAt bytes line from → HasNoFeed (drop from bytes) → IsLineAt bytes line (length bytes)
 looked_all bytes line from l n =
     let seen : length (l.front ++ l.open_) ≡ from = length-append l.front l.open_ ∙ ap (λ k. k + length l.open_) l.begins ∙ l.looked in
@@ -300,7 +300,7 @@ last_of bytes line l =
       within = l.within;
     }
 
--- where the bytes were looked at up to here, no ended line of them is ENDATA
+-- if the bytes were examined up to here, no ended line of them is ENDATA
 pub no_end_of : (bytes : List ℕ) (line : ℕ) → IsLineAt bytes line (length bytes) → HasNoEnd bytes
 no_end_of bytes line l =
     let last = last_of bytes line l in
@@ -317,7 +317,7 @@ no_end_behind bytes more h n = record {
   no_feed = no_feed_both h.open_ more h.no_feed n;
 }
 
--- where no line feed follows the word of the first ENDATA, no ended line of the bytes is ENDATA
+-- if no line feed follows the word of the first ENDATA, no ended line of the bytes is ENDATA
 pub no_end_yet : (bytes : List ℕ) (cut : ℕ) → IsEndedAt bytes cut → HasNoFeed (drop cut bytes) → HasNoEnd bytes
 no_end_yet bytes cut e n =
     let f = e.first in
@@ -346,7 +346,7 @@ passed_last bytes line l h lt =
     (λ more. omega (arith, lt, l.begins, count, ap length (piece_open l.open_ more l.no_feed), length-append l.open_ (first_piece more)))
     (subst (λ t. IsHead t heads.Other) l.left h)
 
--- where the line may still be ENDATA, few bytes stand above the limit
+-- if the line may still be ENDATA, few bytes stand above the limit
 pub few_above : (bytes : List ℕ) (line : ℕ) → IsLast bytes line → IsHead (drop line bytes) heads.Open → length bytes ≤ 268435456 + 7
 few_above bytes line l (more, e) =
     let is : codes "ENDATA" ++ 13 ∷ [] ≡ l.open_ ++ more = e ∙ ap (λ t. t ++ more) l.left in

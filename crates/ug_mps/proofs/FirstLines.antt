@@ -29,7 +29,7 @@ concat_choice : (t : Bool) (b : ℕ) (bs : List ℕ) (ps : List (List ℕ)) → 
 concat_choice true b bs ps e = ap (λ l. b ∷ l) e
 concat_choice false b bs ps e = concat_onto b ps ∙ ap (λ l. b ∷ l) e
 
--- the pieces are the text
+-- the pieces are the file
 concat_pieces : (text : List ℕ) → concat (pieces text) ≡ text
 concat_pieces [] = refl
 concat_pieces (b ∷ bs) = concat_choice (b == 10) b bs (pieces bs) (concat_pieces bs)
@@ -110,7 +110,7 @@ content_front [] = ([], refl)
 content_front (b ∷ bs) = let h = content_front bs in
     content_choice (bytes_eq (b ∷ bs) (10 ∷ []) || bytes_eq (b ∷ bs) (13 ∷ 10 ∷ [])) b (content_of bs) h.0 bs h.1
 
--- what stands in the first line begins the bytes
+-- what is in the first line begins the bytes
 pub line_front : (bytes : List ℕ) → (more : List ℕ) × (bytes ≡ first_line bytes ++ more)
 line_front bytes =
     let p = piece_front bytes in
@@ -122,7 +122,7 @@ line_front bytes =
 bytes_first : (b c : ℕ) (bs cs : List ℕ) → (b == c) ≡ false → bytes_eq (b ∷ bs) (c ∷ cs) ≡ false
 bytes_first b c bs cs e = rw e refl
 
--- a byte that ends no line stands in it
+-- a byte that ends no line is in it
 pub line_byte : (b : ℕ) (bs : List ℕ) → (b == 10) ≡ false → (b == 13) ≡ false → first_line (b ∷ bs) ≡ b ∷ first_line bs
 line_byte b bs p q = rw p (rw (bytes_first b 10 (first_piece bs) [] p, bytes_first b 13 (first_piece bs) (10 ∷ []) q) refl)
 

@@ -19,7 +19,7 @@ gives_more a b (Some r) xs ys p q =
     p ∙ ap (λ o. option_map (λ rest. xs ++ rest) o) q
     ∙ ap (λ t. Some t) (sym (append_assoc xs ys r))
 
--- a text states what it states
+-- a file states what it states
 same_text : (text : List ℕ) → StatesSame text text
 same_text text = record { problem = λ boxed p r. r; fault = λ boxed f r. r }
 
@@ -39,7 +39,7 @@ gives_none (Some r) = refl
 
 -- ---- the rest of the line
 
--- the line has no end in what came in so many calls
+-- the line has no end in what came in this many calls
 pub record StaysOpen (first : Tail) (n : ℕ) (old new : Option (List ℕ)) : Type 0 where
   pub before : List ℕ
   pub taken : Gives old new before
@@ -48,7 +48,7 @@ pub record StaysOpen (first : Tail) (n : ℕ) (old new : Option (List ℕ)) : Ty
   pub after : Bool
   pub is : first ≡ tails.Open after
 
--- how far the rest of the line was read on over in so many calls
+-- how far the rest of the line was read on over in this many calls
 abbrev pub Passed : Tail → Tail → ℕ → Option (List ℕ) → Option (List ℕ) → Type 0
 Passed first (tails.Open after) n old new = StaysOpen first n old new
 Passed first tails.Legible n old new = StopsAtFeed first old new × IfSome old (λ more. n ≤ 1 + length more)
@@ -113,9 +113,9 @@ pub too_many : (a : Option (List ℕ)) (n : ℕ) → 2 ^ 64 - 1 ≤ n → IfSome
 too_many None n le h = tt
 too_many (Some r) n le h = omega (arith, le, h)
 
--- ---- the text
+-- ---- the file
 
--- the line's beginning lies in what was looked at
+-- the line's beginning lies in what was examined
 no_end_to : (bytes : List ℕ) (line from : ℕ) → IsLineAt bytes line from → HasNoEnd (take from bytes)
 no_end_to bytes line from l =
     let len : length (l.front ++ l.open_) ≡ from = length-append l.front l.open_ ∙ ap (λ n. n + length l.open_) l.begins ∙ l.looked in
@@ -129,7 +129,7 @@ no_end_to bytes line from l =
       no_feed = l.no_feed;
     }
 
--- all but the last piece was looked at before it came, and had no end
+-- all but the last piece was examined before it came, and had no end
 pub stops_here : (a b : Option (List ℕ)) (bytes : List ℕ) (line from : ℕ) → IsLineAt bytes line from → length bytes ≤ from + 65536
     → Gives a b bytes → StopsAtEnd a b
 stops_here a b bytes line from l few g = record {
@@ -187,7 +187,7 @@ stops_at_once a = record {
   piece = omega arith;
 }
 
--- the line that was begun goes on in what came
+-- the line that was begun continues in what came
 pub line_goes_on : (bytes more piece : List ℕ) (line from : ℕ) → more ≡ bytes ++ piece → IsLineAt bytes line from
     → IsLineAt more line from
 line_goes_on bytes more piece line from put l = record {

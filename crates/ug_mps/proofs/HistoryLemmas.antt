@@ -110,7 +110,7 @@ made_known (_ ∷ h) g name e = made_known h g.1 name e
 names_push : (h : List Entry) (c : ColumnBegun) → map (λ (c : ColumnBegun). c.name) (columns_of h ++ c ∷ []) ≡ names_of h ++ c.name ∷ []
 names_push h c = map_push (λ (c : ColumnBegun). c.name) (columns_of h) c
 
--- a column that goes on is the last
+-- a column that continues is the last
 pub record IsLast (names : List (List ℕ)) (name : List ℕ) (j : ℕ) : Type 0 where
   pub stands : StandsAt names name j
   pub last : j + 1 ≡ length names
@@ -143,7 +143,7 @@ named_columns (c ∷ cs) name = ap (λ b. bytes_eq name c.name || b) (named_colu
 pub column_named : (h : List Entry) (name : List ℕ) → is_column h name ≡ list_any (λ n. bytes_eq name n) (names_of h)
 column_named h name = named_columns (columns_of h) name
 
--- the last column's name goes on
+-- the last column's name continues
 pub last_going : (h : List Entry) (name : List ℕ) (j : ℕ) → AreDistinct (names_of h) → StandsAt (names_of h) name j → j + 1 ≡ length (names_of h) → goes_on h name ≡ true
 last_going [] name j apart here e = absurd (omega (arith, here.there))
 last_going (column line n pairs ∷ h) name j apart here e =
@@ -153,13 +153,13 @@ last_going (column line n pairs ∷ h) name j apart here e =
     bytes_same name n (sym here.same ∙ ap (name_at names) same ∙ last.1.stands.same)
 last_going (_ ∷ h) name j apart here e = last_going h name j apart here e
 
--- a name that is no column goes on with none
+-- a name that is no column continues with none
 pub not_going : (h : List Entry) (name : List ℕ) → is_column h name ≡ false → goes_on h name ≡ false
 not_going h name e = false_from (goes_on h name) (λ t.
     let last = going_last h name t in
     false≢true (sym e ∙ column_named h name ∙ any_true (names_of h) name last.0 last.1.stands))
 
--- a column that is not the last does not go on
+-- a column that is not the last does not continue
 pub not_last : (h : List Entry) (name : List ℕ) (j : ℕ) → AreDistinct (names_of h) → StandsAt (names_of h) name j → (j + 1 ≡ length (names_of h) → ⊥) → goes_on h name ≡ false
 not_last h name j apart here ne = false_from (goes_on h name) (λ t.
     let last = going_last h name t in

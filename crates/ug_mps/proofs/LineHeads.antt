@@ -29,7 +29,7 @@ feed_first : (bs more : List ℕ) → is_feed_first bs ≡ true → is_word_end 
 feed_first [] more e = absurd (false≢true e)
 feed_first (c ∷ cs) more e = subst (λ x. is_word_end (first_line (13 ∷ (x ∷ (cs ++ more)))) ≡ true) (sym (eqb-true c 10 e)) refl
 
--- where a word ends whatever follows, it does
+-- if a word ends whatever follows, it does
 pub word_ends : (rest more : List ℕ) → ends_word rest ≡ true → is_word_end (first_line (rest ++ more)) ≡ true
 word_ends [] more e = absurd (false≢true e)
 word_ends (b ∷ bs) more e = ⊎_elim
@@ -55,7 +55,7 @@ head_behind line rest heads.Ends e h = (rest, e, h)
 head_behind line rest heads.Other e h = λ more. ap (λ l. is_end_line (first_line (l ++ more))) e ∙ h more
 head_behind line rest heads.Open e (more, h) = (more, ap (λ l. codes "ENDATA" ++ l) h ∙ ap (λ l. l ++ more) (sym e))
 
--- a front of ENDATA
+-- a prefix of ENDATA
 pub head_open : (line rest : List ℕ) → codes "ENDATA" ≡ line ++ rest → IsHead line heads.Open
 head_open line rest e = (rest ++ 13 ∷ [], ap (λ l. l ++ 13 ∷ []) e ∙ append_assoc line rest (13 ∷ []))
 
@@ -71,7 +71,7 @@ front_of (x ∷ xs) ys (v ∷ vs) ws e =
       | inr h ↦ inr (h.0, cc)
     ]
 
--- neither begins with ENDATA nor is a front of it
+-- neither begins with ENDATA nor is a prefix of it
 pub head_other : (line : List ℕ) → ((rest : List ℕ) → line ≢ codes "ENDATA" ++ rest) → ((rest : List ℕ) → codes "ENDATA" ≢ line ++ rest) → IsHead line heads.Other
 head_other line a b = λ more. false_from (is_end_line (first_line (line ++ more))) (λ e.
     let c : List ℕ = first_line (line ++ more) in

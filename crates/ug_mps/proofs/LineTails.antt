@@ -93,7 +93,7 @@ may b = is_blank b || is_word_byte b
 may_not : (b c : ℕ) → may c ≡ false → may b ≡ true → (b == c) ≡ false
 may_not b c n m = false_from (b == c) (λ e. false≢true (sym n ∙ ap may (sym (eqb-true b c e)) ∙ m))
 
--- a byte that may stand there
+-- a byte that may be there
 legible_byte : (b : ℕ) (bs : List ℕ) → may b ≡ true → begins_legibly (b ∷ bs) ≡ begins_legibly bs
 legible_byte b bs m = ap is_legible (line_byte b bs (may_not b 10 refl m) (may_not b 13 refl m)) ∙ ap (λ t. t && begins_legibly bs) m
 
@@ -105,7 +105,7 @@ bad_first b bs m p q = ap is_legible (line_byte b bs p q) ∙ ap (λ t. t && beg
 pub bad_return : (b : ℕ) (bs : List ℕ) → (b == 10) ≡ false → begins_legibly (13 ∷ b ∷ bs) ≡ false
 bad_return b bs p = ap is_legible (line_return b bs p)
 
--- bytes that may stand there
+-- bytes that may be there
 pub legible_more : (open_ rest : List ℕ) → NoneOf (λ b. not (is_blank b || is_word_byte b)) open_ → begins_legibly (open_ ++ rest) ≡ begins_legibly rest
 legible_more [] rest n = refl
 legible_more (b ∷ bs) rest n = legible_byte b (bs ++ rest) (not_false (may b) n.0) ∙ legible_more bs rest n.1

@@ -67,7 +67,7 @@ module _ (part : RowPart) (rows : KeptRows) (r : List ℕ) (i : ℕ) (apart : Ar
   repeated_no_pair o p j e n f l are below stand =
       let bad : AreAt rows.names [] (j ∷ []) = subst (λ q. AreAt rows.names [] (second_place q)) e (subst (λ q. AreAt rows.names (rows_in (second_shaped q)) (second_place p)) n stand.1) in absurd bad
 
-  -- what stands at the second place
+  -- what is at the second place
   second_stands : (o : Option NamedWord) (p : Option ℕ) (j : ℕ) (w : NamedWord) → p ≡ Some j → o ≡ Some w → AreAt rows.names (rows_in (second_shaped o)) (second_place p) → StandsAt rows.names w.row.now j
   second_stands o p j w e n stand =
       (let at : AreAt rows.names (w.row.now ∷ []) (j ∷ []) = subst (λ q. AreAt rows.names (w.row.now ∷ []) (second_place q)) e (subst (λ q. AreAt rows.names (rows_in (second_shaped q)) (second_place p)) n stand) in at).0
@@ -90,7 +90,7 @@ module _ (part : RowPart) (rows : KeptRows) (r : List ℕ) (i : ℕ) (apart : Ar
       let there = second_stands o p j w e n stand.1 in
       sym (free_first l (rows_in (second_shaped o)) are below stand.0 f ∙ rw n (rw (second_test l j w.row.now are below stand.0 there ∙ t) refl))
 
--- where the places are those of the pairs, there is a row at the second
+-- if the places are those of the pairs, there is a row at the second
 pub second_there : (names : List (List ℕ)) (o : Option NamedWord) (p : Option ℕ) (j : ℕ) (w : NamedWord) → p ≡ Some j → o ≡ Some w
     → AreAt names (rows_in (second_shaped o)) (second_place p) → j < length names
 second_there names o p j w e n stand =

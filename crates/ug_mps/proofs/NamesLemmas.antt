@@ -73,7 +73,7 @@ module _ (names : List (List ℕ)) (order : List ℕ) (h : AreOrdered names orde
       (cases_lt q.0 p.0))
       (cases_lt p.0 q.0)
 
-  -- the name whose place stands there
+  -- the name whose place is there
   pub stands_ordered : (name : List ℕ) (k : ℕ) → IsOrderedAt names order name k → StandsAt names name (get_or order k 0)
   stands_ordered name k a = record { there = h.within k a.there; same = a.same }
 

@@ -1,4 +1,4 @@
--- A text has one outcome.
+-- A file has one outcome.
 use Rattle.std.proofs.Common.{◌≡◌, ℕ, ◌+◌, ◌-◌, ◌<◌, ◌≤◌, ◌⊎◌, inl, inr, true, false, List, [], ◌∷◌, ◌++◌, length, take, get_or, Option, Some, None, refl, sym, ap, ◌∙◌, subst, arith, zero, suc, ⊎_elim}
 use Rattle.std.specs.Prelude.{reverse, option_and_then}
 use Rattle.std.proofs.lemmas.List.{take_more, reverse-append}
@@ -85,7 +85,7 @@ after_bad h n line c e = ⊎_elim
 pub after_good : (h : List Entry) (n : ℕ) (line : Line) → is_ended h ≡ false → line_fault h line ≡ None → after h n line ≡ Some (line_says h n line ++ h)
 after_good h n line f e = after_open h n line f ∙ ap (after_fault h n line) e
 
--- where nothing is said, no more lines say anything
+-- if nothing is said, no more lines say anything
 pub stops : (text : List ℕ) (k m : ℕ) (h h' : List Entry) → Says text k h → after_line text k h ≡ None → k < m → Says text m h' → ⊥
 stops text k m h h' s none lt t =
     let f = says_less text (k + 1) m h' (omega arith) t in
@@ -97,7 +97,7 @@ stops text k m h h' s none lt t =
 same_tail : (g h : List Entry) → header Endata ∷ g ≡ header Endata ∷ h → g ≡ h
 same_tail g h e = cc
 
--- nothing stands behind ENDATA
+-- nothing follows ENDATA
 pub ends_last : (text : List ℕ) (k m : ℕ) (h h' : List Entry) → Ends text k h → k < m → Says text m h' → ⊥
 ends_last text k m h h' s lt t = stops text k m _ h' s (after_end (header Endata ∷ h) (length (lines_before text k) + 1) (line_at text k) refl) lt t
 
@@ -108,7 +108,7 @@ ends_once text j k g h p q = elim (cases_order j k) [
   | inr o ↦ elim o [ inl lt ↦ absurd (ends_last text j k g _ p lt q) | inr gt ↦ absurd (ends_last text k j h _ q gt p) ]
 ]
 
--- the lines said so far go on where ENDATA was not said
+-- the lines said so far continue where ENDATA was not said
 pub open_before : (text : List ℕ) (j k : ℕ) (g h : List Entry) → Ends text j g → Says text k h → is_ended h ≡ false → k < j
 open_before text j k g h p q o = elim (cases_order k j) [
   | inl e ↦ absurd (false≢true (sym o ∙ ap is_ended (says_one text j h _ (subst (λ n. Says text n h) e q) p)))
@@ -197,7 +197,7 @@ ended_form (sides set pairs ∷ h) e = absurd (false≢true e)
 ended_form (ranges set pairs ∷ h) e = absurd (false≢true e)
 ended_form (bound set name change ∷ h) e = absurd (false≢true e)
 
--- a problem that the text states, or a first fault
+-- a problem that the file states, or a first fault
 abbrev pub Outcome : List ℕ → Option ℕ → Type 0
 Outcome text boxed = ((p : Instance) × Reads text boxed p) ⊎ ((f : MpsFault) × FirstFault text boxed f)
 
@@ -231,6 +231,6 @@ some_outcome text boxed = elim (so_far text boxed (length (lines_of text)) (omeg
   | inr (h, s, f) ↦ inr (fault_at (length (lines_of text)) NoEnd None, inr (inl (h, record { all = s; open_ = f }, refl)))
 ]
 
--- a text has one outcome
+-- a file has one outcome
 pub one_outcome : (text : List ℕ) (boxed : Option ℕ) → HasOneOutcome text boxed
 one_outcome text boxed = record { some = some_outcome text boxed; problem = one_problem text boxed; fault = one_fault text boxed; apart = apart text boxed }

@@ -29,7 +29,7 @@ find_same p q (x ∷ xs) h = rw (h x, find_same p q xs h) refl
 pub missing_is : (h : List Entry) (rows : KeptRows) (words : List (List ℕ)) → AreRows (lists_of h) rows → find (λ word. not (is_row h word)) words ≡ first_missing rows.names words
 missing_is h rows words are = find_same (λ word. not (is_row h word)) (λ word. not (is_among rows.names word)) words (λ x. ap not (row_named h rows x are))
 
--- where none is missing, each is there
+-- if none is missing, each is there
 none_missing : (test : List ℕ → Bool) (x : List ℕ) (xs : List (List ℕ)) → find (λ word. not (test word)) (x ∷ xs) ≡ None → (test x ≡ true) × (find (λ word. not (test word)) xs ≡ None)
 none_missing test x xs e = ⊎_elim
     (λ t. (t, rw t at e))
@@ -74,7 +74,7 @@ read_count (p ∷ pairs) ps e =
 
 -- ---- rows that are taken
 
--- where no row is repeated, each is free and they are apart
+-- if no row is repeated, each is free and they are apart
 repeated_parts : (taken : List ℕ → Bool) (r : List ℕ) (rs : List (List ℕ)) → repeated taken (r ∷ rs) ≡ None → (taken r ≡ false) × (repeated (λ word. taken word || bytes_eq word r) rs ≡ None)
 repeated_parts taken r rs e = ⊎_elim
     (λ t. let bad : Some r ≡ None = rw t at e in absurd (cc))

@@ -162,7 +162,8 @@ refused_for_memory boxed h g n TooMany r = absurd (r (counts_fit boxed h g))
 refused_for_memory boxed h g n (TooWide None) r = absurd (r.objective (objective_narrow h (rows_of h) (rows_none boxed h n)))
 refused_for_memory boxed h g n (TooWide (Some i)) r = absurd (r.row.wide (sided_narrow h (rows_of h) (rows_none boxed h n) i no_row r.row.there))
 
--- the parts that a good history without faults states are formed, and are refused for want of memory alone
+-- the parts that a good history without faults states are formed, and are refused for lack of
+-- memory alone
 pub parts_formed : (boxed : Option ℕ) (h : List Entry) (p : Instance) → AreStated boxed h p → IsFormed p
 parts_formed boxed h p s = subst IsFormed (sym s.parts) (stated_formed boxed h s.good s.box s.none)
 

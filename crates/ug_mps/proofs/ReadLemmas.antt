@@ -46,7 +46,7 @@ as_line content through = record { content = content; through = through }
 abbrev pub next_line : List ℕ → List ℕ → List ℕ → Line
 next_line text piece after' = record { content = content_of piece; through = length text - length after' }
 
--- the next line stands behind the front
+-- the next line follows the front
 pub line_next : (text rest piece after' : List ℕ) (k : ℕ) (h : List Entry) (t : HasTaken text rest k h) → pieces rest ≡ piece ∷ pieces after' → rest ≡ piece ++ after'
     → lines_of text ≡ t.front ++ next_line text piece after' ∷ lines_after (length text - length after') (pieces after')
 line_next text rest piece after' k h t p w =
@@ -96,11 +96,11 @@ module _ (text rest piece after' : List ℕ) (k : ℕ) (h : List Entry) (t : Has
   refused_by boxed (Fault f) (Some c) q r =
       let is : Some (fault_at (k + 1) c.kind c.word) ≡ Some f = r in inl (k, h, c, faulty_next c q, some_same f (fault_at (k + 1) c.kind c.word) (sym is))
 
-  -- so the text is refused
+  -- so the file is refused
   pub refused_next : (boxed : Option ℕ) (e : MpsError) → IsFaultOf (k + 1) (line_fault h (next_line text piece after')) e → IsRefusal text boxed e
   refused_next boxed e r = refused_by boxed e (line_fault h (next_line text piece after')) refl r
 
-  -- the text ended with the line
+  -- the file ended with the line
   pub ended_next : (g : List Entry) → line_fault h (next_line text piece after') ≡ None → line_says h (k + 1) (next_line text piece after') ++ h ≡ header Endata ∷ g → Ends text (k + 1) g
   ended_next g good is =
       let lines = line_next text rest piece after' k h t p w ∙ sym (append_assoc t.front (next_line text piece after' ∷ []) (lines_after (length text - length after') (pieces after'))) in
@@ -109,7 +109,7 @@ module _ (text rest piece after' : List ℕ) (k : ℕ) (h : List Entry) (t : Has
       (length-append t.front (next_line text piece after' ∷ []) ∙ omega arith)
       (history_more t.front (next_line text piece after') k h (header Endata ∷ g) count t.said (after_good h (k + 1) (next_line text piece after') t.open_ good ∙ ap Some is))
 
--- the text ended without one
+-- the file ended without one
 pub endless_now : (text rest : List ℕ) (k : ℕ) (h : List Entry) → HasTaken text rest k h → rest ≡ [] → IsEndless text h × (length (lines_of text) ≡ k)
 endless_now text rest k h t e =
     let lines : lines_of text ≡ t.front ++ [] = t.lines ∙ ap (λ r. t.front ++ lines_after (length text - length rest) (pieces r)) e in
@@ -127,13 +127,13 @@ none_taken text = record {
   open_ = refl;
 }
 
--- the problem that is made is what the text states
+-- the problem that is made is what the file states
 pub finish_reads : (text : List ℕ) (boxed : Option ℕ) (k : ℕ) (h : List Entry) (r : Result Instance MpsError) → Ends text k h
     → MatchResult r (λ p. (end_fault boxed h ≡ None) × (p ≡ stated boxed h)) (IsEndFault boxed h) → IfOk r (Reads text boxed)
 finish_reads text boxed k h (Ok p) e m = (k, h, e, m.0, m.1)
 finish_reads text boxed k h (Err f) e m = tt
 
--- and the fault is the text's first
+-- and the fault is the file's first
 pub finish_refuses : (text : List ℕ) (boxed : Option ℕ) (k : ℕ) (h : List Entry) (r : Result Instance MpsError) → Ends text k h
     → MatchResult r (λ p. (end_fault boxed h ≡ None) × (p ≡ stated boxed h)) (IsEndFault boxed h) → IfErr r (IsRefusal text boxed)
 finish_refuses text boxed k h (Ok p) e m = tt

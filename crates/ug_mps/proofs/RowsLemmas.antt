@@ -72,7 +72,7 @@ side_push (q ∷ pairs) p name e =
     (λ f. rw f (side_push pairs p name h.1))
     (cases_Bool (bytes_eq name q.row))
 
--- writing one row of those that are told apart by their names
+-- writing one row of those that are distinguished by their names
 module _ (rows : List RowNamed) (at : ℕ) (name : List ℕ) (f g : RowNamed → RowDraft) where
   pub set_row : AreDistinct (map (λ (r : RowNamed). r.name) rows) → StandsAt (map (λ (r : RowNamed). r.name) rows) name at
       → ((r : RowNamed) → bytes_eq r.name name ≡ false → g r ≡ f r)
@@ -101,7 +101,7 @@ draft_same : (n : ℕ) (k : Role) (t t' : List Factor) (s s' r r' : Option Decim
     let b : RowDraft = record { line = n; role = k; terms = t'; side = s'; range = r'; last = p' } in a ≡ b)
 draft_same n k t t' s s' r r' p p' a b c d = cc
 
--- a factor more, where it is not 0
+-- a coefficient more, where it is not 0
 factor_more : (j : ℕ) (p : Pair) (fs : List Coefficient) (b : Bool)
     → map factor_of (fs ++ cond (not b) (placed j (p ∷ [])) []) ≡ cond b (map factor_of fs) (map factor_of fs ++ record { column = j; number = p.number } ∷ [])
 factor_more j p fs true = ap (map factor_of) (append_none fs)
@@ -201,7 +201,8 @@ last_between (c ∷ cs) name i j k low high e =
     let high-c = All-head (λ (c : Coefficient). c.place ≤ j) c cs high in
     between_by (last_place cs name) (bytes_eq name c.row) c.place i j k (λ f. rest k low' high' f) low-c high-c e
 
--- within ordered coefficients up to a place, the row is in the column at the place exactly where its last place is this one
+-- within ordered coefficients up to a place, the row is in the column at the place exactly where
+-- its last place is this one
 has_step : (o : Option ℕ) (b t : Bool) (place j : ℕ) → t ≡ (place == j) → ((k : ℕ) → o ≡ Some k → (place ≤ k) × (k ≤ j)) → (((t && b) || is_place o j) ≡ is_place (or_place o (cond b (Some place) None)) j)
 has_step None true true place j e f = e
 has_step None true false place j e f = e

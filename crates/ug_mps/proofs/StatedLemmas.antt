@@ -1,4 +1,5 @@
--- What a good history states of a row is formed as a problem's terms are, and within the limits where it is not too wide.
+-- What a good history states of a row is formed as a problem's terms are, and within the limits
+-- where it is not too wide.
 use Rattle.std.proofs.Common.{◌≡◌, ◌≢◌, ℕ, ℤ, zero, suc, pos, negsuc, neg_ℤ, ◌*ℤ◌, ◌+◌, ◌-◌, ◌*◌, ◌<◌, ◌≤◌, ◌^◌, ◌==◌, ◌||◌, not, cond, nat_lt, unsigned_abs, Bool, true, false, List, [], ◌∷◌, ◌++◌, length, get_or, map, filter, All, IfSome, Option, Some, None, sym, refl, subst, ◌∙◌, arith, ⊎_elim}
 use Rattle.std.specs.Str.{bytes_eq}
 use Rattle.std.proofs.Math.Nat.{one-le-pow, mul-le-mul_right}
@@ -26,14 +27,14 @@ use Rattle.ug_mps.specs.Rows.{IsBefore, AreOrdered, AreWithin}
 use Rattle.ug_mps.proofs.Bytes.{and_true, not_true, or_false, same_bytes}
 use Rattle.ug_mps.proofs.HistoryLemmas.{ordered_of}
 
--- ---- factors in order
+-- ---- coefficients in order
 
 -- the columns rise
 abbrev AreRising : List Factor → Type 0
 AreRising [] = Unit {0}
 AreRising (f ∷ fs) = All (λ (g : Factor). f.column < g.column) fs × AreRising fs
 
--- factor k
+-- coefficient k
 abbrev factor_at : List Factor → ℕ → Factor
 factor_at fs k = get_or fs k no_factor
 
@@ -43,7 +44,7 @@ rising_at (f ∷ fs) r i zero l a = absurd (omega (arith, l))
 rising_at (f ∷ fs) r zero (suc k) l a = r.0 k no_factor (omega (arith, a))
 rising_at (f ∷ fs) r (suc i) (suc k) l a = rising_at fs r.1 i k (omega (arith, l)) (omega (arith, a))
 
--- the factors of a row
+-- the coefficients of a row
 abbrev pub factors_in : List Coefficient → List ℕ → List Factor
 factors_in cs name = map factor_of (terms_of cs name)
 
@@ -68,7 +69,7 @@ factors_rising (c ∷ cs) name o =
     (λ f. subst (λ b. AreRising (map factor_of (cond b (c ∷ filter (is_term name) cs) (filter (is_term name) cs)))) (sym f) rest)
     (cases_Bool (is_term name c))
 
--- ---- factors of columns that are there
+-- ---- coefficients of columns that are there
 
 below_by : (width : ℕ) (cs : List Coefficient) → AreWithin (width - 1) cs → (0 < length cs → 0 < width) → All (λ (c : Coefficient). c.place < width) cs
 below_by width cs w some = λ k d a. let in_range : 0 < length cs = omega (arith, a) in let high = w k d a in omega (arith, some in_range, high)
@@ -77,7 +78,7 @@ some_by : (b : Bool) (cs : List ColumnBegun) (c : ColumnBegun) → (b ≡ true �
 some_by true cs c h = h refl
 some_by false cs c h = omega (arith, length_push cs c)
 
--- a column that goes on is there
+-- a column that continues is there
 going_some : (h : List Entry) (n : List ℕ) → goes_on h n ≡ true → 0 < length (columns_of h)
 going_some [] n e = absurd (false≢true e)
 going_some (column line m pairs ∷ h) n e = some_by (goes_on h m) (columns_of h) (record { line = line; name = m; integer = is_integer_on h }) (λ t. going_some h m t)
@@ -92,7 +93,7 @@ some_columns (_ ∷ h) a = some_columns h a
 below_of : (h : List Entry) → Good h → All (λ (c : Coefficient). c.place < length (columns_of h)) (coefficients h)
 below_of h g = below_by (length (columns_of h)) (coefficients h) (ordered_of h g).1 (some_columns h)
 
--- ---- factors that are not 0
+-- ---- coefficients that are not 0
 
 product_some : (z : ℤ) (m : ℕ) → z ≢ pos 0 → 1 ≤ m → (z *ℤ pos m) ≢ pos 0
 product_some (pos zero) m n some e = n refl

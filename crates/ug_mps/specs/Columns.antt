@@ -37,14 +37,14 @@ new_column line integer = record { line = line; integer = integer; low = None; h
 abbrev pub column_at : List ColumnDraft → ℕ → ColumnDraft
 column_at drafts at = slice_index_or drafts at (new_column 0 false)
 
--- where a line of a column stands: nowhere where the column began before another one
+-- the place of the column of a line: none if the column began before another one
 abbrev pub FindsPlace : List ℕ → KeptColumns → Option ColumnPlace → Type 0
 FindsPlace name columns place = (h : List Entry) → AreColumns h columns → MatchOption place
     (is_begun_again h name ≡ true)
     (λ p. (is_begun_again h name ≡ false) × (p.at ≡ place_of h name)
     × (p.new ≡ not (goes_on h name)))
 
--- the name is none of the names, and the place is behind them
+-- the name is new, and the place is behind the names
 pub record IsNew (names : List (List ℕ)) (name : List ℕ) (at : ℕ) : Type 0 where
   pub gone : ¬ Contains names name
   pub behind : at ≡ length names

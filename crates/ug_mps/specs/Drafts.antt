@@ -50,8 +50,8 @@ IsFaultOf n fault Memory = Unit {0}
 IsFaultOf n fault (Fault f) =
     option_map (λ (c : Complaint). fault_at n c.kind c.word) fault ≡ Some f
 
--- a line was taken exactly where it has no fault, and its entries are then the latest; else its
--- fault is told
+-- a line was taken exactly if it has no fault, and its entries are then the latest; otherwise its
+-- fault is returned
 abbrev pub Takes : ℕ → (List Entry → Option Complaint) → (List Entry → List Entry) → Draft → Draft
     → Result ⊤ MpsError → Type 0
 Takes n fault says old new result = (h : List Entry) → Drafts h old
@@ -82,7 +82,7 @@ abbrev pub is_in : Section → Option Section → Bool
 is_in s None = false
 is_in s (Some t) = is_section s t
 
--- lines of this shape stand in the section
+-- lines of this shape belong to the section
 abbrev pub belongs : Option Section → Shape → Bool
 belongs section (sense word) = is_in sections.Objsense section
 belongs section (row type name) = is_in sections.Rows section

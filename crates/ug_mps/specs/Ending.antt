@@ -1,4 +1,4 @@
--- How far a text has to be read: its ENDATA line, what follows the word on that line, and what the
+-- How far a file must be read: its ENDATA line, what follows the word on that line, and what the
 -- bytes so far show.
 use Rattle.std.specs.Prelude.{◌≡◌, ℕ, ◌+◌, ◌<◌, ◌≤◌, ◌==◌, ◌⊎◌, ◌||◌, ◌&&◌, Bool, true, false, List}
 use Rattle.std.specs.Prelude.{[], ◌∷◌, ◌++◌, length, take, drop, if◌then◌else◌}
@@ -21,7 +21,7 @@ abbrev pub NoneOf : (ℕ → Bool) → List ℕ → Type 0
 NoneOf test [] = Unit {0}
 NoneOf test (b ∷ bs) = (test b ≡ false) × NoneOf test bs
 
--- no line feed stands in these bytes
+-- these bytes have no line feed
 abbrev pub HasNoFeed : List ℕ → Type 0
 HasNoFeed bytes = NoneOf (λ b. b == 10) bytes
 
@@ -36,11 +36,11 @@ abbrev pub first_piece : List ℕ → List ℕ
 first_piece [] = []
 first_piece (b ∷ bs) = if b == 10 then b ∷ [] else b ∷ first_piece bs
 
--- what stands in the first line
+-- the first line
 abbrev pub first_line : List ℕ → List ℕ
 first_line bytes = content_of (first_piece bytes)
 
--- each byte of the first line may stand there
+-- each byte of the first line is allowed
 abbrev pub begins_legibly : List ℕ → Bool
 begins_legibly bytes = is_legible (first_line bytes)
 
@@ -80,7 +80,7 @@ abbrev pub after_if : Bool → List ℕ → List ℕ
 after_if true bytes = 13 ∷ bytes
 after_if false bytes = bytes
 
--- the first byte, if there is one, may not stand in a line
+-- the first byte, if there is one, is not allowed in a line
 abbrev pub StopsFirst : List ℕ → Type 0
 StopsFirst [] = Unit {0}
 StopsFirst (b ∷ bs) = is_line_byte b ≡ false
@@ -91,14 +91,14 @@ legible_by (tails.Open after_return) bytes = begins_legibly (after_if after_retu
 legible_by tails.Legible bytes = true
 legible_by tails.Bad bytes = false
 
--- the line has no end in these bytes, where more are wanted
+-- the line has no end in these bytes, if more are needed
 abbrev pub IsUnended : Tail → List ℕ → Type 0
 IsUnended (tails.Open after_return) bytes = HasNoFeed bytes
 IsUnended tails.Legible bytes = Unit {0}
 IsUnended tails.Bad bytes = Unit {0}
 
--- what stands behind ENDATA for the rest of its line: nothing, or a blank and a byte that may not
--- stand there
+-- the bytes that represent the rest of the ENDATA line: none, or a blank and a byte that is not
+-- allowed there
 abbrev pub mark : Bool → List ℕ
 mark true = []
 mark false = 32 ∷ 0 ∷ []
@@ -184,14 +184,14 @@ pub record IsOpen (bytes : List ℕ) (line : ℕ) : Type 0 where
   pub other : BeginsEnd (drop line bytes) → ⊥
   pub few : length bytes ≤ 268435456 + 7
 
--- what the bytes show where all were looked at: their ENDATA line, that they passed the limit
--- without one, or that neither shows yet, and where their last line begins
+-- what all the bytes show: their ENDATA line, that they passed the limit without one, or that
+-- neither shows yet, and where their last line begins
 abbrev pub IsSeen : List ℕ → Seen → Type 0
 IsSeen bytes (seens.Ended cut) = IsEndedAt bytes cut
 IsSeen bytes seens.Passed = PassesLimit bytes × AreEnough bytes
 IsSeen bytes (seens.Open line) = IsOpen bytes line
 
--- the same, where they were looked at up to a line feed
+-- the same for the bytes up to a line feed
 abbrev pub IsSeenTo : List ℕ → ℕ → Seen → Type 0
 IsSeenTo bytes at (seens.Ended cut) = IsEndedAt bytes cut
 IsSeenTo bytes at seens.Passed = PassesLimit bytes × AreEnough bytes

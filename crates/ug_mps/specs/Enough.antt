@@ -9,31 +9,30 @@ use Rattle.ug_mps.specs.Laws.{StatesSame}
 use Rattle.ug_mps.specs.declared.gathering.GatherError.{GatherError}
 use Rattle.ug_mps.specs.declared.gathering.GatherError.TheVariants.{Memory, Fault}
 
--- what the error of a gathering says of the source's faults: want of memory is none
+-- what the error of a gathering says of the source's faults: out of memory is not one
 abbrev pub gather_cause : GatherError → ℕ → ℕ → Type 0
 gather_cause Memory old new = new ≡ old
 gather_cause Fault old new = Rose old new
 
--- so many bytes came to the front of the buffer and went behind the bytes, and with none the source
--- is at its end
+-- `n` bytes were read into the buffer and appended to the bytes; with none the source is at its end
 pub record HasCome (buffer bytes more : List ℕ) (old new : Option (List ℕ)) (n : ℕ) : Type 0 where
   pub within : n ≤ length buffer
   pub put : more ≡ bytes ++ take n buffer
   pub taken : Gives old new (take n buffer)
   pub end : n ≡ 0 → IsAtEnd old
 
--- what the text states, all the bytes state
+-- the bytes that are kept state what all the bytes state
 abbrev pub IsEnough : List ℕ → List ℕ → Type 0
 IsEnough bytes text = StatesSame text bytes
 
--- the ENDATA line is legible, by what was seen of it and the bytes that are left, where they are
--- told
+-- whether the ENDATA line is legible, by what was seen of it and the bytes that are left, if the
+-- source shows them
 abbrev pub legible_left : Option (List ℕ) → Tail → Option Bool
 legible_left left tail = option_map (λ bytes. legible_by tail bytes) left
 
 -- ---- how far is read
 
--- what a source gave, less the piece of its last call, keeps to the rule
+-- what a source gave, less the piece of its last call, satisfies the rule
 pub record GivesWhile (rule : List ℕ → Type 0) (old new : Option (List ℕ)) : Type 0 where
   pub before : List ℕ
   pub last : List ℕ
@@ -58,8 +57,8 @@ pub record StopsBehind (bytes : List ℕ) (old new : Option (List ℕ)) : Type 0
   pub unended : IsUnended tail bytes
   pub stops : StopsAtFeed tail old new
 
--- one piece of the line came, behind a carriage return or not, and what is then seen of the line is
--- the same; where more are wanted the piece has a byte, and no end of the line
+-- one piece of the line came, after a carriage return or not, and what is then seen of the line is
+-- the same; if more are needed the piece has a byte, and no end of the line
 pub record PieceCame (after : Bool) (tail : Tail) (old new : Option (List ℕ)) : Type 0 where
   pub piece : List ℕ
   pub taken : Gives old new piece

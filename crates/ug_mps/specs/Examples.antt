@@ -6,7 +6,7 @@ use Rattle.ug_problem.specs.declared.column.Column.{Column}
 use Rattle.ug_problem.specs.declared.column.NamedRow.{NamedRow}
 use Rattle.ug_problem.specs.Instances.{Instance}
 
--- the text of these lines
+-- the bytes of these lines
 abbrev pub text_of : List (List ℕ) → List ℕ
 text_of [] = []
 text_of (line ∷ lines) = line ++ 10 ∷ text_of lines

@@ -1,4 +1,4 @@
--- The faults that a line may have after what the lines so far have said, each kind by itself. Where
+-- The faults that a line may have after what the lines so far have said, each kind by itself. If
 -- several words of a line are at fault, it is the first from left to right.
 use Rattle.std.specs.Prelude.{ℕ, ◌+◌, ◌||◌, ◌&&◌, not, Bool, true, false, List, [], ◌∷◌, length}
 use Rattle.std.specs.Prelude.{map, take, drop, find, Option, Some, None, nat_le, nat_lt, is_some}
@@ -54,7 +54,7 @@ is_word_end (b ∷ bs) = is_blank b
 abbrev pub is_end_line : List ℕ → Bool
 is_end_line content = bytes_eq (take 6 content) end_word && is_word_end (drop 6 content)
 
--- the text passes 268,435,456 bytes in this line, and it is not ENDATA
+-- the file passes 268,435,456 bytes in this line, and the line is not ENDATA
 abbrev pub too_long : Line → Option Complaint
 too_long line = fault_where kinds.TooLong
     (nat_lt 268435456 line.through && not (is_end_line line.content))
@@ -81,8 +81,8 @@ are_sense [] = true
 are_sense (word ∷ []) = is_some (sense_of_word word)
 are_sense words = false
 
--- the words may stand behind the header of a section: behind OBJSENSE at most a sense, behind
--- others any words
+-- the words may follow the header of a section: after OBJSENSE at most a sense, after others any
+-- words
 abbrev pub may_follow : Option Section → List (List ℕ) → Bool
 may_follow None words = true
 may_follow (Some s) words = not (is_section sections.Objsense s) || are_sense words
@@ -131,8 +131,7 @@ bad_words h section words =
 
 -- ---- data lines that are formed: RowKind, Marker, Unknown, Duplicate, Number, TooWide, TooMany
 
--- three words of a bound without a number: where the third names a column, the second is a set's
--- name
+-- three words of a bound without a number: if the third names a column, the second is a set's name
 abbrev pub resolved : List Entry → Shape → Shape
 resolved h (either kind first second) =
     if is_column h second then bound kind (Some first) second None else bound kind None first None

@@ -1,4 +1,4 @@
--- What is found once all lines are taken.
+-- The end of a file: what is found once all lines are taken.
 use Rattle.std.specs.Prelude.{◌≡◌, ℕ, List, Option, None}
 use Rattle.ug_problem.specs.Instances.{Instance}
 use Rattle.ug_drafts.specs.declared.fault.MpsError.{MpsError}

@@ -4,7 +4,7 @@ use Rattle.ug_problem.specs.Instances.{Instance}
 use Rattle.ug_drafts.specs.declared.fault.MpsFault.{MpsFault}
 use Rattle.ug_mps.specs.Reads.{Reads, FirstFault}
 
--- a text states a problem or has a first fault, never both, and there is one of it
+-- a file states a problem or has a first fault, never both, and only one of it
 pub record HasOneOutcome (text : List ℕ) (boxed : Option ℕ) : Type 0 where
   pub some : ((p : Instance) × Reads text boxed p) ⊎ ((f : MpsFault) × FirstFault text boxed f)
   pub problem : (p q : Instance) → Reads text boxed p → Reads text boxed q → p ≡ q

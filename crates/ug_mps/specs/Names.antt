@@ -9,12 +9,12 @@ use Rattle.std.specs.declared.cmp.Ordering.TheVariants.{Less}
 abbrev pub name_at : List (List ℕ) → ℕ → List ℕ
 name_at names j = slice_index_or names j []
 
--- the name stands at the place
+-- the name is at the place
 pub record StandsAt (names : List (List ℕ)) (name : List ℕ) (j : ℕ) : Type 0 where
   pub there : j < length names
   pub same : name_at names j ≡ name
 
--- no name stands at two places
+-- no name is at two places
 abbrev pub AreDistinct : List (List ℕ) → Type 0
 AreDistinct names = (i j : ℕ) → i < length names → j < length names
     → name_at names i ≡ name_at names j → i ≡ j
@@ -34,7 +34,7 @@ pub record AreOrdered (names : List (List ℕ)) (order : List ℕ) : Type 0 wher
   pub rising : (i k : ℕ) → i < k → k < length order
       → name_cmp (name_in names order i) (name_in names order k) ≡ Less
 
--- the name is the one whose place stands there
+-- the name is the one at the place that the order has there
 pub record IsOrderedAt (names : List (List ℕ)) (order name : List ℕ) (k : ℕ) : Type 0 where
   pub there : k < length order
   pub same : name_in names order k ≡ name
@@ -45,7 +45,7 @@ pub record IsGapFor (names : List (List ℕ)) (order name : List ℕ) (k : ℕ) 
   pub below : (i : ℕ) → i < k → name_cmp (name_in names order i) name ≡ Less
   pub above : (i : ℕ) → k ≤ i → i < length order → name_cmp name (name_in names order i) ≡ Less
 
--- where the name is in the order, or would go
+-- the place of the name in the order, or where it would go
 abbrev pub IsSearched : List (List ℕ) → List ℕ → List ℕ → Result ℕ ℕ → Type 0
 IsSearched names order name result =
     MatchResult result (IsOrderedAt names order name) (IsGapFor names order name)

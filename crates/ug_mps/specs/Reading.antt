@@ -6,7 +6,7 @@ use Rattle.ug_mps.specs.Entries.{Entry}
 use Rattle.ug_mps.specs.Says.{is_ended, history}
 use Rattle.ug_mps.specs.Drafts.{Drafts}
 
--- k lines of the text were taken and say h, the rest is left, and none of them is ENDATA
+-- k lines of the file were taken and say h, the rest is left, and none of them is ENDATA
 pub record HasTaken (text rest : List ℕ) (k : ℕ) (h : List Entry) : Type 0 where
   pub front : List Line
   pub count : length front ≡ k

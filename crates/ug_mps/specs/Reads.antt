@@ -1,4 +1,4 @@
--- What a text states: a problem, or a first fault.
+-- The meaning of an MPS file: a problem, or a first fault.
 use Rattle.std.specs.Prelude.{◌≡◌, ℕ, ◌+◌, ◌<◌, ◌⊎◌, ◌||◌, ◌&&◌, not, Bool, false, List, [], ◌∷◌}
 use Rattle.std.specs.Prelude.{length, take, reverse, slice_index_or, Option, Some, None, is_none}
 use Rattle.std.specs.Prelude.{if◌then◌else◌}
@@ -76,12 +76,12 @@ end_fault boxed h = or_else (first_fault (column_fault boxed h) (columns_of h))
 
 -- ---- texts
 
--- the text states the problem p, where infinite bounds are those of the box, if there is one
+-- the file states the problem p, with the box's bounds for infinite ones, if there is a box
 abbrev pub Reads : List ℕ → Option ℕ → Instance → Type 0
 Reads text boxed p = (k : ℕ) × (h : List Entry) × Ends text k h × (end_fault boxed h ≡ None)
     × (p ≡ stated boxed h)
 
--- the first fault of the text: of a line, no ENDATA, or of a column or a row
+-- the first fault of the file: in a line, a missing ENDATA, or in a column or a row
 abbrev pub FirstFault : List ℕ → Option ℕ → MpsFault → Type 0
 FirstFault text boxed f =
     ((k : ℕ) × (h : List Entry) × (c : Complaint) × IsFaulty text k h c
@@ -90,7 +90,7 @@ FirstFault text boxed f =
     × (f ≡ fault_at (length (lines_of text)) kinds.NoEnd None))
     ⊎ ((k : ℕ) × (h : List Entry) × Ends text k h × (end_fault boxed h ≡ Some f)))
 
--- why the text is refused: its first fault, or want of memory
+-- why the file is refused: its first fault, or out of memory
 abbrev pub IsRefusal : List ℕ → Option ℕ → MpsError → Type 0
 IsRefusal text boxed Memory = Unit {0}
 IsRefusal text boxed (Fault f) = FirstFault text boxed f

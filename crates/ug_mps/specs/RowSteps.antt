@@ -38,7 +38,7 @@ second_place (Some j) = j ∷ []
 abbrev pub places_in : RowPlaces → List ℕ
 places_in p = p.first ∷ second_place p.second
 
--- the names stand at the places
+-- the names are at the places
 abbrev pub AreAt : List (List ℕ) → List (List ℕ) → List ℕ → Type 0
 AreAt names [] [] = Unit {0}
 AreAt names (r ∷ rows) (j ∷ places) = StandsAt names r j × AreAt names rows places
@@ -48,7 +48,7 @@ AreAt names _ _ = ⊥
 abbrev pub is_among : List (List ℕ) → List ℕ → Bool
 is_among names name = list_any (λ other. bytes_eq name other) names
 
--- the first of the words that is none of the names
+-- the first of the words that is not among the names
 abbrev pub first_missing : List (List ℕ) → List (List ℕ) → Option (List ℕ)
 first_missing names words = find (λ word. not (is_among names word)) words
 

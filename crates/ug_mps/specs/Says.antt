@@ -20,24 +20,24 @@ use Rattle.ug_mps.specs.Faults.{duplicate, bad_number, change_by, too_wide, too_
 
 -- ---- the first fault
 
--- of a header: its section, then its words
+-- the fault of a header: of its section, then of its words
 abbrev pub header_fault : List Entry → List (List ℕ) → Option Complaint
 header_fault h words = or_fault (bad_section h words) (bad_header_words words)
 
--- of a formed line, in this order
+-- the fault of a formed line, in this order
 abbrev pub shape_fault : List Entry → Option Section → Shape → Option Complaint
 shape_fault h section shape =
     or_fault (bad_row_kind shape) (or_fault (bad_marker shape) (or_fault (unknown h shape)
     (or_fault (duplicate h section shape)
     (or_fault (bad_number shape) (or_fault (too_wide shape) (too_many h shape))))))
 
--- of a line that is not passed over
+-- the fault of a line that is not skipped
 abbrev pub formed_fault : List Entry → Option Section → Option Shape → Option Complaint
 formed_fault h section None = None
 formed_fault h section (Some shape) = if is_passed h (resolved h shape) then None
     else shape_fault h section (resolved h shape)
 
--- of a data line: the type of a bound, the words, then what they say
+-- the fault of a data line: of the type of a bound, of the words, then of what they say
 abbrev pub data_fault : List Entry → Option Section → List (List ℕ) → Option Complaint
 data_fault h section words =
     or_fault (semi_continuous section words) (or_fault (bad_bound_kind section words)
@@ -49,7 +49,7 @@ words_fault h is_data_line [] = None
 words_fault h true words = data_fault h (section_of h) words
 words_fault h false words = header_fault h words
 
--- of a line: that it is too long stands alone, and a comment may hold any bytes
+-- the fault of a line: too long excludes others, and a comment may contain any bytes
 abbrev pub line_fault : List Entry → Line → Option Complaint
 line_fault h line = or_fault (too_long line) (if is_comment line.content then None
     else or_fault (bad_byte line.content)
@@ -132,12 +132,12 @@ is_end (Some s) = is_section s sections.Endata
 abbrev pub is_ended : List Entry → Bool
 is_ended h = is_end (section_of h)
 
--- what is said so far after line n without a fault
+-- the history after line n without a fault
 abbrev pub after_fault : List Entry → ℕ → Line → Option Complaint → Option (List Entry)
 after_fault h n line None = Some (line_says h n line ++ h)
 after_fault h n line (Some c) = None
 
--- what is said so far after line n; nothing where the line has a fault, or follows ENDATA
+-- the history after line n; none if the line has a fault, or follows ENDATA
 abbrev pub after : List Entry → ℕ → Line → Option (List Entry)
 after h n line = if is_ended h then None else after_fault h n line (line_fault h line)
 

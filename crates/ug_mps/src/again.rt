@@ -1,4 +1,4 @@
-//! A text read once more, for the words on standard error: why it is refused, by the word at fault,
+//! A file read once more, for the words on standard error: why it is refused, by the word at fault,
 //! and which bounds it leaves infinite. No definition pins what these functions give.
 
 use crate::bound_words::amount_of;
@@ -13,14 +13,14 @@ use ug_lines::{
     Section, content, cut, is_comment, is_data, is_in_any_case, section_of, sense_of, words_of,
 };
 
-/// Which bounds of a column the text leaves infinite.
+/// Which bounds of a column the file leaves infinite.
 #[derive(Clone, Copy)]
 pub struct FreeEnds {
     pub low: bool,
     pub high: bool,
 }
 
-// So many words of a line tell what is at fault with it.
+// This many words of a line say what is at fault with it.
 const WORDS: usize = 5;
 
 // A line, and the section that its data is of.
@@ -65,7 +65,7 @@ fn place_of(text: &[u8], number: u64) -> Place<'_> {
     }
 }
 
-// What the lines say up to ENDATA; None where one has a fault, or memory is wanting.
+// What the lines say up to ENDATA; None where one has a fault, or memory runs out.
 fn drafted(alloc: Global, text: &[u8]) -> Option<Draft> {
     let mut draft = Draft::new(alloc);
     let mut rest = text;
@@ -132,7 +132,7 @@ const UNSOLVED: [&[u8]; 17] = [
     b"BRANCH",
 ];
 
-// The words with which a text in LP format begins.
+// The words with which a file in LP format begins.
 const LP_WORDS: [&[u8]; 12] = [
     b"MINIMIZE",
     b"MAXIMIZE",
@@ -255,7 +255,7 @@ fn of_draft(boxed: Option<u32>, draft: Draft, fault: &MpsFault) -> Cause {
     cause
 }
 
-/// Why the text is refused under the box, of which this is the first fault.
+/// Why the file is refused under the box, of which this is the first fault.
 pub fn cause_of(alloc: Global, text: &[u8], boxed: Option<u32>, fault: &MpsFault) -> Cause {
     match fault.kind {
         Kind::Byte if fault.line == 1 => Cause::NoText,
@@ -273,7 +273,7 @@ pub fn cause_of(alloc: Global, text: &[u8], boxed: Option<u32>, fault: &MpsFault
     }
 }
 
-/// Which bounds of its columns the text leaves infinite, in their order; None where memory is
+/// Which bounds of its columns the file leaves infinite, in their order; None where memory is
 /// wanting, or a line has a fault.
 pub fn free_ends(alloc: Global, text: &[u8]) -> Option<Vec<FreeEnds>> {
     let draft = drafted(alloc, text)?;

@@ -84,7 +84,7 @@ impl Draft {
         }
     }
 
-    /// Takes the next line, which has this number and this shape, or tells its fault. After an
+    /// Takes the next line, which has this number and this shape, or reports its fault. After an
     /// error the draft is of no more use.
     pub fn take(&mut self, line: u64, shape: &LineShape<'_>) -> Result<(), MpsError>
         requires section { belongs self.old.section (shape_shaped shape.now) ≡ true }

@@ -15,8 +15,8 @@ enum Head {
     Open,
 }
 
-/// What was seen of the rest of an ENDATA line: the line goes on, behind a carriage return or not;
-/// or it is known whether all its bytes may stand there.
+/// What was seen of the rest of an ENDATA line: the line continues, behind a carriage return or
+/// not; or it is known whether all its bytes may be there.
 #[derive(Clone, Copy)]
 pub enum Tail {
     Open(bool),
@@ -24,9 +24,9 @@ pub enum Tail {
     Bad,
 }
 
-/// What the bytes of a text show so far: the first line ENDATA, whose word ends at the place told;
-/// that they pass the limit without one; or, where neither shows yet, the place at which their last
-/// line begins.
+/// What the bytes of a file show so far: the first line ENDATA, whose word ends at the place
+/// reported; that they pass the limit without one; or, where neither shows yet, the place at which
+/// their last line begins.
 #[derive(Clone, Copy)]
 pub enum Seen {
     Ended(usize),
@@ -104,7 +104,7 @@ fn after_return(bytes: &[u8]) -> Tail
     }
 }
 
-// What the bytes from one on that may not stand in a line show.
+// What the bytes from one on that may not be in a line show.
 fn after_stop(bytes: &[u8]) -> Tail
     requires { StopsFirst bytes.now }
     ensures legible { (more : List ℕ)
@@ -125,7 +125,7 @@ fn after_stop(bytes: &[u8]) -> Tail
     }
 }
 
-// Where the first byte stands that may not stand in a line.
+// Where the first byte stands that may not be in a line.
 fn stop(bytes: &[u8]) -> Option<usize>
     ensures { result ≡ position (λ b. not (is_line_byte b)) bytes.now }
 {
@@ -205,7 +205,7 @@ fn seen_last(bytes: &[u8], line: usize) -> Seen
     }
 }
 
-/// What the bytes of a text show, where a line begins at `line` and they were looked at up to
+/// What the bytes of a file show, where a line begins at `line` and they were examined up to
 /// `from`.
 pub fn see(bytes: &[u8], line: usize, from: usize) -> Seen
     requires { IsLineAt bytes.now line from }

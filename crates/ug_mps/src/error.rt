@@ -5,7 +5,7 @@ use std::alloc::Global;
 use ug_drafts::{Kind, MpsError, MpsFault};
 use ug_lists::Text;
 
-/// The fault of a word at a line, or want of memory.
+/// The fault of a word at a line, or lack of memory.
 pub fn fault_of(alloc: Global, line: u64, kind: Kind, word: &[u8]) -> MpsError
     ensures { IsFaultOf line (Some (record { kind = kind; word = Some word.now })) result }
 {

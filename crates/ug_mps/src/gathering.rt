@@ -9,13 +9,13 @@ use crate::line::LIMIT;
 use std::alloc::{AllocError, Global};
 use ug_io::{Failed, Source, zeros};
 
-/// How many bytes show that a text is too long: one more than it may have before its ENDATA line.
+/// How many bytes show that a file is too long: one more than it may have before its ENDATA line.
 const MOST: usize = LIMIT + 1;
 
 /// How many bytes are asked for at once.
 const PIECE: usize = 65_536;
 
-/// Why a text was not gathered.
+/// Why a file was not gathered.
 #[derive(Clone, Copy)]
 pub enum GatherError {
     Memory,
@@ -40,7 +40,7 @@ impl From<Failed> for GatherError {
 
 /// The bytes that are left, up to the word ENDATA of the line that it begins, or to where another
 /// line passes the limit: they state what all bytes state. The rest of the ENDATA line is read on
-/// over and not kept; where a byte of it may not stand there, a blank and such a byte stand for it.
+/// over and not kept; if a byte of it may not be there, a blank and such a byte stand for it.
 /// No call of the source comes after the one that brought the end of that line.
 #[tactic(auto, using(crate::proofs::Gathered::gives_more))]
 pub fn gather<S: Source>(alloc: Global, input: &mut S) -> Result<Vec<u8>, GatherError>
@@ -86,7 +86,7 @@ pub fn gather<S: Source>(alloc: Global, input: &mut S) -> Result<Vec<u8>, Gather
     }
 }
 
-// Reads the next piece of a text of which no ended line is ENDATA, and says how many bytes it has:
+// Reads the next piece of a file of which no ended line is ENDATA, and says how many bytes it has:
 // with none it is the end.
 fn read_on<S: Source>(
     input: &mut S,
@@ -209,7 +209,7 @@ fn pass_piece<S: Source>(input: &mut S, buffer: &mut [u8], after: bool) -> Resul
     Ok(tail_of(after, buffer.split_at(n).0))
 }
 
-// How many bytes to ask for, where so many are there: no more than up to the limit, and one at a
+// How many bytes to ask for, where this many are there: no more than up to the limit, and one at a
 // time beyond it.
 fn room(count: usize) -> usize
     ensures { 0 < result }

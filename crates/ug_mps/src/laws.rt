@@ -8,12 +8,12 @@ ghost use Rattle.ug_mps.specs.Examples.{knapsack, knapsack_rows, text_of, fracti
 ghost use Rattle.ug_mps.specs.Laws.{HasOneOutcome};
 ghost use Rattle.ug_mps.specs.Reads.{FirstFault, Reads};
 
-/// A text states one problem, or it has one first fault, and never both, whatever the box.
+/// A file states one problem, or it has one first fault, and never both, whatever the box.
 pub fn one_outcome()
     ensures { (text : List ℕ) (boxed : Option ℕ) → HasOneOutcome text boxed }
 {}
 
-/// Worked texts, by which the definitions were tried: a knapsack, the same with lines left out,
+/// Worked texts, by which the definitions were tried: a knapsack, the same with lines omitted,
 /// fractions, a box, and two faults on one line.
 pub fn worked_texts()
     ensures empty { FirstFault [] None (fault_at 0 NoEnd None) }

@@ -1,6 +1,6 @@
-//! Reads a bounded integer program from an MPS text. It stands on ug_io, ug_lines, ug_drafts and
-//! ug_problem. `gather` reads from a source what is enough of a text; `read` gives the problem that
-//! the text states, or the first fault with its line, kind and word. specs/ says what a text states
+//! Reads a bounded integer program from an MPS text. It depends on ug_io, ug_lines, ug_drafts and
+//! ug_problem. `gather` reads from a source what is enough of a file; `read` gives the problem that
+//! the file states, or the first fault with its line, kind and word. specs/ says what a file states
 //! as relations on its lines, each judged by what the lines before it have said. Memory grows only
 //! with bytes that are there.
 #![tactic(auto)]

@@ -13,10 +13,10 @@ use ug_lines::{
     is_legible, is_semi_continuous, shape_of, words_of,
 };
 
-/// The bytes that a text may have before its ENDATA line.
+/// The bytes that a file may have before its ENDATA line.
 pub const LIMIT: usize = 268_435_456;
 
-// So many words of a line decide what it is: where it has more than these, it is the same with any
+// This many words of a line decide what it is: if it has more than these, it is the same with any
 // others behind them.
 const MOST_WORDS: usize = 6;
 
@@ -40,7 +40,7 @@ pub fn is_end_line(content: &[u8]) -> bool
     }
 }
 
-// Whether the text passes the limit in this line, and it is not ENDATA.
+// Whether the file passes the limit in this line, and it is not ENDATA.
 fn is_too_long(content: &[u8], through: usize) -> bool
     ensures { result ≡ (nat_lt 268435456 through && not (is_end_line content.now)) }
 {
@@ -135,8 +135,8 @@ fn take_words(
     }
 }
 
-/// Takes the next line of the text into the draft, or tells its fault. `line` is its number,
-/// `through` how many bytes of the text there are up to its end.
+/// Takes the next line of the file into the draft, or reports its fault. `line` is its number,
+/// `through` how many bytes of the file there are up to its end.
 pub fn take_line(
     alloc: Global,
     draft: &mut Draft,

@@ -10,7 +10,7 @@ use std::marker::Model;
 use ug_lists::Text;
 
 /// Distinct names in the order in which they were added, each kept once. A look-up first guesses
-/// by a hash where a name stands, and compares it; where no guess is right it searches the places
+/// by a hash where a name stands, and compares it; if no guess is right it searches the places
 /// in the order of their names' bytes, so no choice of names makes it longer than such a search by
 /// more than the guesses.
 #[derive(Drop)]
@@ -48,7 +48,7 @@ fn compared(names: &[Text], place: u32, name: &[u8]) -> Ordering
     name_at(names, place).cmp(name)
 }
 
-// Where the name is among the ordered places, or where it would go.
+// If the name is among the ordered places, or where it would go.
 fn search(names: &[Text], order: &[u32], name: &[u8]) -> Result<usize, usize>
     requires { AreOrdered names.now order.now }
     ensures { IsSearched names.now order.now name.now result }

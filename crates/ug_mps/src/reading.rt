@@ -10,7 +10,7 @@ use ug_drafts::{Kind, MpsError};
 use ug_lines::{content, cut};
 use ug_problem::Problem;
 
-/// The problem that the text states, or its first fault. `boxed` is the bound that infinite bounds
+/// The problem that the file states, or its first fault. `boxed` is the bound that infinite bounds
 /// of columns have: without it a column with one is refused.
 pub fn read(alloc: Global, text: &[u8], boxed: Option<u32>) -> Result<Problem, MpsError>
     requires { IfSome boxed (λ u. u ≤ 10 ^ 9) }

@@ -46,7 +46,7 @@ area_by_changed root (c ∷ cs) (suc k) rising h there =
     area_by_changed (set root c.column (change_bounds c)) cs k (rising_rest c cs rising) (omega arith)
     (subst (λ n. (change_at cs k).column < n) (sym (length-set root c.column (change_bounds c))) there)
 
--- rising changes that are differences tell the box that they make
+-- rising changes that are differences report the box that they make
 pub area_told : (root : List Interval) (changes : List Change) → IsRising changes
     → ((k : ℕ) → k < length changes → IsDifference root (change_at changes k)) → Tell root changes (area_by root changes)
 area_told root changes rising each = record {

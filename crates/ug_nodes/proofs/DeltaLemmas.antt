@@ -1,4 +1,5 @@
--- Boxes, each as what it is against the one before it: one more, and whether two lists of them agree.
+-- Boxes, each as what it is against the one before it: one more, and whether two lists of them
+-- agree.
 use Rattle.std.proofs.Common.{◌≡◌, ◌≢◌, ℕ, suc, zero, ◌<◌, List, [], ◌∷◌, ◌++◌, length, take, refl, sym, ap, ◌∙◌, subst, arith}
 use Rattle.ug_rows.specs.declared.area.Interval.{Interval}
 use Rattle.ug_rows.specs.Boxes.{box_at}
@@ -12,7 +13,7 @@ use Rattle.ug_nodes.specs.Steps.{IsToldTo}
 use Rattle.ug_nodes.proofs.Areas.{area_by_width, area_told}
 use Rattle.ug_nodes.proofs.Lists.{one_told, same_list, told}
 
--- what tells how a box differs from the one before makes it
+-- what says how a box differs from the one before makes it
 pub changed_after : (before area : List Interval) (changes : List Change) → IsNear before area
     → IsToldTo (length before) before area changes → area_by before changes ≡ area
 changed_after before area changes near t =
@@ -41,7 +42,7 @@ boxes_count before (d ∷ ds) = ap suc (boxes_count (after before d) ds)
 -- for `Hands::len`
 pub ruleset count = (boxes_count)
 
--- a box more stands behind the last
+-- a box more follows the last
 boxes_push : (before : List Interval) (deltas : List Delta) (d : Delta)
     → boxes_behind before (deltas ++ d ∷ []) ≡ boxes_behind before deltas ++ after (last_behind before deltas) d ∷ []
 boxes_push before [] d = refl

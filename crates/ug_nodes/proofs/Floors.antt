@@ -57,7 +57,7 @@ replaced_in_range total old new large small small' =
     let sum : FitsSigned w128 ((total -ℤ old) +ℤ new) = replaced_fits total old new large small small' in
     simp to_z-of_z sum
 
--- the factor of one of the terms is as small as each is
+-- the coefficient of one of the terms is as small as each is
 pub among_small : (terms : List Term) (t : Term) → ((k : ℕ) → k < length terms → unsigned_abs (term_at terms k).factor ≤ 10 ^ 24)
     → IsAmong t terms → unsigned_abs t.factor ≤ 10 ^ 24
 among_small [] t small among = absurd among
@@ -85,7 +85,7 @@ with_term width terms t root area j side total result linear among here there wi
     by_numbers : (r t s s' o o' n : ℤ) → r ≡ (t -ℤ o') +ℤ n → s' ≡ (s -ℤ o) +ℤ n → o ≡ o' → r +ℤ s ≡ t +ℤ s'
     by_numbers r t s s' o o' n e f g = omega (arith, ints)
 
--- where no term is of the changed column, the sum stays
+-- if no term is of the changed column, the sum stays
 pub without_term : (terms : List Term) (area : List Interval) (j : ℕ) (side : Interval) (total : ℤ)
     → ((k : ℕ) → k < length terms → (term_at terms k).column ≢ j)
     → total +ℤ least_sum terms area ≡ total +ℤ least_sum terms (set area j side)

@@ -1,4 +1,4 @@
--- The proper fronts of a line, looked up among lines.
+-- The proper prefixes of a line, looked up among lines.
 use Rattle.std.proofs.Common.{◌≡◌, ℕ, ◌<◌, Bool, true, false, List, ◌∷◌, length, take, drop, refl, sym, subst, arith}
 use Rattle.std.specs.Prelude.{Contains, IsTrue, ◌↔◌}
 use Rattle.std.proofs.Math.Seq.{take-append_seam}
@@ -19,7 +19,7 @@ front_is_ancestor line k h =
 ancestor_is_front : (a line : List Name) → IsAncestor a line → take (length a) line ≡ a
 ancestor_is_front a line (n, (r, e)) = subst (λ l. take (length a) l ≡ a) (sym e) (take-append_seam a (n ∷ r))
 
--- where a front is one of the lines, one of them leads to an ancestor
+-- if a front is one of the lines, one of them leads to an ancestor
 below_from_front : (lines : List (List Name)) (line : List Name) → HasFront lines line → is_below_any lines line ≡ true
 below_from_front lines line h =
     let there = h.2 in

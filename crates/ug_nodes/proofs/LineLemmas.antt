@@ -35,7 +35,7 @@ ancestor_not_itself a (n, (r, e)) = omega (arith, ap length e, length-append a (
 pub ancestor_one_way : (a b : List Name) → IsAncestor a b → IsAncestor b a → ⊥
 ancestor_one_way a b h k = ancestor_not_itself a (ancestor_along a b a h k)
 
--- two fronts of one line are the same, or one is a proper front of the other
+-- two prefixes of one line are the same, or one is a proper front of the other
 fronts : (a b r s : List Name) → a ++ r ≡ b ++ s → (a ≡ b) ⊎ (IsAncestor a b ⊎ IsAncestor b a)
 fronts [] [] r s e = inl refl
 fronts [] (y ∷ ys) r s e = inr (inl (y, (ys, refl)))
@@ -71,11 +71,11 @@ ancestor_of_child a line name (n, (r, e)) = elim (fronts a line (n ∷ r) (name 
 pub ancestor_of_own : (line : List Name) (name : Name) → IsAncestor line (line ++ name ∷ [])
 ancestor_of_own line name = (name, ([], refl))
 
--- a name of the front stands in the line
+-- a name of the front is in the line
 pub begins_has : (line front : List Name) (name : Name) → BeginsWith line front → Contains front name → Contains line name
 begins_has line front name b h = subst (λ l. Contains l name) (sym b.1) (Contains-append_left front b.0 name h)
 
--- a line that begins with another, and is longer, goes on
+-- a line that begins with another, and is longer, continues
 pub ancestor_from_begins : (front line : List Name) → BeginsWith line front → length front < length line → IsAncestor front line
 ancestor_from_begins front line ([], e) h = absurd (omega (arith, ap length e, length-append front []))
 ancestor_from_begins front line (n ∷ r, e) h = (n, (r, e))
@@ -97,7 +97,7 @@ begins_reads line front b k h = front_reads no_name line front b.0 b.1 k h
 pub begins_fits : (line front : List Name) → BeginsWith line front → length front ≤ length line
 begins_fits line front b = front_fits line front b.0 b.1
 
--- the test of two names tells whether they are the same
+-- the test of two names says whether they are the same
 same_from_test : (a b : Name) → is_same_name a b ≡ true → a ≡ b
 same_from_test a b h =
     let run : a.ticket.run ≡ b.ticket.run = grind (arith, nat_tests) in
@@ -108,7 +108,7 @@ same_from_test a b h =
 test_from_same : (a : Name) → is_same_name a a ≡ true
 test_from_same a = grind (arith, nat_tests)
 
--- the test of an ancestor tells whether it is one
+-- the test of an ancestor says whether it is one
 pub ancestor_from_test : (front line : List Name) → is_ancestor front line ≡ true → IsAncestor front line
 ancestor_from_test [] [] h = cc
 ancestor_from_test (x ∷ xs) [] h = cc

@@ -10,11 +10,11 @@ use Rattle.ug_nodes.specs.Changes.{IsRising, IsListed, AreChangesOf, IsFirstBad,
 use Rattle.ug_nodes.specs.Steps.{IsToldTo, change_with}
 use Rattle.ug_nodes.proofs.Steps.{none_told, same_told, other_told}
 
--- what is told of all columns tells the box
+-- what describes all columns describes the box
 pub told : (root area : List Interval) (changes : List Change) → length area ≡ length root → IsToldTo (length root) root area changes → Tell root changes area
 told root area changes width t = record { width = width; each = t.each; changed = t.changed; kept = t.kept }
 
--- a change that a box below the root tells is one of it
+-- a change that a box below the root describes is one of it
 valid : (root area : List Interval) (changes : List Change) → Tell root changes area → IsBelow area root → AreChangesOf root changes
 valid root area changes t b k h =
     let c = change_at changes k in
@@ -52,7 +52,7 @@ same_or_not a b = elim (cases_eq_z a.low b.low) [
   ]
 ]
 
--- some list tells of the first n columns
+-- some list describes the first n columns
 some_told : (root area : List Interval) (n : ℕ) → n ≤ length root → (changes : List Change) × IsToldTo n root area changes
 some_told root area zero h = ([], none_told root area)
 some_told root area (suc n) h =
@@ -84,7 +84,7 @@ listed_or_not (c ∷ changes) j = elim (cases_eq c.column j) [
     listed_later c changes j ne not zero h e = ne e
     listed_later c changes j ne not (suc k) h e = not (k, omega (arith, h), e)
 
--- a list tells one box
+-- a list describes one box
 pub one_told : (root area other : List Interval) (changes : List Change) → Tell root changes area → Tell root changes other → area ≡ other
 one_told root area other changes s t = ext_get_or no_interval area other (s.width ∙ sym t.width) (λ j h. elim (listed_or_not changes j) [
   | inl n ↦ subst (λ m. interval_at area m ≡ interval_at other m) n.2 (s.changed n.0 n.1 ∙ sym (t.changed n.0 n.1))
@@ -118,7 +118,7 @@ IsAmong changes c = (k : ℕ) × (k < length changes) × (change_at changes k �
 abbrev AreAmong : List Change → List Change → Type 0
 AreAmong xs ys = (k : ℕ) → k < length xs → IsAmong ys (change_at xs k)
 
--- a change that a box is told by is told by each list that tells the box
+-- a change that a box is described by is described by each list that describes the box
 are_among : (root area : List Interval) (changes other : List Change) → Tell root changes area → Tell root other area → AreAmong changes other
 are_among root area changes other s t k h =
     let c = change_at changes k in
@@ -170,7 +170,7 @@ same_rising (x ∷ xs) (y ∷ ys) rx ry a b =
     subst (λ z. x ∷ xs ≡ z ∷ ys) e
     (ap (λ zs. x ∷ zs) (same_rising xs ys (rising_rest x xs rx) (rising_rest x ys ry') (rest_among x xs ys rx a') (rest_among x ys xs ry' b')))
 
--- a box is told by one rising list
+-- a box is described by one rising list
 pub same_list : (root area : List Interval) (changes other : List Change) → IsRising changes → IsRising other
     → Tell root changes area → Tell root other area → changes ≡ other
 same_list root area changes other r q s t =

@@ -108,7 +108,7 @@ same_name_test a b e = subst (λ c. is_same_name a c ≡ true) e (itself a)
     itself : (a : Name) → is_same_name a a ≡ true
     itself a = grind (arith, nat_tests)
 
--- where no two have one name, each later name is after the earlier ones
+-- if no two have one name, each later name is after the earlier ones
 strict_pairs : (xs : List Node) → AreNamedOnce xs → AllPairs NotAfter xs → AllPairs IsNamedBefore xs
 strict_pairs xs once order i j d ij jl =
     let a = own_name (get_or xs i d).line in

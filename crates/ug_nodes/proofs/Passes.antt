@@ -58,7 +58,7 @@ none_passed root told changes = record {
   later_told = λ k le h. omega arith;
 }
 
--- a change told that is not listed: the root's bounds are not within those told
+-- a given change that is not listed: the root's bounds are not within those given
 told_alone : (root : List Interval) (told changes : List Change) (n : ℕ) → IsRising told → AreChangesOf root told → n < length told
     → (IsListed changes (change_at told n).column → ⊥) → ColumnFits root told changes (change_at told n).column → ⊥
 told_alone root told changes n rising valid there free f =
@@ -71,7 +71,7 @@ told_alone root told changes n rising valid there free f =
     c.differs.other (same_bounds (change_bounds t) (interval_at root t.column)
     (omega (arith, ints, c.within.low, narrow.low)) (omega (arith, ints, c.within.high, narrow.high)))
 
--- the next change told is before each change that is left
+-- the next given change is before each change that is left
 pub told_before : (root : List Interval) (told changes : List Change) (i n : ℕ) → IsRising told → AreChangesOf root told
     → ArePassed root told changes i n → n < length told
     → ((k : ℕ) → i ≤ k → k < length changes → (change_at told n).column < (change_at changes k).column)
@@ -91,7 +91,7 @@ next_told_before root told changes i n rising changes_rise valid p there lt =
     told_before root told changes i n rising valid p there
     (λ k le h. let a = rest_above changes i k changes_rise le h in omega (arith, a, lt))
 
--- a change that does not fit, where none told is before it
+-- a change that does not fit, if no given one is before it
 pub not_passed : (root : List Interval) (told changes : List Change) (i n : ℕ) → IsRising told → IsRising changes
     → ArePassed root told changes i n → i < length changes
     → (n < length told → (change_at changes i).column ≤ (change_at told n).column)
@@ -107,7 +107,7 @@ pub change_unfit : (root : List Interval) (told changes : List Change) (i : ℕ)
     → (IsChangeOf root (change_at changes i) → ⊥) → ColumnFits root told changes (change_at changes i).column → ⊥
 change_unfit root told changes i there bad f = bad (f.valid i there refl)
 
--- or its bounds are not within those told
+-- or its bounds are not within those given
 pub bounds_unfit : (root : List Interval) (told changes : List Change) (i n : ℕ) → IsRising told → IsRising changes
     → AreChangesOf root told → i < length changes → n < length told → (change_at told n).column ≡ (change_at changes i).column
     → (IsChangeOf root (change_at changes i) × IsClosedWithin (change_bounds (change_at changes i)) (change_bounds (change_at told n)) → ⊥)
@@ -131,7 +131,7 @@ only_valid root changes i k rising there h e is = elim (cases_order i k) [
   | inr (inr gt) ↦ let a = rising k i gt there in absurd (omega (arith, a, e))
 ]
 
--- a change fits whose column no change told has
+-- a change fits whose column no given change has
 pub alone_fits : (root : List Interval) (told changes : List Change) (i : ℕ) → IsRising changes → i < length changes
     → IsChangeOf root (change_at changes i) → (IsListed told (change_at changes i).column → ⊥)
     → ColumnFits root told changes (change_at changes i).column
@@ -144,7 +144,7 @@ alone_fits root told changes i rising there is free =
           (subst (λ s. IsNarrower (change_bounds c) s) (sym (area_by_kept root told c.column free)) (narrower_within _ _ is.within));
     }
 
--- and one whose bounds are within those told of its column
+-- and one whose bounds are within those given of its column
 pub both_fit : (root : List Interval) (told changes : List Change) (i n : ℕ) → IsRising told → IsRising changes
     → AreChangesOf root told → i < length changes → n < length told → (change_at told n).column ≡ (change_at changes i).column
     → IsChangeOf root (change_at changes i) → IsClosedWithin (change_bounds (change_at changes i)) (change_bounds (change_at told n))
@@ -160,7 +160,7 @@ both_fit root told changes i n rising changes_rise valid there told_there same i
           (subst (λ s. IsNarrower (change_bounds c) s) (sym as_told) (narrower_within _ _ within));
     }
 
--- once its column fits, the change is passed, and those told up to its column
+-- once its column fits, the change is passed, and those given up to its column
 one_passed : (root : List Interval) (told changes : List Change) (i n n' : ℕ) → IsRising told → IsRising changes
     → ArePassed root told changes i n → i < length changes
     → (n < length told → (change_at changes i).column ≤ (change_at told n).column)
@@ -183,7 +183,7 @@ one_passed root told changes i n n' rising changes_rise p there behind first_tol
   later_told = λ k le h. let a = later_told k le h in omega (arith, a);
 }
 
--- a change before those told that are left
+-- a change before those given that are left
 pub alone_passed : (root : List Interval) (told changes : List Change) (i n : ℕ) → IsRising told → IsRising changes
     → ArePassed root told changes i n → i < length changes
     → (n < length told → (change_at changes i).column < (change_at told n).column)
@@ -197,7 +197,7 @@ alone_passed root told changes i n rising changes_rise p there behind is =
     (not_listed told n p.bound ((change_at changes i).column + 1) (change_at changes i).column p.first_told
     (λ k le h. let a = later_told k le h in omega (arith, a)) (p.later i (omega arith) there) (omega arith)))
 
--- a change of the column of the next told
+-- a change of the column of the next given
 pub both_passed : (root : List Interval) (told changes : List Change) (i n : ℕ) → IsRising told → IsRising changes
     → AreChangesOf root told → ArePassed root told changes i n → i < length changes → n < length told
     → (change_at told n).column ≡ (change_at changes i).column
@@ -209,13 +209,13 @@ both_passed root told changes i n rising changes_rise valid p there told_there s
     (λ k le h. let a = rising n k (omega arith) h in omega (arith, a, same))
     (both_fit root told changes i n rising changes_rise valid there told_there same is.0 is.1)
 
--- where changes are told that are left, the next is the first that does not fit
+-- if changes are given that are left, the next is the first that does not fit
 pub told_is_left : (root : List Interval) (told changes : List Change) (n : ℕ) → IsRising told → AreChangesOf root told
     → ArePassed root told changes (length changes) n → n < length told → IsFirstOutside root told changes (change_at told n).column
 told_is_left root told changes n rising valid p there =
     told_before root told changes (length changes) n rising valid p there (λ k le h. absurd (omega arith))
 
--- where none is, the changes spell a box below
+-- if none is, the changes spell a box below
 pub all_passed : (root : List Interval) (told changes : List Change) (n : ℕ) → ArePassed root told changes (length changes) n
     → length told ≤ n → SpellBelow root told changes
 all_passed root told changes n p none =
@@ -229,7 +229,7 @@ all_passed root told changes n p none =
       };
     }
 
--- after all changes, one told is left or none is
+-- after all changes, one of those given is left or none is
 pub ended : (root : List Interval) (told changes : List Change) (n : ℕ) (r : Option ℕ) → IsRising told → AreChangesOf root told
     → ArePassed root told changes (length changes) n
     → MatchOption r (length told ≤ n) (λ column. (n < length told) × ((change_at told n).column ≡ column))

@@ -1,4 +1,4 @@
--- One column more is looked at.
+-- One column more is examined.
 use Rattle.std.proofs.Common.{◌≡◌, ◌≢◌, inl, inr, ℕ, ◌+◌, ◌<◌, List, [], ◌∷◌, ◌++◌, length, refl, sym, ap, ◌∙◌, subst, arith}
 use Rattle.std.proofs.lemmas.Bool.{cases_eq}
 use Rattle.std.proofs.lemmas.List.{get_or_push, get_or_append_left, length_push}
@@ -18,7 +18,7 @@ each_push P xs x each here k h = elim (cases_eq k (length xs)) [
       subst P (sym (get_or_append_left xs (x ∷ []) no_change k lt)) (each k lt)
 ]
 
--- the first n columns are not told of by more names
+-- the first n columns are not described by more names
 listed_push : (xs : List Change) (x : Change) (j : ℕ) → IsListed xs j → IsListed (xs ++ x ∷ []) j
 listed_push xs x j n = (n.0, omega (arith, n.1, length_push xs x), ap (λ (c : Change). c.column) (get_or_append_left xs (x ∷ []) no_change n.0 n.1) ∙ n.2)
 
@@ -38,7 +38,7 @@ rising_push xs x rising below i k lt h = elim (cases_eq k (length xs)) [
       (subst (λ (c : Change). (change_at xs i).column < c.column) (sym (get_or_append_left xs (x ∷ []) no_change k klt)) (rising i k lt klt))
 ]
 
--- of no column nothing is told
+-- of no column nothing is described
 pub none_told : (root area : List Interval) → IsToldTo 0 root area []
 none_told root area = record {
   rising = λ i k a b. absurd (omega arith);
@@ -62,7 +62,7 @@ same_told n root area changes t e = record {
   ];
 }
 
--- another is told of by its change
+-- another is described by its change
 pub other_told : (n : ℕ) (root area : List Interval) (changes : List Change) → IsToldTo n root area changes
     → n < length root → interval_at area n ≢ interval_at root n
     → IsToldTo (n + 1) root area (changes ++ change_with n (interval_at area n) ∷ [])

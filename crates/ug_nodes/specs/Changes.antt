@@ -31,7 +31,7 @@ IsRising changes =
     (i k : ℕ) → i < k → k < length changes
     → (change_at changes i).column < (change_at changes k).column
 
--- the column of each change is one of so many
+-- the column of each change is one of this many
 abbrev pub AreThere : ℕ → List Change → Type 0
 AreThere width changes = (k : ℕ) → k < length changes → (change_at changes k).column < width
 
@@ -44,7 +44,7 @@ pub record IsDifference (root : List Interval) (change : Change) : Type 0 where
   pub there : change.column < length root
   pub other : change_bounds change ≢ interval_at root change.column
 
--- the changes tell how the box differs from the root's: it has their bounds, else the root's
+-- the changes say how the box differs from the root's: it has their bounds, else the root's
 pub record Tell (root : List Interval) (changes : List Change) (area : List Interval) : Type 0 where
   pub width : length area ≡ length root
   pub each : (k : ℕ) → k < length changes → IsDifference root (change_at changes k)
@@ -62,7 +62,7 @@ pub record IsChangeOf (root : List Interval) (change : Change) : Type 0 where
 abbrev pub AreChangesOf : List Interval → List Change → Type 0
 AreChangesOf root changes = (k : ℕ) → k < length changes → IsChangeOf root (change_at changes k)
 
--- the changes are those of a box below the root, and tell how this box differs from the root's
+-- the changes are those of a box below the root, and say how this box differs from the root's
 pub record Spells (root : List Interval) (changes : List Change) (area : List Interval)
     : Type 0 where
   pub valid : AreChangesOf root changes

@@ -16,7 +16,7 @@ abbrev pub after : List Interval → Delta → List Interval
 after before (Whole area) = area
 after before (Changed changes) = area_by before changes
 
--- the changes rise, and tell how the box that they make differs from the one before
+-- the changes rise, and say how the box that they make differs from the one before
 pub record AreDifferences (before : List Interval) (changes : List Change) : Type 0 where
   pub few : length before ≤ 10 ^ 4
   pub rising : IsRising changes
@@ -47,7 +47,7 @@ AreDeltas before (delta ∷ deltas) = IsDelta before delta × AreDeltas (after b
 abbrev pub delta_at : List Delta → ℕ → Delta
 delta_at deltas k = slice_index_or deltas k (Whole [])
 
--- the first so many are the same, and the next, if there is one, is another
+-- the first this many are the same, and the next, if there is one, is another
 pub record IsFork (deltas others : List Delta) (count : ℕ) : Type 0 where
   pub below : count ≤ length others
   pub same : take count deltas ≡ take count others

@@ -10,18 +10,18 @@ pub record AreHands (deltas : List Delta) (last : List Interval) : Type 0 where
   pub chain : AreDeltas [] deltas
   pub ends : last ≡ last_behind [] deltas
 
--- the first so many boxes are the same, and the next, if there is one, is another
+-- the first this many boxes are the same, and the next, if there is one, is another
 pub record Agree (handed taken : List (List Interval)) (count : ℕ) : Type 0 where
   pub below : count ≤ length taken
   pub same : take count handed ≡ take count taken
   pub next : count < length taken → box_at handed count ≢ box_at taken count
 
--- a walk: the box that it stands at, and those ahead of it
+-- a walk: the box that it is at, and those ahead of it
 pub record WalkState : Type 0 where
   pub area : List Interval
   pub ahead : List (List Interval)
 
--- it stands at the box that was the first ahead
+-- it is at the box that was the first ahead
 pub record HasGoneOn (old new : WalkState) : Type 0 where
   pub boxes : old.ahead ≡ new.area ∷ new.ahead
 

@@ -5,12 +5,13 @@ use Rattle.ug_rows.specs.Boxes.{IsBelow, IsNarrower, interval_at}
 use Rattle.ug_nodes.specs.declared.change.Change.{Change}
 use Rattle.ug_nodes.specs.Changes.{AreChangesOf, IsChangeOf, area_by, change_at}
 
--- the changes are those of a box below the root, and below the one that the told changes spell
+-- the changes are those of a box below the root, and below the one that the given changes spell
 pub record SpellBelow (root : List Interval) (told changes : List Change) : Type 0 where
   pub valid : AreChangesOf root changes
   pub below : IsBelow (area_by root changes) (area_by root told)
 
--- column j fits: a change of it is one of a box below the root, and its bounds narrower than told
+-- column j fits: a change of it is one of a box below the root, and its bounds narrower than
+-- given
 pub record ColumnFits (root : List Interval) (told changes : List Change) (j : ℕ) : Type 0 where
   pub valid : (k : ℕ) → k < length changes → (change_at changes k).column ≡ j
       → IsChangeOf root (change_at changes k)

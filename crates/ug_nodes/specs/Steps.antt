@@ -12,7 +12,7 @@ use Rattle.ug_nodes.specs.Outside.{ColumnFits}
 abbrev pub change_with : ℕ → Interval → Change
 change_with column bounds = record { column = column; low = bounds.low; high = bounds.high }
 
--- the changes rise, and tell how the first n columns of the box differ from the root's
+-- the changes rise, and say how the first n columns of the box differ from the root's
 pub record IsToldTo (n : ℕ) (root area : List Interval) (changes : List Change) : Type 0 where
   pub rising : IsRising changes
   pub below : (k : ℕ) → k < length changes → (change_at changes k).column < n
@@ -21,7 +21,8 @@ pub record IsToldTo (n : ℕ) (root area : List Interval) (changes : List Change
       → interval_at area (change_at changes k).column ≡ change_bounds (change_at changes k)
   pub kept : (j : ℕ) → j < n → (IsListed changes j → ⊥) → interval_at area j ≡ interval_at root j
 
--- each column before the bound fits; before it are the first i changes and n told, and no others
+-- each column before the bound fits; before it are the first i changes and n given, and no
+-- others
 pub record ArePassed (root : List Interval) (told changes : List Change) (i n : ℕ) : Type 0 where
   pub bound : ℕ
   pub fit : (j : ℕ) → j < bound → ColumnFits root told changes j

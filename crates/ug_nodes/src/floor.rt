@@ -88,7 +88,7 @@ fn term_of(terms: &[Term], column: u32) -> Option<Term>
         ((k : ℕ) → k < length terms.now → (term_at terms.now k).column ≢ column)
         (λ term. IsAmong term terms.now × (term.column ≡ column)) }
 {
-    // Where each lower column has a term, this one's stands at the column's own place.
+    // If each lower column has a term, this one's is at the column's own place.
     let own = column as usize;
     if is_of(terms, own, column) {
         return Some(terms[own]);

@@ -111,7 +111,7 @@ impl<'a> Model for Walk<'a> {
 }
 
 impl<'a> Walk<'a> {
-    /// Goes on to the next box, and says whether there was one. After an error it stands where it
+    /// Continues to the next box, and says whether there was one. After an error it stands where it
     /// stood.
     pub fn step(&mut self) -> Result<bool, AllocError>
         ensures ok { IfOk result (DidStep self.old self.new) }
@@ -125,7 +125,7 @@ impl<'a> Walk<'a> {
         Ok(true)
     }
 
-    /// The intervals of the box that it stands at; none before the first.
+    /// The intervals of the box that it is at; none before the first.
     pub fn area(&self) -> &[Interval]
         ensures { result.now ≡ self.now.area }
     {
@@ -133,7 +133,7 @@ impl<'a> Walk<'a> {
     }
 }
 
-// The first so many are the same, and the next, if there is one, is another.
+// The first this many are the same, and the next, if there is one, is another.
 fn leading(deltas: &[Delta], others: &[Delta]) -> usize
     requires { length deltas.now ≡ length others.now }
     ensures { IsFork deltas.now others.now result }

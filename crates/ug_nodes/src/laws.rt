@@ -30,7 +30,7 @@ pub fn one_box_for_each_list()
         → AreChangesOf root changes × (area ≡ area_by root changes) }
 {}
 
-/// The ancestors of a node stand in one row, each above the next, and no node is its own ancestor.
+/// The ancestors of a node are in one row, each above the next, and no node is its own ancestor.
 pub fn ancestors_stand_in_a_row()
     ensures along { (a b c : List Name) → IsAncestor a b → IsAncestor b c → IsAncestor a c }
     ensures not_itself { (a : List Name) → IsAncestor a a → ⊥ }

@@ -1,9 +1,9 @@
 //! What a coordinator and its solvers say of subproblems: names, lines, and boxes as changes. It
-//! stands on ug_lists and ug_rows. `is_below` and `is_ancestor` say how nodes stand to one another;
-//! `primitive` gives those of the nodes held that have no ancestor among them; `changes_of` and
-//! `area_of` turn a box below the root into its one list of changes and back; `first_outside` and
-//! `floor_of_changes` judge changes and move a floor with them, making no box. `Hands` keeps the
-//! boxes that were handed, each as what it is against the one before it.
+//! depends on ug_lists and ug_rows. `is_below` and `is_ancestor` say how nodes stand to one
+//! another; `primitive` gives those of the nodes held that have no ancestor among them;
+//! `changes_of` and `area_of` turn a box below the root into its one list of changes and back;
+//! `first_outside` and `floor_of_changes` judge changes and move a floor with them, making no box.
+//! `Hands` keeps the boxes that were handed, each as what it is against the one before it.
 #![tactic(auto)]
 
 mod ahead;

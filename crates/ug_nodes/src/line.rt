@@ -69,7 +69,7 @@ impl Line {
     }
 }
 
-/// Whether a name stands in a line, so that the line's node is that node or below it.
+/// Whether a name is in a line, so that the line's node is that node or below it.
 pub fn is_below(line: &Line, name: &Name) -> bool
     ensures { IsTrue result ↔ Contains line.now name.now }
 {

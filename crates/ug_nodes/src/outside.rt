@@ -12,7 +12,7 @@ use ug_rows::{IntBox, Interval, is_closed_within};
 
 /// The least column in which the changes spell no box below the one that `told` spells: a change
 /// of it is none of a box below the root, or its bounds, the root's where no change lists it, are
-/// not within those told. There is none exactly where they spell such a box. It makes no box,
+/// not within those given. There is none exactly where they spell such a box. It makes no box,
 /// takes no memory, and passes once over both lists.
 pub fn first_outside(root: &IntBox, told: &Changes, changes: &Changes) -> Option<u32>
     requires { AreChangesOf root.now told.now }
@@ -42,7 +42,8 @@ fn outside_of(root: &[Interval], told: &[Change], changes: &[Change]) -> Option<
     left(told, at)
 }
 
-// Passes one change more: how many of those told are passed then, or the column that does not fit.
+// Passes one change more: how many of those given are passed then, or the column that does not
+// fit.
 fn pass(
     root: &[Interval],
     told: &[Change],
@@ -79,7 +80,8 @@ fn pass(
     }
 }
 
-// How the column of the next change told stands to this one: as if behind it, where none is left.
+// How the column of the next given change stands to this one: as if behind it, where none is
+// left.
 fn next_told(told: &[Change], at: usize, column: u32) -> Ordering
     ensures { MatchOrdering result
         ((at < length told.now) × ((change_at told.now at).column < column))
@@ -99,7 +101,7 @@ fn is_change_within(root: &[Interval], change: Change, told: Change) -> bool
     is_change_of(root, change) && is_closed_within(change.bounds(), told.bounds())
 }
 
-// The column of the next change told, if any is left.
+// The column of the next given change, if any is left.
 fn left(told: &[Change], at: usize) -> Option<u32>
     ensures { MatchOption result
         (length told.now ≤ at)

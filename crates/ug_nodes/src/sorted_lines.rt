@@ -17,7 +17,7 @@ fn lines_of<'a>(alloc: Global, nodes: &[&'a Node]) -> Result<Vec<&'a [Name]>, Al
     Ok(lines)
 }
 
-// The lines of the nodes in order: a front comes before what goes on from it.
+// The lines of the nodes in order: a front comes before what resumes from it.
 pub fn sorted_lines<'a>(alloc: Global, nodes: &[&'a Node]) -> Result<Vec<&'a [Name]>, AllocError>
     ensures same { IfOk result (λ lines.
         IsPermutation (map line_of nodes.now) (fronts lines.items)) }
@@ -49,7 +49,7 @@ fn has_front(lines: &[&[Name]], line: &[Name]) -> bool
     false
 }
 
-// Whether the first names of a line, so many, are one of the lines.
+// Whether the first names of a line, this many, are one of the lines.
 fn is_front_among(lines: &[&[Name]], line: &[Name], k: usize) -> bool
     requires sorted { AreSorted lines.now }
     requires within { k ≤ length line.now }

@@ -49,7 +49,7 @@ less_first Less p e h = cc
 less_first Equal p e h = cc
 less_first Greater p e h = cc
 
--- what is not before another has no lesser floor
+-- what is not before another has no smaller floor
 pub floors_rise : (a b : Entry) → is_before b a ≡ false → a.floor ≤ℤ b.floor
 floors_rise a b h = by_ranked (b.floor <ℤ a.floor) (b.floor ≡ a.floor) (a.floor <ℤ b.floor) (int_cmp b.floor a.floor) (int_ranked b.floor a.floor _ refl)
     (λ e lt. absurd (less_first (int_cmp b.floor a.floor) _ e h))

@@ -11,7 +11,7 @@ use Rattle.ug_pool.specs.Pools.{is_before, entry_at, no_entry, IsInOrder, with_e
 use Rattle.ug_pool.specs.Steps.{IsPlace}
 use Rattle.ug_pool.proofs.Orders.{not_before_along, one_way, floors_rise}
 
--- where a test holds of the first i entries and of no other, it picks those
+-- if a test holds of the first i entries and of no other, it picks those
 pub filter_take : (p : Entry → Bool) (xs : List Entry) (i : ℕ) → ((k : ℕ) → k < i → p (entry_at xs k) ≡ true)
     → ((k : ℕ) → i ≤ k → k < length xs → p (entry_at xs k) ≡ false) → i ≤ length xs → filter p xs ≡ take i xs
 filter_take p [] zero holds fails h = refl
@@ -21,7 +21,7 @@ filter_take p (x ∷ xs) zero holds fails h =
 filter_take p (x ∷ xs) (suc i) holds fails h =
     rw (holds 0 (omega arith)) (ap (λ ys. x ∷ ys) (filter_take p xs i (λ k lt. holds (suc k) (omega arith)) (λ k le lt. fails (suc k) (omega arith) (omega arith)) (omega arith)))
 
--- where it holds of none of them and of each other, it picks the others
+-- if it holds of none of them and of each other, it picks the others
 pub filter_drop : (p : Entry → Bool) (xs : List Entry) (i : ℕ) → ((k : ℕ) → k < i → p (entry_at xs k) ≡ false)
     → ((k : ℕ) → i ≤ k → k < length xs → p (entry_at xs k) ≡ true) → i ≤ length xs → filter p xs ≡ drop i xs
 filter_drop p [] zero fails holds h = refl
@@ -38,7 +38,7 @@ insert_with_entry e xs at h =
     let behind = filter_drop (λ x. is_before e x) xs at h.ahead h.behind h.there in
     sym (ap (λ ys. ys ++ e ∷ filter (λ x. is_before e x) xs) ahead ∙ ap (λ ys. take at xs ++ e ∷ ys) behind)
 
--- what stands at each place after it
+-- what is at each place after it
 after_insert : (e : Entry) (xs : List Entry) (at : ℕ) (P : Entry → Type 0) (k : ℕ) → at ≤ length xs
     → (k < at → P (entry_at xs k)) → (k ≡ at → P e) → (at < k → P (entry_at xs (k - 1))) → P (entry_at (insert xs at e) k)
 after_insert e xs at P k h below here above = elim (cases_order k at) [
@@ -117,7 +117,7 @@ place_from_parts e xs at h parts = record {
     not_true true h = refl
     not_true false h = cc
 
--- the entries of lesser floor are a first part
+-- the entries of smaller floor are a first part
 pub below_from_parts : (value : ℤ) (xs : List Entry) (at : ℕ) → at ≤ length xs
     → IsPartitionPoint (λ x. int_lt x.floor value ≡ true) (λ x. int_lt x.floor value ≡ false) xs at → take at xs ≡ with_floor_below value xs
 below_from_parts value xs at h parts = sym (filter_take (λ x. int_lt x.floor value) xs at

@@ -1,4 +1,4 @@
--- Entries in order, said along the list: each is before none that stands ahead of it.
+-- Entries in order, said along the list: each is before none that precedes it.
 use Rattle.std.proofs.Common.{◌≡◌, ℕ, zero, suc, ◌<◌, Bool, true, false, cond, List, [], ◌∷◌, ◌++◌, length, filter, arith}
 use Rattle.ug_pool.specs.declared.entry.Entry.{Entry}
 use Rattle.ug_pool.specs.Pools.{is_before, entry_at, IsInOrder}
@@ -23,7 +23,7 @@ pub each_from_index : (P : Entry → Type 0) (xs : List Entry) → ((k : ℕ) �
 each_from_index P [] h = tt
 each_from_index P (x ∷ xs) h = (h 0 (omega arith), each_from_index P xs (λ k lt. h (suc k) (omega arith)))
 
--- each entry is before none that stands ahead of it, said along the list
+-- each entry is before none that precedes it, said along the list
 abbrev pub Rises : List Entry → Type 0
 Rises [] = Unit {0}
 Rises (x ∷ xs) = Each (λ y. is_before y x ≡ false) xs × Rises xs

@@ -8,7 +8,7 @@ abbrev pub in_order : List Entry → List Entry
 in_order [] = []
 in_order (entry ∷ entries) = with_entry entry (in_order entries)
 
--- of the first n entries the one at this place is the least, and before each that stands behind it
+-- of the first n entries the one at this place is the least, and before each that follows it
 pub record IsLeast (n : ℕ) (entries : List Entry) (at : ℕ) : Type 0 where
   pub there : at < n
   pub ahead : (k : ℕ) → k < at → is_before (entry_at entries k) (entry_at entries at) ≡ false

@@ -29,7 +29,7 @@ no_entry = record { floor = pos 0; node = record { line = []; changes = [] } }
 abbrev pub entry_at : List Entry → ℕ → Entry
 entry_at entries k = slice_index_or entries k no_entry
 
--- no entry is before one that stands ahead of it in the list
+-- no entry is before one that precedes it in the list
 abbrev pub IsInOrder : List Entry → Type 0
 IsInOrder entries =
     (i k : ℕ) → i < k → k < length entries

@@ -1,5 +1,5 @@
 //! The pool of open nodes, in order of their floors and names.
-//! It stands on ug_nodes, ug_lists and ug_rows.
+//! It depends on ug_nodes, ug_lists and ug_rows.
 //! `OpenNodes` takes nodes in, gives the least, and drops those whose floor is too great or that
 //! stand below a node, each exactly as defined; `reserve` alone takes memory. `Pool` keeps it in
 //! order, and lends its nodes; `PlainPool`, to compare it with, is slow, over an unsorted list.

@@ -91,7 +91,7 @@ negated : (a b : ℕ) → neg_ℤ (pos a) *ℤ pos b ≡ neg_ℤ (pos (a * b))
 negated zero b = omega (arith, ints)
 negated (suc a) b = refl
 
--- two factors that are not below 0 may be taken as one
+-- two coefficients that are not below 0 may be taken as one
 joined : (z : ℤ) (a b : ℕ) → z *ℤ pos a *ℤ pos b ≡ z *ℤ pos (a * b)
 joined (pos n) a b = ap pos (mul_assoc n a b)
 joined (negsuc n) a b = negated (suc n * a) b ∙ ap (λ (x : ℕ). neg_ℤ (pos x)) (mul_assoc (suc n) a b)

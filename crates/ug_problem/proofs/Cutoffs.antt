@@ -14,7 +14,7 @@ use Rattle.ug_problem.specs.Better.{Better, BetterIsBelowCutoff, IsGap, IsGood, 
 use Rattle.ug_problem.proofs.Floors.{floor_bound, floor_within}
 use Rattle.ug_problem.proofs.Values.{value_within}
 
--- the greater of two is one of them, and at least each
+-- the larger of two is one of them, and at least each
 max_is : (a b : ℤ) → ((int_max a b ≡ a) × (b ≤ℤ a)) ⊎ ((int_max a b ≡ b) × (a ≤ℤ b))
 max_is a b = by_lt_z b a
     (λ less. inl (grind (arith, ints, less), omega (arith, ints, less)))
@@ -25,7 +25,7 @@ root_bound : (p : Instance) (x : List ℤ) → IsProblem p → IsInside (root_of
     → box_floor p.objective (root_of p) ≤ℤ value_of p.objective x
 root_bound p x problem inside = floor_bound p (root_of p) x problem (length-map p.columns bounds_of) inside
 
--- the greater of a number less a gap and one that is at most the number is between the two
+-- the larger of a number less a gap and one that is at most the number is between the two
 between_ends : (v gap low : ℤ) (n : ℕ) → pos 0 ≤ℤ gap → low ≤ℤ v → unsigned_abs low ≤ n → unsigned_abs v ≤ n
     → unsigned_abs (int_max (v -ℤ gap) low) ≤ n
 between_ends v gap low n g h a b = elim (max_is (v -ℤ gap) low) [

@@ -76,7 +76,7 @@ better_still p gap (Some z) x y g most b = one_better p gap (Some z) y g (record
       b.less most;
 })
 
--- a point of a lesser value is of no greater one
+-- a point of a smaller value is of no greater one
 pub no_greater : (p : Instance) (best : Option (List ℤ)) (x : List ℤ)
     → IfSome (option_map (value_of p.objective) best) (λ value. value_of p.objective x <ℤ value)
     → IfSome best (λ y. value_of p.objective x ≤ℤ value_of p.objective y)
@@ -130,7 +130,7 @@ one_is_kept = record {
   right = λ p gap best g. (right_one p gap best g, one_right p gap best);
 }
 
--- what is less by more than the greater gap is less by more than the lesser
+-- what is less by more than the larger gap is less by more than the smaller
 less_by_less : (p : Instance) (gap more : ℤ) (point : Option (List ℤ)) (x : List ℤ) → gap ≤ℤ more
     → IfSome point (λ y. (value_of p.objective x +ℤ more) <ℤ value_of p.objective y)
     → IfSome point (λ y. (value_of p.objective x +ℤ gap) <ℤ value_of p.objective y)

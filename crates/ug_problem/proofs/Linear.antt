@@ -6,7 +6,7 @@ use Rattle.ug_rows.specs.Rows.{IsLinear, no_term}
 use Rattle.ug_problem.specs.Instances.{Instance, IsRow, AreTerms, no_row, row_at}
 use Rattle.ug_problem.specs.Limits.{AreSmall, IsProblem}
 
--- no factor is above 10^24, term by term
+-- no coefficient is above 10^24, term by term
 each_small : (terms : List Term) (k : ℕ) → AreSmall terms → k < length terms
     → unsigned_abs (slice_index_or terms k no_term).factor ≤ 10 ^ 24
 each_small terms k small there =

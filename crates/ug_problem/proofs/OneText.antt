@@ -11,7 +11,7 @@ use Rattle.std.specs.Str.Parse.{AllDigits, digits_value}
 use Rattle.ug_problem.specs.Printed.{IsLowest, IsSpelled}
 use Rattle.ug_problem.proofs.Printing.{digits_cons}
 
--- quotient and remainder are told apart
+-- quotient and remainder are distinguished
 same_parts : (a b p v w : ℕ) → v < p → w < p → a * p + v ≡ b * p + w → (a ≡ b) × (v ≡ w)
 same_parts a b p v w hv hw e = (
   sym (div-mul-add a p v hv) ∙ ap (λ (x : ℕ). x / p) e ∙ div-mul-add b p w hw,

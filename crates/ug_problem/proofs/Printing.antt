@@ -13,7 +13,7 @@ pub record IsSame (scale number digits places : ℕ) : Type 0 where
   pub within : places ≤ scale
   pub equal : number ≡ digits * 10 ^ (scale - places)
 
--- a digit 0 of d is a factor 10 of p
+-- a digit 0 of d is a coefficient 10 of p
 shift : (d p : ℕ) → d % 10 ≡ 0 → d * p ≡ d / 10 * (p * 10)
 shift d p last =
     let e : d ≡ d / 10 * 10 = omega arith in

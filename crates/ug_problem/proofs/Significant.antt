@@ -211,7 +211,7 @@ pub steps : (d e : Digits) (bytes : List ℕ) (i : ℕ) (r : Option Digits) → 
 steps d e bytes i r h there push text kept =
     push (text ++ take i bytes) (sym (h text kept)) ∙ ap kept_of (step_more text bytes i there)
 
--- where a step gives nothing, nothing is kept of the whole
+-- if a step gives nothing, nothing is kept of the whole
 pub stops : (d : Digits) (bytes : List ℕ) (i : ℕ) → IsSoFar d bytes i None
     → (text : List ℕ) → kept_of text ≡ Some d → None ≡ kept_of (text ++ bytes)
 stops d bytes i h text kept =

@@ -25,8 +25,8 @@ pub record Better (p : Instance) (gap : ℤ) (best : Incumbent) (x : List ℤ) :
   pub less : IfSome (cutoff_point best)
       (λ y. (value_of p.objective x +ℤ gap) <ℤ value_of p.objective y)
 
--- where one point is kept at most: x is feasible, and there is no such point, or the value of x is
--- less than that of it by more than the gap
+-- if one point is kept at most: x is feasible, and there is no such point, or the value of x is
+-- smaller by more than the gap than the value of it
 pub record BetterThanOne (p : Instance) (gap : ℤ) (best : Option (List ℤ)) (x : List ℤ)
     : Type 0 where
   pub feasible : Feasible p x
@@ -71,7 +71,7 @@ BetterIsBelowCutoff = (p : Instance) (gap : ℤ) (best : Incumbent) (x : List �
     → Better p gap best x
     ↔ (IsGood p (best_cutoff p gap (cutoff_point best)) x × ¬ Contains best.points x)
 
--- what is Covered under a gap is so under a greater one
+-- boxes that are Covered under a gap are so under a larger one
 abbrev pub CoveredUnderMore : Type 0
 CoveredUnderMore =
     (p : Instance) (gap more : ℤ) (best : Incumbent) (boxes : List (List Interval)) → gap ≤ℤ more

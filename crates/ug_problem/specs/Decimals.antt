@@ -40,7 +40,7 @@ are_digits text = not (length text == 0) && list_all is_ascii_digit text
 abbrev pub signed : Bool → ℕ → ℤ
 signed negative n = if negative then neg_ℤ (pos n) else pos n
 
--- how many zeros stand at the end of the digits
+-- the number of zeros at the end of the digits
 abbrev pub zeros_of : List ℕ → ℕ
 zeros_of digits = suffix_len is_zero_digit digits
 

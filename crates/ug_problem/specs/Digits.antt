@@ -1,4 +1,4 @@
--- What is kept of digits while they are read.
+-- The value of digits while they are read.
 use Rattle.std.specs.Prelude.{◌≡◌, ◌≢◌, ℕ, ◌^◌, ◌%◌, ◌<◌, ◌⊎◌, ◌&&◌, ◌==◌, nat_lt, List, length}
 use Rattle.std.specs.Prelude.{Option, Some, None, if◌then◌else◌}
 use Rattle.std.specs.Char.{is_ascii_digit}
@@ -6,7 +6,7 @@ use Rattle.std.specs.List.{list_all}
 use Rattle.ug_problem.specs.declared.decimal.digits.Digits.{Digits}
 use Rattle.ug_problem.specs.Decimals.{significant_of, zeros_of}
 
--- what is kept of a text, if it has digits alone and at most 38 of them count
+-- the value of a word, if it has digits alone and at most 38 of them count
 abbrev pub kept_of : List ℕ → Option Digits
 kept_of text =
     if list_all is_ascii_digit text && nat_lt (significant_of text) (10 ^ 38)

@@ -6,11 +6,11 @@ use Rattle.ug_problem.specs.Instances.{Instance, root_of, row_at}
 use Rattle.ug_problem.specs.declared.answer.Broken.{Broken}
 use Rattle.ug_problem.specs.declared.answer.Broken.TheVariants.{Length, Column, Row}
 
--- x keeps to the first n rows
+-- x satisfies the first n rows
 abbrev pub KeepsBelow : Instance → ℕ → List ℤ → Type 0
 KeepsBelow p n x = (r : ℕ) → r < n → Keeps (row_at p r) x
 
--- x has one value per column, each within its bounds, and keeps to each row
+-- x has one value per column, each within its bounds, and satisfies each row
 pub record Feasible (p : Instance) (x : List ℤ) : Type 0 where
   pub inside : IsInside (root_of p) x
   pub rows : KeepsBelow p (length p.rows) x
@@ -27,7 +27,7 @@ pub record IsFirstColumn (p : Instance) (x : List ℤ) (c : ℕ) : Type 0 where
   pub outside : ¬ IsWithin (interval_at (root_of p) c) (value_at x c)
   pub least : (j : ℕ) → j < c → IsWithin (interval_at (root_of p) j) (value_at x j)
 
--- r is the least row that x does not keep to, and x is within all bounds
+-- r is the least row that x does not satisfy, and x is within all bounds
 pub record IsFirstRow (p : Instance) (x : List ℤ) (r : ℕ) : Type 0 where
   pub inside : IsInside (root_of p) x
   pub there : r < length p.rows

@@ -6,7 +6,7 @@ use Rattle.std.specs.Int.{int_div_euclid}
 use Rattle.ug_problem.specs.declared.decimal.Decimal.{Decimal}
 use Rattle.ug_problem.specs.Decimals.{signed}
 
--- how many digits stand behind the point
+-- the number of digits behind the point
 abbrev pub places_of_power : ℤ → ℕ
 places_of_power (pos p) = 0
 places_of_power (negsuc p) = suc p

@@ -46,7 +46,7 @@ pub record IsName (name : List ℕ) : Type 0 where
   pub short : length name ≤ 255
   pub bytes : All IsWordByte name
 
--- the terms' columns rise strictly and are there, and no factor is 0
+-- the terms' columns rise strictly and exist, and no coefficient is 0
 pub record AreTerms (width : ℕ) (terms : List Term) : Type 0 where
   pub rising : (i k : ℕ) → i < k → k < length terms
       → (term_at terms i).column < (term_at terms k).column

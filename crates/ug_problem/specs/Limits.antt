@@ -16,17 +16,17 @@ pub record FitsCounts (p : Instance) : Type 0 where
   pub terms : sum_by (λ (row : NamedRow). length row.row.terms) p.rows + length p.objective.terms
       ≤ 10 ^ 6
 
--- no factor is above 10^24
+-- no coefficient is above 10^24
 abbrev pub AreSmall : List Term → Type 0
 AreSmall terms = All (λ (t : Term). unsigned_abs t.factor ≤ 10 ^ 24) terms
 
--- no factor of the row is above 10^24, and no side above 10^37
+-- no coefficient of the row is above 10^24, and no side above 10^37
 pub record IsNarrow (row : Row) : Type 0 where
   pub factors : AreSmall row.terms
   pub low : IfSome row.low (λ low. unsigned_abs low ≤ 10 ^ 37)
   pub high : IfSome row.high (λ high. unsigned_abs high ≤ 10 ^ 37)
 
--- no factor of the objective is above 10^24, and its constant is not above 10^37
+-- no coefficient of the objective is above 10^24, and its constant is not above 10^37
 pub record IsNarrowObjective (objective : Objective) : Type 0 where
   pub factors : AreSmall objective.terms
   pub constant : unsigned_abs objective.constant ≤ 10 ^ 37

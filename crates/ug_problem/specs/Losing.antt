@@ -17,8 +17,8 @@ HasHighSide rows r = (length rows ≤ r) ⊎ IsSome (slice_index_or rows r no_ro
 abbrev pub HasLowSide : List NamedRow → ℕ → Type 0
 HasLowSide rows r = (r < length rows) × IsSome (slice_index_or rows r no_row).row.low
 
--- row r, in which a column has this factor, loses room under one of its sides where the end of the
--- column goes inwards
+-- row r, in which a column has this coefficient, loses slack under one of its sides if the end of
+-- the column is tightened
 abbrev pub Loses : Inward → List NamedRow → ℕ → ℤ → Type 0
 Loses Up rows r (pos n) = HasHighSide rows r
 Loses Up rows r (negsuc n) = HasLowSide rows r

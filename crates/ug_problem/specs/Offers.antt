@@ -1,4 +1,4 @@
--- What is said of a point that is offered in place of the incumbent.
+-- The answer to a point that is offered in place of the incumbent.
 use Rattle.std.specs.Prelude.{◌≡◌, ℤ, ◌≤ℤ◌, ◌<ℤ◌, List, Option, Some, IfSome}
 use Rattle.std.specs.Option.{option_map}
 use Rattle.ug_rows.specs.Rows.{value_of}
@@ -30,7 +30,7 @@ pub record IsBroken (p : Instance) (x : List ℤ) (broken : answer.Broken) : Typ
   pub infeasible : ¬ Feasible p x
   pub first : IsFirstBroken p x broken
 
--- what is said of x: of the three facts exactly one holds
+-- the answer to x: exactly one of the three facts holds
 abbrev pub IsAnswer : Instance → Option (List ℤ) → List ℤ → Offered → Type 0
 IsAnswer p best x Taken = IsBetter p best x
 IsAnswer p best x (NotBetter kept given) = IsNotBetter p best x kept given

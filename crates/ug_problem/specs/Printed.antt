@@ -11,7 +11,7 @@ pub record IsLowest (scale number digits places : ℕ) : Type 0 where
   pub equal : number ≡ digits * 10 ^ (scale - places)
   pub lowest : (places ≡ 0) ⊎ (digits % 10 ≢ 0)
 
--- the text is `count` decimal digits, and reads as the number
+-- the spelling is `count` decimal digits, and reads as the number
 pub record AreDigitsOf (count number : ℕ) (text : List ℕ) : Type 0 where
   pub count_is : length text ≡ count
   pub each : AllDigits 10 text
@@ -27,7 +27,7 @@ abbrev pub fraction_of : List ℕ → List ℕ
 fraction_of [] = []
 fraction_of (d ∷ ds) = 46 ∷ d ∷ ds
 
--- the text spells z / 10^scale in lowest terms: its sign, its whole part, and its fraction
+-- it spells z / 10^scale in lowest terms: its sign, its whole part, and its fraction
 pub record IsSpelled (scale : ℕ) (z : ℤ) (text : List ℕ) : Type 0 where
   pub digits : ℕ
   pub places : ℕ
@@ -40,6 +40,6 @@ pub record IsSpelled (scale : ℕ) (z : ℤ) (text : List ℕ) : Type 0 where
 abbrev pub shown_of : Objective → ℤ → ℤ
 shown_of objective value = (if objective.maximise then neg_ℤ value else value)
 
--- the text is what is printed of the value
+-- it is what is printed of the value
 abbrev pub IsPrinted : Objective → ℤ → List ℕ → Type 0
 IsPrinted objective value text = IsSpelled objective.scale (shown_of objective value) text

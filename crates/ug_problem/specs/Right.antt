@@ -24,14 +24,14 @@ abbrev pub IsRightAnswer : Instance → ℤ → Answer → Type 0
 IsRightAnswer p gap (Optimal x) = IsOptimal p gap x
 IsRightAnswer p gap Infeasible = (x : List ℤ) → ¬ Feasible p x
 
--- what is answered where one point is kept at most: that point, or that there is none
+-- the answer if one point is kept at most: that point, or that there is none
 abbrev pub answer_of : Option (List ℤ) → Answer
 answer_of (Some x) = Optimal x
 answer_of None = Infeasible
 
--- Where one point is kept at most, a better point is a feasible one whose value is less by more than
--- the gap, and the point is a right answer exactly where it is optimal within the gap, or where it is
--- not there and no point is feasible.
+-- If one point is kept at most, a better point is a feasible one whose value is smaller by more
+-- than the gap. The point is a right answer exactly if it is optimal within the gap, or if it is
+-- missing and no point is feasible.
 pub record OneIsKept : Type 0 where
   pub better : (p : Instance) (gap : ℤ) (best : Option (List ℤ)) (x : List ℤ) → IsGap gap
       → Better p gap (one_kept best) x ↔ BetterThanOne p gap best x

@@ -1,4 +1,4 @@
--- Which rows a column stands in, and with what factors. The objective is the row behind the last.
+-- The entries of a column: its rows and coefficients. The objective is the row behind the last.
 use Rattle.std.specs.Prelude.{◌≡◌, ℕ, ◌+◌, ◌<◌, ◌≤◌, List, [], ◌∷◌, ◌++◌, length, map}
 use Rattle.std.specs.Prelude.{slice_index_or, nat_eq, if◌then◌else◌}
 use Rattle.ug_rows.specs.declared.row.Term.{Term}
@@ -31,8 +31,8 @@ standing_at standings k = slice_index_or standings k no_standing
 abbrev pub term_of : ℕ → Standing → Term
 term_of j standing = record { column = j; factor = standing.factor }
 
--- where column j stands: the rows rise, each has this term, and each row with a term of the column
--- is there
+-- the entries of column j: the rows rise, each has this term, and each row with a term of the
+-- column is there
 pub record AreStandings (p : Instance) (j : ℕ) (standings : List Standing) : Type 0 where
   pub rising : (i k : ℕ) → i < k → k < length standings
       → (standing_at standings i).row < (standing_at standings k).row
@@ -42,7 +42,7 @@ pub record AreStandings (p : Instance) (j : ℕ) (standings : List Standing) : T
   pub all : (r : ℕ) (t : Term) → IsAmong t (terms_of p r) → t.column ≡ j
       → (k : ℕ) × (k < length standings) × ((standing_at standings k).row ≡ r)
 
--- where column j stands in row r with these terms
+-- the entries of column j in row r with these terms
 abbrev pub standings_in : ℕ → ℕ → List Term → List Standing
 standings_in j r [] = []
 standings_in j r (t ∷ ts) =
@@ -50,7 +50,7 @@ standings_in j r (t ∷ ts) =
     then record { row = r; factor = t.factor } ∷ standings_in j r ts
     else standings_in j r ts)
 
--- where column j stands in rows with these terms, the first of them row r
+-- the entries of column j in rows with these terms, the first of them row r
 abbrev pub standings_over : ℕ → ℕ → List (List Term) → List Standing
 standings_over j r [] = []
 standings_over j r (ts ∷ rows) = standings_in j r ts ++ standings_over j (r + 1) rows

@@ -1,9 +1,9 @@
 use ug_rows::Point;
 
-/// What is said of a problem in the end.
+/// The answer to a problem.
 #[derive(Drop)]
 pub enum Answer {
-    /// This point is feasible, and no feasible point has a lesser value.
+    /// This point is feasible, and no feasible point has a smaller value.
     Optimal(Point),
     /// No point is feasible.
     Infeasible,

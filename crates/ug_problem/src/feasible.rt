@@ -23,7 +23,7 @@ fn first_column(problem: &Problem, point: &Point) -> Option<u32>
     None
 }
 
-// The first row that the point does not keep to.
+// Returns the first row that the point does not satisfy.
 #[tactic(auto, using(crate::proofs::Linear::linear_row))]
 fn first_row(problem: &Problem, point: &Point) -> Option<u32>
     requires { length point.now ≡ length problem.now.columns }

@@ -8,12 +8,12 @@ pub fn better_is_below_the_cutoff()
     ensures { BetterIsBelowCutoff }
 {}
 
-/// What is Covered under a gap is so under a greater one.
+/// Boxes that are Covered under a gap are so under a larger one.
 pub fn gaps_may_grow()
     ensures { CoveredUnderMore }
 {}
 
-/// What better and right come to where one point is kept at most.
+/// What better and right mean if one point is kept at most.
 #[tactic(auto, using(crate::proofs::Incumbents::one_is_kept))]
 pub fn one_point_is_kept()
     ensures { OneIsKept }

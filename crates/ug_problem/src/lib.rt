@@ -1,8 +1,9 @@
-//! The problem: columns with whole bounds, rows with sides, an objective that is minimised, and
-//! `Decimal`, an exact number that is read, rounded and scaled. It stands on ug_rows.
-//! `Problem::new` makes one exactly where all is within its limit, and names what is not;
-//! `first_broken` is `None` exactly where a point is feasible, `value` is its value, `print_value`
-//! spells it; specs/ says what a right answer is, what is better, and what an offer is answered.
+//! The problem: columns with integer bounds, rows with sides, an objective that is minimised, and
+//! `Decimal`, an exact number that is read, rounded and scaled. Depends on ug_rows. `Problem::new`
+//! returns one exactly if everything is within its limit, and otherwise names the first violation;
+//! `first_broken` is `None` exactly if a point is feasible, `value` is its value, `print_value`
+//! spells it. specs/ says what a right answer is, which points are better, and how an offered point
+//! is answered.
 #![tactic(auto)]
 
 mod answer;

@@ -16,7 +16,7 @@ pub const MOST_ROWS: usize = 10_000;
 /// The terms that a problem may have in all, the objective's among them.
 pub const MOST_TERMS: usize = 1_000_000;
 
-/// The greatest absolute value of a factor.
+/// Largest absolute value of a coefficient.
 pub const MOST_FACTOR: u128 = 1_000_000_000_000_000_000_000_000;
 
 /// The greatest absolute value of a row's side and of the objective's constant.

@@ -1,6 +1,6 @@
 use crate::answer::Broken;
 
-/// What is said of a point that was offered.
+/// The answer to a point that was offered.
 #[derive(Clone, Copy, Debug, PartialEq, Eq)]
 pub enum Offered {
     /// The point is the incumbent now.

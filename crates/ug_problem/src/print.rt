@@ -96,7 +96,7 @@ pub fn shown(objective: &Objective, value: i128) -> i128
     if objective.maximise { -value } else { value }
 }
 
-// The text of `z` / 10^`scale`.
+// Returns the spelling of `z` / 10^`scale`.
 pub fn spell(alloc: Global, z: i128, scale: u8) -> Result<Vec<u8>, AllocError>
     ensures { IfOk result (λ text. IsSpelled scale z text.items) }
 {

@@ -54,7 +54,7 @@ impl Model for Problem {
         × AreKeptLosing p.rows p.standings p.losing };
 }
 
-// The bounds of each column.
+// Returns the bounds of each column.
 fn bounds(alloc: Global, columns: &[Column]) -> Result<Vec<Interval>, AllocError>
     ensures { IfOk result (λ sides. sides.items ≡ map bounds_of columns.now) }
 {
@@ -85,7 +85,7 @@ fn copied_objective(objective: &Objective) -> Result<Objective, AllocError>
     objective.clone()
 }
 
-// A value less a gap.
+// Returns a value less a gap.
 fn less_gap(value: i128, gap: i128) -> i128
     requires value { unsigned_abs value ≤ 4 * 10 ^ 37 }
     requires gap { IsGap gap }
@@ -139,7 +139,7 @@ fn copied_parts(
     }
 }
 
-// What is kept of a problem beside its parts.
+// Everything computed from the parts of a problem and stored with it.
 #[derive(Drop)]
 struct Derived {
     root: IntBox,
@@ -147,7 +147,7 @@ struct Derived {
     losing: Losing,
 }
 
-// Where each column stands, and which rows lose room with it.
+// The entries of each column, and the rows that lose slack with it.
 #[derive(Drop)]
 struct Stands {
     standings: Standings,
@@ -175,8 +175,8 @@ fn stands_of(
     }
 }
 
-// The box of all bounds, where each column stands, and which rows lose room with it, if the parts
-// are within the limits.
+// Returns the root box, the entries of each column and the rows that lose slack with it, if the
+// parts are within the limits.
 fn derived_from(
     alloc: Global,
     columns: &[Column],
@@ -246,8 +246,8 @@ fn copied_derived(
 }
 
 impl Problem {
-    /// The problem of these parts. It takes memory for the box of all bounds, and for where each
-    /// column stands.
+    /// Returns the problem of these parts, or names the first count or row beyond its limit. Takes
+    /// memory for the root box and the entries of the columns.
     pub fn new(
         alloc: Global,
         columns: Columns,
@@ -283,7 +283,7 @@ impl Problem {
         }
     }
 
-    /// The columns, in the order of the file.
+    /// Returns the columns, in the order of the file.
     pub fn columns(&self) -> &[Column]
         ensures value { result.now ≡ self.now.columns }
         ensures problem { IsProblem self.now }
@@ -291,7 +291,7 @@ impl Problem {
         self.columns.as_slice()
     }
 
-    /// The rows, in the order of the file.
+    /// Returns the rows, in the order of the file.
     pub fn rows(&self) -> &[NamedRow]
         ensures value { result.now ≡ self.now.rows }
         ensures problem { IsProblem self.now }
@@ -299,7 +299,7 @@ impl Problem {
         self.rows.as_slice()
     }
 
-    /// What is minimised.
+    /// Returns the objective, which is minimised.
     pub fn objective(&self) -> &Objective
         ensures value { result.now ≡ self.now.objective }
         ensures problem { IsProblem self.now }
@@ -307,7 +307,7 @@ impl Problem {
         &self.objective
     }
 
-    /// The box of all bounds.
+    /// Returns the root box: the bounds of all columns.
     pub fn root(&self) -> &IntBox
         ensures value { result.now ≡ root_of self.now }
         ensures problem { IsProblem self.now }
@@ -315,7 +315,8 @@ impl Problem {
         &self.root
     }
 
-    /// Which rows a column stands in, in rising order, and with what factors. It takes no memory.
+    /// Returns the rows in which a column has a coefficient, in rising order, with the
+    /// coefficients; the objective is the row behind the last. Takes no memory.
     pub fn standings(&self, column: usize) -> &[Standing]
         requires { column < length self.now.columns }
         ensures value { AreStandings self.now column result.now }
@@ -324,8 +325,8 @@ impl Problem {
         standings_of(&self.standings, column)
     }
 
-    /// The rows that lose room where this end of a column goes inwards, in rising order; of the
-    /// objective, the row behind the last, the high side counts as there. It takes no memory.
+    /// Returns the rows that lose slack if this bound of a column is tightened, in rising order.
+    /// The objective, the row behind the last, counts as having a high side. Takes no memory.
     pub fn losing(&self, inward: Inward, column: usize) -> &[u32]
         requires { column < length self.now.columns }
         ensures value { IsLosing self.now column inward result.now }
@@ -337,7 +338,7 @@ impl Problem {
         }
     }
 
-    /// A copy of the problem.
+    /// Returns a copy of the problem.
     pub fn copy(&self) -> Result<Problem, AllocError>
         ensures { IfOk result (λ p. p ≡ self.now) }
     {
@@ -370,8 +371,7 @@ impl Problem {
         }
     }
 
-    /// Whether two problems are the same: columns, rows, objective and all names. It takes no
-    /// memory.
+    /// Are two problems equal: columns, rows, objective and all names? Takes no memory.
     pub fn is(&self, other: &Problem) -> bool
         ensures { IsTrue result ↔ (self.now ≡ other.now) }
     {
@@ -380,7 +380,8 @@ impl Problem {
             && self.rows.is(&other.rows)
     }
 
-    /// The first way in which a point is not feasible. It takes no memory.
+    /// Returns the first violation of a point, or `None` exactly if it is feasible: its length,
+    /// then the lowest column, then the lowest row. Takes no memory.
     pub fn first_broken(&self, point: &Point) -> Option<Broken>
         ensures feasible { IsNone result ↔ Feasible self.now point.now }
         ensures first { IfSome result (IsFirstBroken self.now point.now) }
@@ -388,7 +389,7 @@ impl Problem {
         find_broken(self, point)
     }
 
-    /// The value of a point. It takes no memory.
+    /// Returns the value of a point. Takes no memory.
     #[tactic(auto, using(crate::proofs::Linear::linear_objective, crate::proofs::Values::value_within))]
     pub fn value(&self, point: &Point) -> i128
         requires { length point.now ≡ length self.now.columns }
@@ -399,8 +400,8 @@ impl Problem {
         value(self.objective(), point)
     }
 
-    /// The least value that the objective could have in a box, rows not looked at. It takes no
-    /// memory.
+    /// Returns the floor of a box: the least value of the objective over it, whatever the rows say.
+    /// Takes no memory.
     #[tactic(auto, using(crate::proofs::Floors::objective_is_linear, crate::proofs::Floors::floor_within))]
     pub fn floor(&self, area: &IntBox) -> i128
         requires { length area.now ≡ length self.now.columns }
@@ -413,8 +414,8 @@ impl Problem {
         floor(self.objective(), area)
     }
 
-    /// The cutoff of a point under a gap: below it lie the values that are less by more than the
-    /// gap, of points within all bounds. It takes no memory.
+    /// Returns the cutoff of a point under a gap: a point within all bounds is better by more than
+    /// the gap exactly if its value is below. Takes no memory.
     #[tactic(auto, using(crate::proofs::Cutoffs::cutoff_small, crate::proofs::Cutoffs::cutoff_without_gap))]
     pub fn cutoff(&self, gap: i128, point: &Point) -> i128
         requires width { length point.now ≡ length self.now.columns }
@@ -429,7 +430,7 @@ impl Problem {
         greater(less_gap(value, gap), floor)
     }
 
-    /// The text of a value, as the user reads it: such as 2.25 for 225 hundredths.
+    /// Returns a value as the user reads it, such as 2.25 for 225 hundredths.
     pub fn print_value(&self, alloc: Global, value: i128) -> Result<Text, AllocError>
         requires { unsigned_abs value ≤ 10 ^ 38 }
         ensures { IfOk result (IsPrinted self.now.objective value) }

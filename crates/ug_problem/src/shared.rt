@@ -5,7 +5,7 @@ use std::alloc::{AllocError, Global};
 use std::marker::Model;
 use std::sync::Arc;
 
-// Where a problem is.
+// The place of a problem.
 #[derive(Drop)]
 enum Holder {
     // Here.

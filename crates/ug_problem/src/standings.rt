@@ -1,4 +1,4 @@
-//! Which rows each column stands in, and with what factors.
+//! The entries of each column: its rows and coefficients.
 
 ghost use Rattle.std.specs.Prelude.{◌≡◌, ℕ, ◌+◌, ◌<◌, ◌≤◌, ◌^◌, [], ◌∷◌, ◌++◌, length, slice_set, take, All, IfOk, OnOk};
 ghost use Rattle.ug_rows.specs.Rows.{term_at};
@@ -11,8 +11,7 @@ use std::alloc::{AllocError, Global};
 use ug_lists::Items;
 use ug_rows::{Objective, Term};
 
-/// Where a column stands: in a row, or in the objective as the row behind the last, with this
-/// factor.
+/// An entry of a column: a row, or the objective as the row behind the last, with the coefficient.
 #[derive(Clone, Copy, PartialEq, Eq)]
 pub struct Standing {
     pub row: u32,
@@ -132,7 +131,7 @@ fn add_all(
     add_objective(lists, rows, objective)
 }
 
-// The standings of so many columns.
+// Returns the entries of the first columns.
 fn gather_lists(
     alloc: Global,
     columns: usize,
@@ -150,7 +149,7 @@ fn gather_lists(
     Ok(Items::from_vec(lists))
 }
 
-/// Where each column stands.
+/// Returns the entries of each column.
 pub fn gather(
     alloc: Global,
     columns: &[Column],

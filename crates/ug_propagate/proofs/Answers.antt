@@ -105,7 +105,7 @@ crossed_reason p (named ∷ rows) cutoff area same c = record {
   shown = inr c;
 }
 
--- where nothing is left, the reason shows it
+-- if nothing is left, the reason shows it
 rounds_reason : (p : Instance) (cutoff : Option ℤ) (area : List Interval) → IsProblem p
     → length area ≡ length p.columns → HasReason p cutoff area (rounds p cutoff area)
 rounds_reason p cutoff area problem wide =
@@ -184,7 +184,7 @@ crossed_solved p [] None area same = λ below one x i. record {
 crossed_solved p [] (Some cutoff) area same = tt
 crossed_solved p (named ∷ rows) cutoff area same = tt
 
--- where one point within all bounds is left, it is good
+-- if one point within all bounds is left, it is good
 rounds_solve : (p : Instance) (cutoff : Option ℤ) (area : List Interval) → IsProblem p
     → length area ≡ length p.columns → IsSolved p cutoff (rounds p cutoff area)
 rounds_solve p cutoff area problem wide =

@@ -54,7 +54,7 @@ side_small : (side : Option ℤ) → IfSome side (λ s. unsigned_abs s ≤ 10 ^ 
 side_small None h = h
 side_small (Some s) h = omega (arith, h)
 
--- each row of a problem is ready to be looked at
+-- each row of a problem is ready to be examined
 pub ready_row : (p : Instance) (r : ℕ) (look : Look) → IsProblem p → r < length p.rows
     → look.low ≡ (row_at p r).low → look.high ≡ (row_at p r).high
     → IsLookable (length p.columns) look (row_at p r).terms
@@ -219,7 +219,7 @@ no_cross area n c =
     let l : (interval_at area c.0).high <ℤ (interval_at area c.0).low = c.2 in
     omega (arith, ints)
 
--- where all columns are fixed, one more round follows
+-- if all columns are fixed, one more round follows
 pub last_fixed : (p : Instance) (cutoff : Option ℤ) (area : List Interval) → IsFixed area
     → last_round p cutoff (Kept area) ≡ round p cutoff (Kept area)
 last_fixed p cutoff area fixed =

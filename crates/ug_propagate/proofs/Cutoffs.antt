@@ -43,7 +43,7 @@ word_both_less k m small const =
     rw (word_less k small, room_same m (omega (arith, const)))
     (room_same (k -ℤ pos 1 -ℤ m) (omega (arith, both_less k m small const)))
 
--- the objective is ready to be looked at under a cutoff, whatever name it has
+-- the objective is ready to be examined under a cutoff, whatever name it has
 pub lookable_under : (width : ℕ) (p : Instance) (k high : ℤ) (objective : Objective) (terms : List Term) → IsProblem p
     → unsigned_abs k ≤ 2 * 10 ^ 37 → objective ≡ p.objective → terms ≡ objective.terms → width ≡ length p.columns
     → high ≡ k -ℤ pos 1 -ℤ objective.constant

@@ -45,7 +45,7 @@ T_from : (b : Bool) → b ≡ true → T b
 T_from true h = tt
 T_from false h = cc
 
--- the test tells whether all columns are fixed
+-- the test says whether all columns are fixed
 pub fixed_from : (area : List Interval) → T (are_fixed area) → IsFixed area
 fixed_from [] h j there = absurd (omega arith)
 fixed_from (side ∷ sides) h zero there =
@@ -75,7 +75,7 @@ not_or_right false b h = h
 crossed_more : (side : Interval) (sides : List Interval) → IsCrossed sides → IsCrossed (side ∷ sides)
 crossed_more side sides h = (suc h.0, omega (arith, h.1), h.2)
 
--- the test tells whether a column has its low above its high
+-- the test says whether a column has its low above its high
 pub crossed_from : (area : List Interval) → T (are_crossed area) → IsCrossed area
 crossed_from [] h = absurd h
 crossed_from (side ∷ sides) h = elim (or_either (int_lt side.high side.low) (are_crossed sides) h) [
@@ -187,7 +187,8 @@ objective_passes p (Some c) area left problem wide fixed e =
     row_look None row area (fixed_nonempty area fixed) (subst P (sym wide) (usable_objective p problem)) in
     (kept_passed row area left o e (row_passes None row area), kept_same area left o e (look_same None row area o fixed look))
 
--- a round that leaves a box of one point: each row and the objective pass there, and the box is as it was
+-- a round that leaves a box of one point: each row and the objective pass there, and the box is as
+-- it was
 pub round_passes : (p : Instance) (cutoff : Option ℤ) (area left : List Interval)
     → IsProblem p → length area ≡ length p.columns → IsFixed area → round p cutoff (Kept area) ≡ Kept left
     → AllPass p.rows area × ObjectivePasses p.objective cutoff area × (left ≡ area)
@@ -225,7 +226,7 @@ keeps_low : (low : Option ℤ) (least greatest sum : ℤ) → least ≡ greatest
 keeps_low None least greatest sum e k h = h
 keeps_low (Some low) least greatest sum e k h = omega (arith, ints)
 
--- the point of a box of one point keeps to a row that passes there
+-- the point of a box of one point satisfies a row that passes there
 pub passes_keeps : (row : Row) (area : List Interval) (x : List ℤ) → AreThere (length area) row.terms → IsFixed area
     → IsInside area x → Passes row area → Keeps row x
 passes_keeps row area x there fixed i pass =

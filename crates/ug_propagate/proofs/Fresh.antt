@@ -109,7 +109,7 @@ pub ruleset ones_enough = (ones_bits, ones_awake)
 not_zero : (b : ℕ) → b ≡ 1 → b ≡ 0 → ⊥
 not_zero b e f = omega arith
 
--- where each bit is 1, each row that is not awake is at rest
+-- if each bit is 1, each row that is not awake is at rest
 pub ones_resting : (p : Instance) (cutoff : Option ℤ) (area : List Interval) (old awake : List ℕ) → HasBits p old
     → awake ≡ replicate (length old) (2 ^ 64 - 1) → AreResting p cutoff area awake
 ones_resting p cutoff area old awake bits same r there asleep =
@@ -118,7 +118,7 @@ ones_resting p cutoff area old awake bits same r there asleep =
     let one : bit_of awake r ≡ 1 = ap (λ (w : ℕ). bit_at w (r % 64)) word ∙ bit_at_ones 64 (r % 64) (omega arith) in
     absurd (not_zero (bit_of awake r) one asleep)
 
--- where the rows were at rest under another cutoff, all but the objective are so under this
+-- if the rows were at rest under another cutoff, all but the objective are so under this
 pub others_resting : (p : Instance) (under cutoff : Option ℤ) (area : List Interval) (mid awake : List ℕ)
     → AllRest p (Under under) area → HasBit (length p.rows) 1 mid awake → AreResting p cutoff area awake
 others_resting p under cutoff area mid awake rest bit r there asleep = elim (cases_lt r (length p.rows)) [

@@ -19,13 +19,13 @@ use Rattle.ug_propagate.specs.Claims.{Holds, IsMissed}
 use Rattle.ug_propagate.proofs.Parts.{IsPart, part_same, part_trans, part_nonempty, if_lt}
 use Rattle.ug_propagate.proofs.Terms.{IsCut, high_cuts, low_cuts, high_holds, low_holds}
 
--- these are terms of the row over `width` columns, with factors that are not 0
+-- these are terms of the row over `width` columns, with coefficients that are not 0
 abbrev pub AreOf : ℕ → List Term → List Term → Type 0
 AreOf width terms [] = Unit {0}
 AreOf width terms (t ∷ rest) =
     IsAmong t terms × (t.column < width) × (t.factor ≢ pos 0) × AreOf width terms rest
 
--- the terms are over `width` columns, with factors that are not 0
+-- the terms are over `width` columns, with coefficients that are not 0
 pub record IsUsable (width : ℕ) (terms : List Term) : Type 0 where
   pub there : AreThere width terms
   pub each : AreOf width terms terms
@@ -50,12 +50,12 @@ usable_terms width terms linear nonzero =
     let there : AreThere width terms = there_from_index width terms linear.within in
     record { there = there; each = of_itself width terms there nonzero }
 
--- a part of the box that has each point of it that keeps to the row
+-- a part of the box that has each point of it that satisfies the row
 pub record IsPartFor (row : Row) (inner outer : List Interval) : Type 0 where
   pub part : IsPart inner outer
   pub kept : (x : List ℤ) → Keeps row x → IsInside outer x → IsInside inner x
 
--- such a part of the box, over which no sum of the row keeps to the side of the reason
+-- such a part of the box, over which no sum of the row satisfies the side of the reason
 pub record IsMissedIn (name : Option ℕ) (row : Row) (area : List Interval) (reason : Reason) : Type 0 where
   pub named : reason.row ≡ name
   pub inner : List Interval
@@ -153,7 +153,7 @@ not_short : (low : Option ℤ) (greatest sum : ℤ) → sum ≤ℤ greatest → 
 not_short None greatest sum h k m = k
 not_short (Some low) greatest sum h k m = omega (arith, ints)
 
--- a box over which no sum of a row keeps to a side has no point that keeps to the row
+-- a box over which no sum of a row satisfies a side has no point that satisfies the row
 pub missed_none : (row : Row) (side : Side) (area : List Interval) (x : List ℤ) → AreThere (length area) row.terms
     → IsMissed side row area → Keeps row x → IsInside area x → ⊥
 missed_none row Low area x there missed keeps i =
@@ -163,7 +163,7 @@ missed_none row High area x there missed keeps i =
     not_exceeded row.high (least_sum row.terms area) (sum_at row.terms x) (end_bound Least row.terms area x there i)
     missed keeps.high
 
--- where the box is left, the row's least and greatest are within its sides
+-- if the box is left, the row's least and greatest are within its sides
 pub record Passes (row : Row) (area : List Interval) : Type 0 where
   pub high : IfSome row.high (λ h. least_sum row.terms area ≤ℤ h)
   pub low : IfSome row.low (λ l. l ≤ℤ greatest_sum row.terms area)

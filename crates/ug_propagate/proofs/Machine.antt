@@ -65,7 +65,7 @@ sum_times a (negsuc (suc n)) f =
     let g : negsuc (suc n) *ℤ f ≡ (negsuc n *ℤ f) -ℤ f = pred_ℤ-*ℤ (negsuc n) f in
     ap (λ (v : ℤ). v *ℤ f) e ∙ pred_ℤ-*ℤ (a +ℤ negsuc n) f ∙ omega (arith, ints, sum_times a (negsuc n) f, g)
 
--- a factor times a sum
+-- a coefficient times a sum
 pub times_sum : (f a b : ℤ) → f *ℤ (a +ℤ b) ≡ (f *ℤ a) +ℤ (f *ℤ b)
 times_sum f a b =
     *ℤ_comm f (a +ℤ b) ∙ sum_times a b f ∙ ap (λ (v : ℤ). v +ℤ (b *ℤ f)) (*ℤ_comm a f) ∙ ap (λ (v : ℤ). (f *ℤ a) +ℤ v) (*ℤ_comm b f)
@@ -76,7 +76,7 @@ back a b = omega (arith, ints)
 less_first : (whole first rest : ℤ) → whole ≡ first +ℤ rest → rest ≡ whole -ℤ first
 less_first whole first rest e = omega (arith, ints)
 
--- a factor times a difference
+-- a coefficient times a difference
 pub times_difference : (f a b : ℤ) → f *ℤ (b -ℤ a) ≡ (f *ℤ b) -ℤ (f *ℤ a)
 times_difference f a b =
     let e : b *ℤ f ≡ (a *ℤ f) +ℤ ((b -ℤ a) *ℤ f) = ap (λ (v : ℤ). v *ℤ f) (sym (back a b)) ∙ sum_times a (b -ℤ a) f in
@@ -109,7 +109,7 @@ scaled f v r small short f_fits v_fits e =
     let product : FitsSigned w128 (f *ℤ v) = scaled_fits f v small short in
     rw e' (simp to_z-of_z)
 
--- and is no larger than its factors
+-- and is no larger than its coefficients
 pub scaled_small : (f v r : ℤ) → unsigned_abs f ≤ 10 ^ 24 → unsigned_abs v ≤ 2 ^ 32 → FitsSigned w128 f → FitsSigned w64 v
     → r ≡ to_z w64 (of_z w64 v)
     → unsigned_abs (to_z w128 (of_z w128 (to_z w128 (of_z w128 f) *ℤ to_z w128 (of_z w128 r)))) ≤ 10 ^ 24 * 2 ^ 32

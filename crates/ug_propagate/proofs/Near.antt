@@ -60,7 +60,7 @@ low_whole look ts t area near span ne h e less =
 wide_span : (span : ℤ) → unsigned_abs span ≤ 2 ^ 61 → unsigned_abs span ≤ 10 ^ 24 * 2 ^ 32
 wide_span span small = omega (arith, small)
 
--- a term whose span is above the near room keeps to that room above its least
+-- a term whose span is above the near room satisfies that room above its least
 pub high_cut : (width : ℕ) (look : Look) (ts : List Term) (t : Term) (area : List Interval) (near room span : ℤ)
     → IsLookable width look ts → HaveSmallColumns ts area → IsNearRoom (room_over look ts area).high near → span ≡ span_of t area
     → unsigned_abs span ≤ 2 ^ 61 → near <ℤ span → room ≡ near
@@ -170,7 +170,7 @@ pub summed_at : (p : Instance) (work : WorkState) (r : ℕ) (ends : Extremes) �
 summed_at p work r ends box there same =
     subst (λ (e : Extremes). IsSummed (terms_of p r) work.sums.area e) (sym same) (box.sums.each r there)
 
--- a row whose terms were looked at and not tightened is at rest
+-- a row whose terms were examined and not tightened is at rest
 pub fit_rests : (looked : Looked) (look : Look) (ts : List Term) (area : List Interval) (room : Room) → IsRoomOf look ts area room
     → pos 0 ≤ℤ room.high → pos 0 ≤ℤ room.low → FitWhereSame looked ts area room → RestsWhereSame looked look ts area
 fit_rests Same look ts area room is high low fit = record { room = room; is = is; high = high; low = low; each = fit }

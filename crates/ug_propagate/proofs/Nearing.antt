@@ -1,4 +1,4 @@
--- A column cut to so many steps from an end of its interval.
+-- A column cut to this many steps from an end of its interval.
 use Rattle.std.proofs.Common.{◌≡◌, ◌≢◌, refl, sym, subst, ◌∙◌, ap, ℕ, zero, suc, ℤ, pos, negsuc, ◌+ℤ◌, ◌-ℤ◌, ◌*ℤ◌, ◌<ℤ◌, unsigned_abs, List, set, arith}
 use Rattle.std.proofs.lemmas.Int.{ints}
 use Rattle.std.specs.Int.{int_div_euclid}
@@ -41,7 +41,7 @@ stepped_up low s n e = ap (λ (v : ℤ). low +ℤ v) (sym e)
 stepped_down : (high s : ℤ) (n : ℕ) → pos n ≡ s → high -ℤ s ≡ high -ℤ pos n
 stepped_down high s n e = ap (λ (v : ℤ). high -ℤ v) (sym e)
 
--- so many steps from the end of the least product leave what the room leaves above it
+-- this many steps from the end of the least product leave what the room leaves above it
 pub near_least : (reason : Reason) (f room : ℤ) (j n : ℕ) (area : List Interval) → f ≢ pos 0
     → AreSteps room (unsigned_abs f) (interval_at area j) n
     → Kept (set area j (near_end Least f (interval_at area j) n))

@@ -1,4 +1,4 @@
--- The objective's factor of a column, and its sums where the column has another interval.
+-- The objective's coefficient of a column, and its sums where the column has another interval.
 use Rattle.std.proofs.Common.{◌≡◌, ◌≢◌, subst, sym, ◌∙◌, ap, inl, inr, ℕ, ◌-◌, ◌<◌, ◌≤◌, List, [], length, None, arith}
 use Rattle.std.proofs.lemmas.Bool.{cases_lt}
 use Rattle.ug_rows.specs.declared.row.Term.{Term}

@@ -34,7 +34,7 @@ floor_above (pos n) d some =
     omega (arith, ints)
 floor_above (negsuc n) d some = let e : d * (n / d) + n % d ≡ n = omega arith in omega (arith, ints)
 
--- one more of a factor
+-- one more of a coefficient
 mul_more : (d : ℕ) (q : ℤ) → (pos d *ℤ (q +ℤ pos 1)) ≡ (pos d *ℤ q) +ℤ pos d
 mul_more d (pos q) = omega (arith, ints)
 mul_more d (negsuc zero) = omega (arith, ints)
@@ -96,7 +96,7 @@ turned_back : (d : ℕ) (x s : ℤ) → (pos (suc d) *ℤ x) ≤ℤ neg_ℤ s �
 turned_back d (pos x) s h = omega (arith, ints)
 turned_back d (negsuc x) s h = omega (arith, ints)
 
--- the products with these quotients keep to the number
+-- the products with these quotients satisfy the number
 pub floor_within_neg : (n : ℤ) (d : ℕ) → n ≤ℤ (negsuc d *ℤ floor_quotient n (negsuc d))
 floor_within_neg n d = turned_back d (floor_quotient n (negsuc d)) n (floor_within (neg_ℤ n) (suc d) (omega arith))
 

@@ -1,4 +1,5 @@
--- The room that a row's sums leave within its sides: how large it is, what it makes of a term, and how it changes.
+-- The room that a row's sums leave within its sides: how large it is, what it makes of a term, and
+-- how it changes.
 use Rattle.std.proofs.Common.{◌≡◌, refl, sym, subst, ◌∙◌, ap, inl, inr, ℕ, ◌*◌, ◌^◌, ◌<◌, ◌≤◌, ℤ, pos, negsuc, ◌+ℤ◌, ◌-ℤ◌, ◌*ℤ◌, ◌<ℤ◌, unsigned_abs, List, length, set, Option, Some, None, IfSome, IsNone, arith}
 use Rattle.std.proofs.lemmas.Int.{ints}
 use Rattle.std.proofs.lemmas.Bool.{cases_eq}
@@ -115,7 +116,7 @@ high_is name terms (Some high) t area room span most e small short less f =
     ap (λ (s : ℤ). keep_at_most (reason_of name High) t.factor t.column s area)
     (taken_high room high (least_sum terms area) (end_product Least t area) most e f)
 
--- a term whose span is above the room of the high side keeps to that room above its least
+-- a term whose span is above the room of the high side satisfies that room above its least
 pub high_taken : (width : ℕ) (look : Look) (terms : List Term) (t : Term) (area : List Interval) (room : Room) (span most : ℤ)
     → IsLookable width look terms → IsRoomOf look terms area room
     → unsigned_abs span ≤ 10 ^ 24 * 2 ^ 32 → room.high <ℤ span → most ≡ room.high +ℤ end_product Least t area
@@ -304,7 +305,7 @@ room_after_low width look terms t area new room after reason least ready among t
     (same ∙ r.low ∙ ap (λ (s : ℤ). s -ℤ low_of look.low)
     (sym (sum_stays Greatest width terms t area moved.side ready.linear among there moved.end))))
 
--- what is left where no reason is told
+-- what is left where no reason is reported
 pub kept_where_none : (told : Option Reason) (new : List Interval) (o : Tight) → IsNone told → outcome_of told new ≡ o → Kept new ≡ o
 kept_where_none None new o h e = e
 kept_where_none (Some reason) new o h e = absurd (cc)

@@ -150,7 +150,7 @@ next_ready p j area side standings i sums problem are there h =
 gained : (least sum old new next : ℤ) → next ≡ least +ℤ (new -ℤ old) → least ≡ sum → next ≡ (sum -ℤ old) +ℤ new
 gained least sum old new next e same = omega (arith, ints)
 
--- a factor times how far an end goes is how its product changes
+-- a coefficient times how far an end goes is how its product changes
 pub moved_product : (e : Extreme) (f : ℤ) (before after : Interval) (moves : Moves) → AreMoves before after moves
     → f *ℤ move_of e f moves ≡ (f *ℤ end_of e f after) -ℤ (f *ℤ end_of e f before)
 moved_product Least (pos n) before after moves h =
@@ -167,7 +167,7 @@ pub moved_sum : (e : Extreme) (f sum : ℤ) (before after : Interval) (moves : M
     → sum +ℤ (f *ℤ move_of e f moves) ≡ sum +ℤ ((f *ℤ end_of e f after) -ℤ (f *ℤ end_of e f before))
 moved_sum e f sum before after moves h = ap (λ (v : ℤ). sum +ℤ v) (moved_product e f before after moves h)
 
--- the same where the factor may be named otherwise
+-- the same where the coefficient may be named otherwise
 pub moved_so : (e : Extreme) (f g sum new : ℤ) (before after : Interval) (moves : Moves) → AreMoves before after moves → g ≡ f
     → new ≡ sum +ℤ (g *ℤ move_of e g moves) → new ≡ sum +ℤ ((f *ℤ end_of e f after) -ℤ (f *ℤ end_of e f before))
 moved_so e f g sum new before after moves went same h =
@@ -332,7 +332,7 @@ short_ready p j area side standings i sums short are there h =
       factor = omega (arith, factor_within (terms_of p r) (term_of j (standing_at standings i)) (are.each i there), short r within);
     }
 
--- a row that moved in 64 bits moved, whatever name the factor has
+-- a row that moved in 64 bits moved, whatever name the coefficient has
 pub moved_short : (factor same : ℤ) (moves : Moves) (r : ℕ) (old new : List ShortExtremes) (ends : ShortExtremes) → same ≡ factor
     → r < length old → new ≡ set old r ends → ends.least ≡ (short_at old r).least +ℤ (same *ℤ move_of Least same moves)
     → ends.greatest ≡ (short_at old r).greatest +ℤ (same *ℤ move_of Greatest same moves)

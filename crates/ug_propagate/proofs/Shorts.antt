@@ -33,7 +33,7 @@ at_most_named v most end most_fits end_fits less lesser =
     at_most_trans v most end (subst (λ (x : ℤ). v ≤ℤ x) (to_z-of_z w64 most most_fits) less)
     (subst (λ (x : ℤ). most ≤ℤ x) (to_z-of_z w64 end end_fits) lesser)
 
--- the lesser of two
+-- the smaller of two
 pub short_room_of : (room : Room) (high low most : ℤ) → to_z w128 (of_z w128 room.high) ≡ room.high
     → to_z w128 (of_z w128 room.low) ≡ room.low → FitsSigned w64 high → FitsSigned w64 low → FitsSigned w64 most
     → IsShort (to_z w128 (of_z w128 room.high)) high → IsShort (to_z w128 (of_z w128 room.low)) low
@@ -104,7 +104,8 @@ short_changed f p w a b f_fits short a_fits b_fits small e g =
     to_z-of_z w64 p p_fits ∙ e ∙ ap (λ (v : ℤ). v *ℤ to_z w64 (of_z w64 w)) (to_z-of_z w64 f f_fits)
     ∙ ap (λ (v : ℤ). f *ℤ v) (to_z-of_z w64 w w_fits ∙ w_is) ∙ times_difference f a b
 
--- the difference of the products at both ends is the span, whatever name the factor and the ends have
+-- the difference of the products at both ends is the span, whatever name the coefficient and the
+-- ends have
 spanned : (f same again r near far low high : ℤ) (side : Interval) → same ≡ f → again ≡ f → low ≡ near → high ≡ far
     → r ≡ (again *ℤ high) -ℤ (again *ℤ low) → near ≡ end_of Least same side → far ≡ end_of Greatest same side
     → r ≡ (f *ℤ end_of Greatest f side) -ℤ (f *ℤ end_of Least f side)

@@ -1,4 +1,4 @@
--- How large the factors of a row are together, and what its sums are then at most.
+-- How large the coefficients of a row are together, and what its sums are then at most.
 use Rattle.std.proofs.Common.{◌≡◌, subst, sym, ℕ, suc, ◌+◌, ◌*◌, ◌^◌, ◌<◌, ◌≤◌, inl, inr, ℤ, pos, negsuc, ◌+ℤ◌, ◌-ℤ◌, ◌*ℤ◌, unsigned_abs, FitsSigned, List, [], ◌∷◌, ◌++◌, length, take, arith}
 use Rattle.std.proofs.Math.Nat.{mul-le-mul}
 use Rattle.std.proofs.lemmas.Int.{fits_signed_from_abs, unsigned_abs-mul}
@@ -24,7 +24,7 @@ pub size_of_more : (ts : List Term) (i : ℕ) → i < length ts
     → size_of (take (i + 1) ts) ≡ size_of (take i ts) + unsigned_abs (term_at ts i).factor
 size_of_more ts i h = rw (take_more ts i no_term h) (size_of-push (take i ts) (term_at ts i))
 
--- the factor of a term is at most the size of the row
+-- the coefficient of a term is at most the size of the row
 pub factor_within : (ts : List Term) (t : Term) → IsAmong t ts → unsigned_abs t.factor ≤ size_of ts
 factor_within [] t among = absurd among
 factor_within (u ∷ ts) t (inl same) = subst (λ (v : Term). unsigned_abs v.factor ≤ size_of (u ∷ ts)) (sym same) (omega arith)
@@ -36,7 +36,7 @@ end_within Least (negsuc n) side h = h.high
 end_within Greatest (pos n) side h = h.high
 end_within Greatest (negsuc n) side h = h.low
 
--- a product with an end is at most the factor times 2^31
+-- a product with an end is at most the coefficient times 2^31
 pub product_sized : (e : Extreme) (f : ℤ) (side : Interval) → HasSmallEnds side
     → unsigned_abs (f *ℤ end_of e f side) ≤ unsigned_abs f * 2 ^ 31
 product_sized e f side small =

@@ -1,4 +1,5 @@
--- A row with one side alone is at rest after its own look: each term fits once it was looked at, and goes on to fit.
+-- A row with one side alone is at rest after its own look: each term fits once it was examined, and
+-- continues to fit.
 use Rattle.std.proofs.Common.{◌≡◌, ◌≢◌, refl, sym, subst, ◌∙◌, ap, inl, inr, ℕ, zero, suc, ◌+◌, ◌*◌, ◌^◌, ◌<◌, ◌≤◌, ℤ, pos, negsuc, ◌-ℤ◌, ◌*ℤ◌, ◌≤ℤ◌, unsigned_abs, List, length, set, Option, Some, None, arith}
 use Rattle.std.proofs.Math.Nat.{mul-le-mul}
 use Rattle.std.proofs.lemmas.Int.{ints, by_lt_z, unsigned_abs-mul}
@@ -58,7 +59,7 @@ has_low reason j q area there =
     (λ some. subst (λ (s : Interval). q ≤ℤ s.low) (sym at) (at_most_itself q)))
     (λ looser. looser)
 
--- the greatest product of a term that was kept to at most s is at most s
+-- the greatest product of a term that was satisfied at most s is at most s
 at_most_kept : (reason : Reason) (f : ℤ) (j : ℕ) (s : ℤ) (area new : List Interval) → f ≢ pos 0 → j < length area
     → Kept new ≡ keep_at_most reason f j s area → (f *ℤ end_of Greatest f (interval_at new j)) ≤ℤ s
 at_most_kept reason (pos zero) j s area new ne there e = absurd (ne refl)
@@ -71,7 +72,7 @@ at_most_kept reason (negsuc d) j s area new ne there e =
     let h : HasLow j q (Kept new) = subst (HasLow j q) (sym e) (has_low reason j q area there) in
     at_most_trans _ _ _ (mul_neg d q (interval_at new j).low h) (ceiling_within_neg s d)
 
--- and the least product of one that was kept to at least s is at least s
+-- and the least product of one that was satisfied at least s is at least s
 at_least_kept : (reason : Reason) (f : ℤ) (j : ℕ) (s : ℤ) (area new : List Interval) → f ≢ pos 0 → j < length area
     → Kept new ≡ keep_at_least reason f j s area → s ≤ℤ (f *ℤ end_of Least f (interval_at new j))
 at_least_kept reason (pos zero) j s area new ne there e = absurd (ne refl)
@@ -143,14 +144,15 @@ pub record AreSnug (ts : List Term) (i : ℕ) (area : List Interval) (room : Roo
   pub high : AreWithin ts i area room.high
   pub low : AreWithin ts i area room.low
 
--- what a look at term t did to the box: it changed that column alone, kept this sum, and the term fits
+-- what a look at term t did to the box: it changed that column alone, kept this sum, and the term
+-- fits
 record IsCut (e : Extreme) (ts : List Term) (t : Term) (old new : List Interval) (room : ℤ) : Type 0 where
   side : Interval
   put : new ≡ set old t.column side
   sum : end_sum e ts new ≡ end_sum e ts old
   own : span_of t new ≤ℤ room
 
--- without a low side a term keeps to the high side alone
+-- without a low side a term satisfies the high side alone
 high_alone : (name : Option ℕ) (ts : List Term) (high : Option ℤ) (t : Term) (o : Tight)
     → then_low name (record { terms = ts; low = None; high = high }) t o ≡ o
 high_alone name ts high t (Empty reason) = refl
@@ -264,7 +266,7 @@ within_more e width look ts i old new before now ready there same c h = record {
       (λ k less. at_most_same _ _ _ _ (span_kept width look ts i k old new c.side ready there less c.put) (h.fit k less) same) c.own;
 }
 
--- the high side alone: the room under it stays, so what fits goes on to fit
+-- the high side alone: the room under it stays, so what fits continues to fit
 more_high : (width : ℕ) (look : Look) (ts : List Term) (i : ℕ) (old new : List Interval) (before now : Room) (high : Option ℤ)
     → IsLookable width look ts → length old ≡ width → i < length ts → look.low ≡ None → look.high ≡ high
     → IsRoomOf look ts old before → IsRoomOf look ts new now
@@ -306,7 +308,7 @@ more_low width look ts i old new before now (Some bottom) ready wide there high 
     within_more Greatest width look ts i old new before.low now.low ready there
     (past ∙ ap (λ (s : ℤ). s -ℤ bottom) (sym c.sum) ∙ sym room) c h
 
--- the first terms of a row with one side alone fit, and so does one more once it was looked at
+-- the first terms of a row with one side alone fit, and so does one more once it was examined
 pub snug_more : (width : ℕ) (look : Look) (ts : List Term) (i : ℕ) (old new : List Interval) (before now : Room)
     → IsLookable width look ts → length old ≡ width → i < length ts → HasOneSide look
     → IsRoomOf look ts old before → IsRoomOf look ts new now
@@ -335,7 +337,7 @@ snug_same ts i area room high low h = record {
   low = record { some = h.low.some; fit = one_more (λ (k : ℕ). span_of (term_at ts k) area ≤ℤ room.low) i h.low.fit low };
 }
 
--- where all terms fit, the row is at rest
+-- if all terms fit, the row is at rest
 pub snug_rests : (look : Look) (ts : List Term) (i : ℕ) (area : List Interval) (room : Room) → IsRoomOf look ts area room
     → length ts ≤ i → AreSnug ts i area room → IsAtRest look ts area
 snug_rests look ts i area room is all h = record {

@@ -77,7 +77,7 @@ later_change p j side old new within h =
 spread : (g l m n : ℤ) → g ≤ℤ m → n ≤ℤ l → (g -ℤ l) ≤ℤ (m -ℤ n)
 spread g l m n h k = omega (arith, ints)
 
--- the span of a factor over an interval within another is at most that over the other
+-- the span of a coefficient over an interval within another is at most that over the other
 span_inner : (f : ℤ) (inner outer : Interval) → outer.low ≤ℤ inner.low → inner.high ≤ℤ outer.high
     → ((f *ℤ end_of Greatest f inner) -ℤ (f *ℤ end_of Least f inner)) ≤ℤ ((f *ℤ end_of Greatest f outer) -ℤ (f *ℤ end_of Least f outer))
 span_inner (pos n) inner outer low high =

@@ -72,7 +72,7 @@ pub record IsGoodPart (p : Instance) (cutoff : Option ℤ) (inner outer : List I
 pub good_part_same : (p : Instance) (cutoff : Option ℤ) (area : List Interval) → IsNonEmpty area → IsGoodPart p cutoff area area
 good_part_same p cutoff area n = record { part = part_same area n; kept = λ x i good. i }
 
--- such a part of the box, over which no sum of the named row keeps to the side of the reason
+-- such a part of the box, over which no sum of the named row satisfies the side of the reason
 pub record IsShownIn (p : Instance) (cutoff : Option ℤ) (area : List Interval) (reason : Reason) : Type 0 where
   pub row : Row
   pub named : IsNamed p cutoff reason.row row
@@ -89,7 +89,7 @@ IsSweepOf p cutoff area (Empty reason) = IsShownIn p cutoff area reason
 value_below : (sum constant c : ℤ) → (sum +ℤ constant) <ℤ c → sum ≤ℤ (c -ℤ pos 1 -ℤ constant)
 value_below sum constant c h = omega (arith, ints)
 
--- a good point keeps to each row that may be named
+-- a good point satisfies each row that may be named
 pub good_keeps : (p : Instance) (cutoff : Option ℤ) (name : Option ℕ) (row : Row) (x : List ℤ)
     → IsNamed p cutoff name row → IsGood p cutoff x → Keeps row x
 good_keeps p cutoff (Some r) row x named good =

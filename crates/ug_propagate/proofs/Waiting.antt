@@ -47,7 +47,7 @@ objective_ready p None problem small = record {
 objective_ready p (Some c) problem small = ready_objective p
     (record { row = None; low = None; high = Some (c -ℤ pos 1 -ℤ p.objective.constant) }) c problem small refl refl
 
--- each row may be looked at, and the objective
+-- each row may be examined, and the objective
 pub lookable_for : (p : Instance) (cutoff : Option ℤ) (r : ℕ) → IsProblem p → IsSmallCutoff cutoff → r ≤ length p.rows
     → IsLookable (length p.columns) (look_for p cutoff r) (terms_of p r)
 lookable_for p cutoff r problem small there =
@@ -155,7 +155,7 @@ pass_to from r p cutoff area awake o problem small resting least asleep h =
     ap (λ (m : ℕ). looks m p cutoff o) (sym e)
     ∙ pass_by (r - from) from p cutoff area awake o problem small resting (λ k at less. asleep k at (omega arith)) h
 
--- and that one is looked at
+-- and that one is examined
 pub looks_go : (from r : ℕ) (p : Instance) (cutoff : Option ℤ) (area : List Interval) (awake : List ℕ) (o told : Tight)
     → IsProblem p → IsSmallCutoff cutoff → AreResting p cutoff area awake → IsNextRow p awake from r
     → told ≡ look_to p cutoff r area → looks from p cutoff o ≡ Kept area → looks (r + 1) p cutoff o ≡ told

@@ -33,13 +33,13 @@ abbrev pub IsNamed : Instance → Option ℤ → Option ℕ → Row → Type 0
 IsNamed p cutoff (Some r) row = (r < length p.rows) × (row ≡ row_at p r)
 IsNamed p cutoff None row = MatchOption cutoff ⊥ (λ c. row ≡ cutoff_row p.objective c)
 
--- over the box no sum of the row keeps to this side
+-- over the box no sum of the row satisfies this side
 abbrev pub IsMissed : Side → Row → List Interval → Type 0
 IsMissed Low row area = MatchOption row.low ⊥ (λ low. greatest_sum row.terms area <ℤ low)
 IsMissed High row area = MatchOption row.high ⊥ (λ high. high <ℤ least_sum row.terms area)
 
 -- the reason names a row, and a box below the given one has each good point of it: the box as then
--- tightened, over which no sum of the row keeps to the side, or which has no point
+-- tightened, over which no sum of the row satisfies the side, or which has no point
 pub record IsShown (p : Instance) (cutoff : Option ℤ) (area : List Interval) (reason : Reason) :
     Type 0 where
   pub row : Row
@@ -49,12 +49,12 @@ pub record IsShown (p : Instance) (cutoff : Option ℤ) (area : List Interval) (
   pub kept : (x : List ℤ) → IsInside area x → IsGood p cutoff x → IsInside inner x
   pub shown : IsMissed reason.side row inner ⊎ IsCrossed inner
 
--- where nothing is left, the reason shows it
+-- if nothing is left, the reason shows it
 abbrev pub HasReason : Instance → Option ℤ → List Interval → Tight → Type 0
 HasReason p cutoff area (Kept _) = Unit {0}
 HasReason p cutoff area (Empty reason) = IsShown p cutoff area reason
 
--- where one point within all bounds is left, it is good
+-- if one point within all bounds is left, it is good
 abbrev pub IsSolved : Instance → Option ℤ → Tight → Type 0
 IsSolved p cutoff (Kept left) = IsBelow left (root_of p) → IsFixed left → (x : List ℤ)
     → IsInside left x → IsGood p cutoff x

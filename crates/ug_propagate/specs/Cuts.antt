@@ -23,20 +23,20 @@ IsInnerCut side Whole = Unit {0}
 IsInnerCut side Nothing = Unit {0}
 IsInnerCut side (To inner) = IsClosedWithin inner side
 
--- so many whole steps of a size lie within the room, fewer than the interval is wide
+-- this many whole steps of a size lie within the room, fewer than the interval is wide
 pub record AreSteps (room : ℤ) (size : ℕ) (side : Interval) (steps : ℕ) : Type 0 where
   pub quotient : pos steps ≡ int_div_euclid room (pos size)
   pub few : pos steps <ℤ (side.high -ℤ side.low)
 
--- the values up to so many above the low, and those down to so many below the high
+-- the values up to this many above the low, and those down to this many below the high
 abbrev pub up_from : Interval → ℕ → Interval
 up_from side steps = record { low = side.low; high = side.low +ℤ pos steps }
 
 abbrev pub down_from : Interval → ℕ → Interval
 down_from side steps = record { low = side.high -ℤ pos steps; high = side.high }
 
--- the values at most so many steps from the end at which the product with the factor is the least,
--- or the greatest
+-- the values at most this many steps from the end at which the product with the coefficient is the
+-- least, or the greatest
 abbrev pub near_end : Extreme → ℤ → Interval → ℕ → Interval
 near_end Least (pos _) side steps = up_from side steps
 near_end Least (negsuc _) side steps = down_from side steps

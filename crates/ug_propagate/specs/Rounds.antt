@@ -33,7 +33,7 @@ ceiling_quotient n d = neg_ℤ (floor_quotient (neg_ℤ n) d)
 abbrev pub reason_of : Option ℕ → Side → Reason
 reason_of name side = record { row = name; side = side }
 
--- column j keeps to at most q, if that is tighter
+-- column j satisfies at most q, if that is tighter
 abbrev pub lower_high : Reason → ℕ → ℤ → List Interval → Tight
 lower_high reason j q area =
     (if int_lt q (interval_at area j).high
@@ -42,7 +42,7 @@ lower_high reason j q area =
     else Kept (slice_set area j (record { low = (interval_at area j).low; high = q })))
     else Kept area)
 
--- column j keeps to at least q, if that is tighter
+-- column j satisfies at least q, if that is tighter
 abbrev pub raise_low : Reason → ℕ → ℤ → List Interval → Tight
 raise_low reason j q area =
     (if int_lt (interval_at area j).low q
@@ -51,12 +51,12 @@ raise_low reason j q area =
     else Kept (slice_set area j (record { low = q; high = (interval_at area j).high })))
     else Kept area)
 
--- the product of this factor and column j keeps to at most s
+-- the product of this coefficient and column j satisfies at most s
 abbrev pub keep_at_most : Reason → ℤ → ℕ → ℤ → List Interval → Tight
 keep_at_most reason (pos d) j s area = lower_high reason j (floor_quotient s (pos d)) area
 keep_at_most reason (negsuc d) j s area = raise_low reason j (ceiling_quotient s (negsuc d)) area
 
--- the product of this factor and column j keeps to at least s
+-- the product of this coefficient and column j satisfies at least s
 abbrev pub keep_at_least : Reason → ℤ → ℕ → ℤ → List Interval → Tight
 keep_at_least reason (pos d) j s area = raise_low reason j (ceiling_quotient s (pos d)) area
 keep_at_least reason (negsuc d) j s area = lower_high reason j (floor_quotient s (negsuc d)) area
@@ -161,7 +161,7 @@ abbrev pub are_crossed : List Interval → Bool
 are_crossed [] = false
 are_crossed (side ∷ sides) = int_lt side.high side.low || are_crossed sides
 
--- what is said of a box without points: the row that is looked at first, if there is one
+-- what is said of a box without points: the row that is examined first, if there is one
 abbrev pub crossed : List NamedRow → Option ℤ → List Interval → Tight
 crossed [] None area = Kept area
 crossed [] (Some cutoff) area = Empty (reason_of None High)

@@ -101,15 +101,15 @@ pub record AreMoves (before after : Interval) (moves : Moves) : Type 0 where
   pub short_high : unsigned_abs moves.high ≤ 2 ^ 32
   pub small : HasSmallEnds after
 
--- how far the end goes at which the product with the factor is the least, or the greatest
+-- how far the end goes at which the product with the coefficient is the least, or the greatest
 abbrev pub move_of : Extreme → ℤ → Moves → ℤ
 move_of Least (pos _) moves = moves.low
 move_of Least (negsuc _) moves = moves.high
 move_of Greatest (pos _) moves = moves.high
 move_of Greatest (negsuc _) moves = moves.low
 
--- the sums of row r, in which a column has this factor, are those after the column's ends went so
--- far
+-- the sums of row r, in which a column has this coefficient, are those after the column's ends went
+-- so far
 pub record HasMoved (factor : ℤ) (moves : Moves) (r : ℕ) (old new : List Extremes) : Type 0 where
   pub ends : Extremes
   pub put : new ≡ slice_set old r ends
@@ -117,7 +117,7 @@ pub record HasMoved (factor : ℤ) (moves : Moves) (r : ℕ) (old new : List Ext
   pub greatest : ends.greatest
       ≡ (extremes_at old r).greatest +ℤ (factor *ℤ move_of Greatest factor moves)
 
--- column j stands in the objective so, or does not stand there
+-- column j is in the objective so, or is not there
 abbrev pub IsObjectiveStanding : Instance → ℕ → Option Standing → Type 0
 IsObjectiveStanding p j None = (k : ℕ) → k < length p.objective.terms
     → (term_at p.objective.terms k).column ≢ j

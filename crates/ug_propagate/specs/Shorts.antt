@@ -27,7 +27,7 @@ abbrev pub IsShortRoom : Room → ℤ → Type 0
 IsShortRoom room most = (v : ℤ) → unsigned_abs v < 2 ^ 63 → v ≤ℤ most
     → (v ≤ℤ room.high) × (v ≤ℤ room.low)
 
--- the sum of the absolute factors
+-- the sum of the absolute coefficients
 abbrev pub size_of : List Term → ℕ
 size_of [] = 0
 size_of (t ∷ ts) = unsigned_abs t.factor + size_of ts

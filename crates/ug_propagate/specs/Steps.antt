@@ -29,7 +29,7 @@ looked_of Same area = Kept area
 looked_of Changed area = Kept area
 looked_of (Emptied reason) area = Empty reason
 
--- a look that tells of no change made none
+-- a look that reports no change made none
 abbrev pub IsStill : Looked → List Interval → List Interval → Type 0
 IsStill Same old new = new ≡ old
 IsStill Changed old new = Unit {0}
@@ -45,13 +45,13 @@ IsGoing (Emptied reason) = ⊥
 abbrev pub row_of : Look → List Term → Row
 row_of look terms = record { terms = terms; low = look.low; high = look.high }
 
--- a term over `width` columns: its factor is not 0 and not above 10^24
+-- a term over `width` columns: its coefficient is not 0 and not above 10^24
 pub record IsTermOf (width : ℕ) (t : Term) : Type 0 where
   pub there : t.column < width
   pub small : unsigned_abs t.factor ≤ 10 ^ 24
   pub nonzero : t.factor ≢ pos 0
 
--- terms over `width` columns with factors that are not 0, and sides of at most 4 * 10^37
+-- terms over `width` columns with coefficients that are not 0, and sides of at most 4 * 10^37
 pub record IsLookable (width : ℕ) (look : Look) (terms : List Term) : Type 0 where
   pub linear : IsLinear width terms
   pub nonzero : (k : ℕ) → k < length terms → (term_at terms k).factor ≢ pos 0

@@ -16,7 +16,8 @@ abbrev pub look_to : Instance → Option ℤ → ℕ → List Interval → Tight
 look_to p cutoff r area =
     row_step (look_for p cutoff r).row (row_of (look_for p cutoff r) (terms_of p r)) area
 
--- what a look at row r made of a working box under a cutoff, and what it tells of how the row rests
+-- what a look at row r made of a working box under a cutoff, and what it reports of how the row
+-- rests
 pub record HasLooked (p : Instance) (cutoff : Option ℤ) (r : ℕ) (old new : WorkState) (looked : Looked) :
     Type 0 where
   pub value : looked_of looked new.sums.area ≡ look_to p cutoff r old.sums.area
@@ -49,7 +50,7 @@ abbrev pub IsRowFound : Instance → List ℕ → ℕ → Option ℕ → Type 0
 IsRowFound p awake from None = RestFrom p awake from
 IsRowFound p awake from (Some r) = IsNextRow p awake from r
 
--- a working box went on to another under a cutoff
+-- a working box continued to another under a cutoff
 pub record WentOn (p : Instance) (cutoff : Option ℤ) (old new : WorkState) : Type 0 where
   pub working : IsWorking p cutoff new
   pub later : IsLater old new

@@ -55,7 +55,7 @@ look_for p cutoff r =
       high = option_map (λ c. c -ℤ pos 1 -ℤ p.objective.constant) cutoff;
     })
 
--- a look at these terms would change nothing and tell nothing: the sums leave room within both
+-- a look at these terms would change nothing and report nothing: the sums leave room within both
 -- sides, and no span of a term is above it
 pub record IsAtRest (look : Look) (terms : List Term) (area : List Interval) : Type 0 where
   pub room : Room
@@ -101,7 +101,7 @@ pub record AreMeasured (p : Instance) (area : List Interval) (rows : MeasuredRow
   pub short : are_in_64_bits rows.sums ≡ true → AreShort p
   pub reach : AreReached p area rows.reach.items
 
--- so many words in which each bit is 1
+-- this many words in which each bit is 1
 abbrev pub AreOnes : ℕ → List ℕ → Type 0
 AreOnes words awake = awake ≡ replicate words (2 ^ 64 - 1)
 
@@ -143,7 +143,7 @@ pub record AreUp (p : Instance) (j : ℕ) (inward : Inward) (awake : List ℕ) :
   pub is : IsLosing p j inward list
   pub up : (r k : ℕ) → bit_of awake r ≡ 0 → k < length list → listed_at list k ≢ r
 
--- where this end of column j moved, the rows that lose room by it were woken
+-- if this end of column j moved, the rows that lose room by it were woken
 pub record WokeEnd (moved : Bool) (p : Instance) (j : ℕ) (inward : Inward) (old new : List ℕ) :
     Type 0 where
   pub width : length new ≡ length old
@@ -205,7 +205,7 @@ pub record WentBack (depth : ℕ) (old new : WorkState) : Type 0 where
   pub reach : new.reach ≡ old.reach
   pub awake : new.awake ≡ old.awake
 
--- the working box went on to this: a box of the problem with each change on its trail, whose rows
+-- the working box continued to this: a box of the problem with each change on its trail, whose rows
 -- rest where they did
 pub record IsStep (p : Instance) (old new : WorkState) : Type 0 where
   pub box : IsBox p new
@@ -213,19 +213,19 @@ pub record IsStep (p : Instance) (old new : WorkState) : Type 0 where
   pub resting : (cutoff : Option ℤ) → AreResting p cutoff old.sums.area old.awake
       → AreResting p cutoff new.sums.area new.awake
 
--- where nothing was changed, nothing was
+-- if nothing was changed, nothing was
 abbrev pub IsSame : Looked → WorkState → WorkState → Type 0
 IsSame Same old new = new ≡ old
 IsSame Changed old new = Unit {0}
 IsSame (Emptied reason) old new = Unit {0}
 
--- where a term was not tightened, its span is within the room of both sides
+-- if a term was not tightened, its span is within the room of both sides
 abbrev pub FitsWhereSame : Looked → Term → List Interval → Room → Type 0
 FitsWhereSame Same t area room = (span_of t area ≤ℤ room.high) × (span_of t area ≤ℤ room.low)
 FitsWhereSame Changed t area room = Unit {0}
 FitsWhereSame (Emptied reason) t area room = Unit {0}
 
--- where no term was tightened, each fits so
+-- if no term was tightened, each fits so
 abbrev pub FitWhereSame : Looked → List Term → List Interval → Room → Type 0
 FitWhereSame Same terms area room =
     (k : ℕ) → k < length terms
@@ -243,7 +243,7 @@ RestsWhereSame (Emptied reason) look terms area = Unit {0}
 abbrev pub HasOneSide : Look → Type 0
 HasOneSide look = (look.low ≡ None) ⊎ (look.high ≡ None)
 
--- where each term was looked at once, a row with one side alone is at rest, since a cut moves the
+-- if each term was examined once, a row with one side alone is at rest, since a cut moves the
 -- other sum alone
 abbrev pub RestsWhereChanged : Looked → Look → List Term → List Interval → Type 0
 RestsWhereChanged Same look terms area = Unit {0}
@@ -256,7 +256,7 @@ AllRest p Unknown area = Unit {0}
 AllRest p (Under cutoff) area = (r : ℕ) → r ≤ length p.rows
     → IsAtRest (look_for p cutoff r) (terms_of p r) area
 
--- where the rows were at rest so, each that is not awake is at rest under this cutoff
+-- if the rows were at rest so, each that is not awake is at rest under this cutoff
 abbrev pub WakesOthers : Instance → Rest → Option ℤ → List ℕ → Type 0
 WakesOthers p rest cutoff awake = (area : List Interval) → AllRest p rest area
     → AreResting p cutoff area awake

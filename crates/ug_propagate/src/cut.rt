@@ -23,7 +23,7 @@ pub enum Cut {
     To(Interval),
 }
 
-// The column keeps to at most `most`.
+// The column satisfies at most `most`.
 fn cut_below(reason: Reason, column: usize, most: i128, area: &[Interval]) -> Cut
     requires { column < length area.now }
     ensures value { cut_of reason column area.now result ≡ lower_high reason column most area.now }
@@ -42,7 +42,7 @@ fn cut_below(reason: Reason, column: usize, most: i128, area: &[Interval]) -> Cu
     })
 }
 
-// The column keeps to at least `least`.
+// The column satisfies at least `least`.
 fn cut_above(reason: Reason, column: usize, least: i128, area: &[Interval]) -> Cut
     requires { column < length area.now }
     ensures value { cut_of reason column area.now result ≡ raise_low reason column least area.now }
@@ -61,7 +61,7 @@ fn cut_above(reason: Reason, column: usize, least: i128, area: &[Interval]) -> C
     })
 }
 
-/// The product of the term and its column keeps to at most `most`.
+/// The product of the term and its column satisfies at most `most`.
 #[tactic(auto, using(crate::proofs::Bodies::at_most_cases))]
 pub fn cut_at_most(reason: Reason, term: Term, most: i128, area: &[Interval]) -> Cut
     requires term { IsTermOf (length area.now) term }
@@ -78,7 +78,7 @@ pub fn cut_at_most(reason: Reason, term: Term, most: i128, area: &[Interval]) ->
     }
 }
 
-/// The product of the term and its column keeps to at least `least`.
+/// The product of the term and its column satisfies at least `least`.
 #[tactic(auto, using(crate::proofs::Bodies::at_least_cases))]
 pub fn cut_at_least(reason: Reason, term: Term, least: i128, area: &[Interval]) -> Cut
     requires term { IsTermOf (length area.now) term }

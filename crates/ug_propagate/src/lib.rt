@@ -1,4 +1,4 @@
-//! Bound propagation: rows that tighten the columns of a box, until nothing changes. It stands on
+//! Bound propagation: rows that tighten the columns of a box, until nothing changes. It depends on
 //! ug_rows and ug_problem. `tighten` gives what 32 rounds leave, as specs/Rounds.antt says; every
 //! feasible point of the box with a value below the cutoff is left, and where nothing is left it
 //! names the row that shows it. The sums of the rows are kept up, and a row waits until it

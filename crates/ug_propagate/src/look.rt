@@ -1,6 +1,6 @@
 use crate::tight::Reason;
 
-/// The row that is looked at, or `None` for the objective, and its sides.
+/// The row that is examined, or `None` for the objective, and its sides.
 #[derive(Clone, Copy)]
 pub struct Look {
     pub row: Option<u32>,

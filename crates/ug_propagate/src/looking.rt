@@ -175,7 +175,7 @@ fn fits(term: Term, room: Room, most: i64, area: &[Interval]) -> bool
     }
 }
 
-// One term: where its span is within the room of both sides, neither can tighten it.
+// One term: if its span is within the room of both sides, neither can tighten it.
 fn tighten_term(
     work: &mut Working,
     problem: &Problem,
@@ -255,8 +255,8 @@ fn tighten_terms(
     })
 }
 
-/// A look at row r. Where no span of a term is above the room of either side, as in most looks, no
-/// term is looked at.
+/// A look at row r. If no span of a term is above the room of either side, as in most looks, no
+/// term is examined.
 pub fn look_at(
     work: &mut Working,
     problem: &Problem,

@@ -60,7 +60,7 @@ pub fn apart(near: i32, far: i32) -> i64
     i64::from(far) - i64::from(near)
 }
 
-// The product of a factor and a number of 33 bits.
+// The product of a coefficient and a number of 33 bits.
 fn times(factor: i128, width: i64) -> i128
     requires factor { unsigned_abs factor ≤ 10 ^ 24 }
     requires width { unsigned_abs width ≤ 2 ^ 32 }
@@ -80,8 +80,8 @@ pub fn moves_between(before: Interval, after: Interval) -> Moves
     }
 }
 
-/// Adds the product of a factor and how far an end went. An end that stays costs neither a product
-/// nor a write.
+/// Adds the product of a coefficient and how far an end went. An end that stays costs neither a
+/// product nor a write.
 pub fn add_move(sum: &mut i128, factor: i128, by: i64)
     requires sum { unsigned_abs sum.old ≤ 3 * 10 ^ 37 }
     requires factor { unsigned_abs factor ≤ 10 ^ 24 }
@@ -93,7 +93,7 @@ pub fn add_move(sum: &mut i128, factor: i128, by: i64)
     }
 }
 
-// How the product of a factor changes from one end to another.
+// How the product of a coefficient changes from one end to another.
 fn change(factor: i128, before: i32, after: i32) -> i128
     requires { unsigned_abs factor ≤ 10 ^ 24 }
     ensures value { result ≡ (factor *ℤ after) -ℤ (factor *ℤ before) }
@@ -114,10 +114,10 @@ pub fn span(term: Term, area: &[Interval]) -> i128
     change(term.factor, near, far)
 }
 
-// A factor of 32 bits: its product with a number of 33 bits is of 64.
+// A coefficient of 32 bits: its product with a number of 33 bits is of 64.
 const MOST_SHORT_FACTOR: i128 = 2_147_483_647;
 
-// The product of a factor and a number of 33 bits, in 64 bits.
+// The product of a coefficient and a number of 33 bits, in 64 bits.
 fn short_times(factor: i64, width: i64) -> i64
     requires factor { unsigned_abs factor < 2 ^ 31 }
     requires width { unsigned_abs width ≤ 2 ^ 32 }
@@ -127,7 +127,7 @@ fn short_times(factor: i64, width: i64) -> i64
     factor * width
 }
 
-// How the product of a factor changes from one end to another, in 64 bits.
+// How the product of a coefficient changes from one end to another, in 64 bits.
 fn short_change(factor: i64, before: i32, after: i32) -> i64
     requires { unsigned_abs factor < 2 ^ 31 }
     ensures value { result ≡ (factor *ℤ after) -ℤ (factor *ℤ before) }
@@ -136,7 +136,7 @@ fn short_change(factor: i64, before: i32, after: i32) -> i64
     short_times(factor, apart(before, after))
 }
 
-/// The span of a term in 64 bits, where its column has one value or its factor is of 32 bits.
+/// The span of a term in 64 bits, where its column has one value or its coefficient is of 32 bits.
 #[tactic(auto, using(crate::proofs::Shorts::no_span))]
 pub fn short_span(term: Term, area: &[Interval]) -> Option<i64>
     requires { IsTermOf (length area.now) term }
@@ -238,7 +238,7 @@ fn lesser(a: i64, b: i64) -> i64
     if a < b { a } else { b }
 }
 
-/// The lesser room of the two sides in 64 bits.
+/// The smaller room of the two sides in 64 bits.
 pub fn short_room(room: Room) -> i64
     requires high { unsigned_abs room.high ≤ 9 * 10 ^ 37 }
     requires low { unsigned_abs room.low ≤ 9 * 10 ^ 37 }

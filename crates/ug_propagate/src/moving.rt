@@ -13,8 +13,8 @@ use crate::sums::Extremes;
 use ug_problem::{Problem, Standing};
 use ug_rows::Interval;
 
-/// Brings the sums of a row to where the ends of one of its columns went. For a factor below 0 the
-/// high end moves the least sum, else the low end does.
+/// Brings the sums of a row to where the ends of one of its columns went. For a coefficient below 0
+/// the high end moves the least sum, else the low end does.
 pub fn move_sums(sums: &mut Extremes, factor: i128, moves: Moves)
     requires least { unsigned_abs sums.old.least ≤ 3 * 10 ^ 37 }
     requires greatest { unsigned_abs sums.old.greatest ≤ 3 * 10 ^ 37 }

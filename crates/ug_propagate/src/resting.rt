@@ -1,6 +1,6 @@
 ghost use Rattle.std.specs.Prelude.{◌≡◌, IsTrue};
 
-/// Which rows of a box need not be looked at when its rounds begin.
+/// Which rows of a box need not be examined when its rounds begin.
 #[derive(Clone, Copy)]
 pub enum Rest {
     /// It is not known of any.

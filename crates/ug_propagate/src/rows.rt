@@ -54,7 +54,7 @@ fn wide(ends: ShortExtremes) -> Extremes
 }
 
 // The measures of the first rows over a box in 64 bits, and those of one row more. It says whether
-// that row is short: where it is not, nothing is added.
+// that row is short: if it is not, nothing is added.
 #[tactic(auto, using(crate::proofs::Fresh::short_push))]
 fn add_short(
     problem: &Problem,

@@ -1,13 +1,13 @@
-//! Sums and products of 64 bits, where the factors of a row are small enough together.
+//! Sums and products of 64 bits, where the coefficients of a row are small enough together.
 
 ghost use Rattle.std.specs.Prelude.{◌≡◌, ◌+◌, ◌<◌, ◌≤◌, ◌^◌, ◌+ℤ◌, ◌-ℤ◌, ◌*ℤ◌, unsigned_abs};
 
-/// The most that the absolute factors of a row come to where its sums are kept in 64 bits: over
-/// numbers of 32 bits they are then at most 2^60, and the product of a factor and a number of 33
-/// bits at most 2^61.
+/// The most that the absolute coefficients of a row come to where its sums are kept in 64 bits:
+/// over numbers of 32 bits they are then at most 2^60, and the product of a coefficient and a
+/// number of 33 bits at most 2^61.
 pub const MOST_SIZE: u128 = 536_870_912;
 
-/// The product of a factor and a number of 33 bits.
+/// The product of a coefficient and a number of 33 bits.
 pub fn small_product(factor: i64, by: i64) -> i64
     requires factor { unsigned_abs factor ≤ 2 ^ 29 }
     requires by { unsigned_abs by ≤ 2 ^ 32 }
@@ -33,8 +33,8 @@ pub fn small_plus(a: i64, b: i64) -> i64
     a + b
 }
 
-/// Adds the product of a factor and how far an end went. An end that stays costs neither a product
-/// nor a write.
+/// Adds the product of a coefficient and how far an end went. An end that stays costs neither a
+/// product nor a write.
 pub fn add_short_move(sum: &mut i64, factor: i64, by: i64)
     requires sum { unsigned_abs sum.old ≤ 2 ^ 60 }
     requires factor { unsigned_abs factor ≤ 2 ^ 29 }

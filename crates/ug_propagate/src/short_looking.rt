@@ -25,7 +25,7 @@ use std::alloc::AllocError;
 use ug_problem::Problem;
 use ug_rows::{Extreme, Interval, Term, end_at};
 
-// How the product of a factor changes from one end to another.
+// How the product of a coefficient changes from one end to another.
 fn small_change(factor: i64, before: i32, after: i32) -> i64
     requires { unsigned_abs factor ≤ 2 ^ 29 }
     ensures value { result ≡ (factor *ℤ after) -ℤ (factor *ℤ before) }
@@ -186,7 +186,7 @@ fn fits(s: ShortLook, terms: &[Term], term: Term, room: ShortRoom, area: &[Inter
     span <= room.high && span <= room.low
 }
 
-// One term: where its span is within the room of both sides, neither can tighten it.
+// One term: if its span is within the room of both sides, neither can tighten it.
 fn tighten_term(
     work: &mut Working,
     problem: &Problem,
@@ -260,8 +260,8 @@ fn tighten_terms(
     })
 }
 
-/// A look at a row. Where no span of a term is above the room of either side, as in most looks, no
-/// term is looked at.
+/// A look at a row. If no span of a term is above the room of either side, as in most looks, no
+/// term is examined.
 pub fn look_short(work: &mut Working, problem: &Problem, s: ShortLook) -> Result<Looked, AllocError>
     requires work { IsBox problem.now work.old }
     requires look { IsShortLook problem.now s }

@@ -55,8 +55,8 @@ fn down(side: Interval, steps: u64) -> Interval
     }
 }
 
-/// The values at most so many steps from the end at which the product with a factor is the least,
-/// or the greatest.
+/// The values at most this many steps from the end at which the product with a coefficient is the
+/// least, or the greatest.
 pub fn near(extreme: Extreme, factor: i128, side: Interval, steps: u64) -> Interval
     requires { pos steps <ℤ (side.high -ℤ side.low) }
     ensures { result ≡ near_end extreme factor side steps }

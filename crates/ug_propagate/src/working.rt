@@ -106,7 +106,7 @@ fn wake_column(
     );
 }
 
-// So many words in which each bit is 1.
+// This many words in which each bit is 1.
 fn ones(alloc: Global, words: usize) -> Result<Vec<u64>, AllocError>
     ensures { IfOk result (λ awake. AreOnes words awake.items) }
 {

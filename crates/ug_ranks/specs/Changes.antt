@@ -46,7 +46,7 @@ noted count floor (Racing racer) = Racing (record racer { «open» = count; floo
 noted count floor (Active work) = Active (record work { «open» = count; reported = floor })
 noted count floor state = state
 
--- the state with so many hands asked, where the rank works
+-- the state with this many hands asked, where the rank works
 abbrev pub asked_for : ℕ → State → State
 asked_for count (Active work) = Active (record work { asked = count })
 asked_for count state = state

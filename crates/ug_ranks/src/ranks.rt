@@ -143,8 +143,8 @@ impl Ranks {
         node_in(mem::replace(&mut self.states[rank as usize], State::Dead(Off::Died)))
     }
 
-    /// A rank that works or races reported so many open nodes, and their least floor. At any other
-    /// state nothing changes.
+    /// A rank that works or races reported this many open nodes, and their least floor. At any
+    /// other state nothing changes.
     pub fn note(&mut self, rank: u32, open: u64, floor: i128)
         requires { rank < length self.old }
         ensures { self.new ≡ slice_set self.old rank (noted «open» floor (state_at self.old rank)) }
@@ -152,7 +152,7 @@ impl Ranks {
         note_report(&mut self.states[rank as usize], open, floor);
     }
 
-    /// A rank that works is asked for so many hands, or for none any more. At any other state
+    /// A rank that works is asked for this many hands, or for none any more. At any other state
     /// nothing changes.
     pub fn ask(&mut self, rank: u32, count: u32)
         requires { rank < length self.old }

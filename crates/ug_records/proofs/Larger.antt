@@ -22,7 +22,7 @@ use Rattle.ug_records.proofs.Composed.{IsNext, name_reader, term_reader}
 abbrev pub past : ℕ → Term → ℕ
 past least t = t.column + 1
 
--- terms of which each stands behind the one before it, and no more than there is room for
+-- terms of which each follows the one before it, and no more than there is room for
 pub record AreRead (width room : ℕ) (terms : List Term) : Type 0 where
   pub few : length terms ≤ room
   pub short : length terms < 2 ^ 32
@@ -70,7 +70,7 @@ side_reader = optional_reader (10 ^ 37) (omega arith)
 constant_reader : IsReader (λ z. unsigned_abs z ≤ 10 ^ 37) number_field (number_at (10 ^ 37))
 constant_reader = number_reader (10 ^ 37) (omega arith)
 
--- a row that is read where there is room for so many terms
+-- a row that is read where there is room for this many terms
 pub record IsReadRow (width room : ℕ) (named : NamedRow) : Type 0 where
   pub name : IsName named.name
   pub low : IsGoodSide named.row.low
@@ -124,7 +124,7 @@ row_reader width room =
           { terms = is.0.1 i; low = is.0.0.0.1 i; high = is.0.0.1 i };
     }))))))
 
--- the objective, where there is room for so many terms
+-- the objective, where there is room for this many terms
 pub record IsReadObjective (width room : ℕ) (o : Objective) : Type 0 where
   pub scale : o.scale ≤ 60
   pub constant : unsigned_abs o.constant ≤ 10 ^ 37

@@ -1,4 +1,4 @@
--- What reading a record tells about the bytes.
+-- What reading a record reports about the bytes.
 use Rattle.std.proofs.Common.{◌≡◌, ℕ, ◌-◌, List, length, Result, Ok, Err, IfOk, MatchResult, sym, ◌∙◌, ap, subst, arith}
 use Rattle.ug_problem.specs.Instances.{Instance}
 use Rattle.ug_fields.specs.Readers.{IsBytes}

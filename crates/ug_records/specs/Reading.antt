@@ -23,30 +23,30 @@ place_at width least bytes = do
   column ← unsigned_at bytes
   if nat_le least column.0 && nat_lt column.0 width then Ok column else Err (length bytes)
 
--- a factor: a number of at most 10^24, and not 0
+-- a coefficient: a number of at most 10^24, and not 0
 unfoldable pub factor_at : List ℕ → Reading ℤ
 factor_at bytes = do
   factor ← number_at (10 ^ 24) bytes
   if nat_le 1 (unsigned_abs factor.0) then Ok factor else Err (length bytes)
 
--- a term: its column, behind that of the term before it, and its factor
+-- a term: its column, behind that of the term before it, and its coefficient
 unfoldable pub term_at : ℕ → ℕ → List ℕ → Reading Term
 term_at width least bytes = do
   column ← place_at width least bytes
   factor ← factor_at column.1
   Ok (record { column = column.0; factor = factor.0 }, factor.1)
 
--- so many columns
+-- this many columns
 abbrev pub columns_at : ℕ → List ℕ → Reading (List Column × Unit {0})
 columns_at n bytes =
     many_at (λ (state : Unit {0}). column_at) (λ state (column : Column). state) n tt bytes
 
--- so many terms, each column behind the one before it
+-- this many terms, each column behind the one before it
 abbrev pub terms_from : ℕ → ℕ → List ℕ → Reading (List Term × ℕ)
 terms_from width n bytes =
     many_at (λ least. term_at width least) (λ least (t : Term). t.column + 1) n 0 bytes
 
--- how many terms there are, of which so many may be, and they
+-- how many terms there are, of which this many may be, and they
 unfoldable pub terms_at : ℕ → ℕ → List ℕ → Reading (List Term)
 terms_at width room bytes = do
   n ← count_at room bytes
@@ -65,7 +65,7 @@ row_at width room bytes = do
     terms.1,
   )
 
--- so many rows, and how many terms may still be
+-- this many rows, and how many terms may still be
 abbrev pub rows_at : ℕ → ℕ → ℕ → List ℕ → Reading (List NamedRow × ℕ)
 rows_at width room n bytes =
     many_at (row_at width) (λ room (row : NamedRow). room - length row.row.terms) n room bytes

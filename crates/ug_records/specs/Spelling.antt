@@ -14,7 +14,7 @@ abbrev pub sense_field : Bool → List ℕ
 sense_field false = 0 ∷ []
 sense_field true = 1 ∷ []
 
--- a term: its column and its factor
+-- a term: its column and its coefficient
 abbrev pub term_fields : Term → List ℕ
 term_fields t = count_field t.column ++ number_field t.factor
 

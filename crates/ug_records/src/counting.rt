@@ -68,7 +68,7 @@ fn side_length(side: Option<i128>) -> u64
     }
 }
 
-// So many terms, with their count.
+// This many terms, with their count.
 fn terms_length(count: u64) -> u64
     ensures { result ≡ capped (4 + 20 * count) }
 {

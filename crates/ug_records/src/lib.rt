@@ -1,5 +1,5 @@
 //! The record of a problem: the bytes in which it goes into a checkpoint or to another process.
-//! It stands on ug_fields for each field, and on ug_problem, ug_rows and ug_lists.
+//! It depends on ug_fields for each field, and on ug_problem, ug_rows and ug_lists.
 //! `advance` writes the bytes that the spelling in specs/ names, line by line, and `to_record` puts
 //! the lines together; each record is that of one problem. `from_record` reads every record back,
 //! and says of all other bytes where the first field stands that is cut short or breaks a rule.

@@ -22,7 +22,7 @@ fn column_at(alloc: Global, bytes: &[u8]) -> Result<(Column, &[u8]), Fault>
     }
 }
 
-/// So many columns, which are put into an empty list.
+/// This many columns, which are put into an empty list.
 pub fn columns_at<'a>(
     alloc: Global,
     bytes: &'a [u8],
@@ -54,7 +54,7 @@ fn place_at(bytes: &[u8], width: u32, least: u64) -> Result<(u32, &[u8]), Fault>
     }
 }
 
-// A factor: a number that is not 0, of at most 10^24.
+// A coefficient: a number that is not 0, of at most 10^24.
 #[tactic(auto, unfolding(crate::specs::Reading::factor_at))]
 fn factor_at(bytes: &[u8]) -> Result<(i128, &[u8]), Fault>
     ensures { Gives (λ x. (x.0, x.1.now)) result (factor_at bytes.now) }
@@ -69,7 +69,7 @@ fn factor_at(bytes: &[u8]) -> Result<(i128, &[u8]), Fault>
 
 const MOST_FACTOR: u128 = 1_000_000_000_000_000_000_000_000;
 
-// A term: its column, behind that of the term before it, and its factor.
+// A term: its column, behind that of the term before it, and its coefficient.
 #[tactic(auto, unfolding(crate::specs::Reading::term_at))]
 fn term_at(bytes: &[u8], width: u32, least: u64) -> Result<(Term, &[u8]), Fault>
     ensures { Gives (λ x. (x.0, x.1.now)) result (term_at width least bytes.now) }
@@ -79,7 +79,7 @@ fn term_at(bytes: &[u8], width: u32, least: u64) -> Result<(Term, &[u8]), Fault>
     Ok((Term { column, factor }, rest))
 }
 
-// So many terms, which are put into an empty list, and the least column of another.
+// This many terms, which are put into an empty list, and the least column of another.
 fn terms_from<'a>(
     bytes: &'a [u8],
     width: u32,
@@ -100,7 +100,7 @@ fn terms_from<'a>(
     Ok((least, rest))
 }
 
-/// How many terms there are, of which so many may be, and they.
+/// How many terms there are, of which this many may be, and they.
 #[tactic(auto, unfolding(crate::specs::Reading::terms_at))]
 pub fn terms_at(alloc: Global, bytes: &[u8], width: u32, room: u64) -> Result<(Terms, &[u8]), Fault>
     ensures { Gives (λ x. (x.0, x.1.now)) result (terms_at width room bytes.now) }

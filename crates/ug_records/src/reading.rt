@@ -29,7 +29,7 @@ pub fn from_record(alloc: Global, bytes: &[u8]) -> Result<Problem, RecordError>
     }
 }
 
-// Where the first bad field begins, from which on so many bytes are left.
+// If the first bad field begins, from which on this many bytes are left.
 fn first_bad(bytes: &[u8], left: usize) -> usize
     requires { record_at bytes.now ≡ Err left }
     ensures place { IsFirstBad bytes.now result }

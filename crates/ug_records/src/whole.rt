@@ -10,14 +10,14 @@ use ug_lists::Items;
 use ug_problem::{Columns, NamedRows};
 use ug_rows::Objective;
 
-// What the rows may have: columns below the width, and so many terms.
+// What the rows may have: columns below the width, and this many terms.
 #[derive(Clone, Copy)]
 struct Limits {
     width: u32,
     room: u64,
 }
 
-// So many rows, which are put into an empty list, and how many terms may still be.
+// This many rows, which are put into an empty list, and how many terms may still be.
 fn rows_at<'a>(
     alloc: Global,
     bytes: &'a [u8],

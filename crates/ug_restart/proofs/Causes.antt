@@ -37,7 +37,7 @@ not_saved e fault old mid new is calm t =
     subst (λ (f : StartFault). start_cause f old new) (sym is)
     (saved_so e old new (subst (λ (n : ℕ). save_cause e n new) calm t))
 
--- the fault is told as another call told it, and no call failed before
+-- the fault is reported as another call reported it, and no call failed before
 pub same_cause : (fault : StartFault) (old mid new : ℕ) → mid ≡ old → start_cause fault mid new
     → start_cause fault old new
 same_cause fault old mid new calm t = subst (λ (n : ℕ). start_cause fault n new) calm t

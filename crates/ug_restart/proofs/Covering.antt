@@ -135,7 +135,7 @@ safe_covered saver history P covers now zero one (inr safe) found recovered =
       | inr new ↦ subst Covers (sym new.same ∙ same) (covers new.new.image new.is)
     ]
 
--- where it is told, all is Covered from the one time to the other, and so is the last image then
+-- if it is reported, all is Covered from the one time to the other, and so is the last image then
 abbrev pub Stays : Option History → Saver → Option History → Type 0
 Stays old after new =
     IfSome old (λ history. AllCovered (Some history) new × LastIsCovered after new)

@@ -52,8 +52,8 @@ safe_found saver history P Q has now zero one (inr safe) = elim safe.is [
   }
 ]
 
--- where it is told, recovery finds an image that has P from the one time to the other, and the last
--- acknowledged one then is such
+-- if it is reported, recovery finds an image that has P from the one time to the other, and the
+-- last acknowledged one then is such
 abbrev pub Stands : (Image → Type 0) → Option History → Saver → Option History → Type 0
 Stands P old after new =
     IfSome old (λ history. Leaves (FindsIn P) (Some history) new × LastIs P after new)
@@ -68,7 +68,7 @@ found_same P before after (Some history) new same saver now =
       subst (λ s. LastIs P s (Some history)) (sym saver) now.last,
     )
 
--- where an image was saved, or not
+-- if an image was saved, or not
 found_during : (P : Image → Type 0) (before : Saver) (history : History) (new : Option History)
     (image : Image) → P image
     → Leaves (savers.IsSafe (last_slot before) (Some history) (found_of before image))

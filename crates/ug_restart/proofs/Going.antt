@@ -1,4 +1,4 @@
--- Saves go on, one after another.
+-- Saves continue, one after another.
 use Rattle.std.proofs.Common.{◌≡◌, ◌⊎◌, inl, inr, ℕ, ◌+◌, ◌-◌, ◌^◌, ◌≤◌, ◌<◌, refl, ap, sym, subst, ◌∙◌, arith}
 use Rattle.std.proofs.lemmas.Bool.{cases_lt}
 use Rattle.ug_io.specs.Outside.{Rose}
@@ -69,7 +69,7 @@ not_made Covers Ours saves unsaved old new more same calm = record {
       same refl now;
 }
 
--- memory was wanting
+-- memory ran out
 pub unmade : (Covers Ours : Type 0) (saves : Saves) (saver : Saver) (unsaved : ℕ) (old new : DiskSeen)
     → saves.unsaved ≤ unsaved → new.faults ≡ old.faults
     → (Covers → IsCoveredNow saves.saver old.told

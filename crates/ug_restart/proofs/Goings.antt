@@ -1,4 +1,4 @@
--- A run that goes on from what was loaded.
+-- A run that resumes from what was loaded.
 use Rattle.std.proofs.Common.{◌≡◌, ℕ, suc, zero, ℤ, ◌+ℤ◌, ◌<ℤ◌, ◌≤ℤ◌, List, [], ◌∷◌, map, Option, None, Some, IfSome, IfErr, Result, Ok, Err, refl, sym, ◌∙◌, ap, subst, arith}
 use Rattle.std.proofs.lemmas.Int.{ints}
 use Rattle.std.specs.Prelude.{All}
@@ -37,7 +37,7 @@ image_of_loaded old mid found has =
     has.is.has_one has.is.greater in
     there.spells.is
 
--- the book that is made of what was kept is the one that goes on
+-- the book that is made of what was kept is the one that continues
 pub made_on : (p : Instance) (settings : Settings) (found : Found) (run : ℕ)
     (best : Option (List ℤ)) (boxes : List (List Change)) (book : BookState)
     → run ≡ next_run (Some found) → best ≡ found.image.best
@@ -48,7 +48,7 @@ made_on p settings found run best boxes book ran same kept made =
     (subst (λ b. book ≡ started p run b (boxes_saved found.image.nodes) settings) same
     (subst (λ b. book ≡ started p run best b settings) kept made))
 
--- the book that goes on from what was loaded
+-- the book that resumes from what was loaded
 pub going_on : (p : Instance) (settings : Settings) (old mid : Option History) (found : Found)
     (book : BookState) → HasFound old mid (Some found) → MayGoOn p settings found
     → book ≡ gone_on p settings found → IsGoneOn p settings old book
@@ -101,7 +101,7 @@ covered_on p gap found problem low covered =
     (subst (λ q. Covered q found.image.gap (one_kept found.image.best) (boxes_in (root_of q)
     found.image.nodes)) problem covered))
 
--- what goes on from an image that is Covered is Covered
+-- what resumes from an image that is Covered is Covered
 pub covered_kept : (p : Instance) (gap : ℤ) (found : Found) (best : Option (List ℤ))
     (boxes : List (List Change)) → found.image.problem ≡ p → found.image.gap ≤ℤ gap
     → best ≡ found.image.best → boxes ≡ boxes_saved found.image.nodes → IsCovered found.image
@@ -111,7 +111,7 @@ covered_kept p gap found best boxes problem low same kept covered =
     (subst (λ b. Covered p gap (one_kept found.image.best) (map (area_by (root_of p)) b)) (sym kept)
     (covered_on p gap found problem low covered))
 
--- why no book goes on from what was loaded is why the run does not
+-- why no book resumes from what was loaded is why the run does not
 pub not_next : (p : Instance) (settings : Settings) (old mid : Option History) (found : Found)
     (fault : StartFault) → HasFound old mid (Some found) → HasNoNext p settings found fault
     → IsNotGoneOn p settings old mid fault
@@ -126,7 +126,7 @@ not_next p settings old mid found (SmallerGap kept asked) has why =
 not_next p settings old mid found Spent has why =
     record { found = found; has = has; is = why }
 
--- a first image that is not saved is why the run does not go on
+-- a first image that is not saved is why the run does not continue
 pub not_saved_on : (p : Instance) (settings : Settings) (old new : Option History)
     (fault : StartFault) → IsNotSaved fault → IsNotGoneOn p settings old new fault
 not_saved_on p settings old new Memory not = tt
@@ -137,7 +137,7 @@ not_saved_on p settings old new (OtherProblem at kept read) not = absurd not
 not_saved_on p settings old new (SmallerGap kept asked) not = absurd not
 not_saved_on p settings old new Spent not = absurd not
 
--- what goes on from an image makes a book, and is Covered where the image was
+-- what resumes from an image makes a book, and is Covered where the image was
 pub kept_makes : (p q : Instance) (found : Found) (run : ℕ) (best : Option (List ℤ))
     (boxes : List (List Change)) (settings : Settings) (saver : Saver) → q ≡ p
     → run ≡ next_run (Some found) → best ≡ found.image.best

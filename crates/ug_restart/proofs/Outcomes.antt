@@ -1,4 +1,4 @@
--- What stands on the disk at the end.
+-- What depends on the disk at the end.
 use Rattle.std.proofs.Common.{◌≡◌, inl, inr, ℕ, ◌≤◌, Option, Some, None, IfSome, ap, sym, ◌∙◌, subst, arith}
 use Rattle.std.specs.Prelude.{IsSomeAnd}
 use Rattle.ug_disk.specs.Histories.{DiskSeen, History}

@@ -32,7 +32,7 @@ pub record IsFirstStart (p : Instance) (settings : Settings) (found : Option Fou
   pub covered : IsCoveredOpening s.opening
   pub saver : IsSaverOf found s.saver
 
--- the start that goes on from what was found; where that was Covered, so is what it begins with
+-- the start that resumes from what was found; if that was Covered, so is what it begins with
 pub record IsNextStart (p : Instance) (settings : Settings) (found : Found) (s : Start)
     : Type 0 where
   pub book : opening_book s.opening ≡ gone_on p settings found
@@ -46,13 +46,13 @@ HasNoFirst found Memory = Unit {0}
 HasNoFirst found Spent = IsSpent found
 HasNoFirst found fault = ⊥
 
--- a run of the problem, under these settings, may go on from what was found
+-- a run of the problem, under these settings, may resume from what was found
 pub record MayGoOn (p : Instance) (settings : Settings) (found : Found) : Type 0 where
   pub problem : found.image.problem ≡ p
   pub gap : found.image.gap ≤ℤ settings.gap
   pub room : ¬ IsSpent (Some found)
 
--- why no book goes on from what was found: the first of these that is so
+-- why no book resumes from what was found: the first of these that applies
 abbrev pub HasNoNext : Instance → Settings → Found → StartFault → Type 0
 HasNoNext p settings found Memory = Unit {0}
 HasNoNext p settings found (OtherProblem at kept read) =

@@ -8,7 +8,7 @@ use Rattle.ug_restart.specs.declared.fault.StartFault.{StartFault}
 use Rattle.ug_restart.specs.declared.fault.StartFault.TheVariants.{Memory}
 use Rattle.ug_restart.specs.declared.fault.StartFault.TheVariants.{OtherProblem}
 
--- where they differ
+-- the place at which they differ
 abbrev pub IsDifference : List ℕ → List ℕ → Difference → Type 0
 IsDifference a b d = IsFirstDifference a b d.at d.kept d.read
 

@@ -17,7 +17,7 @@ abbrev pub fault_of_save : SaveError → StartFault
 fault_of_save save.Memory = Memory
 fault_of_save save.Fault = DiskFault
 
--- the disk's count of faults rose where it is told to have failed, and stayed where it is not
+-- the disk's count of faults rose if the fault says that the disk failed, and stayed otherwise
 abbrev pub start_cause : StartFault → ℕ → ℕ → Type 0
 start_cause DiskFault old new = Rose old new
 start_cause fault old new = new ≡ old

@@ -1,4 +1,4 @@
--- How saves go on: what holds from one time to a later one, over any number of them.
+-- Saves over time: what holds from one time to a later one, over any number of them.
 use Rattle.std.specs.Prelude.{◌≡◌, ◌⊎◌, ℕ, ◌+◌, ◌-◌, ◌^◌, ◌≤◌, ◌<◌, Some, IfSome}
 use Rattle.ug_io.specs.Outside.{Rose}
 use Rattle.ug_disk.specs.Crashes.{Leaves}
@@ -21,29 +21,29 @@ pub record Time : Type 0 where
 abbrev pub time : Saves → DiskSeen → Time
 time saves disk = record { saves = saves; disk = disk }
 
--- where it is told, all is Covered at each moment between, and so is the last acknowledged image at
--- the end
+-- if the disk shows it, everything is Covered at each moment between, and so is the last
+-- acknowledged image at the end
 abbrev pub StaysCovered : Time → Time → Type 0
 StaysCovered old new = IfSome old.disk.told (λ history.
     AllCovered (Some history) new.disk.told × LastIsCovered (saver_of new.saves) new.disk.told)
 
--- where it is told, recovery finds an image of this book's run at each moment between, and the last
--- acknowledged one at the end is such
+-- if the disk shows it, recovery finds an image of this book's run at each moment between, and the
+-- last acknowledged one at the end is such
 abbrev pub StaysFound : BookState → Time → Time → Type 0
 StaysFound b old new = IfSome old.disk.told (λ history.
     Leaves (FindsIn (IsOfRun b)) (Some history) new.disk.told
     × LastIs (IsOfRun b) (saver_of new.saves) new.disk.told)
 
--- no more saves were missed than the disk failed; or its count of faults stands at its greatest
--- value
+-- no more saves were missed than the disk failed; or its count of faults is at its largest value
 abbrev pub IsEachAFault : Time → Time → Type 0
 IsEachAFault old new =
     (missed_of new.saves + old.disk.faults ≤ missed_of old.saves + new.disk.faults)
     ⊎ (2 ^ 64 - 1 ≤ new.disk.faults)
 
--- The run is the same and no count falls. Saves are missed only where the disk failed, no more than
--- it did, and it did not fail where none was missed. Where what is saved is Covered, and so was all
--- before, all is. Where what is saved is of the run, and recovery found such before, it goes on to.
+-- The run is the same and no count falls. Saves are missed only if the disk failed, no more than it
+-- did, and it did not fail if none was missed. If what is saved is Covered, and so was everything
+-- before, everything is. If what is saved is of the run, and recovery found such before, it still
+-- does.
 pub record GoesOn (Covers Ours : Type 0) (old new : Time) : Type 0 where
   pub opening : opening_of new.saves ≡ opening_of old.saves
   pub calls : calls_of old.saves ≤ calls_of new.saves
@@ -59,9 +59,9 @@ pub record GoesOn (Covers Ours : Type 0) (old new : Time) : Type 0 where
       → IsFoundNow (IsOfRun (book_of old.saves)) (saver_of old.saves) old.disk.told
       → StaysFound (book_of old.saves) old new
 
--- A save became this: an image that has P is found, whatever a crash leaves, under the next
--- sequence, and no count rose; or the disk failed, and one more is missed; or memory was wanting,
--- and one more is unsaved.
+-- The result of a save: an image that has P is found, whatever a crash leaves, under the next
+-- sequence, and no count rose; or the disk failed, and one more is missed; or memory ran out, and
+-- one more is unsaved.
 abbrev pub IsAttempted : (Image → Type 0) → Attempt → Time → Time → Type 0
 IsAttempted P Saved old new =
     FindsOne (IsLastWith P new.saves) new.disk.told

@@ -1,4 +1,5 @@
--- What is found still at each moment of a start, where an image was found before.
+-- A start keeps a checkpoint: an image is still found at each moment of a start, if one was found
+-- before.
 use Rattle.std.specs.Prelude.{◌⊎◌, ℕ, List, Option, Some, IfSome}
 use Rattle.ug_disk.specs.Histories.{History}
 use Rattle.ug_disk.specs.Crashes.{Leaves, MayLeaveBoth}
@@ -23,12 +24,12 @@ pub record FindsStill (told : Option History) (P : BookState → Type 0) (zero o
   pub recovered : Recovered zero one (Some found)
   pub is : CouldFind told (Some found) ⊎ ((book : BookState) × P book × IsFirstImage book found)
 
--- where an image was found at the first time, whatever a crash left, one is found still at each
--- moment from the one time to the other
+-- if an image was found at the first time, whatever a crash left, one is still found at each moment
+-- from the one time to the other
 abbrev pub KeepsImage : (BookState → Type 0) → Option History → Option History → Type 0
 KeepsImage P old new = AlwaysFinds old → Leaves (FindsStill old P) old new
 
--- a start that leaves no more than it may keeps an image, of a new solve and of one that goes on
+-- a start that leaves no more than it may keeps an image, of a new solve and of a restart
 abbrev pub BeginsKeepImage : Type 0
 BeginsKeepImage = (p : Instance) (settings : Settings) (old new : Option History)
     → Leaves (IsSafeStart old (IsBegun p settings old)) old new

@@ -1,4 +1,4 @@
--- What stands on the disk when a run has begun.
+-- The state of the disk when a run has begun.
 use Rattle.std.specs.Prelude.{◌≡◌, ◌⊎◌, ℕ, ◌+◌, List, Option, Some, IfSome}
 use Rattle.ug_disk.specs.Crashes.{Leaves}
 use Rattle.ug_disk.specs.Histories.{History}

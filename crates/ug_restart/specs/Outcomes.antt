@@ -1,4 +1,4 @@
--- How a run has ended, what stands on the disk then, and what its outcome tells of that.
+-- How a run has ended, the state of the disk then, and what its outcome says of that.
 use Rattle.std.specs.Prelude.{◌≡◌, ◌≢◌, ◌≤◌, ◌<◌, ◌⊎◌, ◌+◌, ◌-◌, ◌^◌, [], Option, IfSome, IsSomeAnd}
 use Rattle.ug_io.specs.Outside.{Rose}
 use Rattle.ug_disk.specs.Histories.{DiskSeen, History}
@@ -21,14 +21,14 @@ IfBook (Limited b) P = P b
 IfBook (Stranded b) P = P b
 IfBook Memory P = Unit {0}
 
--- where it ended with an answer, its book has P
+-- if it ended with an answer, its book has P
 abbrev pub IfAnswered : End → (BookState → Type 0) → Type 0
 IfAnswered (Answered b) P = P b
 IfAnswered (Limited b) P = Unit {0}
 IfAnswered (Stranded b) P = Unit {0}
 IfAnswered Memory P = Unit {0}
 
--- where it ended at the limit, its book has P
+-- if it ended at the limit, its book has P
 abbrev pub IfLimited : End → (BookState → Type 0) → Type 0
 IfLimited (Answered b) P = Unit {0}
 IfLimited (Limited b) P = P b
@@ -48,7 +48,7 @@ HasFeasible b = IfSome b.best (Feasible b.problem)
 abbrev pub IsRight : BookState → Type 0
 IsRight b = Right b.problem b.settings.gap (one_kept b.best)
 
--- a node is held, and as many reports were heard as may be
+-- a node is held, and the limit of reports is reached
 pub record IsLimited (b : BookState) : Type 0 where
   pub held : held_nodes b ≢ []
   pub spent : b.settings.limit ≤ b.heard
@@ -60,21 +60,21 @@ pub record IsUntouched (outcome : Outcome) (old new : DiskSeen) : Type 0 where
   pub missed : outcome.missed ≡ 0
   pub unsaved : outcome.unsaved ≡ 0
 
--- Saves are missed only where the disk failed, and no more than it did, unless its count of faults
--- stands at its greatest value. It did not fail where none was missed.
+-- Saves are missed only if the disk failed, and no more than it did, unless its count of faults is
+-- at its largest value. It did not fail if none was missed.
 pub record IsMissedByFaults (outcome : Outcome) (old new : DiskSeen) : Type 0 where
   pub rose : 0 < outcome.missed → Rose old.faults new.faults
   pub each : (outcome.missed + old.faults ≤ new.faults) ⊎ (2 ^ 64 - 1 ≤ new.faults)
   pub calm : outcome.missed ≡ 0 → new.faults ≡ old.faults
 
--- what is told of the last save is so: recovery finds an image of this book, whatever a crash
--- leaves; or it is one of the saves that are counted
+-- the outcome is right about the last save: recovery finds an image of this book, whatever a crash
+-- leaves; or the save is one of those that are counted
 abbrev pub IsLastSave : Outcome → Option History → BookState → Attempt → Type 0
 IsLastSave outcome told b Saved = FindsOne (IsOfBook b) told
 IsLastSave outcome told b Missed = 1 ≤ outcome.missed
 IsLastSave outcome told b Unsaved = 1 ≤ outcome.unsaved
 
--- where the run ended with a book, it was to be saved, and what became of that is told
+-- if the run ended with a book, that was to be saved, and the outcome says what became of it
 abbrev pub IsSavedOrCounted : Outcome → Option History → Type 0
 IsSavedOrCounted outcome told = IfBook outcome.end (λ b.
     IsSomeAnd outcome.last (IsLastSave outcome told b))

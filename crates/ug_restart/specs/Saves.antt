@@ -30,8 +30,8 @@ sequence_at saves = sequence_of saves.saver
 abbrev pub calls_of : Saves → ℕ
 calls_of saves = saves.calls
 
--- how many saves were missed, since the disk failed in them, and how many were not made, since
--- memory was wanting
+-- the number of saves missed, since the disk failed in them, and the number not made, since memory
+-- ran out
 abbrev pub missed_of : Saves → ℕ
 missed_of saves = saves.missed
 

@@ -43,12 +43,13 @@ boxes_saved nodes = map (λ (node : SavedNode). node.changes) nodes
 abbrev pub begun : Instance → Settings → Option Found → BookState
 begun p settings found = started p (next_run found) None ([] ∷ []) settings
 
--- the book that goes on from an image: its incumbent, its boxes, and the gap of the settings
+-- the book that resumes from an image: its incumbent, its boxes, and the gap of the settings
 abbrev pub gone_on : Instance → Settings → Found → BookState
 gone_on p settings found = started p (next_run (Some found)) found.image.best
     (boxes_saved found.image.nodes) settings
 
--- the book begins where this was found, whatever it is, or goes on from it, where it is there
+-- the book begins on a disk where this was found, whatever it is, or resumes from it, if it is
+-- there
 abbrev pub BeginsAt : Instance → Settings → Option Found → BookState → Type 0
 BeginsAt p settings found book = book ≡ begun p settings found
 
@@ -78,7 +79,7 @@ pub record HasCheckpoint (old new : Option History) (P : Image → Type 0) : Typ
   pub has : HasFound old new (Some found)
   pub is : P found.image
 
--- why no run goes on from a checkpoint: the first of these that is so
+-- why no run resumes from a checkpoint: the first of these that applies
 abbrev pub IsNotGoneOn : Instance → Settings → Option History → Option History → StartFault
     → Type 0
 IsNotGoneOn p settings old new Memory = Unit {0}
@@ -102,8 +103,8 @@ pub record IsBegun (p : Instance) (settings : Settings) (old : Option History) (
   pub room : ¬ IsSpent found
   pub is : book ≡ begun p settings found
 
--- This checkpoint of the problem was found before, with no greater gap and not spent, and the book
--- is the one that goes on from it.
+-- This checkpoint of the problem was found before, with no larger gap and numbers left, and the
+-- book is the one that resumes from it.
 pub record IsGoneOn (p : Instance) (settings : Settings) (old : Option History) (book : BookState)
     : Type 0 where
   pub found : Found

@@ -18,8 +18,7 @@ use ug_problem::{Problem, Shared};
 use ug_rows::Point;
 use ug_rules::Settings;
 
-/// The start of a new solve, under the run after the one that was found, with the saver of that
-/// disk.
+/// Returns the start of a new solve, under the run number after that of the image found.
 pub fn first_start(
     alloc: Global,
     found: Option<&Found>,
@@ -45,7 +44,7 @@ pub fn first_start(
     }
 }
 
-/// The start that goes on from what was found, with the saver of that disk.
+/// Returns the start of a run that resumes from the image found.
 pub fn next_start(
     alloc: Global,
     found: Found,
@@ -89,7 +88,7 @@ pub fn next_start(
     }
 }
 
-// The run that goes on from what was found, if one of the problem may, under these settings.
+// Returns the run number with which a run may resume from the image found, under these settings.
 fn next_run_of(
     alloc: Global,
     found: &Found,
@@ -110,7 +109,7 @@ fn next_run_of(
     }
 }
 
-// What a run keeps of a checkpoint.
+// What a run takes from a checkpoint.
 #[derive(Drop)]
 struct Kept {
     best: Option<Point>,
@@ -138,7 +137,7 @@ fn kept_of(alloc: Global, found: Found) -> Result<Kept, AllocError>
     }
 }
 
-// The boxes of the nodes.
+// Returns the boxes of the nodes.
 fn boxes_of(alloc: Global, nodes: Saved) -> Result<Boxes, AllocError>
     ensures { IfOk result (λ boxes. boxes ≡ boxes_saved nodes) }
 {

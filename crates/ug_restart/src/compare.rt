@@ -6,8 +6,8 @@ use std::alloc::Global;
 use ug_problem::Problem;
 use ug_records::to_record;
 
-/// Whether the problem of a checkpoint is the one that was read; else the first place at which
-/// their records differ.
+/// Is the problem of the checkpoint the one that was read? If not, fails with the first byte at
+/// which their records differ.
 pub fn check_problem(alloc: Global, kept: &Problem, read: &Problem) -> Result<(), StartFault>
     ensures same { OnOk result (kept.now ≡ read.now) }
     ensures other { IfErr result (IsOther kept.now read.now) }
@@ -15,7 +15,7 @@ pub fn check_problem(alloc: Global, kept: &Problem, read: &Problem) -> Result<()
     if kept.is(read) {
         return Ok(());
     }
-    // Records tell problems apart, and what lends its columns is a problem.
+    // Records determine problems, and what lends its columns is a problem.
     let (_kept_columns, _read_columns) = (kept.columns(), read.columns());
     let a = to_record(alloc, kept)?;
     let b = to_record(alloc, read)?;
@@ -29,7 +29,7 @@ pub fn check_problem(alloc: Global, kept: &Problem, read: &Problem) -> Result<()
     }
 }
 
-/// Where two lists of bytes differ first, and what stands there.
+/// The first place at which two lists of bytes differ, and the bytes there.
 #[derive(Clone, Copy)]
 pub struct Difference {
     pub at: usize,
@@ -37,7 +37,7 @@ pub struct Difference {
     pub read: Option<u8>,
 }
 
-// Where two lists of bytes differ first, if they do.
+// Returns the first difference of two lists of bytes, if there is one.
 fn first_difference(a: &[u8], b: &[u8]) -> Option<Difference>
     ensures { MatchOption result (a.now ≡ b.now) (IsDifference a.now b.now) }
 {

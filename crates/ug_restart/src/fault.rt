@@ -6,34 +6,34 @@ use std::alloc::{AllocError, AllocFailed};
 use ug_checkpoint::{LoadError, SaveError};
 use ug_disk::Slot;
 
-/// Why a run does not begin on a disk. The refusals are looked at in this order, `DiskFault` while
-/// loading first and again while saving last.
+/// Why a run does not begin on a disk. The causes are tested in this order; `DiskFault` first while
+/// loading, and again last while saving.
 #[derive(Clone, Copy, Debug, PartialEq, Eq)]
 pub enum StartFault {
     Memory,
-    /// The disk's count of faults rose.
+    /// The disk failed: its count of faults has risen.
     DiskFault,
-    /// An open slot spells no image; the first bad field begins at this byte of the slot.
+    /// An open slot has no valid image; its first bad field begins at this byte of the slot.
     BadImage {
         slot: Slot,
         at: usize,
     },
     /// Neither slot is open.
     NoCheckpoint,
-    /// The checkpoint is of another problem. The records differ first at this byte, where the one
-    /// that is kept and the one that was read have these; `None` is past the end.
+    /// The checkpoint belongs to another problem. The records first differ at this byte, where the
+    /// stored one and the one that was read have these; `None` is past the end.
     OtherProblem {
         at: usize,
         kept: Option<u8>,
         read: Option<u8>,
     },
-    /// The gap that is asked for is less than that of the checkpoint, of which points may be gone
-    /// that it would want.
+    /// The gap is smaller than that of the checkpoint, which may have dropped points that a smaller
+    /// gap needs.
     SmallerGap {
         kept: i128,
         asked: i128,
     },
-    /// The run or the sequence that is stored is 2^62 or more.
+    /// The stored run or sequence number is 2^62 or more.
     Spent,
 }
 

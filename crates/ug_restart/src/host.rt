@@ -1,7 +1,6 @@
 use std::alloc::Global;
 
-/// What a run runs on: the runtime, with its threads and locks, memory, and who is told how it gets
-/// on.
+/// What a run uses: the runtime with its threads and locks, the allocator, and the observer.
 #[derive(Drop)]
 pub struct Host<'a, R, G> {
     pub rt: &'a R,

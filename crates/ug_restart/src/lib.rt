@@ -1,9 +1,9 @@
 //! How a run begins on a disk, new or from its last checkpoint, what it saves, how it ended, and
-//! who is told how it gets on. It stands on ug_checkpoint, and on ug_snapshot for the image of a
-//! moment. `begin` and `restart` give what a run begins with, under a run number above the one that
-//! is found there, once an image of its book is acknowledged: so no ticket of the run that is found
-//! is current in it. It is Covered, that of a restart where the image was. `Saves` saves snapshots,
-//! and counts those missed.
+//! its observer. Depends on ug_checkpoint, and on ug_snapshot for the image of a moment. `begin`
+//! and `restart` return what a run begins with, under a run number above the one on the disk, once
+//! an image of its book is acknowledged. So no ticket of the earlier run is current in it. The
+//! start is Covered, that of a restart if the image was. `Saves` saves snapshots, and counts the
+//! saves that fail.
 #![tactic(auto)]
 
 mod books;

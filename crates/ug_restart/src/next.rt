@@ -16,8 +16,8 @@ use ug_checkpoint::Saver;
 use ug_image::{Image, length};
 use ug_snapshot::{Snapshot, image_of};
 
-/// The image of a snapshot under the sequence that is next. There is none at the end of the
-/// numbers.
+/// Returns the image of a snapshot under the next sequence number, or `None` if there is no next
+/// number.
 #[tactic(auto, using(crate::proofs::Making::of_run_under))]
 pub fn of_snapshot(saver: &Saver, snapshot: Snapshot) -> Option<Image>
     ensures next { IfSome result (IsNext saver.now) }
@@ -32,8 +32,8 @@ pub fn of_snapshot(saver: &Saver, snapshot: Snapshot) -> Option<Image>
     Some(under(sequence, snapshot.into_image()))
 }
 
-/// The image of a book under the sequence that is next. There is none at the end of the numbers,
-/// nor where memory is wanting.
+/// Returns the image of a book under the next sequence number, or `None` if there is no next number
+/// or no memory.
 pub fn of_book(alloc: Global, saver: &Saver, book: &Book) -> Option<Image>
     ensures next { IfSome result (IsNext saver.now) }
     ensures of { IfSome result (IsOfBook book.now) }
@@ -46,14 +46,14 @@ pub fn of_book(alloc: Global, saver: &Saver, book: &Book) -> Option<Image>
     }
 }
 
-/// Whether an image has less than 2^63 bytes. No memory holds more.
+/// Does the image have less than 2^63 bytes? No memory holds more.
 pub fn is_short(image: &Image) -> bool
     ensures { IsTrue result → length (spelled image.now) < 2 ^ 63 }
 {
     length(image) < 1 << 63
 }
 
-// The sequence after that of the last acknowledged image.
+// Returns the sequence number after that of the last acknowledged image.
 fn next_sequence(saver: &Saver) -> Option<u64>
     ensures next { IfSome result (λ n. n ≡ sequence_of saver.now + 1) }
     ensures fits { IfSome result (λ n. n < 2 ^ 64) }
@@ -61,7 +61,7 @@ fn next_sequence(saver: &Saver) -> Option<u64>
     saver.sequence().checked_add(1)
 }
 
-// The image under another sequence.
+// Returns the image with another sequence number.
 fn under(sequence: u64, mut image: Image) -> Image
     ensures { result ≡ under sequence image }
 {

@@ -1,77 +1,75 @@
-/// A moment of a worker's calls.
+/// A moment in a worker's calls.
 #[derive(Clone, Copy, PartialEq, Eq)]
 pub enum Moment {
-    /// Just before it asks.
+    /// Just before a call.
     Asking,
-    /// Just after it was answered.
+    /// Just after its answer.
     Answered,
 }
 
-/// What a run begins with.
+/// The size of the model and of the run.
 #[derive(Drop)]
 pub struct Begun {
     pub columns: usize,
     pub rows: usize,
     pub solvers: u32,
     pub maximise: bool,
-    /// The constant of the objective as it is printed, if memory suffices.
+    /// The constant of the objective as it is printed; `None` if memory ran out.
     pub constant: Option<Vec<u8>>,
 }
 
-/// How a run stands.
+/// Progress of a run.
 #[derive(Drop)]
 pub struct Progress {
-    /// How many reports were heard.
+    /// The number of reports received.
     pub heard: u64,
     /// The value of the incumbent as it is printed, if there is one.
     pub best: Option<Vec<u8>>,
-    /// The value as it is printed that no point has a better one than, as far as the ranks told
-    /// what is so: the least of the floors of what is held, and of the incumbent's value less the
-    /// gap.
+    /// The dual bound as it is printed: the least of the floors of the nodes held, and of the
+    /// incumbent's value less the gap. It is as true as the floors that ranks reported.
     pub bound: Option<Vec<u8>>,
-    /// How many nodes are left that have no other above them.
+    /// The number of primitive nodes.
     pub nodes: usize,
 }
 
-/// Why a coordinator hears a rank no more, where the rank has not ended by itself.
+/// Why a coordinator stopped reading from a rank that had not ended.
 #[derive(Clone, Copy, PartialEq, Eq)]
 pub enum Dropped {
-    /// What came from it is no report.
+    /// Its bytes were not a report.
     Nonsense,
-    /// A report of it cannot be true.
+    /// Its report cannot be true.
     Untrue,
 }
 
-/// What a run passes, and to whom it tells how it gets on. Each call of it ends. An observer that
-/// wants to be told nothing has `pass` alone.
+/// Progress callbacks of a run. All methods return. Only `pass` must be implemented; the defaults
+/// of the others do nothing.
 pub trait Observer: Sync {
-    /// The worker of a rank has come to a moment.
+    /// The worker of a rank is at this moment. Tests hold threads here.
     fn pass(&self, rank: u32, moment: Moment);
 
-    /// The run begins.
+    /// The run starts.
     fn begin(&self, _begun: &Begun) {}
 
-    /// Whether it is to be told how the run stands, after so many reports, the last of which was of
-    /// a better point or not.
+    /// Should `tell` be called now, after this number of reports? `_is_better`: the last report
+    /// brought a new incumbent.
     fn wants(&self, _heard: u64, _is_better: bool) -> bool {
         false
     }
 
-    /// It is told how the run stands.
+    /// Incumbent, dual bound and open nodes, on request.
     fn tell(&self, _progress: &Progress) {}
 
-    /// A rank at the other end of a link is heard no more.
+    /// A rank was lost: malformed message, or a report that cannot be true.
     fn drops(&self, _rank: u32, _why: Dropped) {}
 
-    /// The run ends, after so many reports.
+    /// The run ended, after this number of reports.
     fn end(&self, _heard: u64) {}
 
-    /// In the best point that is found when the run ends a column, named so, stands at a bound that
-    /// the text does not have.
+    /// In the final incumbent this column is at a bound of the box that the MPS file does not have.
     fn stands_at_box(&self, _column: &[u8]) {}
 }
 
-/// None observes: it does nothing.
+/// An observer that does nothing.
 #[derive(Clone, Copy)]
 pub struct Unobserved;
 

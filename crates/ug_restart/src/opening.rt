@@ -21,10 +21,10 @@ use ug_image::Image;
 use ug_rules::Settings;
 use ug_snapshot::image_of;
 
-/// The most that a stored run or sequence may be, and 1.
+/// One more than the largest stored run or sequence number that may be continued.
 const SPENT: u64 = 1 << 62;
 
-/// The run after the one that was found, or the first.
+/// Returns the run number after that of the image found, or 1.
 pub fn next_run(found: Option<&Found>) -> Result<u64, StartFault>
     ensures run { IfOk result (λ run. run ≡ next_run (option_copied found.entry)) }
     ensures room { OnOk result (¬ IsSpent (option_copied found.entry)) }
@@ -41,7 +41,7 @@ pub fn next_run(found: Option<&Found>) -> Result<u64, StartFault>
     }
 }
 
-/// Whether the gap that is asked for is at least the one that was kept.
+/// Is the gap of the settings at least the stored one?
 pub fn check_gap(found: &Found, settings: &Settings) -> Result<(), StartFault>
     ensures ok { OnOk result (found.now.image.gap ≤ℤ settings.now.gap) }
     ensures err { IfErr result (λ e. (e ≡ SmallerGap found.now.image.gap settings.now.gap)
@@ -54,7 +54,7 @@ pub fn check_gap(found: &Found, settings: &Settings) -> Result<(), StartFault>
     Ok(())
 }
 
-/// Saves the first image of a run: that of the book that starts with the opening.
+/// Saves the first image of a run, that of the book that starts with the opening.
 #[tactic(auto, using(crate::proofs::Causes::not_saved))]
 pub fn save_first<D: Disk>(
     alloc: Global,
@@ -87,7 +87,7 @@ pub fn save_first<D: Disk>(
     }
 }
 
-// The image of the book that starts with the opening, under this sequence.
+// Returns the image of the book that starts with the opening, under this sequence number.
 fn first_image(alloc: Global, opening: &Opening, sequence: u64) -> Result<Image, AllocError>
     requires opening { IsOpening opening.now }
     requires sequence { 1 ≤ sequence }

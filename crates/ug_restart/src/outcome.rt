@@ -1,14 +1,14 @@
 use ug_book::Book;
 
-/// How a run ended, and which saves after the first were not made.
+/// How a run ended, and which later saves were not made.
 #[derive(Drop)]
 pub struct Outcome {
     pub end: End,
-    /// Later saves in each of which the disk failed.
+    /// The number of later saves in which the disk failed.
     pub missed: u64,
-    /// Later saves that were refused for memory.
+    /// The number of later saves that ran out of memory or of numbers.
     pub unsaved: u64,
-    /// What became of the save of the ending book, where there was one and a saver.
+    /// What became of the save of the final book, if there was one and a saver.
     pub last: Option<Attempt>,
 }
 
@@ -19,7 +19,7 @@ pub enum Attempt {
     Saved,
     /// The disk failed.
     Missed,
-    /// Memory was wanting, or the numbers of images were at their end.
+    /// Out of memory, or no sequence number is left.
     Unsaved,
 }
 
@@ -27,7 +27,7 @@ impl Attempt {
     ghost use Rattle.std.specs.Prelude.{◌≡◌, ◌↔◌, IsTrue};
     ghost use Rattle.ug_restart.specs.declared.outcome.Attempt.TheVariants.{Saved};
 
-    /// Whether the image is acknowledged.
+    /// Is the image acknowledged?
     pub fn is_saved(self) -> bool
         ensures { IsTrue result ↔ (self ≡ Saved) }
     {
@@ -40,10 +40,10 @@ impl Attempt {
 pub enum End {
     /// No node is held, and the book has the answer.
     Answered(Book),
-    /// So many reports were heard as the settings allow, and a node is held.
+    /// The limit of reports is reached, and a node is held.
     Limited(Book),
     /// A node is held, and no rank is alive.
     Stranded(Book),
-    /// Memory ran out.
+    /// Out of memory.
     Memory,
 }

@@ -6,10 +6,10 @@ use ug_image::Image;
 use ug_problem::Problem;
 use ug_rows::Point;
 
-// No value of a point is greater, and no greater one is printed.
+// No value of a point is larger, and no larger one is printed.
 const MOST: u128 = 100_000_000_000_000_000_000_000_000_000_000_000_000;
 
-/// Tells the observer that a run begins.
+/// Calls the observer when a run begins.
 pub fn tell_begin<O: Observer>(observer: &O, alloc: Global, opening: &Opening) {
     let problem = opening.problem.problem();
     let objective = problem.objective();
@@ -24,7 +24,7 @@ pub fn tell_begin<O: Observer>(observer: &O, alloc: Global, opening: &Opening) {
     drop(begun);
 }
 
-/// Tells the observer that a run ended.
+/// Calls the observer when a run has ended.
 pub fn tell_end<O: Observer>(observer: &O, end: &End) {
     match end {
         End::Answered(book) | End::Limited(book) | End::Stranded(book) => observer.end(
@@ -34,8 +34,8 @@ pub fn tell_end<O: Observer>(observer: &O, end: &End) {
     }
 }
 
-/// How a run stands, by an image of it and by the bound that its nodes held had, now or before;
-/// nothing where memory is wanting for the value of the incumbent.
+/// Returns the progress of a run, from an image of it and the bound of its held nodes, now or
+/// before; `None` if memory runs out for the value of the incumbent.
 pub fn progress_of(alloc: Global, image: &Image, held: Option<i128>) -> Option<Progress> {
     let problem = image.problem.problem();
     let value = match &image.best {
@@ -58,8 +58,8 @@ pub fn progress_of(alloc: Global, image: &Image, held: Option<i128>) -> Option<P
     })
 }
 
-// What no value is better than: that of a node that went for the incumbent is no better than the
-// incumbent's less the gap.
+// Returns the dual bound. A node that left for the incumbent is no better than the incumbent's
+// value less the gap.
 fn bound_of(value: Option<i128>, gap: i128, held: Option<i128>) -> Option<i128> {
     let Some(value) = value else {
         return held;
@@ -71,7 +71,7 @@ fn bound_of(value: Option<i128>, gap: i128, held: Option<i128>) -> Option<i128> 
     }
 }
 
-// The value of a point of this many columns.
+// Returns the value of a point with this number of columns.
 fn value_of(problem: &Problem, point: &Point) -> Option<i128> {
     if point.as_slice().len() != problem.columns().len() {
         return None;
@@ -79,7 +79,7 @@ fn value_of(problem: &Problem, point: &Point) -> Option<i128> {
     Some(problem.value(point))
 }
 
-// A value as it is printed, if it is one and memory suffices.
+// Returns a value as it is printed, if it is one and memory suffices.
 fn printed(alloc: Global, problem: &Problem, value: i128) -> Option<Vec<u8>> {
     if value.unsigned_abs() > MOST {
         return None;

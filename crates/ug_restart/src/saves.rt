@@ -18,19 +18,20 @@ use ug_disk::Disk;
 use ug_image::Image;
 use ug_snapshot::Snapshot;
 
-/// What a run saves after its first image.
+/// Saves the images of a run after its first one.
 #[derive(Drop)]
 pub struct Saves {
     saver: Saver,
     opening: Opening,
-    // How many calls the history of the last snapshot had that was saved.
+    // Length of the history of the last snapshot that was saved.
     calls: u64,
     missed: u64,
     unsaved: u64,
 }
 
 impl Saves {
-    /// Saves of the run that began with the opening, whose first image the saver has saved.
+    /// Returns the saves of the run that began with the opening, whose first image the saver has
+    /// saved.
     pub fn new(saver: Saver, opening: Opening) -> Saves
         ensures { result ≡ begun saver opening }
     {
@@ -43,22 +44,22 @@ impl Saves {
         }
     }
 
-    /// Saves in each of which the disk failed; the count stands still at its end.
+    /// Returns the number of saves in which the disk failed, up to its largest value.
     pub fn missed(&self) -> u64
         ensures { result ≡ missed_of self.now }
     {
         self.missed
     }
 
-    /// Saves for which memory was wanting; the count stands still at its end.
+    /// Returns the number of saves that were not made for any other cause, up to its largest value.
     pub fn unsaved(&self) -> u64
         ensures { result ≡ unsaved_of self.now }
     {
         self.unsaved
     }
 
-    /// Saves the image of a snapshot, unless it is of another opening or no newer than the last one
-    /// that was saved.
+    /// Saves the image of a snapshot, unless the snapshot has another opening or is no newer than
+    /// the last one that was saved.
     pub fn offer<D: Disk>(&mut self, alloc: Global, disk: &mut D, snapshot: Snapshot)
         requires { IsKept (saver_of self.old) (D.seen disk.old).told }
         ensures kept { IsKept (saver_of self.new) (D.seen disk.new).told }
@@ -85,7 +86,8 @@ impl Saves {
         }
     }
 
-    /// Saves the image of the ending book, and tells what became of it.
+    /// Saves the image of a book: the final one of a run, and each one that a coordinator saves.
+    /// Returns what became of the save.
     pub fn finish<D: Disk>(&mut self, alloc: Global, disk: &mut D, book: &Book) -> Attempt
         requires { IsKept (saver_of self.old) (D.seen disk.old).told }
         ensures kept { IsKept (saver_of self.new) (D.seen disk.new).told }
@@ -102,7 +104,7 @@ impl Saves {
         self.save(alloc, disk, image)
     }
 
-    // Whether a snapshot is of another opening, or no newer than the last one that was saved.
+    // Does the snapshot have another opening, or is it no newer than the last one that was saved?
     fn passes_over(&self, snapshot: &Snapshot) -> bool
         ensures over { IsTrue result ↔ IsPassedOver self.now snapshot.now }
         ensures due { MatchBool result
@@ -112,7 +114,7 @@ impl Saves {
         snapshot.count() <= self.calls || !snapshot.opening().is(&self.opening)
     }
 
-    // Saves the image, and counts it where there is none or it is not saved.
+    // Saves the image. Counts the save if there is no image or it is not saved.
     fn save<D: Disk>(&mut self, alloc: Global, disk: &mut D, image: Option<Image>) -> Attempt
         requires kept { IsKept self.old.saver (D.seen disk.old).told }
         requires image { IfSome image (IsNext self.old.saver) }
@@ -155,7 +157,7 @@ impl Saves {
     }
 }
 
-// One more, up to the end of the count.
+// Returns one more, up to the largest value.
 fn one_more(count: u64) -> u64
     ensures value { result ≡ one_more count }
     ensures least { count ≤ result }

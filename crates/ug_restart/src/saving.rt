@@ -11,7 +11,7 @@ use crate::saves::Saves;
 use std::alloc::Global;
 use ug_disk::Disk;
 
-/// Saves the ending book, if there is one, and tells what became of it.
+/// Saves the final book, if there is one. Returns what became of the save.
 pub fn save_end<D: Disk>(
     alloc: Global,
     disk: &mut D,

@@ -16,15 +16,16 @@ use ug_disk::Disk;
 use ug_problem::Shared;
 use ug_rules::Settings;
 
-/// How a run starts: what it begins with, and the saver that saved its first image.
+/// What a run begins with, and the saver that saved its first image.
 #[derive(Drop)]
 pub struct Start {
     pub opening: Opening,
     pub saver: Saver,
 }
 
-/// Begins a new solve on the disk, whatever it has: under a run number that is above that of the
-/// checkpoint there, with no incumbent and the root left. An image of its book is acknowledged.
+/// Begins a new solve on the disk, whatever it has: with the root and no incumbent, under a run
+/// number above that of the checkpoint there. An image of its book is acknowledged before the call
+/// returns.
 #[tactic(auto, using(crate::proofs::Causes::not_loaded, crate::proofs::Causes::no_first, crate::proofs::Causes::same_cause))]
 pub fn begin<D: Disk>(
     alloc: Global,
@@ -66,8 +67,9 @@ pub fn begin<D: Disk>(
     }
 }
 
-/// Goes on from the checkpoint on the disk, under the run number after its own, with its incumbent,
-/// its boxes and the gap of the settings. An image of its book is acknowledged.
+/// Resumes from the checkpoint on the disk, with its incumbent, its boxes and the gap of the
+/// settings, under the next run number. An image of its book is acknowledged before the call
+/// returns.
 #[tactic(auto, using(crate::proofs::Causes::not_loaded, crate::proofs::Causes::no_next, crate::proofs::Causes::same_cause))]
 pub fn restart<D: Disk>(
     alloc: Global,

@@ -12,14 +12,14 @@ use Rattle.ug_rows.specs.Boxes.{IsInside, IsWithin, IsNonEmpty, interval_at, no_
 use Rattle.ug_rows.specs.Rows.{IsLinear, term_at, sum_at}
 use Rattle.ug_rows.specs.Sums.{IsBound, end_of, end_sum}
 
--- a factor of at least 0 keeps an order
+-- a coefficient of at least 0 keeps an order
 pub mul_pos : (n : ℕ) (a b : ℤ) → a ≤ℤ b → (pos n *ℤ a) ≤ℤ (pos n *ℤ b)
 mul_pos n (pos a) (pos b) h = let k : n * a ≤ n * b = mul-le-mul_left n (omega (arith, ints)) in omega (arith, ints, k)
 mul_pos n (negsuc a) (pos b) h = omega (arith, ints)
 mul_pos n (pos a) (negsuc b) h = absurd (omega (arith, ints))
 mul_pos n (negsuc a) (negsuc b) h = let k : n * suc b ≤ n * suc a = mul-le-mul_left n (omega (arith, ints)) in omega (arith, ints, k)
 
--- a factor below 0 turns it
+-- a coefficient below 0 turns it
 pub mul_neg : (n : ℕ) (a b : ℤ) → a ≤ℤ b → (negsuc n *ℤ b) ≤ℤ (negsuc n *ℤ a)
 mul_neg n (pos a) (pos b) h = let k : suc n * a ≤ suc n * b = mul-le-mul_left (suc n) (omega (arith, ints)) in omega (arith, ints, k)
 mul_neg n (negsuc a) (pos b) h = omega (arith, ints)

@@ -1,4 +1,4 @@
--- Products of a factor and an i32, and how large they are.
+-- Products of a coefficient and an i32, and how large they are.
 use Rattle.std.proofs.Common.{◌-ℤ◌, suc, zero, ◌≡◌, ◌+◌, ◌*◌, ◌^◌, ◌≤◌, ℤ, pos, negsuc, ◌+ℤ◌, ◌*ℤ◌, unsigned_abs, FitsSigned, ◌∙◌, arith}
 use Rattle.std.proofs.Math.Nat.{mul-le-mul}
 use Rattle.std.proofs.lemmas.Int.{ints, unsigned_abs-mul, fits_signed_from_abs, to_z-of_z}
@@ -17,7 +17,7 @@ pub abs_i32 : (v : ℤ) → FitsSigned w32 v → unsigned_abs v ≤ 2 ^ 31
 abs_i32 (pos v) h = omega (arith, ints)
 abs_i32 (negsuc v) h = omega (arith, ints)
 
--- a product of a factor and an i32
+-- a product of a coefficient and an i32
 pub abs_product : (f v : ℤ) → unsigned_abs f ≤ 10 ^ 24 → FitsSigned w32 v → unsigned_abs (f *ℤ v) ≤ 10 ^ 24 * 2 ^ 31
 abs_product f v small fits = omega (arith, unsigned_abs-mul f v, mul-le-mul small (abs_i32 v fits))
 

@@ -1,4 +1,5 @@
--- How the least and the greatest sum of terms change when one column's interval is replaced, and how large they are.
+-- How the least and the greatest sum of terms change when one column's interval is replaced, and
+-- how large they are.
 use Rattle.std.proofs.Common.{◌≡◌, ◌≢◌, refl, sym, ap, subst, ◌∙◌, inl, inr, ℕ, zero, suc, ◌*◌, ◌^◌, ◌<◌, ◌≤◌, ℤ, pos, negsuc, ◌+ℤ◌, ◌-ℤ◌, ◌*ℤ◌, unsigned_abs, List, [], ◌∷◌, length, set, arith}
 use Rattle.std.proofs.lemmas.Int.{ints, unsigned_abs-mul}
 use Rattle.std.proofs.lemmas.List.{get_or-set_other, get_or-set_same}
@@ -63,13 +64,13 @@ sum_among e (u ∷ us) t area side apart (inr later) =
     ∙ ap (λ (s : ℤ). end_product e u area +ℤ s) (sum_among e us t area side apart.1 later)
     ∙ later_new (end_product e u area) (end_sum e us area) (end_product e t area) (end_product e t (set area t.column side))
 
--- where no term has the column, the sum is as it was
+-- if no term has the column, the sum is as it was
 pub sum_without : (e : Extreme) (ts : List Term) (area : List Interval) (j : ℕ) (side : Interval)
     → ((k : ℕ) → k < length ts → (term_at ts k).column ≢ j)
     → end_sum e ts (set area j side) ≡ end_sum e ts area
 sum_without e ts area j side other = sum_free e ts area j side (free_at j ts other)
 
--- where a term has it, the sum loses the term's old end and gains its new one
+-- if a term has it, the sum loses the term's old end and gains its new one
 pub sum_with : (e : Extreme) (width : ℕ) (ts : List Term) (t : Term) (area : List Interval) (side : Interval)
     → IsLinear width ts → IsAmong t ts
     → end_sum e ts (set area t.column side)
@@ -101,7 +102,7 @@ sum_at_most e (t ∷ ts) area small factors =
     sum_at_most e ts area (λ k lt. small (suc k) (omega arith)) (λ k lt. factors (suc k) (omega arith)) in
     omega (arith, first, later, unsigned_abs-mul t.factor v, abs_add (end_product e t area) (end_sum e ts area))
 
--- where the columns of the terms have i32 numbers, the sums are at most 3 * 10^37
+-- if the columns of the terms have i32 numbers, the sums are at most 3 * 10^37
 pub sum_small : (e : Extreme) (width : ℕ) (ts : List Term) (area : List Interval) → IsLinear width ts
     → ((k : ℕ) → k < length ts → HasSmallEnds (interval_at area (term_at ts k).column))
     → unsigned_abs (end_sum e ts area) ≤ 3 * 10 ^ 37

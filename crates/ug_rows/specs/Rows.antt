@@ -1,4 +1,4 @@
--- Rows: linear sums with two optional sides, and when a point keeps to them.
+-- Rows: linear sums with two optional sides, and when a point satisfies them.
 use Rattle.std.specs.Prelude.{◌≡◌, ◌⊎◌, ℕ, ℤ, pos, ◌+ℤ◌, ◌*ℤ◌, ◌<◌, ◌≤◌, ◌^◌, ◌≤ℤ◌, List, [], ◌∷◌}
 use Rattle.std.specs.Prelude.{length, slice_index_or, IfSome, unsigned_abs}
 use Rattle.ug_rows.specs.declared.row.Term.{Term}
@@ -28,13 +28,13 @@ sum_at (t ∷ terms) x = (t.factor *ℤ value_at x t.column) +ℤ sum_at terms x
 abbrev pub value_of : Objective → List ℤ → ℤ
 value_of objective x = sum_at objective.terms x +ℤ objective.constant
 
--- the point x keeps to the row: its sum is within the sides that the row has
+-- the point x satisfies the row: its sum is within the sides that the row has
 pub record Keeps (row : Row) (x : List ℤ) : Type 0 where
   pub low : IfSome row.low (λ low. low ≤ℤ sum_at row.terms x)
   pub high : IfSome row.high (λ high. sum_at row.terms x ≤ℤ high)
 
--- terms over `width` columns, of which there are at most 10,000: columns rise, and no factor is
--- above 10^24
+-- terms over `width` columns, of which there are at most 10,000: columns rise, and no coefficient
+-- is above 10^24
 pub record IsLinear (width : ℕ) (terms : List Term) : Type 0 where
   pub few : width ≤ 10 ^ 4
   pub rising : (i k : ℕ) → i < k → k < length terms

@@ -7,7 +7,7 @@ use Rattle.ug_rows.specs.declared.sums.Extreme.{Extreme}
 use Rattle.ug_rows.specs.declared.sums.Extreme.TheVariants.{Least, Greatest}
 use Rattle.ug_rows.specs.Boxes.{interval_at}
 
--- the end of the interval at which its product with the factor is the least, or the greatest
+-- the end of the interval at which its product with the coefficient is the least, or the greatest
 abbrev pub end_of : Extreme → ℤ → Interval → ℤ
 end_of Least (pos _) side = side.low
 end_of Least (negsuc _) side = side.high
@@ -31,7 +31,7 @@ least_sum terms area = end_sum Least terms area
 abbrev pub greatest_sum : List Term → List Interval → ℤ
 greatest_sum terms area = end_sum Greatest terms area
 
--- the floor of the box: the least value of the objective over it, rows not looked at
+-- the floor of the box: the least value of the objective over it, rows not examined
 abbrev pub box_floor : Objective → List Interval → ℤ
 box_floor objective area = least_sum objective.terms area +ℤ objective.constant
 

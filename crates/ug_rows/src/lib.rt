@@ -1,8 +1,8 @@
 //! Rows, points and boxes of whole numbers: the sums of a row over a box, and what lies in what. It
-//! stands on ug_lists. `least`, `greatest` and `floor` are the least and the greatest sums over the
-//! points of a box, reached where it has a point; `sum_of_ends` is either of them for bare terms.
-//! `holds`, `inside` and `below` decide their definitions in specs/. No call takes memory, and no
-//! sum wraps, for rows within the limits that `IsLinear` states.
+//! depends on ug_lists. `least`, `greatest` and `floor` are the least and the greatest sums over
+//! the points of a box, reached where it has a point; `sum_of_ends` is either of them for bare
+//! terms. `holds`, `inside` and `below` decide their definitions in specs/. No call takes memory,
+//! and no sum wraps, for rows within the limits that `IsLinear` states.
 #![tactic(auto)]
 
 mod area;

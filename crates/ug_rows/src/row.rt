@@ -6,7 +6,7 @@ use crate::sums::sum;
 use std::alloc::AllocError;
 use ug_lists::Items;
 
-/// A factor of a column, in a sum.
+/// A coefficient of a column, in a sum.
 #[derive(Clone, Copy, PartialEq, Eq)]
 pub struct Term {
     /// The column, counted from 0.
@@ -17,7 +17,7 @@ pub struct Term {
 /// The terms of a sum, in rising order of their columns.
 pub type Terms = Items<Term>;
 
-/// A linear sum with the sides that it has to keep to. A side that is `None` is no bound.
+/// A linear sum with the sides that it has to satisfy. A side that is `None` is no bound.
 #[derive(Drop)]
 pub struct Row {
     pub terms: Terms,
@@ -68,7 +68,7 @@ impl Clone for Objective {
     }
 }
 
-/// Whether a point keeps to a row.
+/// Whether a point satisfies a row.
 pub fn holds(row: &Row, point: &Point) -> bool
     requires { IsLinear (length point.now) row.now.terms }
     ensures { IsTrue result ↔ Keeps row.now point.now }

@@ -87,7 +87,7 @@ pub fn add_end(extreme: Extreme, total: i128, term: Term, side: Interval) -> i12
     add_product(total, term.factor, end_at(extreme, term.factor, side))
 }
 
-/// The end of an interval at which its product with a factor is the least, or the greatest.
+/// The end of an interval at which its product with a coefficient is the least, or the greatest.
 pub fn end_at(extreme: Extreme, factor: i128, side: Interval) -> i32
     ensures { result ≡ end_of extreme factor side }
 {

@@ -1,4 +1,4 @@
-//! What is saved of a moment of a run. It stands on ug_book and on ug_image. `image_of` is the
+//! What is saved of a moment of a run. It depends on ug_book and on ug_image. `image_of` is the
 //! image of a book, which is Covered where the book is sound; a `Snapshot` is what a run began with
 //! and an image of it, which is Covered where the opening is.
 #![tactic(auto)]

@@ -6,7 +6,7 @@ use std::marker::Model;
 use ug_book::Opening;
 use ug_image::Image;
 
-/// What was held at a moment, to be saved: where its opening is covered, so is its image.
+/// What was held at a moment, to be saved: if its opening is covered, so is its image.
 #[derive(Drop)]
 pub struct Snapshot {
     began: Began,
@@ -27,7 +27,7 @@ impl Model for Snapshot {
 }
 
 impl Snapshot {
-    /// A snapshot of what began with this opening, with this image, after so many calls.
+    /// A snapshot of what began with this opening, with this image, after this many calls.
     pub fn new(began: Began, image: Image, count: u64) -> Snapshot
         requires { IsSnapshot (record { opening = began; image = image; count = count }) }
         ensures { result ≡ record { opening = began; image = image; count = count } }

@@ -104,7 +104,7 @@ module _ {M : Type 0} (IsCarried : M → Type 0) (spelled : M → List ℕ)
   pub in_one_way : IsReadInOneWay IsCarried spelled
   in_one_way = record { gives = gives; one = one_reading; short = short_over }
 
--- a whole frame leaves what stands behind it
+-- a whole frame leaves what follows it
 pub given_is : {M : Type 0} (IsCarried : M → Type 0) (spelled : M → List ℕ) (old : Waiting)
     (message : M) (used : ℕ) → old.bad ≡ false
     → IsDecoded IsCarried spelled old.bytes (Whole message used)

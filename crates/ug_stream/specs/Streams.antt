@@ -21,11 +21,11 @@ first = record { at = 0; bytes = []; bad = false }
 abbrev pub fed : Waiting → List ℕ → Waiting
 fed w piece = if w.bad then w else (record w { bytes = w.bytes ++ piece })
 
--- so many bytes further on, up to the end of the count
+-- this many bytes further on, up to the end of the count
 abbrev pub further : ℕ → ℕ → ℕ
 further at used = min (at + used) (2 ^ 64 - 1)
 
--- without so many of the bytes
+-- without this many of the bytes
 abbrev pub passed : ℕ → Waiting → Waiting
 passed used w = record w { at = further w.at used; bytes = drop used w.bytes }
 
@@ -48,7 +48,7 @@ module _ {M : Type 0} (IsCarried : M → Type 0) (spelled : M → List ℕ) wher
     pub short : IsCutShort old.bytes
     pub same : new ≡ old
 
-  -- bad bytes came before, or stand at the front of what waited: from this place on
+  -- bad bytes came before, or are at the front of what waited: from this place on
   pub record IsBadAt (old new : Waiting) (at : ℕ) : Type 0 where
     pub place : at ≡ old.at
     pub bad : (old.bad ≡ true) ⊎ IsDecoded IsCarried spelled old.bytes Bad

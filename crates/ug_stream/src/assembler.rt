@@ -105,7 +105,7 @@ impl Assembler {
         &self.bytes[self.given..]
     }
 
-    // Passes over so many of the bytes that wait.
+    // Passes over this many of the bytes that wait.
     fn pass(&mut self, used: usize)
         requires { used ≤ length self.old.bytes }
         ensures { self.new ≡ passed used self.old }
@@ -125,7 +125,7 @@ impl Assembler {
         }
     }
 
-    // Lets go of the bytes that were given, where none waits, or no more than were given and there
+    // Drops of the bytes that were given, where none waits, or no more than were given and there
     // is memory for these apart. So a byte is copied but once for one that was given.
     fn settle(&mut self)
         ensures { self.new ≡ self.old }

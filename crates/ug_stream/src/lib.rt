@@ -1,8 +1,8 @@
 //! Messages put together from the pieces in which a stream brings their frames.
-//! It stands on ug_frames. An `Assembler` is fed with bytes as they come, and gives the messages
+//! It depends on ug_frames. An `Assembler` is fed with bytes as they come, and gives the messages
 //! whose frames are whole, one after another: orders at a solver, reports at a coordinator.
 //! What it gives follows from the joined bytes alone, whatever the pieces; bytes that are no frame
-//! are final. Its memory follows the bytes that wait, and never a length that is only told.
+//! are final. Its memory follows the bytes that wait, and never a length that is only reported.
 #![tactic(auto)]
 
 mod assembler;

@@ -122,7 +122,7 @@ same_calls : (after : LockedState) (p q : PassState) (deeds : List Deed) → Has
 same_calls after p q deeds h calls =
     ap (λ (r : ℕ). entries_in r deeds) h.same.1 ∙ (calls ∙ (sym (append-nil p.mine) ∙ sym h.mine))
 
--- what stands behind such a turn has stood
+-- what follows such a turn has stood
 stood_then : (after : LockedState) (p q : PassState) (o : Opening) (deeds : List Deed) → HasCalledAt None after p q
     → p.opening ≡ Some o → entries_in p.rank deeds ≡ p.mine → HasStood o q.rank deeds q.seen after
 stood_then after p q o deeds h opened calls = record {
@@ -158,7 +158,7 @@ come_in_vain deed after p q old new h does line none within read come o opened =
       read = read o c.deeds (read_less o q.known p.known c.deeds h.lower at.read);
     }
 
--- the end of a task is told in vain
+-- the end of a task is reported in vain
 pub come_ended : (task : TaskState) (answer : Heard) (p q : PassState) (old new : Stage)
     (other : HasEndedOther task answer p q) → Does old (EndedInVain task q.seen) new → HasCome p old → HasCome q new
 come_ended task answer p q old new other does =
@@ -425,7 +425,7 @@ untaken d end after p q asked tally h s = (
   },
 )
 
--- where memory was wanting for the task of what was taken, it is the worker's all the same
+-- if memory ran out for the task of what was taken, it is the worker's all the same
 pub seat_untaken : (d : Desk) (took : Result Took Untaken) (p q : PassState) (asked : Asked) (tally : Tally)
     → HasTakenIn took p q → IsSeated d p asked tally None → OnErr took (Stands (IsSeated d q begun_asked))
 seat_untaken d (Ok took) p q asked tally h s = tt

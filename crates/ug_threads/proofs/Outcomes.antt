@@ -1,4 +1,4 @@
--- What stands on the disk at the end of a solve by threads.
+-- What depends on the disk at the end of a solve by threads.
 use Rattle.std.proofs.Common.{◌≡◌, ap, sym, ◌∙◌, subst}
 use Rattle.ug_rules.specs.State.{BookState}
 use Rattle.ug_rules.specs.Books.{IsSoundBook}

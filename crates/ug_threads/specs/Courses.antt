@@ -37,7 +37,7 @@ pub record IsOfDesk (p : PassState) (asked : Asked) (e : Engaged) : Type 0 where
   pub count : e.asked ≡ asked.count
   pub racing : e.racing ≡ asked.racing
 
--- where a worker with this tally stands, and its task, if it has one
+-- the stage of a worker with this tally, and its task, if it has one
 abbrev pub stage_of : Tally → Option Engaged → Stage
 stage_of tally None = Free tally
 stage_of tally (Some e) = Busy tally e

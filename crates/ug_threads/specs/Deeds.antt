@@ -15,10 +15,9 @@ use Rattle.ug_worker.specs.Renewals.{begun, counted, fresh}
 use Rattle.ug_desk.specs.Histories.{Call, Entry, taken, offered, handed, stated, ended}
 use Rattle.ug_desk.specs.Histories.{left, copied}
 
--- A worker sits down at a pass, and renews its tasks so; it calls the desk, and is answered; it
--- reads a cutoff; it tells the end of a task whose ticket had ended; or it leaves, where its rank
--- was gone before. What is in vain is no call that the history has, so it names the history as it
--- was then.
+-- A worker sits down at a pass, with this rule of release; it calls the desk, and is answered; it
+-- reads a cutoff; it reports the end of a task whose ticket had ended; or it leaves after its rank
+-- was lost. A deed in vain has no entry in the history, so it names the history as it was then.
 pub data Deed : Type 0 where
   Sat : Option Renewal → Deed
   Called : Call → Deed
@@ -26,7 +25,7 @@ pub data Deed : Type 0 where
   EndedInVain : TaskState → List Entry → Deed
   LeftInVain : List Entry → Deed
 
--- where a pass stands: nobody sits at it; its worker has no task; or it has one
+-- the stage of a pass: nobody sits at it; its worker has no task; or it has one
 pub data Stage : Type 0 where
   Away : Stage
   Free : Tally → Stage
@@ -43,7 +42,7 @@ IsTakenBy tally (Ok Wait) new = new ≡ Free tally
 IsTakenBy tally (Ok Over) new = new ≡ Away
 IsTakenBy tally (Err end) new = new ≡ Free tally
 
--- the task goes on as was replied
+-- the task continues as was replied
 abbrev pub replied_to : Engaged → Reply → Engaged
 replied_to e reply = record {
   task = lowered reply.cutoff e.task;

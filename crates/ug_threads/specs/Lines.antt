@@ -32,9 +32,8 @@ pub record HasStood (o : Opening) (r : ℕ) (past : List Deed) (history : List E
   pub replayed : IsReplayed l history
   pub own : calls_of r history ≡ entries_in r past
 
--- No cutoff that was read before is below the one that is replied. The end of a task is told in
--- vain where the task was not of the rank's ticket, and a worker leaves in vain where its rank was
--- gone.
+-- No cutoff that was read before is below the one that is replied. The end of a task is reported in
+-- vain if the task was not of the rank's ticket, and a worker leaves in vain if its rank was dead.
 abbrev pub IsInLine : Opening → ℕ → List Deed → Deed → Type 0
 IsInLine o r past (Called (stated count low (Ok reply))) =
     AreReadAbove o (word_at (floor_of o.problem) reply.cutoff) past
@@ -50,7 +49,7 @@ LeadTo o r [] now = now ≡ Away
 LeadTo o r (deed ∷ past) now =
     (before : Stage) × LeadTo o r past before × Does before deed now × IsInLine o r past deed
 
--- what stood at each deed in vain came before the end of this history
+-- the history named by each deed in vain is a prefix of this history
 abbrev pub AreWithin : List Entry → List Deed → Type 0
 AreWithin history [] = Unit {0}
 AreWithin history (EndedInVain task seen ∷ past) =

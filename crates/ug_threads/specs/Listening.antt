@@ -1,4 +1,4 @@
--- That listening goes on: the laws of what a listener becomes.
+-- Listening continues: the laws of what a listener becomes.
 use Rattle.std.proofs.Common.{◌≡◌, ◌∙◌, refl, subst, sym}
 use Rattle.ug_book.specs.Openings.{IsCoveredOpening}
 use Rattle.ug_restart.specs.Saves.{opening_of}

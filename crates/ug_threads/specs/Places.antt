@@ -1,4 +1,4 @@
--- Where a pass sits.
+-- The place of a pass.
 use Rattle.std.specs.Prelude.{◌≡◌, ℕ, Some}
 use Rattle.ug_book.specs.declared.opening.Opening.{Opening}
 use Rattle.ug_desk.specs.declared.desk.Desk.{Desk}

@@ -15,7 +15,7 @@ pub record AreAllOf (desk : Desk) (o : Opening) (passes : List PassState) : Type
   pub wide : width_of desk ≡ o.settings.solvers
   pub each : (r : ℕ) → r < width_of desk → HasRank passes r
 
--- they are so many, and all at the table
+-- their number is `count`, and all are at the table
 pub record AreAllAt (table : Table) (count : ℕ) (passes : List PassState) : Type 0 where
   pub at : ArePassesAt table passes
   pub count_is : length passes ≡ count

@@ -19,7 +19,7 @@ use ug_restart::{Host, Observer};
 use ug_snapshot::Snapshot;
 use ug_worker::{Renewal, work};
 
-/// Where the workers sit: the desk, what its history began with, when snapshots are due, and the
+/// What the workers share: the desk, the opening of its history, when snapshots are due, and the
 /// pass whose thread could not be started, by its rank plus 1.
 #[derive(Clone, Copy)]
 pub struct Table<'a> {
@@ -74,8 +74,8 @@ impl Crew {
         }
     }
 
-    /// Starts a thread for each pass. One whose thread was not started leaves; where none was
-    /// started the caller works with one. No sender is left but those of the threads.
+    /// Starts a thread for each pass. A pass whose thread was not started leaves; if none was
+    /// started, the caller works with one. Only threads keep senders.
     pub fn start<'s, E, R: Threads + Wait + Sync, O: Observer>(
         &mut self,
         scope: &'s Scope<'s, E>,
@@ -166,7 +166,7 @@ enum Started {
     Left(Pass),
 }
 
-// Starts a thread with a pass. Where none is to be had the pass leaves, in the caller.
+// Starts a thread with a pass. If that fails, the pass leaves, in the caller.
 #[tactic(auto, using(ug_desk::proofs::Crossing::pass_send, ug_desk::proofs::Crossing::desk_sync))]
 fn start_one<'s, E, R: Threads + Wait + Sync, O: Observer>(
     scope: &'s Scope<'s, E>,
@@ -238,7 +238,7 @@ fn work_or_leave<R: Wait, O: Observer>(
     sit(host, table, pass, sender)
 }
 
-// A sender of one's own, where snapshots are wanted and there is memory for it.
+// Returns a sender, if snapshots are needed and there is memory for it.
 fn sender_for(sender: &Sender<Snapshot>, pace: &Pace) -> Option<Sender<Snapshot>> {
     if !pace.is_wanted() {
         return None;

@@ -24,14 +24,14 @@ pub struct Home {
     pub rank: u32,
 }
 
-/// What is asked of a worker for a task that it has just taken: nothing, and others may have the
-/// same box.
+/// The orders for a task that was just taken: nothing is asked for, and others may have the same
+/// box.
 pub const BEGUN: Asked = Asked {
     count: 0,
     racing: true,
 };
 
-// What is asked behind a reply; as before where there is none.
+// Returns the orders after a reply, or the previous ones if there is none.
 fn asked_by(reply: Result<Reply, Unfinished>, before: Asked) -> Asked
     ensures ok { IfOk reply (λ own.
         result ≡ record { count = own.collect; racing = own.racing }) }
@@ -54,16 +54,16 @@ pub struct DeskSeat<'a, R, O> {
     pub desk: &'a Desk,
     pub pass: Pass,
     pub observer: &'a O,
-    /// Where snapshots go, if they are wanted.
+    /// The channel for snapshots, if they are needed.
     pub sender: Option<Sender<Snapshot>>,
     /// When they are due.
     pub pace: &'a Pace,
-    /// What is asked of the worker for its task.
+    /// The orders for the worker's task.
     pub asked: Asked,
 }
 
-// Sends a snapshot where one is due, unless others wait to be saved. One for which memory is
-// wanting is no save.
+// Sends a snapshot if one is due, unless others wait to be saved. A snapshot that runs out of
+// memory is not sent.
 fn send_if_due<R: Wait>(
     rt: &R,
     desk: &Desk,
@@ -86,8 +86,8 @@ fn send_if_due<R: Wait>(
     }
 }
 
-// How the run stands now, where that is wanted, if memory suffices. The bound is of the moment
-// before: the incumbent is then no better than it was for the nodes that have gone.
+// Returns the progress of the run, if it is needed and memory suffices. The bound is from before
+// the snapshot: the incumbent is then no better than it was for the nodes that have left.
 fn progress<R: Wait>(
     rt: &R,
     alloc: Global,
@@ -123,7 +123,7 @@ impl<'a, R: Wait, O: Observer> Seat for DeskSeat<'a, R, O> {
     ghost use Rattle.std.specs.Prelude.{◌≡◌, Option};
     ghost use Rattle.ug_threads.specs.Courses.{IsLeft, IsSeated};
 
-    // The pass's own calls are those of a worker that stands there.
+    // The pass's own calls are those of a worker in this state.
     ghost at = { λ seat tally some. IsSeated seat.desk.now seat.pass seat.asked tally some };
 
     ghost over = { λ seat. IsLeft seat.desk.now seat.pass };

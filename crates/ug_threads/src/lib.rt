@@ -1,9 +1,8 @@
-//! A solve by threads: a worker for each rank, which share one desk, and the caller, who saves. It
-//! stands on ug_desk for the shared book, on ug_worker for what a thread does, and on ug_restart
-//! for what is saved. `solve_threads` answers with the book of a history from the opening's:
-//! without a node, and then its answer is right where that was sound, or with as many reports as
-//! may be. With a saver what recovery could find stays Covered at each moment, and it finds the
-//! ending book.
+//! A solve by threads: one worker for each rank at one desk, and the caller, who saves. Depends on
+//! ug_desk for the shared book, on ug_worker for what a thread does, and on ug_restart for saves.
+//! `solve_threads` returns the book that a history of calls leads to from the opening: without a
+//! node, and then its answer is right if the opening was sound, or at the limit of reports. With a
+//! saver whatever recovery could find stays Covered at each moment, and it finds the final book.
 #![tactic(auto)]
 
 mod crew;

@@ -30,7 +30,7 @@ pub trait Listener {
         ensures moves { moves self.old self.new };
 }
 
-/// Takes what is sent until every sender is gone.
+/// Receives until every sender is dropped.
 pub fn listen<R: Wait, T: Listener + Drop>(
     rt: &R,
     mut listener: T,

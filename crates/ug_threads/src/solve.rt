@@ -20,9 +20,9 @@ use ug_checkpoint::Saver;
 use ug_disk::Disk;
 use ug_restart::{End, Host, Observer, Outcome, Saves, save_end, tell_begin};
 
-/// Solves what the opening has left, by as many threads as its settings have solvers, all of which
-/// have ended when it returns. With a saver the snapshots that the workers send are saved, and at
-/// last the ending book.
+/// Solves what the opening has left, with one thread for each of its solvers. All threads have
+/// ended when it returns. With a saver it saves the snapshots that the workers send, and the final
+/// book.
 #[tactic(auto, using(ug_restart::proofs::Outcomes::none_missed))]
 pub fn solve_threads<R: Threads + Wait + Sync, D: Disk, O: Observer>(
     host: &Host<'_, R, O>,
@@ -36,7 +36,7 @@ pub fn solve_threads<R: Threads + Wait + Sync, D: Disk, O: Observer>(
     // The book at the end is the replay of a history from the opening's.
     ensures ended { HasEnded (opening_book opening.now) result.end }
 
-    // What stands on the disk.
+    // The state of the disk.
     ensures untouched { IsNone saver → IsUntouched result (D.seen disk.old) (D.seen disk.new) }
     ensures saved { IfSome saver (λ s. IsSavedOrCounted result (D.seen disk.new).told) }
     ensures any_moment { IfSome saver (λ s. IsSoundBook (opening_book opening.now)
@@ -55,7 +55,7 @@ pub fn solve_threads<R: Threads + Wait + Sync, D: Disk, O: Observer>(
     }
 }
 
-// Memory is wanting before a worker began.
+// Returns the outcome if memory runs out before a worker has begun.
 #[tactic(auto, using(crate::proofs::Endings::none_ended))]
 fn wanting() -> Outcome
     ensures ended { (given : BookState) → HasEnded given result.end }
@@ -71,7 +71,7 @@ fn wanting() -> Outcome
     }
 }
 
-// Without a saver.
+// Solves without a saver.
 fn silently<R: Threads + Wait + Sync, O: Observer>(
     host: &Host<'_, R, O>,
     opening: &Opening,
@@ -90,7 +90,7 @@ fn silently<R: Threads + Wait + Sync, O: Observer>(
     }
 }
 
-// With a saver.
+// Solves with a saver.
 #[tactic(auto, using(ug_restart::proofs::Outcomes::still_covered, ug_restart::proofs::Outcomes::still_found, ug_restart::proofs::Outcomes::covered_begun, ug_restart::proofs::Outcomes::found_begun, ug_restart::proofs::Outcomes::none_missed))]
 fn with_saver<R: Threads + Wait + Sync, D: Disk, O: Observer>(
     host: &Host<'_, R, O>,
@@ -117,7 +117,7 @@ fn with_saver<R: Threads + Wait + Sync, D: Disk, O: Observer>(
     saving(host, opening, saves, disk)
 }
 
-// With what is saved.
+// Solves, and saves with `saves`.
 #[tactic(auto, using(ug_restart::proofs::Outcomes::time_covered, ug_restart::proofs::Outcomes::time_missed))]
 fn saving<R: Threads + Wait + Sync, D: Disk, O: Observer>(
     host: &Host<'_, R, O>,
@@ -148,7 +148,7 @@ fn saving<R: Threads + Wait + Sync, D: Disk, O: Observer>(
     outcome
 }
 
-// The outcome, and the disk that was lent.
+// Returns the outcome, and the disk that was lent.
 fn parted<'a, D>(concluded: Concluded<'a, D>) -> (Outcome, &'a mut D)
     ensures outcome { result.0 ≡ concluded.entry.outcome }
     ensures name { result.1.ghost_name ≡ concluded.entry.kept.disk.ghost_name }
@@ -172,7 +172,7 @@ struct Concluded<'a, D> {
     kept: Saving<'a, D>,
 }
 
-// Solves, and saves the ending book.
+// Solves, and saves the final book.
 fn conclude<'a, R: Threads + Wait + Sync, D: Disk, O: Observer>(
     host: &Host<'_, R, O>,
     opening: &Opening,

@@ -21,18 +21,18 @@ use ug_desk::{Desk, Pass};
 use ug_restart::{Host, Observer};
 use ug_snapshot::Snapshot;
 
-/// How many snapshots may wait to be saved. Where so many do, no other is made.
+/// Number of snapshots that may wait to be saved. While they do, no other is made.
 const WAITING: usize = 2;
 
-/// What a solve comes to: its ending book, if memory sufficed, and who took the snapshots.
+/// Result of a solve: its final book, if memory sufficed, and who took the snapshots.
 #[derive(Drop)]
 pub struct Solved<T> {
     pub book: Option<Book>,
     pub listener: T,
 }
 
-/// Solves by threads. There is no book where memory is wanting for the desk, for its threads or to
-/// close it.
+/// Solves by threads. There is no book if memory runs out for the desk, for its threads or to close
+/// it.
 pub fn solve<R: Threads + Wait + Sync, O: Observer, T: Listener + Drop>(
     host: &Host<'_, R, O>,
     opening: &Opening,

@@ -7,7 +7,7 @@ use ug_book::Unfinished;
 use ug_rules::Heard;
 use ug_worker::Reply;
 
-/// What a worker is told of a box that it handed: memory alone ends its work.
+/// Returns the answer to a box that a worker handed: only out of memory ends its work.
 pub fn told(heard: Heard) -> Result<(), AllocError>
     ensures { MatchResult result (λ u. heard ≢ Memory) (λ e. heard ≡ Memory) }
 {
@@ -17,7 +17,7 @@ pub fn told(heard: Heard) -> Result<(), AllocError>
     Ok(())
 }
 
-/// What it is told of its report of what is left: the answer, unless memory was wanting.
+/// Returns the answer to a report of what is left, unless memory ran out.
 pub fn answered(reply: Result<Reply, Unfinished>) -> Result<Reply, AllocError>
     ensures ok { IfOk reply (λ own. result ≡ Ok own) }
     ensures err { OnErr reply (IsErr result) }
@@ -28,7 +28,7 @@ pub fn answered(reply: Result<Reply, Unfinished>) -> Result<Reply, AllocError>
     }
 }
 
-/// Whether a task goes on behind the answer to its point: else its ticket has ended.
+/// Does a task continue after the answer to its point? If not, its ticket has ended.
 pub fn goes_on(heard: Heard) -> bool
     ensures { MatchBool result (IsWellOffered heard) (¬ IsWellOffered heard) }
 {

@@ -1,5 +1,5 @@
-//! Problems that commands are given, and what they tell. Commands over real folders are tried with
-//! the built program (tests/program).
+//! Problems that commands are given, and what they report. Commands over real folders are tried
+//! with the built program (tests/program).
 
 use crate::expect::holds_at;
 use crate::running::told;
@@ -12,7 +12,7 @@ use ug_disk::MemoryDisk;
 /// The problem without columns.
 pub const EMPTY: &str = "ROWS\n N Z\nENDATA\n";
 
-/// Three columns under three rows, of which the greatest value is wanted.
+/// Three columns under three rows, of which the greatest value is needed.
 pub const KNAPSACK: &str = "NAME BASE
 OBJSENSE MAX
 ROWS
@@ -38,10 +38,10 @@ BOUNDS
 ENDATA
 ";
 
-/// What is told of it.
+/// What is reported of it.
 pub const OPTIMUM: &str = "optimal 13\nA 2\nC 1";
 
-/// The status that was told, and the lines, without the last line feed.
+/// The status that was reported, and the lines, without the last line feed.
 pub fn parts_of(told: &[u8]) -> (u8, &str) {
     match told {
         [status, lines @ ..] => (*status, lines_of(lines)),
@@ -69,7 +69,7 @@ pub fn first_slot() -> [u8; 113] {
     slot
 }
 
-/// Whether a run of the knapsack told the optimum or, but for the third, that it is open.
+/// Whether a run of the knapsack reported the optimum or, but for the third, that it is open.
 pub fn is_open_or_solved(told: &[u8], run: usize) -> bool {
     run < 2 && told.starts_with(b"\x08open ") || parts_of(told) == (0, OPTIMUM)
 }

@@ -21,7 +21,7 @@ fn failing_disk(alloc: Global, zero: &[u8], calls: &[u64]) -> Result<MemoryDisk,
     }
 }
 
-/// What a solve tells of a disk of which a call fails.
+/// What a solve reports of a disk of which a call fails.
 #[derive(Clone, Copy, Debug, PartialEq, Eq)]
 enum Told {
     Fault,
@@ -42,8 +42,8 @@ fn told_by(told: &[u8]) -> Told {
     }
 }
 
-// What is told of a command over slot 0, of whose disk this call fails; and whether a checkpoint is
-// found then.
+// What is reported of a command over slot 0, of whose disk this call fails; and whether a
+// checkpoint is found then.
 fn told_where_it_fails<R: Threads + Wait + Sync + Abort>(
     rt: &R,
     alloc: Global,
@@ -62,8 +62,8 @@ fn told_where_it_fails<R: Threads + Wait + Sync + Abort>(
     (by, is_found)
 }
 
-// Expects a command over slot 0 to tell a fault where one of the first calls of its disk fails, a
-// missed save where a later one does, and what it tells anyway behind its last. Where slot 0 has a
+// Expects a command over slot 0 to report a fault where one of the first calls of its disk fails, a
+// missed save where a later one does, and what it reports anyway behind its last. If slot 0 has a
 // checkpoint, one is found after each that failed.
 fn tells_each_fault<R: Threads + Wait + Sync + Abort>(
     rt: &R,
@@ -135,7 +135,7 @@ fn missed_where_it_fails<R: Threads + Wait + Sync + Abort>(
     (is_missed, is_ended)
 }
 
-// The first save behind that of the root's image is of a snapshot, however the solver gets on.
+// The first save behind that of the root's image is of a snapshot, however the solver progresses.
 #[test]
 fn missed_save_of_a_snapshot_is_followed_by_the_last_save(rt: HostRuntime) {
     let mut met = 0u32;

@@ -130,7 +130,7 @@ const SCHEDULES: &[&[Row]] = &[
     ],
 ];
 
-// So many times the rows.
+// This many times the rows.
 fn visits(alloc: Global, rows: &[Row], times: usize) -> Result<Vec<Visit>, AllocError> {
     let mut visits = Vec::new(alloc);
     for _ in 0..times {
@@ -152,7 +152,7 @@ const SOLVES: &[&str] = &[
     "solve f --mode processes --solvers 3 --low 1 --high 1 --checkpoint d --every 1",
 ];
 
-// Expects a run with workers that are visited so to tell the optimum.
+// Expects a run with workers that are visited so to report the optimum.
 fn tells_the_optimum<R: Threads + Wait + Sync + Abort>(
     rt: &R,
     alloc: Global,
@@ -178,8 +178,8 @@ fn workers_find_the_optimum(rt: HostRuntime) {
     }
 }
 
-// Expects a command to tell the optimum, or a line of a run that is open, and the checkpoint to be
-// that of this run.
+// Expects a command to report the optimum, or a line of a run that is open, and the checkpoint to
+// be that of this run.
 fn goes_on_by<R: Threads + Wait + Sync + Abort>(
     rt: &R,
     alloc: Global,
@@ -206,7 +206,7 @@ fn each_run_of_workers_has_the_next_number(rt: HostRuntime) {
     drop(disk);
 }
 
-// Its only solver is gone before it says anything.
+// Its only solver is lost before it says anything.
 const GONE: &[Piece<'static>] = &[Piece {
     rank: 0,
     bytes: b"",
@@ -231,7 +231,7 @@ fn is_stranded<R: Threads + Wait + Sync + Abort>(
     drop(told);
 }
 
-// A run in the other mode goes on from the checkpoint that it leaves.
+// A run in the other mode resumes from the checkpoint that it leaves.
 #[test]
 fn run_without_solvers_is_stranded_and_goes_on(rt: HostRuntime) {
     let alloc = rt.alloc();

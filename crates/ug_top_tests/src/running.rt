@@ -198,7 +198,7 @@ pub fn told_with<R: Threads + Wait + Sync, S: Source + Drop>(
     told
 }
 
-/// The same over a text.
+/// The same over a file.
 pub fn told<R: Threads + Wait + Sync>(
     rt: &R,
     alloc: Global,
@@ -209,7 +209,7 @@ pub fn told<R: Threads + Wait + Sync>(
     told_of(rt, alloc, line, MemorySource { rest: text }, disk)
 }
 
-/// What a solve of a text answers that writes to this sink.
+/// What a solve of a file answers that writes to this sink.
 pub fn ran_over<R: Threads + Wait + Sync>(
     rt: &R,
     alloc: Global,

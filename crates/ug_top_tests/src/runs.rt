@@ -10,7 +10,7 @@ use ug_io::{MemorySink, Script, ScriptedSource};
 
 const EMPTY: &str = "ROWS\n N Z\nENDATA\n";
 
-// A source of this text, of whose calls this one fails and which gives so many bytes at most.
+// A source of this text, of whose calls this one fails and which gives this many bytes at most.
 fn failing<'a>(
     alloc: Global,
     text: &'a str,
@@ -23,7 +23,7 @@ fn failing<'a>(
     })
 }
 
-// Expects a solve of what a source gives to tell this.
+// Expects a solve of what a source gives to report this.
 fn tells<R: Threads + Wait + Sync + Abort>(
     rt: &R,
     alloc: Global,

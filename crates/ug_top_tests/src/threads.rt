@@ -1,6 +1,6 @@
 //! A solve by threads. What it answers is compared with what trying each point of the problem
-//! gives, by so many threads, racing or not, under observers that hold threads or let others go
-//! first, and on disks. That a thread gets on is proved nowhere: here each solve of these ends.
+//! gives, by this many threads, racing or not, under observers that hold threads or let others go
+//! first, and on disks. That a thread progresses is proved nowhere: here each solve of these ends.
 
 mod answer;
 mod cases;

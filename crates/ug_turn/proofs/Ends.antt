@@ -34,7 +34,8 @@ module _ {V O E : Type 0} (opening : V → O) (replays : V → List E → Type 0
       let turn = (g.turn (omega arith)).0 in
       omega arith)
 
-  -- the value is there, and its history has all that the seat and the passes that ended with it knew
+  -- the value is there, and its history has all that the seat and the passes that ended with it
+  -- knew
   pub closes : (ws : List ℕ) (xs : List (Option (Held V E))) (id : ℕ) (v : View O E) → v.role ≡ 1 → v.parts ≡ passes → v.step ≡ 0
       → Final (Seen (Rule opening replays by cutoff passes start) id v) ws xs
       → (h : Held V E) × (get_elem? xs 0 ≡ some (Some h)) × EndsWith opening replays by passes v h.value
@@ -68,13 +69,13 @@ module _ {A : Type 0} where
   snoc_get (x ∷ xs) a b zero e = inl e
   snoc_get (x ∷ xs) a b (suc k) e = ⊎_elim (λ t. inl t) (λ t. inr (ap suc t.0, t.1)) (snoc_get xs a b k e)
 
-  -- what stands in front stands in the whole
+  -- what is in front is in the whole
   pub front_get : (xs ys : List A) (k : ℕ) (a : A) → slice_get xs k ≡ Some a → slice_get (xs ++ ys) k ≡ Some a
   front_get [] ys k a e = absurd (cc (e))
   front_get (x ∷ xs) ys zero a e = e
   front_get (x ∷ xs) ys (suc k) a e = front_get xs ys k a e
 
-  -- the last stands behind the others
+  -- the last follows the others
   pub last_get : (xs : List A) (a : A) → slice_get (xs ++ a ∷ []) (length xs) ≡ Some a
   last_get [] a = refl
   last_get (x ∷ xs) a = last_get xs a

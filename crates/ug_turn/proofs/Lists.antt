@@ -124,14 +124,14 @@ module _ {A : Type 0} where
       let rest = longer_begins xs ys zs (p.0, cc (p.1)) (q.0, cc (q.1)) in
       ((rest.0.0, cc (heads, rest.0.1)), (rest.1.0, cc (rest.1.1)), (rest.2.0, cc (heads', rest.2.1)))
 
-  -- where the first begins the second, the longer is the second
+  -- if the first begins the second, the longer is the second
   pub longer_whole : (xs ys : List A) → IsPrefix xs ys → longer xs ys ≡ ys
   longer_whole [] ys p = refl
   longer_whole (x ∷ xs) [] p = absurd (cc (p.1))
   longer_whole (x ∷ xs) (y ∷ ys) p =
       let rest = longer_whole xs ys (p.0, cc (p.1)) in cc (p.1, rest)
 
-  -- what stands in a list with one more stands in the list, or is the last
+  -- what is in a list with one more is in the list, or is the last
   pub at_snoc_place : (l : List A) (a b : A) (j : ℕ) → get_elem? (l ++ a ∷ []) j ≡ some b → (get_elem? l j ≡ some b) ⊎ ((j ≡ length l) × (a ≡ b))
   at_snoc_place [] a b zero e = inr (refl, some-injective a b e)
   at_snoc_place [] a b (suc j) e = absurd (some-ne-none b (sym e))

@@ -161,7 +161,7 @@ module _ {V O E : Type 0} (opening : V → O) (replays : V → List E → Type 0
     maker = λ h. absurd (omega arith);
   }
 
-  -- a note is told to a seat
+  -- a note is given to a seat
   pub tells : (id : ℕ) (v : View O E) (other : ℕ) (w : View O E) → v.step ≡ 0 → w.parts ≡ 0 → Joins (Rule opening replays by cutoff passes start) id v other w (informed v w) spent
   tells id v other w no_turn no_part s r at apart there =
       let m = r.m in
@@ -291,11 +291,11 @@ module _ {V O E : Type 0} (opening : V → O) (replays : V → List E → Type 0
       }
 
 module _ {V O E : Type 0} where
-  -- a seat that was told a note has no turn still
+  -- a seat that was given a note has no turn still
   pub told_step : (m m' : Me (Option (Held V E)) (View O E)) (w : View O E) → m' ≡ (informed m.0 w, m.1) → m.0.step ≡ 0 → m'.0.step ≡ 0
   told_step m m' w is no_turn = ap (λ (x : Me (Option (Held V E)) (View O E)). x.0.step) is ∙ no_turn
 
-  -- what it knows where it has seen what the note told
+  -- what it knows after it has seen what the note has
   pub met_of : (st : Step (Option (Held V E))) (m m' m'' : Me (Option (Held V E)) (View O E)) (found : ℕ) (w : View O E) → m' ≡ (informed m.0 w, m.1) → Met st m' found m'' → HasMet m.0 w.seen w.known m''.0
   met_of st m m' m'' found w is met =
       let view : m'.0 ≡ informed m.0 w = ap (λ (x : Me (Option (Held V E)) (View O E)). x.0) is in record {

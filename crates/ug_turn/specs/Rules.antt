@@ -11,7 +11,7 @@ use Rattle.ug_turn.specs.declared.view.Ended.{Ended}
 use Rattle.ug_turn.specs.declared.held.Held.{Held}
 use Rattle.ug_turn.specs.Histories.{calls_by}
 
--- what stands at a moment, over all seats: the numbers drawn and served, who drew each, which seat
+-- what is at a moment, over all seats: the numbers drawn and served, who drew each, which seat
 -- has each pass, what the history began with, the history, and the cutoffs of value and word
 pub record Moment (O E : Type 0) : Type 0 where
   pub drawn : ℕ
@@ -72,7 +72,7 @@ pub record IsHome {V O E : Type 0} (opening : V → O) (replays : V → List E �
   pub replayed : replays h.value log
   pub level_is : cutoff h.value ≡ level
 
--- all that holds between two steps, with so many passes and this opening
+-- all that holds between two steps, with this many passes and this opening
 pub record Turns {V O E : Type 0} (opening : V → O) (replays : V → List E → Type 0)
     (by : E → ℕ) (cutoff : V → ℕ) (passes : ℕ) (start : O)
     (s : State (Option (Held V E)) (View O E)) : Type 0 where

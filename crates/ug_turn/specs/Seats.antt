@@ -62,7 +62,7 @@ abbrev pub AreNewSeats : {V O E : Type 0} → TableId → View O E → List (Sea
 AreNewSeats {V} {O} {E} lock v seats =
     (k : ℕ) (s : Seat V O E) → slice_get seats k ≡ Some s → IsNewSeat lock v k s
 
--- the maker of passes, which has so many to make
+-- the maker of passes, which has this many to make
 pub record IsMaking {O E : Type 0} (passes : ℕ) (v : View O E) : Type 0 where
   pub role : v.role ≡ 2
   pub parts : v.parts ≡ passes
@@ -85,7 +85,7 @@ pub record IsNote {V O E : Type 0} (note : Seat V O E) : Type 0 where
   pub parts : (view_of note).parts ≡ 0
   pub slots : note.place.me.1 ≡ []
 
--- what a seat knows that was told a note: the longer list, which both begin
+-- what a seat knows that was given a note: the longer list, which both begin
 pub record HasMet {O E : Type 0} (old : View O E) (seen : List E) (known : ℕ) (new : View O E)
     : Type 0 where
   pub view : new ≡ record old {

@@ -1,4 +1,4 @@
--- What each step tells the seat that makes it.
+-- What each step shows the seat that makes it.
 use Rattle.std.specs.Prelude.{◌≡◌, ◌≢◌, ℕ, ◌%◌, ◌^◌, ◌≤◌, List, [], ◌∷◌, ◌++◌, Option, Some}
 use mathlib.Core.List.{IsPrefix}
 use Rattle.atomic_table.specs.Table.{Me, Step}
@@ -103,7 +103,7 @@ module _ {V O E : Type 0} where
     pub falls : found ≤ m.0.known
     pub slots : m'.1 ≡ m.1
 
-  -- what a note told is seen: both lists begin one history
+  -- what a note has is seen: both lists begin one history
   pub record Met (st : Step (Option (Held V E)))
       (m : Seated V O E) (found : ℕ) (m' : Seated V O E) : Type 0 where
     pub view : m'.0 ≡ record m.0 { seen = longer m.0.seen m.0.told; told = [] }

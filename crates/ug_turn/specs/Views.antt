@@ -66,7 +66,7 @@ module _ {O E : Type 0} where
     ended = [];
   }
 
-  -- a note was told to the seat
+  -- a note was given to the seat
   abbrev pub informed : View O E → View O E → View O E
   informed v w = record v { told = w.seen; known = min v.known w.known }
 

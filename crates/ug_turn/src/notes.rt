@@ -1,4 +1,4 @@
-// What one seat has seen is told to another.
+// What one seat has seen is given to another.
 ghost use Rattle.std.specs.Prelude.{◌≡◌};
 ghost use Rattle.ug_turn.specs.Histories.{longer};
 ghost use Rattle.ug_turn.specs.Locks.{id_of};
@@ -23,7 +23,7 @@ impl<V: Lasting + Drop> Turn<V> {
         Seat { place, number: 0 }
     }
 
-    /// A note is told to a seat: it has then seen the longer of both lists, which both begin.
+    /// A note is given to a seat: it has then seen the longer of both lists, which both begin.
     pub fn join(&self, seat: &mut SeatOf<V>, note: SeatOf<V>)
         requires lock { lock_of seat.old ≡ id_of self.now }
         requires rest { IsAtRest seat.old }

@@ -49,7 +49,7 @@ impl<V, O, E> Play<Option<Held<V, E>>, View<O, E>> for PassOn {
     ghost then = { Passed };
 }
 
-/// What a note told is seen.
+/// What a note has is seen.
 pub struct Meet;
 
 impl<V, O, E> Play<Option<Held<V, E>>, View<O, E>> for Meet {
@@ -98,7 +98,7 @@ impl<O, E> Split<View<O, E>> for MakeNote {
     ghost right = { note_of };
 }
 
-/// A note is told.
+/// A note is given.
 pub struct TellNote;
 
 impl<O, E> Join<View<O, E>> for TellNote {

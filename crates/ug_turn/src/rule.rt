@@ -5,7 +5,7 @@ use atomic_table::TableRule;
 use std::marker::PhantomData;
 use std::snapshot::Snapshot;
 
-/// What the table is told when it is made.
+/// What the table is given when it is made.
 #[derive(Drop)]
 pub struct Key<V> {
     pub passes: u32,

@@ -12,7 +12,7 @@ use std::sync::Wait;
 
 impl<V: Lasting + Drop> Turn<V> {
     /// Waits for the seat's turn and takes the value, which is what a history leads to: it begins
-    /// with all that the seat had seen, and the pass's own calls stand in it, each once. It has to
+    /// with all that the seat had seen, and the pass's own calls are in it, each once. It has to
     /// be put back by `put` before anything else.
     pub fn take<R: Wait>(&self, rt: &R, seat: &mut SeatOf<V>) -> V
         requires lock { lock_of seat.old ≡ id_of self.now }

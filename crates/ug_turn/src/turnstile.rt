@@ -7,7 +7,7 @@ const LOOKS: u32 = 100;
 
 /// Lets one in at a time, whoever looks first once it is free. Those that draw numbers draw them
 /// within, so that the number is served at once: were they served in the order in which they came,
-/// each that sleeps would keep all behind it waiting until it is awake. No promise rests on it.
+/// each that sleeps would keep all behind it waiting until it is awake. No promise depends on it.
 #[derive(Drop)]
 pub struct Turnstile {
     // 0 where nobody is in, 1 where somebody is, 2 where others may sleep besides.

@@ -18,7 +18,7 @@ pub struct View<O, E> {
     pub opening: Option<O>,
     /// The beginning of the history that was seen.
     pub seen: LinkedList<E>,
-    /// What a note told.
+    /// What a note has.
     pub told: LinkedList<E>,
     /// The pass's own calls.
     pub mine: LinkedList<E>,

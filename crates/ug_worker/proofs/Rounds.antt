@@ -87,7 +87,7 @@ module _ (At : Option Engaged → Type 0) where
     same = refl;
   }
 
-  -- the point was told
+  -- the point was sent
   pub stands_found : (new : TaskState) (e : Engaged) (made : ℕ) (asked : Asked) → made < 64
       → due_of e ≡ asked.count → e.racing ≡ asked.racing → At (Some (found_now e new made))
       → StandsAt At new (made + 1) asked
@@ -199,7 +199,7 @@ module _ (At : Option Engaged → Type 0) where
       subst (λ (value : ℤ). IsStatedBy tally h.handed.stands.now left value (stated_now h.handed.stands.now task))
       (sym e) (stated_by tally task asked left floor h count least)
 
-  -- a task that goes on
+  -- a task that continues
   pub stands_on : (task new : TaskState) (reply : Reply) → (h : GoesOn At task reply) → new ≡ lowered reply.cutoff task
       → StandsAt At new 0 (record { count = due_by reply; racing = reply.racing })
   stands_on task new reply h e = record {

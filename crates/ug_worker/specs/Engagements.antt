@@ -1,6 +1,6 @@
--- A task in a worker's hands, and what the worker does between two looks at its orders: a round of
--- so many steps, then the boxes that are asked for, then what is left; or, where the task is to be
--- renewed, all boxes.
+-- A task that a worker searches, and what the worker does between two readings of its orders: a
+-- round of steps, then the boxes that are asked for, then the report of what is left; or all boxes,
+-- if the task is to be released.
 use Rattle.std.specs.Prelude.{◌≡◌, ◌⊎◌, ℕ, ℤ, zero, suc, ◌+◌, ◌-◌, ◌<◌, ◌≤◌, Bool, true, false, List, [], length}
 use Rattle.std.specs.Prelude.{Option, Some, None, if◌then◌else◌}
 use Rattle.ug_rows.specs.declared.area.Interval.{Interval}
@@ -33,13 +33,13 @@ due_of e = (if e.racing then 0 else e.asked)
 abbrev pub IsQuiet : TaskState → TaskState → Type 0
 IsQuiet old new = IsPruned old new ⊎ IsSplit old new
 
--- so many steps that find no point
+-- `n` steps that find no point
 abbrev pub AreQuiet : ℕ → TaskState → TaskState → Type 0
 AreQuiet zero old new = new ≡ old
 AreQuiet (suc n) old new = (mid : TaskState) × AreQuiet n old mid × IsQuiet mid new
 
--- since then steps that found no point led to this task, and so many of the round are made, at most
--- all
+-- since then steps that found no point led to this task, and `count` steps of the round are made,
+-- at most all
 pub record IsSince (e : Engaged) (task : TaskState) (count : ℕ) : Type 0 where
   pub more : ℕ
   pub quiet : AreQuiet more e.task task
@@ -81,7 +81,7 @@ pub record IsHandedBy (tally : Tally) (e : Engaged) (number : ℕ) (area : List 
   pub same : f ≡ record e { task = f.task; made = steps_of_round; asked = e.asked - 1 }
 
 -- the round is over, all boxes that are asked for were handed, unless fewer than two are left, the
--- task is not to be renewed, and so many are left, of which the least floor is this
+-- task is not to be released, and `left` boxes are left, whose least floor is this
 pub record IsStatedBy (tally : Tally) (e : Engaged) (left : ℕ) (floor : ℤ) (f : Engaged)
     : Type 0 where
   pub task : TaskState
@@ -129,8 +129,8 @@ module _ (At : Option Engaged → Type 0) where
     pub at : At (Some now)
     pub begun : IsBegun now task
 
-  -- the task goes on, under the cutoff told, so many boxes are to be handed, and others have the
-  -- same box or not
+  -- the task continues, under the cutoff of the reply, with the boxes to hand and the race that the
+  -- reply says
   pub record GoesOn (task : TaskState) (reply : Reply) : Type 0 where
     pub now : Engaged
     pub at : At (Some now)
@@ -139,7 +139,7 @@ module _ (At : Option Engaged → Type 0) where
     pub racing : now.racing ≡ reply.racing
     pub its : now.task ≡ lowered reply.cutoff task
 
-  -- the task is to be dropped, or goes on
+  -- the task is to be dropped, or continues
   abbrev pub is_replied : Bool → TaskState → Reply → Type 0
   is_replied true task reply = At None
   is_replied false task reply = GoesOn task reply

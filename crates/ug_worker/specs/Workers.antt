@@ -13,7 +13,7 @@ use Rattle.ug_worker.specs.declared.search.Left.TheVariants.{Nothing, Dropped, W
 use Rattle.ug_worker.specs.declared.tally.Tally.{Tally}
 
 module _ (At : Option Engaged → Type 0) where
-  -- so many steps of the round are made, and this is asked for
+  -- `count` steps of the round are made, and this is asked for
   pub record StandsAt (task : TaskState) (count : ℕ) (asked : Asked) : Type 0 where
     pub now : Engaged
     pub at : At (Some now)
@@ -38,13 +38,13 @@ module _ (At : Option Engaged → Type 0) where
     pub all : (asked.count ≡ 0) ⊎ (length task.boxes < 2)
     pub some : 0 < length task.boxes
 
-  -- one of so many boxes was handed, or fewer than two are left
+  -- one of the boxes was handed, or fewer than two are left
   abbrev pub HasGiven : Bool → ℕ → TaskState → Asked → Type 0
   HasGiven true count task asked =
       StandsAt task steps_of_round asked × (count ≡ asked.count + 1) × (0 < length task.boxes)
   HasGiven false count task asked = HasHanded task asked
 
-  -- then it is told what is left, unless the task is to be renewed
+  -- then what is left is reported, unless the task is to be released
   pub record IsToTell (tally : Tally) (task : TaskState) (asked : Asked) : Type 0 where
     pub handed : HasHanded task asked
     pub kept : ¬ IsDue tally asked.racing
@@ -63,7 +63,7 @@ module _ (At : Option Engaged → Type 0) where
     pub done : IsDoneBy now task
 
 module _ (At : Tally → Option Engaged → Type 0) where
-  -- how it is left: where it says that no box is left, none is
+  -- how it is left: `Nothing` means that no box is left
   abbrev pub EndsAs : Tally → Left → TaskState → Type 0
   EndsAs tally Nothing task = IsSearched (At tally) task
   EndsAs tally Dropped task = At tally None

@@ -1,9 +1,10 @@
-//! A worker, wherever it sits: it takes a task, makes its steps, and tells what it finds and
-//! leaves. It stands on ug_base for tasks. `Seat` is where a worker takes its work from, and tells
-//! of it; its calls ask for what the worker has to have done: rounds of 64 steps, each point told
-//! that is found, boxes handed as long as they are asked for, all of them where the task is to be
-//! renewed (`Renewal`), and Done only where no box is left. `work` goes on until its seat says that
-//! nothing is held, or memory is wanting. `Worker` is one that is moved step by step.
+//! The loop of a worker over any seat: it takes a task, makes its steps, and reports what it finds
+//! and what is left. Depends on ug_base for tasks. `Seat` is a worker's connection to its
+//! coordinator. The preconditions of its calls say what the worker must have done: rounds of 64
+//! steps, each point reported that is found, boxes handed as long as some are asked for, all of
+//! them if the node is to be released (`Renewal`), and Done only if no box is left. `work`
+//! continues until its seat says that no node is held, or memory runs out. `Worker` is one that is
+//! moved step by step.
 #![tactic(auto)]
 
 mod pace;

@@ -1,10 +1,10 @@
-/// How a worker goes on behind a step.
+/// How a worker continues after a step.
 #[derive(Clone, Copy, PartialEq, Eq)]
 pub enum Pace {
     /// It has a task, or may find one.
     On,
-    /// There is nothing for it now.
+    /// There is nothing to do now.
     Waits,
-    /// No work comes any more, or memory is wanting.
+    /// No more work comes, or memory ran out.
     Over,
 }

@@ -13,26 +13,26 @@ use crate::tally::Tally;
 use std::alloc::AllocError;
 use ug_base::{Step, Task};
 
-/// How many steps a worker makes between two looks at its orders.
+/// The number of steps of a round, after which a worker reads its orders.
 const STEPS: u32 = 64;
 
-/// How a worker stands to its task.
+/// Why the search of a task ended.
 #[derive(Clone, Copy)]
 pub enum Left {
     /// No box is left.
     Nothing,
-    /// It was told to drop the task.
+    /// The worker must drop the task.
     Dropped,
-    /// Memory is wanting.
+    /// Out of memory.
     Wanting,
 }
 
-/// What is asked of a worker between two rounds.
+/// The orders of a worker between two rounds.
 #[derive(Clone, Copy, PartialEq, Eq)]
 pub struct Asked {
-    /// How many boxes are to be handed.
+    /// The number of boxes to hand.
     pub count: u32,
-    /// Whether others have the same box.
+    /// Do others have the same box?
     pub racing: bool,
 }
 
@@ -45,8 +45,7 @@ pub struct Search {
 }
 
 impl Search {
-    /// Begins with a task: does as was ordered before its first round; how the worker stands to a
-    /// task that ends here.
+    /// Begins a task: obeys what was ordered before its first round. Fails if the task ends here.
     pub fn begin<S: Seat>(&mut self, seat: &mut S) -> Result<(), Left>
         requires { HasBegun (S.at seat.old self.old.tally) self.old.task }
         ensures ok { OnOk result
@@ -59,8 +58,8 @@ impl Search {
         self.obey(seat, reply)
     }
 
-    /// Some steps, and what is then to be handed and told, or all that is left given; how the
-    /// worker stands to a task that ends here.
+    /// Makes a round of steps, then hands the boxes that are asked for and reports what is left, or
+    /// releases the task. Fails if the task ends here.
     pub fn round<S: Seat>(&mut self, seat: &mut S) -> Result<(), Left>
         requires { StandsAt (S.at seat.old self.old.tally) self.old.task 0 self.old.asked }
         ensures ok { OnOk result
@@ -84,7 +83,7 @@ impl Search {
         self.tell(seat)
     }
 
-    // Takes over a cutoff that the seat knows of.
+    // Uses a cutoff that the seat knows.
     fn know<S: Seat>(&mut self, seat: &mut S)
         requires { StandsAt (S.at seat.old self.old.tally) self.old.task 0 self.old.asked }
         ensures stands { StandsAt (S.at seat.new self.new.tally) self.new.task 0 self.new.asked }
@@ -94,7 +93,7 @@ impl Search {
         lower(&mut self.task, cutoff);
     }
 
-    // Makes the steps of a round, or fewer where no box is left.
+    // Makes the steps of a round, or fewer if no box is left.
     fn steps<S: Seat>(&mut self, seat: &mut S) -> Result<(), Left>
         requires { StandsAt (S.at seat.old self.old.tally) self.old.task 0 self.old.asked }
         ensures ok { OnOk result
@@ -111,7 +110,7 @@ impl Search {
         Ok(())
     }
 
-    // Makes a step, and tells the point that it finds. False where no box is left.
+    // Makes a step and reports the point that it finds. Returns false if no box is left.
     fn step<S: Seat>(&mut self, seat: &mut S, made: u32) -> Result<bool, Left>
         requires stands { StandsAt (S.at seat.old self.old.tally) self.old.task made self.old.asked }
         requires room { made < 64 }
@@ -140,7 +139,7 @@ impl Search {
         }
     }
 
-    // Hands as many boxes as are asked for, or fewer where not two are left.
+    // Hands as many boxes as are asked for, or fewer if only one is left.
     fn hands<S: Seat>(&mut self, seat: &mut S) -> Result<(), AllocError>
         requires stands { StandsAt (S.at seat.old self.old.tally) self.old.task 64 self.old.asked }
         requires left { 0 < length self.old.task.boxes }
@@ -157,7 +156,7 @@ impl Search {
         Ok(())
     }
 
-    // Hands a box. False where not two are left.
+    // Hands a box. Returns false if fewer than two are left.
     fn hand<S: Seat>(&mut self, seat: &mut S) -> Result<bool, AllocError>
         requires stands { StandsAt (S.at seat.old self.old.tally) self.old.task 64 self.old.asked }
         requires some { 0 < self.old.asked.count }
@@ -178,7 +177,7 @@ impl Search {
         Ok(true)
     }
 
-    // Renews the task: gives all that is left, so that none is.
+    // Releases the task: hands over every box left.
     fn renew<S: Seat>(&mut self, seat: &mut S) -> Left
         requires handed { HasHanded (S.at seat.old self.old.tally) self.old.task self.old.asked }
         requires due { IsDue self.old.tally self.old.asked.racing }
@@ -194,7 +193,7 @@ impl Search {
         }
     }
 
-    // Gives each box that is left, in order.
+    // Hands over each box left, in order.
     fn give_all<S: Seat>(&mut self, seat: &mut S) -> Result<(), AllocError>
         requires { IsGiving (S.at seat.old self.old.tally) self.old.tally self.old.task }
         ensures given { OnOk result
@@ -209,7 +208,7 @@ impl Search {
         Ok(())
     }
 
-    // Gives the first box left.
+    // Hands over the first box left.
     fn give<S: Seat>(&mut self, seat: &mut S) -> Result<(), AllocError>
         requires giving { IsGiving (S.at seat.old self.old.tally) self.old.tally self.old.task }
         requires left { 0 < length self.old.task.boxes }
@@ -229,7 +228,7 @@ impl Search {
         Ok(())
     }
 
-    // Tells what is left, and does as is answered.
+    // Reports what is left and obeys the answer.
     fn tell<S: Seat>(&mut self, seat: &mut S) -> Result<(), Left>
         requires { IsToTell (S.at seat.old self.old.tally) self.old.tally self.old.task
             self.old.asked }
@@ -246,7 +245,7 @@ impl Search {
         }
     }
 
-    // Tells that so many boxes are left, and the least of their floors.
+    // Reports the number of boxes left and the least of their floors.
     fn state<S: Seat>(&mut self, seat: &mut S, left: u64, floor: i128) -> Result<(), Left>
         requires told { IsToTell (S.at seat.old self.old.tally) self.old.tally self.old.task
             self.old.asked }
@@ -268,7 +267,7 @@ impl Search {
         }
     }
 
-    // Goes on as is ordered.
+    // Obeys the reply.
     fn obey<S: Seat>(&mut self, seat: &S, reply: Reply) -> Result<(), Left>
         requires replied { IsReplied (S.at seat.now self.old.tally) self.old.task reply }
         requires small { IsSmallCutoff reply.cutoff }
@@ -290,14 +289,14 @@ impl Search {
     }
 }
 
-// How many boxes are to be handed: none as long as others have the same box.
+// Returns the number of boxes to hand: 0 during a race.
 fn due_by(reply: Reply) -> u32
     ensures { result ≡ due_by reply }
 {
     if reply.racing { 0 } else { reply.collect }
 }
 
-// Lowers the cutoff, where one is told.
+// Lowers the cutoff, if there is one.
 fn lower(task: &mut Task, cutoff: Option<i128>)
     requires { IsSmallCutoff cutoff }
     ensures { task.new ≡ lowered cutoff task.old }
@@ -307,7 +306,7 @@ fn lower(task: &mut Task, cutoff: Option<i128>)
     }
 }
 
-// A task keeps each good point of its box in one left or in one handed.
+// A task has each feasible point of its box below its cutoff in a box left or in one handed.
 fn is_one(task: &Task)
     ensures { IsTask task.now }
 {

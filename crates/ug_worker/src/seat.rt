@@ -13,26 +13,26 @@ use std::alloc::AllocError;
 use ug_base::Task;
 use ug_rows::{IntBox, Point};
 
-/// Where a worker sits: what it takes its work from, and tells of it. What the worker has to have
-/// done before a call is the call's condition, over the task as it was at the call before, and the
-/// rounds that the worker made.
+/// A worker's connection to its coordinator, for taking tasks and reporting. The precondition of a
+/// call says what the worker must have done before it, in terms of the task at the previous call
+/// and of the rounds made.
 pub trait Seat {
     ghost use Rattle.std.specs.Prelude.{Option};
     ghost use Rattle.ug_worker.specs.declared.tally.Tally.{Tally};
     ghost use Rattle.ug_worker.specs.Engagements.{Engaged};
 
-    /// The worker made these rounds, and its task is this, or it has none.
+    /// The worker has made these rounds, and its task is this one, or it has none.
     ghost at: { Self → Tally → Option Engaged → Type 0 };
 
-    /// No work comes any more.
+    /// No more work comes.
     ghost over: { Self → Type 0 };
 
-    /// What a seat stands at, which no call changes.
+    /// What a seat belongs to, which no call changes: at a desk, the lock.
     type Home;
 
     ghost home: { Self → Self.Home };
 
-    /// The work that there is.
+    /// Asks for work. Returns a task, `Wait` or `Over`; fails if memory runs out.
     fn take(&mut self) -> Result<Took, Untaken>
         requires at { (tally : Tally) × at self.old tally None }
         ensures took { (tally : Tally) → at self.old tally None
@@ -40,7 +40,7 @@ pub trait Seat {
         ensures err { OnErr result (Stands (at self.new)) }
         ensures home { home self.new ≡ home self.old };
 
-    /// What is ordered before the first round of a task.
+    /// Returns the orders before the first round of a task.
     fn look(&mut self) -> Reply
         requires at { (tally : Tally) × (e : Engaged) × at self.old tally (Some e) × (e.made ≡ 0) }
         ensures small { IsSmallCutoff result.cutoff }
@@ -48,7 +48,7 @@ pub trait Seat {
             → IsReplied (at self.new tally) e.task result }
         ensures home { home self.new ≡ home self.old };
 
-    /// A cutoff that is known without a report, between two rounds.
+    /// Returns a cutoff that is known without a report, between two rounds.
     fn cutoff(&mut self) -> Option<i128>
         requires at { (tally : Tally) × (e : Engaged) × at self.old tally (Some e) × (e.made ≡ 0) }
         ensures small { IsSmallCutoff result }
@@ -56,7 +56,7 @@ pub trait Seat {
             → at self.new tally (Some (under result e)) }
         ensures home { home self.new ≡ home self.old };
 
-    /// A point that was found. False where the task is to be dropped.
+    /// Reports a point that was found. Returns false if the task must be dropped.
     fn solution(&mut self, point: Point) -> bool
         requires at { (tally : Tally) × (e f : Engaged) × at self.old tally (Some e)
             × IsFoundBy e point f }
@@ -65,7 +65,7 @@ pub trait Seat {
             → MatchBool result (at self.new tally (Some f)) (at self.new tally None) }
         ensures home { home self.new ≡ home self.old };
 
-    /// A box that is handed, or given where the task is renewed.
+    /// Hands over a box, either because it is asked for or because the task is released.
     fn hand(&mut self, number: u64, area: &IntBox) -> Result<(), AllocError>
         requires at { (tally : Tally) × (e f : Engaged) × at self.old tally (Some e)
             × IsHandedBy tally e number area.now f }
@@ -74,8 +74,8 @@ pub trait Seat {
         ensures err { OnErr result (Stands (at self.new)) }
         ensures home { home self.new ≡ home self.old };
 
-    /// How many boxes are left, and the least of their floors; and what is ordered before the next
-    /// round. The round is counted.
+    /// Reports the number of boxes left and the least of their floors, and counts the round.
+    /// Returns the orders before the next round.
     fn state(&mut self, left: u64, floor: i128) -> Result<Reply, AllocError>
         requires some { 0 < left }
         requires value { unsigned_abs floor ≤ 2 * 10 ^ 37 }
@@ -88,7 +88,7 @@ pub trait Seat {
         ensures err { OnErr result (Stands (at self.new)) }
         ensures home { home self.new ≡ home self.old };
 
-    /// A task of which no box is left.
+    /// Reports a task as done: it has no box left.
     fn done(&mut self, task: Task)
         requires none { task.boxes ≡ [] }
         requires at { (tally : Tally) × (e : Engaged) × at self.old tally (Some e)
@@ -97,20 +97,20 @@ pub trait Seat {
             → at self.new tally None }
         ensures home { home self.new ≡ home self.old };
 
-    /// The worker ends in the middle of a task.
+    /// Ends the worker in the middle of a task.
     fn give_up(&mut self, task: Task)
         requires { Stands (at self.old) }
         ensures over { over self.new }
         ensures home { home self.new ≡ home self.old };
 
-    /// The worker ends.
+    /// Ends the worker.
     fn leave(&mut self)
         requires { Stands (at self.old) }
         ensures over { over self.new }
         ensures home { home self.new ≡ home self.old };
 
-    /// Waits until there may be work, after a `take` that was answered Wait. False where no work
-    /// can come.
+    /// Waits until there may be work, after `take` has returned `Wait`. Returns false if no more
+    /// work can come.
     fn rest(&mut self) -> bool
         requires { (tally : Tally) × at self.old tally None }
         ensures rested { (tally : Tally) → at self.old tally None

@@ -1,25 +1,26 @@
-//! How many rounds a worker made, and when it renews a task: it then gives all that is left of it.
+//! The rounds that a worker has made, and when it releases (renews) a task: it then hands over all
+//! that is left of it.
 
 ghost use Rattle.std.specs.Prelude.{◌≡◌, ◌<◌, ◌≤◌, ◌*◌, MatchBool};
 ghost use Rattle.ug_worker.specs.Renewals.{IsDue, begun, counted, fresh, one_more, usual};
 
-/// How many rounds a task has at the least before it is renewed.
+/// Least number of rounds of a task before it is released.
 const ROUNDS: u64 = 1024;
 
-/// One in so many of all rounds of its worker a task has before it is renewed.
+/// A task is released once it has had at least one in `PART` of all rounds of its worker.
 const PART: u64 = 128;
 
-/// When a task is renewed.
+/// When a task is released: both conditions hold.
 #[derive(Clone, Copy, PartialEq, Eq)]
 pub struct Renewal {
-    /// It had so many rounds at the least,
+    /// It has had at least this number of rounds,
     pub rounds: u64,
-    /// and of all rounds of its worker one in so many.
+    /// and one in `part` of all rounds of its worker.
     pub part: u64,
 }
 
 impl Renewal {
-    /// That of the program.
+    /// Returns the rule that the program uses.
     pub fn usual() -> Renewal
         ensures { result ≡ usual }
     {
@@ -29,7 +30,7 @@ impl Renewal {
         }
     }
 
-    // Whether so many rounds of a task are a large enough part of all.
+    // Are `task` rounds a large enough part of `all`?
     fn has_part(self, task: u64, all: u64) -> bool
         ensures { MatchBool result (all ≤ self.part * task) (self.part * task < all) }
     {
@@ -40,18 +41,18 @@ impl Renewal {
     }
 }
 
-/// The rounds that a worker made and told of, and when it renews a task, if ever.
+/// The rounds that a worker has made and reported, and when it releases a task, if ever.
 #[derive(Clone, Copy, PartialEq, Eq)]
 pub struct Tally {
     pub renewal: Option<Renewal>,
     /// All rounds.
     pub all: u64,
-    /// Those of its task.
+    /// The rounds of the current task.
     pub task: u64,
 }
 
 impl Tally {
-    /// No round was made.
+    /// Returns the count before the first round.
     pub fn new(renewal: Option<Renewal>) -> Tally
         ensures { result ≡ fresh renewal }
     {
@@ -62,14 +63,14 @@ impl Tally {
         }
     }
 
-    /// A task begins.
+    /// Begins a task.
     pub fn begin(&mut self)
         ensures { self.new ≡ begun self.old }
     {
         self.task = 0;
     }
 
-    /// A round more was made.
+    /// Counts a round.
     pub fn count(&mut self)
         ensures { self.new ≡ counted self.old }
     {
@@ -77,7 +78,7 @@ impl Tally {
         self.task = one_more(self.task);
     }
 
-    /// Whether the task is to be renewed, which in a race none is.
+    /// Must the task be released? Never during a race.
     pub fn is_due(&self, racing: bool) -> bool
         ensures { MatchBool result (IsDue self.now racing) (¬ IsDue self.now racing) }
     {
@@ -90,7 +91,7 @@ impl Tally {
     }
 }
 
-// One more, up to the greatest number.
+// Returns one more, up to the largest number.
 fn one_more(count: u64) -> u64
     ensures { result ≡ one_more count }
 {

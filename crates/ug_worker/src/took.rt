@@ -1,21 +1,21 @@
 use ug_base::Task;
 
-/// What a pass takes.
+/// Result of asking for work.
 #[derive(Drop)]
 pub enum Took {
-    /// The search of a box, under the current ticket of the pass's rank.
+    /// The search of a box, under the current ticket of the rank.
     Work(Task),
     /// There is nothing for the rank now.
     Wait,
-    /// No node is held, or no more reports are heard.
+    /// No node is held, or the limit of reports is reached.
     Over,
 }
 
-/// Where memory ended a `take`.
+/// The stage at which a `take` ran out of memory.
 #[derive(Clone, Copy, PartialEq, Eq)]
 pub enum Untaken {
-    /// In the decision, of which so many steps stand.
+    /// In the decision, of which the first `stood` steps stand.
     Deciding { stood: u64 },
-    /// After it, where the task was made.
+    /// After the decision, while the task was made.
     Making,
 }

@@ -1,4 +1,4 @@
-//! A worker, wherever it sits.
+//! A worker over any seat.
 
 ghost use Rattle.std.specs.Prelude.{◌≡◌, None, IfErr, OnOk};
 ghost use Rattle.ug_worker.specs.Engagements.{HasBegun};
@@ -13,8 +13,8 @@ use crate::took::Took;
 use std::sync::Wait;
 use ug_base::Task;
 
-/// Works until nothing is held, no more is to be heard, or memory is wanting. Tasks are renewed as
-/// this says, if it is there.
+/// Works until no node is held, the limit of reports is reached, or memory runs out. Tasks are
+/// released by the rule `renewal`, or never.
 pub fn work<R: Wait, S: Seat>(rt: &R, seat: &mut S, renewal: Option<Renewal>)
     requires { S.at seat.old (fresh renewal) None }
     ensures over { S.over seat.new }
@@ -39,7 +39,7 @@ pub fn work<R: Wait, S: Seat>(rt: &R, seat: &mut S, renewal: Option<Renewal>)
     unreachable!()
 }
 
-/// A worker: the rounds that it made, and the task that it searches, if it has one.
+/// A worker: its rounds, and its task, if it has one.
 #[derive(Drop)]
 pub struct Worker {
     pub tally: Tally,
@@ -47,7 +47,8 @@ pub struct Worker {
 }
 
 impl Worker {
-    /// One that made no round, and has no task. Tasks are renewed as this says, if it is there.
+    /// Returns a worker without rounds and without a task. It releases tasks by the rule `renewal`,
+    /// or never.
     pub fn new(renewal: Option<Renewal>) -> Worker
         ensures { result ≡ record { tally = fresh renewal; search = None } }
     {
@@ -57,7 +58,7 @@ impl Worker {
         }
     }
 
-    /// Takes what there is where it has no task, and else makes a round of steps.
+    /// Asks for work if it has no task, and otherwise makes a round of steps.
     pub fn step<S: Seat>(&mut self, seat: &mut S) -> Pace
         requires { IsAtWork (S.at seat.old) self.old.tally self.old.search }
         ensures paced { HasPaced (S.at seat.new) (S.over seat.new) self.new.tally self.new.search result }
@@ -79,7 +80,7 @@ impl Worker {
         self.keep(seat, search, went)
     }
 
-    // Takes what there is.
+    // Asks for work.
     fn take<S: Seat>(&mut self, seat: &mut S) -> Pace
         requires at { S.at seat.old self.old.tally None }
         requires none { self.old.search ≡ None }
@@ -97,7 +98,7 @@ impl Worker {
         }
     }
 
-    // Begins with a task.
+    // Begins a task.
     fn begin<S: Seat>(&mut self, seat: &mut S, task: Task) -> Pace
         requires { HasBegun (S.at seat.old (begun self.old.tally)) task }
         ensures paced { HasPaced (S.at seat.new) (S.over seat.new) self.new.tally self.new.search result }
@@ -116,7 +117,7 @@ impl Worker {
         self.keep(seat, search, begun)
     }
 
-    // Keeps the task, or leaves one that ended.
+    // Keeps the task, or leaves one that has ended.
     fn keep<S: Seat>(&mut self, seat: &mut S, search: Search, went: Result<(), Left>) -> Pace
         requires ok { OnOk went (StandsAt (S.at seat.old search.tally) search.task 0 search.asked) }
         requires err { IfErr went (λ left. EndsAs (S.at seat.old) search.tally left search.task) }

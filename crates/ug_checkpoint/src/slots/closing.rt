@@ -9,7 +9,7 @@ use crate::slots::gate::{Gate, is_shut, write_gate};
 use ug_disk::{Disk, Slot};
 use ug_io::Failed;
 
-/// Shuts the gate of a slot. Where it is known to be shut nothing is written, since what stands
+/// Shuts the gate of a slot. If it is known to be shut nothing is written, since what stands
 /// behind it may be anything, and a crash during a write may leave any byte.
 pub fn close_gate<D: Disk>(disk: &mut D, slot: Slot, gate: &mut Gate) -> Result<(), Failed>
     requires { Stands (D.seen disk.old).told slot (IsGate gate.old) }

@@ -11,11 +11,11 @@ use ug_io::Failed;
 /// What is known of the gate of a slot.
 #[derive(Clone, Copy, PartialEq, Eq)]
 pub enum Gate {
-    /// Nothing is pending in the slot, and its gate was not looked at.
+    /// Nothing is pending in the slot, and its gate was not examined.
     Unread,
     /// It is there, on the disk, and not 1.
     Shut,
-    /// What stands behind it may be looked at, so it may be written.
+    /// What follows it may be examined, so it may be written.
     Open,
     /// To open it failed: nothing is known.
     Torn,
@@ -41,7 +41,7 @@ fn byte_of(is_open: bool) -> u8
     if is_open { 1 } else { 0 }
 }
 
-/// Opens the gate or shuts it, and syncs the slot. Where it fails, nothing was done, or a crash may
+/// Opens the gate or shuts it, and syncs the slot. If it fails, nothing was done, or a crash may
 /// leave any byte in its place.
 pub fn write_gate<D: Disk>(disk: &mut D, slot: Slot, is_open: bool) -> Result<(), Failed>
     ensures ok { OnOk result (Becomes (D.seen disk.old).told (D.seen disk.new).told slot

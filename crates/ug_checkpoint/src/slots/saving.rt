@@ -36,7 +36,7 @@ pub fn save_into<D: Disk, P: Pieces>(
     open_gate(disk, slot, gate)
 }
 
-// Opens a gate that is shut. Where that fails, the gate may be either.
+// Opens a gate that is shut. If that fails, the gate may be either.
 fn open_gate<D: Disk>(disk: &mut D, slot: Slot, gate: &mut Gate) -> Result<(), Failed>
     requires { Stands (D.seen disk.old).told slot (λ state. IsShut state × IsSynced state) }
     ensures ok { OnOk result (Becomes (D.seen disk.old).told (D.seen disk.new).told slot (λ before.

@@ -50,7 +50,7 @@ fn no_changes(alloc: Global, bytes: &[u8], count: u32) -> Result<Items<Change>, 
     Ok(Items::from_vec(Vec::with_capacity(alloc, room)?))
 }
 
-// So many changes, and the least column of another.
+// This many changes, and the least column of another.
 fn changes_from(
     alloc: Global,
     bytes: &[u8],

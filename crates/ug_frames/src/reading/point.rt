@@ -25,7 +25,7 @@ fn no_values(alloc: Global, bytes: &[u8], count: u32) -> Result<Items<i32>, Allo
     Ok(Items::from_vec(Vec::with_capacity(alloc, room)?))
 }
 
-// So many values.
+// This many values.
 fn values_at(alloc: Global, bytes: &[u8], count: u32) -> Result<(Items<i32>, &[u8]), Fault>
     ensures { Gives (λ x. ((x.0, tt), x.1.now)) result (values_at count bytes.now) }
 {

@@ -6,7 +6,7 @@ use ug_problem::Broken;
 use ug_rows::Point;
 use ug_rules::{Heard, Told};
 
-// Adds a piece at the end of a text, if there was memory for it.
+// Adds a piece at the end of a line, if there was memory for it.
 fn push(text: &mut String, piece: Result<String, AllocError>) -> Result<(), AllocError> {
     let piece = piece?;
     let pushed = text.push_str(&piece);

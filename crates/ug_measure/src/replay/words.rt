@@ -8,7 +8,7 @@ pub fn word<'a>(words: &[&'a str], at: usize) -> &'a str {
     }
 }
 
-// The words of a text, which this character parts.
+// The words of a line, which this character parts.
 pub fn split<'a>(alloc: Global, text: &'a str, by: char) -> Result<Vec<&'a str>, AllocError> {
     let mut words = Vec::new(alloc);
     for word in text.split(by) {

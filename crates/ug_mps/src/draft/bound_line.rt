@@ -28,7 +28,7 @@ fn amount_said<'a>(number: Option<&'a [u8]>) -> Result<Option<Amount>, &'a [u8]>
 }
 
 impl Draft {
-    /// Takes a bound, or tells its fault.
+    /// Takes a bound, or reports its fault.
     pub fn bound(
         &mut self,
         line: u64,
@@ -61,7 +61,7 @@ impl Draft {
         Ok(())
     }
 
-    /// Takes a bound without a number that has two words behind its type: where the second names a
+    /// Takes a bound without a number that has two words behind its type: if the second names a
     /// column, the first is a set's name.
     pub fn either(
         &mut self,

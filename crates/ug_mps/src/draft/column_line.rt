@@ -17,7 +17,7 @@ use ug_drafts::{Kind, MpsError, RowPart};
 use ug_lines::NamedWords;
 use ug_problem::{MOST_COLUMNS, MOST_TERMS};
 
-// Whether there is no room for a column at a place, or for so many pairs more.
+// Whether there is no room for a column at a place, or for this many pairs more.
 fn is_full(at: u32, count: u32, more: u32) -> bool
     requires { more ≤ 2 }
     ensures { result ≡ (nat_le 10000 at || nat_lt 1000000 (count + more)) }
@@ -33,7 +33,7 @@ struct Placed<'a> {
 }
 
 impl Draft {
-    /// Takes a line of a column, or tells its fault.
+    /// Takes a line of a column, or reports its fault.
     pub fn column(&mut self, line: u64, name: &[u8], pairs: &NamedWords<'_>) -> Result<(), MpsError>
         requires section { belongs self.old.section (column name.now (pairs_shaped pairs.now))
             ≡ true }

@@ -79,8 +79,8 @@ impl Columns {
         self.names.find_last(name)
     }
 
-    /// The place of the column for one more line of it: the last column goes on, and a new one
-    /// stands behind it. It is `None` where the column began before the last one.
+    /// The place of the column for one more line of it: the last column continues, and a new one
+    /// follows it. It is `None` where the column began before the last one.
     pub fn place(&self, name: &[u8]) -> Option<ColumnPlace>
         ensures place { FindsPlace name.now self.now result }
         ensures new { IfSome result (λ p. IsTrue p.new → IsNew self.now.names name.now p.at) }

@@ -45,7 +45,7 @@ fn are_sense(words: &[&[u8]]) -> bool
     }
 }
 
-// Whether the words may stand behind the header of a section.
+// Whether the words may follow the header of a section.
 fn may_follow(section: Section, words: &[&[u8]]) -> bool
     ensures { result ≡ may_follow (Some section) (map (λ word. word.now) words.now) }
 {
@@ -93,7 +93,7 @@ impl Draft {
         }
     }
 
-    /// Takes a header, or tells its fault.
+    /// Takes a header, or reports its fault.
     pub fn header(&mut self, line: u64, word: &[u8], words: &[&[u8]]) -> Result<(), MpsError>
         ensures { TakesHeader line (word.now ∷ map (λ word. word.now) words.now) self.old self.new
             result }
@@ -112,7 +112,7 @@ impl Draft {
         Ok(())
     }
 
-    /// Takes the sense of a data line, or tells its fault.
+    /// Takes the sense of a data line, or reports its fault.
     pub fn sense(&mut self, line: u64, word: &[u8]) -> Result<(), MpsError>
         requires { belongs self.old.section (sense word.now) ≡ true }
         ensures { TakesShape line (sense word.now) self.old self.new result }
@@ -127,7 +127,7 @@ impl Draft {
         Ok(())
     }
 
-    /// Takes a marker, or tells its fault.
+    /// Takes a marker, or reports its fault.
     pub fn marker(&mut self, line: u64, word: &[u8]) -> Result<(), MpsError>
         requires { belongs self.old.section (marker word.now) ≡ true }
         ensures { TakesShape line (marker word.now) self.old self.new result }

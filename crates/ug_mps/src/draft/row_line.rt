@@ -37,7 +37,7 @@ fn has_objective_with(has_objective: bool, role: Role) -> bool
 }
 
 impl Draft {
-    /// Takes a row, or tells its fault.
+    /// Takes a row, or reports its fault.
     pub fn row(&mut self, line: u64, kind: &[u8], name: &[u8]) -> Result<(), MpsError>
         requires section { belongs self.old.section (row kind.now name.now) ≡ true }
         requires name { IsName name.now }

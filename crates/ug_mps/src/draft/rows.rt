@@ -158,7 +158,7 @@ impl Rows {
         }
     }
 
-    /// The first row of the pairs, which stand at the places, that has the part, or that is named
+    /// The first row of the pairs, which are at the places, that has the part, or that is named
     /// twice.
     pub fn repeated<'a>(
         &self,
@@ -185,7 +185,7 @@ impl Rows {
         None
     }
 
-    /// Gives the rows of the pairs, which stand at the places, the part.
+    /// Gives the rows of the pairs, which are at the places, the part.
     pub fn put_pairs(
         &mut self,
         part: RowPart,

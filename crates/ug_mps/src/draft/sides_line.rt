@@ -47,7 +47,7 @@ impl Draft {
         }
     }
 
-    /// Takes a line of right-hand sides or ranges, or tells its fault.
+    /// Takes a line of right-hand sides or ranges, or reports its fault.
     pub fn sides(
         &mut self,
         line: u64,

@@ -8,7 +8,7 @@ use std::hash::{FoldHasher, Hasher};
 use std::ops::Range;
 use ug_lists::Text;
 
-/// So many places are compared with a name.
+/// This many places are compared with a name.
 const TRIES: usize = 8;
 
 /// How many guesses there are with the first name.
@@ -32,7 +32,7 @@ fn hash_of(name: &[u8]) -> u64 {
     hasher.finish()
 }
 
-// Which of so many guesses are a name's. How many there are is 0 or a power of two.
+// Which of this many guesses are a name's. How many there are is 0 or a power of two.
 fn range_for(count: usize, name: &[u8]) -> Range<usize>
     ensures within { (result.start ≤ result.end) × (result.end ≤ count) }
     ensures few { result.end ≤ result.start + 8 }
@@ -105,7 +105,7 @@ impl Guesses {
         Ok(())
     }
 
-    /// Guesses from now on that a name stands at a place, if one of its guesses is free.
+    /// Guesses from now on that a name is at a place, if one of its guesses is free.
     pub fn note(&mut self, name: &[u8], place: u32) {
         note(&mut self.places, name, place);
     }

@@ -11,7 +11,7 @@ pub struct Digits {
 }
 
 impl Digits {
-    // What is kept of no digits.
+    // The value before the first digit.
     const NONE: Digits = Digits {
         number: 0,
         zeros: 0,
@@ -60,7 +60,7 @@ impl Digits {
     }
 }
 
-// What is kept of the digits of both.
+// Returns the value of the digits of both parts.
 fn keep(whole: &[u8], fraction: &[u8]) -> Option<Digits>
     requires { length whole.now + length fraction.now ≤ 255 }
     ensures value { result ≡ kept_of (whole.now ++ fraction.now) }
@@ -70,7 +70,7 @@ fn keep(whole: &[u8], fraction: &[u8]) -> Option<Digits>
     Digits::NONE.extend(whole)?.extend(fraction)
 }
 
-// What is kept of the digits of both, if there is one at all.
+// Returns the value of the digits of both parts, if there is a digit at all.
 pub fn read(whole: &[u8], fraction: &[u8]) -> Option<Digits>
     requires { length whole.now + length fraction.now ≤ 255 }
     ensures value { result ≡ read_of (whole.now ++ fraction.now) }

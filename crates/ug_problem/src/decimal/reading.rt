@@ -17,7 +17,7 @@ fn first_letter(word: &[u8]) -> Option<usize>
         .position(|b| matches!(*b, b'e' | b'E' | b'd' | b'D'))
 }
 
-// Where the exponent begins, or the length where there is none.
+// Returns the place of the exponent, or the length if there is none.
 #[tactic(auto, using(crate::proofs::Numerals::place_within))]
 fn exponent_start(word: &[u8]) -> usize
     ensures value { result ≡ position_or_len is_exponent_letter word.now }
@@ -32,7 +32,7 @@ fn first_point(text: &[u8]) -> Option<usize>
     text.iter().position(|b| *b == b'.')
 }
 
-// Where the point stands, or the length where there is none.
+// Returns the place of the point, or the length if there is none.
 #[tactic(auto, using(crate::proofs::Numerals::place_within))]
 fn point_place(text: &[u8]) -> usize
     ensures value { result ≡ position_or_len is_point text.now }
@@ -41,7 +41,7 @@ fn point_place(text: &[u8]) -> usize
     first_point(text).unwrap_or(text.len())
 }
 
-// What stands behind a place.
+// Returns the bytes behind a place.
 fn behind(text: &[u8], place: usize) -> &[u8]
     requires { place ≤ length text.now }
     ensures { result.now ≡ drop (place + 1) text.now }

@@ -20,7 +20,7 @@ fn signed(negative: bool, number: u128) -> i128
 }
 
 impl Decimal {
-    /// How many digits stand behind the point.
+    /// Returns the number of digits behind the point.
     pub fn places(self) -> u32
         requires { IsDecimal self }
         ensures value { result ≡ places_of self }

@@ -2,7 +2,7 @@
 
 use crate::threads::problems::SmallRow;
 
-/// Three columns, the factors of two rows and of the objective, and the sides of the rows.
+/// Three columns, the coefficients of two rows and of the objective, and the sides of the rows.
 #[derive(Clone, Copy)]
 pub struct Member {
     pub columns: [(i32, i32); 3],

@@ -11,7 +11,7 @@ pub struct Coming {
     pub number: u64,
 }
 
-/// Where a rank is held, until another has come, for at most so many turns.
+/// If a rank is held, until another has come, for at most this many turns.
 #[derive(Clone, Copy)]
 pub struct Hold {
     pub at: Coming,
@@ -35,7 +35,7 @@ pub struct HoldingObserver {
 }
 
 impl HoldingObserver {
-    /// An observer for so many ranks, to which none has come.
+    /// An observer for this many ranks, to which none has come.
     pub fn new(alloc: Global, ranks: u32, holds: &[Hold]) -> Result<HoldingObserver, AllocError> {
         let mut comings = Vec::new(alloc);
         for _ in 0..ranks {

@@ -3,7 +3,7 @@ use crate::threads::holding::{Coming, Hold, HoldingObserver};
 use crate::threads::yielding::YieldingObserver;
 use ug_restart::{Moment, Observer, Unobserved};
 
-// When a rank has come to a moment so many times.
+// When a rank has come to a moment this many times.
 fn coming(rank: u32, moment: Moment, number: u64) -> Coming {
     Coming {
         rank,
@@ -29,7 +29,7 @@ pub fn each_waits() -> [Hold; 2] {
 }
 
 /// As `each_waits`; and rank 0 calls for the twelfth time only once rank 1 has asked again, by when
-/// rank 0 has told often enough that it has nodes to hand.
+/// rank 0 has reported often enough that it has nodes to hand.
 pub fn one_asks_again() -> [Hold; 3] {
     let [first, second] = each_waits();
     let third = Hold {

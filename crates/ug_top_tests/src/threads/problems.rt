@@ -4,7 +4,7 @@ use std::alloc::{AllocError, Global};
 use ug_problem::Problem;
 use ug_records::from_record;
 
-/// A row: the least and the greatest sum, and the factor of each column, none of which is 0.
+/// A row: the least and the greatest sum, and the coefficient of each column, none of which is 0.
 #[derive(Clone, Copy)]
 pub struct SmallRow<'a> {
     pub low: Option<i128>,
@@ -12,7 +12,8 @@ pub struct SmallRow<'a> {
     pub factors: &'a [i128],
 }
 
-/// A problem: the bounds of each column, the rows, and the objective's factors, which is minimised.
+/// A problem: the bounds of each column, the rows, and the objective's coefficients, which is
+/// minimised.
 #[derive(Clone, Copy)]
 pub struct Small<'a> {
     pub columns: &'a [(i32, i32)],

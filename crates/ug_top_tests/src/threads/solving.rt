@@ -16,8 +16,8 @@ use ug_restart::{Host, Observer, Outcome, Start, Unobserved, begin};
 use ug_rules::Settings;
 use ug_threads::solve_threads;
 
-/// One box in the pool is enough, each report is followed by a snapshot, and so many may be
-/// heard.
+/// One box in the pool is enough, each report is followed by a snapshot, and this many may be
+/// received.
 pub fn settings(solvers: u32, racing: bool, limit: u64) -> Settings
     ensures { AreSettings result }
 {

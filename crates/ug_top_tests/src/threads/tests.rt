@@ -130,7 +130,8 @@ fn threads_in_any_order_find_one_value(rt: HostRuntime) {
     }
 }
 
-// Whether a run that may hear so much has heard it and ends unanswered, or has found the value.
+// Whether a run that may receive so much has received it and ends unanswered, or has found the
+// value.
 fn ends_at(outcome: &Outcome, limit: u64) -> bool {
     match &outcome.end {
         End::Limited(book) => book.heard() >= limit && book.answer().is_none(),
@@ -138,7 +139,7 @@ fn ends_at(outcome: &Outcome, limit: u64) -> bool {
     }
 }
 
-// Whether a run of the knapsack that may hear so much ends so.
+// Whether a run of the knapsack that may receive so much ends so.
 fn is_limited<R: Threads + Wait + Sync>(rt: &R, alloc: Global, limit: u64) -> bool {
     let settings = settings(3, false, limit);
     let Some(outcome) = solved_without(rt, alloc, &KNAPSACK, settings, &Unobserved) else {
@@ -156,7 +157,7 @@ fn run_ends_at_its_limit(rt: HostRuntime) {
     }
 }
 
-// Whether a run on the disk finds the value, misses no save, and tells that the last one was made.
+// Whether a run on the disk finds the value, misses no save, and says that the last one was made.
 fn is_solved_on<R: Threads + Wait + Sync>(rt: &R, alloc: Global, disk: &mut MemoryDisk) -> bool {
     let Some(outcome) = solved_on(rt, alloc, &KNAPSACK, disk) else {
         return false;

@@ -22,7 +22,7 @@ by_words : (words : List (Bor (List ℕ))) (s : Option Shape) → length words �
 by_words [] s h k l is = absurd (h refl)
 by_words (set ∷ more) s h k l is = is set more refl ∙ sides-set set more (omega arith) (omega arith)
 
--- what stands behind the first word
+-- what follows the first word
 behind : {A : Type 0} (words : List A) (set : A) (more : List A) → words ≡ set ∷ more → take (length words - 1) (drop 1 words) ≡ more
 behind words set more e = rw e (take_all _ more (omega arith))
 
