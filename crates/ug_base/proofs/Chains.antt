@@ -1,4 +1,4 @@
--- The boxes of parts stay where the working box goes on, and where it goes back.
+-- The boxes of parts stay where the working box continues, and where it goes back.
 use Rattle.std.proofs.Common.{◌≡◌, refl, sym, subst, ◌∙◌, ap, ℕ, zero, suc, ◌-◌, ◌<◌, ◌≤◌, List, [], ◌∷◌, ◌++◌, length, take, drop, map, All, slice_set, ℤ, Option, Some, None, IfSome, arith}
 use Rattle.std.proofs.lemmas.List.{drop-append-le, length-append, length-map, length-take-le, take-append-drop}
 use Rattle.std.proofs.lemmas.List.Elements.{All-append, All-cons, All-head, All-nil, All-tail, All-take, All-weaker}
@@ -36,7 +36,7 @@ bases_back depth old new deep h = record {
       ∙ sym (ap (λ (t : List Trailed). undone old.sums.area t) (behind part.depth depth old.trail within deep));
 }
 
--- going on keeps them too
+-- continuing keeps them too
 pub bases_later : (depth : ℕ) (old new : WorkState) → depth ≤ length old.trail → IsLater old new → KeepsBases depth old new
 bases_later depth old new deep h = record {
   deep = omega (arith, ap (λ (t : List Trailed). length t) h.trail, length-append old.trail h.more);
@@ -75,7 +75,7 @@ base_back p whole depth old new problem root base h sums below =
       reach = reach;
     }
 
--- and in going on
+-- and in continuing
 pub base_later : (p : Instance) (whole : List Interval) (old new : WorkState) → IsBase p whole old → IsLater old new → IsBox p new
     → IsBase p whole new
 base_later p whole old new base h box =

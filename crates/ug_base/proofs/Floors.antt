@@ -20,7 +20,7 @@ use Rattle.ug_base.specs.Chains.{IsChain, area_of, areas_of, no_part}
 use Rattle.ug_base.specs.Floors.{AreLeasts, IsLeastOf, IsLeastSoFar, floor_at, floors_of, least_of, parts_in}
 use Rattle.ug_base.specs.Tasks.{BoundsTheRest, IsLeastFloor, IsTask, TaskState, lesser_of}
 
--- the lesser of two is one of them, and at most each
+-- the smaller of two is one of them, and at most each
 pub lesser_is : (old given : ℤ)
     → ((lesser_of (Some old) given ≡ old) × (old ≤ℤ given)) ⊎ ((lesser_of (Some old) given ≡ given) × (given ≤ℤ old))
 lesser_is old given = by_lt_z old given

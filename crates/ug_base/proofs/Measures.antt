@@ -1,4 +1,4 @@
--- How many points a box has, its halves and a box below it, and what is left to search.
+-- How many points a box has, its branches and a box below it, and what is left to search.
 use Rattle.std.proofs.Common.{◌≡◌, ℕ, zero, suc, ℤ, pos, negsuc, ◌+◌, ◌-◌, ◌*◌, ◌+ℤ◌, ◌-ℤ◌, ◌<◌, ◌≤◌, ◌≤ℤ◌, ◌<ℤ◌, List, [], ◌∷◌, ◌++◌, length, slice_set, refl, sym, ap, ◌∙◌, arith}
 use Rattle.std.proofs.Math.Nat.{add-mul, mul-add, mul-le-mul}
 use Rattle.std.proofs.lemmas.Int.{ints}
@@ -51,7 +51,7 @@ points_set_some (first ∷ sides) (suc c) side n h =
     product_some (count_of first) (points_of (slice_set sides c side)) (count_some first (n 0 (omega arith)))
     (points_set_some sides c side (λ j there. n (suc j) (omega (arith, there))) h)
 
--- the values of two halves are those of the interval
+-- the values of two branches are those of the interval
 pub count_halves : (low high m : ℤ) → low ≤ℤ m → m <ℤ high
     → nat_part (m -ℤ low +ℤ pos 1) + nat_part (high -ℤ (m +ℤ pos 1) +ℤ pos 1) ≡ nat_part (high -ℤ low +ℤ pos 1)
 count_halves low high m a b =
@@ -60,7 +60,7 @@ count_halves low high m a b =
     let s = nat_part_is (high -ℤ low +ℤ pos 1) (omega (arith, ints, a, b)) in
     omega (arith, ints, l, u, s)
 
--- the points of two halves are those of the box
+-- the points of two branches are those of the box
 pub points_halves : (area : List Interval) (c : ℕ) (lower upper : Interval) → c < length area
     → count_of lower + count_of upper ≡ count_of (interval_at area c)
     → points_of (slice_set area c lower) + points_of (slice_set area c upper) ≡ points_of area

@@ -120,7 +120,7 @@ middle_high low high m o h = omega (arith, ints)
 next_within : (m high : ℤ) → m <ℤ high → (m +ℤ pos 1) ≤ℤ high
 next_within m high h = omega (arith, ints)
 
--- the halves leave less to search than the box
+-- the branches leave less to search than the box
 halves_less : (inner area : List Interval) (branch : Branch) → IsNonEmpty inner → IsMidway inner branch
     → IsBelow inner area → weight_of (lower_half inner branch) + weight_of (upper_half inner branch) < weight_of area
 halves_less inner area branch some chosen below =
@@ -133,7 +133,7 @@ halves_less inner area branch some chosen below =
     (points_set_some inner branch.column _ some (next_within branch.middle side.high high))
     (points_below inner area below)
 
--- the halves in their order
+-- the branches in their order
 ordered_kept : (half : Half) (inner : List Interval) (branch : Branch) (y : List ℤ) → IsInside (lower_half inner branch) y ⊎ IsInside (upper_half inner branch) y
     → IsInside (first_half half inner branch) y ⊎ IsInside (other_half half inner branch) y
 ordered_kept Lower inner branch y h = h
@@ -154,7 +154,7 @@ ordered_less : (half : Half) (inner : List Interval) (branch : Branch) (n : ℕ)
 ordered_less Lower inner branch n h = omega (arith, h)
 ordered_less Upper inner branch n h = h
 
--- halves are left
+-- branches are left
 left_halves : (p : Instance) (cutoff : Option ℤ) (params : Params) (area inner : List Interval) (halves : Halves)
     → IsTightened p cutoff area (Kept inner) → AreHalved params inner halves → IsSeenHalved p cutoff params area halves
 left_halves p cutoff params area inner halves t h =
@@ -179,7 +179,7 @@ left_halves p cutoff params area inner halves t h =
           (ordered_less half inner branch (weight_of area) (halves_less inner area branch h.some h.midway t.below)));
     }
 
--- the halves at a branch
+-- the branches at a branch
 branch_halves : (p : Instance) (cutoff : Option ℤ) (params : Params) (area : List Interval) (work : WorkState) (halving : Halving)
     → IsTightened p cutoff area (Kept work.sums.area) → IsWorking p cutoff work → IsBranched params work.sums.area halving
     → IsSeenBranched p cutoff params area work halving
@@ -203,7 +203,7 @@ branch_halves p cutoff params area work halving t working h = record {
 pub seen_inside : (p : Instance) (cutoff : Option ℤ) (params : Params) (area : List Interval) (work : WorkState) (seen : Seen)
     → CanLook p cutoff area → IsTightened p cutoff area (Kept work.sums.area) → IsWorking p cutoff work
     → IsInSight params work.sums.area seen → IsSeen p cutoff params area work seen
-seen_inside p cutoff params area work Hopeless r t w s = left_crossed p cutoff area work.sums.area t s
+seen_inside p cutoff params area work (Hopeless reason) r t w s = left_crossed p cutoff area work.sums.area t s
 seen_inside p cutoff params area work (Solved x) r t w s = left_one p cutoff area work.sums.area x r t s
 seen_inside p cutoff params area work (Halved halving) r t w s = branch_halves p cutoff params area work halving t w s
 

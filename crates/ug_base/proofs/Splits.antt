@@ -1,4 +1,4 @@
--- Halves of the working box as parts, and going back on a copy.
+-- Branches of the working box as parts, and going back on a copy.
 use Rattle.std.proofs.Common.{◌≡◌, refl, sym, subst, ◌∙◌, ap, ℕ, ◌+◌, ◌<◌, ℤ, pos, ◌+ℤ◌, ◌≤ℤ◌, ◌<ℤ◌, List, length, drop, set, get_or, Some, arith}
 use Rattle.std.proofs.lemmas.Int.{ints}
 use Rattle.std.proofs.lemmas.List.{drop_all, drop_more}
@@ -37,11 +37,11 @@ other_within : (half : Half) (side : Interval) (m : ℤ) → side.low ≤ℤ m �
 other_within Lower side m low high = upper_inner side m low high
 other_within Upper side m low high = lower_inner side m low high
 
--- a box halved midway has two halves
+-- a box branched on midway has two branches
 pub midway_halves : (area : List Interval) (branch : Branch) → IsMidway area branch → AreHalves area branch
 midway_halves area branch m = are_halves area branch m.open_ m.middle
 
--- the halves of a branch's interval are within it
+-- the branches of a branch's interval are within it
 pub first_inner : (params : Params) (area : List Interval) (halving : Halving) → IsBranched params area halving
     → IsClosedWithin (first_side halving.first (interval_at area halving.branch.column) halving.branch.middle) (interval_at area halving.branch.column)
 first_inner params area halving h =

@@ -40,7 +40,8 @@ last_ready t last task e = record {
   small = task.cutoff;
 }
 
--- a good point stays covered if the new boxes have each one that was in the last box, and each that was in one before it
+-- a good point stays covered if the new boxes have each one that was in the last box, and each that
+-- was in one before it
 still_covered : (t : TaskState) (last : List Interval) (boxes : List (List Interval)) (x : List ℤ) → IsTask t → t.boxes ≡ front_of t.boxes ++ last ∷ []
     → IsInside t.whole x → IsGood t.problem t.cutoff x → (IsInOne (front_of t.boxes) x → IsInOne boxes x) → (IsInside last x → IsInOne boxes x)
     → IsInOne boxes x ⊎ IsInOne t.handed x
@@ -72,7 +73,7 @@ less_still : (cutoff : Option ℤ) (v w : ℤ) → IfSome cutoff (λ c. v <ℤ c
 less_still None v w h k = tt
 less_still (Some c) v w h k = omega (arith, ints, h, k)
 
--- a point below the cutoff of a point has a lesser value
+-- a point below the cutoff of a point has a smaller value
 pub less_than : (p : Instance) (gap : ℤ) (x y : List ℤ) → IsProblem p → IsGap gap → IsGood p (Some (cutoff_of p gap x)) y
     → value_of p.objective y <ℤ value_of p.objective x
 less_than p gap x y problem g good =
@@ -107,7 +108,7 @@ found_task t last x task e seen = record {
       (λ b. absurd (not_below_itself t.problem x y (seen.alone y b good) less));
 }
 
--- with two halves in the last box's place
+-- with two branches in the last box's place
 pub split_task : (t : TaskState) (last : List Interval) (halves : Halves) → IsTask t → t.boxes ≡ front_of t.boxes ++ last ∷ []
     → AreGoodHalves t.problem t.cutoff last halves
     → IsTask (record t { boxes = front_of t.boxes ++ halves.second ∷ halves.first ∷ [] })
@@ -138,7 +139,7 @@ pub last_of_fields : (t : TaskState) (work : WorkState) (old : List Part) (last 
 last_of_fields t work old last same e =
     same ∙ areas_behind work old old (last ∷ []) e ∙ ap (λ bs. front_of bs ++ area_of work last ∷ []) (sym same)
 
--- the boxes but the last, where the working box went on
+-- the boxes but the last, where the working box continued
 front_of_fields : (t : TaskState) (before after : WorkState) (old new : List Part) → t.boxes ≡ areas_of before old
     → areas_of after old ≡ areas_of before old → new ≡ front_of old → areas_of after new ≡ front_of t.boxes
 front_of_fields t before after old new same kept e =
@@ -163,7 +164,7 @@ after_solved t before after old new last x cutoff same task e kept s dropped val
     (subst (λ c. IsTask (record t { boxes = front_of t.boxes; cutoff = c })) (sym value)
     (found_task t (area_of before last) x task (last_of_fields t before old last same e) s))
 
--- the boxes after the last was halved
+-- the boxes after the last was branched on
 split_boxes : (t : TaskState) (s : Instance) (before after : WorkState) (old new : List Part) (halving : Halving) → t.boxes ≡ areas_of before old
     → areas_of after old ≡ areas_of before old → (h : HasSplit s t.whole after halving.first halving.branch old new)
     → areas_of after new ≡ front_of t.boxes ++ other_half halving.first after.sums.area halving.branch ∷ first_half halving.first after.sums.area halving.branch ∷ []
@@ -215,7 +216,7 @@ found_step t before after old new last x cutoff same e kept solved dropped value
       same = ap (λ (c : Option ℤ). record t { boxes = areas_of after new; cutoff = c }) value;
     }
 
--- what a step that halved the last box did
+-- what a step that branched on the last box did
 pub split_step : (t : TaskState) (s : Instance) (before after : WorkState) (old new : List Part) (last : Part) (halving : Halving)
     → t.boxes ≡ areas_of before old → old ≡ front_of old ++ last ∷ [] → areas_of after old ≡ areas_of before old
     → Leaves t.params.base t.problem t.cutoff (area_of before last) after.sums.area → IsBranched t.params after.sums.area halving
@@ -251,7 +252,7 @@ left_dropped_less t before after old new last same e kept dropped =
     subst (λ bs. measure_of bs < measure_of t.boxes) (sym (front_of_fields t before after old new same kept dropped))
     (dropped_less t.boxes (area_of before last) (last_of_fields t before old last same e))
 
--- and one halved
+-- and one branched on
 pub left_halved_less : (t : TaskState) (s : Instance) (before after : WorkState) (old new : List Part) (last : Part) (halving : Halving)
     → t.boxes ≡ areas_of before old → old ≡ front_of old ++ last ∷ [] → areas_of after old ≡ areas_of before old
     → IsSeenBranched s t.cutoff t.params (area_of before last) after halving
@@ -262,7 +263,7 @@ left_halved_less t s before after old new last halving same e kept seen h =
     (halved_less t.boxes (area_of before last) (first_half halving.first after.sums.area halving.branch)
     (other_half halving.first after.sums.area halving.branch) (last_of_fields t before old last same e) seen.halved.less)
 
--- where there is a last box, there are boxes
+-- if there is a last box, there are boxes
 pub some_left : (t : TaskState) (work : WorkState) (old : List Part) (last : Part) → t.boxes ≡ areas_of work old
     → old ≡ front_of old ++ last ∷ [] → t.boxes ≡ [] → ⊥
 some_left t work old last same e none =

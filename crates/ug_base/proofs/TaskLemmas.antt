@@ -67,7 +67,7 @@ new_chain p whole work parts e box none area =
       rising = (All-nil (λ (later : Part). 0 ≤ later.depth), tt);
     })
 
--- a value below the lesser of two is below the first
+-- a value below the smaller of two is below the first
 below_first : (cutoff : Option ℤ) (given v : ℤ) → v <ℤ lesser_of cutoff given → IfSome cutoff (λ c. v <ℤ c)
 below_first None given v h = tt
 below_first (Some old) given v h = elim (lesser_is old given) [
@@ -80,7 +80,7 @@ lesser_small : (cutoff : Option ℤ) (given : ℤ) → IsSmallCutoff cutoff → 
 lesser_small None given small h = h
 lesser_small (Some old) given small h = elim (lesser_is old given) [ inl l ↦ rw l.0 small | inr l ↦ rw l.0 h ]
 
--- a task with the lesser of its cutoff and another
+-- a task with the smaller of its cutoff and another
 pub lowered_task : (t : TaskState) (given : ℤ) (cutoff : Option ℤ) → IsTask t → unsigned_abs given ≤ 2 * 10 ^ 37
     → cutoff ≡ Some (lesser_of t.cutoff given) → IsTask (record t { cutoff = cutoff })
 lowered_task t given cutoff task h e =
@@ -112,7 +112,7 @@ searches_found t s x cutoff task good e h =
     (searches_lower t.params.base t.problem t.whole t.cutoff (Some (cutoff_of t.problem t.gap x)) s
     (λ y good'. good_still t.problem t.cutoff x y good good'.feasible (less_than t.problem t.gap x y task.problem task.gap good')) h)
 
--- and below the lesser of its cutoff and another
+-- and below the smaller of its cutoff and another
 pub searches_lowered : (t : TaskState) (s : Instance) (given : ℤ) (cutoff : Option ℤ) → cutoff ≡ Some (lesser_of t.cutoff given)
     → Searches t.params.base t.problem t.whole t.cutoff s → Searches t.params.base t.problem t.whole cutoff s
 searches_lowered t s given cutoff e h =

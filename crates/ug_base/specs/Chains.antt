@@ -86,23 +86,23 @@ pub record IsChain (p : Instance) (whole : List Interval) (work : WorkState) (pa
   pub each : All (IsPart p whole work) parts
   pub rising : Rise parts
 
--- parts with at most so many changes have the boxes that they had
+-- parts with at most this many changes have the boxes that they had
 pub record KeepsBases (depth : ℕ) (old new : WorkState) : Type 0 where
   pub deep : depth ≤ length new.trail
   pub bases : (part : Part) → part.depth ≤ depth → base_of new part ≡ base_of old part
 
--- the half of an interval that is looked at first
+-- the half of an interval that comes first
 abbrev pub first_side : Half → Interval → ℤ → Interval
 first_side Lower side middle = record { low = side.low; high = middle }
 first_side Upper side middle = record { low = middle +ℤ pos 1; high = side.high }
 
--- the half that is looked at after it
+-- the other half
 abbrev pub other_side : Half → Interval → ℤ → Interval
 other_side Lower side middle = record { low = middle +ℤ pos 1; high = side.high }
 other_side Upper side middle = record { low = side.low; high = middle }
 
--- two parts are in the last one's place: the halves of the working box, the one that is looked at
--- first the last
+-- two parts are in the last one's place: the branches of the working box, the one that comes first
+-- on top
 pub record HasSplit (p : Instance) (whole : List Interval) (work : WorkState) (half : Half)
     (branch : Branch)
     (old new : List Part) : Type 0 where

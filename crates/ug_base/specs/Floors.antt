@@ -30,17 +30,17 @@ IsLeastSoFar floors n (Some low) = IsLeastOf floors n low
 abbrev pub parts_in : List Kept → List Part
 parts_in kept = map (λ (one : Kept). one.part) kept
 
--- the part, with the lesser of a floor, if there is one, and its own beside it
+-- the part, and beside it the smaller of a floor, if there is one, and its own
 abbrev pub with_least : Option ℤ → Part → Kept
 with_least before part = record { part = part; least = lesser_of before part.floor }
 
--- the parts, each with the lesser of the least before it, if there is one, and its own floor
+-- the parts, and beside each the smaller of the least before it, if there is one, and its own floor
 abbrev pub renewed : Option ℤ → List Part → List Kept
 renewed before [] = []
 renewed before (part ∷ parts) =
     with_least before part ∷ renewed (Some (lesser_of before part.floor)) parts
 
--- the least beside each part is the lesser of the least before it, if there is one, and its own
+-- the least beside each part is the smaller of the least before it, if there is one, and its own
 -- floor
 abbrev pub AreLeasts : Option ℤ → List Kept → Type 0
 AreLeasts before [] = Unit {0}

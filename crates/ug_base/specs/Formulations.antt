@@ -16,7 +16,8 @@ abbrev pub searched_of : Instance → Option Instance → Instance
 searched_of p None = p
 searched_of p (Some s) = s
 
--- what is searched of a box under a cutoff: the problem, or what follows from it
+-- the formulation that is searched for a box under a cutoff: the problem, or one that follows from
+-- it
 abbrev pub Searches : Base → Instance → List Interval → Option ℤ → Instance → Type 0
 Searches Bound p whole cutoff s = s ≡ p
 Searches Surrogate p whole cutoff s = Follows p whole cutoff s

@@ -1,4 +1,4 @@
--- How a box is halved: where, and which half is looked at first.
+-- Branching: where, and which half comes first.
 use Rattle.std.specs.Prelude.{◌≡◌, List}
 use Rattle.ug_rows.specs.declared.area.Interval.{Interval}
 use Rattle.ug_rows.specs.Boxes.{interval_at}
@@ -11,12 +11,12 @@ use Rattle.ug_branch.specs.declared.choice.Branch.{Branch}
 use Rattle.ug_branch.specs.Choices.{IsChosen, IsMiddle, IsOpen, lower_half, upper_half}
 use Rattle.ug_base.specs.declared.halving.Halving.{Halving}
 
--- the half that is looked at first
+-- the half that comes first
 abbrev pub first_half : Half → List Interval → Branch → List Interval
 first_half Lower area branch = lower_half area branch
 first_half Upper area branch = upper_half area branch
 
--- the half that is looked at after it
+-- the other half
 abbrev pub other_half : Half → List Interval → Branch → List Interval
 other_half Lower area branch = upper_half area branch
 other_half Upper area branch = lower_half area branch
@@ -31,8 +31,8 @@ pub record IsByParams (params : Params) (area : List Interval) (halving : Halvin
   pub chosen : IsChosen params area halving.branch
   pub first : halving.first ≡ params.half
 
--- a box may be halved so: as the params choose, or where the base takes rows that follow, at any
--- open column with either half first
+-- a box may be branched so: as the parameters choose, or with the base surrogate at any open column
+-- with either half first
 abbrev pub MayHalve : Base → Params → List Interval → Halving → Type 0
 MayHalve Bound params area halving = IsByParams params area halving
 MayHalve Surrogate params area halving = IsMidway area halving.branch

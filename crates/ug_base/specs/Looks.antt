@@ -25,12 +25,12 @@ pub record CanLook (p : Instance) (cutoff : Option ℤ) (area : List Interval) :
   pub below : IsBelow area (root_of p)
   pub small : IsSmallCutoff cutoff
 
--- two halves of a box: the one that is looked at first, and the other
+-- two branches of a box: the one that comes first, and the other
 pub record Halves : Type 0 where
   pub first : List Interval
   pub second : List Interval
 
--- the halves of the box at the branch
+-- the branches of the box at the branch
 abbrev pub halves_at : Half → List Interval → Branch → Halves
 halves_at half area branch =
     record { first = first_half half area branch; second = other_half half area branch }
@@ -39,7 +39,7 @@ halves_at half area branch =
 abbrev pub lows_of : List Interval → List ℤ
 lows_of area = map (λ (side : Interval). side.low) area
 
--- the halves of the box at the branch, in the order in which they are looked at
+-- the branches of the box at the branching, in order
 pub record AreOrdered (half : Half) (area : List Interval) (branch : Branch) (halves : Halves) :
     Type 0 where
   pub first : halves.first ≡ first_half half area branch
@@ -50,7 +50,7 @@ pub record IsOnly (area : List Interval) (x : List ℤ) : Type 0 where
   pub fixed : IsFixed area
   pub point : IsInside area x
 
--- the box has a point, and these are its halves
+-- the box has a point, and these are its branches
 pub record AreHalved (params : Params) (area : List Interval) (halves : Halves) : Type 0 where
   pub some : IsNonEmpty area
   pub halving : Halving
@@ -59,16 +59,16 @@ pub record AreHalved (params : Params) (area : List Interval) (halves : Halves) 
   pub parts : AreHalves area halving.branch
   pub ordered : AreOrdered halving.first area halving.branch halves
 
--- the box has a point and an open column, at which it is halved
+-- the box has a point and an open column, at which it is branched
 pub record IsBranched (params : Params) (area : List Interval) (halving : Halving) : Type 0 where
   pub some : IsNonEmpty area
   pub may : MayHalve params.base params area halving
   pub midway : IsMidway area halving.branch
   pub parts : AreHalves area halving.branch
 
--- what is seen in what is left of a box
+-- the result of evaluating what is left of a box
 abbrev pub IsInSight : Params → List Interval → Seen → Type 0
-IsInSight params area Hopeless = IsCrossed area
+IsInSight params area (Hopeless reason) = IsCrossed area
 IsInSight params area (Solved x) = IsOnly area x
 IsInSight params area (Halved halving) = IsBranched params area halving
 
@@ -88,7 +88,7 @@ pub record IsOnlyGood (p : Instance) (cutoff : Option ℤ) (area : List Interval
   pub good : IsGood p cutoff x
   pub alone : (y : List ℤ) → IsInside area y → IsGood p cutoff y → y ≡ x
 
--- the halves are below the box and have each good point of it
+-- the branches are below the box and have each good point of it
 pub record AreGoodHalves (p : Instance) (cutoff : Option ℤ) (area : List Interval) (halves : Halves)
     : Type 0 where
   pub below_first : IsBelow halves.first area
@@ -107,7 +107,7 @@ pub record IsSeenSolved (p : Instance) (cutoff : Option ℤ) (area : List Interv
   pub keeps : KeepsGood p cutoff area inner
   pub only : IsOnlyGood p cutoff area x
 
--- the halves are below the box, have each good point of it, and leave less to search
+-- the branches are below the box, have each good point of it, and leave less to search
 pub record IsSeenHalved (p : Instance) (cutoff : Option ℤ) (params : Params) (area : List Interval)
     (halves : Halves) : Type 0 where
   pub inner : List Interval
@@ -119,7 +119,7 @@ pub record IsSeenHalved (p : Instance) (cutoff : Option ℤ) (params : Params) (
   pub good : AreGoodHalves p cutoff area halves
   pub less : weight_of halves.second + weight_of halves.first < weight_of area
 
--- the working box is what is left of the box, and has two halves
+-- the working box is what is left of the box, and has two branches
 pub record IsSeenBranched (p : Instance) (cutoff : Option ℤ) (params : Params)
     (area : List Interval) (work : WorkState) (halving : Halving) : Type 0 where
   pub halved : IsSeenHalved p cutoff params area
@@ -132,7 +132,7 @@ pub record IsSeenBranched (p : Instance) (cutoff : Option ℤ) (params : Params)
 
 -- what this look at a box saw, in the working box that it left
 abbrev pub IsSeen : Instance → Option ℤ → Params → List Interval → WorkState → Seen → Type 0
-IsSeen p cutoff params area work Hopeless = IsSeenHopeless p cutoff area
+IsSeen p cutoff params area work (Hopeless reason) = IsSeenHopeless p cutoff area
 IsSeen p cutoff params area work (Solved x) = IsSeenSolved p cutoff area x
 IsSeen p cutoff params area work (Halved halving) =
     IsSeenBranched p cutoff params area work halving

@@ -20,7 +20,7 @@ points_of (side ∷ sides) = count_of side * points_of sides
 abbrev pub weight_of : List Interval → ℕ
 weight_of area = 1 + (2 * points_of area - 2)
 
--- what is left to search: it falls with each box that is dropped or split
+-- the measure of the search: it falls with each box that is pruned or branched
 abbrev pub measure_of : List (List Interval) → ℕ
 measure_of [] = 0
 measure_of (area ∷ boxes) = weight_of area + measure_of boxes

@@ -1,4 +1,4 @@
--- What a step does: it takes the last box left, and drops it, finds its one point good, or halves
+-- What a step does: it takes the last box left, and drops it, finds its one point good, or branches
 -- it.
 use Rattle.std.specs.Prelude.{◌≡◌, ℤ, ◌<◌, List, [], ◌∷◌, ◌++◌, Option, Some}
 use Rattle.ug_rows.specs.declared.area.Interval.{Interval}
@@ -57,7 +57,7 @@ pub record IsFound (old new : TaskState) (x : List ℤ) : Type 0 where
   pub good : IsGood old.problem old.cutoff x
   pub same : new ≡ record old { boxes = new.boxes; cutoff = Some (cutoff_of old.problem old.gap x) }
 
--- what was left of the last box has more points than one, and its two halves are in the box's
+-- what was left of the last box has more points than one, and its two branches are in the box's
 -- place, the first the last
 pub record IsSplit (old new : TaskState) : Type 0 where
   pub before : List (List Interval)

@@ -12,9 +12,8 @@ use Rattle.ug_nodes.specs.declared.name.Ticket.{Ticket}
 use Rattle.ug_problem.specs.Better.{IsGap, IsGood, IsSmallCutoff}
 use Rattle.ug_base.specs.Covers.{AreCovered}
 
--- the problem, the ticket that the task was given with, how its boxes are halved, the whole box,
--- the cutoff if there is one, the gap, the boxes left, and the boxes handed, in the order in which
--- they were handed
+-- the problem, the ticket of the assignment, the parameters, the whole box, the cutoff if there is
+-- one, the gap, the boxes left, and the boxes handed, in order
 pub record TaskState : Type 0 where
   pub problem : Instance
   pub ticket : Ticket
@@ -40,7 +39,7 @@ pub record IsTask (t : TaskState) : Type 0 where
   pub handed_below : AreBelow t.whole t.handed
   pub covered : AreCovered t.problem t.cutoff t.whole t.boxes t.handed
 
--- the lesser of a cutoff, if there is one, and another
+-- the smaller of a cutoff, if there is one, and another
 abbrev pub lesser_of : Option ℤ → ℤ → ℤ
 lesser_of None given = given
 lesser_of (Some old) given = (if int_lt old given then old else given)

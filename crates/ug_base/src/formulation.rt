@@ -45,7 +45,7 @@ impl Formulation {
         problem
     }
 
-    /// What is searched.
+    /// Returns the formulation that is searched.
     pub fn searched(&self) -> &Problem
         ensures value { result.now ≡ self.now.searched }
         ensures problem { IsProblem self.now.searched }

@@ -1,12 +1,14 @@
-//! How boxes are halved: by params, and in a search over more rows by the list of multipliers that
-//! was taken last. In the row that it implies, a column with a great factor costs most where it
-//! leaves the end at which its product is least: halved first, its other half is soon without a
-//! good point. What is searched for does not depend on it.
+//! Branching: by the parameters, and in a search with surrogate constraints by the list of
+//! multipliers that was kept last, or, while there is none, by the weights of the columns from
+//! conflicts. In the row that the list implies, a column with a large
+//! coefficient costs most if it leaves the end at which its product is least: branched on first,
+//! its other part soon has no good point. What is searched for does not depend on it.
 
 ghost use Rattle.std.specs.Prelude.{◌≡◌, ◌↔◌, ◌≤◌, ◌^◌, length, IfSome, IsNone};
 ghost use Rattle.ug_branch.specs.Choices.{AreClosed, AreHalves, HasNoneOpen};
 ghost use Rattle.ug_base.specs.Halvings.{IsByParams, IsMidway, MayHalve};
 
+use crate::conflicts::{Conflict, Conflicts};
 use crate::halving::Halving;
 use std::alloc::{AllocError, Global};
 use std::marker::Model;
@@ -16,8 +18,8 @@ use ug_problem::Problem;
 use ug_rows::{Interval, Row};
 use ug_surrogate::{ImpliedError, Multipliers, are_of, implied};
 
-// A column as a list weighs it: how great its factor is, and the half at which its product is
-// least, if it has a factor.
+// A column as a list weighs it: the size of its coefficient, and the half at which its product is
+// least, if it has a coefficient.
 #[derive(Clone, Copy)]
 struct Leaning {
     column: usize,
@@ -25,11 +27,13 @@ struct Leaning {
     half: Option<Half>,
 }
 
-/// The params, and the columns in the order in which they are halved, those of great factors first.
+/// The parameters; the columns in branching order, those with large coefficients first; and the
+/// weights of the columns from conflicts.
 #[derive(Drop)]
 pub struct Guide {
     params: Params,
     leanings: Vec<Leaning>,
+    conflicts: Conflicts,
 }
 
 impl Model for Guide {
@@ -40,7 +44,7 @@ impl Model for Guide {
     ghost view = { λ guide. guide.params };
 }
 
-// The half at which the product of a factor is least.
+// Returns the half at which the product of a coefficient is least.
 fn half_of(factor: i128) -> Option<Half> {
     if factor == 0 {
         None
@@ -84,8 +88,8 @@ fn row_of(alloc: Global, problem: &Problem, m: &Multipliers) -> Result<Option<Ro
     }
 }
 
-// The leanings of the columns under multipliers, the greatest factors first, or none where the row
-// that they imply is not within the limits.
+// Returns the leanings of the columns under multipliers, largest coefficients first, or none if the
+// row that they imply is beyond the limits.
 fn leanings_of(
     alloc: Global,
     problem: &Problem,
@@ -124,13 +128,13 @@ fn branch_on(params: Params, sides: &[Interval], column: usize) -> Option<Branch
     }
 }
 
-// Whether the params follow leanings to a column. The others stay as different as they are, for a
+// Whether the params follow leanings and weights to a column. The others stay as different as they are, for a
 // race.
 fn do_follow(params: Params) -> bool {
     params.pick == Pick::Place && params.end == End::Lowest
 }
 
-// The half that is looked at first: the upper one where the params ask for it, and otherwise the
+// Returns the half that comes first: the upper one if the parameters ask for it, and otherwise the
 // one to which the column leans.
 fn first_of(params: Params, half: Option<Half>) -> Half {
     match params.half {
@@ -139,7 +143,7 @@ fn first_of(params: Params, half: Option<Half>) -> Half {
     }
 }
 
-// The halving that the params choose.
+// Returns the branching that the parameters choose.
 fn by_params(params: Params, branch: Branch) -> Halving
     ensures branch { result.branch ≡ branch }
     ensures first { result.first ≡ params.half }
@@ -158,6 +162,7 @@ impl Guide {
         Guide {
             params,
             leanings: Vec::new(alloc),
+            conflicts: Conflicts::new(alloc),
         }
     }
 
@@ -168,8 +173,8 @@ impl Guide {
         self.params
     }
 
-    /// Halves by these multipliers from now on, where the params let it. After an error all is as
-    /// it was.
+    /// Branches by these multipliers from now on, if the parameters allow it. After an error
+    /// nothing has changed.
     pub fn follow(
         &mut self,
         alloc: Global,
@@ -183,7 +188,34 @@ impl Guide {
         Ok(())
     }
 
-    // The halving at the open column with the greatest factor, if the params follow leanings.
+    /// Takes note of a box that was emptied in a search of the problem, if the parameters follow
+    /// weights. If memory runs out it is not noted.
+    pub fn learn(&mut self, alloc: Global, problem: &Problem, conflict: Conflict)
+        ensures { self.new ≡ self.old }
+    {
+        if do_follow(self.params) && self.leanings.is_empty() {
+            self.conflicts.note(alloc, problem, conflict);
+        }
+    }
+
+    // Returns the branching at the open column with the largest weight from conflicts, if the
+    // parameters follow weights.
+    fn by_weights(&self, sides: &[Interval]) -> Option<Halving>
+        requires { length sides.now ≤ 10 ^ 4 }
+        ensures { IfSome result (λ halving. IsMidway sides.now halving.branch) }
+    {
+        if !do_follow(self.params) {
+            return None;
+        }
+        let column = self.conflicts.heaviest(sides)?;
+        match branch_on(self.params, sides, column) {
+            Some(branch) => Some(by_params(self.params, branch)),
+            None => None,
+        }
+    }
+
+    // Returns the branching at the open column with the largest coefficient, if the parameters
+    // follow leanings.
     fn by_leanings(&self, sides: &[Interval]) -> Option<Halving>
         requires { length sides.now ≤ 10 ^ 4 }
         ensures { IfSome result (λ halving. IsMidway sides.now halving.branch) }
@@ -202,8 +234,8 @@ impl Guide {
         None
     }
 
-    /// How the box with these intervals is halved, or none if no column is open. The first columns,
-    /// of which so many are known to be closed, are not looked at.
+    /// Returns the branching of the box with these intervals, or `None` if no column is open. Skips
+    /// the first `closed` columns, which are known to be closed.
     pub fn halving(&self, sides: &[Interval], closed: usize) -> Option<Halving>
         requires few { length sides.now ≤ 10 ^ 4 }
         requires closed { AreClosed closed sides.now }
@@ -217,7 +249,10 @@ impl Guide {
             Base::Bound => Some(by_params(self.params, branch)),
             Base::Surrogate => match self.by_leanings(sides) {
                 Some(halving) => Some(halving),
-                None => Some(by_params(self.params, branch)),
+                None => match self.by_weights(sides) {
+                    Some(halving) => Some(halving),
+                    None => Some(by_params(self.params, branch)),
+                },
             },
         }
     }

@@ -1,6 +1,6 @@
 use ug_branch::{Branch, Half};
 
-/// How a box is halved: where, and which half is looked at first.
+/// A branching: where, and which half comes first.
 #[derive(Clone, Copy)]
 pub struct Halving {
     pub branch: Branch,

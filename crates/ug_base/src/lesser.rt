@@ -1,7 +1,7 @@
 ghost use Rattle.std.specs.Prelude.{◌≡◌};
 ghost use Rattle.ug_base.specs.Tasks.{lesser_of};
 
-/// The lesser of a number, if there is one, and another.
+/// Returns the smaller of a number, if there is one, and another.
 pub fn lesser(before: Option<i128>, given: i128) -> i128
     ensures { result ≡ lesser_of before given }
 {

@@ -1,12 +1,13 @@
-//! The base solver of one subproblem: a list of boxes left to search, below one whole box, with a
-//! cutoff. It stands on ug_problem, ug_propagate, ug_surrogate and ug_branch, and on ug_nodes for
-//! its ticket. Its params say whether it searches over the problem's rows alone or over more that
-//! follow. A `step` tightens the last box left, and drops it, answers its one point, or puts its
-//! halves in its place; `hand` gives the first away, and `give` the last one too. Every feasible
-//! point of the whole box with a value below the cutoff lies in a box left or handed; each step and
-//! each box handed leave less to search.
+//! The search of one subproblem: a stack of boxes left, within one box, with a cutoff. Depends on
+//! ug_problem, ug_propagate, ug_surrogate and ug_branch, and on ug_nodes for its ticket. The
+//! parameters say whether it propagates the problem's rows only, or surrogate constraints too. A
+//! `step` propagates the last box left, and prunes it, returns its one point, or branches; `hand`
+//! hands over the first box left, and `give` the last one too. Every feasible point of the box with
+//! a value below the cutoff lies in a box left or handed; each step and each box handed leave less
+//! to search.
 #![tactic(auto)]
 
+mod conflicts;
 mod formulation;
 mod guide;
 mod halving;

@@ -17,21 +17,21 @@ use crate::part::{Narrowing, Part};
 use crate::parts::Parts;
 use std::alloc::{AllocError, Global};
 use ug_problem::Problem;
-use ug_propagate::{Working, propagate};
+use ug_propagate::{Reason, Working, propagate};
 use ug_rows::{IntBox, Interval, Point, has_point};
 
-/// What is seen in a box.
+/// Result of evaluating a box.
 #[derive(Drop)]
 pub enum Seen {
-    /// No good point.
-    Hopeless,
+    /// No good point, for this reason, unless the box had no point from the start.
+    Hopeless(Option<Reason>),
     /// One good point.
     Solved(Point),
-    /// Two halves of what is left of it in the working box.
+    /// The branching of what is left of it in the working box.
     Halved(Halving),
 }
 
-// By what a box is halved, of which so many of the first columns are known to be closed.
+// What chooses the branching of a box, and how many of its first columns are known to be closed.
 #[derive(Clone, Copy)]
 struct Choosing<'a> {
     guide: &'a Guide,
@@ -93,7 +93,7 @@ fn has_some(work: &Working, cut: Option<Narrowing>) -> bool
     }
 }
 
-// Brings the working box to the box of a part, and tells whether it has a point.
+// Moves the working box to the box of a part, and returns whether that has a point.
 fn enter(
     work: &mut Working,
     problem: &Problem,
@@ -116,7 +116,7 @@ fn enter(
     Ok(has_some(work, part.cut))
 }
 
-// What is seen in what is left of a box.
+// Evaluates what is left of a box.
 #[tactic(auto, using(crate::proofs::Sight::only_point))]
 fn see(alloc: Global, choosing: Choosing, sides: &[Interval]) -> Result<Seen, AllocError>
     requires few { length sides.now ≤ 10 ^ 4 }
@@ -147,7 +147,7 @@ fn look_inside(
         (IsSeen problem.now cutoff choosing.entry.guide.now work.old.sums.area work.new) }
 {
     match propagate(work, problem, cutoff)? {
-        Some(_) => Ok(Seen::Hopeless),
+        Some(reason) => Ok(Seen::Hopeless(Some(reason))),
         None => {
             let seen = see(alloc, choosing, work.sides())?;
             Ok(seen)
@@ -155,8 +155,8 @@ fn look_inside(
     }
 }
 
-/// A look at the box of a part. The working box is then what bound propagation leaves of it, where
-/// it has halves. The boxes of the parts before it are as they were.
+/// Evaluates the box of a part. If it is branched, the working box is then what bound propagation
+/// leaves of it. The boxes of the parts before it are unchanged.
 pub fn look(
     alloc: Global,
     work: &mut Working,
@@ -180,7 +180,7 @@ pub fn look(
         let seen = look_inside(alloc, work, problem, choosing, cutoff)?;
         Ok(seen)
     } else {
-        Ok(Seen::Hopeless)
+        Ok(Seen::Hopeless(None))
     }
 }
 

@@ -18,6 +18,6 @@ pub struct Part {
     pub floor: i128,
     /// How the rows of its parent rested.
     pub rest: Rest,
-    /// So many of the first columns are closed in the box.
+    /// The number of first columns that are closed in the box.
     pub closed: usize,
 }

@@ -48,7 +48,7 @@ fn least_up_to(kept: &Kept) -> i128
     kept.least
 }
 
-// A part with the lesser of the least floor before it, if there is one, and its own.
+// Returns a part with the smaller of the least floor before it, if there is one, and its own.
 fn kept_behind(before: Option<i128>, part: Part) -> Kept
     ensures { result ≡ with_least before part }
 {

@@ -23,7 +23,7 @@ const APART: u64 = 16;
 // A guess is due again when the steps are more by this part of them.
 const OFTENER: u64 = 2;
 
-// For so many steps rows are made anew at each new cutoff.
+// Number of steps during which rows are rebuilt at each new cutoff.
 const OFTEN: u64 = 512;
 
 // At how many times the steps the first guess is judged again that was not good yet.
@@ -114,16 +114,16 @@ impl Sharpening {
         self.steps <= OFTEN || self.steps % APART == 0
     }
 
-    /// Counts a step, and tells whether rows are to be made anew before it: where a guess is due,
-    /// or the cutoff is another.
+    /// Counts a step, and returns whether rows are to be rebuilt before it: a guess is due, or the
+    /// cutoff has changed.
     pub fn is_due(&mut self, cutoff: Option<i128>) -> bool {
         self.steps = self.steps.saturating_add(1);
         let is_other = !self.lists.is_empty() && self.under != cutoff;
         self.steps > self.due || (is_other && self.may_renew())
     }
 
-    // Keeps multipliers, unless they are kept already. Where there are as many as may be, the
-    // oldest but the first gives way.
+    // Keeps multipliers, unless they are kept already. If the list is full, the oldest but the
+    // first is dropped.
     fn keep(&mut self, m: Multipliers) -> Result<(), AllocError> {
         if is_among(self.lists.as_slice(), &m) {
             drop(m);
@@ -183,8 +183,8 @@ impl Sharpening {
         self.lists.as_slice().last()
     }
 
-    /// The problem with the rows that follow over the whole box under a cutoff, if there are any.
-    /// Where a guess is due, it is made, and judged by the area.
+    /// Returns the problem with the rows that follow over the whole box under a cutoff, if there
+    /// are any. Makes a guess if one is due, and judges it by the area.
     pub fn stronger(
         &mut self,
         alloc: Global,

@@ -46,7 +46,7 @@ fn next(at: i32, high: i32) -> i32
     at + 1
 }
 
-// The half of an interval that is looked at first.
+// Returns the half of an interval that comes first.
 fn first_of(half: Half, side: Interval, middle: i32) -> Interval
     requires { middle <ℤ side.high }
     ensures { result ≡ first_side half side middle }
@@ -57,7 +57,7 @@ fn first_of(half: Half, side: Interval, middle: i32) -> Interval
     }
 }
 
-// The half that is looked at after it.
+// Returns the other half.
 fn other_of(half: Half, side: Interval, middle: i32) -> Interval
     requires { middle <ℤ side.high }
     ensures { result ≡ other_side half side middle }
@@ -68,14 +68,14 @@ fn other_of(half: Half, side: Interval, middle: i32) -> Interval
     }
 }
 
-// The two halves of an interval: the one that is looked at first, and the other.
+// The two branches of an interval: the one that comes first, and the other.
 #[derive(Clone, Copy)]
 struct Sides {
     first: Interval,
     second: Interval,
 }
 
-// The halves of the interval of the branch's column.
+// Returns the branches of the range of the branching variable.
 fn sides_at(work: &Working, guide: &Guide, halving: Halving) -> Sides
     requires { IsBranched guide.now work.now.sums.area halving }
     ensures first { result.first ≡ first_side halving.first
@@ -90,15 +90,15 @@ fn sides_at(work: &Working, guide: &Guide, halving: Halving) -> Sides
     }
 }
 
-// What is known of a box that is split, and then of its halves: how its rows rest, and that so many
-// of its first columns are closed.
+// Knowledge about a box that is branched, and then about its parts: which rows are at fixpoint, and
+// how many of its first columns are closed.
 #[derive(Clone, Copy)]
 struct Known {
     rest: Rest,
     closed: usize,
 }
 
-// How many of the first columns are closed, where so many are known to be.
+// Returns how many of the first columns are closed, of which `known` are known to be.
 #[tactic(auto, using(crate::proofs::Closed::closed_more))]
 fn closed_from(sides: &[Interval], known: usize) -> usize
     requires { AreClosed known sides.now }
@@ -154,8 +154,8 @@ fn part_with(
     part_of(work.trail_len(), column, side, floor, known)
 }
 
-/// Puts two halves of the working box in the last part's place, the one that is looked at first the
-/// last. After an error the parts are as they were.
+/// Puts both parts of the working box in the last part's place, the one that comes first on top.
+/// After an error the parts are unchanged.
 pub fn split_last(
     work: &Working,
     formulation: &Formulation,

@@ -8,7 +8,7 @@ pub enum Step {
     /// This point of it is feasible, and its value, below the cutoff before, is the cutoff now. The
     /// box was dropped.
     Found(Point),
-    /// Its two halves were put in its place.
+    /// It was branched: both parts are in its place.
     Split,
     /// No box was left.
     Empty,

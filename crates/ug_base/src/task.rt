@@ -14,13 +14,14 @@ ghost use Rattle.ug_base.specs.Steps.{LeavesLess, TookStep};
 ghost use Rattle.ug_base.specs.Tasks.{AreBelow, BoundsTheRest, IsLeastFloor, lesser_of};
 ghost use Rattle.ug_problem.specs.Better.{AreAllHanded, HasNoGood, IsGap, IsSmallCutoff, cutoff_of};
 
+use crate::conflicts::Conflict;
 use crate::formulation::Formulation;
 use crate::guide::Guide;
 use crate::handed::Handed;
 use crate::lesser::lesser;
 use crate::look::{Seen, begin, look_last};
 use crate::moving::{box_of, move_first};
-use crate::part::Part;
+use crate::part::{Narrowing, Part};
 use crate::parts::Parts;
 use crate::sharpening::Sharpening;
 use crate::split::split_last;
@@ -33,7 +34,7 @@ use ug_problem::{Problem, Shared};
 use ug_propagate::{Rest, Working};
 use ug_rows::{IntBox, Point};
 
-/// The search of one box for feasible points with a value below the cutoff.
+/// The depth-first search of one box for feasible points with a value below the cutoff.
 #[derive(Drop)]
 pub struct Task {
     alloc: Global,
@@ -47,6 +48,8 @@ pub struct Task {
     parts: Parts,
     handed: Hands,
     sharpening: Sharpening,
+    // The last box that was emptied, until the guide has learned from it.
+    conflict: Option<Conflict>,
 }
 
 impl Model for Task {
@@ -61,7 +64,7 @@ impl Model for Task {
     ghost invariant = { AreOfTask };
 }
 
-// The whole box as the one box left.
+// Returns the whole box as the one box left.
 fn only_part(work: &Working, problem: &Problem) -> Part
     requires { IsBox problem.now work.now }
     ensures { result ≡ record {
@@ -82,7 +85,7 @@ fn only_part(work: &Working, problem: &Problem) -> Part
     }
 }
 
-// The same, alone.
+// Returns the boxes left of a new task: the whole box.
 fn only_left(alloc: Global, work: &Working, problem: &Problem) -> Result<Parts, AllocError>
     requires { IsBox problem.now work.now }
     ensures { IfOk result (λ parts. parts
@@ -104,7 +107,7 @@ struct Beginning {
     parts: Parts,
 }
 
-// The working box of the whole box, and this as the one box left.
+// Returns the working box of the whole box, and the whole box as the one box left.
 fn begun(alloc: Global, problem: &Problem, whole: &IntBox) -> Result<Beginning, AllocError>
     requires { length whole.now ≡ length problem.now.columns }
     ensures area { IfOk result (λ b. b.work.sums.area ≡ whole.now) }
@@ -129,7 +132,7 @@ fn begun(alloc: Global, problem: &Problem, whole: &IntBox) -> Result<Beginning, 
     }
 }
 
-// The cutoff of a point under a gap.
+// Returns the cutoff of a point under a gap.
 fn cutoff_at(problem: &Problem, gap: i128, point: &Point) -> Option<i128>
     requires width { length point.now ≡ length problem.now.columns }
     requires gap { IsGap gap }
@@ -138,9 +141,17 @@ fn cutoff_at(problem: &Problem, gap: i128, point: &Point) -> Option<i128>
     Some(problem.cutoff(gap, point))
 }
 
+// Returns the column on which the parent of a part was branched.
+fn column_of(cut: Option<Narrowing>) -> Option<u32> {
+    match cut {
+        Some(cut) => Some(cut.column),
+        None => None,
+    }
+}
+
 impl Task {
-    /// The task with the whole box left and none handed. It copies the box, and takes the sums of
-    /// all rows over it.
+    /// Returns a task with the whole box left and none handed. It copies the box and computes the
+    /// sums of all rows over it.
     pub fn new(
         alloc: Global,
         problem: Shared,
@@ -180,6 +191,7 @@ impl Task {
                 parts: begun.parts,
                 handed: Hands::new(alloc),
                 sharpening,
+                conflict: None,
             }),
             Err(error) => {
                 drop(problem);
@@ -190,8 +202,8 @@ impl Task {
         }
     }
 
-    /// Takes the last box left, and drops it, answers its one point, or puts its halves in its
-    /// place. After an error the task is as it was.
+    /// Takes the last box left and prunes it, returns its one point, or branches, putting both
+    /// parts in its place. After an error the task is unchanged.
     pub fn step(&mut self) -> Result<Step, AllocError>
         ensures took { IfOk result (TookStep self.old self.new) }
         ensures empty { IfOk result (λ step. (step ≡ Empty) ↔ (self.old.boxes ≡ [])) }
@@ -203,7 +215,7 @@ impl Task {
         self.look_on()
     }
 
-    // The same, over the formulation that there is.
+    // Does the same over the current formulation.
     fn look_on(&mut self) -> Result<Step, AllocError>
         ensures took { IfOk result (TookStep self.old self.new) }
         ensures empty { IfOk result (λ step. (step ≡ Empty) ↔ (self.old.boxes ≡ [])) }
@@ -223,7 +235,11 @@ impl Task {
             &self.parts,
             last,
         )? {
-            Seen::Hopeless => {
+            Seen::Hopeless(reason) => {
+                self.conflict = Some(Conflict {
+                    reason,
+                    column: column_of(last.cut),
+                });
                 self.parts.drop_last();
                 Ok(Step::Pruned)
             }
@@ -248,8 +264,8 @@ impl Task {
         }
     }
 
-    /// Hands the first box left to another, unless fewer than two are left: it is no longer left
-    /// here. After an error the task is as it was.
+    /// Hands over the first box left, unless fewer than two are left. After an error the task is
+    /// unchanged.
     pub fn hand(&mut self) -> Result<Option<Handed>, AllocError>
         ensures handed { IfOk result (DidHand self.old self.new) }
         ensures none { IfOk result (λ given. IsNone given ↔ (length self.old.boxes < 2)) }
@@ -262,8 +278,8 @@ impl Task {
         self.give()
     }
 
-    /// Hands the first box left to another, the last one too, so that a task may end before all of
-    /// it is searched. None is handed exactly where none is left. After an error it is as it was.
+    /// Hands over the first box left, the last one too, so that a task may end before all of it is
+    /// searched. Returns `None` exactly if no box is left. After an error the task is unchanged.
     pub fn give(&mut self) -> Result<Option<Handed>, AllocError>
         ensures given { IfOk result (DidGive self.old self.new) }
         ensures none { IfOk result (λ given. IsNone given ↔ (self.old.boxes ≡ [])) }
@@ -284,13 +300,25 @@ impl Task {
         Ok(Some(Handed { number, area }))
     }
 
-    // Counts a step, and takes a stronger formulation where it is due and the params ask for it.
+    // Has the guide learn from the last box that was emptied.
+    fn learn(&mut self)
+        ensures { self.new ≡ self.old }
+    {
+        if let Some(conflict) = self.conflict.take() {
+            self.guide
+                .learn(self.alloc, self.formulation.searched(), conflict);
+        }
+    }
+
+    // Counts a step, and switches to a stronger formulation if that is due and the parameters ask
+    // for it.
     fn sharpen(&mut self) -> Result<(), AllocError>
         ensures { self.new ≡ self.old }
     {
         match self.guide.params().base {
             Base::Bound => Ok(()),
             Base::Surrogate => {
+                self.learn();
                 if self.sharpening.is_due(self.cutoff) {
                     self.take_stronger()
                 } else {
@@ -300,8 +328,8 @@ impl Task {
         }
     }
 
-    // Takes the formulation with the rows that follow from the box of the last part. After an error
-    // the task is as it was.
+    // Switches to the formulation with the surrogate constraints that follow from the box of the
+    // last part. After an error the task is unchanged.
     fn take_stronger(&mut self) -> Result<(), AllocError>
         requires base { self.old.params.base ≡ Surrogate }
         ensures same { self.new ≡ self.old }
@@ -330,7 +358,7 @@ impl Task {
         }
     }
 
-    // Halves by the list of multipliers that was kept last.
+    // Branches by the list of multipliers that was kept last.
     fn follow(&mut self) -> Result<(), AllocError>
         ensures { self.new ≡ self.old }
     {
@@ -340,8 +368,8 @@ impl Task {
         }
     }
 
-    // Goes over to a stronger formulation of the problem. What is searched for is the same. After
-    // an error the task is as it was.
+    // Switches to a stronger formulation of the problem. The points that are searched for are the
+    // same. After an error the task is unchanged.
     fn go_over(&mut self, stronger: Problem) -> Result<(), AllocError>
         requires base { self.old.params.base ≡ Surrogate }
         requires follows { Follows self.old.problem self.old.whole self.old.cutoff stronger }
@@ -373,7 +401,7 @@ impl Task {
         }
     }
 
-    /// Lowers the cutoff to the given one, unless it is below that already. It takes no memory.
+    /// Lowers the cutoff to the given one, unless it is below that already. Takes no memory.
     pub fn lower(&mut self, cutoff: i128)
         requires { unsigned_abs cutoff ≤ 2 * 10 ^ 37 }
         ensures { self.new ≡ record self.old { cutoff = Some (lesser_of self.old.cutoff cutoff) } }
@@ -381,7 +409,7 @@ impl Task {
         self.cutoff = Some(lesser(self.cutoff, cutoff));
     }
 
-    /// How many boxes are left. It takes no memory.
+    /// Returns the number of boxes left. Takes no memory.
     pub fn left(&self) -> u64
         ensures count { result ≡ length self.now.boxes }
         ensures below { AreBelow self.now.whole self.now.boxes }
@@ -395,8 +423,8 @@ impl Task {
         self.parts.len() as u64
     }
 
-    /// The least value that the objective could have in a box left. It takes no memory: the least
-    /// floor of the boxes up to each is kept beside it, and taken anew where boxes were handed.
+    /// Returns the least floor of the boxes left. Takes no memory: the least floor of the boxes up
+    /// to each is stored with it, and computed anew after boxes were handed.
     pub fn lowest(&mut self) -> Option<i128>
         ensures same { self.new ≡ self.old }
         ensures none { IsNone result ↔ (self.old.boxes ≡ []) }
@@ -407,7 +435,7 @@ impl Task {
         self.parts.lowest()
     }
 
-    /// The boxes handed, in the order in which they were handed. It takes no memory.
+    /// Returns the boxes handed, in order. Takes no memory.
     pub fn handed(&self) -> &Hands
         ensures value { result.now ≡ self.now.handed }
         ensures below { AreBelow self.now.whole self.now.handed }
@@ -415,7 +443,7 @@ impl Task {
         &self.handed
     }
 
-    /// The problem that is solved.
+    /// Returns the problem.
     pub fn problem(&self) -> &Problem
         ensures value { result.now ≡ self.now.problem }
         ensures problem { IsProblem self.now.problem }
@@ -423,14 +451,14 @@ impl Task {
         self.formulation.problem()
     }
 
-    /// What the task was given with.
+    /// Returns the ticket of the assignment.
     pub fn ticket(&self) -> Ticket
         ensures { result ≡ self.now.ticket }
     {
         self.ticket
     }
 
-    /// The box that is searched.
+    /// Returns the box that is searched.
     pub fn whole(&self) -> &IntBox
         ensures value { result.now ≡ self.now.whole }
         ensures below { IsBelow self.now.whole (root_of self.now.problem) }
@@ -438,8 +466,8 @@ impl Task {
         &self.whole
     }
 
-    /// By how much a value has to be less than that of a point found, multiplied by ten to the
-    /// objective's scale.
+    /// Returns the gap, multiplied by ten to the objective's scale: a point must be better by more
+    /// than this.
     pub fn gap(&self) -> i128
         ensures value { result ≡ self.now.gap }
         ensures gap { IsGap self.now.gap }
@@ -447,14 +475,14 @@ impl Task {
         self.gap
     }
 
-    /// How its boxes are halved.
+    /// Returns the parameters, which choose how boxes are branched.
     pub fn params(&self) -> Params
         ensures { result ≡ self.now.params }
     {
         self.guide.params()
     }
 
-    /// The value below which points are searched for, if there is one.
+    /// Returns the cutoff, the value below which points are searched for, if there is one.
     pub fn cutoff(&self) -> Option<i128>
         ensures value { result ≡ self.now.cutoff }
         ensures small { IsSmallCutoff self.now.cutoff }

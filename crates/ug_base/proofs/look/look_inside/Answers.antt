@@ -18,7 +18,7 @@ returns-in-Some-clause-seen c =
     let P : Option Reason → Type 0 = λ (told : Option Reason). outcome_of told c.propagate.new.work.sums.area
     ≡ last_round p c.args.cutoff (rounds_of 32 p c.args.cutoff (Kept area)) in
     nothing_left p c.args.cutoff area _
-    (tightened_as p c.args.cutoff area _ c.requires.can c.requires.some (subst P c.in-Some.is c.in_ok-propagate.ensures.value))
+    (tightened_as p c.args.cutoff area _ c.requires.can c.requires.some (subst P c.in-Some.is c.in_ok-reason.ensures.value))
 
 pub see-requires-clause-some : goal.see-requires-clause-some
 see-requires-clause-some c =
@@ -28,7 +28,7 @@ see-requires-clause-some c =
     let P : Option Reason → Type 0 = λ (told : Option Reason). outcome_of told inner
     ≡ last_round p c.args.cutoff (rounds_of 32 p c.args.cutoff (Kept area)) in
     let t = tightened_as p c.args.cutoff area (Kept inner) c.requires.can c.requires.some
-    (subst P c.in-None.is c.in_ok-propagate.ensures.value) in
+    (subst P c.in-None.is c.in_ok-reason.ensures.value) in
     subst IsNonEmpty (sym c.sides.ensures) (below_some inner area t.below c.requires.some)
 
 pub see-requires-clause-closed : goal.see-requires-clause-closed
@@ -39,7 +39,7 @@ see-requires-clause-closed c =
     let P : Option Reason → Type 0 = λ (told : Option Reason). outcome_of told inner
     ≡ last_round p c.args.cutoff (rounds_of 32 p c.args.cutoff (Kept area)) in
     let t = tightened_as p c.args.cutoff area (Kept inner) c.requires.can c.requires.some
-    (subst P c.in-None.is c.in_ok-propagate.ensures.value) in
+    (subst P c.in-None.is c.in_ok-reason.ensures.value) in
     subst (AreClosed c.args.choosing.closed) (sym c.sides.ensures)
     (closed_below c.args.choosing.closed inner area t.below c.requires.closed)
 
@@ -51,7 +51,7 @@ returns-in_ok-seen-in-None-clause-seen c =
     let P : Option Reason → Type 0 = λ (told : Option Reason). outcome_of told inner
     ≡ last_round p c.args.cutoff (rounds_of 32 p c.args.cutoff (Kept area)) in
     let t = tightened_as p c.args.cutoff area (Kept inner) c.requires.can c.requires.some
-    (subst P c.in-None.is c.in_ok-propagate.ensures.value) in
+    (subst P c.in-None.is c.in_ok-reason.ensures.value) in
     let Q : List Interval → Type 0 = λ (a : List Interval). IsInSight c.args.choosing.guide.now a c.in_ok-seen-in-None.seen in
     seen_inside p c.args.cutoff c.args.choosing.guide.now area c.propagate.new.work c.in_ok-seen-in-None.seen c.requires.can t
     c.propagate.ensures.went.working (subst Q c.sides.ensures c.in_ok-seen-in-None.ensures)

@@ -47,11 +47,11 @@ invariant_of-self-in-Hopeless c =
     (last_of_fields t c.self.inside.work c.self.inside.parts c.in-Some.last refl c.in-Some.ensures) in
     record {
       task = after_hopeless t c.self.inside.work after c.self.inside.parts _ c.in-Some.last refl c.self.invariant.task
-          c.in-Some.ensures c.in_ok-look_last.ensures.areas
-          (none_good t.problem t.whole t.cutoff s area f below (subst P c.in-Hopeless.is c.in_ok-look_last.ensures.seen).none)
+          c.in-Some.ensures c.in_ok-reason.ensures.areas
+          (none_good t.problem t.whole t.cutoff s area f below (subst P c.in-Hopeless.is c.in_ok-reason.ensures.seen).none)
           c.drop_last.ensures;
       chain = subst (λ (ps : List Part). IsChain s t.whole after ps) (sym c.drop_last.ensures)
-          (chain_front s t.whole after c.self.inside.parts c.in_ok-look_last.ensures.chain);
+          (chain_front s t.whole after c.self.inside.parts c.in_ok-reason.ensures.chain);
       searched = c.self.invariant.searched;
     }
 
@@ -65,14 +65,14 @@ invariant_of-self-in-Solved c =
     let f = follows_of t.params.base t.problem t.whole t.cutoff s c.self.invariant.searched in
     let below = last_below t area c.self.invariant.task
     (last_of_fields t c.self.inside.work c.self.inside.parts c.in-Some.last refl c.in-Some.ensures) in
-    let seen = subst P c.in-Solved.is c.in_ok-look_last.ensures.seen in
+    let seen = subst P c.in-Solved.is c.in_ok-reason.ensures.seen in
     let only = only_good t.problem t.whole t.cutoff s area f below c.in-Solved.point seen.only in
     record {
       task = after_solved t c.self.inside.work after c.self.inside.parts _ c.in-Some.last c.in-Solved.point
-          c.cutoff_at-cutoff.result refl c.self.invariant.task c.in-Some.ensures c.in_ok-look_last.ensures.areas
+          c.cutoff_at-cutoff.result refl c.self.invariant.task c.in-Some.ensures c.in_ok-reason.ensures.areas
           only c.drop_last-in-Solved.ensures (search rules);
       chain = subst (λ (ps : List Part). IsChain s t.whole after ps) (sym c.drop_last-in-Solved.ensures)
-          (chain_front s t.whole after c.self.inside.parts c.in_ok-look_last.ensures.chain);
+          (chain_front s t.whole after c.self.inside.parts c.in_ok-reason.ensures.chain);
       searched = searches_found t s c.in-Solved.point c.cutoff_at-cutoff.result c.self.invariant.task only.good (search rules)
           c.self.invariant.searched;
     }
@@ -84,7 +84,7 @@ cutoff_at-cutoff-requires-clause-width c =
     let after = c.look_last.new.work in
     let area = area_of c.self.inside.work c.in-Some.last in
     let P : Seen → Type 0 = λ (seen : Seen). IsSeen s t.cutoff t.params area after seen in
-    let seen = subst P c.in-Solved.is c.in_ok-look_last.ensures.seen in
+    let seen = subst P c.in-Solved.is c.in_ok-reason.ensures.seen in
     let good = good_back t.problem t.whole t.cutoff s c.in-Solved.point
     (follows_of t.params.base t.problem t.whole t.cutoff s c.self.invariant.searched) seen.only.good in
     good.feasible.inside.width ∙ length-map t.problem.columns bounds_of
@@ -97,7 +97,7 @@ split_last-requires-clause-below c =
     let after = c.look_last.new.work in
     let P : Seen → Type 0 = λ (seen : Seen). IsSeen s t.cutoff t.params (area_of c.self.inside.work c.in-Some.last) after seen in
     left_below t s c.self.inside.work after c.self.inside.parts c.in-Some.last c.in-Halved.halving refl c.self.invariant.task
-    c.in-Some.ensures (subst P c.in-Halved.is c.in_ok-look_last.ensures.seen)
+    c.in-Some.ensures (subst P c.in-Halved.is c.in_ok-reason.ensures.seen)
 
 pub split_last-requires-clause-closed : goal.split_last-requires-clause-closed
 split_last-requires-clause-closed c =
@@ -106,7 +106,7 @@ split_last-requires-clause-closed c =
     let after = c.look_last.new.work in
     let P : Seen → Type 0 = λ (seen : Seen). IsSeen s t.cutoff t.params (area_of c.self.inside.work c.in-Some.last) after seen in
     left_closed s t.whole t.cutoff t.params c.self.inside.work after c.self.inside.parts c.in-Some.last c.in-Halved.halving
-    c.self.invariant.chain c.in-Some.ensures (subst P c.in-Halved.is c.in_ok-look_last.ensures.seen)
+    c.self.invariant.chain c.in-Some.ensures (subst P c.in-Halved.is c.in_ok-reason.ensures.seen)
 
 pub invariant_of-self-in_err-split_last-in-Halved : goal.invariant_of-self-in_err-split_last-in-Halved
 invariant_of-self-in_err-split_last-in-Halved c =
@@ -116,8 +116,8 @@ invariant_of-self-in_err-split_last-in-Halved c =
     let same = c.in_err-split_last-in-Halved.ensures.err in
     record {
       task = subst (λ (ps : List Part). IsTask (record t { boxes = areas_of after ps })) (sym same)
-          (same_task t c.self.inside.work after c.self.inside.parts refl c.in_ok-look_last.ensures.areas c.self.invariant.task);
-      chain = subst (λ (ps : List Part). IsChain s t.whole after ps) (sym same) c.in_ok-look_last.ensures.chain;
+          (same_task t c.self.inside.work after c.self.inside.parts refl c.in_ok-reason.ensures.areas c.self.invariant.task);
+      chain = subst (λ (ps : List Part). IsChain s t.whole after ps) (sym same) c.in_ok-reason.ensures.chain;
       searched = c.self.invariant.searched;
     }
 
@@ -131,10 +131,10 @@ invariant_of-self-in-Halved c =
     let f = follows_of t.params.base t.problem t.whole t.cutoff s c.self.invariant.searched in
     let below = last_below t area c.self.invariant.task
     (last_of_fields t c.self.inside.work c.self.inside.parts c.in-Some.last refl c.in-Some.ensures) in
-    let seen = subst P c.in-Halved.is c.in_ok-look_last.ensures.seen in
+    let seen = subst P c.in-Halved.is c.in_ok-reason.ensures.seen in
     record {
       task = after_halved t s c.self.inside.work after c.self.inside.parts _ c.in-Some.last c.in-Halved.halving refl
-          c.self.invariant.task c.in-Some.ensures c.in_ok-look_last.ensures.areas
+          c.self.invariant.task c.in-Some.ensures c.in_ok-reason.ensures.areas
           (good_halves t.problem t.whole t.cutoff s area f below (halves_at c.in-Halved.halving.first after.sums.area c.in-Halved.halving.branch) seen.halved.good)
           c.in_ok-split_last-in-Halved.ensures.ok;
       chain = c.in_ok-split_last-in-Halved.ensures.ok.chain;
@@ -152,9 +152,9 @@ returns-in-Hopeless-clause-took c =
     (last_of_fields t c.self.inside.work c.self.inside.parts c.in-Some.last refl c.in-Some.ensures) in
     subst (λ (q : TaskState). IsPruned q (record t { boxes = areas_of after c.drop_last.new.self })) c.self.view_is
     (pruned_step t c.self.inside.work after c.self.inside.parts c.drop_last.new.self c.in-Some.last refl c.in-Some.ensures
-    c.in_ok-look_last.ensures.areas
+    c.in_ok-reason.ensures.areas
     (leaves_none t.params.base t.problem t.whole t.cutoff s area c.self.invariant.searched below
-    (subst P c.in-Hopeless.is c.in_ok-look_last.ensures.seen)) c.drop_last.ensures)
+    (subst P c.in-Hopeless.is c.in_ok-reason.ensures.seen)) c.drop_last.ensures)
 
 pub returns-in-Hopeless-clause-less : goal.returns-in-Hopeless-clause-less
 returns-in-Hopeless-clause-less c =
@@ -163,7 +163,7 @@ returns-in-Hopeless-clause-less c =
     let after = c.look_last.new.work in
     subst (λ (q : TaskState). measure_of (areas_of after c.drop_last.new.self) < measure_of q.boxes) c.self.view_is
     (left_dropped_less t c.self.inside.work after c.self.inside.parts c.drop_last.new.self c.in-Some.last refl
-    c.in-Some.ensures c.in_ok-look_last.ensures.areas c.drop_last.ensures)
+    c.in-Some.ensures c.in_ok-reason.ensures.areas c.drop_last.ensures)
 
 pub returns-in-Solved-clause-took : goal.returns-in-Solved-clause-took
 returns-in-Solved-clause-took c =
@@ -180,9 +180,9 @@ returns-in-Solved-clause-took c =
       cutoff = c.cutoff_at-cutoff.result;
     }) c.in-Solved.point) c.self.view_is
     (found_step t c.self.inside.work after c.self.inside.parts c.drop_last-in-Solved.new.self c.in-Some.last
-    c.in-Solved.point c.cutoff_at-cutoff.result refl c.in-Some.ensures c.in_ok-look_last.ensures.areas
+    c.in-Solved.point c.cutoff_at-cutoff.result refl c.in-Some.ensures c.in_ok-reason.ensures.areas
     (point_left t.params.base t.problem t.whole t.cutoff s area c.in-Solved.point c.self.invariant.searched below
-    (subst P c.in-Solved.is c.in_ok-look_last.ensures.seen)) c.drop_last-in-Solved.ensures (search rules))
+    (subst P c.in-Solved.is c.in_ok-reason.ensures.seen)) c.drop_last-in-Solved.ensures (search rules))
 
 pub returns-in-Solved-clause-empty : goal.returns-in-Solved-clause-empty
 returns-in-Solved-clause-empty c =
@@ -198,7 +198,7 @@ returns-in-Solved-clause-less c =
     let after = c.look_last.new.work in
     subst (λ (q : TaskState). measure_of (areas_of after c.drop_last-in-Solved.new.self) < measure_of q.boxes) c.self.view_is
     (left_dropped_less t c.self.inside.work after c.self.inside.parts c.drop_last-in-Solved.new.self c.in-Some.last refl
-    c.in-Some.ensures c.in_ok-look_last.ensures.areas c.drop_last-in-Solved.ensures)
+    c.in-Some.ensures c.in_ok-reason.ensures.areas c.drop_last-in-Solved.ensures)
 
 pub returns-in_ok-split_last-in-Halved-clause-took : goal.returns-in_ok-split_last-in-Halved-clause-took
 returns-in_ok-split_last-in-Halved-clause-took c =
@@ -210,10 +210,10 @@ returns-in_ok-split_last-in-Halved-clause-took c =
     let f = follows_of t.params.base t.problem t.whole t.cutoff s c.self.invariant.searched in
     let below = last_below t area c.self.invariant.task
     (last_of_fields t c.self.inside.work c.self.inside.parts c.in-Some.last refl c.in-Some.ensures) in
-    let seen = subst P c.in-Halved.is c.in_ok-look_last.ensures.seen in
+    let seen = subst P c.in-Halved.is c.in_ok-reason.ensures.seen in
     subst (λ (q : TaskState). IsSplit q (record t { boxes = areas_of after c.split_last.new.parts })) c.self.view_is
     (split_step t s c.self.inside.work after c.self.inside.parts c.split_last.new.parts c.in-Some.last c.in-Halved.halving
-    refl c.in-Some.ensures c.in_ok-look_last.ensures.areas
+    refl c.in-Some.ensures c.in_ok-reason.ensures.areas
     (leaves t.params.base t.problem t.whole t.cutoff s area after.sums.area c.self.invariant.searched below seen.left seen.below seen.keeps)
     seen.branched c.in_ok-split_last-in-Halved.ensures.ok)
 
@@ -232,8 +232,8 @@ returns-in_ok-split_last-in-Halved-clause-less c =
     let P : Seen → Type 0 = λ (seen : Seen). IsSeen s t.cutoff t.params (area_of c.self.inside.work c.in-Some.last) after seen in
     subst (λ (q : TaskState). measure_of (areas_of after c.split_last.new.parts) < measure_of q.boxes) c.self.view_is
     (left_halved_less t s c.self.inside.work after c.self.inside.parts c.split_last.new.parts c.in-Some.last
-    c.in-Halved.halving refl c.in-Some.ensures c.in_ok-look_last.ensures.areas
-    (subst P c.in-Halved.is c.in_ok-look_last.ensures.seen) c.in_ok-split_last-in-Halved.ensures.ok)
+    c.in-Halved.halving refl c.in-Some.ensures c.in_ok-reason.ensures.areas
+    (subst P c.in-Halved.is c.in_ok-reason.ensures.seen) c.in_ok-split_last-in-Halved.ensures.ok)
 
 -- what holds anyhow holds after an error
 after_error : {T E P : Type 0} (r : Result T E) → P → OnErr r P
@@ -250,8 +250,8 @@ invariant_of-self c =
       searched = c.self.invariant.searched;
     }
 
-pub returns-in_err-look_last-clause-err : goal.returns-in_err-look_last-clause-err
-returns-in_err-look_last-clause-err c =
+pub returns-in_err-reason-clause-err : goal.returns-in_err-reason-clause-err
+returns-in_err-reason-clause-err c =
     let t = state_of c.self.inside in
     after_error c.from_residual.result (ap (λ bs. record t { boxes = bs }) c.look_last.ensures.areas ∙ c.self.view_is)
 
@@ -261,5 +261,5 @@ returns-in_err-split_last-in-Halved-clause-err c =
     let after = c.look_last.new.work in
     after_error c.from_residual-in_err-split_last-in-Halved.result
     (ap (λ bs. record t { boxes = bs })
-    (ap (λ (ps : List Part). areas_of after ps) c.in_err-split_last-in-Halved.ensures.err ∙ c.in_ok-look_last.ensures.areas)
+    (ap (λ (ps : List Part). areas_of after ps) c.in_err-split_last-in-Halved.ensures.err ∙ c.in_ok-reason.ensures.areas)
     ∙ c.self.view_is)
