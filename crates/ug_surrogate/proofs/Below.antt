@@ -91,3 +91,21 @@ pub bounds_are_below : BoundsAreBelow
 bounds_are_below p area m f are least x inside feasible =
     up_at_most f (value_of p.objective x) m.d are.some
     (at_most_trans f (weighted_at p m x) _ (least.bound x inside) (weighted_below p m x are feasible))
+
+-- a quotient that is rounded down, times the divisor, is at most the number
+pub floor_below : (n : ℤ) (d : ℕ) → 0 < d → (pos d *ℤ int_div_euclid n (pos d)) ≤ℤ n
+floor_below (pos n) d some = let e : d * (n / d) + n % d ≡ n = omega arith in omega (arith, ints)
+floor_below (negsuc n) d some =
+    let e : d * (n / d) + n % d ≡ n = omega arith in
+    let k : n % d < d = omega arith in
+    omega (arith, ints)
+
+-- and one that is rounded up, times the divisor, at least
+pub up_above : (f : ℤ) (d : ℕ) → 0 < d → f ≤ℤ (pos d *ℤ rounded_up f d)
+up_above f d some =
+    omega (
+      arith,
+      ints,
+      mul_neg_right (pos d) (int_div_euclid (neg_ℤ f) (pos d)),
+      floor_below (neg_ℤ f) d some,
+    )

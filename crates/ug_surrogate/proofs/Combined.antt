@@ -57,7 +57,7 @@ nothing_below p m = record {
   sum = λ x. refl;
 }
 
--- a column without a factor adds nothing
+-- a column without a coefficient adds nothing
 pub without_factor : (p : Instance) (m : Multipliers) (n : ℕ) (terms : List Term) → AreColumnsBelow p m n terms
     → factor_of n (parts_of p m) ≡ pos 0 → AreColumnsBelow p m (n + 1) terms
 without_factor p m n terms are e = record {
@@ -104,7 +104,7 @@ pushed_rising n ts t are e i k less lt =
           (omega (arith, are.within i first, e))
     ])
 
--- a column with a factor adds a term
+-- a column with a coefficient adds a term
 pub with_factor : (p : Instance) (m : Multipliers) (n : ℕ) (f : ℤ) (terms : List Term) → AreColumnsBelow p m n terms
     → f ≡ factor_of n (parts_of p m) → f ≢ pos 0 → unsigned_abs f ≤ 10 ^ 24
     → AreColumnsBelow p m (n + 1) (terms ++ record { column = n; factor = f } ∷ [])
@@ -140,7 +140,7 @@ is_implied p m cutoff high terms problem are below e small = record {
 less_one : (v c : ℤ) → v <ℤ c → v ≤ℤ (c -ℤ pos 1)
 less_one v c h = omega (arith, ints, h)
 
--- a good point keeps to it
+-- a good point satisfies it
 pub implied_is_kept : ImpliedIsKept
 implied_is_kept p m cutoff row are implied x good =
     (implied.keeps x).1 (omega (

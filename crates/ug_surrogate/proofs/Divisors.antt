@@ -1,5 +1,5 @@
 -- The sums of a row over a box differ by multiples of a common divisor of the open columns.
-use Rattle.std.proofs.Common.{◌≡◌, ◌≢◌, ◌⊎◌, ◌∙◌, sym, ap, subst, inl, inr, ℕ, suc, ◌+◌, ◌*◌, ◌/◌, ◌%◌, ◌<◌, ℤ, pos, negsuc, ◌+ℤ◌, ◌-ℤ◌, ◌*ℤ◌, neg_ℤ, ◌≤ℤ◌, ◌<ℤ◌, false, List, [], ◌∷◌, length, unsigned_abs, Option, Some, None, IfSome, option_map, int_lt, arith}
+use Rattle.std.proofs.Common.{◌≡◌, ◌≢◌, ◌⊎◌, ◌∙◌, sym, ap, subst, inl, inr, ℕ, suc, ◌+◌, ◌*◌, ◌/◌, ◌%◌, ◌<◌, ℤ, pos, negsuc, ◌+ℤ◌, ◌-ℤ◌, ◌*ℤ◌, neg_ℤ, ◌≤ℤ◌, ◌<ℤ◌, false, true, List, [], ◌∷◌, length, unsigned_abs, Option, Some, None, IfSome, option_map, int_lt, arith}
 use Rattle.std.proofs.lemmas.Int.{ints, by_lt_z}
 use Rattle.std.proofs.lemmas.Bool.{cases_eq, cases_lt, lt-ltb, le-ltb}
 use Rattle.std.proofs.lemmas.Nat.Gcd.{dvd_trans, dvd-zero, mod-eq-zero_of_dvd, dvd_refl}
@@ -13,12 +13,12 @@ use Rattle.ug_rows.specs.Boxes.{IsInside, IsWithin, interval_at, value_at}
 use Rattle.ug_rows.specs.Rows.{sum_at, term_at}
 use Rattle.ug_rows.specs.Sums.{end_of, least_sum}
 use Rattle.ug_rows.proofs.EndBounds.{AreThere, mul_pos}
-use Rattle.ug_surrogate.specs.Rounding.{IsCommonDivisor, IsDivisorOf, IsOpen, KeepsNarrowed, LosesNone, down_to_step, rounded_by, sides_or_empty, up_to_step}
+use Rattle.ug_surrogate.specs.Rounding.{IsCommonDivisor, IsDivisorOf, IsNarrower, IsOpen, KeepsNarrowed, KeepsSides, LosesNone, down_to_step, rounded_by, sides_or_empty, up_to_step}
 use Rattle.ug_surrogate.specs.Weights.{rounded_up}
-use Rattle.ug_surrogate.proofs.Below.{floor_greatest, up_at_most}
+use Rattle.ug_surrogate.proofs.Below.{floor_below, floor_greatest, up_above, up_at_most}
 use Rattle.ug_surrogate.proofs.Ring.{mul_add, mul_assoc, mul_less, mul_neg_right}
 
--- where there is no term, all divides 0
+-- if there is no term, all divides 0
 pub with_none : (terms : List Term) (area : List Interval) → IsDivisorOf terms area 0 0
 with_none terms area d = (λ _ k lt. absurd (omega arith), λ _. dvd-zero d)
 
@@ -155,7 +155,7 @@ sides_kept (Some low) (Some high) sum l h = by_lt_z high low
     not_less : (a b : ℤ) → a ≤ℤ b → int_lt b a ≡ false
     not_less a b h = grind (arith, ints)
 
--- the sides that are left keep each point of the box that keeps to the row
+-- the sides that are left keep each point of the box that satisfies the row
 pub none_lost : (row : Row) (area : List Interval) (g : ℕ) → AreThere (length area) row.terms → IsCommonDivisor row.terms area g
     → LosesNone row area (rounded_by g row area)
 none_lost row area g there divisor x inside keeps = elim (cases_lt g 2) [
@@ -165,4 +165,42 @@ none_lost row area g there divisor x inside keeps = elim (cases_lt g 2) [
       sides_kept _ _ (sum_at row.terms x)
       (low_kept g (least_sum row.terms area) (sum_at row.terms x) row.low (omega (arith, more)) steps keeps.low)
       (high_kept g (least_sum row.terms area) (sum_at row.terms x) row.high (omega (arith, more)) steps keeps.high))
+]
+
+-- sides moved to steps are inside the row's own
+low_raised : (g : ℕ) (base sum : ℤ) (low : Option ℤ) → 0 < g
+    → IfSome (option_map (up_to_step g base) low) (λ l. l ≤ℤ sum) → IfSome low (λ l. l ≤ℤ sum)
+low_raised g base sum None some h = tt
+low_raised g base sum (Some low) some h = omega (arith, ints, h, up_above (low -ℤ base) g some)
+
+high_lowered : (g : ℕ) (base sum : ℤ) (high : Option ℤ) → 0 < g
+    → IfSome (option_map (down_to_step g base) high) (λ h. sum ≤ℤ h) → IfSome high (λ h. sum ≤ℤ h)
+high_lowered g base sum None some h = tt
+high_lowered g base sum (Some high) some h =
+    omega (arith, ints, h, floor_below (high -ℤ base) g some)
+
+kept_sides : (low high : Option ℤ) (sum : ℤ) → KeepsNarrowed (sides_or_empty low high) sum
+    → KeepsSides (record { low = low; high = high }) sum
+kept_sides None high sum h = record { low = h.low; high = h.high }
+kept_sides (Some low) None sum h = record { low = h.low; high = h.high }
+kept_sides (Some low) (Some high) sum h = by_lt_z high low
+    (λ less. absurd (rw (is_less high low less) at h))
+    (λ more. let k = rw (not_less low high more) at h in record { low = k.low; high = k.high })
+  where
+    is_less : (a b : ℤ) → a <ℤ b → int_lt a b ≡ true
+    is_less a b h = grind (arith, ints)
+
+    not_less : (a b : ℤ) → a ≤ℤ b → int_lt b a ≡ false
+    not_less a b h = grind (arith, ints)
+
+pub is_narrower : (row : Row) (area : List Interval) (g : ℕ)
+    → IsNarrower row (rounded_by g row area)
+is_narrower row area g sum h = elim (cases_lt g 2) [
+  | inl less ↦ let k = rw (lt-ltb g 2 less) at h in record { low = k.low; high = k.high }
+  | inr more ↦
+      let k = kept_sides _ _ sum (rw (le-ltb g 2 more) at h) in
+      record {
+        low = low_raised g (least_sum row.terms area) sum row.low (omega (arith, more)) k.low;
+        high = high_lowered g (least_sum row.terms area) sum row.high (omega (arith, more)) k.high;
+      }
 ]

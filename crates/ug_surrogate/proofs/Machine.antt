@@ -39,7 +39,7 @@ pub word_difference : (a b left right difference : ℤ) → left ≡ a → right
     → to_z w128 (of_z w128 difference) ≡ a -ℤ b
 word_difference a b left right difference p q e fits = to_z-of_z w128 difference fits ∙ e ∙ rw (p, q) refl
 
--- a total and a weighted factor are small
+-- a total and a weighted coefficient are small
 pub weighted_sum : (t w f : ℤ) → unsigned_abs t ≤ 9 * 10 ^ 37 → unsigned_abs w ≤ 2 ^ 33 → unsigned_abs f ≤ 10 ^ 24
     → unsigned_abs (t +ℤ (w *ℤ f)) ≤ unsigned_abs t + 10 ^ 24 * 2 ^ 33
 weighted_sum t w f small h k = omega (arith, abs_add t (w *ℤ f), unsigned_abs-mul w f, weighted_size w f h k)

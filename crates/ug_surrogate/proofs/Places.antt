@@ -52,7 +52,7 @@ there_none r k = rw (le-ltb k 0 (omega arith)) refl
 rest_rises : (u : Multiplier) (us : List Multiplier) → AreRising (u ∷ us) → AreRising us
 rest_rises u us rise i k less lt = rise (suc i) (suc k) (omega arith) (omega arith)
 
--- where the first is of row r or a later one, two at most are of it
+-- if the first is of row r or a later one, two at most are of it
 first_two : (r : ℕ) (us : List Multiplier) → AreRising us → ((k : ℕ) → k < length us → r ≤ (multiplier_at us k).row)
     → weight_on r us ≡ weight_there r us 0 +ℤ weight_there r us 1
 first_two r [] rise behind = omega (arith, ints, there_none r 0, there_none r 1)

@@ -1,4 +1,4 @@
--- The factor of a column in the weighted sum is the sum over where the column stands.
+-- The coefficient of a column in the weighted sum is the sum over where the column stands.
 use Rattle.std.proofs.Common.{◌≡◌, ◌≢◌, ◌∙◌, refl, sym, ap, subst, inl, inr, ℕ, zero, suc, ◌+◌, ◌^◌, ◌<◌, ◌≤◌, ◌⊎◌, ℤ, pos, ◌+ℤ◌, ◌*ℤ◌, List, [], ◌∷◌, ◌++◌, length, take, get_or, unsigned_abs, nat_eq, if◌then◌else◌, eq-eqb, ne_eqb, arith}
 use Rattle.std.proofs.lemmas.Int.{ints}
 use Rattle.std.proofs.lemmas.Bool.{cases_eq}
@@ -29,7 +29,7 @@ pub weighed_more : (rows : ℕ) (m : Multipliers) (ss : List Standing) (i : ℕ)
     → weighed rows m (take (i + 1) ss) ≡ weighed rows m (take i ss) +ℤ (weight_in rows m (standing_at ss i).row *ℤ (standing_at ss i).factor)
 weighed_more rows m ss i h = rw (take_more ss i no_standing h) (weighed_push rows m (take i ss) (standing_at ss i))
 
--- the factor of a standing where it is in row r
+-- the coefficient of a standing where it is in row r
 abbrev pub standing_if : ℕ → Standing → ℤ
 standing_if r s = if nat_eq s.row r then s.factor else pos 0
 
@@ -37,7 +37,7 @@ abbrev pub row_factor : ℕ → List Standing → ℤ
 row_factor r [] = pos 0
 row_factor r (s ∷ ss) = standing_if r s +ℤ row_factor r ss
 
--- the signed weights, each times a factor of its row
+-- the signed weights, each times a coefficient of its row
 abbrev pub over_rows : (ℕ → ℤ) → List Multiplier → ℤ
 over_rows f [] = pos 0
 over_rows f (u ∷ us) = (signed_weight u *ℤ f u.row) +ℤ over_rows f us
@@ -64,7 +64,7 @@ over_same f g [] h = refl
 over_same f g (u ∷ us) h =
     omega (arith, ints, ap (λ (z : ℤ). signed_weight u *ℤ z) (h 0 (omega arith)), over_same f g us (λ k lt. h (suc k) (omega arith)))
 
--- a standing's factor times the weights of its row
+-- a standing's coefficient times the weights of its row
 weight_times : (u : Multiplier) (s : Standing) → weight_if s.row u *ℤ s.factor ≡ signed_weight u *ℤ standing_if u.row s
 weight_times u s = elim (cases_eq u.row s.row) [
   | inl same ↦ rw (eq-eqb u.row s.row same, eq-eqb s.row u.row (sym same)) refl
@@ -119,7 +119,7 @@ free_among c [] t free among = absurd among
 free_among c (u ∷ ts) t free (inl same) = λ e. free.0 (ap (λ (v : Term). v.column) (sym same) ∙ e)
 free_among c (u ∷ ts) t free (inr later) = free_among c ts t free.1 later
 
--- the factor of a column is that of its one term
+-- the coefficient of a column is that of its one term
 factor_among : (ts : List Term) (t : Term) → AreApart ts → IsAmong t ts → factor_in t.column ts ≡ t.factor
 factor_among [] t apart among = absurd among
 factor_among (u ∷ ts) t apart (inl same) =
@@ -173,7 +173,7 @@ found_or_not r (s ∷ ss) = elim (cases_eq s.row r) [
   ]
 ]
 
--- the factor in the standings is that in the row's terms
+-- the coefficient in the standings is that in the row's terms
 row_is : (p : Instance) (j r : ℕ) (ss : List Standing) → AreStandings p j ss → AreApart (terms_of p r)
     → row_factor r ss ≡ factor_in j (terms_of p r)
 row_is p j r ss are apart = elim (found_or_not r ss) [
@@ -218,7 +218,7 @@ parts_over : (p : Instance) (j : ℕ) (us : List Multiplier)
 parts_over p j [] = refl
 parts_over p j (u ∷ us) = omega (arith, ints, parts_over p j us)
 
--- the factor of a column in the weighted sum
+-- the coefficient of a column in the weighted sum
 pub weighed_is : (p : Instance) (m : Multipliers) (j : ℕ) (ss : List Standing) → IsProblem p → AreMultipliers p m → AreStandings p j ss
     → weighed (length p.rows) m ss ≡ factor_of j (parts_of p m)
 weighed_is p m j ss problem are stand =

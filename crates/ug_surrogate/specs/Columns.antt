@@ -1,5 +1,5 @@
 -- The weighted sum column by column: the objective and the rows of the multipliers are parts of it,
--- each column has one factor in it, and its least over a box is at an end of each column.
+-- each column has one coefficient in it, and its least over a box is at an end of each column.
 use Rattle.std.specs.Prelude.{ℕ, zero, suc, ℤ, pos, ◌+◌, ◌*◌, ◌^◌, ◌<◌, ◌≤◌, ◌+ℤ◌, ◌-ℤ◌, ◌*ℤ◌, neg_ℤ}
 use Rattle.std.specs.Prelude.{List, [], ◌∷◌, length, nat_eq, nat_lt, if◌then◌else◌, unsigned_abs}
 use Rattle.ug_rows.specs.declared.area.Interval.{Interval}
@@ -42,21 +42,21 @@ parts_under p (u ∷ us) = part_of p u ∷ parts_under p us
 abbrev pub parts_of : Instance → Multipliers → List WeightedTerms
 parts_of p m = record { weight = pos m.d; terms = p.objective.terms } ∷ parts_under p m.list
 
--- the factor of a term where it is of column j
+-- the coefficient of a term where it is of column j
 abbrev pub factor_at : ℕ → Term → ℤ
 factor_at j t = if nat_eq t.column j then t.factor else pos 0
 
--- the factor of column j in the terms
+-- the coefficient of column j in the terms
 abbrev pub factor_in : ℕ → List Term → ℤ
 factor_in j [] = pos 0
 factor_in j (t ∷ terms) = factor_at j t +ℤ factor_in j terms
 
--- the factor of column j in the weighted sum
+-- the coefficient of column j in the weighted sum
 abbrev pub factor_of : ℕ → List WeightedTerms → ℤ
 factor_of j [] = pos 0
 factor_of j (part ∷ parts) = (part.weight *ℤ factor_in j part.terms) +ℤ factor_of j parts
 
--- the least product of a factor over an interval
+-- the least product of a coefficient over an interval
 abbrev pub least_product : ℤ → Interval → ℤ
 least_product f side = f *ℤ end_of Least f side
 
@@ -104,16 +104,16 @@ pub record IsRowPlace (list : List Multiplier) (row at : ℕ) : Type 0 where
   pub ahead : (k : ℕ) → k < at → (multiplier_at list k).row < row
   pub behind : (k : ℕ) → at ≤ k → k < length list → row ≤ (multiplier_at list k).row
 
--- the weight of row r, which behind the last of so many rows is the objective's
+-- the weight of row r, which behind the last of this many rows is the objective's
 abbrev pub weight_in : ℕ → Multipliers → ℕ → ℤ
 weight_in rows m r = if nat_eq r rows then pos m.d else weight_on r m.list
 
--- the factors of a column where it stands, each times the weight of its row
+-- the coefficients of a column where it stands, each times the weight of its row
 abbrev pub weighed : ℕ → Multipliers → List Standing → ℤ
 weighed rows m [] = pos 0
 weighed rows m (s ∷ ss) = (weight_in rows m s.row *ℤ s.factor) +ℤ weighed rows m ss
 
--- few standings with small factors
+-- few standings with small coefficients
 pub record AreFew (standings : List Standing) : Type 0 where
   pub count : length standings ≤ 10 ^ 4 + 1
   pub small : (k : ℕ) → k < length standings

@@ -15,7 +15,8 @@ use Rattle.ug_surrogate.specs.Weights.{multiplier_at, side_under}
 abbrev pub reach_of : Interval → ℕ
 reach_of side = max (unsigned_abs side.low) (unsigned_abs side.high)
 
--- the magnitude of the terms over the box: each factor's absolute value times its column's reach
+-- the magnitude of the terms over the box: each coefficient's absolute value times its column's
+-- reach
 abbrev pub magnitude : List Term → List Interval → ℕ
 magnitude [] area = 0
 magnitude (t ∷ terms) area =

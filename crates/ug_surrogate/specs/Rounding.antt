@@ -18,16 +18,16 @@ use Rattle.ug_surrogate.specs.Weights.{rounded_up}
 abbrev pub IsOpen : Interval → Type 0
 IsOpen side = side.low ≢ side.high
 
--- d divides the factors of those of the first n terms whose columns are open
+-- d divides the coefficients of those of the first n terms whose columns are open
 abbrev pub DividesOpen : List Term → List Interval → ℕ → ℕ → Type 0
 DividesOpen terms area n d = (k : ℕ) → k < n
     → IsOpen (interval_at area (term_at terms k).column) → d ∣ unsigned_abs (term_at terms k).factor
 
--- what divides g is exactly what divides each of those factors
+-- what divides g is exactly what divides each of those coefficients
 abbrev pub IsDivisorOf : List Term → List Interval → ℕ → ℕ → Type 0
 IsDivisorOf terms area n g = (d : ℕ) → (d ∣ g) ↔ DividesOpen terms area n d
 
--- g is the greatest common divisor of the factors of the open columns, 0 where none is open
+-- g is the greatest common divisor of the coefficients of the open columns, 0 where none is open
 abbrev pub IsCommonDivisor : List Term → List Interval → ℕ → Type 0
 IsCommonDivisor terms area g = IsDivisorOf terms area (length terms) g
 
@@ -39,7 +39,7 @@ up_to_step g base low = base +ℤ (pos g *ℤ rounded_up (low -ℤ base) g)
 abbrev pub down_to_step : ℕ → ℤ → ℤ → ℤ
 down_to_step g base high = base +ℤ (pos g *ℤ int_div_euclid (high -ℤ base) (pos g))
 
--- these sides, if a sum can keep to both
+-- these sides, if a sum can satisfy both
 abbrev pub sides_or_empty : Option ℤ → Option ℤ → Narrowed
 sides_or_empty None high = To (record { low = None; high = high })
 sides_or_empty (Some low) None = To (record { low = Some low; high = None })
@@ -53,7 +53,7 @@ rounded_by g row area =
     else sides_or_empty (option_map (up_to_step g (least_sum row.terms area)) row.low)
     (option_map (down_to_step g (least_sum row.terms area)) row.high)
 
--- a sum keeps to what is left of the sides
+-- a sum satisfies what is left of the sides
 pub record KeepsSides (sides : Sides) (sum : ℤ) : Type 0 where
   pub low : IfSome sides.low (λ low. low ≤ℤ sum)
   pub high : IfSome sides.high (λ high. sum ≤ℤ high)
@@ -62,10 +62,15 @@ abbrev pub KeepsNarrowed : Narrowed → ℤ → Type 0
 KeepsNarrowed (To sides) sum = KeepsSides sides sum
 KeepsNarrowed Empty sum = ⊥
 
--- each point of the box that keeps to the row keeps to what is left of its sides
+-- each point of the box that satisfies the row satisfies what is left of its sides
 abbrev pub LosesNone : Row → List Interval → Narrowed → Type 0
 LosesNone row area rounded = (x : List ℤ) → IsInside area x → Keeps row x
     → KeepsNarrowed rounded (sum_at row.terms x)
+
+-- a sum that satisfies the sides that are left satisfies the row's own
+abbrev pub IsNarrower : Row → Narrowed → Type 0
+IsNarrower row left = (sum : ℤ) → KeepsNarrowed left sum
+    → KeepsSides (record { low = row.low; high = row.high }) sum
 
 -- both sides are at most 3 * 10^37
 pub record HasSmallSides (row : Row) : Type 0 where

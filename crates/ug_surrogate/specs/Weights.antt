@@ -59,7 +59,7 @@ pub record AreMultipliers (p : Instance) (m : Multipliers) : Type 0 where
   pub rising : AreRising m.list
   pub sides : (k : ℕ) → k < length m.list → HasSide p (multiplier_at m.list k)
 
--- by how much a sum misses a side of a row; below 0 where it keeps to it with some left
+-- by how much a sum misses a side of a row; below 0 where it satisfies it with some left
 abbrev pub excess_over : Side → ℤ → ℤ → ℤ
 excess_over Low side sum = side -ℤ sum
 excess_over High side sum = sum -ℤ side

@@ -65,7 +65,7 @@ fn weight_at(rows: usize, m: &Multipliers, row: u32) -> i64
     }
 }
 
-// A total and one weighted factor more.
+// A total and one weighted coefficient more.
 fn add_weighted(total: i128, weight: i64, factor: i128) -> i128
     requires total { unsigned_abs total ≤ 9 * 10 ^ 37 }
     requires weight { unsigned_abs weight ≤ 2 ^ 33 }
@@ -76,7 +76,7 @@ fn add_weighted(total: i128, weight: i64, factor: i128) -> i128
     plus(total, times(i128::from(weight), factor))
 }
 
-// The factors of a column where it stands, each times the weight of its row.
+// The coefficients of a column where it stands, each times the weight of its row.
 fn weigh(rows: usize, m: &Multipliers, standings: &[Standing]) -> i128
     requires multipliers { AreRising m.now.list }
     requires standings { AreFew standings.now }
@@ -90,7 +90,7 @@ fn weigh(rows: usize, m: &Multipliers, standings: &[Standing]) -> i128
     total
 }
 
-/// The factor of a column in the weighted sum. It takes no memory.
+/// The coefficient of a column in the weighted sum. It takes no memory.
 #[tactic(auto, using(crate::proofs::Stands::weighed_is, crate::proofs::Stands::few_standings))]
 pub fn factor(problem: &Problem, m: &Multipliers, column: usize) -> i128
     requires multipliers { AreMultipliers problem.now m.now }

@@ -1,18 +1,17 @@
 //! A problem with more rows, which follow from its own, from a box and from a cutoff.
 
-ghost use Rattle.std.specs.Prelude.{◌≡◌, ◌<◌, ◌≤◌, ◌^◌, ◌*◌, ◌++◌, ◌∷◌, [], negsuc, All, None, Some, length, unsigned_abs, IfOk, IfSome, OnOk};
+ghost use Rattle.std.specs.Prelude.{◌≡◌, ◌≤◌, ◌^◌, ◌*◌, All, None, Some, length, unsigned_abs, IfOk, IfSome, OnOk};
 ghost use Rattle.ug_problem.specs.Better.{IsSmallCutoff};
-ghost use Rattle.ug_problem.specs.Instances.{IsName, IsRow, row_at};
+ghost use Rattle.ug_problem.specs.Instances.{IsName, IsRow};
 ghost use Rattle.ug_problem.specs.Limits.{IsProblem};
-ghost use Rattle.ug_surrogate.specs.Rounding.{LosesNone};
-ghost use Rattle.ug_surrogate.specs.Stronger.{AreMoreRows, Follows, IsAtMost, IsCutoffOver, IsFurtherSum, IsPushed};
+ghost use Rattle.ug_surrogate.specs.Stronger.{Follows, IsAtMost, IsCutoffOver, IsFurtherSum, IsPushed, StandFor};
 
 use crate::implying::{ImpliedError, implied};
+use crate::in_place::tighten_all;
 use crate::multipliers::{Multipliers, are_of};
-use crate::rounding::{Narrowed, Sides, rounded};
 use std::alloc::{AllocError, Global};
 use ug_lists::{Items, Text};
-use ug_problem::{Column, Columns, NamedRow, Problem, ProblemError};
+use ug_problem::{Column, Columns, MOST_ROWS, MOST_TERMS, NamedRow, Problem, ProblemError};
 use ug_rows::{Extreme, IntBox, Row, sum_of_ends};
 
 // The greatest cutoff.
@@ -73,7 +72,7 @@ fn over_all(problem: &Problem, area: &IntBox) -> Option<i128>
     }
 }
 
-// A cutoff over the values of all good points of a box: where there is none, one more than the
+// A cutoff over the values of all good points of a box: if there is none, one more than the
 // greatest value.
 #[tactic(auto, using(crate::proofs::Follows::over_itself))]
 fn cutoff_over(problem: &Problem, area: &IntBox, cutoff: Option<i128>) -> Option<i128>
@@ -88,78 +87,6 @@ fn cutoff_over(problem: &Problem, area: &IntBox, cutoff: Option<i128>) -> Option
     }
 }
 
-// What rounding leaves of the sides of row r over a box.
-#[tactic(auto, using(crate::proofs::Follows::linear_at, crate::proofs::Follows::sides_small))]
-fn rounded_at(problem: &Problem, area: &IntBox, r: usize) -> Narrowed
-    requires there { r < length problem.now.rows }
-    requires width { length area.now ≡ length problem.now.columns }
-    ensures kept { LosesNone (row_at problem.now r) area.now result }
-    ensures problem { IsProblem problem.now }
-{
-    let rows = problem.rows();
-    rounded(&rows[r].row, area)
-}
-
-// Whether these are the sides of row r.
-fn are_sides_of(problem: &Problem, r: usize, sides: Sides) -> bool
-    requires { r < length problem.now.rows }
-{
-    let row = &problem.rows()[r].row;
-    sides.low == row.low && sides.high == row.high
-}
-
-// Row r with these sides.
-fn row_with(problem: &Problem, r: usize, sides: Sides) -> Result<Row, AllocError>
-    requires { r < length problem.now.rows }
-    ensures { IfOk result (λ row. row ≡ record {
-      terms = (row_at problem.now r).terms;
-      low = sides.low;
-      high = sides.high;
-    }) }
-{
-    let terms = problem.rows()[r].row.terms.clone()?;
-    Ok(Row {
-        terms,
-        low: sides.low,
-        high: sides.high,
-    })
-}
-
-// A row that no point keeps to.
-fn no_row(alloc: Global) -> Row
-    ensures { result ≡ record { terms = []; low = None; high = Some (negsuc 0) } }
-{
-    Row {
-        terms: Items::new(alloc),
-        low: None,
-        high: Some(-1),
-    }
-}
-
-// Row r with the sides that rounding leaves over a box, if it moves them; one that no point keeps
-// to where it leaves none.
-fn rounded_row(
-    alloc: Global,
-    problem: &Problem,
-    area: &IntBox,
-    r: usize,
-) -> Result<Option<Row>, AllocError>
-    requires there { r < length problem.now.rows }
-    requires width { length area.now ≡ length problem.now.columns }
-    ensures { IfOk result (λ row. IfSome row (IsFurtherSum problem.now area.now None)) }
-{
-    match rounded_at(problem, area, r) {
-        Narrowed::To(sides) => {
-            if are_sides_of(problem, r, sides) {
-                return Ok(None);
-            }
-            let row = row_with(problem, r, sides)?;
-            Ok(Some(row))
-        }
-        Narrowed::Empty => Ok(Some(no_row(alloc))),
-    }
-}
-
 // Puts a row behind the others.
 fn push(alloc: Global, rows: &mut Vec<NamedRow>, row: Row) -> Result<(), AllocError>
     ensures { OnOk result (IsPushed row rows.old.items rows.new.items) }
@@ -169,45 +96,42 @@ fn push(alloc: Global, rows: &mut Vec<NamedRow>, row: Row) -> Result<(), AllocEr
     Ok(())
 }
 
-// Puts row r, rounded, behind the others.
+// Whether one more row is within the limits of a problem.
+fn is_room(problem: &Problem, rows: &[NamedRow], row: &Row) -> bool {
+    let mut terms = problem.objective().terms.len();
+    terms = terms.saturating_add(row.terms.len());
+    for named in rows {
+        terms = terms.saturating_add(named.row.terms.len());
+    }
+    rows.len() < MOST_ROWS && terms <= MOST_TERMS
+}
+
+// The row that multipliers imply under a cutoff, if they are the problem's and it is within the
+// limits.
+#[tactic(auto, using(crate::proofs::Follows::implied_follows))]
+fn implied_row(
+    alloc: Global,
+    problem: &Problem,
+    area: &IntBox,
+    cutoff: i128,
+    m: &Multipliers,
+) -> Result<Option<Row>, AllocError>
+    requires cutoff { unsigned_abs cutoff ≤ 2 * 10 ^ 37 }
+    ensures { IfOk result (λ row. IfSome row (IsFurtherSum problem.now area.now (Some cutoff))) }
+{
+    if !are_of(problem, m) {
+        return Ok(None);
+    }
+    match implied(alloc, problem, m, cutoff) {
+        Ok(row) => Ok(Some(row)),
+        Err(ImpliedError::Memory) => Err(AllocError),
+        Err(_) => Ok(None),
+    }
+}
+
+// Puts the row that multipliers imply behind the others, if there is one and it is within the
+// limits of a problem.
 #[tactic(auto, using(crate::proofs::Follows::more_pushed))]
-fn push_rounded(
-    alloc: Global,
-    rows: &mut Vec<NamedRow>,
-    problem: &Problem,
-    area: &IntBox,
-    r: usize,
-) -> Result<(), AllocError>
-    requires there { r < length problem.now.rows }
-    requires width { length area.now ≡ length problem.now.columns }
-    requires so_far { AreMoreRows problem.now area.now None rows.old.items }
-    ensures { OnOk result (AreMoreRows problem.now area.now None rows.new.items) }
-{
-    match rounded_row(alloc, problem, area, r)? {
-        Some(row) => push(alloc, rows, row),
-        None => Ok(()),
-    }
-}
-
-// Puts those rows behind the others that rounding moves over the box.
-fn push_all_rounded(
-    alloc: Global,
-    rows: &mut Vec<NamedRow>,
-    problem: &Problem,
-    area: &IntBox,
-) -> Result<(), AllocError>
-    requires width { length area.now ≡ length problem.now.columns }
-    requires so_far { AreMoreRows problem.now area.now None rows.old.items }
-    ensures { OnOk result (AreMoreRows problem.now area.now None rows.new.items) }
-{
-    for r in 0..problem.rows().len() {
-        push_rounded(alloc, rows, problem, area, r)?;
-    }
-    Ok(())
-}
-
-// Puts the row that multipliers imply behind the others, if there is one.
-#[tactic(auto, using(crate::proofs::Follows::more_pushed, crate::proofs::Follows::implied_follows))]
 fn push_implied(
     alloc: Global,
     rows: &mut Vec<NamedRow>,
@@ -217,16 +141,17 @@ fn push_implied(
     m: &Multipliers,
 ) -> Result<(), AllocError>
     requires cutoff { unsigned_abs cutoff ≤ 2 * 10 ^ 37 }
-    requires so_far { AreMoreRows problem.now area.now (Some cutoff) rows.old.items }
-    ensures { OnOk result (AreMoreRows problem.now area.now (Some cutoff) rows.new.items) }
+    requires stand { StandFor problem.now area.now (Some cutoff) rows.old.items }
+    ensures { OnOk result (StandFor problem.now area.now (Some cutoff) rows.new.items) }
 {
-    if !are_of(problem, m) {
+    let Some(row) = implied_row(alloc, problem, area, cutoff, m)? else {
         return Ok(());
-    }
-    match implied(alloc, problem, m, cutoff) {
-        Ok(row) => push(alloc, rows, row),
-        Err(ImpliedError::Memory) => Err(AllocError),
-        Err(_) => Ok(()),
+    };
+    if is_room(problem, rows.as_slice(), &row) {
+        push(alloc, rows, row)
+    } else {
+        drop(row);
+        Ok(())
     }
 }
 
@@ -240,8 +165,8 @@ fn push_all_implied(
     lists: &[Multipliers],
 ) -> Result<(), AllocError>
     requires cutoff { unsigned_abs cutoff ≤ 2 * 10 ^ 37 }
-    requires so_far { AreMoreRows problem.now area.now (Some cutoff) rows.old.items }
-    ensures { OnOk result (AreMoreRows problem.now area.now (Some cutoff) rows.new.items) }
+    requires stand { StandFor problem.now area.now (Some cutoff) rows.old.items }
+    ensures { OnOk result (StandFor problem.now area.now (Some cutoff) rows.new.items) }
 {
     for m in lists {
         push_implied(alloc, rows, problem, area, cutoff, m)?;
@@ -249,22 +174,25 @@ fn push_all_implied(
     Ok(())
 }
 
-// Puts the rows behind the others that follow from the box and the cutoff.
-fn push_all(
+// Rounds the sides of the rows, and puts those behind them that the lists imply under the cutoff.
+// Returns whether anything changed.
+fn strengthen(
     alloc: Global,
     rows: &mut Vec<NamedRow>,
     problem: &Problem,
     area: &IntBox,
     cutoff: i128,
     lists: &[Multipliers],
-) -> Result<(), AllocError>
+) -> Result<bool, AllocError>
     requires width { length area.now ≡ length problem.now.columns }
     requires cutoff { unsigned_abs cutoff ≤ 2 * 10 ^ 37 }
-    requires so_far { AreMoreRows problem.now area.now None rows.old.items }
-    ensures { OnOk result (AreMoreRows problem.now area.now (Some cutoff) rows.new.items) }
+    requires stand { StandFor problem.now area.now None rows.old.items }
+    ensures { IfOk result (λ _. StandFor problem.now area.now (Some cutoff) rows.new.items) }
 {
-    push_all_rounded(alloc, rows, problem, area)?;
-    push_all_implied(alloc, rows, problem, area, cutoff, lists)
+    let own = rows.len();
+    let is_tighter = tighten_all(alloc, rows, problem, area)?;
+    push_all_implied(alloc, rows, problem, area, cutoff, lists)?;
+    Ok(is_tighter || own < rows.len())
 }
 
 fn copied_columns(alloc: Global, columns: &[Column]) -> Result<Columns, AllocError>
@@ -281,22 +209,36 @@ fn copied_rows(alloc: Global, rows: &[NamedRow]) -> Result<Vec<NamedRow>, AllocE
     Ok(copies)
 }
 
-// All rows, and those that follow, if there are any.
-#[tactic(auto, using(crate::proofs::Follows::none_more))]
+// The problem's rows.
+#[tactic(auto, using(crate::proofs::Follows::own_stand))]
+fn own_rows(alloc: Global, problem: &Problem, area: &IntBox) -> Result<Vec<NamedRow>, AllocError>
+    ensures stand { IfOk result (λ rows. StandFor problem.now area.now None rows.items) }
+    ensures problem { IsProblem problem.now }
+{
+    copied_rows(alloc, problem.rows())
+}
+
+// The rows that stand for the problem's own, if they are others.
 fn all_rows(
     alloc: Global,
     problem: &Problem,
     area: &IntBox,
     cutoff: i128,
     lists: &[Multipliers],
-) -> Result<Vec<NamedRow>, AllocError>
+) -> Result<Option<Vec<NamedRow>>, AllocError>
     requires width { length area.now ≡ length problem.now.columns }
     requires cutoff { unsigned_abs cutoff ≤ 2 * 10 ^ 37 }
-    ensures { IfOk result (λ rows. AreMoreRows problem.now area.now (Some cutoff) rows.items) }
+    ensures rows { IfOk result (λ made. IfSome made (λ rows.
+        StandFor problem.now area.now (Some cutoff) rows.items)) }
+    ensures problem { IsProblem problem.now }
 {
-    let mut rows = copied_rows(alloc, problem.rows())?;
-    match push_all(alloc, &mut rows, problem, area, cutoff, lists) {
-        Ok(()) => Ok(rows),
+    let mut rows = own_rows(alloc, problem, area)?;
+    match strengthen(alloc, &mut rows, problem, area, cutoff, lists) {
+        Ok(true) => Ok(Some(rows)),
+        Ok(false) => {
+            drop(rows);
+            Ok(None)
+        }
         Err(error) => {
             drop(rows);
             Err(error)
@@ -336,10 +278,10 @@ fn with_rows(
     }
 }
 
-/// The problem with more rows, if any follow from these lists of multipliers, from what the box
-/// makes of its rows, and from the cutoff, and if that is within the limits of a problem. Without a
-/// cutoff one more than the greatest value in the box stands in its place.
-#[tactic(auto, using(crate::proofs::Follows::follows_over, crate::proofs::Follows::more_formed))]
+/// The problem with stronger rows, if there are any: the sides of its own rows rounded over the
+/// box, each in its place, and behind them the rows that these lists of multipliers imply under the
+/// cutoff, as far as the limits of a problem allow. Without a cutoff one more than the greatest
+/// value in the box is used.
 pub fn stronger(
     alloc: Global,
     problem: &Problem,
@@ -354,10 +296,8 @@ pub fn stronger(
     let Some(over) = cutoff_over(problem, area, cutoff) else {
         return Ok(None);
     };
-    let rows = all_rows(alloc, problem, area, over, lists)?;
-    if rows.len() == problem.rows().len() {
-        drop(rows);
-        return Ok(None);
+    match all_rows(alloc, problem, area, over, lists)? {
+        Some(rows) => with_rows(alloc, problem, rows),
+        None => Ok(None),
     }
-    with_rows(alloc, problem, rows)
 }

@@ -1,5 +1,5 @@
 //! Guesses of multipliers: subgradient steps in whole numbers. What comes out is a list of
-//! multipliers and no more; whether it bounds anything well is for `bound` to tell.
+//! multipliers and no more; whether it bounds anything well is for `bound` to report.
 
 ghost use Rattle.std.specs.Prelude.{◌≡◌, ℕ, ◌+◌, [], ◌∷◌, ◌++◌, length, IfOk, OnOk};
 ghost use Rattle.ug_surrogate.specs.Guesses.{AreOfRowsBelow};
@@ -13,28 +13,29 @@ use ug_problem::Problem;
 use ug_rows::{Extreme, IntBox, Interval, Row, Term, end_at};
 
 // The weight of the objective in a guess that begins with nothing: weights of rows are counted in
-// so many parts of one.
+// this many parts of one.
 const PARTS: u32 = 4_096;
 
 // How many steps in a row a guess makes that bring nothing, before it ends.
 const PATIENCE: u32 = 24;
 
-// Misses of rows are counted in so many parts of one.
+// Misses of rows are counted in this many parts of one.
 const MISSES: u32 = 65_536;
 
-// So many digits behind the point has the ratio of a step to the greatest miss.
+// This many digits behind the point has the ratio of a step to the greatest miss.
 const RATIO: u32 = 32;
 
 // The greatest weight.
 const MOST: i64 = 4_294_967_295;
 
-// How often the step is halved.
+// How often the step is branched on.
 const HALVES: u32 = 16;
 
 // What a guess works on: the weights of the rows, above 0 for a high side and below 0 for a low
-// one, the factors of the columns under them, a point at which the weighted sum is least, by how
-// much each row misses its side there, and the logarithm of the greatest factor of each row, in
-// which misses count. Sums and products wrap: a wrong sum makes a poor list, as `bound` will tell.
+// one, the coefficients of the columns under them, a point at which the weighted sum is least, by
+// how much each row misses its side there, and the logarithm of the greatest coefficient of each
+// row, in which misses count. Sums and products wrap: a wrong sum makes a poor list, as `bound`
+// will report.
 #[derive(Drop)]
 struct Guess {
     weights: Vec<i64>,
@@ -74,7 +75,7 @@ fn size_in(sizes: &[u32], r: usize) -> u32 {
     sizes.get(r).copied().unwrap_or(0)
 }
 
-// Adds weighted terms to the factors of their columns.
+// Adds weighted terms to the coefficients of their columns.
 fn add_terms(factors: &mut [i128], terms: &[Term], weight: i64) {
     for term in terms {
         let column = term.column as usize;
@@ -94,7 +95,7 @@ fn add_rows(factors: &mut [i128], problem: &Problem, weights: &[i64]) {
     }
 }
 
-// The factors of the columns under these weights.
+// The coefficients of the columns under these weights.
 fn weigh_columns(factors: &mut [i128], problem: &Problem, d: u32, weights: &[i64]) {
     for j in 0..factors.len() {
         factors[j] = 0;
@@ -173,7 +174,7 @@ fn sides_weighed(problem: &Problem, weights: &[i64]) -> i128 {
     sum
 }
 
-// The greatest absolute value of a factor, and 1 where there is none.
+// The greatest absolute value of a coefficient, and 1 where there is none.
 fn greatest(terms: &[Term]) -> i128 {
     let mut most = 1i128;
     for term in terms {
@@ -182,7 +183,7 @@ fn greatest(terms: &[Term]) -> i128 {
     most
 }
 
-// The whole part of the logarithm of the greatest factor.
+// The whole part of the logarithm of the greatest coefficient.
 fn size_of(terms: &[Term]) -> u32 {
     127u32.saturating_sub(greatest(terms).leading_zeros())
 }
@@ -228,7 +229,7 @@ fn allowed(row: &Row, weight: i64) -> i64 {
 }
 
 // How far the weight of a row goes that misses its side by so much, in weights of the row, which
-// are the lesser the greater its factors are.
+// are the smaller the larger its coefficients are.
 fn change(miss: i128, size: u32, ratio: i128) -> i64 {
     let by = miss
         .wrapping_mul(ratio)
@@ -269,7 +270,7 @@ fn begin(weights: &mut [i64], list: &[Multiplier]) {
     }
 }
 
-// The greatest factor of the objective, times its weight: how far a weight may have to go.
+// The greatest coefficient of the objective, times its weight: how far a weight may have to go.
 fn first_step(problem: &Problem, d: u32) -> i64 {
     let most = greatest(problem.objective().terms.as_slice());
     let step = most.saturating_mul(i128::from(d)).min(i128::from(MOST));
@@ -314,7 +315,7 @@ impl Guess {
         step_all(self.weights.as_mut_slice(), problem, misses, sizes, ratio);
     }
 
-    // So many steps at most, which are halved some times on the way. It ends where no row is
+    // This many steps at most, which are branched on some times on the way. It ends where no row is
     // missed, or where many steps in a row bring nothing.
     fn search(&mut self, problem: &Problem, area: &[Interval], d: u32, steps: u32) {
         size_all(self.sizes.as_mut_slice(), problem);
@@ -414,10 +415,10 @@ fn listed(alloc: Global, problem: &Problem, weights: &[i64]) -> Result<Vec<Multi
     Ok(list)
 }
 
-/// Guesses multipliers over a box: so many steps from these, each of which weighs the rows more
-/// that the point of the least weighted sum misses, and those less that it keeps to with some left.
-/// The steps become smaller, and fewer are made where they bring nothing. A step costs the pairs of
-/// the problem.
+/// Guesses multipliers over a box: this many steps from these, each of which weighs the rows more
+/// that the point of the least weighted sum misses, and those less that it satisfies with some
+/// left. The steps become smaller, and fewer are made where they bring nothing. A step costs the
+/// pairs of the problem.
 pub fn improved(
     alloc: Global,
     problem: &Problem,
@@ -439,7 +440,7 @@ pub fn improved(
     })
 }
 
-/// Guesses multipliers over a box from none, by so many steps.
+/// Guesses multipliers over a box from none, by this many steps.
 pub fn guessed(
     alloc: Global,
     problem: &Problem,

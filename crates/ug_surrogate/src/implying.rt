@@ -1,4 +1,4 @@
-//! The row that each feasible point with a value below a cutoff keeps to.
+//! The row that each feasible point with a value below a cutoff satisfies.
 
 ghost use Rattle.std.specs.Prelude.{◌≡◌, ◌≤◌, ◌<◌, ◌+◌, ◌*◌, ◌^◌, ◌-ℤ◌, ◌*ℤ◌, pos, length, unsigned_abs, [], ◌∷◌, ◌++◌, IsNone, IfSome, IfOk, OnOk, IfErr};
 ghost use Rattle.ug_problem.specs.Limits.{IsProblem};
@@ -22,7 +22,7 @@ pub enum ImpliedError {
     Memory,
     /// The weighted sum may be too large over the box of all bounds.
     TooBig(TooBig),
-    /// A factor or the side would be above the limits of a row.
+    /// A coefficient or the side would be above the limits of a row.
     TooWide,
 }
 
@@ -93,7 +93,7 @@ fn push_term(terms: &mut Vec<Term>, column: u32, factor: i128) -> Result<(), Imp
     Ok(())
 }
 
-// Adds the term of a column, if it has a factor.
+// Adds the term of a column, if it has a coefficient.
 #[tactic(auto, using(crate::proofs::Combined::without_factor, crate::proofs::Combined::with_factor))]
 fn push_column(
     terms: &mut Vec<Term>,
@@ -117,7 +117,7 @@ fn push_column(
     push_term(terms, column as u32, factor)
 }
 
-// The terms of all columns that have a factor.
+// The terms of all columns that have a coefficient.
 #[tactic(auto, using(crate::proofs::Combined::nothing_below))]
 fn terms_of(alloc: Global, problem: &Problem, m: &Multipliers) -> Result<Vec<Term>, ImpliedError>
     requires { AreMultipliers problem.now m.now }
@@ -132,14 +132,14 @@ fn terms_of(alloc: Global, problem: &Problem, m: &Multipliers) -> Result<Vec<Ter
     Ok(terms)
 }
 
-/// The row that each feasible point with a value below the cutoff keeps to: the weighted sum is at
+/// The row that each feasible point with a value below the cutoff satisfies: the weighted sum is at
 /// most the greatest value below the cutoff times the weight of the objective. Its one side, the
 /// high one, moves with the cutoff.
 ///
 /// # Errors
 ///
 /// `TooBig` where the weighted sum may pass 10^38 over the box of all bounds, and `TooWide` where a
-/// factor of the row or its side would be above the limits of a problem's rows.
+/// coefficient of the row or its side would be above the limits of a problem's rows.
 pub fn implied(
     alloc: Global,
     problem: &Problem,

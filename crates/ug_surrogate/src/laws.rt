@@ -8,7 +8,7 @@ pub fn bounds_are_below()
     ensures { BoundsAreBelow }
 {}
 
-/// Each feasible point with a value below a cutoff keeps to the row that multipliers imply under
+/// Each feasible point with a value below a cutoff satisfies the row that multipliers imply under
 /// it.
 pub fn implied_rows_keep_good_points()
     ensures { ImpliedIsKept }

@@ -13,7 +13,7 @@ use crate::multipliers::{Multipliers, TooBig};
 use ug_problem::Problem;
 use ug_rows::{Extreme, IntBox, Interval, end_at};
 
-// A total and a factor's least product over an interval more.
+// A total and a coefficient's least product over an interval more.
 fn add_least(total: i128, factor: i128, side: Interval) -> i128
     requires product { unsigned_abs (least_product factor side) ≤ 10 ^ 38 }
     requires sum { unsigned_abs (total +ℤ least_product factor side) ≤ 10 ^ 38 }

@@ -1,9 +1,9 @@
-//! Bounds by multipliers: the objective and weighted sides of rows, in one sum. It stands on
+//! Bounds by multipliers: the objective and weighted sides of rows, in one sum. It depends on
 //! ug_rows and ug_problem. `bound` is at most each feasible value of a box, whatever the weights:
 //! `guessed` ones need no proof. `implied` is the row that each feasible point with a value below a
-//! cutoff keeps to. `rounded` moves the sides of a row inwards to the sums that it can have over a
-//! box. `stronger` is the problem with such rows behind its own, which a search may keep to
-//! instead.
+//! cutoff satisfies. `rounded` moves the sides of a row inwards to the sums that it can have over a
+//! box. `stronger` is the problem with its rows so rounded and such rows behind them, which a
+//! search may use instead.
 #![tactic(auto)]
 
 mod columns;
@@ -11,6 +11,7 @@ mod exact;
 mod further;
 mod guessing;
 mod implying;
+mod in_place;
 mod laws;
 mod least;
 mod magnitude;

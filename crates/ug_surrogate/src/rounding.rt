@@ -5,7 +5,7 @@ ghost use Rattle.std.specs.Int.{IsGcd, int_div_euclid};
 ghost use Rattle.ug_rows.specs.Boxes.{interval_at};
 ghost use Rattle.ug_rows.specs.Rows.{IsLinear, term_at};
 ghost use Rattle.ug_surrogate.specs.Weights.{rounded_up};
-ghost use Rattle.ug_surrogate.specs.Rounding.{HasSmallSides, IsCommonDivisor, IsDivisorOf, IsOpen, LosesNone, down_to_step, rounded_by, sides_or_empty, up_to_step};
+ghost use Rattle.ug_surrogate.specs.Rounding.{HasSmallSides, IsCommonDivisor, IsDivisorOf, IsNarrower, IsOpen, LosesNone, down_to_step, rounded_by, sides_or_empty, up_to_step};
 
 use crate::exact::{divide_down, divide_up, minus, plus, times};
 use ug_rows::{Extreme, IntBox, Interval, Row, Term, sum_of_ends};
@@ -48,7 +48,7 @@ fn is_open(side: Interval) -> bool
     side.low != side.high
 }
 
-// The greatest common divisor of a divisor and a factor.
+// The greatest common divisor of a divisor and a coefficient.
 fn with_factor(divisor: u128, factor: i128) -> u128
     requires factor { unsigned_abs factor ≤ 10 ^ 24 }
     requires small { divisor ≤ 10 ^ 24 }
@@ -76,7 +76,7 @@ fn with_term(divisor: u128, terms: &[Term], k: usize, area: &[Interval]) -> u128
     }
 }
 
-// The greatest common divisor of the factors of the open columns, 0 where none is open.
+// The greatest common divisor of the coefficients of the open columns, 0 where none is open.
 #[tactic(auto, using(crate::proofs::Divisors::with_none))]
 fn common_divisor(terms: &[Term], area: &[Interval]) -> u128
     requires { IsLinear (length area.now) terms.now }
@@ -90,7 +90,7 @@ fn common_divisor(terms: &[Term], area: &[Interval]) -> u128
     divisor
 }
 
-// A sum and so many steps of the divisor.
+// A sum and this many steps of the divisor.
 fn add_steps(base: i128, divisor: u128, steps: i128) -> i128
     requires base { unsigned_abs base ≤ 3 * 10 ^ 37 }
     requires divisor { divisor ≤ 10 ^ 24 }
@@ -172,7 +172,7 @@ fn high_down(divisor: u128, base: i128, high: Option<i128>) -> Option<i128>
     }
 }
 
-// These sides, if a sum can keep to both.
+// These sides, if a sum can satisfy both.
 fn sides_left(low: Option<i128>, high: Option<i128>) -> Narrowed
     ensures { result ≡ sides_or_empty low high }
 {
@@ -201,14 +201,15 @@ fn narrowed_by(divisor: u128, row: &Row, area: &[Interval]) -> Narrowed
 }
 
 /// What is left of the sides of a row where its sums over a box differ by multiples of a common
-/// divisor of the factors of the open columns: no point of the box that keeps to the row is lost.
-/// Where there is no such divisor above 1 the sides stay as they are. It takes no memory.
+/// divisor of the coefficients of the open columns: no point of the box that satisfies the row is
+/// lost. Where there is no such divisor above 1 the sides stay as they are. It takes no memory.
 pub fn rounded(row: &Row, area: &IntBox) -> Narrowed
     requires terms { IsLinear (length area.now) row.now.terms }
     requires sides { HasSmallSides row.now }
     ensures value { (g : ℕ) × IsCommonDivisor row.now.terms area.now g
         × (result ≡ rounded_by g row.now area.now) }
     ensures kept { LosesNone row.now area.now result }
+    ensures narrower { IsNarrower row.now result }
 {
     let divisor = common_divisor(row.terms.as_slice(), area.as_slice());
     narrowed_by(divisor, row, area.as_slice())

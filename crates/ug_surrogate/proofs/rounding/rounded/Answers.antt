@@ -2,9 +2,9 @@ use Rattle.std.proofs.Common.{List, length, ap, subst, sym, ◌∙◌}
 use Rattle.ug_rows.specs.declared.area.Interval.{Interval}
 use Rattle.ug_rows.specs.declared.row.Term.{Term}
 use Rattle.ug_rows.proofs.EndBounds.{there_from_index}
-use Rattle.ug_surrogate.specs.Rounding.{IsCommonDivisor, LosesNone, rounded_by}
+use Rattle.ug_surrogate.specs.Rounding.{IsCommonDivisor, IsNarrower, LosesNone, rounded_by}
 use Rattle.ug_surrogate.specs.declared.rounding.Narrowed.{Narrowed}
-use Rattle.ug_surrogate.proofs.Divisors.{none_lost}
+use Rattle.ug_surrogate.proofs.Divisors.{is_narrower, none_lost}
 use Rattle.ug_surrogate.proofs.rounding.rounded.Goals as goal
 
 pub returns-clause-value : goal.returns-clause-value
@@ -28,3 +28,12 @@ returns-clause-kept c =
     let same = ap (λ (a : List Interval). rounded_by g row a) c.as_slice-3.ensures in
     subst (λ (left : Narrowed). LosesNone row area left) (sym (c.narrowed_by.ensures ∙ same))
     (none_lost row area g (there_from_index (length area) row.terms c.requires.terms.within) divisor)
+
+pub returns-clause-narrower : goal.returns-clause-narrower
+returns-clause-narrower c =
+    let g = c.common_divisor-divisor.result in
+    let row = c.args.row.now in
+    let area = c.args.area.now in
+    let same = ap (λ (a : List Interval). rounded_by g row a) c.as_slice-3.ensures in
+    subst (λ (left : Narrowed). IsNarrower row left) (sym (c.narrowed_by.ensures ∙ same))
+    (is_narrower row area g)
