@@ -1,4 +1,4 @@
--- What holds after each answer holds whatever is heard.
+-- What holds after each answer holds whatever is received.
 use Rattle.std.proofs.Common.{◌≡◌, ℕ, refl}
 use Rattle.ug_frames.specs.declared.report.Report.{Report}
 use Rattle.ug_rules.specs.declared.heard.Heard.{Heard}

@@ -1,4 +1,4 @@
--- What every book is stays: where what it is not about changed, where one rank has another state
+-- What every book is stays: if what it is not about changed, where one rank has another state
 -- for the same work, and where pool, ranks and race changed as they may.
 use Rattle.std.proofs.Common.{◌≡◌, ◌≢◌, ◌⊎◌, inl, inr, ℕ, ℤ, ◌<◌, Bool, List, [], ◌∷◌, ◌++◌, length, map, refl, ap, sym, ◌∙◌, subst, arith}
 use Rattle.std.specs.Prelude.{All, Contains, IfSome, if◌then◌else◌, IsSome, Option, Some, None, slice_set}
@@ -53,7 +53,7 @@ book_told b best orders heard announced feasible carried h = record {
   orders = carried;
 }
 
--- the book of which the earliest order was told
+-- the book of which the earliest order was sent
 pub book_with_rest : (b : BookState) (told : Told) (rest : List Told) → b.orders ≡ told ∷ rest
     → IsBook b → IsBook (record b { orders = rest })
 book_with_rest b told rest first h = book_told b b.best rest b.heard b.announced h.incumbent

@@ -36,7 +36,7 @@ use Rattle.ug_rules.proofs.RacerLemmas.{idled_fewer_races, set_fewer_races}
 use Rattle.ug_rules.proofs.OwnLemmas.{own_current, own_gone, own_held, own_node, own_ticket}
 use Rattle.ug_rules.proofs.BookLemmas.{book_changed, floor_at, floors_idled, no_race, none_races, nothing_raced, written}
 
--- where none is raced, no node is
+-- if none is raced, no node is
 none_there : (raced : Option Entry) → raced ≡ None → (n : Node) → Contains (raced_node raced) n → ⊥
 none_there raced e n h =
     let none = subst (λ (o : Option Entry). Contains (raced_node o) n) e h in

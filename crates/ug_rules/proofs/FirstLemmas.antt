@@ -67,7 +67,7 @@ idle_is (Racing racer) h = absurd (false≢true h)
 idle_is (Active work) h = absurd (false≢true h)
 idle_is (Dead how) h = absurd (false≢true h)
 
--- where it is listed first, it is there and idle
+-- if it is listed first, it is there and idle
 pub first_idle : (ss : List State) (r : ℕ) (rs : List ℕ) → ranks_that is_idle ss ≡ r ∷ rs
     → (r < length ss) × (state_at ss r ≡ Idle)
 first_idle ss r rs e =

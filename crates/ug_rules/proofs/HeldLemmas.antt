@@ -1,4 +1,4 @@
--- Where a held node stands, and for what the tickets are current.
+-- If a held node stands, and for what the tickets are current.
 use Rattle.std.proofs.Common.{◌≡◌, ◌⊎◌, inl, inr, ℕ, zero, suc, List, [], ◌∷◌, ◌++◌, map, refl, ap, sym, ◌∙◌, subst, arith}
 use Rattle.std.specs.Prelude.{Contains, Option, Some, None, slice_index_or}
 use Rattle.std.proofs.lemmas.List.Elements.{Contains-append_left, Contains-append_right, Contains-append_cases}
@@ -55,7 +55,7 @@ pub current_is : (b : BookState) (q : ℕ) (d : Current) → IsCurrent (ledger_o
     → current_of b.raced (state_at b.ranks q) ≡ Some d
 current_is b q d h = sym (current_by b.raced b.ranks q) ∙ h
 
--- the state is that of work for which d tells the ticket
+-- the state is that of work for which d reports the ticket
 pub record IsOfWork (s : State) (d : Current) : Type 0 where
   pub work : Work
   pub state : s ≡ Active work

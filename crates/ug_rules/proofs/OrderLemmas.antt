@@ -123,7 +123,7 @@ of_each f k (s ∷ ss) each = All-append Carried (f k s) (of_ranks f (k + 1) ss)
     (of_each f (k + 1) ss (λ j lt. subst (λ (n : ℕ). AreOrders (f n (state_at ss j))) (omega arith)
     (each (suc j) (omega (arith, lt)))))
 
--- ---- what each event tells
+-- ---- what each event reports
 
 stops_carried : (ss : List State) (line : List Name) → AllGiven ss → AreOrders (stops_below line ss)
 stops_carried ss line all = of_each (stop_at line) 0 ss (λ j lt. by (0 + j) j (state_at ss j) refl)
@@ -139,7 +139,7 @@ stops_carried ss line all = of_each (stop_at line) 0 ss (λ j lt. by (0 + j) j (
     by n j (Racing racer) is = none_told
     by n j (Dead how) is = none_told
 
--- where a rank that works died
+-- where a rank that works was lost
 pub dead_carried : (b : BookState) → IsBook b → (r : ℕ) (line : List Name)
     → AreOrders (b.orders ++ stops_below line (slice_set b.ranks r (Dead Died)))
 dead_carried b h r line =
@@ -212,7 +212,7 @@ given_carried b some problem gap feasible r number params race entry first floor
       );
     }))
 
--- where it is told of open nodes
+-- where it is reported of open nodes
 pub in_carried : (b : BookState) → IsBook b → (r count : ℕ) → 1 ≤ count
     → AreOrders (b.orders ++ collect_in r count (state_at b.ranks r))
 in_carried b h r count some = All-append Carried b.orders (collect_in r count (state_at b.ranks r))

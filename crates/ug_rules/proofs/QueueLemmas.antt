@@ -79,7 +79,7 @@ death_by b r l (Dead how) e = omega arith
 death_places : (b : BookState) (r : ℕ) → r < length b.ranks → places_due (killed r b) ≤ places_due b
 death_places b r l = death_by b r l (state_at b.ranks r) refl
 
--- whatever is heard
+-- whatever is received
 pub hearing_takes_no_place : HearingTakesNoPlace
 hearing_takes_no_place b r report answer l =
     under_answer (λ k. places_due k ≤ places_due b) (λ k h. h) b r report (omega arith)

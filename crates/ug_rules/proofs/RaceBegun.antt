@@ -24,7 +24,7 @@ use Rattle.ug_rules.specs.State.{BookState, current_of, held_nodes, ledger_of, n
 use Rattle.ug_rules.specs.Ranks.{of_ranks, rank_if, ranks_that}
 use Rattle.ug_ranks.specs.Looks.{is_idle, is_racing}
 use Rattle.ug_rules.specs.Books.{AreOrders, AreSettings, HasItsFloor, IsBook, IsSoundBook, KeepsItsFloor}
-use Rattle.ug_rules.specs.Deciding.{params_with, raced_by, raced_by_all}
+use Rattle.ug_rules.specs.Deciding.{racer_params, raced_by, raced_by_all}
 use Rattle.ug_rules.proofs.OrderLemmas.{given_carried}
 use Rattle.ug_rules.proofs.WorkLemmas.{same_nodes, state_here, state_there}
 use Rattle.ug_rules.proofs.HeldLemmas.{current_by, in_race}
@@ -102,7 +102,7 @@ pub record IsInRace (b : BookState) (entry : Entry) : Type 0 where
 module _ (b : BookState) (r : ℕ) (entry : Entry) (h : IsInRace b entry) (i : IsIdleAt b.ranks r)
     (left : b.last + 1 < 2 ^ 64) where
   abbrev its : Racer
-  its = racer_of (ticket_with b (b.last + 1)) (params_with (r % 16))
+  its = racer_of (ticket_with b (b.last + 1)) (racer_params r)
 
   abbrev its_current : Current
   its_current = record { ticket = ticket_with b (b.last + 1); node = entry.node; taken = [] }
@@ -154,7 +154,7 @@ module _ (b : BookState) (r : ℕ) (entry : Entry) (h : IsInRace b entry) (i : I
     none = nodes_same ∙ h.none;
     number = left;
     orders = given_carried b h.run h.problem h.settings.gap h.incumbent r (b.last + 1)
-        (params_with (r % 16)) true entry (omega arith) h.floor h.orders;
+        (racer_params r) true entry (omega arith) h.floor h.orders;
   }
 
   after_sound : IsSoundBook b → IsSoundBook after

@@ -53,7 +53,7 @@ some_or_none ss = by (ranks_that is_racing ss) refl
     by [] e = inr e
     by (first ∷ rest) e = inl (first, rest, e)
 
--- where one node alone is held, and still is, tickets that end leave it
+-- if one node alone is held, and still is, tickets that end leave it
 ended_alone : (old new : BookState) (only : Node) → held_nodes new ≡ held_nodes old
     → ((n : Node) → Contains (held_nodes old) n → n ≡ only)
     → ((q : ℕ) (d : Current) → IsCurrent (ledger_of new) q d → IsCurrent (ledger_of old) q d)
@@ -98,7 +98,7 @@ module _ (b : BookState) (r : ℕ) (racer : Racer) (there : r < length b.ranks)
       nowhere ns none k =
           let there_is = subst (λ ms. Contains ms n) none k in omega (arith, there_is.1)
 
-  -- 1: a racer died, and others race
+  -- 1: a racer was lost, and others race
   abbrev fewer : BookState
   fewer = with_dead r b
 
@@ -129,7 +129,7 @@ module _ (b : BookState) (r : ℕ) (racer : Racer) (there : r < length b.ranks)
         ranks = λ k. dead_nodes ∙ racing_nodes;
       })
 
-  -- 2: the last racer died
+  -- 2: the last racer was lost
   module _ (entry : Entry) (raced : b.raced ≡ Some entry) where
     abbrev lost : BookState
     lost = put_back entry (record fewer { raced = None })

@@ -43,7 +43,7 @@ some_races ss h = races_from 0 ss h
 pub are_racing : (ss : List State) → SomeRaces ss → ranks_that is_racing ss ≢ []
 are_racing ss t = races_to 0 ss t
 
--- where a state was written that races as the old one did, one that races raced before, and one
+-- if a state was written that races as the old one did, one that races raced before, and one
 -- that raced does still
 pub set_same_races : (ss : List State) (r : ℕ) (s : State) → r < length ss
     → is_racing s ≡ is_racing (state_at ss r) → SomeRaces (set ss r s) → SomeRaces ss

@@ -194,7 +194,7 @@ kept_takes_none b r (Reported ticket count floor) l =
 kept_takes_none b r (Done ticket told count ending) l = done_by b r l (state_at b.ranks r)
 kept_takes_none b r Ended l = same_takes_none b
 
--- whatever is heard
+-- whatever is received
 pub hearing_takes_none : HearingTakesNone
 hearing_takes_none b r report answer l =
     under_answer (λ k. nodes_out k ≤ nodes_out b) (λ k h. h) b r report (omega arith)

@@ -51,7 +51,7 @@ without_race raced Absent d e = absurd (none-some d e)
 without_race raced Idle d e = absurd (none-some d e)
 without_race raced (Dead how) d e = absurd (none-some d e)
 
--- where the new state is current for the same, the tickets are the same
+-- if the new state is current for the same, the tickets are the same
 pub same_tickets : (raced : Option Entry) (ss : List State) (r : ℕ) (s : State)
     → current_of raced s ≡ current_of raced (state_at ss r)
     → map (current_of raced) (set ss r s) ≡ map (current_of raced) ss

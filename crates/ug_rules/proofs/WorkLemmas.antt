@@ -142,7 +142,7 @@ idled_kept test e ss n t h =
       node = t.node;
     }
 
--- where the new state works on the same node, the nodes are the same
+-- if the new state works on the same node, the nodes are the same
 pub same_nodes : (ss : List State) (r : ℕ) (s : State) → node_at s ≡ node_at (state_at ss r)
     → nodes_of (set ss r s) ≡ nodes_of ss
 same_nodes [] r s e = refl

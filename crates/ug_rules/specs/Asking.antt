@@ -14,7 +14,7 @@ pub record CanBeAsked (member : Member) : Type 0 where
 abbrev pub NoneCanBeAsked : List Member → Type 0
 NoneCanBeAsked members = All (λ member. CanBeAsked member → ⊥) members
 
--- member a is asked before member b: it has a lesser floor, or the same floor and a lower rank
+-- member a is asked before member b: it has a smaller floor, or the same floor and a lower rank
 abbrev pub IsAskedBefore : Member → Member → Type 0
 IsAskedBefore a b = (a.floor <ℤ b.floor) ⊎ ((a.floor ≡ b.floor) × (a.rank < b.rank))
 

@@ -1,4 +1,4 @@
--- What every book is, whatever was heard, and when a book is sound.
+-- The invariant of every book, whatever was received, and when a book is sound.
 use Rattle.std.specs.Prelude.{◌≡◌, ◌≢◌, ◌<◌, ◌≤◌, ◌^◌, List, [], length, All, IfSome, IsSome}
 use Rattle.ug_rows.specs.Sums.{box_floor}
 use Rattle.ug_problem.specs.Instances.{Instance, root_of}
@@ -27,7 +27,7 @@ pub record AreSettings (settings : Settings) : Type 0 where
   pub marks : settings.low ≤ settings.high
   pub gap : IsGap settings.gap
 
--- the changes rise and spell a box below the root's, whose floor stands beside them
+-- the changes rise and describe a box below the root's, and the entry has its floor
 pub record HasItsFloor (p : Instance) (entry : Entry) : Type 0 where
   pub rising : IsRising entry.node.changes
   pub changes : AreChangesOf (root_of p) entry.node.changes
@@ -59,7 +59,7 @@ pub record IsRaceAlone (b : BookState) : Type 0 where
 abbrev pub AreOrders : List Told → Type 0
 AreOrders orders = All (λ (told : Told). IsOrder told.order) orders
 
--- what every book is, whatever was heard
+-- the invariant of every book, whatever was received
 pub record IsBook (b : BookState) : Type 0 where
   pub problem : IsProblem b.problem
   pub run : 0 < b.run

@@ -38,7 +38,8 @@ stop_at line r state = []
 abbrev pub stops_below : List Name → List State → List Told
 stops_below line states = of_ranks (stop_at line) 0 states
 
--- what is held below the line's node was dropped, and the ranks that worked on it are told to stop
+-- the nodes held below the line's node were dropped, and the ranks that worked on them are sent a
+-- Stop
 abbrev pub taken_in : List Name → BookState → BookState
 taken_in line b = record b {
   pool = without_below line b.pool;
@@ -58,7 +59,7 @@ entry_of work = record { floor = work.floor; node = work.node }
 abbrev pub put_back : Entry → BookState → BookState
 put_back entry b = record b { pool = with_entry entry b.pool }
 
--- the raced node goes back, where these racers are none
+-- the raced node returns to the pool, if no racer is left
 abbrev pub lost_by : List ℕ → Option Entry → BookState → BookState
 lost_by (r ∷ rs) raced b = b
 lost_by [] None b = b
@@ -76,6 +77,6 @@ killed_at (Racing racer) r b = race_lost (with_dead r b)
 killed_at (Active work) r b = put_back (entry_of work) (taken_in work.node.line (with_dead r b))
 killed_at (Dead how) r b = b
 
--- the rank died
+-- the rank was lost
 abbrev pub killed : ℕ → BookState → BookState
 killed r b = killed_at (state_at b.ranks r) r b

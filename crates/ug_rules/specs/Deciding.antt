@@ -1,5 +1,5 @@
 -- What a decision does, part by part, and what stands of it where memory ended it.
-use Rattle.std.specs.Prelude.{◌≡◌, ◌≢◌, if◌then◌else◌, ℕ, zero, suc, ℤ, ◌+◌, ◌-◌, ◌^◌, ◌%◌, ◌≤◌}
+use Rattle.std.specs.Prelude.{◌≡◌, ◌≢◌, if◌then◌else◌, ℕ, zero, suc, ℤ, ◌+◌, ◌-◌, ◌*◌, ◌/◌, ◌%◌, ◌^◌, ◌≤◌}
 use Rattle.std.specs.Prelude.{◌⊎◌, min, Bool, true, false, ◌==◌, ◌&&◌, nat_lt, nat_eq, List, []}
 use Rattle.std.specs.Prelude.{◌∷◌, ◌++◌, length, All, Option, Some, None, slice_set}
 use Rattle.std.specs.Ordering.{int_eq}
@@ -36,7 +36,7 @@ below_cutoff (Some cutoff) pool = with_floor_below cutoff pool
 abbrev pub dropped : BookState → BookState
 dropped b = record b { pool = below_cutoff (cutoff_of_best b) b.pool }
 
--- 2: where the cutoff is another than the one announced, each joined live rank is told
+-- 2: if the cutoff is not the one announced, it is sent to each joined live rank
 abbrev pub same_cutoff : Option ℤ → ℤ → Bool
 same_cutoff None cutoff = false
 same_cutoff (Some known) cutoff = int_eq known cutoff
@@ -58,7 +58,7 @@ announced_as (Some cutoff) b =
 abbrev pub announced : BookState → BookState
 announced b = announced_as (cutoff_of_best b) b
 
--- 3: where each racer has reported and one of them has enough open nodes, it wins
+-- 3: if each racer has reported and one of them has enough open nodes, it wins
 abbrev pub racers_of : BookState → List Contender
 racers_of b = racers_in b.ranks
 
@@ -132,7 +132,12 @@ params_with n = record {
   base = (if nat_lt (n % 16) 8 then Bound else Surrogate);
 }
 
--- the params of all work that is no race
+-- the parameters of racer r: the racers alternate between the bases, and no two of 16 racers have the
+-- same parameters
+abbrev pub racer_params : ℕ → Params
+racer_params r = params_with (r % 2 * 8 + r / 2 % 8)
+
+-- the parameters of all work outside a race
 abbrev pub usual_params : BookState → Params
 usual_params b = first_params b.settings.base
 
@@ -162,7 +167,7 @@ assigned_by (r ∷ rs) (entry ∷ rest) b = given_to r entry rest b
 abbrev pub assigned : BookState → BookState
 assigned b = assigned_by (ranks_that is_idle b.ranks) b.pool b
 
--- so many times
+-- n times
 abbrev pub assigned_times : ℕ → BookState → BookState
 assigned_times zero b = b
 assigned_times (suc n) b = assigned_times n (assigned b)
@@ -176,9 +181,9 @@ assignments b =
 abbrev pub raced_by : ℕ → Entry → BookState → BookState
 raced_by r entry b = record b {
   ranks = slice_set b.ranks r
-      (Racing (racer_of (ticket_with b (b.last + 1)) (params_with (r % 16))));
+      (Racing (racer_of (ticket_with b (b.last + 1)) (racer_params r)));
   last = b.last + 1;
-  orders = b.orders ++ work_order b r (b.last + 1) (params_with (r % 16)) true entry ∷ [];
+  orders = b.orders ++ work_order b r (b.last + 1) (racer_params r) true entry ∷ [];
 }
 
 abbrev pub raced_by_all : List ℕ → Entry → BookState → BookState
@@ -199,12 +204,12 @@ race_begun b = race_begun_with b.pool b
 abbrev pub handouts : BookState → ℕ
 handouts b = (if is_race_due b then 1 else (if is_race_awaited b then 0 else assignments b))
 
--- the book after so many of them
+-- the book after n of them
 abbrev pub given : ℕ → BookState → BookState
 given zero b = b
 given (suc n) b = (if is_race_due b then race_begun b else assigned_times (suc n) b)
 
--- 5: what is wanted of the ranks that work is told
+-- 5: the requests to the ranks that work are sent
 abbrev pub collect_in : ℕ → ℕ → State → List Told
 collect_in r count (Active work) = record { rank = r; order = CollectIn work.ticket count } ∷ []
 collect_in r count state = []
@@ -244,14 +249,14 @@ pub record IsDecided (old new : BookState) : Type 0 where
   pub readied : IsReadied old ready
   pub collected_ : IsCollected (given (handouts ready) ready) new
 
--- the first three parts, and so many steps of the fourth
+-- the first three parts, and `steps` steps of the fourth
 pub record IsGivenOut (steps : ℕ) (old new : BookState) : Type 0 where
   pub ready : BookState
   pub readied : IsReadied old ready
   pub some : steps ≤ handouts ready
   pub given_ : new ≡ given steps ready
 
--- so many steps stand
+-- this number of steps stands
 abbrev pub Stands : ℕ → BookState → BookState → Type 0
 Stands zero old new = new ≡ old
 Stands (suc zero) old new = new ≡ dropped old

@@ -24,11 +24,11 @@ RaceEndedKeeps = (old new : BookState) → IsBook old → IsRaceEnded old new �
 abbrev pub GivenKeeps : Type 0
 GivenKeeps = (n : ℕ) (b : BookState) → IsBook b → n ≤ handouts b → Keeps b (given n b)
 
--- what is wanted was asked
+-- the nodes that the pool needs were asked for
 abbrev pub CollectedKeeps : Type 0
 CollectedKeeps = (old new : BookState) → IsCollected old new → Keeps old new
 
--- the whole, and so many steps of it
+-- the whole decision, and a number of its steps
 abbrev pub DecidedKeeps : Type 0
 DecidedKeeps = (old new : BookState) → IsBook old → IsDecided old new → Keeps old new
 
@@ -57,7 +57,7 @@ pub record IsSettled (b : BookState) : Type 0 where
 abbrev pub DecidedIsSettled : Type 0
 DecidedIsSettled = (old new : BookState) → IsDecided old new → IsSettled new
 
--- where nothing is held, a sound book's incumbent, or that there is none, is a right answer
+-- if nothing is held, a sound book's incumbent, or its absence, is a right answer
 abbrev pub AnswerIsRight : Type 0
 AnswerIsRight =
     (b : BookState) → held_nodes b ≡ [] → IsSoundBook b

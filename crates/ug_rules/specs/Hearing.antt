@@ -52,8 +52,8 @@ pub record IsTooFar (work : Work) (number want got : ℕ) : Type 0 where
   pub told : got ≡ number
   pub above : want < got
 
--- the hand is the next, and this is the least column in which its box is none below that of the
--- ticket's node
+-- the hand is the next, and this is the least column in which its box leaves that of the ticket's
+-- node
 pub record IsHandOutside (b : BookState) (work : Work) (number : ℕ) (changes : List Change)
     (column : ℕ) : Type 0 where
   pub next : number ≡ length work.taken
@@ -87,7 +87,7 @@ pub record IsShort (b : BookState) (told : Option ℤ) (count taken said kept : 
   pub kept_is : kept ≡ taken
   pub differ : count ≢ taken
 
--- which answer a Done gets, with so many hands taken
+-- which answer a Done gets, with this number of hands taken
 abbrev pub IsDoneDue : BookState → ℕ → Option ℤ → ℕ → Heard → Type 0
 IsDoneDue b taken told count Kept = IsComplete b told count taken
 IsDoneDue b taken told count (Unbacked cutoff incumbent) = IsUnbacked b told cutoff incumbent
@@ -117,7 +117,7 @@ IsCurrentDue b (Racing racer) report answer = IsRacerDue b report answer
 IsCurrentDue b (Active work) report answer = IsWorkerDue b work report answer
 IsCurrentDue b state report answer = ⊥
 
--- a report under a ticket: where that is the rank's current one it is judged, and else it is stale
+-- a report under a ticket: it is judged if that is the rank's current one, and is stale otherwise
 pub record IsDueUnder (b : BookState) (state : State) (ticket : Ticket) (report : Report)
     (answer : Heard) : Type 0 where
   pub current : ticket_at state ≡ Some ticket → IsCurrentDue b state report answer
@@ -167,8 +167,8 @@ abbrev pub handed_at : State → ℕ → List Change → BookState → BookState
 handed_at (Active work) r changes b = handed_by work r changes b
 handed_at state r changes b = b
 
--- a Done of a rank in this state is kept: its node is gone, and in a race the root, which ends
--- the race
+-- a Done of a rank in this state is kept: its node leaves, and in a race the root, which ends the
+-- race
 abbrev pub done_at : State → ℕ → BookState → BookState
 done_at (Racing racer) r b = record b { ranks = racers_freed b.ranks; raced = None }
 done_at (Active work) r b = record b { ranks = slice_set b.ranks r Idle }

@@ -1,5 +1,4 @@
--- What is kept whatever is heard: what every book is, and, where each Done is true, that it is
--- sound.
+-- Preserved by every report: the invariant of a book, and, if each Done is true, that it is sound.
 use Rattle.std.specs.Prelude.{◌≡◌, ℕ, ℤ, ◌<◌, List, length, Option, Some, None}
 use Rattle.ug_problem.specs.Instances.{root_of}
 use Rattle.ug_problem.specs.Incumbents.{one_kept}
@@ -51,7 +50,7 @@ IsTrueReport b r Ended = Unit {0}
 abbrev pub CountedKeeps : Type 0
 CountedKeeps = (b : BookState) → Keeps b (counted b)
 
--- a rank that joined, and one that told of its open nodes
+-- a rank that joined, and one that reported its open nodes
 abbrev pub ReadyKeeps : Type 0
 ReadyKeeps = (b : BookState) (r : ℕ) → r < length b.ranks → Keeps b (kept r Ready b)
 
@@ -141,7 +140,7 @@ DoneHasDone =
     → r < length b.ranks → IsCurrent (ledger_of b) r c → IsBook b
     → HasDone (ledger_of b) (ledger_of (kept r (Done ticket told count ending) b)) r c
 
--- the whole: whatever is heard, under the answer that is due
+-- the whole: whatever is received, under the answer that is due
 abbrev pub HearingKeepsBook : Type 0
 HearingKeepsBook =
     (b : BookState) (r : ℕ) (report : Report) (answer : Heard) → r < length b.ranks

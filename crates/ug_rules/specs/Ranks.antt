@@ -1,4 +1,4 @@
--- What is asked of the states of ranks.
+-- Questions about the states of ranks.
 use Rattle.std.specs.Prelude.{if◌then◌else◌, ℕ, ◌+◌, Bool, not, ◌==◌, List, [], ◌∷◌}
 use Rattle.std.specs.Prelude.{◌++◌, map}
 use Rattle.ug_ranks.specs.declared.state.State.{State}
@@ -7,7 +7,7 @@ use Rattle.ug_ranks.specs.Looks.{is_racing}
 use Rattle.ug_rules.specs.declared.member.Member.{Member}
 use Rattle.ug_rules.specs.declared.contender.Contender.{Contender}
 
--- what f tells of each rank from r on, in order
+-- what f gives for each rank from r on, in order
 abbrev pub of_ranks : {A : Type 0} → (ℕ → State → List A) → ℕ → List State → List A
 of_ranks f r [] = []
 of_ranks f r (state ∷ states) = f r state ++ of_ranks f (r + 1) states

@@ -47,7 +47,8 @@ abbrev pub FreeingTakesNone : Type 0
 FreeingTakesNone =
     (states : List State) → length (nodes_of (racers_freed states)) ≤ length (nodes_of states)
 
--- where a death puts a node into the pool, one less at least is out: that of a rank that works
+-- if the loss of a rank puts a node into the pool, one node fewer at least is out: that of a rank
+-- that works
 abbrev pub DeathMakesRoom : Type 0
 DeathMakesRoom =
     (b : BookState) (r : ℕ) (work : Work) → r < length b.ranks → state_at b.ranks r ≡ Active work
@@ -74,7 +75,7 @@ HandLeavesAsMany =
     (b : BookState) (r : ℕ) (ticket : Ticket) (number : ℕ) (changes : List Change)
     → nodes_out (kept r (Hand ticket number changes) b) ≡ nodes_out b
 
--- whatever is heard, and whoever dies, no more are out
+-- whatever is received, and whoever is lost, no more are out
 abbrev pub DeathTakesNone : Type 0
 DeathTakesNone = (b : BookState) (r : ℕ) → r < length b.ranks → nodes_out (killed r b) ≤ nodes_out b
 
@@ -90,12 +91,13 @@ StopsAreOfCalledOff =
     → length (stops_below line states) + length (nodes_of (called_off line states))
     ≡ length (nodes_of states)
 
--- the places of the queue that are taken, or would be if each rank that works were told to stop
+-- the places of the queue that are taken, or would be if a Stop were queued for each rank that
+-- works
 abbrev pub places_due : BookState → ℕ
 places_due b = length b.orders + length (nodes_of b.ranks)
 
--- so neither a death nor what is heard wants a place that was not kept for it; the death of a rank
--- that works leaves one
+-- so neither the loss of a rank nor a report needs a place that was not reserved for it; the loss
+-- of a rank that works leaves one
 abbrev pub DeathLeavesPlaces : Type 0
 DeathLeavesPlaces =
     (b : BookState) (r : ℕ) (work : Work) → r < length b.ranks → state_at b.ranks r ≡ Active work

@@ -1,4 +1,4 @@
--- What a book has, and the ledger that it tells.
+-- The contents of a book, and its ledger.
 use Rattle.std.specs.Prelude.{ℕ, ℤ, ◌++◌, List, [], ◌∷◌, map, flat_map, Option, Some, None}
 use Rattle.std.specs.Option.{option_map, option_to_list}
 use Rattle.ug_problem.specs.Instances.{Instance}
@@ -14,11 +14,10 @@ use Rattle.ug_ledger.specs.Ledgers.{Current, Ledger}
 use Rattle.ug_rules.specs.declared.settings.Settings.{Settings}
 use Rattle.ug_rules.specs.declared.told.Told.{Told}
 
--- the problem, the run and how it works; the incumbent; the pool in order; the ranks; the node
--- that is raced with its
--- floor, if there is a race; the last ticket number given; the orders queued, the earliest first;
--- how many reports were
--- heard; and the incumbent's cutoff that was last announced
+-- the problem, the run and its settings; the incumbent; the pool in order; the ranks; the raced
+-- node with its floor, if there is a race; the last ticket number given; the orders queued, the
+-- earliest first; the number of reports received; and the incumbent's cutoff that was last
+-- announced
 pub record BookState : Type 0 where
   pub problem : Instance
   pub run : ℕ
@@ -76,7 +75,7 @@ current_of raced (Racing racer) = raced_for racer raced
 current_of raced (Active work) = Some (current_for work)
 current_of raced state = None
 
--- the ledger that a book tells
+-- the ledger of a book
 abbrev pub ledger_of : BookState → Ledger
 ledger_of b = record {
   held = held_nodes b;

@@ -1,4 +1,4 @@
--- What is wanted of the members.
+-- The nodes that the pool needs, and from whom.
 use Rattle.std.specs.Prelude.{◌≡◌, ℕ, ◌+◌, ◌<◌, ◌≤◌, List}
 use Rattle.std.specs.List.{AllPairs}
 use Rattle.ug_rules.specs.declared.member.Member.{Member}
@@ -19,7 +19,7 @@ pub record IsFull (len high : ℕ) (members : List Member) : Type 0 where
   pub many : high ≤ len
   pub some : IsAnyCollecting members
 
--- these are told to stop: all that are collecting
+-- these ranks must stop: all that are collecting
 pub record IsEnough (len high : ℕ) (members : List Member) (ranks : List ℕ) : Type 0 where
   pub full : IsFull len high members
   pub all : ranks ≡ collecting_ranks members
@@ -29,13 +29,13 @@ pub record IsNothing (len low high : ℕ) (members : List Member) : Type 0 where
   pub few : len < low → NoneCanBeAsked members
   pub many : high ≤ len → IsNoneCollecting members
 
--- what is wanted with this many nodes in the pool
+-- the demand with this many nodes in the pool
 abbrev pub IsWanted : ℕ → ℕ → ℕ → List Member → Wanted → Type 0
 IsWanted len low high members (Ask rank count) = IsAsk len low high members rank count
 IsWanted len low high members (Enough ranks) = IsEnough len high members ranks
 IsWanted len low high members Nothing = IsNothing len low high members
 
--- the ranks that are told to stop rise
+-- the ranks that must stop rise
 abbrev pub HasRisingRanks : Wanted → Type 0
 HasRisingRanks (Ask rank count) = Unit {0}
 HasRisingRanks (Enough ranks) = AllPairs (λ one later. one < later) ranks

@@ -1,6 +1,6 @@
 use ug_lists::Items;
 
-/// What is wanted of the members.
+/// The demand of the pool.
 #[derive(Drop)]
 pub enum Wanted {
     /// That this rank hands this many nodes.

@@ -25,16 +25,16 @@ pub enum Heard {
         want: u64,
         got: u64,
     },
-    /// A hand whose box is none below the ticket's; the least such column.
+    /// A hand whose box leaves the ticket's; the least such column.
     Outside {
         column: u32,
     },
-    /// A Done under a cutoff that is none, or below the incumbent's.
+    /// A Done under a cutoff without an incumbent, or below the incumbent's.
     Unbacked {
         cutoff: i128,
         incumbent: Option<i128>,
     },
-    /// A Done that tells of another number of hands than were taken.
+    /// A Done with another number of hands than were taken.
     Short {
         told: u64,
         taken: u64,

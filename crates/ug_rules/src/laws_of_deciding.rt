@@ -21,7 +21,7 @@ pub fn decided_is_settled()
     ensures { DecidedIsSettled }
 {}
 
-/// Where nothing is held, a sound book's incumbent, or that there is none, is a right answer.
+/// If nothing is held, a sound book's incumbent, or its absence, is a right answer.
 pub fn answers_are_right()
     ensures { AnswerIsRight }
 {}

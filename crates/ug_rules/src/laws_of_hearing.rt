@@ -1,8 +1,8 @@
 ghost use Rattle.ug_rules.specs.HearingLaws.{CountedIsNone, CountedKeeps, DeathHasTakenIn, DeathKeeps, DoneHasDone, DoneKeepsBook, DoneKeepsSound, HandHasHanded, HandKeeps, HearingKeepsBook, HearingKeepsSound, IdleDeathIsNone, RacerDeathHasEnded, ReadyIsNone, ReadyKeeps, ReportedIsNone, ReportedKeeps, SolutionHasImproved, SolutionKeeps};
 ghost use Rattle.ug_rules.specs.Room.{CallingOffTakesNone, DeathLeavesPlaces, DeathMakesRoom, DeathTakesNone, DoneMakesRoom, FreeingTakesNone, HandLeavesAsMany, HearingTakesNoPlace, HearingTakesNone, HeldAreInOrOut, LostRaceMakesRoom, StopsAreOfCalledOff, WritingCounts};
 
-/// Each event but a Done keeps what every book is, and a sound book sound, without a premise on
-/// what the solvers tell.
+/// Each event but a Done keeps the invariant of a book, and a sound book sound, with no assumption
+/// on what the solvers report.
 pub fn events_keep_books()
     ensures counted { CountedKeeps }
     ensures ready { ReadyKeeps }
@@ -18,8 +18,8 @@ pub fn dones_keep_books()
     ensures sound { DoneKeepsSound }
 {}
 
-/// Whatever is heard, under the answer that is due the book stays one; and a sound book stays
-/// sound, where a Done under the rank's ticket is true.
+/// Whatever is received, the book stays a book under the answer that is due; and a sound book stays
+/// sound, if a Done under the rank's ticket is true.
 pub fn hearing_keeps_books()
     ensures book { HearingKeepsBook }
     ensures sound { HearingKeepsSound }
@@ -34,7 +34,7 @@ pub fn events_are_moves()
     ensures racer_death { RacerDeathHasEnded }
 {}
 
-/// To the ledger these events are none: it is the same.
+/// These events do not change the ledger.
 pub fn other_events_are_none()
     ensures counted { CountedIsNone }
     ensures ready { ReadyIsNone }
@@ -42,7 +42,8 @@ pub fn other_events_are_none()
     ensures idle_death { IdleDeathIsNone }
 {}
 
-/// Where a node goes back to the pool, one less at least is out of it: so a death needs no memory.
+/// If a node returns to the pool, one node fewer at least is out of it: so the loss of a rank needs
+/// no memory.
 pub fn deaths_make_room()
     ensures held { HeldAreInOrOut }
     ensures death { DeathMakesRoom }
@@ -50,15 +51,15 @@ pub fn deaths_make_room()
     ensures done { DoneMakesRoom }
 {}
 
-/// The Stops that a death queues have places that the ranks called off leave; and whatever is
-/// heard, no more places are due than before.
+/// The Stops that the loss of a rank queues have places that the stopped ranks leave; and whatever
+/// is received, no more places are due than before.
 pub fn stops_have_places()
     ensures stops { StopsAreOfCalledOff }
     ensures death { DeathLeavesPlaces }
     ensures hearing { HearingTakesNoPlace }
 {}
 
-/// Whatever is heard, no more nodes are out of the pool than before.
+/// Whatever is received, no more nodes are out of the pool than before.
 pub fn hearing_takes_no_room()
     ensures writing { WritingCounts }
     ensures calling_off { CallingOffTakesNone }

@@ -1,8 +1,9 @@
-//! The rules of the coordinator: what each event does to what a book has, as functions on lists.
-//! It stands on ug_ledger, and on the crates of what a book has: ug_ranks, ug_pool and ug_frames.
-//! `Settings`, `Heard` and `Told` are the book's plain types; specs/ has State (what a book has),
-//! Hearing, Deaths, Winning (who wins a race), Asking, Deciding, and Books (what every book is, and
-//! when it is sound). The laws: both stay; a book that holds nothing has a right answer.
+//! The rules of the coordinator: what each event does to the contents of a book, as functions on
+//! lists. Depends on ug_ledger, and on the crates of a book's parts: ug_ranks, ug_pool and
+//! ug_frames. `Settings`, `Heard` and `Told` are the book's plain types; specs/ has State (the
+//! contents of a book), Hearing, Deaths, Winning (who wins a race), Asking, Deciding, and Books
+//! (the invariant of every book, and when it is sound). The laws: both are preserved; a sound book
+//! that holds nothing has a right answer.
 #![tactic(auto)]
 
 mod contender;

@@ -7,15 +7,15 @@ pub struct Settings {
     pub solvers: u32,
     /// Whether all ranks begin with the root, and one of them wins it.
     pub racing: bool,
-    /// What the work leaves out that is no race.
+    /// The base of all work outside a race.
     pub base: Base,
-    /// Below so many nodes in the pool open nodes are asked for.
+    /// Low watermark of the pool: below it open nodes are asked for.
     pub low: u32,
-    /// So many nodes in the pool are enough; at least `low`.
+    /// High watermark of the pool, at least `low`.
     pub high: u32,
     /// How many reports lie between two saves.
     pub every: u64,
-    /// How many reports are heard at most.
+    /// The run ends after this number of reports.
     pub limit: u64,
     /// How many open nodes a racer needs to win.
     pub winner: u64,

@@ -1,4 +1,4 @@
--- What the first ranks were told of a cutoff.
+-- Which of the first ranks were sent a cutoff.
 use Rattle.std.proofs.Common.{◌≡◌, ℕ, ◌+◌, ◌<◌, ◌++◌, List, length, take, sym, ap, ◌∙◌, arith}
 use Rattle.std.specs.Prelude.{ℤ}
 use Rattle.std.proofs.lemmas.List.{append_assoc, length-append}
@@ -9,7 +9,7 @@ use Rattle.ug_rules.specs.declared.told.Told.{Told}
 use Rattle.ug_rules.specs.Deciding.{announcement, announcements}
 use Rattle.ug_stock.proofs.Loops.{more_told}
 
--- the ranks before k were told the cutoff
+-- the ranks before k were sent the cutoff
 pub record AreTold (cutoff : ℤ) (ss : List State) (old now : Queued) (k : ℕ) : Type 0 where
   pub told : now.orders ≡ old.orders ++ announcements cutoff (take k ss)
   pub places : now.spare + length (announcements cutoff (take k ss)) ≡ old.spare

@@ -1,4 +1,4 @@
--- What a rank is told that is asked for nodes, or for no more.
+-- What a rank is sent that is asked for nodes, or for no more of them.
 use Rattle.std.proofs.Common.{◌≡◌, ℕ, zero, suc, ◌+◌, ◌<◌, List, [], ◌∷◌, ◌++◌, length, get_or, set, take, refl, sym, ap, ◌∙◌, arith}
 use Rattle.std.specs.Prelude.{Some, None, slice_set}
 use Rattle.std.proofs.lemmas.Option.{none-some, same_Some}
@@ -69,7 +69,7 @@ pub asked_works : (ss : List State) (r count : ℕ)
 asked_works ss r count = same_nodes ss r (asked_for count (state_at ss r))
     (asked_alike count (state_at ss r)).nodes
 
--- one rank more is told that it is enough
+-- one rank more is sent the order to stop handing nodes
 abbrev pub stopped_one : ℕ → BookState → BookState
 stopped_one r b = record b {
   ranks = slice_set b.ranks r (asked_for 0 (state_at b.ranks r));

@@ -21,7 +21,7 @@ none_by : (below : Bool) (ticket : Ticket) (r : ℕ) → (if below then Some tic
 none_by true ticket r e = absurd (cc)
 none_by false ticket r e = (refl, refl)
 
--- where there is no such ticket the rank does not work below, and is told nothing
+-- if there is no such ticket the rank does not work below, and is sent nothing
 pub none_below : (line : List Name) (r : ℕ) (state : State) → ticket_below line state ≡ None
     → (works_below line state ≡ false) × (stop_at line r state ≡ [])
 none_below line r Absent e = (refl, refl)
@@ -37,7 +37,7 @@ some_by true own ticket r e =
     (refl, let same : own ≡ ticket = cc in ap (λ (t : Ticket). stops_if true t r) same)
 some_by false own ticket r e = absurd (cc)
 
--- and where there is one, it does, and is told to stop
+-- and if there is one, it does, and is asked to stop
 pub some_below : (line : List Name) (r : ℕ) (state : State) (ticket : Ticket)
     → ticket_below line state ≡ Some ticket
     → (works_below line state ≡ true)

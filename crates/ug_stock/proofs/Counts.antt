@@ -1,4 +1,4 @@
--- How many ranks are told a cutoff, and how many work.
+-- How many ranks are sent a cutoff, and how many work.
 use Rattle.std.proofs.Common.{◌≡◌, ℕ, ◌+◌, ◌<◌, ◌++◌, Bool, true, false, if◌then◌else◌, List, [], ◌∷◌, length, take, refl, ap, ◌∙◌, arith}
 use Rattle.std.specs.Prelude.{ℤ}
 use Rattle.std.proofs.lemmas.List.{append-nil, length-append, take_more}
@@ -16,7 +16,7 @@ use Rattle.ug_ranks.specs.Looks.{is_joined}
 use Rattle.ug_rules.specs.Deciding.{announcement, announcements}
 use Rattle.ug_stock.proofs.Loops.{more_told}
 
--- a rank is told a cutoff once, if it has joined
+-- a rank is sent a cutoff once, if it has joined
 one_told : (joined : Bool) (told : Told) (r : ℕ)
     → length (if joined then told ∷ [] else []) ≡ length (if joined then r ∷ [] else [])
 one_told true told r = refl

@@ -1,4 +1,4 @@
--- One thing alone is wanted.
+-- One thing alone is needed.
 use Rattle.std.proofs.Common.{◌≡◌, ℕ, ◌+◌, ◌<◌, ◌≤◌, Bool, true, false, IsTrue, inl, inr, List, refl, sym, ap, ◌∙◌, arith}
 use Rattle.std.proofs.lemmas.List.Elements.{All-contains}
 use Rattle.ug_stock.proofs.Numbers.{same_int, same_nat}

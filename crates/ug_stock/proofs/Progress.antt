@@ -58,7 +58,7 @@ abbrev pub left_of : Stock → ℕ
 left_of s =
     min (length (ranks_that is_idle s.ranks)) (min (length s.pool.entries) (2 ^ 64 - 1 - s.last))
 
--- so many were made, and of the ranks before r none can be given more
+-- this many were made, and of the ranks before r none can be given more
 pub record Progress (terms : Terms) (old now : Stock) (steps r : ℕ) : Type 0 where
   pub done : (b : BookState) → AreTermsOf b terms → (m : ℕ)
       → assigned_times (steps + m) (with_stock b old) ≡ assigned_times m (with_stock b now)
@@ -161,7 +161,7 @@ one_given terms old now new steps r there can t p = record {
         (omega (arith, ap (λ (es : List Entry). length es) t.given_.first))
         (omega (arith, t.given_.last, can.number))
 
--- where some rank can still be given a node, not all were
+-- if some rank can still be given a node, not all were
 pub part_assigned : (terms : Terms) (old now : Stock) (steps r : ℕ) → r < length now.ranks
     → CanBeAssigned r now.ranks now.pool.entries now.last → Progress terms old now steps r
     → HasAssignedPart terms old now steps

@@ -33,7 +33,7 @@ none_held Idle e = refl
 none_held (Racing k) e = refl
 none_held (Dead how) e = refl
 
--- one node fewer is worked on where the rank that died worked
+-- one node fewer is worked on where the rank that was lost worked
 pub one_less : (ss : List State) (r : ℕ) (t : Node × ℤ) → r < length ss
     → held_by (state_at ss r) ≡ Some t
     → length (nodes_of (slice_set ss r (Dead Died))) + 1 ≡ length (nodes_of ss)
@@ -52,7 +52,7 @@ none_less ss r there e = omega (
   of_set (λ ns. length ns) (λ ms ns. length-append ms ns) ss r (Dead Died) there,
 )
 
--- where a racer dies its race may be lost
+-- where a racer is lost its race may be lost
 pub racer_dies : (s : State) (r : ℕ) (b : BookState) → is_racing s ≡ true
     → killed_at s r b ≡ race_lost (with_dead r b)
 racer_dies (Racing k) r b e = refl

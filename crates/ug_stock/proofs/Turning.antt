@@ -30,7 +30,7 @@ nodes_given : (b : BookState) → is_race_due b ≡ false → (n : ℕ) → give
 nodes_given b none zero = refl
 nodes_given b none (suc n) = rw none refl
 
--- a race that is due has begun, or want of memory kept it from that
+-- a race that is due has begun, or lack of memory kept it from that
 pub race_all_given : (terms : Terms) (old new : Stock) → HasTurn terms old Race
     → HasBegun terms old new → HasGivenAll terms old new 1
 race_all_given terms old new turn begun = λ b is. record {

@@ -60,7 +60,7 @@ pub winner_alone : (w : ℕ) (racers : List Contender) (racer : Contender)
     → All (IsShort w) racers → HasEnough w racer → IsLeader w (racers ++ racer ∷ []) racer
 winner_alone w racers racer few = first_alone (HasEnough w) LeadsOver strict racers racer (none_has w racers few)
 
--- where each has too few, none is the first
+-- if each has too few, none is the first
 pub not_all_short : (w : ℕ) (racers : List Contender) (racer : Contender)
     → IsLeader w racers racer → All (IsShort w) racers → ⊥
 not_all_short w racers racer h few = none_first (HasEnough w) LeadsOver racers racer (none_has w racers few) h

@@ -1,4 +1,4 @@
--- Who wins a race, and how many orders tell so.
+-- Who wins a race, and how many orders report so.
 use Rattle.std.proofs.Common.{◌≡◌, ◌≢◌, inr, ℕ, zero, suc, ◌==◌, ◌+◌, ◌<◌, ◌≤◌, Bool, true, false, if◌then◌else◌, List, [], ◌∷◌, length, refl, sym, ap, ◌∙◌, subst, arith}
 use Rattle.std.specs.Prelude.{Option, Some, None}
 use Rattle.std.specs.Option.{is_some}
@@ -24,7 +24,7 @@ use Rattle.ug_rules.proofs.RoomLemmas.{freeing_takes_none, writing_counts}
 use Rattle.ug_rules.proofs.WonLemmas.{racer_from}
 use Rattle.ug_stock.specs.Races.{IsRacer, IsWonAmong, StandsAlone}
 
--- where no rank wins among the racers, none does so after each has reported
+-- if no rank wins among the racers, none does so after each has reported
 pub not_won : (enough : ℕ) (racers : List Contender) (result : Option ℕ) (rank : ℕ) → result ≡ None
     → ((r : ℕ) → IsWinner enough racers r → result ≡ Some r) → IsWonAmong enough racers rank → ⊥
 not_won enough racers result rank none only won =
@@ -59,7 +59,7 @@ none_works enough ss raced rank alone w =
     ap (λ (ns : List Node). length ns)
     (alone.none_works (racing_some ss rank (winner_there enough ss rank w).racing))
 
--- a racer that loses is told once, and any other rank not at all
+-- a racer that loses is sent its order once, and any other rank not at all
 one_stop : (w k : ℕ) (s : State) → length (loser_stop w k s) ≤ length (racer_at k s)
 one_stop w k Absent = omega arith
 one_stop w k Idle = omega arith
@@ -82,7 +82,7 @@ stops_within w k (s ∷ ss) = omega (
   length-append (racer_at k s) (of_ranks racer_at (k + 1) ss),
 )
 
--- the winner is told nothing else
+-- the winner is sent nothing else
 no_stop : (w k : ℕ) (s : State) → k ≡ w → IsRacing s
     → length (loser_stop w k s) + 1 ≤ length (racer_at k s)
 no_stop w k (Racing racer) e h = rw (eq-eqb k w e) (omega arith)

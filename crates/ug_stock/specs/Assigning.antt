@@ -1,4 +1,4 @@
--- What is done where nodes of the pool are given to idle ranks.
+-- Assigning nodes of the pool to idle ranks.
 use Rattle.std.specs.Prelude.{◌≡◌, ℕ, ◌+◌, ◌-◌, ◌^◌, ◌<◌, ◌≤◌, List, ◌∷◌, length, slice_set}
 use Rattle.ug_pool.specs.declared.entry.Entry.{Entry}
 use Rattle.ug_pool.specs.Pools.{Pooled}
@@ -48,12 +48,12 @@ pub record CanBeAssigned (r : ℕ) (states : List State) (entries : List Entry) 
   pub some : 0 < length entries
   pub number : last < 2 ^ 64 - 1
 
--- so many nodes were given, and no more can be
+-- `steps` nodes were assigned, and no more can be
 pub record IsAllAssigned (steps : ℕ) (old new : BookState) : Type 0 where
   pub count : steps ≡ assignments old
   pub given_ : new ≡ assigned_times steps old
 
--- so many were given, and more could be
+-- `steps` nodes were assigned, and more could be
 pub record IsPartAssigned (steps : ℕ) (old new : BookState) : Type 0 where
   pub count : steps < assignments old
   pub given_ : new ≡ assigned_times steps old

@@ -1,4 +1,4 @@
--- The parts of a book that are changed where ranks are told something.
+-- The parts of a book that change when orders are queued.
 use Rattle.std.specs.Prelude.{◌≡◌, ℕ, ◌<◌, ◌≤◌, ◌^◌, List, length, All}
 use Rattle.ug_rules.specs.declared.demand.Wanted.{Wanted}
 use Rattle.ug_rules.specs.declared.demand.Wanted.TheVariants.{Ask, Enough, Nothing}
@@ -11,7 +11,7 @@ use Rattle.ug_stock.specs.Queues.{Queued}
 abbrev pub with_told : BookState → List State → List Told → BookState
 with_told b ranks orders = record b { ranks = ranks; orders = orders }
 
--- so many of the ranks work, and each has a place for its Stop
+-- `working` of the ranks work, and each has a place for its Stop
 pub record AreAtWork (working : ℕ) (ranks : List State) (orders : Queued) : Type 0 where
   pub few : length ranks < 2 ^ 32
   pub count : length (nodes_of ranks) ≡ working

@@ -1,4 +1,4 @@
--- What a decision is made under, and what it comes to.
+-- The terms of a decision, and its result.
 use Rattle.std.specs.Prelude.{◌≡◌, ℕ, ℤ, ◌<◌, ◌≤◌, ◌^◌, length, Option}
 use Rattle.ug_rules.specs.State.{BookState, cutoff_of_best}
 use Rattle.ug_rules.specs.Deciding.{IsDecided, Stands}
@@ -19,7 +19,7 @@ pub record CanDecide (run : Run) (stock : Stock) : Type 0 where
   pub few : length stock.ranks < 2 ^ 32
   pub alone : StandsAlone stock.ranks stock.raced
 
--- it was decided, and so many steps stand, whatever else the book has
+-- it was decided, or the first steps stand, whatever else the book has
 abbrev pub HasDecided : Run → Option ℤ → Stock → Stock → Type 0
 HasDecided run cutoff old new =
     (b : BookState) → IsUnder b run cutoff → IsDecided (with_stock b old) (with_stock b new)

@@ -6,12 +6,12 @@ use Rattle.ug_stock.specs.declared.terms.Terms.{Terms}
 use Rattle.ug_stock.specs.declared.stock.Stock.{Stock}
 use Rattle.ug_stock.specs.Stocks.{AreTermsOf, with_stock}
 
--- of a book's steps all were made, and so many they are
+-- all steps of a book were made, and this is their number
 pub record IsAllGiven (steps : ℕ) (old new : BookState) : Type 0 where
   pub count : steps ≡ handouts old
   pub given_ : new ≡ given steps old
 
--- so many were made, and some were not
+-- this number of steps was made, and some were not
 pub record IsPartGiven (steps : ℕ) (old new : BookState) : Type 0 where
   pub count : steps < handouts old
   pub given_ : new ≡ given steps old

@@ -1,4 +1,4 @@
--- When a race is won, and what it stands in.
+-- When a race is won, and what surrounds it.
 use Rattle.std.specs.Prelude.{◌≡◌, ◌≢◌, ℕ, ◌+◌, ◌<◌, ◌≤◌, List, [], length, All, IsSome, Option, None}
 use Rattle.ug_pool.specs.declared.entry.Entry.{Entry}
 use Rattle.ug_rules.specs.declared.contender.Contender.{Contender}
@@ -25,7 +25,7 @@ pub record IsRaceOver (old new : List State) (raced : Option Entry) : Type 0 whe
   pub none : raced ≡ None
   pub work : length (nodes_of new) ≤ length (nodes_of old) + 1
 
--- a race stands alone: where some rank races, a node is raced and none works
+-- a race excludes other work: if some rank races, a node is raced and no rank works
 pub record StandsAlone (states : List State) (entry : Option Entry) : Type 0 where
   pub raced : ranks_that is_racing states ≢ [] → IsSome entry
   pub none_works : ranks_that is_racing states ≢ [] → nodes_of states ≡ []

@@ -1,4 +1,4 @@
--- What is done where a race begins.
+-- The beginning of a race.
 use Rattle.std.specs.Prelude.{◌≡◌, ℕ, ◌+◌, ◌%◌, List, All, length, slice_set}
 use Rattle.ug_nodes.specs.declared.change.Change.{Change}
 use Rattle.ug_pool.specs.declared.entry.Entry.{Entry}
@@ -7,7 +7,7 @@ use Rattle.ug_ranks.specs.Changes.{racer_of}
 use Rattle.ug_rules.specs.State.{BookState, nodes_of}
 use Rattle.ug_rules.specs.Ranks.{ranks_that}
 use Rattle.ug_ranks.specs.Looks.{is_idle}
-use Rattle.ug_rules.specs.Deciding.{params_with, race_begun, raced_by, raced_by_all}
+use Rattle.ug_rules.specs.Deciding.{racer_params, race_begun, raced_by, raced_by_all}
 use Rattle.ug_stock.specs.declared.terms.Terms.{Terms}
 use Rattle.ug_stock.specs.declared.stock.Stock.{Stock}
 use Rattle.ug_stock.specs.Stocks.{AreTermsOf, with_stock}
@@ -39,7 +39,7 @@ pub record HasTakenPart (terms : Terms) (r : ℕ) (changes : List Change) (old n
     : Type 0 where
   pub joined : HasJoinedRace terms r changes old new
   pub ranks : new.ranks ≡ slice_set old.ranks r
-      (Racing (racer_of (ticket_under terms (old.last + 1)) (params_with (r % 16))))
+      (Racing (racer_of (ticket_under terms (old.last + 1)) (racer_params r)))
   pub last : new.last ≡ old.last + 1
   pub orders : new.orders.spare + 1 ≡ old.orders.spare
   pub kept : KeepsPoolAndRace old new

@@ -22,7 +22,7 @@ pub record HasRoom (stock : Stock) : Type 0 where
   pub pool : length (nodes_of stock.ranks) + length (raced_node stock.raced) ≤ stock.pool.spare
   pub orders : length (nodes_of stock.ranks) ≤ stock.orders.spare
 
--- whatever else the book has, a rank of it died
+-- whatever else the book has, a rank of it was lost
 abbrev pub HasDied : ℕ → Stock → Stock → Type 0
 HasDied rank old new = (b : BookState) → with_stock b new ≡ killed rank (with_stock b old)
 

@@ -1,4 +1,4 @@
--- What a rank is told with a node.
+-- The order that is sent with a node.
 use Rattle.std.specs.Prelude.{ℕ, Bool, List}
 use Rattle.ug_branch.specs.declared.params.Params.{Params}
 use Rattle.ug_nodes.specs.declared.name.Ticket.{Ticket}

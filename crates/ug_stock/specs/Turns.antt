@@ -1,4 +1,4 @@
--- What is to be given out.
+-- What may be assigned.
 use Rattle.std.specs.Prelude.{◌≡◌, true, false}
 use Rattle.ug_rules.specs.State.{BookState}
 use Rattle.ug_rules.specs.Deciding.{is_race_awaited, is_race_due}

@@ -13,8 +13,8 @@ use ug_ranks::Ranks;
 use ug_rules::Told;
 
 impl Stock {
-    /// Tells each rank that has joined the cutoff, the lowest first, where it is another than the
-    /// one announced last; then it is the one announced last. After an error nothing has changed.
+    /// Queues a new cutoff for each rank that has joined, the lowest first, if it is not the one
+    /// announced last; then it is the one announced last. After an error nothing has changed.
     pub fn announce(&mut self, cutoff: Option<i128>) -> Result<(), AllocError>
         requires { HasRoom self.old }
         ensures ok { OnOk result ((b : BookState) → with_stock b self.new
@@ -43,7 +43,7 @@ fn is_same(announced: Option<i128>, cutoff: i128) -> bool
     announced == Some(cutoff)
 }
 
-// Each rank that has joined is told the cutoff.
+// Queues the cutoff for each rank that has joined.
 fn tell_joined(ranks: &Ranks, orders: &mut Queue, cutoff: i128)
     requires { length (announcements cutoff ranks.now) ≤ orders.old.spare }
     ensures orders { orders.new.orders ≡ orders.old.orders ++ announcements cutoff ranks.now }
@@ -55,7 +55,7 @@ fn tell_joined(ranks: &Ranks, orders: &mut Queue, cutoff: i128)
     }
 }
 
-// A rank is told the cutoff, if it has joined.
+// Queues the cutoff for a rank, if it has joined.
 fn tell_one(ranks: &Ranks, orders: &mut Queue, cutoff: i128, rank: u32)
     requires there { rank < length ranks.now }
     requires room { length (announcement cutoff rank (state_at ranks.now rank)) ≤ orders.old.spare }

@@ -10,7 +10,7 @@ use ug_frames::Order;
 use ug_ranks::Ranks;
 use ug_rules::Told;
 
-/// A rank that works is asked for so many nodes, and told so.
+/// Asks an active rank for `count` nodes, and queues the order.
 #[tactic(auto, using(crate::proofs::Asked::not_told_in, crate::proofs::Asked::told_in, crate::proofs::Asked::kept_asked))]
 pub fn ask(ranks: &mut Ranks, orders: &mut Queue, rank: u32, count: u32)
     requires there { rank < length ranks.old }
@@ -30,7 +30,7 @@ pub fn ask(ranks: &mut Ranks, orders: &mut Queue, rank: u32, count: u32)
     }
 }
 
-/// Each of these ranks that works is asked for none any more, and told so.
+/// Ends the request to each of these active ranks, and queues the orders.
 pub fn ask_no_more(ranks: &mut Ranks, orders: &mut Queue, told: &[u32])
     requires there { All (λ rank. rank < length ranks.old) told.now }
     requires room { length told.now ≤ orders.old.spare }
@@ -44,7 +44,7 @@ pub fn ask_no_more(ranks: &mut Ranks, orders: &mut Queue, told: &[u32])
     }
 }
 
-// A rank that works is asked for none any more, and told so.
+// Ends the request to an active rank, and queues the order.
 #[tactic(auto, using(crate::proofs::Asked::not_told_out, crate::proofs::Asked::told_out, crate::proofs::Asked::kept_asked))]
 fn ask_none(ranks: &mut Ranks, orders: &mut Queue, rank: u32)
     requires there { rank < length ranks.old }

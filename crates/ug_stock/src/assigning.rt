@@ -13,15 +13,16 @@ use ug_pool::OpenNodes;
 use ug_ranks::Assignment;
 
 impl Stock {
-    /// Gives the least node of the pool to the lowest idle rank, while there are a rank, a node and
-    /// a ticket. Ok: how often. Err: memory ran out after so many times, and these stand.
+    /// Assigns the first node of the pool to the lowest idle rank, while there are a rank, a node
+    /// and a ticket. Returns how often. Fails if memory runs out, with the number of assignments
+    /// that stand.
     #[tactic(auto, using(crate::proofs::Progress::none_assigned, crate::proofs::Progress::nothing_moved))]
     pub fn assign_all(&mut self, terms: Terms) -> Result<u64, Stopped>
         ensures ok { IfOk result (HasAssignedAll terms self.old self.new) }
         ensures err { IfErr result (λ stopped. HasAssignedPart terms self.old self.new stopped.steps) }
         ensures places { KeepsPlaces self.old self.new }
     {
-        // The usual case, and then no rank is looked at.
+        // The usual case, which examines no rank.
         if self.pool.len() == 0 {
             return Ok(0);
         }

@@ -9,7 +9,7 @@ use ug_nodes::Line;
 use ug_ranks::Ranks;
 use ug_rules::Told;
 
-// A rank that works below the line's node is idle, and told to stop.
+// Makes a rank idle that works below the line's node, and queues its Stop.
 #[tactic(auto, using(crate::proofs::CallOff::none_below, crate::proofs::CallOff::some_below))]
 fn call_off_one(ranks: &mut Ranks, orders: &mut Queue, rank: u32, line: &Line)
     requires there { rank < length ranks.old }
@@ -30,7 +30,7 @@ fn call_off_one(ranks: &mut Ranks, orders: &mut Queue, rank: u32, line: &Line)
     }
 }
 
-/// The ranks that work below the line's node are idle, and told to stop, the lowest first.
+/// Makes the ranks idle that work below the line's node, and queues their Stops, the lowest first.
 pub fn call_off(ranks: &mut Ranks, orders: &mut Queue, line: &Line)
     requires { length (stops_below line.now ranks.old) ≤ orders.old.spare }
     ensures ranks { ranks.new ≡ called_off line.now ranks.old }

@@ -15,9 +15,9 @@ use ug_ranks::Ranks;
 use ug_rules::Wanted;
 
 impl Stock {
-    /// Asks one rank that works for open nodes, where the pool has fewer than `low`: as many as
-    /// bring it to `high`. Where it has `high`, the ranks that are asked are told that it is
-    /// enough. After an error nothing has changed.
+    /// Asks one active rank for open nodes if the pool has fewer than `low`: as many as bring it to
+    /// `high`. If it has `high`, queues a CollectOut for the ranks that were asked. After an error
+    /// nothing has changed.
     pub fn collect(&mut self, alloc: Global, low: u32, high: u32) -> Result<(), AllocError>
         requires marks { low ≤ high }
         requires room { HasRoom self.old }
@@ -42,15 +42,15 @@ impl Stock {
     }
 }
 
-// Whether so many nodes are no fewer than the low mark and fewer than the high one, so that nothing
-// is wanted.
+// Is the number of nodes at least the low watermark and below the high one, so that nothing is to
+// do?
 fn is_between(len: u64, low: u32, high: u32) -> bool
     ensures { IsTrue result ↔ ((low ≤ len) × (len < high)) }
 {
     u64::from(low) <= len && len < u64::from(high)
 }
 
-// What is wanted is told, where so many ranks work.
+// Queues the orders of a demand, with `working` active ranks.
 fn tell(
     ranks: &mut Ranks,
     orders: &mut Queue,
@@ -65,7 +65,7 @@ fn tell(
     ensures orders { OnErr result (orders.new ≡ orders.old) }
     ensures working { StayAtWork ranks.old ranks.new orders.new }
 {
-    // A place for each that is told, and for the Stop of each rank that works.
+    // A place for each order, and for the Stop of each active rank.
     match demand {
         Wanted::Nothing => {}
         Wanted::Ask { rank, count } => {

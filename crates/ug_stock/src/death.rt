@@ -14,12 +14,12 @@ use ug_pool::{Entry, OpenNodes, Pool};
 use ug_ranks::Ranks;
 
 impl Stock {
-    /// A rank dies. Where it works, its node takes in what is held below: these nodes are dropped,
-    /// the ranks that work on them are idle and told to stop, the lowest first, and its node is
-    /// back in the pool. Where it is the last racer, the raced node is back in the pool.
+    /// Loses a rank. If it is active, its node takes in what is held below: these nodes are
+    /// dropped, the ranks that work on them are idle and sent a Stop, the lowest first, and its
+    /// node returns to the pool. If it is the last racer, the raced node returns to the pool.
     ///
-    /// It takes no memory: each node that is out of the pool has a place there, and each rank that
-    /// works has one for its Stop, and so it is afterwards.
+    /// It takes no memory: each node out of the pool has a place reserved there, and each active
+    /// rank one for its Stop, before and after the call.
     pub fn die(&mut self, rank: u32)
         requires there { rank < length self.old.ranks }
         requires room { HasRoom self.old }
@@ -44,7 +44,7 @@ impl Stock {
     }
 }
 
-// What is held below the node is dropped, and the node is in the pool.
+// Drops what is held below the node, and puts the node into the pool.
 fn take_in(ranks: &mut Ranks, pool: &mut Pool, orders: &mut Queue, node: Node, floor: i128)
     requires pool { 0 < pool.old.spare }
     requires orders { length (stops_below node.line ranks.old) ≤ orders.old.spare }

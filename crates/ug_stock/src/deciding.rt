@@ -60,7 +60,8 @@ fn drop_hopeless(pool: &mut Pool, cutoff: Option<i128>)
     }
 }
 
-// How many steps stand after the first three and so many more, which are no more than the ranks.
+// Returns the number of steps that stand after the first three parts and `steps` more, which are at
+// most the number of ranks.
 fn standing(steps: u64) -> u64
     ensures value { steps ≤ 2 ^ 32 → result ≡ steps + 3 }
     ensures some { 0 < result }

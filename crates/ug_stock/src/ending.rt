@@ -9,8 +9,8 @@ use ug_nodes::Node;
 use ug_ranks::Ranks;
 use ug_rules::Told;
 
-/// The rank wins the race for the node, which has this floor: it is told so, the other racers are
-/// told to stop, the lowest first, and are idle, and the node is the winner's.
+/// Ends a race: the rank wins the node, which has this floor, and is sent a Winner; the other
+/// racers are sent a Stop, the lowest first, and are idle.
 pub fn crown(ranks: &mut Ranks, orders: &mut Queue, node: Node, floor: i128, rank: u32)
     requires there { rank < length ranks.old }
     requires racing { IsRacing (state_at ranks.old rank) }
@@ -30,7 +30,7 @@ pub fn crown(ranks: &mut Ranks, orders: &mut Queue, node: Node, floor: i128, ran
     ranks.win(rank, node, floor);
 }
 
-// A racer is told that it won.
+// Queues the Winner of a racer.
 #[tactic(auto, using(crate::proofs::Racers::told_winner, crate::proofs::Racers::no_winner))]
 fn tell_winner(ranks: &Ranks, orders: &mut Queue, rank: u32)
     requires there { rank < length ranks.now }
@@ -48,7 +48,7 @@ fn tell_winner(ranks: &Ranks, orders: &mut Queue, rank: u32)
     }
 }
 
-// A racer that is not the winner is told to stop, and idle.
+// Queues the Stop of a racer that is not the winner, and makes it idle.
 #[tactic(auto, using(crate::proofs::Racers::told_loser, crate::proofs::Racers::freed_loser, crate::proofs::Racers::kept_other, crate::proofs::Racers::untold_other, crate::proofs::Racers::kept_winner, crate::proofs::Racers::untold_winner, crate::proofs::Racers::nothing_written))]
 fn stop_loser(ranks: &mut Ranks, orders: &mut Queue, winner: u32, rank: u32)
     requires there { rank < length ranks.old }

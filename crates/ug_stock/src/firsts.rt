@@ -33,7 +33,7 @@ pub fn first_changes(pool: &Pool) -> Result<Changes, AllocError>
     }
 }
 
-/// So many copies of the changes.
+/// Returns `n` copies of the changes.
 pub fn copies(alloc: Global, changes: &Changes, n: usize) -> Result<Vec<Changes>, AllocError>
     ensures { IfOk result (λ copies. copies.items ≡ replicate n changes.now) }
 {

@@ -8,12 +8,13 @@ use crate::turns::Turn;
 use std::alloc::Global;
 
 impl Stock {
-    /// Gives out what can be given: where a race is due it begins, and is one step; while one is
-    /// awaited nothing is given; else the least node of the pool goes to the lowest idle rank,
-    /// again and again, while there are a rank, a node and a ticket, and each time is a step.
+    /// Assigns what can be assigned. If a race is due, it begins, which is one step; while one is
+    /// awaited, nothing is assigned; otherwise the first node of the pool goes to the lowest idle
+    /// rank, while there are a rank, a node and a ticket, and each time is a step.
     ///
-    /// Ok: how many steps there were. Err: memory ran out after so many steps, which stand. Each
-    /// step takes its memory before anything changes, and room for what a death may need then.
+    /// Returns the number of steps. Fails if memory runs out, with the number of steps that stand.
+    /// Each step takes its memory before anything changes, and reserves what the loss of a rank may
+    /// need then.
     pub fn give_out(&mut self, alloc: Global, terms: Terms) -> Result<u64, Stopped>
         requires room { HasRoom self.old }
         ensures ok { IfOk result (HasGivenAll terms self.old self.new) }

@@ -7,8 +7,8 @@ use ug_ranks::Work;
 use ug_rows::IntBox;
 use ug_rules::Heard;
 
-/// The answer to a hand of this number and these changes, where it is not the next, or its box is
-/// none below that of the node that is worked on. Where there is none the hand is to be taken.
+/// Returns the answer to a hand of this number and these changes, if it is not the next or its box
+/// is not below that of the assigned node; `None` if the hand is to be taken.
 pub fn judge(root: &IntBox, work: &Work, number: u64, changes: &Changes) -> Option<Heard>
     requires { AreChangesOf root.now work.now.node.changes }
     ensures { MatchOption result

@@ -1,8 +1,8 @@
-//! What a book's events do to its pool, its ranks, its race and the orders that wait, carried out.
-//! It stands on ug_rules for what each does, and on ug_ranks and ug_pool, whose calls it makes. A
-//! death takes no memory and leaves the room that the next needs; `take_hand` takes a hand;
-//! `decide` makes the parts of a decision, `announce`, `end_race`, `give_out` and `collect`, and
-//! for want of memory says how many of its steps stand. All do exactly what the rules say.
+//! Executes what a book's events do to its pool, ranks, race and queue. Depends on ug_rules for
+//! what each event does, and on ug_ranks and ug_pool. The loss of a rank (`die`) takes no memory
+//! and leaves the reserve that the next one needs; `take_hand` takes a hand; `decide` makes the
+//! parts of a decision, `announce`, `end_race`, `give_out` and `collect`, and if memory runs out
+//! says how many steps stand. Everything is exactly what the rules say.
 #![tactic(auto)]
 
 mod announcing;

@@ -5,8 +5,8 @@ ghost use Rattle.ug_ranks.specs.Looks.{is_joined};
 
 use ug_ranks::{Ranks, State};
 
-/// How many places are wanted to tell each rank that has joined, and to keep one for the Stop of
-/// each that works.
+/// Returns the number of places for an order to each rank that has joined, and for the Stop of each
+/// active rank.
 pub fn places(ranks: &Ranks) -> usize
     ensures { result ≡ length (ranks_that is_joined ranks.now) + length (nodes_of ranks.now) }
 {

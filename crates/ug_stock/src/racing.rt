@@ -9,7 +9,7 @@ ghost use Rattle.ug_stock.specs.Stocks.{HasRoom};
 use crate::counting::count;
 use crate::firsts::{copies, take_first};
 use crate::stock::Stock;
-use crate::telling::{params_with, race_order};
+use crate::telling::{race_order, racer_params};
 use crate::terms::Terms;
 use std::alloc::{AllocError, Global};
 use ug_nodes::Changes;
@@ -68,7 +68,6 @@ impl Stock {
         self.orders
             .push(race_order(terms, rank, self.last, changes));
         let ticket = terms.ticket(self.last);
-        self.ranks
-            .race(rank, ticket, params_with((rank % 16) as u8));
+        self.ranks.race(rank, ticket, racer_params(rank));
     }
 }

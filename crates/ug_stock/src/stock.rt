@@ -2,17 +2,18 @@ use crate::queue::Queue;
 use ug_pool::{Entry, Pool};
 use ug_ranks::Ranks;
 
-/// What events and decisions change of a book, beside its incumbent.
+/// The part of a book that events and decisions change, except the incumbent and the counts: pool,
+/// ranks, race and queue.
 #[derive(Drop)]
 pub struct Stock {
     pub pool: Pool,
     pub ranks: Ranks,
-    /// The node that is raced, with its floor, while a race goes on.
+    /// The raced node with its floor, during a race.
     pub raced: Option<Entry>,
-    /// The last ticket number that was given.
+    /// The last ticket number used.
     pub last: u64,
-    /// The orders that wait.
+    /// The queued orders.
     pub orders: Queue,
-    /// The cutoff that was announced last.
+    /// The cutoff announced last.
     pub announced: Option<i128>,
 }

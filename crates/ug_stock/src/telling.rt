@@ -1,6 +1,6 @@
-ghost use Rattle.std.specs.Prelude.{◌≡◌, ◌<◌, ◌%◌, true, false};
+ghost use Rattle.std.specs.Prelude.{◌≡◌, true, false};
 ghost use Rattle.ug_branch.specs.Numbers.{first_params};
-ghost use Rattle.ug_rules.specs.Deciding.{params_with};
+ghost use Rattle.ug_rules.specs.Deciding.{racer_params};
 ghost use Rattle.ug_stock.specs.Telling.{told_under};
 
 use crate::terms::Terms;
@@ -29,13 +29,13 @@ pub fn node_order(terms: Terms, rank: u32, number: u64, changes: Changes) -> Tol
 /// The order for a rank to race for the box of these changes, under the ticket of this number, with
 /// params of its own.
 pub fn race_order(terms: Terms, rank: u32, number: u64, changes: Changes) -> Told
-    ensures { result ≡ told_under terms rank number (params_with (rank % 16)) true changes }
+    ensures { result ≡ told_under terms rank number (racer_params rank) true changes }
 {
     Told {
         rank,
         order: Order::Work {
             ticket: terms.ticket(number),
-            params: params_with((rank % 16) as u8),
+            params: racer_params(rank),
             race: true,
             cutoff: terms.cutoff,
             changes,
@@ -43,10 +43,9 @@ pub fn race_order(terms: Terms, rank: u32, number: u64, changes: Changes) -> Tol
     }
 }
 
-/// The params with this number.
-pub fn params_with(number: u8) -> Params
-    requires { number < 16 }
-    ensures { result ≡ params_with number }
+/// The params of a racer: the racers alternate between the bases.
+pub fn racer_params(rank: u32) -> Params
+    ensures { result ≡ racer_params rank }
 {
-    Params::new(number)
+    Params::new((rank % 2 * 8 + rank / 2 % 8) as u8)
 }

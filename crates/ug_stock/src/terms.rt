@@ -4,13 +4,13 @@ ghost use Rattle.ug_stock.specs.Telling.{ticket_under};
 use ug_branch::Base;
 use ug_nodes::Ticket;
 
-/// What is given out under.
+/// The terms of an assignment.
 #[derive(Clone, Copy)]
 pub struct Terms {
     pub run: u64,
     /// Whether all ranks begin with the root.
     pub racing: bool,
-    /// What the work leaves out that is no race.
+    /// The base of all work outside a race.
     pub base: Base,
     /// The incumbent's cutoff.
     pub cutoff: Option<i128>,
@@ -28,7 +28,7 @@ impl Terms {
     }
 }
 
-/// Memory ran out after so many steps, which stand.
+/// Memory ran out; this number of steps stands.
 #[derive(Clone, Copy, PartialEq, Eq)]
 pub struct Stopped {
     pub steps: u64,

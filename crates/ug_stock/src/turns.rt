@@ -8,7 +8,7 @@ use crate::stock::Stock;
 use crate::terms::Terms;
 use ug_pool::{Entry, OpenNodes, Pool};
 
-/// What is to be given out.
+/// What may be assigned.
 #[derive(Clone, Copy)]
 pub enum Turn {
     /// The one node held, to all ranks.
@@ -20,7 +20,7 @@ pub enum Turn {
 }
 
 impl Stock {
-    /// What is to be given out now.
+    /// Returns what may be assigned now.
     pub fn turn(&self, terms: Terms) -> Turn
         ensures turn { HasTurn terms self.now result }
         ensures first { result ≡ Turn.Race → self.now.last ≡ 0 }
@@ -32,7 +32,7 @@ impl Stock {
         self.first_turn(terms, count(&self.ranks))
     }
 
-    // What is to be given out before any ticket was, where the ranks are to race.
+    // Returns what may be assigned before the first ticket, if the ranks are to race.
     fn first_turn(&self, terms: Terms, counts: Counts) -> Turn
         requires racing { IsTrue terms.racing }
         requires first { self.now.last ≡ 0 }
@@ -52,7 +52,7 @@ impl Stock {
     }
 }
 
-// Whether one node is held, where so many ranks work.
+// Is exactly one node held, with `working` active ranks?
 fn is_one_held(pool: &Pool, raced: &Option<Entry>, working: usize) -> bool
     ensures { result
         ≡ nat_eq (length pool.now.entries + working + length (raced_node raced.now)) 1 }

@@ -1,7 +1,7 @@
-/// A decision that memory ended: so many of its steps stand.
+/// A decision that ran out of memory; the number of its steps that stand.
 ///
 /// The steps are, in this order: nodes dropped, a cutoff announced, a race ended, a race begun or
-/// each node given, and what is wanted of the ranks that work.
+/// each node assigned, and nodes asked for.
 #[derive(Clone, Copy, PartialEq, Eq)]
 pub struct Unfinished {
     pub stood: u64,

@@ -8,8 +8,8 @@ use std::alloc::{AllocError, Global};
 use ug_lists::Items;
 use ug_rules::{Member, Wanted};
 
-/// What is wanted with `len` nodes in the pool: more where there are fewer than `low`, no more
-/// where there are at least `high`. The members are the ranks with an assignment.
+/// Returns what the pool needs with `len` nodes: more if there are fewer than `low`, no more if
+/// there are at least `high`. The members are the ranks with an assignment.
 #[tactic(auto, using(crate::proofs::Once::wanted_once))]
 pub fn wanted(
     alloc: Global,
@@ -23,7 +23,7 @@ pub fn wanted(
     ensures only { (other : Wanted) → IsWanted len low high members.now other
         → IfOk result (λ made. made ≡ other) }
     ensures rising { AreRising members.now → IfOk result HasRisingRanks }
-    // Memory is taken for the list of those told to stop alone.
+    // Only the list of ranks to stop takes memory.
     ensures memory { OnErr result (IsFull len high members.now) }
 {
     if len < low {
@@ -36,7 +36,7 @@ pub fn wanted(
     Ok(Wanted::Enough(Items::from_vec(ranks)))
 }
 
-// What is wanted below the low mark.
+// Returns what the pool needs below the low watermark.
 fn ask(len: u64, low: u64, high: u64, members: &[Member]) -> Wanted
     requires few { len < low }
     requires marks { low ≤ high }
@@ -106,7 +106,7 @@ fn is_ahead(one: Member, other: Member) -> bool
     one.floor < other.floor
 }
 
-// Whether those that are collecting are told to stop.
+// Must the ranks stop that are collecting?
 fn is_full(len: u64, high: u64, members: &[Member]) -> bool
     ensures { MatchBool result (IsFull len high members.now)
         (high ≤ len → IsNoneCollecting members.now) }

@@ -14,10 +14,10 @@ use ug_pool::Entry;
 use ug_ranks::Ranks;
 
 impl Stock {
-    /// Ends the race, where each racer has reported and one of them has enough open nodes: the
-    /// raced node is the winner's, which is told so, and the other racers are told to stop and are
-    /// idle. Else nothing changes, and where no node is raced no memory is taken. After an error
-    /// nothing has changed.
+    /// Ends the race if each racer has reported and one of them has enough open nodes: the winner
+    /// gets the raced node and is sent a Winner; the other racers are sent a Stop and are idle.
+    /// Otherwise nothing changes; without a raced node no memory is taken. After an error nothing
+    /// has changed.
     pub fn end_race(&mut self, alloc: Global, enough: u64) -> Result<(), AllocError>
         requires alone { StandsAlone self.old.ranks self.old.raced }
         requires room { HasRoom self.old }

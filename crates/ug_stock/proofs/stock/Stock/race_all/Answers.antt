@@ -3,7 +3,7 @@ use Rattle.ug_ranks.specs.declared.state.State.{State}
 use Rattle.ug_ranks.specs.Changes.{racer_of}
 use Rattle.ug_ranks.specs.States.{state_at}
 use Rattle.ug_ranks.specs.Looks.{is_idle}
-use Rattle.ug_rules.specs.Deciding.{params_with}
+use Rattle.ug_rules.specs.Deciding.{racer_params}
 use Rattle.ug_rules.proofs.FirstLemmas.{idle_is}
 use Rattle.ug_stock.specs.Telling.{ticket_under}
 use Rattle.ug_stock.proofs.Joining.{all_joined, as_many_spare, box_left, one_joins, other_passed, place_left}
@@ -77,7 +77,7 @@ loop-rank-preserved c =
     one_joins c.args.terms c.args.boxes.items c.loop-rank.boxes.items c.pop.new.self.items
     c.in-Some.changes old now new
     (racer_of (ticket_under c.args.terms (c.loop-rank.self.last + 1))
-    (params_with (c.loop-rank.rank % 16)))
+    (racer_params c.loop-rank.rank))
     c.loop-rank.rank
     (omega (
       arith,
