@@ -1,4 +1,4 @@
--- What was heard is what the rules say, step by step: taken up, carried out, and counted.
+-- What was received is what the rules say, step by step: taken up, carried out, and counted.
 use Rattle.std.proofs.Common.{◌≡◌, ℕ, List, [], ◌∷◌, refl, sym, ap, ◌∙◌}
 use Rattle.std.specs.Prelude.{Option, Some, None}
 use Rattle.ug_pool.specs.declared.entry.Entry.{Entry}

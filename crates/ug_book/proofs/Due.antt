@@ -34,7 +34,7 @@ solution_now b Absent ticket x answer e due = absurd (none-some ticket e)
 solution_now b Idle ticket x answer e due = absurd (none-some ticket e)
 solution_now b (Dead how) ticket x answer e due = absurd (none-some ticket e)
 
--- and so is what is told of open nodes
+-- and so is what is reported of open nodes
 pub reported_now : (b : BookState) (s : State) (ticket : Ticket) (count : ℕ) (floor : ℤ)
     → ticket_at s ≡ Some ticket → IsCurrentDue b s (Reported ticket count floor) Kept
 reported_now b (Racing racer) ticket count floor e = refl

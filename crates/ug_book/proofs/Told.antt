@@ -1,4 +1,4 @@
--- A book of which an order was told is one still, and has room.
+-- A book of which an order was sent is one still, and has room.
 use Rattle.std.proofs.Common.{◌≡◌, [], List, ◌∙◌, ap, sym, subst, arith}
 use Rattle.std.specs.Prelude.{MatchOption, Option, Some, None}
 use Rattle.ug_rules.specs.declared.told.Told.{Told}

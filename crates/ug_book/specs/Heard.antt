@@ -2,8 +2,9 @@
 use Rattle.std.specs.Prelude.{◌≡◌, ℕ, ℤ, ◌+◌, ◌<◌, ◌^◌, if◌then◌else◌, nat_lt}
 use Rattle.std.specs.Prelude.{List, length, Option, Some, IfSome}
 use Rattle.ug_problem.specs.Feasible.{Feasible}
-use Rattle.ug_problem.specs.Better.{IsGap}
+use Rattle.ug_problem.specs.Better.{IsGap, IsSmallCutoff, best_cutoff}
 use Rattle.ug_frames.specs.declared.report.Report.{Report}
+use Rattle.ug_book.specs.declared.incumbent.Incumbent.{Incumbent}
 use Rattle.ug_ranks.specs.States.{state_at}
 use Rattle.ug_rules.specs.declared.heard.Heard.{Heard}
 use Rattle.ug_rules.specs.declared.heard.Heard.TheVariants.{Kept, Memory}
@@ -19,7 +20,7 @@ use Rattle.ug_stock.specs.Stocks.{HasRoom, with_stock}
 abbrev pub with_held : BookState → Option (List ℤ) → Stock → BookState
 with_held b best stock = record (with_stock b stock) { best = best }
 
--- a report of the rank can be heard: the rank is one of the run's, and keeps its floor, the root's
+-- a report of the rank can be received: the rank is one of the run's, and has its floor, the root's
 -- floor is known, and there is room for each end
 pub record CanHear (run : Run) (rank : ℕ) (stock : Stock) : Type 0 where
   pub there : rank < length stock.ranks
@@ -27,17 +28,19 @@ pub record CanHear (run : Run) (rank : ℕ) (stock : Stock) : Type 0 where
   pub floor : KnowsFloor run
   pub room : HasRoom stock
 
--- the incumbent can be compared with: it is feasible, and the gap is one
-pub record CanCompare (run : Run) (best : Option (List ℤ)) : Type 0 where
-  pub incumbent : IfSome best (Feasible run.problem)
+-- the incumbent can be compared with: it is feasible, the gap is one, and the cutoff is its own
+pub record CanCompare (run : Run) (incumbent : Incumbent) : Type 0 where
+  pub feasible : IfSome incumbent.best (Feasible run.problem)
   pub gap : IsGap run.settings.gap
+  pub cutoff : incumbent.cutoff ≡ best_cutoff run.problem run.settings.gap incumbent.best
+  pub small : IsSmallCutoff incumbent.cutoff
 
 -- the book is of this run
 pub record IsOfRun (b : BookState) (run : Run) : Type 0 where
   pub problem : b.problem ≡ run.problem
   pub settings : b.settings ≡ run.settings
 
--- how many reports were heard, after one more, up to the end of the count
+-- the number of reports received, after one more, up to the end of the count
 abbrev pub one_more : ℕ → ℕ
 one_more heard = (if nat_lt (heard + 1) (2 ^ 64) then heard + 1 else heard)
 

@@ -1,5 +1,5 @@
 -- What a run begins with, and the book that is made of it.
-use Rattle.std.specs.Prelude.{◌≡◌, ℕ, ◌<◌, List, [], ◌∷◌, None, All, IfSome, map}
+use Rattle.std.specs.Prelude.{ℕ, ◌<◌, [], ◌∷◌, None, All, IfSome, map}
 use Rattle.ug_problem.specs.Instances.{Instance, root_of}
 use Rattle.ug_problem.specs.Incumbents.{one_kept}
 use Rattle.ug_problem.specs.Feasible.{Feasible}

@@ -1,4 +1,4 @@
--- What is read of a book.
+-- Reading a book.
 use Rattle.std.specs.Prelude.{◌≡◌, [], ◌∷◌}
 use Rattle.ug_problem.specs.Right.{answer_of}
 use Rattle.ug_problem.specs.declared.answer.Answer.{Answer}

@@ -57,7 +57,7 @@ pub record IsRunOf (o : Opening) (run : Run) : Type 0 where
   pub sound : IsProblem run.problem
 
 -- the starting nodes with these boxes are in the pool, each with its floor, all ranks are absent,
--- no ticket was given, nothing is told, and this cutoff counts as announced
+-- no ticket was given, no order is queued, and this cutoff counts as announced
 pub record IsFirstStock (run : Run) (cutoff : Option ℤ) (boxes : List (List Change)) (stock : Stock)
     : Type 0 where
   pub pool : stock.pool.entries ≡ with_entries (start_entries run.problem run.number 0 boxes) []

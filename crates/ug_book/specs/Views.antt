@@ -1,5 +1,6 @@
 -- What contracts see of a book, and the room that it keeps.
 use Rattle.std.specs.Prelude.{◌≡◌, length}
+use Rattle.ug_problem.specs.Better.{IsSmallCutoff, best_cutoff}
 use Rattle.ug_rules.specs.State.{BookState}
 use Rattle.ug_rules.specs.Books.{IsBook}
 use Rattle.ug_stock.specs.Runs.{KnowsFloor}
@@ -12,7 +13,7 @@ state_of b = record {
   problem = b.run.problem;
   run = b.run.number;
   settings = b.run.settings;
-  best = b.best;
+  best = b.incumbent.best;
   pool = b.stock.pool.entries;
   ranks = b.stock.ranks;
   raced = b.stock.raced;
@@ -22,10 +23,13 @@ state_of b = record {
   announced = b.stock.announced;
 }
 
--- the fields are those of a book, and there is room for each node that may go back to the pool, and
--- for the Stop of each rank that works
+-- the fields are those of a book, the cutoff is the incumbent's, and there is room for each node that
+-- may go back to the pool, and for the Stop of each rank that works
 pub record IsRoomy (b : Inside) : Type 0 where
   pub book : IsBook (state_of b)
+  pub cutoff : b.incumbent.cutoff
+      ≡ best_cutoff b.run.problem b.run.settings.gap b.incumbent.best
+  pub small : IsSmallCutoff b.incumbent.cutoff
   pub floor : KnowsFloor b.run
   pub room : HasRoom b.stock
 

@@ -64,7 +64,7 @@ impl Best {
         offered
     }
 
-    // What is said of a point.
+    // Compares a point with the incumbent.
     fn judge(&self, problem: &Problem, point: &Point) -> Offered
         requires { IfSome self.now (Feasible problem.now) }
         ensures { IsAnswer problem.now self.now point.now result }

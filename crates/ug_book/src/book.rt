@@ -1,12 +1,13 @@
-use crate::best::Best;
+use crate::incumbent::Incumbent;
 use std::marker::Model;
 use ug_stock::{Run, Stock};
 
-/// What a coordinator holds and knows.
+/// The state of a coordinator: what no call changes, the incumbent, the stock, and the number of
+/// reports received.
 #[derive(Drop)]
 pub struct Book {
     pub(crate) run: Run,
-    pub(crate) best: Best,
+    pub(crate) incumbent: Incumbent,
     pub(crate) stock: Stock,
     pub(crate) heard: u64,
 }

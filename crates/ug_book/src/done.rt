@@ -44,7 +44,8 @@ pub fn hear_done(
     answer
 }
 
-// The answer to a Done under the current ticket of a rank, where so many hands were taken.
+// Returns the answer to a Done under the current ticket of a rank, of which `taken` hands were
+// received.
 fn judge_done(incumbent: Option<i128>, taken: u64, cutoff: Option<i128>, count: u64) -> Heard
     ensures { (b : BookState) → best_cutoff b.problem b.settings.gap b.best ≡ incumbent
         → IsDoneDue b taken cutoff count result }

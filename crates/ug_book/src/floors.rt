@@ -2,7 +2,7 @@ use ug_pool::Entry;
 use ug_ranks::{Racer, State, Work};
 use ug_stock::Stock;
 
-// What a rank told last of its work, and before its first report the floor of its node.
+// Returns the floor that a rank reported last, or before its first report the floor of its node.
 fn floor_of_work(work: &Work) -> i128 {
     if work.open == 0 {
         return work.floor;
@@ -10,7 +10,7 @@ fn floor_of_work(work: &Work) -> i128 {
     work.reported
 }
 
-// Each racer has all of the node that is raced, so the greatest floor that one told is a bound.
+// Each racer has all of the raced node, so the largest floor that one reported is a bound.
 fn floor_with_racer(floor: i128, racer: &Racer) -> i128 {
     if racer.open == 0 {
         return floor;
@@ -18,7 +18,7 @@ fn floor_with_racer(floor: i128, racer: &Racer) -> i128 {
     racer.floor.max(floor)
 }
 
-// The floor of the node that is raced, by what racers told last.
+// Returns the floor of the raced node, by the last reports of the racers.
 fn floor_of_race(raced: &Entry, states: &[State]) -> i128 {
     let mut floor = raced.floor;
     for state in states {

@@ -17,8 +17,8 @@ use ug_rules::Heard;
 use ug_stock::Stock;
 
 impl Book {
-    /// Hears a report of a rank, and answers what is due. After an answer that is a death the rank
-    /// is dead; after Memory, which comes of a hand alone, nothing has changed.
+    /// Receives a report of a rank and returns the answer that is due. After an answer that means a
+    /// loss the rank is dead. `Memory` is the answer to a hand only, and then nothing has changed.
     ///
     /// A sound book stays sound, if a Done of the rank's ticket is true of its box.
     pub fn hear(&mut self, rank: u32, report: Report) -> Heard
@@ -30,7 +30,13 @@ impl Book {
         ensures sound { IsTrueReport self.old rank report → IsSoundBook self.old
             → IsSoundBook self.new }
     {
-        let answer = take_report(&self.run, &mut self.best, &mut self.stock, rank, report);
+        let answer = take_report(
+            &self.run,
+            &mut self.incumbent,
+            &mut self.stock,
+            rank,
+            report,
+        );
         end_by(answer, &mut self.stock, rank);
         self.heard = heard_after(answer, self.heard);
         answer
@@ -48,7 +54,7 @@ impl Book {
         self.stock.ranks.idle(rank);
     }
 
-    /// The rank died, or is taken for dead. It takes no memory.
+    /// Declares the rank lost. Takes no memory.
     pub fn gone(&mut self, rank: u32)
         requires { rank < length self.old.ranks }
         ensures done { self.new ≡ killed rank self.old }
@@ -72,7 +78,7 @@ fn end_by(answer: Heard, stock: &mut Stock, rank: u32)
     }
 }
 
-// How many reports were heard after the answer to one more, of so many before.
+// Returns the number of reports after the answer to one more.
 fn heard_after(answer: Heard, heard: u64) -> u64
     ensures { result ≡ heard_after answer heard }
 {

@@ -1,8 +1,8 @@
-//! The book: the coordinator's core for N ranks. It holds the pool, the ranks and the incumbent,
-//! hears reports, decides, gives orders and answers.
-//! It stands on ug_rules, which says what each event does, and on ug_stock, which carries them out.
-//! Each call does exactly what its rule says. Whatever is heard no better point is lost, with one
-//! premise on one report: that a Done is true of its ticket's box.
+//! The book: the state of a coordinator for N ranks, with pool, ranks and incumbent. It receives
+//! reports, decides, queues orders and answers. Depends on ug_rules, which says what each event
+//! does, and on ug_stock, which executes it. Each call does exactly what its rule says. Whatever is
+//! received, no better point is lost, with one assumption on one report: a Done is true of its
+//! ticket's box.
 #![tactic(auto)]
 
 mod best;
@@ -14,6 +14,7 @@ mod floors;
 mod hand;
 mod hear;
 mod held;
+mod incumbent;
 mod joining;
 mod note;
 mod opening;

@@ -8,7 +8,7 @@ use ug_nodes::Ticket;
 use ug_ranks::Ranks;
 use ug_rules::Heard;
 
-// What a rank tells of its open nodes, under a ticket.
+// Records what a rank reports of its open nodes, under a ticket.
 pub fn hear_state(ranks: &mut Ranks, rank: u32, ticket: Ticket, open: u64, floor: i128) -> Heard
     requires { rank < length ranks.old }
     ensures due { (b : BookState)

@@ -20,7 +20,7 @@ pub struct Opening {
     pub run: u64,
     /// The incumbent, if there is one.
     pub best: Option<Point>,
-    /// What is left to be solved.
+    /// The boxes that are left to be solved.
     pub boxes: Boxes,
     pub settings: Settings,
 }

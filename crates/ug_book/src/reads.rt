@@ -3,13 +3,13 @@ ghost use Rattle.std.specs.Option.{option_copied};
 ghost use Rattle.std.specs.List.{AllPairs};
 ghost use Rattle.ug_problem.specs.Instances.{root_of};
 ghost use Rattle.ug_problem.specs.Incumbents.{one_kept};
-ghost use Rattle.ug_problem.specs.Better.{Covered};
+ghost use Rattle.ug_problem.specs.Better.{Covered, IsSmallCutoff};
 ghost use Rattle.ug_problem.specs.Right.{Right};
 ghost use Rattle.ug_nodes.specs.declared.node.Node.{Node};
 ghost use Rattle.ug_nodes.specs.Primitive.{IsNamedBefore, IsPrimitive, lent};
 ghost use Rattle.ug_ledger.specs.Ledgers.{boxes_of};
 ghost use Rattle.ug_ranks.specs.States.{state_at};
-ghost use Rattle.ug_rules.specs.State.{held_nodes};
+ghost use Rattle.ug_rules.specs.State.{cutoff_of_best, held_nodes};
 ghost use Rattle.ug_rules.specs.Books.{IsBook, IsSoundBook};
 ghost use Rattle.ug_book.specs.Reads.{IsAnswerOf, IsOrderTold};
 ghost use Rattle.ug_ranks.specs.Looks.{is_alive};
@@ -60,10 +60,18 @@ impl Book {
     pub fn best(&self) -> Option<&Point>
         ensures { option_copied result ≡ self.now.best }
     {
-        self.best.point()
+        self.incumbent.best.point()
     }
 
-    /// How many reports were heard.
+    /// The incumbent's cutoff, if there is an incumbent: points of a value below are of use.
+    pub fn cutoff(&self) -> Option<i128>
+        ensures value { result ≡ cutoff_of_best self.now }
+        ensures small { IsSmallCutoff result }
+    {
+        self.incumbent.cutoff
+    }
+
+    /// Returns the number of reports received.
     pub fn heard(&self) -> u64
         ensures { result ≡ self.now.heard }
     {
@@ -127,14 +135,14 @@ impl Book {
         if !self.is_empty() {
             return None;
         }
-        match self.best.point() {
+        match self.incumbent.best.point() {
             Some(point) => Some(Answered::Optimal(point)),
             None => Some(Answered::Infeasible),
         }
     }
 
-    /// What no point of the nodes held is better than, by the floors of the pool and what the ranks
-    /// told last: of their truth nothing is said. None where no node is held.
+    /// Returns the dual bound of the nodes held, by the floors of the pool and the last reports of
+    /// the ranks, whose truth is not known. Returns `None` if no node is held.
     pub fn bound(&self) -> Option<i128>
         ensures { IsNone result ↔ (held_nodes self.now ≡ []) }
     {

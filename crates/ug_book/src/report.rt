@@ -4,14 +4,12 @@ ghost use Rattle.ug_rules.specs.HearingLaws.{HasRisingChanges};
 ghost use Rattle.ug_stock.specs.Stocks.{HasRoom};
 ghost use Rattle.ug_book.specs.Heard.{CanCompare, CanHear, IsAnswered, IsOfRun, with_held};
 
-use crate::best::Best;
-use crate::decide::current_cutoff;
 use crate::done::hear_done;
 use crate::hand::hear_hand;
+use crate::incumbent::Incumbent;
 use crate::joining::{hear_ended, hear_ready};
 use crate::note::hear_state;
 use crate::origin::Origin;
-use crate::solution::hear_solution;
 use ug_frames::Report;
 use ug_rules::Heard;
 use ug_stock::{Run, Stock};
@@ -20,24 +18,25 @@ use ug_stock::{Run, Stock};
 // changed.
 pub fn take_report(
     run: &Run,
-    best: &mut Best,
+    incumbent: &mut Incumbent,
     stock: &mut Stock,
     rank: u32,
     report: Report,
 ) -> Heard
     requires can { CanHear run.now rank stock.old }
-    requires compares { CanCompare run.now best.old }
+    requires compares { CanCompare run.now incumbent.old }
     ensures answered { (b : BookState) → IsOfRun b run.now → IsAnswered rank report result
-        (with_held b best.old stock.old) (with_held b best.new stock.new) }
+        (with_held b incumbent.old.best stock.old) (with_held b incumbent.new.best stock.new) }
     ensures rising { HasRisingChanges report }
     ensures room { BookState → HasRoom stock.new }
+    ensures compares { CanCompare run.now incumbent.new }
 {
     match report {
         Report::Ready => hear_ready(&mut stock.ranks, rank),
         Report::Ended => hear_ended(stock.ranks.state(rank)),
         Report::Solution { ticket, point } => {
             let state = stock.ranks.state(rank);
-            hear_solution(run.problem.problem(), best, state, ticket, point)
+            incumbent.hear(run, state, ticket, point)
         }
         Report::Hand {
             ticket,
@@ -54,9 +53,12 @@ pub fn take_report(
             cutoff,
             count,
             end: _end,
-        } => {
-            let incumbent = current_cutoff(run, best);
-            hear_done(stock, Origin { rank, ticket }, incumbent, cutoff, count)
-        }
+        } => hear_done(
+            stock,
+            Origin { rank, ticket },
+            incumbent.cutoff,
+            cutoff,
+            count,
+        ),
     }
 }

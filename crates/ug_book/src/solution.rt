@@ -24,6 +24,7 @@ pub fn hear_solution(
     ensures due { (b : BookState) → b.problem ≡ problem.now → b.best ≡ best.old
         → IsDueUnder b state.now ticket (Solution ticket point) result }
     ensures best { best.new ≡ best_under result point best.old }
+    ensures feasible { IfSome best.new (Feasible problem.now) }
 {
     if !state.has_ticket(ticket) {
         return Heard::Stale;
@@ -37,6 +38,7 @@ fn offer(problem: &Problem, best: &mut Best, point: Point) -> Heard
     ensures due { (b : BookState) → b.problem ≡ problem.now → b.best ≡ best.old
         → IsSolutionDue b point result }
     ensures best { best.new ≡ best_under result point best.old }
+    ensures feasible { IfSome best.new (Feasible problem.now) }
 {
     match best.offer(problem, point) {
         Offered::Taken => Heard::Kept,

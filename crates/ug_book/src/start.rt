@@ -8,7 +8,7 @@ ghost use Rattle.ug_book.specs.Starts.{IsFirstStock, IsRunOf, IsStartPut, start_
 
 use crate::best::Best;
 use crate::book::Book;
-use crate::decide::current_cutoff;
+use crate::incumbent::Incumbent;
 use crate::opening::{Boxes, Opening, copied};
 use std::alloc::{AllocError, Global};
 use ug_nodes::{Changes, Line, Name, Node, Ticket};
@@ -30,18 +30,17 @@ impl Book {
             drop(run);
             return Err(AllocError);
         };
-        let best = Best::new(best);
-        let announced = current_cutoff(&run, &best);
-        match first_stock(&run, announced, &opening.boxes) {
+        let incumbent = Incumbent::new(&run, Best::new(best));
+        match first_stock(&run, incumbent.cutoff, &opening.boxes) {
             Ok(stock) => Ok(Book {
                 run,
-                best,
+                incumbent,
                 stock,
                 heard: 0,
             }),
             Err(error) => {
                 drop(run);
-                drop(best);
+                drop(incumbent);
                 Err(error)
             }
         }

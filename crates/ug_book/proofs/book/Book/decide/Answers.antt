@@ -16,8 +16,8 @@ pub invariant_of-self : goal.invariant_of-self
 invariant_of-self c =
     let b : BookState = state_of c.self.inside in
     let new : BookState = with_stock b c.decide.new.self in
-    let under : IsUnder b c.self.inside.run c.current_cutoff-cutoff.result =
-    record { run = refl; settings = refl; cutoff = sym c.current_cutoff-cutoff.ensures } in
+    let under : IsUnder b c.self.inside.run c.self.inside.incumbent.cutoff =
+    record { run = refl; settings = refl; cutoff = sym c.self.invariant.cutoff } in
     let decided : OnOk c.decide.result (IsDecided b new) =
     on_ok_weaker c.decide.result (λ f. f b under) c.decide.ensures.decided in
     let stood : IfErr c.decide.result (λ e. Stands e.stood b new) =
@@ -25,6 +25,8 @@ invariant_of-self c =
     record {
       book = (decision_keeps c.decide.result b new c.self.invariant.book decided stood).book
           c.self.invariant.book;
+      cutoff = c.self.invariant.cutoff;
+      small = c.self.invariant.small;
       floor = c.self.invariant.floor;
       room = c.decide.ensures.room;
     }
@@ -33,8 +35,8 @@ pub returns-clause-decided : goal.returns-clause-decided
 returns-clause-decided c =
     let b : BookState = state_of c.self.inside in
     let new : BookState = with_stock b c.decide.new.self in
-    let under : IsUnder b c.self.inside.run c.current_cutoff-cutoff.result =
-    record { run = refl; settings = refl; cutoff = sym c.current_cutoff-cutoff.ensures } in
+    let under : IsUnder b c.self.inside.run c.self.inside.incumbent.cutoff =
+    record { run = refl; settings = refl; cutoff = sym c.self.invariant.cutoff } in
     let decided : OnOk c.decide.result (IsDecided b new) =
     on_ok_weaker c.decide.result (λ f. f b under) c.decide.ensures.decided in
     subst (λ (k : BookState). OnOk c.decide.result (IsDecided k new)) c.self.view_is decided
@@ -43,8 +45,8 @@ pub returns-clause-settled : goal.returns-clause-settled
 returns-clause-settled c =
     let b : BookState = state_of c.self.inside in
     let new : BookState = with_stock b c.decide.new.self in
-    let under : IsUnder b c.self.inside.run c.current_cutoff-cutoff.result =
-    record { run = refl; settings = refl; cutoff = sym c.current_cutoff-cutoff.ensures } in
+    let under : IsUnder b c.self.inside.run c.self.inside.incumbent.cutoff =
+    record { run = refl; settings = refl; cutoff = sym c.self.invariant.cutoff } in
     let decided : OnOk c.decide.result (IsDecided b new) =
     on_ok_weaker c.decide.result (λ f. f b under) c.decide.ensures.decided in
     on_ok_weaker c.decide.result (decided_settled b new) decided
@@ -53,8 +55,8 @@ pub returns-clause-stands : goal.returns-clause-stands
 returns-clause-stands c =
     let b : BookState = state_of c.self.inside in
     let new : BookState = with_stock b c.decide.new.self in
-    let under : IsUnder b c.self.inside.run c.current_cutoff-cutoff.result =
-    record { run = refl; settings = refl; cutoff = sym c.current_cutoff-cutoff.ensures } in
+    let under : IsUnder b c.self.inside.run c.self.inside.incumbent.cutoff =
+    record { run = refl; settings = refl; cutoff = sym c.self.invariant.cutoff } in
     let stood : IfErr c.decide.result (λ e. Stands e.stood b new) =
     IfErr-weaker c.decide.result _ _ (λ e f. f b under) c.decide.ensures.stands in
     subst (λ (k : BookState). IfErr c.decide.result (λ e. Stands e.stood k new))
@@ -64,8 +66,8 @@ pub returns-clause-sound : goal.returns-clause-sound
 returns-clause-sound c = λ s.
     let b : BookState = state_of c.self.inside in
     let new : BookState = with_stock b c.decide.new.self in
-    let under : IsUnder b c.self.inside.run c.current_cutoff-cutoff.result =
-    record { run = refl; settings = refl; cutoff = sym c.current_cutoff-cutoff.ensures } in
+    let under : IsUnder b c.self.inside.run c.self.inside.incumbent.cutoff =
+    record { run = refl; settings = refl; cutoff = sym c.self.invariant.cutoff } in
     let decided : OnOk c.decide.result (IsDecided b new) =
     on_ok_weaker c.decide.result (λ f. f b under) c.decide.ensures.decided in
     let stood : IfErr c.decide.result (λ e. Stands e.stood b new) =
@@ -77,8 +79,8 @@ pub returns-clause-same : goal.returns-clause-same
 returns-clause-same c =
     let b : BookState = state_of c.self.inside in
     let new : BookState = with_stock b c.decide.new.self in
-    let under : IsUnder b c.self.inside.run c.current_cutoff-cutoff.result =
-    record { run = refl; settings = refl; cutoff = sym c.current_cutoff-cutoff.ensures } in
+    let under : IsUnder b c.self.inside.run c.self.inside.incumbent.cutoff =
+    record { run = refl; settings = refl; cutoff = sym c.self.invariant.cutoff } in
     let decided : OnOk c.decide.result (IsDecided b new) =
     on_ok_weaker c.decide.result (λ f. f b under) c.decide.ensures.decided in
     let stood : IfErr c.decide.result (λ e. Stands e.stood b new) =

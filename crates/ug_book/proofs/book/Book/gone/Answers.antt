@@ -14,6 +14,8 @@ invariant_of-self c =
     record {
       book = subst IsBook (sym (c.die.ensures.died b))
           ((death_keeps b c.args.rank there).book c.self.invariant.book);
+      cutoff = c.self.invariant.cutoff;
+      small = c.self.invariant.small;
       floor = c.self.invariant.floor;
       room = c.die.ensures.room;
     }

@@ -27,7 +27,7 @@ invariant_of-self c =
     let b : BookState = state_of c.self.inside in
     let there = subst (λ (k : BookState). c.args.rank < length k.ranks) (sym c.self.view_is)
     c.requires.there in
-    let taken : BookState = with_held b c.take_report-answer.new.best
+    let taken : BookState = with_held b c.take_report-answer.new.incumbent.best
     c.take_report-answer.new.stock in
     let told = c.take_report-answer.ensures.answered b (record { problem = refl; settings = refl }) in
     let is = heard_so b _ _ c.take_report-answer.result c.args.rank c.args.report
@@ -37,6 +37,8 @@ invariant_of-self c =
       book = subst IsBook (sym is)
           (hearing_keeps_book b c.args.rank c.args.report c.take_report-answer.result there told.due
           c.take_report-answer.ensures.rising c.self.invariant.book);
+      cutoff = c.take_report-answer.ensures.compares.cutoff;
+      small = c.take_report-answer.ensures.compares.small;
       floor = c.self.invariant.floor;
       room = c.end_by.ensures.room;
     }
@@ -51,7 +53,7 @@ returns-clause-due c =
 pub returns-clause-done : goal.returns-clause-done
 returns-clause-done c =
     let b : BookState = state_of c.self.inside in
-    let taken : BookState = with_held b c.take_report-answer.new.best
+    let taken : BookState = with_held b c.take_report-answer.new.incumbent.best
     c.take_report-answer.new.stock in
     let told = c.take_report-answer.ensures.answered b (record { problem = refl; settings = refl }) in
     heard_so b taken _ c.take_report-answer.result c.args.rank c.args.report
@@ -66,7 +68,7 @@ returns-clause-sound c = λ true_ sound.
     let b : BookState = state_of c.self.inside in
     let there = subst (λ (k : BookState). c.args.rank < length k.ranks) (sym c.self.view_is)
     c.requires.there in
-    let taken : BookState = with_held b c.take_report-answer.new.best
+    let taken : BookState = with_held b c.take_report-answer.new.incumbent.best
     c.take_report-answer.new.stock in
     let told = c.take_report-answer.ensures.answered b (record { problem = refl; settings = refl }) in
     let is = heard_so b _ _ c.take_report-answer.result c.args.rank c.args.report
@@ -82,7 +84,7 @@ returns-clause-same c =
     let b : BookState = state_of c.self.inside in
     let there = subst (λ (k : BookState). c.args.rank < length k.ranks) (sym c.self.view_is)
     c.requires.there in
-    let taken : BookState = with_held b c.take_report-answer.new.best
+    let taken : BookState = with_held b c.take_report-answer.new.incumbent.best
     c.take_report-answer.new.stock in
     let told = c.take_report-answer.ensures.answered b (record { problem = refl; settings = refl }) in
     let is = heard_so b _ _ c.take_report-answer.result c.args.rank c.args.report

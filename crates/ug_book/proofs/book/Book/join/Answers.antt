@@ -19,6 +19,8 @@ invariant_of-self c =
     record {
       book = subst (λ (ss : List State). IsBook (record b { ranks = ss })) (sym c.idle.ensures)
           ((ready_keeps b c.args.rank there).book c.self.invariant.book);
+      cutoff = c.self.invariant.cutoff;
+      small = c.self.invariant.small;
       floor = c.self.invariant.floor;
       room = record {
         pool = omega (arith, none.work, work, c.self.invariant.room.pool);

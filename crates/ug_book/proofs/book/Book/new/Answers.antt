@@ -17,12 +17,12 @@ invariant_of-result c =
     let stock = c.in-Ok-first_stock.stock in
     let r = c.in_ok-run.ensures in
     let f = c.in-Ok-first_stock.ensures in
-    let own : c.new-best.result ≡ o.best =
-    c.new-best.ensures ∙ (c.in-Ok.ensures ∙ c.as_ref.ensures.value) in
-    let is = started_is o.problem run.problem o.run run.number o.best c.new-best.result o.boxes
+    let own : c.new-incumbent.result.best ≡ o.best =
+    c.new-incumbent.ensures.best ∙ (c.new.ensures ∙ (c.in-Ok.ensures ∙ c.as_ref.ensures.value)) in
+    let is = started_is o.problem run.problem o.run run.number o.best c.new-incumbent.result.best o.boxes
     o.settings run.settings stock.pool.entries stock.ranks stock.raced stock.last
     stock.orders.orders stock.announced r.problem r.number r.settings own f.pool f.ranks f.raced
-    f.last f.orders (f.announced ∙ c.current_cutoff-announced.ensures) in
+    f.last f.orders (f.announced ∙ c.new-incumbent.ensures.cutoff) in
     let none = ap (λ (ss : List State). length (nodes_of ss)) f.ranks in
     let work = ap length (no_work run.settings.solvers) in
     let raced = ap (λ (e : Option Entry). length (raced_node e)) f.raced in
@@ -36,6 +36,8 @@ invariant_of-result c =
       book = subst IsBook (sym is) (start_book o.problem o.run o.best o.boxes o.settings
           (subst IsProblem r.problem r.sound) c.requires.run c.requires.best c.requires.settings
           floors);
+      cutoff = c.new-incumbent.ensures.cutoff;
+      small = c.new-incumbent.ensures.small;
       floor = r.floor;
       room = record {
         pool = omega (arith, none, work, raced);
@@ -50,11 +52,11 @@ returns-in-Ok-first_stock-clause-sound c =
     let stock = c.in-Ok-first_stock.stock in
     let r = c.in_ok-run.ensures in
     let f = c.in-Ok-first_stock.ensures in
-    let own : c.new-best.result ≡ o.best =
-    c.new-best.ensures ∙ (c.in-Ok.ensures ∙ c.as_ref.ensures.value) in
-    let is = started_is o.problem run.problem o.run run.number o.best c.new-best.result o.boxes
+    let own : c.new-incumbent.result.best ≡ o.best =
+    c.new-incumbent.ensures.best ∙ (c.new.ensures ∙ (c.in-Ok.ensures ∙ c.as_ref.ensures.value)) in
+    let is = started_is o.problem run.problem o.run run.number o.best c.new-incumbent.result.best o.boxes
     o.settings run.settings stock.pool.entries stock.ranks stock.raced stock.last
     stock.orders.orders stock.announced r.problem r.number r.settings own f.pool f.ranks f.raced
-    f.last f.orders (f.announced ∙ c.current_cutoff-announced.ensures) in
+    f.last f.orders (f.announced ∙ c.new-incumbent.ensures.cutoff) in
     let both = start_is_sound o.problem o.run o.best o.boxes o.settings in
     (λ s. both.0 (subst IsSoundBook is s), λ covered. subst IsSoundBook (sym is) (both.1 covered))

@@ -10,6 +10,8 @@ invariant_of-self c =
     record {
       book = told_book (state_of c.self.inside) stock.orders c.next.new.self c.next.result refl
           c.next.ensures c.self.invariant.book;
+      cutoff = c.self.invariant.cutoff;
+      small = c.self.invariant.small;
       floor = c.self.invariant.floor;
       room = told_room stock c.next.new.self c.next.result c.next.ensures c.self.invariant.room;
     }
