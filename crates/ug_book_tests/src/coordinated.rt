@@ -1,4 +1,4 @@
-//! A coordinator over a crew in memory, byte for byte: what it tells each rank, how it ends, and
+//! A coordinator over a crew in memory, byte for byte: what it reports each rank, how it ends, and
 //! what it saves.
 
 ghost use Rattle.std.specs.Prelude.{◌≡◌, ◌<◌, ◌≤◌};
@@ -31,7 +31,7 @@ pub enum Way {
     Memory,
 }
 
-/// What comes from each rank, and which calls fail; what is told to each behind the problem, or
+/// What comes from each rank, and which calls fail; what is sent to each behind the problem, or
 /// that not even this is; and how it ends.
 #[derive(Clone, Copy)]
 pub struct Case {
@@ -67,7 +67,7 @@ const CASES: &[Case] = &[
         told: &[Some(WHOLE)],
         way: Way::Answered,
     },
-    // The first that comes is that the only rank is gone.
+    // The first that comes is that the only rank is lost.
     Case {
         limit: 100,
         pieces: &[Piece {
@@ -79,7 +79,7 @@ const CASES: &[Case] = &[
         told: &[Some(b"")],
         way: Way::Stranded,
     },
-    // What the first says is no report; it is heard no more, and the second does it all.
+    // What the first says is no report; it is received no more, and the second does it all.
     Case {
         limit: 100,
         pieces: &[
@@ -101,7 +101,7 @@ const CASES: &[Case] = &[
         told: &[Some(b""), Some(WHOLE)],
         way: Way::Answered,
     },
-    // The first is gone with its work, which the second gets.
+    // The first is lost with its work, which the second gets.
     Case {
         limit: 100,
         pieces: &[
@@ -132,8 +132,8 @@ const CASES: &[Case] = &[
         told: &[Some(END)],
         way: Way::Limited,
     },
-    // The rank can not be started; it can not be told the problem; the first turn fails; and its
-    // work can not be told.
+    // The rank can not be started; it can not be sent the problem; the first turn fails; and
+    // its work can not be reported.
     Case {
         limit: 100,
         pieces: BY_ITSELF,
@@ -168,7 +168,7 @@ const CASES: &[Case] = &[
     },
 ];
 
-/// Of so many ranks, with a save after so many reports, and with so many reports at most.
+/// Of this many ranks, with a save after this many reports, and with this many reports at most.
 pub fn settings(solvers: u32, every: u64, limit: u64) -> Settings
     requires some { 0 < solvers }
     requires few { solvers ≤ 256 }
@@ -198,7 +198,8 @@ pub fn way_of(end: &End) -> Way {
     }
 }
 
-// The byte at a place of the problem and of what is told behind it; none where not even this is.
+// The byte at a place of the problem and of what is reported behind it; none where not even this
+// is.
 fn byte_at(wanted: Option<&[u8]>, place: usize) -> Option<u8> {
     let wanted = wanted?;
     if place < SETUP.len() {
@@ -208,7 +209,7 @@ fn byte_at(wanted: Option<&[u8]>, place: usize) -> Option<u8> {
     }
 }
 
-// Whether that was told to the rank, behind the problem.
+// Whether that was sent to the rank, behind the problem.
 fn is_told_so(exchanged: &[Exchange], rank: u32, wanted: Option<&[u8]>) -> bool {
     let mut told = 0usize;
     for one in exchanged {
@@ -224,7 +225,7 @@ fn is_told_so(exchanged: &[Exchange], rank: u32, wanted: Option<&[u8]>) -> bool 
     byte_at(wanted, told).is_none() && (wanted.is_none() || SETUP.len() <= told)
 }
 
-// Whether that was told to each rank.
+// Whether that was sent to each rank.
 fn are_told_so(exchanged: &[Exchange], wanted: &[Option<&[u8]>]) -> bool {
     let mut so = true;
     let mut rank = 0u32;
@@ -244,7 +245,7 @@ pub fn empty_disk(alloc: Global) -> MemoryDisk {
     MemoryDisk::new(alloc, Vec::new(alloc), Vec::new(alloc), script)
 }
 
-/// Whether the run ends so, and tells that.
+/// Whether the run ends so, and says that.
 pub fn comes_so<R: Wait, O: Observer>(rt: &R, alloc: Global, case: &Case, observer: &O) -> bool {
     let count = case.told.len();
     if count == 0 || 256 < count {

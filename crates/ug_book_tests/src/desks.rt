@@ -16,7 +16,7 @@ use crate::expect::holds;
 use std::alloc::Global;
 use std::sync::Wait;
 
-/// What is looked at in a desk.
+/// What is examined in a desk.
 #[derive(Clone, Copy)]
 enum Looked {
     BoxIsWork,

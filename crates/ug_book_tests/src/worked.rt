@@ -123,7 +123,7 @@ fn push(text: &mut Vec<u8>, part: &str) -> bool {
     text.extend_from_slice(part.as_bytes()).is_ok()
 }
 
-// The same of the text of these parts.
+// The same of the file of these parts.
 fn are_parts_solved<R: Wait>(
     rt: &R,
     alloc: Global,

@@ -70,7 +70,7 @@ fn report_of(alloc: Global, letter: u8) -> Option<Report>
     }
 }
 
-// What a letter of a schedule stands for; a digit hears the report that was sent as that one.
+// What a letter of a schedule stands for; a digit receives the report that was sent as that one.
 fn event_of(alloc: Global, letter: u8, ranks: u32) -> Option<Event>
     ensures { IfSome result (IsEvent ranks) }
 {
@@ -124,10 +124,10 @@ fn holds_one(book: &Book) -> bool {
     }
 }
 
-/// The replies of a schedule, or the place of a report that it hears and that was not sent.
+/// The replies of a schedule, or the place of a report that it receives and that was not sent.
 type Told = Result<&'static [Heard], usize>;
 
-// Whether that is told, and the book left that holds one node and no point.
+// Whether that is reported, and the book left that holds one node and no point.
 fn is_told(end: &Result<Played, PlayFault>, wanted: Told) -> bool {
     match (end, wanted) {
         (Ok(played), Ok(replies)) => {
@@ -146,7 +146,7 @@ fn ranks(book: &Book) -> u32
     book.settings().solvers
 }
 
-// Whether a schedule tells that.
+// Whether a schedule says that.
 fn tells(alloc: Global, text: &str, wanted: Told) -> bool {
     let Some(book) = begin(alloc) else {
         return false;
@@ -159,7 +159,7 @@ fn tells(alloc: Global, text: &str, wanted: Told) -> bool {
     is_so
 }
 
-// The replies where the rank is said to be done before its point is heard.
+// The replies where the rank is said to be done before its point is received.
 const UNBACKED: &[Heard] = &[
     Heard::Unbacked {
         cutoff: 5,
@@ -170,7 +170,7 @@ const UNBACKED: &[Heard] = &[
     Heard::Stale,
 ];
 
-// The second is the first with orders told.
+// The second is the first with orders sent.
 const SCHEDULES: &[(&str, Told)] = &[
     ("jdsf110jd1", Ok(UNBACKED)),
     ("tjdtsf1t1t0jd1tt", Ok(UNBACKED)),

@@ -10,7 +10,7 @@ pub const SETUP: &[u8] = b"\0\0\0\x4d\x01\0\0\0\0\0\0\0\0\0\0\0\0\0\0\0\0\
 /// A rank is ready.
 pub const READY: &[u8] = b"\0\0\0\x01\x11";
 
-/// It is ready, tells the point 2 under its ticket, and that its task is done under this cutoff,
+/// It is ready, reports the point 2 under its ticket, and that its task is done under this cutoff,
 /// with no hand.
 pub const ALL: &[u8] = b"\0\0\0\x01\x11\
     \0\0\0\x19\x12\0\0\0\0\0\0\0\x01\0\0\0\0\0\0\0\x01\0\0\0\x01\0\0\0\x02\

@@ -1,4 +1,4 @@
-//! What an observer is told of a coordinator over a crew in memory.
+//! What an observer is reported of a coordinator over a crew in memory.
 
 use crate::coordinated::frames::{ALL, END, READY, WHOLE};
 use crate::coordinated::{Case, Way, comes_so};
@@ -7,8 +7,8 @@ use std::sync::atomic::{AtomicU64, Ordering};
 use ug_io::Piece;
 use ug_restart::{Begun, Dropped, Moment, Observer, Progress};
 
-/// Keeps what it was told: of what a run began, after how many reports it stood how, and which rank
-/// was dropped last for which cause, and how many.
+/// Keeps what it was reported: of what a run began, after how many reports it stood how, and which
+/// rank was dropped last for which cause, and how many.
 #[derive(Drop)]
 struct Notes {
     begun: AtomicU64,
@@ -73,7 +73,7 @@ impl Observer for Notes {
 }
 
 // Rank 0 says what is no report, rank 1 that it has ended before it was ready, and rank 2 does it
-// all: it is ready with the third report that is heard, and tells the point with the fourth.
+// all: it is ready with the third report that is received, and reports the point with the fourth.
 const TWO_ARE_DROPPED: Case = Case {
     limit: 100,
     pieces: &[

@@ -134,7 +134,7 @@ fn disk_for(alloc: Global, case: &Case) -> Result<MemoryDisk, AllocError> {
     disk_of(alloc, &[7], &[5, 6], script)
 }
 
-// Expects the calls of a disk to go on, so that slot 1 has these two bytes.
+// Expects the calls of a disk to continue, so that slot 1 has these two bytes.
 fn goes_on(rt: &impl Abort, disk: &mut MemoryDisk, bytes: [u8; 2]) {
     disk.resume();
     same(rt, &len_in_calls(disk), &(Some(2), 1));

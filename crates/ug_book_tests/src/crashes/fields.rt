@@ -66,7 +66,7 @@ fn changed(version: u8, (at, byte): (usize, u8)) -> [u8; 154] {
     image
 }
 
-// Puts what is in a version of an image, cut to so many bytes or with one more. Whether there was
+// Puts what is in a version of an image, cut to this many bytes or with one more. Whether there was
 // memory for it, as of each call here.
 fn put_cut(bytes: &mut Vec<u8>, version: u8, image: &[u8], len: usize) -> bool {
     let mut so = true;
@@ -87,8 +87,8 @@ fn put_opened(slot: &mut Vec<u8>, bytes: &[u8]) -> bool {
     gate.is_ok() && slot.extend_from_slice(bytes).is_ok()
 }
 
-// Puts a slot with an image in a version, of which a byte is another, cut to so many bytes or with
-// one more.
+// Puts a slot with an image in a version, of which a byte is another, cut to this many bytes or
+// with one more.
 fn put_slot(
     alloc: Global,
     slot: &mut Vec<u8>,
@@ -103,7 +103,7 @@ fn put_slot(
     so
 }
 
-// Which place of the image is named, if there is memory to tell.
+// Which place of the image is named, if there is memory to say so.
 fn bad_place(alloc: Global, slot: &[u8]) -> Option<Option<usize>> {
     let Ok(mut disk) = disk_with(alloc, slot, &[]) else {
         return None;
@@ -138,13 +138,13 @@ fn bad_place_of(
     place
 }
 
-// Where the fields of version 3 begin, but for those of the problem: one whose bytes are cut short
+// If the fields of version 3 begin, but for those of the problem: one whose bytes are cut short
 // is named at its length.
 const FIELDS: &[usize] = &[
     0, 1, 9, 17, 61, 62, 66, 70, 78, 94, 102, 110, 118, 122, 126, 130, 134, 142, 150,
 ];
 
-// The field of a version that is cut short where so many bytes are left.
+// The field of a version that is cut short where this many bytes are left.
 fn cut_field(version: u8, len: usize) -> usize {
     let mut found = 0;
     for field in FIELDS {

@@ -89,7 +89,7 @@ fn crash(alloc: Global, is_first: bool) -> Option<DiskEvent>
     })
 }
 
-// What a letter of a schedule stands for; a digit hears the report that was sent as that one.
+// What a letter of a schedule stands for; a digit receives the report that was sent as that one.
 fn event_of(alloc: Global, letter: u8, run: u64) -> Option<DiskEvent>
     ensures { IfSome result IsDiskEvent }
 {
@@ -175,7 +175,7 @@ fn play(
     played
 }
 
-// The run at the end and how many reports were heard, or why and where the schedule stopped.
+// The run at the end and how many reports were received, or why and where the schedule stopped.
 type Answer = Result<(u64, usize), (Halted, usize)>;
 
 fn answer_of(played: &Result<PlayedDisk, PlayDiskFault>) -> Answer {
@@ -249,7 +249,7 @@ fn calls_of(alloc: Global, text: &str) -> Option<u64> {
     Some(calls)
 }
 
-// Whether a run whose disk stops after a call goes on as the second run or the third, unanswered.
+// Whether a run whose disk stops after a call continues as the second run or the third, unanswered.
 fn goes_on(alloc: Global, stop: u64) -> bool {
     let played = play(alloc, "nsxx", 0, stop);
     let is_so = is_on(&played);

@@ -190,7 +190,7 @@ fn small(number: u64) -> u8 {
     u8::try_from(number).unwrap_or(0)
 }
 
-// Whether a run that goes on has its image in slot 1, and one that does not has none there.
+// Whether a run that continues has its image in slot 1, and one that does not has none there.
 fn is_written(answer: &Answer, one: &[u8], gap: u8) -> bool {
     match answer {
         Ok((run, sequence)) => one == slot_of(small(*run), small(*sequence), gap).as_slice(),
@@ -198,7 +198,7 @@ fn is_written(answer: &Answer, one: &[u8], gap: u8) -> bool {
     }
 }
 
-// Whether the answer is the one that is wanted, and slot 1 as it is to be.
+// Whether the answer is the one that is needed, and slot 1 as it is to be.
 fn is_answered(alloc: Global, disk: &mut MemoryDisk, case: &Case) -> bool {
     let (_, _, is_other, asked, wanted) = *case;
     let Ok(problem) = nothing(alloc, is_other) else {

@@ -19,7 +19,7 @@ struct Range {
 }
 
 // Puts the image of run 1 under a sequence, of a problem with one column of 16 letters and no rows,
-// with so many nodes: 109 bytes and 20 a node. Whether there was memory for it.
+// with this many nodes: 109 bytes and 20 a node. Whether there was memory for it.
 fn put_image(bytes: &mut Vec<u8>, sequence: u8, nodes: u16) -> bool {
     put(bytes, b"\x03\0\0\0\0\0\0\0\x01\0\0\0\0\0\0\0")
         & put(bytes, &[sequence])
@@ -80,7 +80,7 @@ fn found(
     recovered(alloc, disk)
 }
 
-// Saves the image under a sequence, with so many nodes.
+// Saves the image under a sequence, with this many nodes.
 fn save_image(
     alloc: Global,
     disk: &mut MemoryDisk,
@@ -98,7 +98,7 @@ fn save_image(
     if put { Some(()) } else { None }
 }
 
-// Two images are saved, and then a third over the first, with so many nodes.
+// Two images are saved, and then a third over the first, with this many nodes.
 fn two_saves(alloc: Global, disk: &mut MemoryDisk) -> Option<Saver>
     ensures { IfSome result (λ saver. IsKept saver (Some (history_of disk.new))) }
 {
@@ -151,7 +151,7 @@ fn found_after(
     found
 }
 
-// Whether recovery finds the second image where the third save stopped so many calls before its
+// Whether recovery finds the second image where the third save stopped this many calls before its
 // end, or the third: its gate is open where the last call, which syncs it, was made, or where the
 // one before it was and the crash leaves its byte.
 fn finds_one_of_two(alloc: Global, nodes: u16, all: u64, left: u64) -> bool {
@@ -171,8 +171,8 @@ fn finds_one_of_two(alloc: Global, nodes: u16, all: u64, left: u64) -> bool {
     true
 }
 
-// So many nodes, and the calls of a third save of so many: a body of 137 bytes is one block, and
-// one of 65,537 is two.
+// This many nodes, and the calls of a third save of this many: a body of 137 bytes is one block,
+// and one of 65,537 is two.
 const BODIES: &[(u16, u64)] = &[(1, 6), (3271, 7)];
 
 #[test]
@@ -209,8 +209,8 @@ fn save_second(alloc: Global, disk: &mut MemoryDisk) -> Option<()> {
     load_and_save(alloc, disk, &slot_of(1, 2, 0)[9..])
 }
 
-// A second image is saved until the disk stops, its calls go on, and so does a run from the image
-// until the disk stops again.
+// A second image is saved until the disk stops, its calls continue, and so does a run from the
+// image until the disk stops again.
 fn go_on_again(alloc: Global, disk: &mut MemoryDisk) -> Option<()> {
     save_second(alloc, disk)?;
     disk.resume();
@@ -252,7 +252,7 @@ fn calls_to_load(alloc: Global, disk: &mut MemoryDisk) -> Option<(u64, u64)> {
 }
 
 // After which call the gate of the second image is written, and not synced; and after which the
-// restart has loaded what it goes on from.
+// restart has loaded what it resumes from.
 fn stops_of(alloc: Global) -> Option<(u64, u64)> {
     let mut disk = first_disk(alloc, &[])?;
     let calls = calls_to_load(alloc, &mut disk);
@@ -277,7 +277,7 @@ fn images_in(alloc: Global, stops: &[u64], places: Range, is_all: bool) -> Optio
     Some(images)
 }
 
-// The gate, what stands behind it, and both.
+// The gate, what follows it, and both.
 const PLACES: &[(usize, usize)] = &[(0, 1), (1, 113), (0, 113)];
 
 // The same of all these places.

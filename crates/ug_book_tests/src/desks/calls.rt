@@ -54,7 +54,7 @@ pub fn splits(task: &mut Task) -> bool
     matches!(task.step(), Ok(Step::Split))
 }
 
-/// Whether so many boxes are asked for of a pass that has two.
+/// Whether this many boxes are asked for of a pass that has two.
 pub fn is_asked_for<R: Wait>(rt: &R, desk: &Desk, pass: &mut Pass, count: u32) -> bool
     requires { pass.old.lock ≡ lock_of_desk desk.now }
     ensures lock { pass.new.lock ≡ pass.old.lock }

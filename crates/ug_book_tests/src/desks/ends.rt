@@ -12,7 +12,7 @@ use ug_base::{Step, Task};
 use ug_desk::{Desk, Pass};
 use ug_rules::Heard;
 
-// Whether a pass finds the point (0, 5), and is told its value for a cutoff.
+// Whether a pass finds the point (0, 5), and is reported its value for a cutoff.
 fn finds<R: Wait>(rt: &R, alloc: Global, desk: &Desk, pass: &mut Pass) -> bool
     requires { pass.old.lock ≡ lock_of_desk desk.now }
     ensures lock { pass.new.lock ≡ pass.old.lock }

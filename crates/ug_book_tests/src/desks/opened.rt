@@ -12,7 +12,7 @@ use ug_desk::{Desk, Pass};
 use ug_problem::Shared;
 use ug_rules::Settings;
 
-// Two ranks, from two to three nodes in the pool, and a gap of 2 where one is wanted.
+// Two ranks, from two to three nodes in the pool, and a gap of 2 where one is needed.
 fn settings(has_gap: bool) -> Settings
     ensures are { AreSettings result }
     ensures two { result.solvers ≡ 2 }

@@ -87,7 +87,7 @@ pub fn add<R: Wait>(
     put_home(turn, seat, value, entry)
 }
 
-/// Adds so many entries, and says whether there was memory.
+/// Adds this many entries, and says whether there was memory.
 pub fn add_all<R: Wait>(
     rt: &R,
     turn: &Turn<Chronicle>,
@@ -124,8 +124,8 @@ pub fn hold<R: Clock>(
     so
 }
 
-/// Adds so many entries for each of the passes from 0 on, in a thread each, and says whether there
-/// was memory.
+/// Adds this many entries for each of the passes from 0 on, in a thread each, and says whether
+/// there was memory.
 #[cycle(crowd)]
 pub fn add_by_each<R: Threads + Wait + Sync>(
     rt: &R,

@@ -31,7 +31,7 @@ fn opened(
     Turn::new(alloc, value, passes)
 }
 
-// How many entries of a pass stand in their order.
+// How many entries of a pass are in their order.
 fn in_order(entries: &[Entry], pass: u32) -> u32 {
     let mut next = 0u32;
     for entry in entries {
@@ -42,7 +42,7 @@ fn in_order(entries: &[Entry], pass: u32) -> u32 {
     next
 }
 
-// Whether so many entries of each of so many passes stand in their order, and no others.
+// Whether this many entries of each of this many passes are in their order, and no others.
 fn are_all(entries: &[Entry], passes: u32, count: u32) -> bool {
     for pass in 0..passes {
         if in_order(entries, pass) != count {
@@ -52,7 +52,7 @@ fn are_all(entries: &[Entry], passes: u32, count: u32) -> bool {
     entries.len() as u64 == u64::from(passes) * u64::from(count)
 }
 
-// Whether, where so many threads have added so many entries each, those are there.
+// Whether, where this many threads have added this many entries each, those are there.
 fn all_kept<R: Threads + Wait + Abort + Sync>(
     rt: &R,
     alloc: Global,
@@ -72,7 +72,7 @@ fn all_kept<R: Threads + Wait + Abort + Sync>(
     are_kept
 }
 
-// About so many turns are taken in all by each number of threads.
+// About this many turns are taken in all by each number of threads.
 const TURNS: u32 = 1_000_000;
 
 #[test]
@@ -83,7 +83,7 @@ fn threads_take_turns(rt: HostRuntime) {
     }
 }
 
-// A seat waits while another has the value and a third is let go.
+// A seat waits while another has the value and a third is dropped.
 fn wait_for<R: Threads + Wait + Clock + Sync>(
     rt: &R,
     turn: &Turn<Chronicle>,
@@ -131,7 +131,7 @@ fn a_seat_waits_while_another_is_let_go(rt: HostRuntime) {
     same(&rt, &waited(&rt, rt.alloc()), &Some((1, 0)));
 }
 
-// One seat adds an entry, another hears of it, both meet, and the cutoff has fallen.
+// One seat adds an entry, another receives from it, both meet, and the cutoff has fallen.
 fn told<R: Wait>(
     rt: &R,
     turn: &Turn<Chronicle>,

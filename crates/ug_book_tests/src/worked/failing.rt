@@ -27,7 +27,7 @@ use ug_serve::{Visit, WorkerCrew};
 enum Wrong {
     /// The call of this number fails: a launch, a message or a turn.
     Call { number: u64 },
-    /// The rank is gone in the turn of this number, and what its worker told is not heard.
+    /// The rank is lost in the turn of this number, and what its worker reported is not received.
     Gone { rank: u32, turn: u64 },
     /// The rank's worker wants memory from the turn of this number on.
     Wants { rank: u32, turn: u64 },
@@ -47,7 +47,7 @@ impl Wrong {
     }
 }
 
-/// A crew of workers with which something is wrong. It tells nothing of bytes.
+/// A crew of workers with which something is wrong. It reports nothing of bytes.
 #[derive(Drop)]
 struct WrongCrew<'a> {
     workers: WorkerCrew<'a>,
@@ -57,6 +57,7 @@ struct WrongCrew<'a> {
     faults: u64,
     // Whether a turn failed.
     broke: bool,
+    is_finished: bool,
 }
 
 impl<'a> WrongCrew<'a> {
@@ -72,6 +73,7 @@ impl<'a> WrongCrew<'a> {
             turns: 0,
             faults: 0,
             broke: false,
+            is_finished: false,
         }
     }
 
@@ -95,7 +97,7 @@ impl<'a> WrongCrew<'a> {
         }
     }
 
-    // The rank that is gone in the next turn.
+    // The rank that is lost in the next turn.
     fn lost(&mut self) -> Option<u32>
         ensures same { self.new ≡ record self.old { turns = self.new.turns } }
         ensures alive { IfSome result (IsAlive (crew_seen self.new.workers)) }
@@ -138,6 +140,8 @@ impl Crew for WrongCrew<'_> {
       lives = (crew_seen c.workers).lives;
       faults = c.faults;
     } };
+
+    ghost finished = { λ c. c.is_finished };
 
     fn is_alive(&self, rank: u32) -> bool {
         self.workers.is_alive(rank)
@@ -194,10 +198,12 @@ impl Crew for WrongCrew<'_> {
         self.workers.shut(rank);
     }
 
-    fn finish(&mut self) {}
+    fn finish(&mut self) {
+        self.is_finished = true;
+    }
 }
 
-// Two workers, of which a few bytes are heard at once.
+// Two workers, of which a few bytes are received at once.
 const TWO: Way = Way {
     solvers: 2,
     racing: false,
@@ -268,7 +274,7 @@ fn faults_of<R: Wait>(rt: &R, alloc: Global, way: Way, wrong: Wrong) -> Option<u
     found
 }
 
-// Whether it ends so in whichever call or turn it is wrong, of more than so many.
+// Whether it ends so in whichever call or turn it is wrong, of more than this many.
 fn outlives_each<R: Wait>(rt: &R, alloc: Global, way: Way, wrong: Wrong, many: u64) -> bool {
     for number in 1..1000 {
         match faults_of(rt, alloc, way, wrong.at(number)) {
@@ -280,7 +286,8 @@ fn outlives_each<R: Wait>(rt: &R, alloc: Global, way: Way, wrong: Wrong, many: u
     false
 }
 
-// In how many of so many turns the rank is gone since its worker wants memory, if each run ends so.
+// In how many of this many turns the rank is lost since its worker wants memory, if each run ends
+// so.
 fn lost_in<R: Wait>(rt: &R, alloc: Global, way: Way, rank: u32, turns: u64) -> Option<u64> {
     let mut lost = 0u64;
     for turn in 0..turns {

@@ -1,11 +1,11 @@
-//! Every point of a small problem, looked at.
+//! Every point of a small problem, examined.
 
 use std::alloc::Global;
 use ug_problem::Problem;
 use ug_restart::End;
 use ug_rows::{Interval, Point};
 
-// How many points are looked at. No problem of these tests has as many.
+// How many points are examined. No problem of these tests has as many.
 const MANY: u32 = 10_000;
 
 // The next point of a box, the first column first, or false where there is none.
@@ -29,7 +29,7 @@ fn value(problem: &Problem, point: &Point) -> Option<i128> {
     }
 }
 
-// The lesser of the two, or the one that there is.
+// The smaller of the two, or the one that there is.
 fn lesser(best: Option<i128>, value: Option<i128>) -> Option<i128> {
     match (best, value) {
         (Some(best), Some(value)) => Some(best.min(value)),
@@ -69,7 +69,7 @@ fn look_from(
     false
 }
 
-/// Finds the least value over all points, if one of them is feasible. Whether all were looked at.
+/// Finds the least value over all points, if one of them is feasible. Whether all were examined.
 pub fn find_least(alloc: Global, problem: &Problem, least: &mut Option<i128>) -> bool {
     let mut values = Vec::new(alloc);
     let mut so = true;

@@ -25,8 +25,8 @@ BOUNDS
 ENDATA
 ";
 
-/// The texts of small problems begin so: their least or their greatest value is wanted, and three
-/// rows are kept to.
+/// The texts of small problems begin so: their least or their greatest value is needed, and three
+/// rows are satisfied.
 pub const HEADS: &[&str] = &[
     "ROWS\n N Z\n L P\n G Q\n E R\nCOLUMNS\n M 'MARKER' 'INTORG'\n",
     "OBJSENSE MAX\nROWS\n N Z\n L P\n L Q\n G R\nCOLUMNS\n M 'MARKER' 'INTORG'\n",

@@ -10,11 +10,11 @@ use ug_serve::Visit;
 /// How workers are visited before each is visited in its turn, with all that there is.
 #[derive(Clone, Copy)]
 pub enum Visits {
-    /// Each hears a byte of its orders, and a byte of its reports is heard.
+    /// Each receives a byte of its orders, and a byte of its reports is received.
     ByteByByte,
     /// One after another, each until nothing comes of it any more.
     OneBeforeAnother,
-    /// All of them work long before anything is heard of them, and then a few bytes are.
+    /// All of them work long before anything is received from them, and then a few bytes are.
     LateReports,
     /// None is.
     InTurn,
@@ -121,7 +121,7 @@ fn push(schedule: &mut Vec<Visit>, rank: u32, orders: usize, reports: usize) -> 
     schedule.extend_from_slice(&[visit]).is_ok()
 }
 
-// So many visits of each rank in turn, with so many bytes of orders and of reports at most.
+// This many visits of each rank in turn, with this many bytes of orders and of reports at most.
 fn push_rounds(
     schedule: &mut Vec<Visit>,
     solvers: u32,
@@ -138,7 +138,7 @@ fn push_rounds(
     so
 }
 
-// So many visits of each rank with all that there is, one rank after another.
+// This many visits of each rank with all that there is, one rank after another.
 fn push_ranks(schedule: &mut Vec<Visit>, solvers: u32, visits: u32) -> bool {
     let mut so = true;
     for rank in 0..solvers {
@@ -149,7 +149,7 @@ fn push_ranks(schedule: &mut Vec<Visit>, solvers: u32, visits: u32) -> bool {
     so
 }
 
-// Rounds in which nothing is heard before rounds in which little is, over and over.
+// Rounds in which nothing is received before rounds in which little is, over and over.
 fn push_late(schedule: &mut Vec<Visit>, solvers: u32) -> bool {
     let mut so = true;
     for _ in 0..20 {
