@@ -1,4 +1,5 @@
--- A cutoff that the incumbent backs is backed at each later turn, since no call raises the incumbent's.
+-- A cutoff that the incumbent backs is backed at each later turn, since no call raises the
+-- incumbent's.
 use Rattle.std.proofs.Common.{◌≡◌, inl, inr, ℕ, ℤ, ◌<◌, ◌≤◌, min, List, [], ◌∷◌, ◌++◌, length, true, false, Option, Some, None, Ok, IfSome, refl, sym, ap, ◌∙◌, subst, append_assoc, arith}
 use Rattle.std.specs.Prelude.{pos, ◌+ℤ◌, ◌-ℤ◌, ◌≤ℤ◌, ◌<ℤ◌, nat_eq, unsigned_abs, if◌then◌else◌}
 use Rattle.std.specs.Int.{int_max}
@@ -97,7 +98,7 @@ replays_back old new (entry ∷ history) cutoff h backed =
     replays_back h.0 new history cutoff h.2
     (aims_back old.book h.0.book cutoff (step_aims entry.pass entry.call old h.0 h.1) backed)
 
--- the greater of a and low is at most so far above low
+-- the larger of a and low is at most so far above low
 above_most : (a low : ℤ) (word : ℕ) → min (unsigned_abs (int_max a low -ℤ low)) no_word ≤ word
     → word < no_word → int_max a low ≤ℤ (low +ℤ pos word)
 above_most a low word few less = elim (max_is a low) [
@@ -157,7 +158,7 @@ joined a b c d = append_assoc (a ++ b) c d ∙ append_assoc a b (c ++ d)
 no_more : {w n m : ℕ} → w ≤ n → n ≤ m → w ≤ m
 no_more f g = omega (arith, f, g)
 
--- it goes on to know it behind a call
+-- it continues to know it behind a call
 pub known_on : (call : Option Call) (after : LockedState) (p q : PassState) (cutoff : Option ℤ)
     → HasCalledAt call after p q → IsKnownBacked p cutoff → IsKnownBacked q cutoff
 known_on call after p q cutoff h known o more s opened replays low =
@@ -185,7 +186,7 @@ known_by call after p q cutoff h backs o more s opened replays low =
 pub known_none : (p : PassState) → IsKnownBacked p None
 known_none p o more s opened replays low = tt
 
--- the lesser of two is
+-- the smaller of two is
 pub known_lesser : (p : PassState) (cutoff : Option ℤ) (c : ℤ) → IsKnownBacked p cutoff
     → IsKnownBacked p (Some c) → IsKnownBacked p (Some (lesser_of cutoff c))
 known_lesser p None c one two = two
@@ -234,7 +235,7 @@ pub looked_backed : (cutoff : Option ℤ) (p q : PassState) → HasLooked cutoff
 looked_backed cutoff p q h = λ o more s opened replays low.
     known_read cutoff p q o opened h o more s opened replays low
 
--- and goes on to be known where another is read
+-- and continues to be known where another is read
 pub known_still : (cutoff other : Option ℤ) (p q : PassState) → HasLooked other p q
     → IsKnownBacked p cutoff → IsKnownBacked q cutoff
 known_still cutoff other p q h known o more s opened replays low =

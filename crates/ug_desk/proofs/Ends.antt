@@ -64,7 +64,7 @@ module _ (handed taken : List (List Interval)) (found count : ℕ)
         take_all found taken (omega (arith, both.0, both.1)) in
         sym whole ∙ (agree.same ∙ rest)
 
-    -- the answer to that count is, told on, the one to those found
+    -- the answer to that count is, reported on, the one to those found
     due_on : (b : BookState) (told : Option ℤ) (heard : Heard)
         → IsDoneDue b (length taken) told count heard
         → IsDoneDue b found told (length handed) (told_on (length handed) found heard)

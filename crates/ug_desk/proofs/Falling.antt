@@ -25,7 +25,7 @@ max_is a b = by_lt_z b a
     (λ less. inl (grind (arith, ints, less), omega (arith, ints, less)))
     (λ more. inr (grind (arith, ints, more), more))
 
--- how far the greater of a and low is above low falls with a
+-- how far the larger of a and low is above low falls with a
 above_falls : (a b low : ℤ) → a ≤ℤ b
     → min (unsigned_abs (int_max a low -ℤ low)) no_word ≤ min (unsigned_abs (int_max b low -ℤ low)) no_word
 above_falls a b low less = elim (max_is a low) [

@@ -17,7 +17,7 @@ use Rattle.ug_desk.specs.Shelves.{AreFreshSeats, IsFreshSeat, Leads, SeatState, 
 use Rattle.ug_desk.specs.Words.{floor_of}
 
 module _ {X : Type 0} where
-  -- the item behind so many
+  -- the item behind this many
   pub next_at : (xs ys : List X) (x : X) → slice_get (xs ++ x ∷ ys) (length xs) ≡ Some x
   next_at [] ys x = refl
   next_at (y ∷ xs) ys x = next_at xs ys x
@@ -32,7 +32,7 @@ module _ {X : Type 0} where
   each_more P (z ∷ xs) x all last (suc k) y e =
       each_more (λ n. P (suc n)) xs x (λ n. all (suc n)) last k y e
 
--- the seat behind so many is fresh
+-- the seat behind this many is fresh
 pub fresh_at : (lock : TableId) (o : Opening) (seats before rest : List SeatState) (s : SeatState)
     → before ++ s ∷ rest ≡ seats → AreFreshSeats lock o seats → IsFreshSeat lock o (length before) s
 fresh_at lock o seats before rest s is fresh =
@@ -56,7 +56,7 @@ module _ {X Y : Type 0} (R : X → Y → Type 0) where
       pairs_more xs ys x y (omega (arith, e)) (λ n. all (suc n)) last k a b f g
 
 module _ {X Y : Type 0} where
-  -- where one of two lists of the same length has an item, the other has one
+  -- if one of two lists of the same length has an item, the other has one
   pub partner : (xs : List X) (ys : List Y) → length ys ≡ length xs → (k : ℕ) (y : Y)
       → slice_get ys k ≡ Some y → (x : X) × (slice_get xs k ≡ Some x)
   partner [] [] e k y g = absurd (none-some y g)

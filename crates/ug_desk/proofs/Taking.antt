@@ -9,7 +9,7 @@ use Rattle.ug_desk.specs.Histories.{taken}
 use Rattle.ug_desk.specs.Givens.{IsOpened, taken_by}
 use Rattle.ug_desk.specs.Passes.{HasCalledAt, HasTakenIn, PassState}
 
--- where nothing was given, nothing is made of it
+-- if nothing was given, nothing is made of it
 pub err_opened : (end : Untaken) → IsOpened (Err end) (Err end)
 err_opened (Deciding stood) = refl
 err_opened Making = inl refl

@@ -172,7 +172,7 @@ pub if_dead : (alive : Bool) (A B : Type 0) → MatchBool alive A B → alive �
 if_dead true A B m is = absurd (false≢true (sym is))
 if_dead false A B m is = m
 
--- a snapshot is of what stands behind its entry
+-- a snapshot is of what follows its entry
 pub copy_behind : (r : ℕ) (s : SnapshotState) (old new : LockedState) (calls : ℕ) → IsSnapshotOf old calls s
     → HasEntered r copied old new → IsSnapshotOf new calls s
 copy_behind r s old new calls h e = record {

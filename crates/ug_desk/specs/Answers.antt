@@ -1,9 +1,9 @@
--- How a Done is told to the book, and its answer told on.
+-- How a Done is reported to the book, and its answer returned.
 use Rattle.std.specs.Prelude.{◌≡◌, ◌≢◌, ℕ}
 use Rattle.ug_rules.specs.declared.heard.Heard.{Heard}
 use Rattle.ug_rules.specs.declared.heard.Heard.TheVariants.{Short}
 
--- the count that the book hears: that of the hands, or of those found where the book has as many
+-- the count that the book receives: that of the hands, or of those found if the book has as many
 pub record IsTold (handed taken found count : ℕ) : Type 0 where
   pub equal : handed ≡ taken → count ≡ found
   pub other : handed ≢ taken → count ≡ handed

@@ -1,4 +1,4 @@
--- A decision at the desk: its orders are dropped, since the book has all that they tell.
+-- A decision at the desk: its orders are dropped, since the book has all that they say.
 use Rattle.std.specs.Prelude.{◌≡◌, ℕ, []}
 use Rattle.ug_rules.specs.State.{BookState}
 use Rattle.ug_rules.specs.Deciding.{IsDecided, Stands}
@@ -13,7 +13,7 @@ pub record HasDecided (old new : BookState) : Type 0 where
   pub made : IsDecided old decided
   pub dropped : new ≡ without_orders decided
 
--- memory ended the decision, and so many of its steps stand
+-- memory ran out in the decision, and the first steps of it stand
 pub record HasStood (steps : ℕ) (old new : BookState) : Type 0 where
   pub decided : BookState
   pub stands : Stands steps old decided

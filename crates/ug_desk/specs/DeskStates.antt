@@ -1,4 +1,4 @@
--- What stands at a desk at any moment.
+-- The state of a desk.
 use Rattle.std.specs.Prelude.{◌≡◌, ℕ, List, replicate, slice_index_or}
 use Rattle.ug_nodes.specs.declared.name.Ticket.{Ticket}
 use Rattle.ug_rules.specs.State.{BookState}
@@ -6,7 +6,7 @@ use Rattle.ug_book.specs.Starts.{first_ticket}
 use Rattle.ug_book.specs.declared.opening.Opening.{Opening}
 use Rattle.ug_book.specs.Openings.{opening_book}
 
--- what stands at a moment: the book, and the ticket of the last work of each pass
+-- the state at a moment: the book, and the ticket of the last work of each pass
 pub record DeskState : Type 0 where
   pub book : BookState
   pub tickets : List Ticket

@@ -1,4 +1,4 @@
--- What a task that has no box left comes to.
+-- The end of a task that has no box left.
 use Rattle.std.specs.Prelude.{◌≡◌, ◌≢◌, ℕ, List, length}
 use Rattle.ug_rows.specs.declared.area.Interval.{Interval}
 use Rattle.ug_problem.specs.Instances.{Instance, root_of}
@@ -27,8 +27,7 @@ pub record IsOfTicket (b : BookState) (r : ℕ) (task : TaskState) : Type 0 wher
   pub current : IsCurrent (ledger_of b) r work
   pub its : IsTaskOf b.problem work.ticket work.node task
 
--- how many hands of the task the book has taken: where there are as many, the leading ones that
--- agree
+-- how many hands of the task the book has taken: if there are as many, the first ones that agree
 pub record AreFound (handed taken : List (List Interval)) (count : ℕ) : Type 0 where
   pub equal : length handed ≡ length taken → Agree handed taken count
   pub other : length handed ≢ length taken → count ≡ length taken

@@ -63,7 +63,7 @@ abbrev pub HasEnded : ℕ → TaskState → Heard → LockedState → LockedStat
 HasEnded r task answer old new =
     HasEntered r (ended task answer) old new ⊎ IsOfOther r task answer old new
 
--- the snapshot is of what stands, and of a history of so many calls
+-- the snapshot is of this state, and of a history with this number of calls
 pub record IsSnapshotOf (l : LockedState) (calls : ℕ) (s : SnapshotState) : Type 0 where
   pub its_opening : s.opening ≡ l.opening
   pub moment : IsImageOf l.now.book 1 s.image

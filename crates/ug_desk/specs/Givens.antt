@@ -18,7 +18,7 @@ abbrev pub taken_by : Result Given Untaken → Result Took Untaken
 taken_by (Ok given) = Ok (took_of given)
 taken_by (Err end) = Err end
 
--- what the worker gets of it: where its task could not be made for want of memory, none
+-- what the worker gets of it: no task, if memory ran out while it was made
 abbrev pub IsOpened : Result Given Untaken → Result Took Untaken → Type 0
 IsOpened given (Ok took) = taken_by given ≡ Ok took
 IsOpened given (Err (Deciding stood)) = taken_by given ≡ Err (Deciding stood)

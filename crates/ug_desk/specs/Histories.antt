@@ -24,7 +24,7 @@ pub data Call : Type 0 where
   left : Call
   copied : Call
 
--- the rank died
+-- the rank was lost
 abbrev pub HasGone : ℕ → BookState → BookState → Type 0
 HasGone r old new = new ≡ killed r old
 

@@ -1,4 +1,4 @@
--- What is kept of a rank's work until its task is made.
+-- A rank's work until its task is made.
 use Rattle.std.specs.Prelude.{[], ◌∷◌}
 use Rattle.ug_problem.specs.Better.{IsGap, IsSmallCutoff}
 use Rattle.ug_problem.specs.Instances.{root_of}

@@ -51,8 +51,8 @@ pass_seen lock rank view = record {
 abbrev pub pass_of : Inside → PassState
 pass_of p = pass_seen (lock_of p.seat) p.rank (view_of p.seat)
 
--- what every pass is: its seat is at rest, its rank is one of the opening's, and it knows the floor
--- from which cutoffs are told
+-- the invariant of a pass: its seat is at rest, its rank is one of the opening's, and it knows the
+-- floor from which cutoff words count
 pub record IsPass (p : Inside) : Type 0 where
   pub rest : IsAtRest p.seat
   pub own : (view_of p.seat).pass ≡ p.rank
@@ -101,9 +101,9 @@ entry_by r (Some call) = Some (record { pass = r; call = call })
 abbrev pub calls_of : ℕ → List Entry → List Entry
 calls_of r history = calls_by (λ (e : Entry). e.pass) r history
 
--- A call of a pass: there is one history, which leads from the opening to what then stands, begins
--- with all that the pass had seen, and ends with this call, if it has an entry. The pass's own
--- calls stand in it, each once.
+-- A call of a pass: there is one history, which leads from the opening to the state after it,
+-- begins with all that the pass had seen, and ends with this call, if it has an entry. The pass's
+-- own calls are in it, each once.
 pub record HasCalledAt (call : Option Call) (after : LockedState) (old new : PassState) : Type 0 where
   pub between : List Entry
   pub seen : new.seen ≡ (old.seen ++ between) ++ told (entry_by old.rank call)
@@ -122,8 +122,7 @@ HasCalled call old new = (after : LockedState) × HasCalledAt call after old new
 abbrev pub IsItsProblem : PassState → Instance → Type 0
 IsItsProblem p problem = IfSome p.opening (λ o. problem ≡ o.problem)
 
--- What there is is taken. Where memory is wanting to make the task of it, it was taken all the
--- same.
+-- The work was taken. If memory runs out while its task is made, it was taken all the same.
 abbrev pub HasTakenIn : Result Took Untaken → PassState → PassState → Type 0
 HasTakenIn (Ok took) old new = HasCalled (Some (taken (Ok took))) old new
 HasTakenIn (Err (Deciding stood)) old new =
@@ -152,17 +151,17 @@ abbrev pub HasEndedIn : TaskState → Heard → PassState → PassState → Type
 HasEndedIn task answer old new =
     HasCalled (Some (ended task answer)) old new ⊎ HasEndedOther task answer old new
 
--- the rank was gone before
+-- the rank was dead before
 pub record HasLeftBefore (old new : PassState) : Type 0 where
   pub after : LockedState
   pub called : HasCalledAt None after old new
   pub gone : is_alive (state_at after.now.book.ranks old.rank) ≡ false
 
--- the rank is gone
+-- the rank has left
 abbrev pub HasLeft : PassState → PassState → Type 0
 HasLeft old new = HasCalled (Some left) old new ⊎ HasLeftBefore old new
 
--- a snapshot is of what stands behind its own entry, which it counts
+-- a snapshot is of the state behind its own entry, which it counts
 pub record HasCopied (s : SnapshotState) (old new : PassState) : Type 0 where
   pub after : LockedState
   pub called : HasCalledAt (Some copied) after old new

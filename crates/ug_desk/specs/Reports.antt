@@ -1,4 +1,4 @@
--- What a pass reports of its work: the book hears it under the ticket of the pass's last work.
+-- The reports of a pass: the book receives them under the ticket of the pass's last work.
 use Rattle.std.specs.Prelude.{◌≡◌, ◌≢◌, ℕ, ℤ, ◌<◌, ◌≤◌, ◌⊎◌, true, List, Some, MatchBool}
 use Rattle.ug_rows.specs.declared.area.Interval.{Interval}
 use Rattle.ug_problem.specs.Instances.{root_of}
@@ -16,7 +16,7 @@ use Rattle.ug_rules.specs.Hearing.{IsDue, after_hearing}
 use Rattle.ug_worker.specs.declared.reply.Reply.{Reply}
 use Rattle.ug_desk.specs.Decided.{HasDecided, HasStood}
 
--- the book hears the report of rank r, and gives the answer that is due
+-- the book receives the report of rank r, and gives the answer that is due
 pub record HasHeard (r : ℕ) (report : Report) (answer : Heard) (old new : BookState)
     : Type 0 where
   pub due : IsDue old r report answer
@@ -26,7 +26,7 @@ pub record HasHeard (r : ℕ) (report : Report) (answer : Heard) (old new : Book
 abbrev pub HasOffered : ℕ → Ticket → List ℤ → Heard → BookState → BookState → Type 0
 HasOffered r ticket x answer old new = HasHeard r (Solution ticket x) answer old new
 
--- a box that is handed, as the changes that tell it
+-- a box that is handed, as the changes that describe it
 pub record HasHandedBox (r : ℕ) (ticket : Ticket) (number : ℕ) (area : List Interval)
     (answer : Heard) (old new : BookState) : Type 0 where
   pub changes : List Change
@@ -43,7 +43,7 @@ abbrev pub HasHanded : ℕ → Ticket → ℕ → List Interval → Heard → Bo
 HasHanded r ticket number area answer old new =
     HasHandedBox r ticket number area answer old new ⊎ HasNoMemory answer old new
 
--- the ticket has ended, or as many reports were heard as may be
+-- the ticket has ended, or the limit of reports is reached
 abbrev pub IsStop : BookState → ℕ → Ticket → Type 0
 IsStop b r ticket =
     (ticket_at (state_at b.ranks r) ≢ Some ticket) ⊎ (b.settings.limit ≤ b.heard)
@@ -53,25 +53,25 @@ pub record IsGoingOn (b : BookState) (r : ℕ) (ticket : Ticket) : Type 0 where
   pub current : ticket_at (state_at b.ranks r) ≡ Some ticket
   pub below : b.heard < b.settings.limit
 
--- what the book tells a rank that works under the ticket
+-- the reply of the book to a rank that works under the ticket
 pub record IsReply (b : BookState) (r : ℕ) (ticket : Ticket) (reply : Reply) : Type 0 where
   pub cutoff : reply.cutoff ≡ cutoff_of_best b
   pub collect : reply.collect ≡ asked_at (state_at b.ranks r)
   pub stop : MatchBool reply.stop (IsStop b r ticket) (IsGoingOn b r ticket)
   pub racing : reply.racing ≡ is_racing (state_at b.ranks r)
 
--- what is told of the boxes left was heard
+-- the report of the boxes left was received
 pub record HasNoted (r : ℕ) (ticket : Ticket) (left : ℕ) (floor : ℤ) (old new : BookState)
     : Type 0 where
   pub answer : Heard
   pub heard : HasHeard r (Reported ticket left floor) answer old new
 
--- where the rank races it is then decided
+-- if the rank races, a decision follows
 abbrev pub HasMovedOn : ℕ → BookState → BookState → Type 0
 HasMovedOn r old new =
     MatchBool (is_racing (state_at old.ranks r)) (HasDecided old new) (new ≡ old)
 
--- what is left was told, and this replied
+-- the boxes left were reported, and this replied
 pub record HasStated (r : ℕ) (ticket : Ticket) (left : ℕ) (floor : ℤ) (reply : Reply)
     (old new : BookState) : Type 0 where
   pub noted : BookState
@@ -79,7 +79,7 @@ pub record HasStated (r : ℕ) (ticket : Ticket) (left : ℕ) (floor : ℤ) (rep
   pub moved : HasMovedOn r noted new
   pub replied : IsReply new r ticket reply
 
--- or it races, and memory ended the decision, of which so many steps stand
+-- or it races, and memory ran out in the decision, of which the first `stood` steps stand
 pub record HasHalted (r : ℕ) (stood : ℕ) (old new : BookState) : Type 0 where
   pub races : is_racing (state_at old.ranks r) ≡ true
   pub stands : HasStood stood old new

@@ -1,5 +1,4 @@
--- What `take` does: the pass's rank joins, the book decides, and the answer tells what the rank is
--- at.
+-- What `take` does: the pass's rank joins, the book decides, and the answer says what the rank has.
 use Rattle.std.specs.Prelude.{◌≡◌, ◌≢◌, ℕ, ◌<◌, ◌≤◌, ◌⊎◌, List, [], ◌∷◌, Option, Some, None}
 use Rattle.std.specs.Prelude.{slice_set}
 use Rattle.ug_problem.specs.Instances.{root_of}
@@ -26,7 +25,7 @@ use Rattle.ug_desk.specs.DeskStates.{DeskState}
 abbrev pub with_joined : ℕ → BookState → BookState
 with_joined r b = kept r Ready b
 
--- no node is held, or as many reports were heard as may be
+-- no node is held, or the limit of reports is reached
 abbrev pub IsOver : BookState → Type 0
 IsOver b = (held_nodes b ≡ []) ⊎ (b.settings.limit ≤ b.heard)
 
@@ -35,7 +34,7 @@ pub record IsUnderWay (b : BookState) : Type 0 where
   pub held : held_nodes b ≢ []
   pub below : b.heard < b.settings.limit
 
--- how the boxes of a rank in this state are halved
+-- the parameters of the work of a rank in this state
 abbrev pub params_at : State → Option Params
 params_at (Racing racer) = Some racer.params
 params_at (Active work) = Some work.params
@@ -93,7 +92,7 @@ pub record HasTaken (r : ℕ) (took : Took) (old new : DeskState) : Type 0 where
   pub answered : HasAnswered r took old.book new.book
   pub tickets : new.tickets ≡ tickets_after took r old.tickets
 
--- memory ended it: so many steps of the decision stand, or all of it
+-- memory ran out: the first steps of the decision stand, or all of it
 abbrev pub IsCutShort : ℕ → Untaken → BookState → BookState → Type 0
 IsCutShort r (Deciding stood) old new = HasStood stood (with_joined r old) new
 IsCutShort r Making old new = HasDecided (with_joined r old) new

@@ -1,12 +1,12 @@
--- The incumbent's cutoff as a word, which is read without the lock: how far it is above the floor
--- of the root box, and the greatest word where there is none or it is further.
+-- The incumbent's cutoff as a word, which is read without the lock: its distance from the floor of
+-- the root box, or the largest word if there is no cutoff or it is further.
 use Rattle.std.specs.Prelude.{ℕ, ℤ, pos, ◌+ℤ◌, ◌-ℤ◌, ◌-◌, ◌^◌, min, Option, Some, None, unsigned_abs}
 use Rattle.std.specs.Prelude.{if◌then◌else◌, nat_eq}
 use Rattle.ug_rows.specs.Sums.{box_floor}
 use Rattle.ug_problem.specs.Instances.{Instance, root_of}
 use Rattle.ug_rules.specs.State.{BookState, cutoff_of_best}
 
--- the greatest word is no cutoff
+-- the largest word means no cutoff
 abbrev pub no_word : ℕ
 no_word = 2 ^ 64 - 1
 

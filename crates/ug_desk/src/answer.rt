@@ -16,7 +16,7 @@ pub fn answer(alloc: Global, book: &Book, rank: u32) -> Result<Given, AllocError
     requires joined { is_joined (state_at book.now.ranks rank) ≡ true }
     ensures { IfOk result (λ given. IsAnswer book.now rank (took_of given)) }
 {
-    // The problem tells that the book is one.
+    // The problem shows that the book is one.
     let _problem = book.problem();
     if is_over(book) {
         return Ok(Given::NoMore);
@@ -30,14 +30,14 @@ pub fn answer(alloc: Global, book: &Book, rank: u32) -> Result<Given, AllocError
     }
 }
 
-/// Whether no node is held, or as many reports were heard as may be.
+/// Does the book hold no node, or is the limit of reports reached?
 pub fn is_over(book: &Book) -> bool
     ensures { MatchBool result (IsOver book.now) (IsUnderWay book.now) }
 {
     book.answer().is_some() || is_spent(book)
 }
 
-/// Whether as many reports were heard as may be.
+/// Is the limit of reports reached?
 pub fn is_spent(book: &Book) -> bool
     ensures { MatchBool result
         (book.now.settings.limit ≤ book.now.heard)

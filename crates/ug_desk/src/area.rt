@@ -31,7 +31,8 @@ fn is_made(root: &[Interval], changes: &[Change], area: &[Interval]) -> bool
     true
 }
 
-// The interval that the changes give to a column, where so many of them are of columns before it.
+// Returns the interval that the changes give to column j, of which `before` are of columns before
+// it.
 #[tactic(auto, using(crate::proofs::Columns::side_changed, crate::proofs::Columns::side_kept))]
 fn side_by(root: &[Interval], changes: &[Change], before: usize, j: usize) -> Interval
     requires rising { IsRising changes.now }
@@ -46,7 +47,8 @@ fn side_by(root: &[Interval], changes: &[Change], before: usize, j: usize) -> In
     }
 }
 
-// How many of the changes are of columns up to this one, where so many are of columns before it.
+// Returns how many of the changes are of columns up to j, of which `before` are of columns before
+// it.
 #[tactic(auto, using(crate::proofs::Columns::one_passed, crate::proofs::Columns::none_passed))]
 fn passed(changes: &[Change], before: usize, j: usize) -> usize
     requires rising { IsRising changes.now }
@@ -60,7 +62,7 @@ fn passed(changes: &[Change], before: usize, j: usize) -> usize
     }
 }
 
-// Whether the change behind so many is of this column.
+// Is the change at place `before` of column j?
 fn is_next(changes: &[Change], before: usize, j: usize) -> bool
     ensures { MatchBool result (IsNext changes.now before j) (IsNotNext changes.now before j) }
 {

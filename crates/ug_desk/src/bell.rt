@@ -1,11 +1,11 @@
 use std::sync::Wait;
 use std::sync::atomic::{AtomicU64, Ordering};
 
-/// What wakes one that rests. A ring stays until it is heard, so none is lost that comes before the
-/// sleep. No promise rests on it.
+/// Wakes a sleeper. A ring stays until the sleeper has seen it, so none is lost that comes before
+/// the sleep. No contract depends on it.
 #[derive(Drop)]
 pub struct Bell {
-    // 1 where it was rung and nobody has heard it yet, else 0.
+    // 1 if it was rung and nobody has seen it yet, else 0.
     word: AtomicU64,
 }
 
@@ -24,7 +24,7 @@ impl Bell {
         }
     }
 
-    /// Sleeps until it is rung, if it was not since it was heard last.
+    /// Sleeps until it is rung, unless it was rung since the last call.
     pub fn hear<R: Wait>(&self, rt: &R) {
         for _ in rt.forever() {
             if self.word.swap(0, Ordering::SeqCst) == 1 {

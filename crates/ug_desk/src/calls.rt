@@ -1,4 +1,4 @@
-// The calls of passes.
+// The calls of a pass. Each takes one turn of the lock, except `cutoff` and `meet`.
 ghost use Rattle.std.specs.Prelude.{◌≡◌, ◌<◌, [], Some, None, IfOk, IfSome, OnErr};
 ghost use Rattle.ug_turn.specs.Seats.{IsAtRestAt, view_of};
 ghost use Rattle.ug_desk.specs.Histories.{offered, stated};
@@ -26,8 +26,8 @@ use ug_turn::SeatOf;
 use ug_worker::{Reply, Took, Untaken};
 
 impl Desk {
-    /// Joins the pass's rank where it is absent or dead, decides, and answers what there is for it.
-    /// Its task is made without the lock.
+    /// Joins the pass's rank if it is absent or dead, decides, and returns a task, `Wait` or
+    /// `Over`. The task is created outside the lock.
     pub fn take<R: Wait>(&self, rt: &R, pass: &mut Pass) -> Result<Took, Untaken>
         requires { pass.old.lock ≡ lock_of_desk self.now }
         ensures taken { HasTakenIn result pass.old pass.new }
@@ -43,7 +43,7 @@ impl Desk {
         opened(given)
     }
 
-    /// A point that was found. It takes no memory.
+    /// Reports a point that was found. Takes no memory.
     pub fn solution<R: Wait>(&self, rt: &R, pass: &mut Pass, point: Point) -> Heard
         requires { pass.old.lock ≡ lock_of_desk self.now }
         ensures { HasCalled (Some (offered point result)) pass.old pass.new }
@@ -59,7 +59,7 @@ impl Desk {
         heard
     }
 
-    /// A box that is handed. One of another width is Stale.
+    /// Hands over a box. One of another width is Stale.
     pub fn hand<R: Wait>(&self, rt: &R, pass: &mut Pass, number: u64, area: &IntBox) -> Heard
         requires { pass.old.lock ≡ lock_of_desk self.now }
         ensures { HasHandedIn number area.now result pass.old pass.new }
@@ -78,7 +78,7 @@ impl Desk {
         heard
     }
 
-    /// How many boxes are left, and the least of their floors.
+    /// Reports the number of boxes left and the least of their floors.
     pub fn state<R: Wait>(
         &self,
         rt: &R,
@@ -101,9 +101,9 @@ impl Desk {
         reply
     }
 
-    /// A task of the desk's problem of which no box is left, under a cutoff that the pass knows to
-    /// be backed: one that it was answered or has read, or that of a point of its own which was
-    /// kept, or not better. So it is never Unbacked. It takes no memory.
+    /// Reports a task of the desk's problem as done: it has no box left. Its cutoff must be known
+    /// to be backed: the pass was answered it or has read it, or it is that of a point of its own
+    /// which was kept or not better. So the answer is never Unbacked. Takes no memory.
     pub fn done<R: Wait>(&self, rt: &R, pass: &mut Pass, task: Task) -> Heard
         requires lock { pass.old.lock ≡ lock_of_desk self.now }
         requires none { task.boxes ≡ [] }
@@ -129,7 +129,7 @@ impl Desk {
         heard
     }
 
-    /// The rank is gone, in the middle of a task. It takes no memory.
+    /// Ends the rank in the middle of a task. Takes no memory.
     pub fn give_up<R: Wait>(&self, rt: &R, pass: &mut Pass, task: Task)
         requires { pass.old.lock ≡ lock_of_desk self.now }
         ensures { HasLeft pass.old pass.new }
@@ -138,7 +138,7 @@ impl Desk {
         self.leave(rt, pass);
     }
 
-    /// The rank is gone. It takes no memory.
+    /// Ends the rank. Takes no memory.
     pub fn leave<R: Wait>(&self, rt: &R, pass: &mut Pass)
         requires { pass.old.lock ≡ lock_of_desk self.now }
         ensures { HasLeft pass.old pass.new }
@@ -157,7 +157,8 @@ impl Desk {
         self.wake(woken);
     }
 
-    /// What is held now, to be saved. It is an entry of its own, which it counts.
+    /// Returns a snapshot of the nodes held, for a checkpoint. It is an entry of the history, which
+    /// it counts.
     pub fn snapshot<R: Wait>(&self, rt: &R, pass: &mut Pass) -> Result<Snapshot, AllocError>
         requires { pass.old.lock ≡ lock_of_desk self.now }
         ensures ok { IfOk result (λ copy. HasCopied copy pass.old pass.new) }
@@ -179,7 +180,7 @@ impl Desk {
         }
     }
 
-    /// What no point of the nodes held is better than, as the book has it; None where none is held.
+    /// Returns the dual bound of the nodes held, or `None` if no node is held.
     pub fn bound<R: Wait>(&self, rt: &R, pass: &mut Pass) -> Option<i128>
         requires { pass.old.lock ≡ lock_of_desk self.now }
         ensures { HasCalled None pass.old pass.new }
@@ -190,8 +191,8 @@ impl Desk {
         bound
     }
 
-    /// The incumbent's cutoff, read without the lock. It is at least that of the book at each later
-    /// turn, and at most the least that the pass knew. It takes no memory.
+    /// Returns the incumbent's cutoff, read without the lock. It is at least that of the book at
+    /// each later turn, and at most the least that the pass knew. Takes no memory.
     pub fn cutoff(&self, pass: &mut Pass) -> Option<i128>
         requires { pass.old.lock ≡ lock_of_desk self.now }
         ensures looked { HasLooked result pass.old pass.new }
@@ -201,7 +202,7 @@ impl Desk {
         cutoff_at(pass.floor, word)
     }
 
-    /// Two passes meet: both have then seen one beginning of the history, which begins with what
+    /// Lets two passes meet: both have then seen one prefix of the history, which begins with what
     /// each had seen.
     pub fn meet(&self, first: &mut Pass, second: &mut Pass)
         requires first { first.old.lock ≡ lock_of_desk self.now }
@@ -213,7 +214,7 @@ impl Desk {
         self.turn.meet(&mut first.seat, &mut second.seat);
     }
 
-    // What is behind the lock, in the turn of the seat of a rank.
+    // Takes the value behind the lock, in the turn of a rank's seat.
     fn out<R: Wait>(&self, rt: &R, seat: &mut SeatOf<Shelf>, rank: u32) -> Shelf
         requires rest { IsAtRestAt (lock_of_desk self.now) seat.old }
         requires here { IfSome (view_of seat.old).opening (λ o. rank < o.settings.solvers) }
@@ -221,7 +222,7 @@ impl Desk {
         ensures out { IsOutFor (lock_of_desk self.now) rank result seat.new }
     {
         let shelf = self.turn.take(rt, seat);
-        // The book tells that what was taken out is what a desk's lock is round.
+        // The book shows that what was taken out is what a desk's lock is round.
         let _book = shelf.locked.book();
         shelf
     }

@@ -11,9 +11,9 @@ use std::alloc::Global;
 use std::boxed::Box;
 
 impl Desk {
-    /// What is behind the lock, where all passes are handed in: a history leads to it that begins
-    /// with all that each pass has seen, and in which the entries of each pass are its own calls,
-    /// each once. Where memory is wanting all is handed back.
+    /// Closes the desk with all its passes and returns the value behind the lock: a history leads
+    /// to it that begins with all that each pass has seen, and in which the entries of each pass
+    /// are its own calls, each once. If memory runs out, everything is returned.
     pub fn close(self, alloc: Global, passes: Vec<Pass>) -> Result<Locked, (Desk, Vec<Pass>)>
         requires all { length passes.items ≡ width_of self }
         requires here { (k : _) (p : _) → slice_get passes.items k ≡ Some p

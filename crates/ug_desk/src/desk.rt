@@ -20,7 +20,7 @@ pub struct Desk {
     ghost some: { 0 < passes_of turn },
 }
 
-/// A bell for each of so many ranks.
+/// Returns a bell for each rank.
 pub fn bells(alloc: Global, ranks: u32) -> Result<Vec<Bell>, AllocError> {
     let mut bells = Vec::with_capacity(alloc, ranks as usize)?;
     for _ in 0..ranks {

@@ -19,7 +19,7 @@ pub fn done(book: &mut Book, rank: u32, task: &Task) -> Heard
     ensures same { IsSameRun book.old book.new }
     ensures sound { IsSoundBook book.old → IsSoundBook book.new }
 {
-    // The task tells that each good point lies in a box handed.
+    // The task shows that each good point lies in a box handed.
     let _left = task.left();
     let handed = task.handed();
     let taken = book.taken(rank);
@@ -37,8 +37,8 @@ pub fn done(book: &mut Book, rank: u32, task: &Task) -> Heard
     told_on(heard, handed, found)
 }
 
-// How many of the boxes that were handed were taken: where as many were, the leading ones that
-// agree.
+// Returns how many of the handed boxes were taken: all of them, or, if as many were taken, the
+// first ones that agree.
 fn found(handed: &Hands, taken: &Hands) -> usize
     ensures { AreFound handed.now taken.now result }
 {
@@ -48,8 +48,8 @@ fn found(handed: &Hands, taken: &Hands) -> usize
     handed.leading(taken)
 }
 
-// The count of a Done, where so many hands were found: with as many taken it is theirs, so that one
-// that differs makes it short.
+// Returns the count of a Done of which `found` hands were found: with as many taken it is `found`,
+// so that one that differs makes the Done Short.
 fn count_told(handed: &Hands, taken: &Hands, found: u64) -> u64
     ensures { IsTold (length handed.now) (length taken.now) found result }
 {

@@ -71,7 +71,7 @@ impl Entry {
         }
     }
 
-    /// It told what is left.
+    /// It reported what is left.
     pub(crate) fn stated(
         pass: u32,
         left: u64,

@@ -10,7 +10,7 @@ pub enum Given {
     Node(Parcel),
     /// Nothing now.
     Nothing,
-    /// No node is held, or no more reports are heard.
+    /// No node is held, or the limit of reports is reached.
     NoMore,
 }
 

@@ -1,15 +1,14 @@
-//! A desk: one book that many threads share in turns, each through a pass that speaks for one rank.
-//! It stands on ug_book, on ug_turn for the lock, on ug_worker for tasks and on ug_snapshot for
+//! A desk: one book that threads share in turns, each through a pass that speaks for one rank.
+//! Depends on ug_book, on ug_turn for the lock, on ug_worker for tasks and on ug_snapshot for
 //! images. The calls of `Locked`, the value behind the lock, do exactly what the rules of the book
-//! say. There is one history of calls: each call of a pass goes on from all that the pass had seen,
-//! ends with the call, and has the pass's own calls, each once. That a Done is true follows from
-//! the type of its task.
+//! say. There is one history of calls: each call of a pass extends all that the pass had seen, ends
+//! with the call, and has the pass's own calls, each once. The type of a task shows that its Done
+//! is true.
 #![tactic(auto)]
 
 mod answer;
 mod area;
 mod bell;
-mod best;
 mod calls;
 mod closing;
 mod decide;

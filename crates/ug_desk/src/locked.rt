@@ -38,7 +38,7 @@ pub struct Locked {
     book: Book,
     // The ticket of the last work of each rank.
     tickets: Vec<Ticket>,
-    // How many calls the history has, which stands in proofs alone.
+    // Length of the history, which exists in proofs alone.
     count: u64,
     // The word of the incumbent's cutoff, which is read behind each call.
     word: u64,
@@ -219,7 +219,7 @@ impl Locked {
         heard
     }
 
-    /// The rank is gone; whether it lived. It takes no memory.
+    /// Ends the rank. Returns whether it was alive. Takes no memory.
     pub fn leave(&mut self, rank: u32) -> bool
         requires { rank < length self.old.now.book.ranks }
         ensures lived { result ≡ is_alive (state_at self.old.now.book.ranks rank) }
@@ -234,7 +234,7 @@ impl Locked {
         true
     }
 
-    /// What is held now, to be saved. After an error nothing has changed.
+    /// Returns a snapshot of the nodes held. After an error nothing has changed.
     pub fn snapshot(&mut self, rank: u32) -> Result<Snapshot, AllocError>
         requires { rank < length self.old.now.book.ranks }
         ensures made { IfOk result (IsSnapshotOf self.old self.new.count) }
@@ -258,7 +258,7 @@ impl Locked {
         area.as_slice().len() == self.book.problem().problem().columns().len()
     }
 
-    // What is held now, with one call more.
+    // Returns a snapshot of the nodes held, with one call more.
     fn copy(&self) -> Result<Snapshot, AllocError>
         ensures { IfOk result (IsSnapshotOf self.now (one_more self.now.count)) }
     {

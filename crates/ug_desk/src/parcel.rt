@@ -4,7 +4,6 @@ ghost use Rattle.ug_problem.specs.Instances.{root_of};
 ghost use Rattle.ug_nodes.specs.Changes.{AreChangesOf, area_by};
 ghost use Rattle.ug_desk.specs.Takes.{task_of};
 
-use crate::best::cutoff_of_best;
 use std::alloc::{AllocError, Global};
 use std::marker::Model;
 use ug_base::Task;
@@ -51,7 +50,7 @@ impl Parcel {
         ensures { IfOk result (λ parcel. parcel ≡ task_of book.now ticket params node.now) }
     {
         let changes = node.changes.copy()?;
-        let cutoff = cutoff_of_best(book);
+        let cutoff = book.cutoff();
         let gap = book.settings().gap;
         let problem = match book.problem().share() {
             Ok(problem) => problem,

@@ -12,7 +12,7 @@ use ug_turn::SeatOf;
 pub struct Pass {
     pub(crate) rank: u32,
     pub(crate) heard: u64,
-    // What no feasible value is below, from which cutoffs are told.
+    // The floor of the root box, from which cutoff words count.
     pub(crate) floor: i128,
     pub(crate) seat: SeatOf<Shelf>,
 }
@@ -67,8 +67,8 @@ impl Pass {
         self.rank
     }
 
-    /// How many reports the book had heard after the pass's last call. It takes neither the lock
-    /// nor memory.
+    /// Returns the number of reports that the book had received after the pass's last call. Takes
+    /// neither the lock nor memory.
     pub fn heard(&self) -> u64 {
         self.heard
     }

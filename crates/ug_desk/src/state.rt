@@ -7,14 +7,13 @@ ghost use Rattle.ug_book.specs.Views.{IsSameRun};
 ghost use Rattle.ug_desk.specs.Reports.{HasHalted, HasMovedOn, HasNotStated, HasNoted, HasStated, IsGoingOn, IsReply, IsStop};
 
 use crate::answer::is_spent;
-use crate::best::cutoff_of_best;
 use crate::decide::decide;
 use ug_book::{Book, Unfinished};
 use ug_frames::Report;
 use ug_nodes::Ticket;
 use ug_worker::Reply;
 
-/// A rank tells what is left under a ticket. Where it races the book then decides.
+/// Reports what is left under a ticket of a rank. If the rank races, the book then decides.
 pub fn state(
     book: &mut Book,
     rank: u32,
@@ -38,7 +37,7 @@ pub fn state(
     }
 }
 
-// The book hears what is left.
+// Gives the report to the book.
 fn note(book: &mut Book, rank: u32, ticket: Ticket, left: u64, floor: i128)
     requires there { rank < length book.old.ranks }
     requires some { 0 < left }
@@ -56,7 +55,7 @@ fn note(book: &mut Book, rank: u32, ticket: Ticket, left: u64, floor: i128)
     );
 }
 
-// Where the rank races it is decided.
+// Makes a decision if the rank races.
 fn move_on(book: &mut Book, rank: u32) -> Result<(), Unfinished>
     requires { rank < length book.old.ranks }
     ensures ok { OnOk result (HasMovedOn rank book.old book.new) }
@@ -82,21 +81,21 @@ fn is_racing(book: &Book, rank: u32) -> bool
     }
 }
 
-// What a rank is told that works under a ticket.
+// Returns the reply to a rank that works under a ticket.
 fn reply(book: &Book, rank: u32, ticket: Ticket) -> Reply
     requires { rank < length book.now.ranks }
     ensures replied { IsReply book.now rank ticket result }
     ensures small { IsSmallCutoff result.cutoff }
 {
     Reply {
-        cutoff: cutoff_of_best(book),
+        cutoff: book.cutoff(),
         collect: book.asked(rank),
         stop: is_stop(book, rank, ticket),
         racing: is_racing(book, rank),
     }
 }
 
-// Whether the ticket has ended, or as many reports were heard as may be.
+// Has the ticket ended, or is the limit of reports reached?
 fn is_stop(book: &Book, rank: u32, ticket: Ticket) -> bool
     requires { rank < length book.now.ranks }
     ensures { MatchBool result (IsStop book.now rank ticket) (IsGoingOn book.now rank ticket) }

@@ -3,7 +3,7 @@ ghost use Rattle.std.specs.Prelude.{◌≡◌, replicate, IfOk};
 use std::alloc::{AllocError, Global};
 use ug_nodes::Ticket;
 
-/// A ticket for each of so many passes.
+/// Returns a ticket for each pass.
 pub fn tickets(alloc: Global, passes: u32, ticket: Ticket) -> Result<Vec<Ticket>, AllocError>
     ensures { IfOk result (λ tickets. tickets.items ≡ replicate passes ticket) }
 {

@@ -2,7 +2,6 @@ ghost use Rattle.std.specs.Prelude.{◌≡◌, ◌≢◌, ℤ, ◌-◌, ◌-ℤ�
 ghost use Rattle.ug_rules.specs.declared.heard.Heard.TheVariants.{Kept};
 ghost use Rattle.ug_desk.specs.Words.{cutoff_at, floor_of, no_word, word_at, word_of};
 
-use crate::best::cutoff_of_best;
 use ug_book::Book;
 use ug_problem::Problem;
 use ug_rules::Heard;
@@ -12,7 +11,7 @@ pub fn word_of(book: &Book) -> u64
     ensures { result ≡ word_of book.now }
 {
     let floor = floor_of(book.problem().problem());
-    word_at(floor, cutoff_of_best(book))
+    word_at(floor, book.cutoff())
 }
 
 /// The word of the incumbent's cutoff behind a point that was answered so, and what it was before.
