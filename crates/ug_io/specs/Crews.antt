@@ -1,5 +1,5 @@
--- What is said of a crew: each byte that was heard from a rank or told to one, and each rank that is
--- gone, in one order, where they are told; and who lives.
+-- The contract of a crew: each byte received from a rank or sent to one, and each lost rank, in one
+-- order, if the crew shows them; and which ranks are alive.
 use Rattle.std.specs.Prelude.{◌≡◌, ℕ, ◌<◌, ◌≤◌, Bool, true, false, List, [], ◌∷◌, ◌++◌, length, map, take}
 use Rattle.std.specs.Prelude.{Option, slice_index_or, slice_set}
 use Rattle.std.specs.Option.{option_map}
@@ -9,18 +9,18 @@ use Rattle.ug_io.specs.declared.crew.Came.{Came}
 use Rattle.ug_io.specs.declared.crew.Came.TheVariants.{Bytes, Gone}
 use Rattle.ug_io.specs.Outside.{Rose}
 
--- what is seen of a crew: what was heard, told, and who is gone, in order, where it tells it; of each
--- rank whether it lives: it was launched, and is neither gone nor shut; and how often it has failed
+-- a crew as it is seen: the events in order, if it shows them; for each rank whether it is alive:
+-- it was launched, and is neither lost nor shut; and the number of failed calls
 pub record CrewSeen : Type 0 where
   pub said : Option (List Exchange)
   pub lives : List Bool
   pub faults : ℕ
 
--- these bytes were heard from the rank
+-- these bytes were received from the rank
 abbrev pub heard_from : ℕ → List ℕ → List Exchange
 heard_from rank bytes = map (exchange.Heard rank) bytes
 
--- these bytes were told to it
+-- these bytes were sent to it
 abbrev pub told_to : ℕ → List ℕ → List Exchange
 told_to rank bytes = map (exchange.Told rank) bytes
 
@@ -48,7 +48,7 @@ pub record IsSetTo (alive : Bool) (old new : CrewSeen) (rank : ℕ) : Type 0 whe
   pub said : new.said ≡ old.said
   pub lives : new.lives ≡ slice_set old.lives rank alive
 
--- some bytes came from a rank that lives, which are the first so many of the buffer
+-- `count` bytes came from a live rank, which are a prefix of the buffer
 pub record HasHeard (old new : CrewSeen) (buffer : List ℕ) (rank count : ℕ) : Type 0 where
   pub alive : IsAlive old rank
   pub some : 0 < count
@@ -57,19 +57,19 @@ pub record HasHeard (old new : CrewSeen) (buffer : List ℕ) (rank count : ℕ) 
   pub lives : new.lives ≡ old.lives
   pub faults : new.faults ≡ old.faults
 
--- a rank that lived is gone, which counts as a fault
+-- a live rank is lost, which counts as a fault
 pub record HasLost (old new : CrewSeen) (rank : ℕ) : Type 0 where
   pub alive : IsAlive old rank
   pub said : Adds old.said new.said (exchange.Gone rank ∷ [])
   pub lives : new.lives ≡ slice_set old.lives rank false
   pub faults : Rose old.faults new.faults
 
--- what a turn came to
+-- the result of a turn
 abbrev pub HasTurned : CrewSeen → CrewSeen → List ℕ → Came → Type 0
 HasTurned old new buffer (Bytes rank count) = HasHeard old new buffer rank count
 HasTurned old new buffer (Gone rank) = HasLost old new rank
 
--- all the bytes were told to the rank
+-- all the bytes were sent to the rank
 pub record HasSent (old new : CrewSeen) (rank : ℕ) (bytes : List ℕ) : Type 0 where
   pub said : Adds old.said new.said (told_to rank bytes)
   pub lives : new.lives ≡ old.lives

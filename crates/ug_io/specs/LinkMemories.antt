@@ -5,11 +5,11 @@ use Rattle.ug_io.specs.declared.link_memory.MemoryLink.{MemoryLink}
 use Rattle.ug_io.specs.Links.{LinkSeen}
 use Rattle.ug_io.specs.Scripted.{faults_of}
 
--- what was heard and told
+-- the bytes received and sent
 abbrev pub said_of : MemoryLink → List Said
 said_of l = l.said.items
 
--- what is seen of it
+-- the link as it is seen
 abbrev pub seen_of : MemoryLink → LinkSeen
 seen_of l = record { said = Some (said_of l); ended = l.ended; faults = faults_of l.script }
 

@@ -1,4 +1,4 @@
--- What is said of a link: each byte that was heard or told, in one order, where they are told.
+-- The contract of a link: each byte received or sent, in one order, if the link shows them.
 use Rattle.std.specs.Prelude.{◌≡◌, ℕ, ◌<◌, ◌≤◌, Bool, true, false, List, ◌++◌, length, map, take}
 use Rattle.std.specs.Prelude.{Option}
 use Rattle.std.specs.Option.{option_map}
@@ -7,18 +7,18 @@ use Rattle.ug_io.specs.declared.link.Said.TheVariants.{Heard, Told}
 use Rattle.ug_io.specs.declared.link.Got.{Got}
 use Rattle.ug_io.specs.declared.link.Got.TheVariants.{Bytes, Nothing, End}
 
--- what is seen of a link: the bytes that were heard and told, in order, where it tells them; whether
--- it has ended; and how often it has failed
+-- a link as it is seen: the bytes received and sent, in order, if it shows them; whether it has
+-- ended; and the number of failed calls
 pub record LinkSeen : Type 0 where
   pub said : Option (List Said)
   pub ended : Bool
   pub faults : ℕ
 
--- these bytes were heard
+-- these bytes were received
 abbrev pub heard : List ℕ → List Said
 heard bytes = map Heard bytes
 
--- these bytes were told
+-- these bytes were sent
 abbrev pub told : List ℕ → List Said
 told bytes = map Told bytes
 
@@ -31,7 +31,7 @@ pub record IsSilent (old new : LinkSeen) : Type 0 where
   pub said : new.said ≡ old.said
   pub ended : new.ended ≡ old.ended
 
--- some bytes were heard, which are the first so many of the buffer
+-- `n` bytes were received, which are a prefix of the buffer
 pub record HasHeard (old new : LinkSeen) (buffer : List ℕ) (n : ℕ) : Type 0 where
   pub some : 0 < n
   pub within : n ≤ length buffer
@@ -43,13 +43,13 @@ pub record IsAtEnd (old new : LinkSeen) : Type 0 where
   pub said : new.said ≡ old.said
   pub ended : new.ended ≡ true
 
--- what a read came to: nothing is heard only where it did not wait
+-- the result of a read: nothing is received only if it did not wait
 abbrev pub HasRead : Bool → LinkSeen → LinkSeen → List ℕ → Got → Type 0
 HasRead wait old new buffer (Bytes n) = HasHeard old new buffer n
 HasRead wait old new buffer Nothing = (wait ≡ false) × IsSilent old new
 HasRead wait old new buffer End = IsAtEnd old new
 
--- the first so many of the bytes were told, at least one where there is one
+-- the first `n` of the bytes were sent, at least one if there is one
 pub record HasTold (old new : LinkSeen) (bytes : List ℕ) (n : ℕ) : Type 0 where
   pub some : 0 < length bytes → 0 < n
   pub within : n ≤ length bytes

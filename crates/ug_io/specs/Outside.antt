@@ -1,20 +1,20 @@
--- What is said of the outside: bytes that come and go, where they are told, and a count of faults.
+-- The contracts of sources and sinks: bytes that come and go, if they are shown, and a count of
+-- faults.
 use Rattle.std.specs.Prelude.{◌≡◌, ℕ, ◌-◌, ◌<◌, ◌≤◌, ◌^◌, ◌⊎◌, List, [], ◌++◌, Option, IfSome}
 use Rattle.std.specs.Prelude.{Result, Ok, Err}
 use Rattle.std.specs.Option.{option_map}
 
--- what is seen of a source: the bytes that are left, where it tells them, and how often it has failed
+-- a source as it is seen: the bytes left, if it shows them, and the number of failed calls
 pub record SourceSeen : Type 0 where
   pub left : Option (List ℕ)
   pub faults : ℕ
 
--- what is seen of a sink: the bytes that were written, where it tells them, and how often it has
--- failed
+-- a sink as it is seen: the bytes written, if it shows them, and the number of failed calls
 pub record SinkSeen : Type 0 where
   pub written : Option (List ℕ)
   pub faults : ℕ
 
--- the count of faults rose; one that stands at its greatest value stays, and counts as risen
+-- the count of faults rose; one at its largest value stays, and counts as risen
 abbrev pub Rose : ℕ → ℕ → Type 0
 Rose old new = (old < new) ⊎ ((2 ^ 64 - 1 ≤ old) × (new ≡ old))
 
@@ -23,8 +23,8 @@ pub record IsCalm (old new : ℕ) : Type 0 where
   pub same : new ≡ old
   pub small : old < 2 ^ 64 - 1
 
--- The count of faults stayed where a call succeeded; where it did not, its error says what became of
--- the count.
+-- The count of faults stayed if a call succeeded; otherwise its error says what happened to the
+-- count.
 abbrev pub IsCountedBy : {T E : Type 0} → (E → ℕ → ℕ → Type 0) → Result T E → ℕ → ℕ → Type 0
 IsCountedBy Cause (Ok x) old new = new ≡ old
 IsCountedBy Cause (Err e) old new = Cause e old new
@@ -45,7 +45,7 @@ IsAtEnd left = IfSome left (λ rest. rest ≡ [])
 abbrev pub Takes : Option (List ℕ) → Option (List ℕ) → List ℕ → Type 0
 Takes old new bytes = new ≡ option_map (λ written. written ++ bytes) old
 
--- a front of the bytes went there
+-- a prefix of the bytes was written
 pub record TakesFront (old new : Option (List ℕ)) (bytes : List ℕ) : Type 0 where
   pub front : List ℕ
   pub rest : List ℕ

@@ -2,8 +2,8 @@ ghost use Rattle.std.specs.Prelude.{◌≡◌, length, IfOk};
 
 use std::alloc::{AllocError, Global};
 
-/// This many zeros, to be read into or written over. Of a buffer of a known length a contract that
-/// says its bytes would have them counted one by one; this one says how many there are.
+/// Returns a buffer of `n` zeros to read into or write over. The contract states its length only: a
+/// proof that also knows the contents counts the bytes one by one.
 pub fn zeros(alloc: Global, n: usize) -> Result<Vec<u8>, AllocError>
     ensures { IfOk result (λ v. length v.items ≡ n) }
 {

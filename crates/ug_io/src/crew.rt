@@ -1,72 +1,76 @@
-ghost use Rattle.std.specs.Prelude.{◌≡◌, ◌<◌, true, false, length, IfOk, OnOk, OnErr, MatchBool};
+ghost use Rattle.std.specs.Prelude.{◌≡◌, ◌<◌, Bool, true, false, length, IfOk, OnOk, OnErr, MatchBool};
 ghost use Rattle.ug_io.specs.Outside.{IsCounted, Rose};
 ghost use Rattle.ug_io.specs.Crews.{CrewSeen, HasSent, HasTurned, IsAlive, IsAway, IsSetTo, IsSilent};
 
 use crate::outside::Failed;
 
-/// What went between a coordinator and a rank of its crew.
+/// One event between a coordinator and a rank of its crew.
 #[derive(Clone, Copy, PartialEq, Eq)]
 pub enum Exchange {
-    /// A byte was heard: it came from the rank.
+    /// A byte was received from the rank.
     Heard { rank: u32, byte: u8 },
-    /// A byte was told: it went there.
+    /// A byte was sent to the rank.
     Told { rank: u32, byte: u8 },
-    /// The rank is gone: nothing comes from it any more.
+    /// The rank is lost: nothing more comes from it.
     Gone { rank: u32 },
 }
 
-/// What a turn of a crew came to.
+/// Result of a turn of a crew.
 #[derive(Clone, Copy, PartialEq, Eq)]
 pub enum Came {
-    /// So many bytes, at least one, came from the rank. They stand at the front of the buffer.
+    /// `count` bytes, at least one, came from the rank. They are a prefix of the buffer.
     Bytes { rank: u32, count: usize },
-    /// The rank is gone: it ended, or was never there.
+    /// The rank is lost: it ended, or never started.
     Gone { rank: u32 },
 }
 
-/// Solvers, each a rank, as their coordinator sees them: programs behind sockets, or a script in
-/// memory. Ranks count from 0.
+/// The workers of a run, each a rank, as their coordinator sees them: processes at sockets, or a
+/// script in memory. Ranks count from 0.
 pub trait Crew {
-    /// What was heard and told and who is gone, in order, where it tells it; who lives; and how
-    /// often it has failed.
+    /// The events in order, if the crew shows them; the ranks that are alive; and the number of
+    /// failed calls.
     ghost seen: { Self → CrewSeen };
 
-    /// Whether the rank lives: it was launched, and is neither gone nor shut.
+    /// Whether `finish` was called.
+    ghost finished: { Self → Bool };
+
+    /// Is the rank alive? It is if it was launched and is neither lost nor shut.
     fn is_alive(&self, rank: u32) -> bool
         ensures { MatchBool result (IsAlive (seen self.now) rank) (¬ IsAlive (seen self.now) rank) };
 
-    /// Starts the rank, which lives from then on.
+    /// Starts the rank, which is alive from then on.
     fn launch(&mut self, rank: u32) -> Result<(), Failed>
         requires { IsAway (seen self.old) rank }
         ensures launched { OnOk result (IsSetTo true (seen self.old) (seen self.new) rank) }
         ensures kept { OnErr result (IsSilent (seen self.old) (seen self.new)) }
         ensures cause { IsCounted result (seen self.old).faults (seen self.new).faults };
 
-    /// Waits until bytes come from a rank that lives, or one is gone. A rank that is gone does not
-    /// live any more. After a failure nothing is said, and the same ranks live.
+    /// Waits until bytes come from a live rank, or one is lost. A lost rank is not alive any more.
+    /// After a failure nothing was received, and the same ranks are alive.
     fn turn(&mut self, buffer: &mut [u8]) -> Result<Came, Failed>
         requires { 0 < length buffer.old }
         ensures came { IfOk result (HasTurned (seen self.old) (seen self.new) buffer.new) }
         ensures kept { OnErr result (IsSilent (seen self.old) (seen self.new)) }
         ensures cause { OnErr result (Rose (seen self.old).faults (seen self.new).faults) };
 
-    /// Tells all of the bytes to the rank, now or as soon as they can go. After a failure it is not
-    /// known how many of them went.
+    /// Sends all of the bytes to the rank, now or as soon as possible. After a failure it is
+    /// unknown how many of them were sent.
     fn send(&mut self, rank: u32, bytes: &[u8]) -> Result<(), Failed>
         requires { IsAlive (seen self.old) rank }
         ensures told { OnOk result (HasSent (seen self.old) (seen self.new) rank bytes.now) }
         ensures kept { OnErr result (IsSilent (seen self.old) (seen self.new)) }
         ensures cause { IsCounted result (seen self.old).faults (seen self.new).faults };
 
-    /// Hears the rank no more: it does not live from then on.
+    /// Stops reading from the rank: it is not alive from then on.
     fn shut(&mut self, rank: u32)
         requires { IsAlive (seen self.old) rank }
         ensures shut { IsSetTo false (seen self.old) (seen self.new) rank }
         ensures calm { (seen self.new).faults ≡ (seen self.old).faults };
 
-    /// Lets all that was told go out, and waits until each rank has ended. It is the last call, and
-    /// none that can fail.
+    /// Flushes every send queue and waits for all ranks to end. It is the last call, and cannot
+    /// fail.
     fn finish(&mut self)
+        ensures finished { finished self.new ≡ true }
         ensures said { (seen self.new).said ≡ (seen self.old).said }
         ensures calm { (seen self.new).faults ≡ (seen self.old).faults };
 }

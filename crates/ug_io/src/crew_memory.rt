@@ -1,4 +1,4 @@
-//! A crew in memory: for tests.
+//! A crew in memory, for tests.
 
 ghost use Rattle.std.specs.Prelude.{◌≡◌, ◌<◌, [], ℕ, List, Some, true, false, length, replicate, IfOk, IfSome, OnErr};
 ghost use Rattle.ug_io.specs.Outside.{Rose};
@@ -10,34 +10,35 @@ use crate::outside::Failed;
 use crate::script::Script;
 use std::alloc::{AllocError, Global};
 
-/// What comes from a rank of a crew in memory: these bytes, or, where there are none, that it is
-/// gone.
+/// Next input from a rank of a crew in memory: these bytes, or, if there are none, the loss of the
+/// rank.
 #[derive(Clone, Copy)]
 pub struct Piece<'a> {
     pub rank: u32,
     pub bytes: &'a [u8],
 }
 
-/// Pieces in memory as a crew, which keeps what was heard and told. What comes of a rank that does
-/// not live is passed over; where nothing comes any more a turn fails. It fails too where its
-/// script says, or memory is wanting.
+/// A crew in memory that plays a list of pieces and records every event. Pieces of ranks that are
+/// not alive are skipped. A turn fails when no piece is left. Every call fails if its script says
+/// so, or if it runs out of memory.
 #[derive(Drop)]
 pub struct MemoryCrew<'a> {
     alloc: Global,
-    // What is left of the piece that comes.
+    // The rest of the current piece.
     piece: Piece<'a>,
-    // The pieces behind it.
+    // The pieces after it.
     rest: &'a [Piece<'a>],
     exchanged: Vec<Exchange>,
     lives: Vec<bool>,
     script: Script,
+    is_finished: bool,
 }
 
 impl<'a> MemoryCrew<'a> {
     ghost use Rattle.ug_io.specs.Scripted.{faults_of};
     ghost use Rattle.ug_io.specs.CrewMemories.{IsNext, crew_seen, exchanged_of, left_in, next_rank};
 
-    /// A crew of so many ranks, none of which lives yet, from which these pieces come.
+    /// Returns a crew of `ranks` ranks, none of them alive yet, that plays these pieces.
     pub fn new(
         alloc: Global,
         ranks: u32,
@@ -64,17 +65,18 @@ impl<'a> MemoryCrew<'a> {
             exchanged: Vec::new(alloc),
             lives,
             script,
+            is_finished: false,
         })
     }
 
-    /// What was heard and told, and who is gone.
+    /// Returns the events so far.
     pub fn exchanged(&self) -> &[Exchange]
         ensures { result.now ≡ exchanged_of self.now }
     {
         self.exchanged.as_slice()
     }
 
-    // Where the first piece of a rank that lives stands, if one is still to come.
+    // Returns the place of the first piece of a live rank, if there is one.
     fn first(&self) -> Option<usize>
         ensures { IfSome result (λ at. IsNext self.now at) }
     {
@@ -87,7 +89,7 @@ impl<'a> MemoryCrew<'a> {
         None
     }
 
-    // Goes on to that piece.
+    // Moves to that piece. Returns whether there is one.
     fn go_on(&mut self) -> bool
         ensures seen { crew_seen self.new ≡ crew_seen self.old }
         ensures next { result ≡ true → IsAlive (crew_seen self.new) (next_rank self.new) }
@@ -102,7 +104,7 @@ impl<'a> MemoryCrew<'a> {
         }
     }
 
-    // Hears the front of the piece that comes.
+    // Receives a prefix of the current piece.
     fn hear(&mut self, buffer: &mut [u8]) -> Result<Came, Failed>
         requires alive { IsAlive (crew_seen self.old) (next_rank self.old) }
         requires some { 0 < left_in self.old }
@@ -125,7 +127,7 @@ impl<'a> MemoryCrew<'a> {
         Ok(Came::Bytes { rank, count })
     }
 
-    // Loses the rank of the piece that comes.
+    // Loses the rank of the current piece.
     fn lose(&mut self) -> Result<Came, Failed>
         requires { IsAlive (crew_seen self.old) (next_rank self.old) }
         ensures came { IfOk result (λ came. (buffer : List ℕ)
@@ -142,7 +144,7 @@ impl<'a> MemoryCrew<'a> {
         Ok(Came::Gone { rank })
     }
 
-    // What comes next, behind what was heard of the piece that came.
+    // Receives from the next piece.
     fn next(&mut self, buffer: &mut [u8]) -> Result<Came, Failed>
         requires room { 0 < length buffer.old }
         ensures came { IfOk result (HasTurned (crew_seen self.old) (crew_seen self.new) buffer.new) }
@@ -164,6 +166,8 @@ impl Crew for MemoryCrew<'_> {
     ghost use Rattle.ug_io.specs.CrewMemories.{crew_seen};
 
     ghost seen = { crew_seen };
+
+    ghost finished = { λ c. c.is_finished };
 
     fn is_alive(&self, rank: u32) -> bool {
         let at = rank as usize;
@@ -198,5 +202,7 @@ impl Crew for MemoryCrew<'_> {
         self.lives[rank as usize] = false;
     }
 
-    fn finish(&mut self) {}
+    fn finish(&mut self) {
+        self.is_finished = true;
+    }
 }

@@ -1,4 +1,4 @@
-//! What is kept of what goes over a link, and between a coordinator and the ranks of a crew.
+//! Records of the bytes that went over a link, or between a coordinator and its crew.
 
 ghost use Rattle.std.specs.Prelude.{◌≡◌, ◌++◌, IfOk, OnOk, OnErr};
 ghost use Rattle.ug_io.specs.Crews.{heard_from, told_to};
@@ -8,21 +8,21 @@ use crate::crew::Exchange;
 use crate::link::Said;
 use std::alloc::{AllocError, Global};
 
-// These bytes as heard.
+// The bytes as received over a link.
 fn as_heard(alloc: Global, bytes: &[u8]) -> Result<Vec<Said>, AllocError>
     ensures { IfOk result (λ said. said.items ≡ heard bytes.now) }
 {
     bytes.iter().map(|byte| Said::Heard(*byte)).collect(alloc)
 }
 
-// These bytes as told.
+// The bytes as sent over a link.
 fn as_told(alloc: Global, bytes: &[u8]) -> Result<Vec<Said>, AllocError>
     ensures { IfOk result (λ said. said.items ≡ told bytes.now) }
 {
     bytes.iter().map(|byte| Said::Told(*byte)).collect(alloc)
 }
 
-/// Keeps these bytes as heard over a link. After an error nothing more is kept.
+/// Appends the bytes as received over a link. After an error the record is unchanged.
 pub fn keep_heard(alloc: Global, said: &mut Vec<Said>, bytes: &[u8]) -> Result<(), AllocError>
     ensures ok { OnOk result (said.new.items ≡ said.old.items ++ heard bytes.now) }
     ensures err { OnErr result (said.new.items ≡ said.old.items) }
@@ -31,7 +31,7 @@ pub fn keep_heard(alloc: Global, said: &mut Vec<Said>, bytes: &[u8]) -> Result<(
     said.extend_from_slice(&more)
 }
 
-/// Keeps these bytes as told over a link. After an error nothing more is kept.
+/// Appends the bytes as sent over a link. After an error the record is unchanged.
 pub fn keep_told(alloc: Global, said: &mut Vec<Said>, bytes: &[u8]) -> Result<(), AllocError>
     ensures ok { OnOk result (said.new.items ≡ said.old.items ++ told bytes.now) }
     ensures err { OnErr result (said.new.items ≡ said.old.items) }
@@ -40,7 +40,7 @@ pub fn keep_told(alloc: Global, said: &mut Vec<Said>, bytes: &[u8]) -> Result<()
     said.extend_from_slice(&more)
 }
 
-// These bytes as heard from the rank.
+// The bytes as received from the rank.
 fn as_from(alloc: Global, rank: u32, bytes: &[u8]) -> Result<Vec<Exchange>, AllocError>
     ensures { IfOk result (λ said. said.items ≡ heard_from rank bytes.now) }
 {
@@ -50,7 +50,7 @@ fn as_from(alloc: Global, rank: u32, bytes: &[u8]) -> Result<Vec<Exchange>, Allo
         .collect(alloc)
 }
 
-// These bytes as told to it.
+// The bytes as sent to the rank.
 fn as_to(alloc: Global, rank: u32, bytes: &[u8]) -> Result<Vec<Exchange>, AllocError>
     ensures { IfOk result (λ said. said.items ≡ told_to rank bytes.now) }
 {
@@ -60,7 +60,7 @@ fn as_to(alloc: Global, rank: u32, bytes: &[u8]) -> Result<Vec<Exchange>, AllocE
         .collect(alloc)
 }
 
-/// Keeps these bytes as heard from the rank of a crew. After an error nothing more is kept.
+/// Appends the bytes as received from the rank. After an error the record is unchanged.
 pub fn keep_from(
     alloc: Global,
     exchanged: &mut Vec<Exchange>,
@@ -74,7 +74,7 @@ pub fn keep_from(
     exchanged.extend_from_slice(&more)
 }
 
-/// Keeps these bytes as told to it. After an error nothing more is kept.
+/// Appends the bytes as sent to the rank. After an error the record is unchanged.
 pub fn keep_to(
     alloc: Global,
     exchanged: &mut Vec<Exchange>,

@@ -1,9 +1,9 @@
-//! The outside as a program sees it: a source that is read, a sink that is written to, a link that
-//! is both, and a crew of solvers. It stands on nothing but std. `Source`, `Sink`, `Link` and
-//! `Crew` are traits whose contracts speak of the bytes left, written or said, where these are
-//! told, and of a count of faults: each call that fails raises it, to its greatest value, and so
-//! does a rank of a crew that is gone. The forms in memory tell their bytes; a `Script` says which
-//! of their calls fail. `zeros` makes a buffer to read into.
+//! Input and output as the program sees them: sources, sinks, links, and crews of workers. Depends
+//! on nothing but std. `Source`, `Sink`, `Link` and `Crew` are traits whose contracts speak of the
+//! bytes left, written, sent or received, if the implementation shows them, and of a count of
+//! faults: each failed call raises it, up to its largest value, and so does a lost rank of a crew.
+//! The implementations in memory show their bytes; a `Script` says which of their calls fail.
+//! `zeros` returns a buffer to read into.
 #![tactic(auto)]
 
 mod buffer;

@@ -1,4 +1,4 @@
-//! A link in memory: for tests, and for whoever has the bytes already.
+//! A link in memory, for tests and for input that is already there.
 
 ghost use Rattle.std.specs.Prelude.{◌≡◌, ◌<◌, [], Some, true, false, length, IsTrue, IfOk, OnErr};
 ghost use Rattle.ug_io.specs.Outside.{IsCounted};
@@ -10,14 +10,14 @@ use crate::outside::Failed;
 use crate::script::Script;
 use std::alloc::{AllocError, Global};
 
-/// Pieces in memory as a link, which keeps what was heard and told. It fails where its script says,
-/// or memory is wanting.
+/// A link in memory that plays a list of pieces and records every byte. A call fails if its script
+/// says so, or if it runs out of memory.
 #[derive(Drop)]
 pub struct MemoryLink<'a> {
     alloc: Global,
-    // What is left of the piece that comes.
+    // The rest of the current piece.
     piece: &'a [u8],
-    // The pieces behind it.
+    // The pieces after it.
     rest: &'a [&'a [u8]],
     said: Vec<Said>,
     ended: bool,
@@ -28,8 +28,8 @@ impl<'a> MemoryLink<'a> {
     ghost use Rattle.ug_io.specs.Scripted.{faults_of};
     ghost use Rattle.ug_io.specs.LinkMemories.{left_of, said_of, seen_of};
 
-    /// A link over which these pieces come, and then the end. An empty piece is a gap: a read that
-    /// does not wait finds nothing there, once. Nothing was said yet.
+    /// Returns a link that plays these pieces and then ends. An empty piece is a gap: a read that
+    /// does not wait finds nothing there, once.
     pub fn new(alloc: Global, pieces: &'a [&'a [u8]], script: Script) -> MemoryLink<'a>
         ensures { seen_of result
             ≡ record { said = Some []; ended = false; faults = faults_of script } }
@@ -44,14 +44,14 @@ impl<'a> MemoryLink<'a> {
         }
     }
 
-    /// What was heard and told.
+    /// Returns the bytes received and sent so far.
     pub fn said(&self) -> &[Said]
         ensures { result.now ≡ said_of self.now }
     {
         self.said.as_slice()
     }
 
-    // Passes over a gap, if one comes next.
+    // Skips a gap. Returns whether there was one.
     fn pass_gap(&mut self) -> bool
         ensures { seen_of self.new ≡ seen_of self.old }
     {
@@ -65,7 +65,7 @@ impl<'a> MemoryLink<'a> {
         true
     }
 
-    // Goes on to a piece of which something is left, if there is one.
+    // Moves to a piece that is not empty. Returns whether there is one.
     fn go_on(&mut self) -> bool
         ensures seen { seen_of self.new ≡ seen_of self.old }
         ensures some { IsTrue result → 0 < left_of self.new }
@@ -81,7 +81,7 @@ impl<'a> MemoryLink<'a> {
         true
     }
 
-    // Hears the front of the piece that comes.
+    // Receives a prefix of the current piece.
     fn hear(&mut self, buffer: &mut [u8]) -> Result<Got, Failed>
         requires some { 0 < left_of self.old }
         requires room { 0 < length buffer.old }
@@ -100,7 +100,7 @@ impl<'a> MemoryLink<'a> {
         Ok(Got::Bytes(n))
     }
 
-    // Hears some bytes of what is still to come, or that nothing is.
+    // Receives some of the bytes that are left, or the end.
     fn wait(&mut self, buffer: &mut [u8]) -> Result<Got, Failed>
         requires room { 0 < length buffer.old }
         ensures got { IfOk result (HasRead true (seen_of self.old) (seen_of self.new) buffer.new) }

@@ -1,4 +1,4 @@
-//! The outside in memory: for tests, and for whoever has the bytes already.
+//! Sources and sinks in memory, for tests and for input that is already there.
 
 ghost use Rattle.std.specs.Prelude.{◌≡◌, ◌<◌, ◌≤◌, ◌++◌, [], length, take, Some};
 
@@ -6,7 +6,7 @@ use crate::outside::{Failed, Sink, Source};
 use crate::script::Script;
 use std::alloc::Global;
 
-/// Bytes in memory as a source. It never fails.
+/// A source in memory that never fails.
 #[derive(Drop)]
 pub struct MemorySource<'a> {
     pub rest: &'a [u8],
@@ -20,7 +20,7 @@ impl Source for MemorySource<'_> {
     }
 }
 
-// Moves the front of the bytes into the buffer, as much as it takes, and says how much.
+// Moves a prefix of the bytes into the buffer, as much as fits, and returns its length.
 fn move_front(rest: &mut &[u8], buffer: &mut [u8]) -> usize
     ensures within { result ≤ length buffer.new }
     ensures bytes { rest.old.now ≡ take result buffer.new ++ rest.new.now }
@@ -33,7 +33,7 @@ fn move_front(rest: &mut &[u8], buffer: &mut [u8]) -> usize
     n
 }
 
-/// Bytes in memory as a source, which fails where its script says.
+/// A source in memory that fails where its script says.
 #[derive(Drop)]
 pub struct ScriptedSource<'a> {
     pub rest: &'a [u8],
@@ -52,8 +52,8 @@ impl Source for ScriptedSource<'_> {
     }
 }
 
-/// A sink that keeps what is written in a vector. It fails where its script says, or memory is
-/// wanting.
+/// A sink that stores what is written in a vector. A call fails if its script says so, or if it
+/// runs out of memory.
 #[derive(Drop)]
 pub struct MemorySink {
     written: Vec<u8>,
@@ -63,7 +63,7 @@ pub struct MemorySink {
 impl MemorySink {
     ghost use Rattle.ug_io.specs.Scripted.{bytes_of};
 
-    /// A sink with nothing written.
+    /// Returns an empty sink.
     pub fn new(alloc: Global, script: Script) -> MemorySink
         ensures { bytes_of result ≡ [] }
     {
@@ -73,7 +73,7 @@ impl MemorySink {
         }
     }
 
-    /// What was written.
+    /// Returns the bytes written so far.
     pub fn bytes(&self) -> &[u8]
         ensures { result.now ≡ bytes_of self.now }
     {

@@ -1,17 +1,17 @@
 ghost use Rattle.std.specs.Prelude.{◌≡◌, ◌<◌, ◌≤◌, length, take, Ok, IfOk, OnErr, IfSome};
 ghost use Rattle.ug_io.specs.Outside.{Gives, IsAtEnd, IsCounted, SinkSeen, SourceSeen, Takes};
 
-/// A call of the outside failed. The count of faults says that it did.
+/// A call of a source, sink, link or crew failed. The count of faults has risen.
 #[derive(Clone, Copy, PartialEq, Eq)]
 pub struct Failed;
 
-/// What is read: a file, or bytes in memory.
+/// Input: a file, or bytes in memory.
 pub trait Source {
-    /// The bytes that are left, where it tells them, and how often it has failed.
+    /// The bytes left, if the source shows them, and the number of failed calls.
     ghost seen: { Self → SourceSeen };
 
-    /// Reads some of the bytes that are left into the front of the buffer, and says how many. For a
-    /// buffer that is not empty, 0 is the end.
+    /// Reads some of the bytes left into the buffer and returns their number. For a buffer that is
+    /// not empty, 0 is the end.
     fn read(&mut self, buffer: &mut [u8]) -> Result<usize, Failed>
         ensures within { IfOk result (λ n. n ≤ length buffer.new) }
         ensures bytes { IfOk result
@@ -21,13 +21,13 @@ pub trait Source {
         ensures cause { IsCounted result (seen self.old).faults (seen self.new).faults };
 }
 
-/// What is written to: standard output, or bytes in memory.
+/// Output: standard output, or bytes in memory.
 pub trait Sink {
-    /// The bytes that were written, where it tells them, and how often it has failed.
+    /// The bytes written, if the sink shows them, and the number of failed calls.
     ghost seen: { Self → SinkSeen };
 
-    /// Writes some of the bytes from their front, at least one where there is one, and says how
-    /// many. After a failure nothing more is written.
+    /// Writes a prefix of the bytes, at least one if there is one, and returns its length. After a
+    /// failure nothing more was written.
     fn write(&mut self, bytes: &[u8]) -> Result<usize, Failed>
         ensures within { IfOk result (λ n. n ≤ length bytes.now) }
         ensures some { IfOk result (λ n. 0 < length bytes.now → 0 < n) }

@@ -3,12 +3,12 @@ ghost use Rattle.ug_io.specs.Outside.{IsCounted, Rose};
 
 use crate::outside::Failed;
 
-/// Which calls of a scripted form fail, and how many bytes a call moves at most.
+/// Says which calls of a form in memory fail, and how many bytes a call moves at most.
 #[derive(Drop)]
 pub struct Script {
     /// The calls that fail, counted from 1.
     failing: Vec<u64>,
-    /// What a call moves at most; 0 counts as 1.
+    /// Largest number of bytes that a call moves; 0 counts as 1.
     most: usize,
     calls: u64,
     faults: u64,
@@ -17,7 +17,7 @@ pub struct Script {
 impl Script {
     ghost use Rattle.ug_io.specs.Scripted.{faults_of};
 
-    /// A script under which these calls fail.
+    /// Returns a script in which these calls fail.
     pub fn new(failing: Vec<u64>, most: usize) -> Script
         ensures { faults_of result ≡ 0 }
     {
@@ -29,7 +29,7 @@ impl Script {
         }
     }
 
-    // The next call, and whether it fails.
+    // Counts the next call. Fails if the script says so.
     pub(crate) fn step(&mut self) -> Result<(), Failed>
         ensures { IsCounted result (faults_of self.old) (faults_of self.new) }
     {
@@ -41,14 +41,14 @@ impl Script {
         Ok(())
     }
 
-    // One fault more.
+    // Counts a fault.
     pub(crate) fn fail(&mut self)
         ensures { Rose (faults_of self.old) (faults_of self.new) }
     {
         self.faults = self.faults.saturating_add(1);
     }
 
-    // How many of these many bytes a call moves.
+    // Returns how many of `len` bytes a call moves.
     pub(crate) fn portion(&self, len: usize) -> usize
         ensures within { result ≤ len }
         ensures some { 0 < len → 0 < result }

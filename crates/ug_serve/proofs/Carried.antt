@@ -1,4 +1,4 @@
--- That a frame can carry what a worker tells.
+-- That a frame can carry what a worker sends.
 use Rattle.std.proofs.Common.{ℕ, ℤ, List, sym, ap, subst}
 use Rattle.ug_rows.specs.declared.area.Interval.{Interval}
 use Rattle.ug_rows.specs.Boxes.{IsBelow}

@@ -1,4 +1,5 @@
--- What the last report of a worker of a crew says, by the orders sent to it and the reports heard of it.
+-- What the last report of a worker of a crew says, by the orders sent to it and the reports
+-- received from it.
 use Rattle.std.proofs.Common.{◌≡◌, ◌⊎◌, inl, inr, eqb, ℕ, ℤ, ◌+◌, Bool, true, false, List, [], ◌∷◌, ◌++◌, Option, Some, None, refl, sym, ap, subst, ◌∙◌, arith}
 use Rattle.std.specs.Prelude.{Contains, IfSome, if◌then◌else◌}
 use Rattle.std.proofs.lemmas.Bool.{cases_eq, eq-eqb, ne_eqb}
@@ -42,7 +43,7 @@ cases_ticket a b = elim (cases_eq a.run b.run) [
   | inr apart ↦ inr (rw (ne_eqb a.run b.run apart) refl)
 ]
 
--- ---- how many hands were told under a ticket
+-- ---- how many hands were sent under a ticket
 
 abbrev pub hands_under : Ticket → List Report → ℕ
 hands_under ticket [] = 0
@@ -129,7 +130,7 @@ counted_by basis (Some own) order past work said once last before =
     (subst (Contains (tickets_in past)) (sym (ap (λ (w : Ordered). w.ticket) (same_work own work last)))
     (told_ticket basis past (Hand work.ticket number changes) work.ticket refl said (told_there past _ there)))))
 
--- the hands since the last order of work are all that were told under its ticket
+-- the hands since the last order of work are all that were sent under its ticket
 counted : (basis : Basis) (past : List Deed) (work : Ordered) → AreSaid basis past
     → AreOnce (tickets_in past) → last_work past ≡ Some work
     → hands_among (told_since past) ≡ hands_under work.ticket (reports_in past)
@@ -218,8 +219,8 @@ pub record IsUnderSent (sent : List Order) (ticket : Ticket) : Type 0 where
   pub among : Contains sent (order_of work)
   pub its : work.ticket ≡ ticket
 
--- A hand tells a box below that of the ticket, under the number of those that were heard before. Where
--- the order was one of a race, the race was won.
+-- A hand sends a box below that of the ticket, under the number of those that were received before.
+-- Where the order was one of a race, the race was won.
 pub record IsHandSpoken (p : Instance) (sent : List Order) (heard : List Report) (ticket : Ticket)
     (number : ℕ) (changes : List Change) : Type 0 where
   pub under : IsUnderSent sent ticket
@@ -228,19 +229,19 @@ pub record IsHandSpoken (p : Instance) (sent : List Order) (heard : List Report)
   pub below : IsBelow (area_by (root_of p) changes) (area_by (root_of p) under.work.changes)
   pub won : under.work.race ≡ true → Contains sent (Winner ticket)
 
--- the cutoff is that of a point that was heard under the ticket
+-- the cutoff is that of a point that was received under the ticket
 pub record IsOfHeard (p : Instance) (gap : ℤ) (heard : List Report) (ticket : Ticket) (cutoff : ℤ)
     : Type 0 where
   pub point : List ℤ
   pub among : Contains heard (Solution ticket point)
   pub its : cutoff ≡ cutoff_of p gap point
 
--- the cutoff was sent, with the order of work or by itself, or is that of a point heard
+-- the cutoff was sent, with the order of work or by itself, or is that of a point received
 abbrev pub IsCutoffKnown : Instance → ℤ → List Order → List Report → Ordered → ℤ → Type 0
 IsCutoffKnown p gap sent heard work cutoff = (work.cutoff ≡ Some cutoff)
     ⊎ (Contains sent (Incumbent cutoff) ⊎ IsOfHeard p gap heard work.ticket cutoff)
 
--- A Done counts the hands that were heard before, and tells a cutoff that is known.
+-- A Done counts the hands that were received before, and sends a cutoff that is known.
 pub record IsDoneSpoken (p : Instance) (gap : ℤ) (sent : List Order) (heard : List Report) (ticket : Ticket)
     (cutoff : Option ℤ) (count : ℕ) : Type 0 where
   pub under : IsUnderSent sent ticket

@@ -1,4 +1,4 @@
--- That what a crew of workers told is honest, where no ticket was sent twice.
+-- That what a crew of workers sent is honest, where no ticket was sent twice.
 use Rattle.std.proofs.Common.{◌≡◌, ◌⊎◌, inl, inr, ℕ, ℤ, zero, suc, ◌<◌, List, [], ◌∷◌, ◌++◌, Option, None, Some, false, append_assoc, append-nil, refl, sym, ap, subst, ◌∙◌, arith}
 use Rattle.std.specs.Prelude.{All, Contains}
 use Rattle.std.specs.List.{flat_map}
@@ -34,7 +34,7 @@ use Rattle.ug_serve.proofs.Queues.{heard_more, heard_still}
 use Rattle.ug_serve.proofs.Told.{behind, came_is_no_order, first_or, in_front, same_order, told_is_no_order}
 use Rattle.ug_serve.proofs.Wires.{fed_fine, fed_so}
 
--- ---- what a worker heard
+-- ---- what a worker received
 
 -- the orders that were taken, in order
 abbrev pub taken_of : List Deed → List Order
@@ -247,14 +247,15 @@ taken_under (Told report ∷ past) ticket there =
 
 -- ---- the worker of a rank
 
--- the bytes that were told to the rank are the frames of these orders, of which each first one is of
--- this problem
+-- the bytes that were sent to the rank are the frames of these orders, of which each first one is
+-- of this problem
 pub record IsSentTo (p : Instance) (said : List Exchange) (rank : ℕ) (sent : List Order) : Type 0 where
   pub carried : All orders.IsCarried sent
   pub bytes : told_at rank said ≡ flat_map orders.spelled sent
   pub records : (gap : ℤ) (bytes : List ℕ) → Contains sent (Setup gap bytes) → IsRecordOf bytes p
 
--- a worker's deeds, the latest first, took some of these orders, and told these reports and no others
+-- a worker's deeds, the latest first, took some of these orders, and sent these reports and no
+-- others
 record IsPast (p : Instance) (sent : List Order) (heard : List Report) (past : List Deed) : Type 0 where
   transcript : IsTranscript past
   set_up : IsSetUpFor p past
@@ -384,7 +385,7 @@ once_all (suc n) past each one =
     let t = ticket_below n past ticket there in
     absurd (omega (arith, t.1, one n t.0 ticket here t.2)))
 
--- What was heard of all ranks, where each was sent these orders and told these reports.
+-- What was received from all ranks, where each was sent these orders and sent these reports.
 module _ (p : Instance) (said : List Exchange) (n : ℕ) (sent : ℕ → List Order) (heard : ℕ → List Report)
     (worked : AreWorked said) (to : (rank : ℕ) → IsSentTo p said rank (sent rank))
     (from : (rank : ℕ) → AreReportsAt said rank (heard rank))

@@ -134,7 +134,7 @@ over_stays a (Came bytes ∷ deeds) b (mid, does, more) over =
 over_stays a (Took order ∷ deeds) b (mid, does, more) over = absurd (none_taken a.stage order mid.stage does.taken over)
 over_stays a (Told report ∷ deeds) b (mid, does, more) over = absurd (none_told a.stage report mid.stage does.due over)
 
--- where Ended was told it is over
+-- where Ended was sent it is over
 ended_over : (a : ServerState) (deeds : List Deed) (b : ServerState) → IsCourse a deeds b
     → Contains (reports_of deeds) Ended → is_over b.stage ≡ true
 ended_over a [] b same there = absurd (none_there Ended there)
@@ -163,7 +163,7 @@ over_ended a (Told report ∷ deeds) b (mid, does, more) not over = elim (cases_
   | inr on ↦ behind report (reports_of deeds) Ended (over_ended mid deeds b more on over)
 ]
 
--- the same was said, so the same reports were told
+-- the same was said, so the same reports were sent
 same_reports : (x y : ServerState) (one : HasCome x) (two : HasCome y) → x.said ≡ y.said
     → reports_of one.deeds ≡ reports_of two.deeds
 same_reports x y one two same =

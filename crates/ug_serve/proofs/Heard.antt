@@ -1,4 +1,4 @@
--- That what is heard from a rank of a crew of workers is what a worker told.
+-- That what is received from a rank of a crew of workers is what a worker sent.
 use Rattle.std.proofs.Common.{◌≡◌, ◌⊎◌, inl, inr, ℕ, List, [], ◌∷◌, ◌++◌, length, All, append_assoc, append-nil, refl, sym, ap, ◌∙◌, arith}
 use Rattle.std.specs.List.{flat_map}
 use Rattle.std.proofs.lemmas.List.Elements.{All-cons, All-head, All-nil, All-tail}
@@ -125,9 +125,9 @@ shown_heard a (Told report ∷ deeds) b (mid, does, more) =
           ∙ heard_still a.said (reports.spelled report)),
     )
 
--- ---- a front of a course
+-- ---- a prefix of a course
 
--- by these deeds just these reports were told, and no more was heard than by all
+-- by these deeds just these reports were sent, and no more was received than by all
 record IsCut (a : ServerState) (taken : List Report) (b : ServerState) : Type 0 where
   deeds : List Deed
   now : ServerState
@@ -185,7 +185,7 @@ cut a (Told report ∷ deeds) b (r ∷ rs) more (mid, does, rest) its =
 
 -- ---- what a link shows
 
--- deeds by which all that it shows was told, and maybe the rest of a report
+-- deeds by which all that it shows was sent, and maybe the rest of a report
 record IsWhole (shown : List Said) : Type 0 where
   deeds : List Deed
   now : ServerState

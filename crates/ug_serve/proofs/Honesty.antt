@@ -1,4 +1,4 @@
--- What workers at links tell is honest, where no ticket was ordered twice.
+-- What workers at links send is honest, where no ticket was ordered twice.
 use Rattle.std.proofs.Common.{◌≡◌, inl, inr, ℕ, ℤ, suc, ◌<◌, ◌≤◌, List, [], ◌∷◌, ◌++◌, Option, Some, None, refl, sym, ap, subst, ◌∙◌, arith}
 use Rattle.std.specs.Prelude.{All, Contains}
 use Rattle.std.proofs.lemmas.List.Elements.{All-tail, Contains-append_cases, Contains-append_left, Contains-append_right}
@@ -21,7 +21,7 @@ use Rattle.ug_serve.specs.Transcripts.{AreSaid, IsBoxTold, IsEndOfTask, IsSaid, 
 use Rattle.ug_serve.specs.Laws.{AreOnce, IsSetUpFor, WorkersAreHonest, tickets_by, tickets_in, tickets_of, told_by}
 use Rattle.ug_serve.proofs.Told.{behind, came_is_no_order, came_is_no_report, first_or, in_front, in_more, same_order, same_report, told_is_no_order, took_is_no_report}
 
--- nothing stands in a list of nothing
+-- nothing is in a list of nothing
 pub nothing_in : {X : Type 0} → (x : X) → Contains [] x → ⊥
 nothing_in x (k, lt, same) = omega (arith, lt)
 
@@ -183,7 +183,7 @@ told_ticket basis (Told own ∷ past) report ticket named said there =
       | inr later ↦ told_ticket basis past report ticket named said.1 later
     ]
 
--- what was told is among the reports, and the other way round
+-- what was sent is among the reports, and vice versa
 pub told_there : (past : List Deed) (report : Report) → Contains (reports_in past) report
     → Contains past (Told report)
 told_there [] report there = absurd (nothing_in _ there)
@@ -238,7 +238,8 @@ hands_grow (State ticket nodes floor) reports = omega arith
 hands_grow (Done ticket cutoff count ending) reports = omega arith
 hands_grow Ended reports = omega arith
 
--- a hand has a lower number than how many there are since the last order of work, if it has its ticket
+-- a hand has a lower number than how many there are since the last order of work, if it has its
+-- ticket
 below_by : (own : Option Ordered) (order : Order) (past : List Deed) (work : Ordered) (ticket : Ticket)
     (number : ℕ) → AreOnce (tickets_of own ++ tickets_in past) → later_of own (last_work past) ≡ Some work
     → work.ticket ≡ ticket → Contains (tickets_in past) ticket
@@ -284,7 +285,7 @@ number_below basis (Told own ∷ past) work ticket number changes said once last
         → number < hands_among (own ∷ told_since past)
     grown below more = omega (arith, below, more)
 
--- of two hands with one number the later was told where the earlier one counted
+-- of two hands with one number the later was sent where the earlier one counted
 no_earlier : (basis : Basis) (past : List Deed) (ticket : Ticket) (number : ℕ) (changes other : List Change)
     → AreSaid basis past → AreOnce (tickets_in past) → IsBoxTold basis past ticket number changes
     → Contains past (Told (Hand ticket number other)) → ⊥
@@ -383,7 +384,7 @@ done_true basis (Told own ∷ past) ticket cutoff count ending other x said once
 
 -- ---- many workers
 
--- what a worker told that was set up with the problem
+-- what a worker sent that was set up with the problem
 said_of : (p : Instance) (past : List Deed) (report : Report) → IsTranscript past → IsSetUpFor p past
     → Contains (reports_in past) report
     → (gap : ℤ) × AreSaid (record { problem = p; gap = gap }) past

@@ -7,7 +7,7 @@ use Rattle.ug_io.specs.declared.link.Said.TheVariants.{Heard, Told}
 use Rattle.ug_io.specs.Links.{heard, told}
 use Rattle.ug_serve.specs.Queues.{IsKept, IsQueue, Queue, heard_in, queue_of, told_in}
 
--- ---- what was heard and told, one behind another
+-- ---- what was received and sent, one behind another
 
 heard_in_on : (xs ys : List Said) → heard_in (xs ++ ys) ≡ heard_in xs ++ heard_in ys
 heard_in_on [] ys = refl
@@ -39,7 +39,7 @@ append_none : (xs : List ℕ) → xs ++ [] ≡ xs
 append_none [] = refl
 append_none (x ∷ xs) = ap (λ (rest : List ℕ). x ∷ rest) (append_none xs)
 
--- behind bytes that were heard, and behind bytes that were told
+-- behind bytes that were received, and behind bytes that were sent
 pub heard_more : (said : List Said) (bytes : List ℕ) → heard_in (said ++ heard bytes) ≡ heard_in said ++ bytes
 heard_more said bytes = heard_in_on said (heard bytes) ∙ ap (λ (b : List ℕ). heard_in said ++ b) (heard_in_heard bytes)
 

@@ -172,7 +172,7 @@ going_on s k tally e f order task cutoff h gap agree taken made its = record {
   its = its;
 }
 
--- so many boxes are asked for
+-- this many boxes are asked for
 pub asked_going : (s : SeatSeen) (k : Kept) (tally : Tally) (e : Engaged) (ticket : Ticket) (count : ℕ) (order : Order)
     (task : TaskState) (cutoff : Option ℤ) → e.made ≡ 0 → IsOrdered s tally (Some e) order
     → IsAsked s.keeps ticket count k → e.task ≡ lowered cutoff task

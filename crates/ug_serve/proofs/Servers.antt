@@ -178,7 +178,7 @@ same_server seen other a b alike h =
 pub same_serving : (progress : Progress) (a b : LinkSeen) → b ≡ a → IsServing a progress → IsServing b progress
 same_serving progress a b same h = subst (λ (s : LinkSeen). IsServing s progress) (sym same) h
 
--- ---- what a link shows that tells what was said
+-- ---- what a link shows that says what was said
 
 front_on : (seen : LinkSeen) (now : ServerState) → IsOn seen now → IsFront seen now
 front_on seen now on = record { come = on.come; said = said_front now seen.said on.said }

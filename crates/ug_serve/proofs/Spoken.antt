@@ -1,4 +1,4 @@
--- What a worker of a crew had heard and told when it told the report that was heard last.
+-- What a worker of a crew had received and sent when it sent the report that was received last.
 use Rattle.std.proofs.Common.{◌≡◌, inl, inr, ℕ, ℤ, List, [], ◌∷◌, ◌++◌, length, append_assoc, refl, sym, ap, subst, ◌∙◌, arith}
 use Rattle.std.specs.Prelude.{Contains}
 use Rattle.std.specs.List.{flat_map}
@@ -91,8 +91,8 @@ last_said basis past (Told own ∷ deeds) (r ∷ heard) report its said =
       is = t.is;
     }
 
--- Of these orders the worker had taken a front, and these reports it had told, when it told this one, of
--- the problem and with a gap that were ordered; and what is so then.
+-- Of these orders the worker had taken a front, and these reports it had sent, when it sent this
+-- one, of the problem and with a gap that were ordered; and what is so then.
 pub record IsSpoken (p : Instance) (sent : List Order) (heard : List Report) (report : Report) : Type 0 where
   pub deeds : List Deed
   pub later : List Order

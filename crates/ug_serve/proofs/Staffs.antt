@@ -161,7 +161,7 @@ serves_still old new link orders at end post h =
     same_server queue_seen queue_seen old new
     (record { link = link; orders = orders; at = at; end = end; post = post }) h
 
--- bytes were told to it, and put into its worker's link
+-- bytes were sent to it, and put into its worker's link
 pub manned_told : (said after : List Exchange) (rank : ℕ) (bytes : List ℕ) (old new : Server Queue)
     → after ≡ said ++ told_to rank bytes
     → new.wire.orders ≡ old.wire.orders → new.wire.at ≡ old.wire.at → new.wire.end ≡ old.wire.end
@@ -179,7 +179,7 @@ manned_told said after rank bytes old new all orders at end post link queue h = 
       ∙ ap (heard_at rank) (sym all);
 }
 
--- bytes were taken out of its worker's link, and heard from it; or none were
+-- bytes were taken out of its worker's link, and received from it; or none were
 pub manned_came : {E : Type 0} (result : Result ℕ E) (said after : List Exchange) (rank : ℕ)
     (buffer : List ℕ) (old new : Server Queue)
     → IfOk result (λ count.
@@ -317,7 +317,7 @@ abbrev behind_first : List Exchange → List Exchange
 behind_first [] = []
 behind_first (x ∷ xs) = xs
 
--- of two fronts of a list one is a front of the other
+-- of two prefixes of a list one is a prefix of the other
 front_either : (xs ys front rest : List Exchange) → xs ++ ys ≡ front ++ rest
     → ((more : List Exchange) × (xs ≡ front ++ more))
     ⊎ ((more : List Exchange) × (front ≡ xs ++ more) × (ys ≡ more ++ rest))
@@ -338,7 +338,7 @@ none_rest : (xs ys : List ℕ) → xs ++ ys ≡ [] → ys ≡ []
 none_rest [] ys none = none
 none_rest (x ∷ xs) ys none = absurd (omega (arith, ap (λ (l : List ℕ). length l) none))
 
--- where more was told, a worker may not have heard it yet
+-- if more was sent, a worker may not have received it yet
 worked_told : (said more : List Exchange) (rank : ℕ) → heard_at rank more ≡ [] → IsWorked said rank
     → IsWorked (said ++ more) rank
 worked_told said more rank none w = record {
@@ -353,7 +353,7 @@ worked_told said more rank none w = record {
   heard = w.heard ∙ ap (λ (b : List ℕ). b ++ w.behind) (sym (heard_same rank said more none));
 }
 
--- and before it was heard, what a worker told was there
+-- and before it was received, what a worker sent was there
 worked_less : (said rest : List Exchange) (rank : ℕ) → told_at rank rest ≡ [] → IsWorked (said ++ rest) rank
     → IsWorked said rank
 worked_less said rest rank none w = record {
@@ -368,7 +368,7 @@ worked_less said rest rank none w = record {
       ∙ append_assoc (heard_at rank said) (heard_at rank rest) w.behind;
 }
 
--- behind what has only what was told, or who is gone
+-- behind what has only what was sent, or who is lost
 always_told : (said more : List Exchange) → ((rank : ℕ) → heard_at rank more ≡ []) → AreAlwaysWorked said
     → AreAlwaysWorked (said ++ more)
 always_told said more none all front rest same rank = elim (front_either said more front rest same) [
@@ -380,7 +380,7 @@ always_told said more none all front rest same rank = elim (front_either said mo
       (all said [] (sym (append-nil said)) rank))
 ]
 
--- behind what has only what was heard
+-- behind what has only what was received
 always_heard : (said more : List Exchange) → ((rank : ℕ) → told_at rank more ≡ []) → AreWorked (said ++ more)
     → AreAlwaysWorked said → AreAlwaysWorked (said ++ more)
 always_heard said more none now all front rest same rank = elim (front_either said more front rest same) [
@@ -444,7 +444,7 @@ pub places_steady : (said : List Exchange) (places : List (Option (Server Queue)
 places_steady said places at place its all =
     steady_place said at place (subst (IsPlace said at) (sym its) (all at))
 
--- nothing was heard
+-- nothing was received
 pub heard_none : (said : List Exchange) (rank count : ℕ) (buffer : List ℕ) → count ≡ 0
     → said ++ heard_from rank (take count buffer) ≡ said
 heard_none said rank count buffer none =

@@ -7,7 +7,7 @@ use Rattle.ug_io.specs.declared.link.Said.TheVariants.{Told}
 use Rattle.ug_io.specs.Links.{Adds, HasTold, LinkSeen, told}
 use Rattle.ug_serve.specs.Tellings.{HasToldAll}
 
--- a front of the bytes went, and these are left
+-- a prefix of the bytes went, and these are left
 pub record Went (old new : LinkSeen) (bytes rest : List ℕ) : Type 0 where
   pub front : List ℕ
   pub parts : bytes ≡ front ++ rest

@@ -143,7 +143,7 @@ hands_counted root ticket (Done other cutoff count ending ∷ reports) handed h 
     hands_counted root ticket reports handed h
 hands_counted root ticket (Ended ∷ reports) handed h = hands_counted root ticket reports handed h
 
--- what lies in so many hands lies in more, of more reports
+-- what lies in this many hands lies in more, of more reports
 pub in_more : (root : List Interval) (report : Report) (reports : List Report) (ticket : Ticket)
     (count more : ℕ) (x : List ℤ) → count ≤ more → IsInHands root reports ticket count x
     → IsInHands root (report ∷ reports) ticket more x

@@ -122,7 +122,7 @@ set_up past gap bytes problem none silent its spelled = record {
 
 -- ---- the task
 
--- the task is that of the last order of work, and what was told since is of it
+-- the task is that of the last order of work, and what was sent since is of it
 pub record IsAtTask (basis : Basis) (past : List Deed) (t : TaskState) (racing : Bool) : Type 0 where
   pub under : IsUnder basis past t.ticket
   pub problem : t.problem ≡ basis.problem
@@ -268,7 +268,7 @@ at_begun basis past tally ticket params race cutoff changes new h =
     own work None same = tt
     own work (Some cutoff) same = inl same
 
--- ---- what is told of it
+-- ---- what is sent of it
 
 -- a point
 at_found : (basis : Basis) (past : List Deed) (e f : Engaged) (ticket : Ticket) (x : List ℤ)
@@ -481,7 +481,7 @@ free_holds past End basis tally new taken (set, ready) =
     subst (Holds (Took End ∷ past)) (sym taken)
     (basis, set_took past End basis refl set, behind _ past _ ready, in_front (Took End) past)
 
--- the task goes on
+-- the task continues
 busy_on : (past : List Deed) (order : Order) (basis : Basis) (tally : Tally) (f : Engaged) (new : Stage) → is_setup order ≡ 0
     → new ≡ Busy basis tally f → IsAtTask basis (Took order ∷ past) f.task f.racing → IsSet past basis
     → Contains past (Told Ready) → Holds (Took order ∷ past) new
@@ -561,7 +561,7 @@ took_holds past order Over new taken holds = absurd taken
 
 -- ---- reports
 
--- the task goes on
+-- the task continues
 told_on : (past : List Deed) (report : Report) (basis : Basis) (tally : Tally) (f : Engaged) (new : Stage)
     → new ≡ Busy basis tally f → IsSaid basis past report → IsAtTask basis (Told report ∷ past) f.task f.racing
     → IsSet past basis → Contains past (Told Ready) → Holds (Told report ∷ past) new

@@ -54,7 +54,7 @@ course_fine a (Told report ∷ deeds) b fine (mid, done, more) =
 come_fine : (b : ServerState) → HasCome b → b.waiting.bad ≡ false
 come_fine b h = course_fine beginning h.deeds b refl h.course
 
--- ---- what the link tells
+-- ---- what the link sends
 
 said_more : (a b : Option (List Said)) (said more : List Said) → Adds a b more
     → IfSome a (λ s. s ≡ said) → IfSome b (λ s. s ≡ said ++ more)
@@ -181,7 +181,7 @@ pub next_wanted : (seen : LinkSeen) (w : Waiting) (stage : Stage) (order : Order
 next_wanted seen w stage order at h =
     wanted_on seen h.before stage (record { said = h.said; on = h.on })
 
--- ---- a report that is told
+-- ---- a report that is sent
 
 pub on_told : (old new : LinkSeen) (w : Waiting) (s t : Stage) (report : Report) → IsTold s report t
     → reports.IsCarried report → HasToldAll old new (reports.spelled report)
@@ -220,7 +220,7 @@ rose_some : (old new : ℕ) → old ≡ 0 → Rose old new → 0 < new
 rose_some old new zero (inl more) = omega (arith, zero, more)
 rose_some old new zero (inr (full, same)) = absurd (omega (arith, zero, full))
 
--- a front of it, before a call failed
+-- a prefix of it, before a call failed
 pub failed_told : (old new : LinkSeen) (w : Waiting) (s t : Stage) (report : Report)
     → IsTold s report t → reports.IsCarried report → HasToldFront old new (reports.spelled report)
     → Rose old.faults new.faults → StandsOn old w s → HasFailed new

@@ -26,7 +26,7 @@ pub record TakesOrder (old new : ServerState) (order : Order) : Type 0 where
   pub taken : IsTaken old.stage order new.stage
   pub said : new.said ≡ old.said
 
--- a report was told, by its frame
+-- a report was sent, by its frame
 pub record TellsReport (old new : ServerState) (report : Report) : Type 0 where
   pub carried : reports.IsCarried report
   pub due : IsTold old.stage report new.stage

@@ -20,7 +20,7 @@ use Rattle.ug_worker.specs.declared.tally.Tally.{Tally}
 use Rattle.ug_worker.specs.Engagements.{Engaged, IsDoneBy, IsFoundBy, IsHandedBy, IsStatedBy, lowered}
 use Rattle.ug_worker.specs.Renewals.{begun, counted, fresh, usual}
 
--- bytes came; an order was taken, whose frame had come; or a report was told
+-- bytes came; an order was taken, whose frame had come; or a report was sent
 pub data Deed : Type 0 where
   Came : List ℕ → Deed
   Took : Order → Deed
@@ -31,8 +31,8 @@ pub record Basis : Type 0 where
   pub problem : Instance
   pub gap : ℤ
 
--- where a worker stands: nothing was ordered yet; the problem came, and Ready is to be told; it has
--- no task; it has one; the end was ordered, and Ended is to be told; nothing comes after. From
+-- where a worker stands: nothing was ordered yet; the problem came, and Ready is to be sent; it has
+-- no task; it has one; the end was ordered, and Ended is to be sent; nothing comes after. From
 -- Ready on it counts its rounds.
 pub data Stage : Type 0 where
   Blank : Stage
@@ -135,7 +135,7 @@ pub record IsDoneTold (e : Engaged) (ticket : Ticket) (cutoff : Option ℤ) (cou
   pub under : cutoff ≡ task.cutoff
   pub counted : count ≡ length task.handed
 
--- what is told of a task
+-- what is sent of a task
 abbrev pub IsToldBusy : Basis → Tally → Engaged → Report → Stage → Type 0
 IsToldBusy basis tally e (Solution ticket x) new =
     (f : Engaged) × (ticket ≡ e.task.ticket) × IsFoundBy e x f × (new ≡ Busy basis tally f)
@@ -156,7 +156,7 @@ abbrev pub IsEndTold : Report → Stage → Type 0
 IsEndTold Ended new = new ≡ Over
 IsEndTold report new = ⊥
 
--- a report that is due was told, and what is so then
+-- a report that is due was sent, and what is so then
 abbrev pub IsTold : Stage → Report → Stage → Type 0
 IsTold (SetUp basis) report new = IsReadyTold basis report new
 IsTold (Busy basis tally e) report new = IsToldBusy basis tally e report new

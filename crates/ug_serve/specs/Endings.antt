@@ -8,7 +8,7 @@ use Rattle.ug_serve.specs.Serving.{HasEnded, HasMetBad}
 abbrev pub IsLost : LinkSeen → Type 0
 IsLost seen = (0 < seen.faults) ⊎ (seen.ended ≡ true)
 
--- Where the link is lost no service ended well, nor for what is no order. Where it tells what was
+-- If the link is lost no service ended well, nor for what is no order. If it says what was
 -- said, none ended in both of these ways.
 pub record ServicesEndInOneWay : Type 0 where
   pub lost_not_ended : (seen : LinkSeen) → IsLost seen → ¬ HasEnded seen

@@ -8,7 +8,7 @@ abbrev pub IsChanged : Kept → Ticket → Kept → Kept → Type 0
 IsChanged old ticket changed new =
     ((ticket ≡ old.ticket) × (new ≡ changed)) ⊎ ((ticket ≢ old.ticket) × (new ≡ old))
 
--- so many boxes are asked for
+-- this many boxes are asked for
 abbrev pub IsAsked : Kept → Ticket → ℕ → Kept → Type 0
 IsAsked old ticket count new = IsChanged old ticket (record old { asked = count }) new
 

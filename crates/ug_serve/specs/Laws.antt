@@ -1,4 +1,4 @@
--- The laws of workers at links: what each tells is true, and what all tell is honest.
+-- The laws of workers at links: what each sends is true, and what all send is honest.
 use Rattle.std.specs.Prelude.{◌≡◌, ◌⊎◌, ℤ, List, [], ◌∷◌, ◌++◌, All, Contains, Option, None, Some}
 use Rattle.ug_rows.specs.declared.area.Interval.{Interval}
 use Rattle.ug_problem.specs.Instances.{Instance, root_of}
@@ -11,7 +11,7 @@ use Rattle.ug_serve.specs.Courses.{IsCourse, ServerState, beginning}
 use Rattle.ug_serve.specs.Transcripts.{IsSetUpWith, IsTranscript, Ordered, order_of, reports_in}
 use Rattle.ug_serve.specs.Transcripts.{turned, work_of}
 
--- what a worker does from the beginning, whatever it hears, is a transcript
+-- what a worker does from the beginning, whatever it receives, is a transcript
 abbrev pub CoursesAreTranscripts : Type 0
 CoursesAreTranscripts = (deeds : List Deed) (now : ServerState) → IsCourse beginning deeds now
     → IsTranscript (turned [] deeds)
@@ -33,7 +33,7 @@ abbrev pub tickets_by : List (List Deed) → List Ticket
 tickets_by [] = []
 tickets_by (past ∷ pasts) = tickets_in past ++ tickets_by pasts
 
--- what all of them told
+-- what all of them sent
 abbrev pub told_by : List (List Deed) → List Report
 told_by [] = []
 told_by (past ∷ pasts) = reports_in past ++ told_by pasts
@@ -58,8 +58,8 @@ abbrev pub IsSetUpFor : Instance → List Deed → Type 0
 IsSetUpFor p past = (reports_in past ≡ [])
     ⊎ ((gap : ℤ) × IsSetUpWith past (record { problem = p; gap = gap }))
 
--- What workers at links tell is honest, whatever they hear, where they were set up with one problem
--- and no ticket was ordered twice.
+-- What workers at links send is honest, whatever they receive, where they were set up with one
+-- problem and no ticket was ordered twice.
 abbrev pub WorkersAreHonest : Type 0
 WorkersAreHonest = (p : Instance) (pasts : List (List Deed)) → All IsTranscript pasts
     → All (IsSetUpFor p) pasts → AreOnce (tickets_by pasts)

@@ -4,20 +4,20 @@ use Rattle.ug_io.specs.declared.link.Said.{Said}
 use Rattle.ug_io.specs.declared.link.Said.TheVariants.{Heard, Told}
 use Rattle.ug_io.specs.Links.{LinkSeen}
 
--- the bytes that were heard, in order
+-- the bytes that were received, in order
 abbrev pub heard_in : List Said → List ℕ
 heard_in [] = []
 heard_in (Heard byte ∷ said) = byte ∷ heard_in said
 heard_in (Told byte ∷ said) = heard_in said
 
--- the bytes that were told, in order
+-- the bytes that were sent, in order
 abbrev pub told_in : List Said → List ℕ
 told_in [] = []
 told_in (Heard byte ∷ said) = told_in said
 told_in (Told byte ∷ said) = byte ∷ told_in said
 
--- what was heard and told; the bytes that were put in; those that were taken out; and how often a
--- call failed
+-- what was received and sent; the bytes that were put in; those that were taken out; and how often
+-- a call failed
 pub record Queue : Type 0 where
   pub said : List Said
   pub put : List ℕ
@@ -32,14 +32,14 @@ queue_of said put taken faults =
 abbrev pub queue_seen : Queue → LinkSeen
 queue_seen q = record { said = Some q.said; ended = false; faults = q.faults }
 
--- what was heard is a front of what was put in, and what was taken out one of what was told
+-- what was received is a prefix of what was put in, and what was taken out one of what was sent
 pub record IsQueue (q : Queue) : Type 0 where
   pub ahead : List ℕ
   pub heard : q.put ≡ heard_in q.said ++ ahead
   pub behind : List ℕ
   pub told : told_in q.said ≡ q.taken ++ behind
 
--- the same, by how many bytes were heard, may be heard, and were taken out
+-- the same, by how many bytes were received, may be received, and were taken out
 pub record IsKept (said : List Said) (put sent : List ℕ) (heard given taken : ℕ) : Type 0 where
   pub front : heard_in said ≡ take heard put
   pub whole : told_in said ≡ sent

@@ -50,7 +50,7 @@ pub record SeatSeen : Type 0 where
   pub at : ℕ
   pub keeps : Kept
 
--- the seat has this task, or none, of a worker that made so many rounds
+-- the seat has this task, or none, of a worker that made this many rounds
 pub record IsSeated (s : SeatSeen) (tally : Tally) (some : Option Engaged) : Type 0 where
   pub gap : IsGap s.keeps.gap
   pub agrees : agrees s.keeps some
@@ -68,7 +68,7 @@ pub record IsOrdered (s : SeatSeen) (tally : Tally) (some : Option Engaged) (ord
   pub on : s.end ≡ None
   pub next : HasNext s.link s.waiting (stage_of (basis_of s.keeps) tally some) order s.at
 
--- the task goes on, as it was but for a cutoff
+-- the task continues, as it was but for a cutoff
 pub record IsGoing (s : SeatSeen) (tally : Tally) (task : TaskState) (cutoff : Option ℤ)
     : Type 0 where
   pub now : Engaged
@@ -76,7 +76,7 @@ pub record IsGoing (s : SeatSeen) (tally : Tally) (task : TaskState) (cutoff : O
   pub made : now.made ≡ 0
   pub its : now.task ≡ lowered cutoff task
 
--- an order was obeyed between two rounds: the task goes on, or it is dropped
+-- an order was obeyed between two rounds: the task continues, or it is dropped
 abbrev pub IsObeyed : Bool → SeatSeen → Tally → TaskState → Option ℤ → Type 0
 IsObeyed true s tally task cutoff = IsGoing s tally task cutoff
 IsObeyed false s tally task cutoff = IsSeated s tally None

@@ -33,7 +33,7 @@ module _ {L : Type 0} (seen : L → LinkSeen) where
   is_posted None wire = StandsOn (seen wire.link) wire.orders Blank
   is_posted (Some post) wire = IsBusyAs wire post
 
-  -- the service goes on, or has ended
+  -- the service continues, or has ended
   abbrev pub is_server : Option Served → Option Post → Wire L → Type 0
   is_server None post wire = is_posted post wire
   is_server (Some end) post wire = HasServed (seen wire.link) end

@@ -23,7 +23,7 @@ IsOpen (Busy basis tally e) = Unit {0}
 IsOpen Ending = ⊥
 IsOpen Over = ⊥
 
--- a worker's deeds led to this state; the link, where it tells what was said, tells the same; it
+-- a worker's deeds led to this state; the link, where it says what was said, sends the same; it
 -- has not ended, and no call of it failed
 pub record IsOn (seen : LinkSeen) (now : ServerState) : Type 0 where
   pub come : HasCome now
@@ -36,7 +36,7 @@ pub record StandsOn (seen : LinkSeen) (waiting : Waiting) (stage : Stage) : Type
   pub said : List Said
   pub on : IsOn seen (record { said = said; waiting = waiting; stage = stage })
 
--- beside what was said then, a front was told of the frame of a report that was due
+-- beside what was said then, a front was sent of the frame of a report that was due
 pub record IsPartTold (now : ServerState) (said : List Said) : Type 0 where
   pub report : Report
   pub next : Stage
@@ -47,7 +47,7 @@ pub record IsPartTold (now : ServerState) (said : List Said) : Type 0 where
   pub parts : reports.spelled report ≡ front ++ rest
   pub same : said ≡ now.said ++ told front
 
--- what was told is a front of what a worker tells
+-- what was sent is a prefix of what a worker sends
 pub record IsFront (seen : LinkSeen) (now : ServerState) : Type 0 where
   pub come : HasCome now
   pub said : IfSome seen.said (λ said. (said ≡ now.said) ⊎ IsPartTold now said)
@@ -80,13 +80,13 @@ pub record HasMetBad (seen : LinkSeen) (at : ℕ) : Type 0 where
   pub bad : IsDecoded orders.IsCarried orders.spelled now.waiting.bytes Bad
       ⊎ IsUndue now.stage now.waiting.bytes
 
--- the end was ordered, and Ended was told
+-- the end was ordered, and Ended was sent
 pub record HasEnded (seen : LinkSeen) : Type 0 where
   pub now : ServerState
   pub on : IsOn seen now
   pub over : now.stage ≡ Over
 
--- memory ran out, and what was told is a front of what a worker tells
+-- memory ran out, and what was sent is a prefix of what a worker sends
 pub record HasWanted (seen : LinkSeen) : Type 0 where
   pub now : ServerState
   pub front : IsFront seen now
@@ -98,7 +98,7 @@ HasServed seen LinkFault = HasFailed seen
 HasServed seen (BadFrame at) = HasMetBad seen at
 HasServed seen Memory = HasWanted seen
 
--- the service goes on at this stage, or has ended
+-- the service continues at this stage, or has ended
 abbrev pub stands_as : Option Served → LinkSeen → Waiting → Stage → Type 0
 stands_as None seen waiting stage = StandsOn seen waiting stage
 stands_as (Some end) seen waiting stage = HasServed seen end
@@ -108,7 +108,7 @@ abbrev pub has_ended : Option Served → LinkSeen → Type 0
 has_ended None seen = ⊥
 has_ended (Some end) seen = HasServed seen end
 
--- an order came next, at this place of what was heard, and waits to be obeyed or refused
+-- an order came next, at this place of what was received, and waits to be obeyed or refused
 pub record HasNext (seen : LinkSeen) (waiting : Waiting) (stage : Stage) (order : Order) (at : ℕ)
     : Type 0 where
   pub said : List Said

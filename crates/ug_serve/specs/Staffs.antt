@@ -15,14 +15,14 @@ abbrev pub with : Bool → ℕ → List ℕ → List ℕ
 with true byte bytes = byte ∷ bytes
 with false byte bytes = bytes
 
--- the bytes that were heard from the rank, in order
+-- the bytes that were received from the rank, in order
 abbrev pub heard_at : ℕ → List Exchange → List ℕ
 heard_at rank [] = []
 heard_at rank (Heard other byte ∷ said) = with (other == rank) byte (heard_at rank said)
 heard_at rank (Told other byte ∷ said) = heard_at rank said
 heard_at rank (Gone other ∷ said) = heard_at rank said
 
--- the bytes that were told to it, in order
+-- the bytes that were sent to it, in order
 abbrev pub told_at : ℕ → List Exchange → List ℕ
 told_at rank [] = []
 told_at rank (Heard other byte ∷ said) = told_at rank said
@@ -30,8 +30,8 @@ told_at rank (Told other byte ∷ said) = with (other == rank) byte (told_at ran
 told_at rank (Gone other ∷ said) = told_at rank said
 
 -- A worker's deeds led from the beginning to a state. What its link shows is that, or a part of
--- the frame of a report more that was due. A front of the bytes that were told to the rank is what
--- the worker heard, and a front of what it told is what was heard from the rank.
+-- the frame of a report more that was due. A prefix of the bytes that were sent to the rank is what
+-- the worker received, and a prefix of what it sent is what was received from the rank.
 pub record IsWorked (said : List Exchange) (rank : ℕ) : Type 0 where
   pub now : ServerState
   pub come : HasCome now
@@ -50,8 +50,8 @@ AreWorked said = (rank : ℕ) → IsWorked said rank
 abbrev pub AreAlwaysWorked : List Exchange → Type 0
 AreAlwaysWorked said = (front rest : List Exchange) → said ≡ front ++ rest → AreWorked front
 
--- the rank's worker: all that was told to the rank was put into its link, and what was heard from
--- the rank was taken out
+-- the rank's worker: all that was sent to the rank was put into its link, and what was received
+-- from the rank was taken out
 pub record IsManned (said : List Exchange) (rank : ℕ) (server : Server Queue) : Type 0 where
   pub serves : IsServer queue_seen server
   pub queue : IsQueue server.wire.link
@@ -68,7 +68,7 @@ abbrev pub IsPlace : List Exchange → ℕ → Option (Server Queue) → Type 0
 IsPlace said rank None = IsUnmanned said rank
 IsPlace said rank (Some server) = IsManned said rank server
 
--- a worker at the place goes on as it has to, or its service has ended
+-- a worker at the place continues as it has to, or its service has ended
 abbrev pub IsSteady : Option (Server Queue) → Type 0
 IsSteady None = Unit {0}
 IsSteady (Some server) = IsServer queue_seen server

@@ -2,12 +2,12 @@
 use Rattle.std.specs.Prelude.{◌≡◌, List, ℕ, ◌++◌}
 use Rattle.ug_io.specs.Links.{Adds, LinkSeen, told}
 
--- all the bytes were told
+-- all the bytes were sent
 pub record HasToldAll (old new : LinkSeen) (bytes : List ℕ) : Type 0 where
   pub said : Adds old.said new.said (told bytes)
   pub ended : new.ended ≡ old.ended
 
--- a front of the bytes was told
+-- a prefix of the bytes was sent
 pub record HasToldFront (old new : LinkSeen) (bytes : List ℕ) : Type 0 where
   pub front : List ℕ
   pub rest : List ℕ

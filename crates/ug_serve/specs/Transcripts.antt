@@ -1,5 +1,5 @@
--- What is so of the reports that a worker tells, by what it heard and told before. Here deeds are
--- listed the latest first.
+-- What is so of the reports that a worker sends, by what it received and sent before. Here deeds
+-- are listed the latest first.
 use Rattle.std.specs.Prelude.{◌≡◌, ◌⊎◌, ℕ, ℤ, suc, ◌<◌, Bool, true, List, [], ◌∷◌, Contains}
 use Rattle.std.specs.Prelude.{Option, None, Some, IfSome}
 use Rattle.ug_rows.specs.declared.area.Interval.{Interval}
@@ -25,7 +25,7 @@ abbrev pub turned : List Deed → List Deed → List Deed
 turned past [] = past
 turned past (deed ∷ deeds) = turned (deed ∷ past) deeds
 
--- the reports that were told, the latest first
+-- the reports that were sent, the latest first
 abbrev pub reports_in : List Deed → List Report
 reports_in [] = []
 reports_in (Came bytes ∷ past) = reports_in past
@@ -90,7 +90,7 @@ since_work (Came bytes ∷ past) = Came bytes ∷ since_work past
 since_work (Took order ∷ past) = since_order (work_of order) order (since_work past)
 since_work (Told report ∷ past) = Told report ∷ since_work past
 
--- what was told behind it
+-- what was sent behind it
 abbrev pub told_since : List Deed → List Report
 told_since past = reports_in (since_work past)
 
@@ -105,14 +105,14 @@ pub record IsUnder (basis : Basis) (past : List Deed) (ticket : Ticket) : Type 0
   pub its : work.ticket ≡ ticket
   pub valid : AreChangesOf (root_of basis.problem) work.changes
 
--- the cutoff is that of a point that was told since
+-- the cutoff is that of a point that was sent since
 pub record IsOfPoint (basis : Basis) (since : List Deed) (ticket : Ticket) (cutoff : ℤ)
     : Type 0 where
   pub point : List ℤ
   pub among : Contains since (Told (Solution ticket point))
   pub its : cutoff ≡ cutoff_of basis.problem basis.gap point
 
--- the cutoff came with the order of work, was ordered since, or is that of a point that was told
+-- the cutoff came with the order of work, was ordered since, or is that of a point that was sent
 abbrev pub IsKnown : Basis → Ordered → List Deed → ℤ → Type 0
 IsKnown basis work since cutoff = (work.cutoff ≡ Some cutoff)
     ⊎ (Contains since (Took (Incumbent cutoff)) ⊎ IsOfPoint basis since work.ticket cutoff)
@@ -125,7 +125,7 @@ pub record IsPointTold (basis : Basis) (past : List Deed) (ticket : Ticket) (x :
   pub under : IsUnder basis past ticket
   pub feasible : Feasible basis.problem x
 
--- A box below that of the ticket, under the number of those that were handed before. Where others
+-- A box below that of the ticket, under the number of those that were handed before. If others
 -- have the ticket's box, the race was won.
 pub record IsBoxTold (basis : Basis) (past : List Deed) (ticket : Ticket) (number : ℕ)
     (changes : List Change) : Type 0 where
@@ -142,7 +142,7 @@ pub record IsRestTold (basis : Basis) (past : List Deed) (ticket : Ticket) (node
   pub some : 0 < nodes
 
 -- Each feasible point of the ticket's box with a value below the cutoff lies in one of the boxes
--- that were handed, which are so many.
+-- that were handed, which are this many.
 pub record IsEndOfTask (basis : Basis) (past : List Deed) (ticket : Ticket)
     (cutoff : Option ℤ) (count : ℕ) : Type 0 where
   pub under : IsUnder basis past ticket
@@ -152,7 +152,7 @@ pub record IsEndOfTask (basis : Basis) (past : List Deed) (ticket : Ticket)
       → IsGood basis.problem cutoff x
       → IsInHands (root_of basis.problem) (told_since past) ticket count x
 
--- what is so where the report is told: Ready is the first one, and Ended comes behind the order
+-- what is so where the report is sent: Ready is the first one, and Ended comes behind the order
 abbrev pub IsSaid : Basis → List Deed → Report → Type 0
 IsSaid basis past Ready = reports_in past ≡ []
 IsSaid basis past (Solution ticket x) =
@@ -172,7 +172,7 @@ AreSaid basis (Came bytes ∷ past) = AreSaid basis past
 AreSaid basis (Took order ∷ past) = AreSaid basis past
 AreSaid basis (Told report ∷ past) = IsSaid basis past report × AreSaid basis past
 
--- Nothing is told before a problem is ordered, and then each report is as it has to be.
+-- Nothing is sent before a problem is ordered, and then each report is as it has to be.
 pub record IsTranscript (past : List Deed) : Type 0 where
   pub set_up : (reports_in past ≡ []) ⊎ ((basis : Basis) × IsSetUpWith past basis)
   pub said : (basis : Basis) → IsSetUpWith past basis → AreSaid basis past

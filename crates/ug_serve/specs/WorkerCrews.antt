@@ -6,7 +6,7 @@ use Rattle.ug_serve.specs.declared.crew.Visited.{Visited}
 use Rattle.ug_serve.specs.declared.crew.Visited.TheVariants.{Came, Moved, Still}
 use Rattle.ug_serve.specs.declared.crew.WorkerCrew.{WorkerCrew}
 
--- what was heard and told, and who is gone
+-- what was received and sent, and who is lost
 abbrev pub exchanged_of : WorkerCrew → List Exchange
 exchanged_of c = c.staff
 

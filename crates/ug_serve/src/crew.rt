@@ -13,8 +13,8 @@ use ug_io::{Came, Crew, Exchange, Failed, zeros};
 /// How many bytes a worker reads at once.
 const READ: usize = 4_096;
 
-/// A rank that is visited: its worker hears so many more bytes of its orders at most, makes a step,
-/// and so many bytes of its reports are heard at most.
+/// A rank that is visited: its worker receives this many more bytes of its orders at most, makes a
+/// step, and this many bytes of its reports are received at most.
 #[derive(Clone, Copy, PartialEq, Eq)]
 pub struct Visit {
     pub rank: u32,
@@ -25,18 +25,18 @@ pub struct Visit {
 /// What a visit came to.
 #[derive(Clone, Copy)]
 pub enum Visited {
-    /// Something came, or the rank is gone.
+    /// Something came, or the rank is lost.
     Came(Came),
     /// Nothing did, but its worker has something to do.
     Moved,
-    /// Nothing did, nor will before something is told to it.
+    /// Nothing did, nor will before something is sent to it.
     Still,
 }
 
 /// Workers as a crew, which are visited as a schedule says, and where it is over each in its turn,
-/// with all that there is. A rank is gone where its worker has ended, in whatever way. A turn fails
+/// with all that there is. A rank is lost where its worker has ended, in whatever way. A turn fails
 /// where each worker waits and nothing is on its way, a launch where the rank was launched before,
-/// and each call where memory is wanting.
+/// and each call where memory runs out.
 #[derive(Drop)]
 pub struct WorkerCrew<'a> {
     alloc: Global,
@@ -47,13 +47,14 @@ pub struct WorkerCrew<'a> {
     staff: Staff,
     // What is left of the schedule.
     schedule: &'a [Visit],
+    is_finished: bool,
 }
 
 impl<'a> WorkerCrew<'a> {
     ghost use Rattle.ug_serve.specs.Staffs.{AreAlwaysWorked};
     ghost use Rattle.ug_serve.specs.WorkerCrews.{HasVisited, crew_seen, exchanged_of};
 
-    /// A crew of so many ranks, none of which lives yet.
+    /// A crew of this many ranks, none of which lives yet.
     pub fn new(
         alloc: Global,
         ranks: u32,
@@ -77,10 +78,11 @@ impl<'a> WorkerCrew<'a> {
             schedule,
             next: 0,
             faults: 0,
+            is_finished: false,
         })
     }
 
-    /// What was heard and told, and who is gone.
+    /// What was received and sent, and who is lost.
     pub fn exchanged(&self) -> &[Exchange]
         ensures { result.now ≡ exchanged_of self.now }
     {
@@ -94,16 +96,16 @@ impl<'a> WorkerCrew<'a> {
         self.faults
     }
 
-    /// At each moment what was heard from each rank was what a worker tells that hears what was
-    /// told to it by then.
+    /// At each moment what was received from each rank was what a worker says that receives what
+    /// was sent to it by then.
     pub fn is_worked(&self)
         ensures { AreAlwaysWorked (exchanged_of self.now) }
     {
         self.staff.is_worked();
     }
 
-    /// Lets the rank's worker want memory: its service ends, and the rank is gone once all that it
-    /// told before was heard.
+    /// Lets the rank's worker want memory: its service ends, and the rank is lost once all that it
+    /// sent before was received.
     pub fn exhaust(&mut self, rank: u32)
         ensures { crew_seen self.new ≡ crew_seen self.old }
     {
@@ -136,7 +138,7 @@ impl<'a> WorkerCrew<'a> {
         }
     }
 
-    // Hears the rank.
+    // Receives the rank.
     #[tactic(auto, using(crate::proofs::Staffs::heard_none))]
     fn hear(&mut self, rank: u32, most: usize, buffer: &mut [u8]) -> Result<usize, Failed>
         requires { IsAlive (crew_seen self.old) rank }
@@ -265,6 +267,8 @@ impl Crew for WorkerCrew<'_> {
 
     ghost seen = { crew_seen };
 
+    ghost finished = { λ c. c.is_finished };
+
     fn is_alive(&self, rank: u32) -> bool {
         let at = rank as usize;
         at < self.lives.len() && self.lives[at]
@@ -311,5 +315,7 @@ impl Crew for WorkerCrew<'_> {
     }
 
     // There is nobody to wait for.
-    fn finish(&mut self) {}
+    fn finish(&mut self) {
+        self.is_finished = true;
+    }
 }

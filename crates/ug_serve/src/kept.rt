@@ -26,7 +26,7 @@ impl Kept {
         ticket == self.ticket
     }
 
-    /// So many boxes are asked for, where the ticket is that of the task.
+    /// This many boxes are asked for, where the ticket is that of the task.
     pub fn ask(&mut self, ticket: Ticket, count: u32)
         ensures { IsAsked self.old ticket count self.new }
     {

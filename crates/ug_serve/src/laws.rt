@@ -2,26 +2,26 @@ ghost use Rattle.ug_serve.specs.CrewLaws.{WorkersAreHeard};
 ghost use Rattle.ug_serve.specs.Endings.{ServicesEndInOneWay};
 ghost use Rattle.ug_serve.specs.Laws.{CoursesAreTranscripts, WorkersAreHonest};
 
-/// What a worker at a link tells is true by what it heard and told before, whatever comes: it is in
-/// order, and an end of a task is told only where the whole box was searched but for what was
+/// What a worker at a link sends is true by what it received and sent before, whatever comes: it is
+/// in order, and an end of a task is sent only where the whole box was searched but for what was
 /// handed.
 pub fn courses_are_transcripts()
     ensures { CoursesAreTranscripts }
 {}
 
-/// What such workers tell is honest, where no ticket was ordered twice.
+/// What such workers send is honest, where no ticket was ordered twice.
 pub fn workers_are_honest()
     ensures { WorkersAreHonest }
 {}
 
-/// What is heard from a rank of a crew of workers, whatever the schedule, is what a worker tells
-/// that hears a front of what was told to the rank.
+/// What is received from a rank of a crew of workers, whatever the schedule, is what a worker sends
+/// that receives a prefix of what was sent to the rank.
 pub fn workers_are_heard()
     ensures { WorkersAreHeard }
 {}
 
 /// What is seen of a link shows how its service ended: that it is lost shows in its count or its
-/// end, and what was said, where it is told, shows whether Ended was told or what came was no
+/// end, and what was said, where it is sent, shows whether Ended was sent or what came was no
 /// order.
 pub fn services_end_in_one_way()
     ensures { ServicesEndInOneWay }

@@ -1,9 +1,9 @@
-//! A worker whose coordinator is at the other end of a link. It stands on ug_worker for what a
-//! worker does, on ug_stream and ug_records for what comes over a link. `serve` hears a problem,
+//! A worker whose coordinator is at the other end of a link. It depends on ug_worker for what a
+//! worker does, on ug_stream and ug_records for what comes over a link. `serve` receives a problem,
 //! and searches each box that is ordered until the end is: for all bytes that may come, what it
-//! tells is what such a worker tells, byte for byte. `Server` is that worker moved step by step,
+//! sends is what such a worker sends, byte for byte. `Server` is that worker moved step by step,
 //! which does not wait. `WorkerCrew` is a crew in memory of such workers: whatever its schedule,
-//! what is heard from a rank is what a worker tells that hears what it was told.
+//! what is received from a rank is what a worker says that receives what it was sent.
 #![tactic(auto)]
 
 mod crew;

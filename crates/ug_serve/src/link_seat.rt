@@ -48,7 +48,7 @@ impl<L: Link + Drop> LinkSeat<L> {
         }
     }
 
-    // Does as is ordered where there is no task: takes a task, or ends, or goes on.
+    // Does as is ordered where there is no task: takes a task, or ends, or continues.
     fn receive(&mut self, order: Order) -> Option<Took>
         requires { (tally : Tally)
             × IsOrdered (seat_seen L.seen self.old.wire self.old.kept) tally None order }
@@ -219,7 +219,7 @@ impl<L: Link + Drop> LinkSeat<L> {
         }
     }
 
-    // The task goes on under the cutoff, unless the service has ended.
+    // The task continues under the cutoff, unless the service has ended.
     fn reply(&self, cutoff: Option<i128>) -> Reply
         ensures small { result.cutoff ≡ cutoff }
         ensures replied { (tally : Tally) (task : TaskState)
@@ -353,7 +353,7 @@ impl<L: Link + Drop> Seat for LinkSeat<L> {
     }
 }
 
-// The lesser of a cutoff, if there is one, and another.
+// The smaller of a cutoff, if there is one, and another.
 fn lower_of(cutoff: Option<i128>, told: i128) -> i128
     ensures { result ≡ lesser_of cutoff told }
 {

@@ -2,7 +2,7 @@
 
 ghost use Rattle.std.specs.Prelude.{◌≡◌, ◌+◌, ◌≤◌, drop, length, take};
 
-/// The lesser of two numbers.
+/// The smaller of two numbers.
 pub fn least(a: usize, b: usize) -> usize
     ensures first { result ≤ a }
     ensures second { result ≤ b }
@@ -10,7 +10,7 @@ pub fn least(a: usize, b: usize) -> usize
     a.min(b)
 }
 
-/// So many bytes from this place on.
+/// This many bytes from this place on.
 pub fn part(bytes: &[u8], at: usize, count: usize) -> &[u8]
     requires { at + count ≤ length bytes.now }
     ensures { result.now ≡ take count (drop at bytes.now) }
@@ -20,7 +20,7 @@ pub fn part(bytes: &[u8], at: usize, count: usize) -> &[u8]
     front
 }
 
-/// Copies so many bytes from this place on to the front of the buffer.
+/// Copies this many bytes from this place on to the front of the buffer.
 pub fn copy_part(bytes: &[u8], at: usize, count: usize, buffer: &mut [u8])
     requires there { at + count ≤ length bytes.now }
     requires room { count ≤ length buffer.old }

@@ -27,7 +27,7 @@ pub fn man(alloc: Global, place: &mut Option<Server<QueueLink>>, input: Vec<u8>)
     true
 }
 
-/// Tells the bytes to the worker of the rank.
+/// Sends the bytes to the worker of the rank.
 pub fn tell(
     alloc: Global,
     place: &mut Option<Server<QueueLink>>,
@@ -57,7 +57,7 @@ pub fn tell(
     }
 }
 
-/// Lets the worker hear so many more of its bytes, or all, and make a step.
+/// Lets the worker receive this many more of its bytes, or all, and make a step.
 pub fn step(place: &mut Option<Server<QueueLink>>, most: usize) -> Progress
     requires { IsSteady place.old }
     ensures { (said : List Exchange) (rank : ℕ) → IsPlace said rank place.old
@@ -73,7 +73,7 @@ pub fn step(place: &mut Option<Server<QueueLink>>, most: usize) -> Progress
     progress
 }
 
-/// Lets the worker's service end for want of memory, where there is one.
+/// Lets the worker's service end for lack of memory, where there is one.
 pub fn exhaust(place: &mut Option<Server<QueueLink>>)
     requires { IsSteady place.old }
     ensures { (said : List Exchange) (rank : ℕ) → IsPlace said rank place.old
@@ -85,7 +85,7 @@ pub fn exhaust(place: &mut Option<Server<QueueLink>>)
     }
 }
 
-/// Hears some bytes of the worker of the rank.
+/// Receives some bytes of the worker of the rank.
 pub fn hear(
     place: &mut Option<Server<QueueLink>>,
     exchanged: &mut Vec<Exchange>,
@@ -110,7 +110,7 @@ pub fn hear(
     }
 }
 
-/// Whether bytes of the worker wait to be heard.
+/// Whether bytes of the worker wait to be received.
 pub fn is_full(place: &Option<Server<QueueLink>>) -> bool {
     match place {
         Some(server) => server.wire.link.is_full(),

@@ -12,20 +12,20 @@ use std::alloc::{AllocError, Global};
 use std::marker::Model;
 use ug_io::{Exchange, Failed, Got, Link, Said, keep_from, keep_heard};
 
-/// Bytes that were put in wait to be heard, and bytes that were told wait to be taken out. It never
-/// ends. A read where none waits finds nothing; one that is to wait for a byte fails, since none
-/// comes before it is over. A call fails too where memory is wanting.
+/// Bytes that were put in wait to be received, and bytes that were sent wait to be taken out. It
+/// never ends. A read where none waits finds nothing; one that is to wait for a byte fails, since
+/// none comes before it is over. A call fails too where memory runs out.
 #[derive(Drop)]
 pub struct QueueLink {
     alloc: Global,
     // All that was put in.
     put: Vec<u8>,
-    // How many of these bytes were heard, and how many may be.
+    // How many of these bytes were received, and how many may be.
     heard: usize,
     given: usize,
-    // All that was heard and told.
+    // All that was received and sent.
     said: Vec<Said>,
-    // All that was told, and how many of these bytes were taken out.
+    // All that was sent, and how many of these bytes were taken out.
     told: Vec<u8>,
     taken: usize,
     faults: u64,
@@ -60,14 +60,15 @@ impl QueueLink {
         }
     }
 
-    /// What was heard is a front of what was put in, and what was taken out one of what was told.
+    /// What was received is a prefix of what was put in, and what was taken out one of what was
+    /// sent.
     pub fn is_queue(&self)
         ensures { IsQueue self.now }
     {
         let _heard = self.heard;
     }
 
-    /// Puts bytes in, which may not be heard yet.
+    /// Puts bytes in, which may not be received yet.
     #[tactic(auto, using(crate::proofs::Queues::kept_put))]
     pub fn put(&mut self, bytes: &[u8]) -> Result<(), AllocError>
         ensures ok { OnOk result (self.new ≡ record self.old { put = self.old.put ++ bytes.now }) }
@@ -76,7 +77,7 @@ impl QueueLink {
         self.put.extend_from_slice(bytes)
     }
 
-    /// Lets so many more of the bytes be heard, or all.
+    /// Lets this many more of the bytes be received, or all.
     #[tactic(auto, using(crate::proofs::Queues::kept_given))]
     pub fn give(&mut self, most: usize)
         ensures { self.new ≡ self.old }
@@ -84,13 +85,13 @@ impl QueueLink {
         self.given += most.min(self.put.len() - self.given);
     }
 
-    /// Whether bytes that were told wait to be taken out.
+    /// Whether bytes that were sent wait to be taken out.
     pub fn is_full(&self) -> bool {
         self.taken < self.told.len()
     }
 
-    /// Takes out as many bytes as there are, at most so many and no more than the buffer holds, and
-    /// keeps that they were heard from the rank.
+    /// Takes out as many bytes as there are, at most this many and no more than the buffer holds,
+    /// and keeps that they were received from the rank.
     #[tactic(auto, using(crate::proofs::Queues::kept_taken))]
     pub fn take(
         &mut self,
@@ -124,7 +125,7 @@ impl QueueLink {
         self.faults = self.faults.saturating_add(1);
     }
 
-    // Hears some of the bytes, as many as the buffer holds.
+    // Receives some of the bytes, as many as the buffer holds.
     fn hear(&mut self, buffer: &mut [u8]) -> Result<usize, AllocError>
         ensures within { IfOk result (λ count. count ≤ length buffer.new) }
         ensures said { IfOk result (λ count. self.new
@@ -139,7 +140,7 @@ impl QueueLink {
         Ok(count)
     }
 
-    // Tells all of the bytes.
+    // Sends all of the bytes.
     fn tell(&mut self, bytes: &[u8]) -> Result<(), AllocError>
         ensures ok { OnOk result (self.new ≡ record self.old { said = self.old.said ++ told bytes.now }) }
         ensures err { OnErr result (self.new ≡ self.old) }

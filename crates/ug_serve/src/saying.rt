@@ -6,7 +6,7 @@ ghost use Rattle.ug_io.specs.Links.{told};
 use std::alloc::{AllocError, Global};
 use ug_io::{Said, keep_told};
 
-/// Keeps these bytes as told, and behind all that were told before.
+/// Keeps these bytes as sent, and behind all that were sent before.
 pub fn keep_both(
     alloc: Global,
     said: &mut Vec<Said>,

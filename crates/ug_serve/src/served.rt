@@ -1,13 +1,13 @@
 /// How the service of a link ended.
 #[derive(Clone, Copy, PartialEq, Eq)]
 pub enum Served {
-    /// The end was ordered, and Ended was told.
+    /// The end was ordered, and Ended was sent.
     Ended,
     /// A call of the link failed, or it ended before the end was ordered.
     LinkFault,
-    /// The bytes from this place on, counted over all that were heard, are no frame of an order, or
-    /// that of one that was not due.
+    /// The bytes from this place on, counted over all that were received, are no frame of an order,
+    /// or that of one that was not due.
     BadFrame { at: u64 },
-    /// Memory was wanting.
+    /// Memory ran out.
     Memory,
 }

@@ -1,4 +1,4 @@
-//! A worker at a link that is moved call by call, and never waits unless it is told to.
+//! A worker at a link that is moved call by call, and never waits unless it is sent to.
 
 ghost use Rattle.std.specs.Prelude.{◌≡◌, ◌<◌, None, Some, length};
 ghost use Rattle.ug_problem.specs.Better.{IsGap};
@@ -24,7 +24,7 @@ use ug_problem::{Problem, Shared};
 use ug_records::{RecordError, from_record};
 use ug_worker::{Pace, Renewal, Worker};
 
-/// How a worker at a link goes on behind a step.
+/// How a worker at a link continues behind a step.
 #[derive(Clone, Copy, PartialEq, Eq)]
 pub enum Progress {
     /// It has something to do, or may find it.
@@ -35,14 +35,14 @@ pub enum Progress {
     Ended(Served),
 }
 
-/// A worker at a link behind a step, and how it goes on.
+/// A worker at a link behind a step, and how it continues.
 #[derive(Drop)]
 pub struct Moved<L> {
     pub progress: Progress,
     pub server: Server<L>,
 }
 
-/// A worker whose coordinator is at the other end of a link: it hears the problem, then searches
+/// A worker whose coordinator is at the other end of a link: it receives the problem, then searches
 /// each box that is ordered, until the end is ordered.
 #[derive(Drop)]
 pub struct Server<L> {
@@ -73,8 +73,8 @@ impl<L: Link + Drop> Server<L> {
         }
     }
 
-    /// Takes the orders that are there, makes a round of steps where it has a task, and tells what
-    /// it has to tell. It does not wait.
+    /// Takes the orders that are there, makes a round of steps where it has a task, and says what
+    /// it has to send. It does not wait.
     pub fn step(self) -> Moved<L>
         requires { IsServer L.seen self }
         ensures { HasMoved L.seen result }
@@ -102,7 +102,7 @@ impl<L: Link + Drop> Server<L> {
         }
     }
 
-    /// Lets its service end for want of memory, unless it has ended: so it is where memory that it
+    /// Lets its service end for lack of memory, unless it has ended: so it is where memory that it
     /// asks for is refused.
     pub fn exhaust(&mut self)
         requires { IsServer L.seen self.old }
@@ -134,7 +134,7 @@ impl<L: Link + Drop> Server<L> {
         link
     }
 
-    // It, and how it goes on.
+    // It, and how it continues.
     fn moved(self, waits: bool) -> Moved<L>
         requires { IsServer L.seen self }
         ensures { HasMoved L.seen result }
@@ -212,7 +212,7 @@ fn set_up<L: Link + Drop>(alloc: Global, mut wire: Wire<L>, gap: i128, bytes: By
     }
 }
 
-// Tells that the problem is there.
+// Says that the problem is there.
 fn sit<L: Link + Drop>(alloc: Global, mut wire: Wire<L>, gap: i128, problem: Problem) -> Moved<L>
     requires gap { IsGap gap }
     requires on { stands_as wire.end (L.seen wire.link) wire.orders (SetUp (record { problem = problem; gap = gap })) }

@@ -21,8 +21,8 @@ pub struct Service<L> {
     pub link: L,
 }
 
-/// Serves a link over which nothing was said yet: hears the problem, then searches each box that is
-/// ordered, until the end is ordered.
+/// Serves a link over which nothing was said yet: receives the problem, then searches each box that
+/// is ordered, until the end is ordered.
 pub fn serve<R: Wait, L: Link + Drop>(rt: &R, alloc: Global, link: L) -> Service<L>
     requires { IsFresh (L.seen link) }
     ensures { HasServed (L.seen result.link) result.end }

@@ -33,7 +33,7 @@ impl Model for Staff {
 }
 
 impl Staff {
-    /// Places for so many ranks, none of which has a worker yet.
+    /// Places for this many ranks, none of which has a worker yet.
     #[tactic(auto, using(crate::proofs::Staffs::staff_empty))]
     pub fn new(alloc: Global, ranks: u32) -> Result<Staff, AllocError>
         ensures { IfOk result (λ staff. staff ≡ []) }
@@ -46,15 +46,15 @@ impl Staff {
         })
     }
 
-    /// All that went between, and who is gone.
+    /// All that went between, and who is lost.
     pub fn exchanged(&self) -> &[Exchange]
         ensures { result.now ≡ self.now }
     {
         self.exchanged.as_slice()
     }
 
-    /// At each moment what was heard from each rank was what a worker tells that hears what was
-    /// told to it by then.
+    /// At each moment what was received from each rank was what a worker says that receives what
+    /// was sent to it by then.
     pub fn is_worked(&self)
         ensures { AreAlwaysWorked self.now }
     {
@@ -74,7 +74,7 @@ impl Staff {
         man(self.alloc, &mut self.places[at], input)
     }
 
-    /// Tells all of the bytes to the rank's worker, which may not hear them yet.
+    /// Sends all of the bytes to the rank's worker, which may not receive them yet.
     pub fn tell(&mut self, rank: u32, bytes: &[u8]) -> Result<(), AllocError>
         ensures ok { OnOk result (self.new ≡ self.old ++ told_to rank bytes.now) }
         ensures err { OnErr result (self.new ≡ self.old) }
@@ -92,7 +92,7 @@ impl Staff {
         )
     }
 
-    /// Lets the rank's worker hear so many more of its bytes, or all, and make a step.
+    /// Lets the rank's worker receive this many more of its bytes, or all, and make a step.
     pub fn step(&mut self, rank: u32, most: usize) -> Progress
         ensures { self.new ≡ self.old }
     {
@@ -103,7 +103,7 @@ impl Staff {
         step(&mut self.places[at], most)
     }
 
-    /// Lets the service of the rank's worker end for want of memory.
+    /// Lets the service of the rank's worker end for lack of memory.
     pub fn exhaust(&mut self, rank: u32)
         ensures { self.new ≡ self.old }
     {
@@ -113,7 +113,7 @@ impl Staff {
         }
     }
 
-    /// Hears some bytes of the rank's worker, at most so many and as many as the buffer holds.
+    /// Receives some bytes of the rank's worker, at most this many and as many as the buffer holds.
     pub fn hear(&mut self, rank: u32, most: usize, buffer: &mut [u8]) -> Result<usize, AllocError>
         ensures within { IfOk result (λ count. count ≤ length buffer.new) }
         ensures heard { IfOk result (λ count.
@@ -133,13 +133,13 @@ impl Staff {
         )
     }
 
-    /// Whether bytes of the rank's worker wait to be heard.
+    /// Whether bytes of the rank's worker wait to be received.
     pub fn is_full(&self, rank: u32) -> bool {
         let at = rank as usize;
         at < self.places.len() && is_full(&self.places[at])
     }
 
-    /// Keeps that the rank is gone.
+    /// Keeps that the rank is lost.
     pub fn lose(&mut self, rank: u32) -> Result<(), AllocError>
         ensures ok { OnOk result (self.new ≡ self.old ++ Gone rank ∷ []) }
         ensures err { OnErr result (self.new ≡ self.old) }
@@ -151,7 +151,7 @@ impl Staff {
     }
 }
 
-// So many places with no worker.
+// This many places with no worker.
 fn empty(alloc: Global, ranks: u32) -> Result<Vec<Option<Server<QueueLink>>>, AllocError>
     ensures { IfOk result (λ places. AreEmpty places.items) }
 {

@@ -4,7 +4,7 @@ ghost use Rattle.ug_serve.specs.Tellings.{HasToldAll, HasToldFront};
 
 use ug_io::{Failed, Link};
 
-/// Tells all the bytes. After a failure a front of them is told.
+/// Sends all the bytes. After a failure a prefix of them is sent.
 #[tactic(auto, using(crate::proofs::Tellings::went_more))]
 pub fn tell_all<L: Link>(link: &mut L, bytes: &[u8]) -> Result<(), Failed>
     ensures all { OnOk result (HasToldAll (L.seen link.old) (L.seen link.new) bytes.now) }

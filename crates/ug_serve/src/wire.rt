@@ -28,9 +28,9 @@ pub struct Wire<L> {
     pub orders: Assembler,
     // What is read into.
     pub input: Vec<u8>,
-    // The frame that is told.
+    // The frame that is sent.
     pub frame: Vec<u8>,
-    // Where among all bytes heard the last order began.
+    // Where among all bytes received the last order began.
     pub at: u64,
     /// How the service ended, where it has.
     pub end: Option<Served>,
@@ -103,8 +103,8 @@ impl<L: Link + Drop> Wire<L> {
         }
     }
 
-    /// Hears more, which it waits for or not, unless the service has ended. False where nothing is
-    /// there.
+    /// Receives more, which it waits for or not, unless the service has ended. False where nothing
+    /// is there.
     pub fn goes_on(&mut self, wait: bool) -> bool
         ensures heard { (stage : Stage) → IsOpen stage
             → stands_as self.old.end (L.seen self.old.link) self.old.orders stage
@@ -123,7 +123,7 @@ impl<L: Link + Drop> Wire<L> {
         }
     }
 
-    /// Tells a report, unless the service has ended.
+    /// Sends a report, unless the service has ended.
     pub fn tell(&mut self, report: Report)
         requires { IsReport report }
         ensures { (old new : Stage) → IsTold old report new
@@ -140,7 +140,7 @@ impl<L: Link + Drop> Wire<L> {
         drop(report);
     }
 
-    // Tells the frame.
+    // Sends the frame.
     fn send(&mut self)
         requires { self.old.end ≡ None }
         ensures { (old new : Stage) (report : Report) → IsTold old report new → IsCarried report
@@ -167,12 +167,12 @@ impl<L: Link + Drop> Wire<L> {
         }
     }
 
-    /// Memory is wanting, unless the service has ended.
+    /// Memory runs out, unless the service has ended.
     pub fn want(&mut self)
         ensures stood { (stage : Stage)
             → stands_as self.old.end (L.seen self.old.link) self.old.orders stage
             → has_ended self.new.end (L.seen self.new.link) }
-        // An order may wait that was not looked at.
+        // An order may wait that was not examined.
         ensures next { (stage : Stage) (order : Order) → self.old.end ≡ None
             → HasNext (L.seen self.old.link) self.old.orders stage order self.old.at
             → has_ended self.new.end (L.seen self.new.link) }
@@ -205,7 +205,7 @@ impl<L: Link + Drop> Wire<L> {
     }
 }
 
-// Hears more, which it waits for or not. False where nothing is there; or how the service ends.
+// Receives more, which it waits for or not. False where nothing is there; or how the service ends.
 fn hear<L: Link>(
     link: &mut L,
     orders: &mut Assembler,
