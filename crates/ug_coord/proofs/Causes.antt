@@ -219,7 +219,7 @@ stands_lives (suc (suc (suc steps))) old new rank stands alive =
     subst (λ (b : BookState). Alive b.ranks rank) (sym stands.given_)
     (given_lives steps stands.ready rank (readied_lives old stands.ready rank stands.readied alive))
 
--- ---- another rank is gone
+-- ---- another rank is lost
 
 lost_lives : (ranks : List ℕ) (raced : Option Entry) (b : BookState) (rank : ℕ) → Lives b (lost_by ranks raced b) rank
 lost_lives (r ∷ rs) raced b rank alive = alive
@@ -242,7 +242,7 @@ killed_at_lives (Dead how) r b rank other alive = alive
 killed_lives : (r : ℕ) (b : BookState) (rank : ℕ) → r ≢ rank → Lives b (killed r b) rank
 killed_lives r b rank other = killed_at_lives (state_at b.ranks r) r b rank other
 
--- ---- a report is heard
+-- ---- a report is received
 
 handed_lives : (state : State) (r : ℕ) (changes : List Change) (b : BookState) (rank : ℕ)
     → Lives b (handed_at state r changes b) rank

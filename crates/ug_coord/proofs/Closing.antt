@@ -1,4 +1,4 @@
--- The end, as each rank is told it.
+-- The end, as each rank is sent it.
 use Rattle.std.proofs.Common.{◌≡◌, inl, inr, ℕ, suc, Bool, true, false, List, [], ◌∷◌, ◌++◌, length, append-nil, Option, None, Some, IfSome, refl, sym, ap, subst, ◌∙◌, arith}
 use Rattle.std.proofs.lemmas.Bool.{cases_lt, false≢true}
 use Rattle.std.proofs.lemmas.List.{get_or_past}
@@ -31,7 +31,7 @@ still_said (Some said) b same = same ∙ ap (λ (all : List Exchange). Some all)
 abbrev closing : Phase → Phase
 closing phase = record { broken = phase.broken; pace = Closing }
 
--- one deed more, by which the rank was told
+-- one deed more, by which the rank was sent
 closes : (from : HubState) (h next : HubSeen) (old new : KeptSeen) (rank : ℕ) (deed : Deed) (more : List Exchange)
     → Adds h.crew.said next.crew.said more
     → ((said : List Exchange) (phase : Phase)
@@ -116,7 +116,7 @@ unclosed_on from h next old new rank silent faults rest k =
     })
     (λ deeds. inr (Contains-push deeds (Unclosed rank))) refl k
 
--- a rank that does not live is not told
+-- a rank that does not live is not reported
 pub away_on : (from : HubState) (h : HubSeen) (old new : KeptSeen) (rank : ℕ)
     → slice_index_or h.crew.lives rank false ≡ false
     → IsClosedBelow rank from h old new → IsClosedBelow (suc rank) from h old new
@@ -129,7 +129,7 @@ away_on from h old new rank away k = record {
   ];
 }
 
--- nothing is to be told below 0
+-- nothing is to be reported below 0
 pub none_closed : (from : HubState) (h : HubSeen) (old new : KeptSeen) → IsKeptIn AnyPhase from h old new
     → IsClosedBelow 0 from h old new
 none_closed from h old new k =

@@ -1,4 +1,4 @@
--- What a coordinator does to the count of the reports that were heard.
+-- What a coordinator does to the count of the reports that were received.
 use Rattle.std.proofs.Common.{◌≡◌, inl, inr, ℕ, zero, suc, ℤ, ◌+◌, ◌<◌, ◌≤◌, ◌^◌, Bool, true, false, List, [], ◌∷◌, Option, None, Some, refl, sym, ap, subst, ◌∙◌, arith}
 use Rattle.std.proofs.lemmas.Bool.{cases_lt}
 use Rattle.std.specs.Prelude.{MatchBool, if◌then◌else◌, nat_lt}
@@ -28,7 +28,7 @@ use Rattle.ug_coord.specs.Ends.{IsOver}
 use Rattle.ug_coord.specs.Hubs.{HearsOne, HubSeen, IsOneMore, IsQuiet}
 use Rattle.ug_coord.proofs.Kept.{run_on, same_of}
 
--- how many reports were heard, and the settings
+-- how many reports were received, and the settings
 record Tally : Type 0 where
   pub heard : ℕ
   pub settings : Settings
@@ -43,7 +43,7 @@ either : (b : Bool) (x y old : BookState) → Same old x → Same old y → Same
 either true x y old one two = one
 either false x y old one two = two
 
--- ---- a rank is gone
+-- ---- a rank is lost
 
 lost_same : (ranks : List ℕ) (raced : Option Entry) (b : BookState) → Same b (lost_by ranks raced b)
 lost_same (r ∷ rs) raced b = refl
@@ -133,7 +133,7 @@ stands_same (suc (suc (suc steps))) old new stands =
 left_same : (old new : BookState) (told : Told) → IsOrderTold old new told → Same old new
 left_same old new told is = ap tally is.rest
 
--- ---- a report is heard
+-- ---- a report is received
 
 handed_same : (state : State) (r : ℕ) (changes : List Change) (b : BookState) → Same b (handed_at state r changes b)
 handed_same Absent r changes b = refl
@@ -271,14 +271,14 @@ hears_after a b c quiet hears = record {
   pacing = hears.pacing ∙ quiet.pacing;
 }
 
--- and then what a step hears
+-- and then what a step receives
 pub steps_after : (result : Bool) (a b c : HubSeen) → IsQuiet a b
     → MatchBool result (HearsOne b c) (IsQuiet b c)
     → MatchBool result (HearsOne a c) (IsQuiet a c)
 steps_after true a b c quiet hears = hears_after a b c quiet hears
 steps_after false a b c quiet hears = quiet_on a b c quiet hears
 
--- ---- no more are heard than may be
+-- ---- no more are received than may be
 
 abbrev pub IsWithin : BookState → Type 0
 IsWithin b = b.heard ≤ b.settings.limit
@@ -287,7 +287,7 @@ same_within : (old new : BookState) → Same old new → IsWithin old → IsWith
 same_within old new same within =
     omega (arith, within, ap (λ (t : Tally). t.heard) same, ap (λ (t : Tally). t.settings.limit) same)
 
--- an end is due where as many were heard as may be
+-- an end is due where as many were received as may be
 below_limit : (b : BookState) → ¬ IsOver b → b.heard < b.settings.limit
 below_limit b more = elim (cases_lt b.heard b.settings.limit) [
   | inl below ↦ below

@@ -82,7 +82,7 @@ on_still phase after b old new deed still does fit on = record {
   fit = fit;
 }
 
--- ---- when something is heard
+-- ---- when something is received
 
 hearing : (said : List Exchange) (phase : Phase) (h : HubSeen) → ¬ IsOver h.book → h.book.orders ≡ []
     → phase.pace ≡ Hearing → AreReadOut h.streams → IsHearing (standing said phase h)
@@ -136,7 +136,7 @@ set_by alive old crew rank set calm =
       crew = record old.crew { lives = slice_set old.crew.lives rank alive; faults = n };
     }) calm
 
--- bytes were told to it
+-- bytes were sent to it
 pub sent_by : (old : HubSeen) (crew : CrewSeen) (rank : ℕ) (bytes : List ℕ)
     → HasSent old.crew crew rank bytes
     → crew.faults ≡ old.crew.faults → HasSentTo old (record old { crew = crew }) rank bytes
@@ -212,7 +212,7 @@ broke_on phase b old new more told decided read faults rest on =
           ∙ sym (ap (λ (h : HubSeen). ranks_of h.book) rest);
     }) on
 
--- and so each rank is gone
+-- and so each rank is lost
 pub lost_on : (phase : Phase) (b : HubState) (old new : HubSeen) (rank : ℕ) → phase.broken ≡ true
     → rank < ranks_of old.book → new ≡ without rank old
     → ranks_of new.book ≡ ranks_of old.book → IsOnAs phase b old → IsOnAs phase b new
@@ -292,7 +292,7 @@ unsent_on phase b before h new told alive left failed on =
     })
     (fit_without (record h { book = before }) new told.rank lives streams ranks on.fit) on
 
--- by what a call that tells came to
+-- by the result of a call that sends
 pub told_on : (sent : Bool) (phase : Phase) (b : HubState) (before : BookState) (h new : HubSeen) (told : Told)
     → IsAlive h.crew told.rank → orders.IsCarried told.order → IsOrderTold before h.book told
     → sent_or_failed sent h new told.rank (orders.spelled told.order)
@@ -319,7 +319,7 @@ launched_on phase b old new rank away rest on =
           ∙ sym (ap (λ (h : HubSeen). ranks_of h.book) rest);
     }) on
 
--- and told the problem
+-- and sent the problem
 abbrev pub set_up_on : (sent : Bool) (phase : Phase) (b : HubState) (old new : HubSeen) (rank : ℕ) (frame : List ℕ)
     → IsAlive old.crew rank → IsSetUpFrame old.book frame → sent_or_failed sent old new rank frame
     → IsOnAs phase b old → IsOnAs phase b new
@@ -477,7 +477,7 @@ lacked_on phase b old new rank more told decided read h book wants pacing on =
           ∙ length-set old.streams rank (shut (slice_index_or old.streams rank first)) ∙ on.fit.streams ∙ sym ranks;
     }) on
 
--- a report, which is heard
+-- a report, which is received
 pub took_on : (phase : Phase) (b : HubState) (old mid new : HubSeen) (rank : ℕ) (stream : Waiting) (report : Report)
     → IsGiven reports.IsCarried reports.spelled (slice_index_or old.streams rank first) stream report
     → mid ≡ record old { streams = slice_set old.streams rank stream } → HasHeardReport mid new rank report
@@ -545,7 +545,7 @@ nonsense_on phase b old mid new rank stream at bad step lost ranks there more to
           ∙ sym wide;
     }) on
 
--- word that a rank is gone
+-- word that a rank is lost
 pub gone_on : (phase : Phase) (b : HubState) (old new : HubSeen) (rank : ℕ)
     → rank < ranks_of old.book → slice_index_or old.crew.lives rank false ≡ true
     → Adds old.crew.said new.crew.said (Gone rank ∷ []) → Rose old.crew.faults new.crew.faults
@@ -653,7 +653,7 @@ fed_by b old new rank more told read h book wants pacing (phase, decided, on) = 
   fed_on phase b old new rank more told decided read h book wants pacing on,
 )
 
--- and memory was wanting to keep them
+-- and memory ran out to keep them
 pub lacked_by : (b : HubState) (old new : HubSeen) (rank : ℕ) → ¬ IsOver old.book → old.book.orders ≡ []
     → AreReadOut old.streams → HasLacked old.crew new.crew old.streams new.streams rank → new.book ≡ old.book
     → new.wants ≡ true → new.pacing ≡ old.pacing → IsOnIn (is_next Hearing) b old → IsOnIn (is_next Reading) b new
@@ -663,7 +663,7 @@ lacked_by b old new rank more told read h book wants pacing (phase, decided, on)
   lacked_on phase b old new rank more told decided read h book wants pacing on,
 )
 
--- word that a rank is gone
+-- word that a rank is lost
 pub gone_by : (b : HubState) (old new : HubSeen) (rank : ℕ) → ¬ IsOver old.book → old.book.orders ≡ []
     → AreReadOut old.streams → HasGone old.crew new.crew old.streams new.streams rank
     → new.book ≡ killed rank old.book → ranks_of new.book ≡ ranks_of old.book → new.wants ≡ old.wants

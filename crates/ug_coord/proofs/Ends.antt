@@ -34,14 +34,14 @@ use Rattle.ug_coord.proofs.Kept.{moves_on, sound_last}
 use Rattle.ug_coord.proofs.Starting.{none_lives}
 use Rattle.ug_coord.proofs.Tries.{each_saved}
 
--- where an end is due for neither of the others, no rank is alive
+-- if an end is due for neither of the others, no rank is alive
 pub stranded : (b : BookState) → ¬ IsAnswered b → b.heard < b.settings.limit → IsOver b
     → IsStranded b
 stranded b held more (inl answered) = absurd (held answered)
 stranded b held more (inr (inl spent)) = absurd (omega (arith, more, spent))
 stranded b held more (inr (inr dead)) = record { held = held; more = more; dead = dead }
 
--- ---- memory was wanting at once
+-- ---- memory ran out at once
 
 pub safe_still : (saver : Option Saver) (disk : DiskSeen) → IsKeptSafe saver disk disk
 safe_still None disk = tt
@@ -137,14 +137,14 @@ safe_moved Covers (Some a) None x y one covers = absurd one
 safe_moved Covers (Some a) (Some b) x y one covers = λ now.
     time_covered Covers (Unit {0}) a b x y one covers now
 
--- no more were heard than may be
+-- no more were received than may be
 at_limit : (end : End) (b : BookState) → is_ended end b → IsWithin b → IfLimited end IsAtLimit
 at_limit (Answered own) b is within = tt
 at_limit (Limited own) b is within = subst IsAtLimit (sym is.0) (omega (arith, is.1.spent, within))
 at_limit (Stranded own) b is within = tt
 at_limit Memory b is within = tt
 
--- where it ended so, the other ends were not due
+-- if it ended so, the other ends were not due
 exactly_so : (end : End) (b : BookState) → is_ended end b → IfBook end (IsExactly end)
 exactly_so (Answered own) b is = record {
   answered = λ so. refl;
@@ -215,7 +215,7 @@ solved_coordinated b faults h old mid disk outcome all is ours saved o own c =
           (all_moved (beginning b faults) h old mid disk outcome e is.ended ours c) sound;
     }
 
--- ---- what stands on the disk
+-- ---- what depends on the disk
 
 kept_moved : (o : Opening) (outcome : Outcome) (a b : Option Saves) (x y : DiskSeen) (Covers : Type 0)
     → IfSome a (IsBegun o) → moves Covers (Unit {0}) a x b y → outcome.missed ≡ missed_by b

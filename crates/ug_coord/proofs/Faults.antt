@@ -1,4 +1,4 @@
--- The count of a crew's faults along the deeds, and what shows that a rank is gone.
+-- The count of a crew's faults along the deeds, and what shows that a rank is lost.
 use Rattle.std.proofs.Common.{◌≡◌, ◌⊎◌, inl, inr, ℕ, ◌≤◌, true, false, List, [], ◌∷◌, ◌++◌, sym, ap, subst, ◌∙◌, arith}
 use Rattle.std.proofs.lemmas.Bool.{cases_lt, false≢true}
 use Rattle.std.proofs.lemmas.List.Elements.{Contains-append_left, Contains-append_right, Contains-push}
@@ -113,7 +113,7 @@ told_so start old Unread new does since so =
 told_so start old Saved new does since so =
     still_so start old new (ap (λ (s : HubState). s.broken) does.rest) (faults_up old Saved new does) so
 
--- ---- what shows that a rank is gone
+-- ---- what shows that a rank is lost
 
 alone : (deed : Deed) → Contains (deed ∷ []) deed
 alone deed = Contains-push [] deed

@@ -1,4 +1,4 @@
--- How what is saved goes on beside the deeds.
+-- How what is saved continues beside the deeds.
 use Rattle.std.proofs.Common.{◌≡◌, ℕ, ◌+◌, ◌≤◌, List, [], ◌∷◌, ◌++◌, length, Option, None, Some, IfSome, refl, sym, ap, subst, ◌∙◌, arith}
 use Rattle.ug_disk.specs.Histories.{DiskSeen}
 use Rattle.ug_rules.specs.State.{BookState}
@@ -26,7 +26,7 @@ course_joined a [] b more c same then = subst (λ (s : HubState). IsCourse s mor
 course_joined a (deed ∷ deeds) b more c (mid, does, rest) then =
     (mid, does, course_joined mid deeds b more c rest then)
 
--- a front of what is sound is
+-- a prefix of what is sound is
 sound_first : (a : HubState) (more : List Deed) (c : HubState) (course : IsCourse a more c)
     → AreSound a more c course → IsSoundBook a.book
 sound_first a [] c course sound = sound
@@ -166,7 +166,7 @@ pub none_saved : (old : HubState) (deeds : List Deed) (new : HubState) → IsCou
 none_saved old deeds new course same =
     omega (arith, course_saves old deeds new course, ap (λ (p : Pacing). p.since) same)
 
--- a save is not due where it was not, and no report was heard
+-- a save is not due where it was not, and no report was received
 pub unsaved : (old new : BookState) (a b : Pacing) → new.settings ≡ old.settings → new.heard ≡ old.heard → b ≡ a
     → ¬ IsSaveDue a old → ¬ IsSaveDue b new
 unsaved old new a b settings heard same none due = none (record {

@@ -68,7 +68,7 @@ told_as false phase b old mid new rank frame away rest alive setup came k = reco
       ∙ set_later old.crew.lives rank other true past (k.later other (omega (arith, past))));
 }
 
--- it was started, and told the problem or not
+-- it was started, and sent the problem or not
 pub started_as : (sent : Bool) (phase : Phase) (b : HubState) (old mid new : HubSeen) (rank : ℕ) (frame : List ℕ)
     → rank < length old.crew.lives
     → mid ≡ record old { crew = record old.crew { lives = slice_set old.crew.lives rank true } }

@@ -7,8 +7,8 @@ use Rattle.ug_rules.specs.declared.heard.Heard.{Heard}
 use Rattle.ug_rules.specs.Hearing.{is_deadly}
 use Rattle.ug_coord.specs.Deeds.{Deed, Lost, Nonsense, Took, Unsent}
 
--- with the deed the rank is taken for gone: the crew says so, a call for it or a turn failed, or
--- what came from it is no report; an order could not be told to it; or a report of it cannot be so
+-- with the deed the rank is lost: the crew says so, a call for it or a turn failed, or its bytes
+-- are not a report; an order could not be sent to it; or its report cannot be true
 abbrev pub IsEndOf : ℕ → Deed → Type 0
 IsEndOf rank (Took other report answer) = (other ≡ rank) × (is_deadly answer ≡ true)
 IsEndOf rank (Lost other cause) = other ≡ rank
@@ -32,6 +32,6 @@ pub record HasDeadlyAnswer (rank : ℕ) (deeds : List Deed) : Type 0 where
 abbrev pub IsAtFault : ℕ → List Deed → Type 0
 IsAtFault rank deeds = Contains deeds (Lost rank Nonsense) ⊎ HasDeadlyAnswer rank deeds
 
--- so it is, or the crew failed, as its count of faults tells, in which a rank that ended counts too
+-- so it is, or the crew failed, as its count of faults shows, in which a rank that ended counts too
 abbrev pub IsShownGone : ℕ → ℕ → ℕ → List Deed → Type 0
 IsShownGone before after rank deeds = Rose before after ⊎ IsAtFault rank deeds

@@ -27,9 +27,9 @@ use Rattle.ug_coord.specs.declared.pacing.Pacing.{Pacing}
 use Rattle.ug_coord.specs.Ends.{IsOver}
 use Rattle.ug_coord.specs.Pacing.{IsSaveDue, saved_at}
 
--- what a coordinator does next: it decides; or it was decided, and it hears what comes; or
--- something came, and it reads what that is; or a turn failed, or the end is told, and it does
--- neither any more
+-- what a coordinator does next: it decides; or it has decided, and it receives what comes; or
+-- something came, and it reads what that is; or a turn failed, or the end is being sent, and it
+-- does neither any more
 pub data Pace : Type 0 where
   Deciding : Pace
   Hearing : Pace
@@ -43,16 +43,16 @@ MayDecide Hearing = ⊥
 MayDecide Reading = Unit {0}
 MayDecide Closing = ⊥
 
--- what is there may be read
+-- the bytes that are there may be read
 abbrev pub MayBeRead : Pace → Type 0
 MayBeRead Deciding = ⊥
 MayBeRead Hearing = Unit {0}
 MayBeRead Reading = Unit {0}
 MayBeRead Closing = ⊥
 
--- what was heard and told and who is gone; who lives; how often the crew failed, and whether a turn
--- did; whether memory was wanting; what comes next; when the next save may come; the bytes of each
--- rank of which no report was taken yet; and the book
+-- the events of the crew; which ranks are alive; how often the crew failed, and whether a turn did;
+-- whether memory ran out; what comes next; when the next save may come; the bytes of each rank of
+-- which no report was taken yet; and the book
 pub record HubState : Type 0 where
   pub said : List Exchange
   pub lives : List Bool
@@ -64,19 +64,18 @@ pub record HubState : Type 0 where
   pub streams : List Waiting
   pub book : BookState
 
--- why a rank is taken for gone: the crew says so; a call of the crew failed; or what came from it
--- is no report
+-- why a rank is lost: the crew says so; a call of the crew failed; or its bytes are not a report
 pub data Cause : Type 0 where
   Ended : Cause
   Failed : Cause
   Nonsense : Cause
 
--- A rank was started; an order that is none of the book's was told to it: the problem, or the end;
--- bytes came from it; a report of it was heard, and so answered; it is gone; it was decided; an
--- order of the book was told to its rank, or could not be, or was passed over; a turn failed; the
--- end could not be told; and memory was wanting: so many steps of a decision stand, an order of the
--- book could not be put into bytes, the bytes that came from a rank could not be kept, or a report
--- could not be read. Or the book was saved, if it is to be.
+-- A rank was started; the problem or the end was sent to it; bytes came from it; a report of it was
+-- received, and so answered; it is lost; a decision was made; an order of the book was sent to its
+-- rank, or could not be, or was dropped; a turn failed; the end could not be sent; and memory ran
+-- out: the first steps of a decision stand, an order of the book could not be put into bytes, the
+-- bytes that came from a rank could not be kept, or a report could not be read. Or the book was
+-- saved, if it is to be.
 pub data Deed : Type 0 where
   Launched : ℕ → Deed
   SetUp : ℕ → List ℕ → Deed
@@ -111,8 +110,8 @@ pub record HasMore (w : Waiting) : Type 0 where
 abbrev pub AreReadOut : List Waiting → Type 0
 AreReadOut streams = (rank : ℕ) → ¬ HasMore (slice_index_or streams rank first)
 
--- No end is due, and no order waits: each was told to its rank, or that failed, or the rank is
--- gone.
+-- No end is due, and no order is queued: each was sent to its rank, or that failed, or the rank is
+-- lost.
 pub record IsSettled (b : BookState) : Type 0 where
   pub more : ¬ IsOver b
   pub told : b.orders ≡ []
@@ -144,12 +143,12 @@ pub record IsSetUp (old new : HubState) (rank : ℕ) (bytes : List ℕ) : Type 0
     said = old.said ++ told_to rank (orders.spelled (Setup old.book.settings.gap bytes));
   }
 
--- where memory is not wanting now, it was not before, nor for what is answered
+-- if memory has not run out now, it had not before, nor for the answer
 pub record IsMoreWanted (answer : Heard) (old new : Bool) : Type 0 where
   pub before : new ≡ false → old ≡ false
   pub now : new ≡ false → answer ≢ Memory
 
--- a report was given by the bytes of its rank, and heard
+-- a report was given by the bytes of its rank, and received
 pub record IsTaken (old new : HubState) (rank : ℕ) (report : Report) (answer : Heard)
     : Type 0 where
   pub there : rank < length old.book.ranks
@@ -187,7 +186,7 @@ pub record HasEnded (old new : HubState) (rank : ℕ) : Type 0 where
 abbrev pub IsFault : HubState → HubState → Type 0
 IsFault old new = ((old.broken ≡ true) × (new.faults ≡ old.faults)) ⊎ Rose old.faults new.faults
 
--- why it is gone, and what the crew says of it then
+-- why it is lost, and what the crew says of it then
 abbrev pub IsCause : HubState → HubState → ℕ → Cause → Type 0
 IsCause old new rank Ended = HasEnded old new rank
 IsCause old new rank Failed = (new.said ≡ old.said) × IsFault old new × (new.streams ≡ old.streams)
@@ -199,7 +198,7 @@ next_after Ended pace = Deciding
 next_after Failed pace = pace
 next_after Nonsense pace = Deciding
 
--- the rank is gone, to the book too, and does not live any more
+-- the rank is lost, to the book too, and is not alive any more
 pub record IsLost (old new : HubState) (rank : ℕ) (cause : Cause) : Type 0 where
   pub there : rank < length old.book.ranks
   pub why : IsCause old new rank cause
@@ -210,7 +209,7 @@ pub record IsLost (old new : HubState) (rank : ℕ) (cause : Cause) : Type 0 whe
   pub pacing : new.pacing ≡ old.pacing
   pub book : new.book ≡ killed rank old.book
 
--- the earliest order of the book was told to its rank
+-- the first queued order of the book was sent to its rank
 pub record IsSent (old new : HubState) (rank : ℕ) (order : Order) : Type 0 where
   pub alive : lives_at old rank ≡ true
   pub carried : orders.IsCarried order
@@ -226,7 +225,7 @@ pub record IsPassed (old new : HubState) (rank : ℕ) (order : Order) : Type 0 w
   pub told : IsOrderTold old.book new.book (record { rank = rank; order = order })
   pub rest : new ≡ record old { book = new.book }
 
--- it could not be told, so its rank is gone
+-- it could not be sent, so its rank is lost
 pub record IsUnsent (old new : HubState) (rank : ℕ) (order : Order) : Type 0 where
   pub there : rank < length old.book.ranks
   pub alive : lives_at old rank ≡ true
@@ -245,7 +244,7 @@ pub record IsUnwritten (old new : HubState) (rank : ℕ) (order : Order) : Type 
   pub told : IsOrderTold old.book new.book (record { rank = rank; order = order })
   pub rest : new ≡ record old { wants = true; book = new.book }
 
--- bytes came, and stand in the stream of their rank
+-- bytes came, and are in the stream of their rank
 pub record IsFed (old new : HubState) (rank : ℕ) (bytes : List ℕ) : Type 0 where
   pub hearing : IsHearing old
   pub alive : lives_at old rank ≡ true
@@ -255,7 +254,7 @@ pub record IsFed (old new : HubState) (rank : ℕ) (bytes : List ℕ) : Type 0 w
     pace = Reading;
   }
 
--- bytes came, and memory was wanting to keep them, so no more is read of their rank
+-- bytes came, and memory ran out while keeping them, so nothing more is read of their rank
 pub record IsUnfed (old new : HubState) (rank : ℕ) (bytes : List ℕ) : Type 0 where
   pub hearing : IsHearing old
   pub alive : lives_at old rank ≡ true
@@ -266,14 +265,14 @@ pub record IsUnfed (old new : HubState) (rank : ℕ) (bytes : List ℕ) : Type 0
     pace = Reading;
   }
 
--- it was decided, or so many steps of that stand; and whether memory is wanting then
+-- it was decided, or the first steps of that stand; and whether memory ran out then
 pub record HasDecided (Is : BookState → BookState → Type 0) (wants : Bool) (old new : HubState)
     : Type 0 where
   pub deciding : IsDeciding old
   pub is : Is old.book new.book
   pub rest : new ≡ record old { wants = wants; book = new.book; pace = Hearing }
 
--- the end was told to a rank that lives
+-- the end was sent to a live rank
 pub record IsClosed (old new : HubState) (rank : ℕ) : Type 0 where
   pub alive : lives_at old rank ≡ true
   pub rest : new ≡ record old {
@@ -286,7 +285,7 @@ pub record IsUnclosed (old new : HubState) : Type 0 where
   pub faults : Rose old.faults new.faults
   pub rest : new ≡ record old { faults = new.faults; pace = Closing }
 
--- a turn failed, so nothing is decided or heard any more: the run ends once each rank is gone
+-- a turn failed, so nothing is decided or received any more: the run ends once each rank is lost
 pub record HasBroken (old new : HubState) : Type 0 where
   pub hearing : IsHearing old
   pub faults : Rose old.faults new.faults
@@ -318,7 +317,7 @@ Does old (Unfed rank bytes) new = IsUnfed old new rank bytes
 Does old Unread new = IsReading old × (new ≡ record old { wants = true; pace = Deciding })
 Does old Kept new = IsKept old new
 
--- the end was told to the rank in one of the deeds, or that failed
+-- the end was sent to the rank in one of the deeds, or that failed
 abbrev pub IsToldEnd : ℕ → List Deed → Type 0
 IsToldEnd rank deeds = Contains deeds (Closed rank) ⊎ Contains deeds (Unclosed rank)
 

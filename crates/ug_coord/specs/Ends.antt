@@ -19,17 +19,17 @@ AllDead b = (rank : ℕ) → rank < ranks_of b → is_alive (state_at b.ranks ra
 abbrev pub IsAnswered : BookState → Type 0
 IsAnswered b = held_nodes b ≡ []
 
--- a node is held, fewer reports were heard than may be, and no rank is alive
+-- a node is held, the limit of reports is not reached, and no rank is alive
 pub record IsStranded (b : BookState) : Type 0 where
   pub held : held_nodes b ≢ []
   pub more : b.heard < b.settings.limit
   pub dead : AllDead b
 
--- an end is due: no node is held, as many reports were heard as may be, or no rank is alive
+-- an end is due: no node is held, the limit of reports is reached, or no rank is alive
 abbrev pub IsOver : BookState → Type 0
 IsOver b = IsAnswered b ⊎ ((b.settings.limit ≤ b.heard) ⊎ AllDead b)
 
--- just as many reports were heard as may be
+-- the limit of reports is reached exactly
 abbrev pub IsAtLimit : BookState → Type 0
 IsAtLimit b = b.heard ≡ b.settings.limit
 

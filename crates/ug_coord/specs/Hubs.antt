@@ -54,8 +54,8 @@ pub record HasCome (from now : HubState) : Type 0 where
 abbrev pub StaysSound : (from now : HubState) → HasCome from now → Type 0
 StaysSound from now come = AreSound from come.deeds now come.course
 
--- what is seen of a coordinator: its crew, whether memory was wanting, when the next save may come,
--- the bytes of each rank of which no report was taken yet, and its book
+-- a coordinator as it is seen: its crew, whether memory ran out, when the next save may come, the
+-- bytes of each rank of which no report was taken yet, and its book
 pub record HubSeen : Type 0 where
   pub crew : CrewSeen
   pub wants : Bool
@@ -63,12 +63,12 @@ pub record HubSeen : Type 0 where
   pub streams : List Waiting
   pub book : BookState
 
--- bytes were told to the rank, and nothing else changed
+-- bytes were sent to the rank, and nothing else changed
 pub record HasSentTo (old new : HubSeen) (rank : ℕ) (bytes : List ℕ) : Type 0 where
   pub said : Adds old.crew.said new.crew.said (told_to rank bytes)
   pub rest : new ≡ record old { crew = record old.crew { said = new.crew.said } }
 
--- a call for the rank failed, and it is gone, to the book too
+-- a call for the rank failed, and it is lost, to the book too
 pub record HasFailed (old new : HubSeen) (rank : ℕ) : Type 0 where
   pub there : rank < ranks_of old.book
   pub faults : Rose old.crew.faults new.crew.faults
@@ -81,14 +81,14 @@ pub record HasFailed (old new : HubSeen) (rank : ℕ) : Type 0 where
     book = killed rank old.book;
   }
 
--- the rank is gone, to the book too
+-- the rank is lost, to the book too
 abbrev pub without : ℕ → HubSeen → HubSeen
 without rank h = record h {
   crew = record h.crew { lives = slice_set h.crew.lives rank false };
   book = killed rank h.book;
 }
 
--- so many bytes are told, or a call failed
+-- these bytes were sent, or a call failed
 abbrev pub sent_or_failed : Bool → HubSeen → HubSeen → ℕ → List ℕ → Type 0
 sent_or_failed true old new rank bytes = HasSentTo old new rank bytes
 sent_or_failed false old new rank bytes = HasFailed old new rank
@@ -123,7 +123,7 @@ standing said phase h = record {
   book = h.book;
 }
 
--- deeds led here from that state, and the crew, where it tells what was said, tells the same
+-- deeds led here from that state, and the crew, if it shows its events, shows the same
 pub record IsOnAs (phase : Phase) (from : HubState) (h : HubSeen) : Type 0 where
   pub said : List Exchange
   pub come : HasCome from (standing said phase h)
@@ -142,11 +142,11 @@ is_next pace phase = phase.pace ≡ pace
 abbrev pub IsRested : Phase → Type 0
 IsRested phase = MayDecide phase.pace
 
--- what is there may be read
+-- the bytes that are there may be read
 abbrev pub MayRead : Phase → Type 0
 MayRead phase = MayBeRead phase.pace
 
--- a turn failed, and nothing is decided or heard any more
+-- a turn failed, and nothing is decided or received any more
 pub record IsBrokenOff (phase : Phase) : Type 0 where
   pub broken : phase.broken ≡ true
   pub closing : phase.pace ≡ Closing
@@ -164,8 +164,8 @@ pub record IsStartedAs (n : ℕ) (phase : Phase) (from : HubState) (h : HubSeen)
 abbrev pub IsStartedIn : (Phase → Type 0) → ℕ → HubState → HubSeen → Type 0
 IsStartedIn P n from h = (phase : Phase) × P phase × IsStartedAs n phase from h
 
--- and what is saved went on beside them, a save tried in each deed that is one: where each book of
--- them was sound, all stays Covered
+-- and the saves continued beside them, with one save tried in each deed that is one: if each book
+-- of them was sound, everything stays Covered
 pub record IsKeptIn (P : Phase → Type 0) (from : HubState) (h : HubSeen) (old new : KeptSeen)
     : Type 0 where
   pub phase : Phase
@@ -174,7 +174,7 @@ pub record IsKeptIn (P : Phase → Type 0) (from : HubState) (h : HubSeen) (old 
   pub moves : Moves (StaysSound from (standing on.said phase h) on.come) (Unit {0}) old new
   pub tried : HasTried (saves_in on.come.deeds) old new
 
--- the end was told to each rank below n that lives, or that failed
+-- the end was sent to each live rank below n, or that failed
 pub record IsClosedBelow (n : ℕ) (from : HubState) (h : HubSeen) (old new : KeptSeen) : Type 0 where
   pub kept : IsKeptIn AnyPhase from h old new
   pub closed : (rank : ℕ) → rank < n → slice_index_or h.crew.lives rank false ≡ true
@@ -192,10 +192,9 @@ pub record IsFresh (seen : CrewSeen) (ranks : ℕ) : Type 0 where
   pub said : IfSome seen.said (λ said. said ≡ [])
   pub lives : seen.lives ≡ replicate ranks false
 
--- Deeds led from that state to one with this book, and memory was wanting or not. The crew,
--- where it tells what was said, tells the same, and has failed as often. Each rank that lives was
--- told the end, or that failed. What is saved went on beside them, a save tried in each deed that
--- is one.
+-- Deeds led from that state to one with this book, and memory ran out or not. The crew, if it shows
+-- its events, shows the same, and has failed as often. Each live rank was sent the end, or that
+-- failed. The saves continued beside them, with one save tried in each deed that is one.
 pub record EndsFrom (from : HubState) (h : HubSeen) (old new : KeptSeen) : Type 0 where
   pub now : HubState
   pub come : HasCome from now
@@ -214,13 +213,13 @@ pub record StartsAndEnds (ranks : ℕ) (from : HubState) (h : HubSeen) (old new 
   pub ends : EndsFrom from h old new
   pub started : AreStarted ranks ends.come.deeds
 
--- How the work ended: deeds led from the beginning with this book and a crew that had failed so
--- often to the end, none where memory was wanting for the book itself. The first of them start each
--- rank. The crew, where it tells what was said, tells the same, and has failed as often. Each rank
--- that lives was told the end, or that failed. It ended so just where that was due. Memory was
--- wanting in none of the deeds where there is a book, and no save is due any more. Each rank that
--- is dead is so for a cause, which the count of faults shows, or what came from it. So many saves
--- were tried as there are deeds that are one. Where each book of them was sound, it was safe.
+-- How the work ended: deeds led from the beginning with this book and a crew that had failed this
+-- often to the end, none if memory ran out for the book itself. The first of them start each rank.
+-- The crew, if it shows its events, shows the same, and has failed as often. Each live rank was
+-- sent the end, or that failed. It ended so exactly when that was due. Memory ran out in none of
+-- the deeds if there is a book, and no save is due any more. Each dead rank is so for a cause,
+-- which the count of faults shows, or its bytes. As many saves were tried as there are deeds that
+-- are one. If each book of them was sound, it was safe.
 pub record HasCoordinated (b : BookState) (faults : ℕ) (seen : CrewSeen) (end : End)
     (Tried : ℕ → Type 0) (Safe : Type 0) : Type 0 where
   pub now : HubState
@@ -249,19 +248,19 @@ pub record HasCoordinated (b : BookState) (faults : ℕ) (seen : CrewSeen) (end 
 abbrev pub IsOneMore : ℕ → ℕ → Type 0
 IsOneMore old new = (new ≡ old) ⊎ (new ≡ old + 1)
 
--- the run is the same, no report was heard, and the next save may come when it might before
+-- the run is the same, no report was received, and the next save may come when it might before
 pub record IsQuiet (old new : HubSeen) : Type 0 where
   pub run : IsSameRun old.book new.book
   pub heard : new.book.heard ≡ old.book.heard
   pub pacing : new.pacing ≡ old.pacing
 
--- so it is, but that one report may have been heard
+-- so it is, but one report may have been received
 pub record HearsOne (old new : HubSeen) : Type 0 where
   pub run : IsSameRun old.book new.book
   pub heard : IsOneMore old.book.heard new.book.heard
   pub pacing : new.pacing ≡ old.pacing
 
--- what is saved keeps up with the book: no save is due, and it is of the book's run
+-- the saves keep up with the book: no save is due, and they are of the book's run
 pub record KeepsUp (h : HubSeen) (k : KeptSeen) : Type 0 where
   pub saved : ¬ IsSaveDue h.pacing h.book
   pub keeper : IsKeeperOf k h.book
@@ -278,7 +277,7 @@ pub record HasReadAll (old new : HubSeen) (rank : ℕ) : Type 0 where
   pub read : AreReadOut new.streams
   pub nothing : new.book ≡ old.book
 
--- a report of the rank was heard, and so answered
+-- a report of the rank was received, and so answered
 pub record HasHeardReport (old new : HubSeen) (rank : ℕ) (report : Report) : Type 0 where
   pub there : rank < ranks_of old.book
   pub answer : Heard

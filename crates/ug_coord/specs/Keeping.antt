@@ -1,4 +1,4 @@
--- What is saved of a coordinator's book, if it is to be saved, and how that goes on.
+-- The saves of a coordinator's book, if there are any, over time.
 use Rattle.std.specs.Prelude.{◌≡◌, ◌⊎◌, ◌≤◌, ◌+◌, ◌-◌, ◌^◌, ℕ, Option, None, Some, IfSome, IsNone}
 use Rattle.std.specs.Prelude.{IsSomeAnd}
 use Rattle.ug_disk.specs.Crashes.{Leaves}
@@ -31,7 +31,7 @@ pub record KeptSeen : Type 0 where
 abbrev pub IsKeptBy : KeptSeen → Type 0
 IsKeptBy k = IfSome k.saves (λ s. IsKept (saver_of s) k.disk.told)
 
--- what is saved is of this book's run
+-- the saves are of this book's run
 abbrev pub IsOurs : KeptSeen → BookState → Type 0
 IsOurs k b = IfSome k.saves (λ s. IsSameRun (book_of s) b)
 
@@ -40,7 +40,7 @@ pub record IsKeeperOf (k : KeptSeen) (b : BookState) : Type 0 where
   pub kept : IsKeptBy k
   pub ours : IsOurs k b
 
--- the saves go on; without a saver the disk is not touched
+-- the saves continue; without a saver the disk is not touched
 abbrev pub moves : Type 0 → Type 0 → Option Saves → DiskSeen → Option Saves → DiskSeen → Type 0
 moves Covers Ours None old None new = new ≡ old
 moves Covers Ours None old (Some after) new = ⊥
@@ -61,16 +61,16 @@ end_kept end last (Some before) old (Some after) new = IfBook end (λ b.
 abbrev pub IsEndKept : End → Option Attempt → KeptSeen → KeptSeen → Type 0
 IsEndKept end last old new = end_kept end last old.saves old.disk new.saves new.disk
 
--- how many saves were tried: those that were acknowledged, each under the next sequence, those
--- missed, and those for which memory was wanting
+-- the number of saves tried: those acknowledged, each under the next sequence, those missed, and
+-- those for which memory ran out
 abbrev pub tried_of : Saves → ℕ
 tried_of saves = sequence_at saves + missed_of saves + unsaved_of saves
 
--- a count of saves that failed stands at its greatest value
+-- a count of failed saves is at its largest value
 abbrev pub IsFull : ℕ → ℕ → Type 0
 IsFull missed unsaved = (2 ^ 64 - 1 ≤ missed) ⊎ (2 ^ 64 - 1 ≤ unsaved)
 
--- so many saves more were tried, and no count of those that failed fell
+-- this many more saves were tried, and no count of failed ones fell
 pub record Tries (count : ℕ) (before after : Saves) : Type 0 where
   pub more : (tried_of after ≡ tried_of before + count)
       ⊎ IsFull (missed_of after) (unsaved_of after)
@@ -87,7 +87,7 @@ has_tried count (Some before) (Some after) = Tries count before after
 abbrev pub HasTried : ℕ → KeptSeen → KeptSeen → Type 0
 HasTried count old new = has_tried count old.saves new.saves
 
--- how many saves were missed, and how many were not made for want of memory
+-- the number of saves missed, and the number not made because memory ran out
 abbrev pub missed_by : Option Saves → ℕ
 missed_by None = 0
 missed_by (Some saves) = missed_of saves
@@ -114,14 +114,14 @@ abbrev pub savers : Option Saves → Option Saver
 savers None = None
 savers (Some saves) = Some (saver_of saves)
 
--- where all was Covered with the saver, it stays so at each moment
+-- if everything was Covered with the saver, it stays so at each moment
 abbrev pub IsKeptSafe : Option Saver → DiskSeen → DiskSeen → Type 0
 IsKeptSafe saver old new =
     IfSome saver (λ s. IsCoveredNow s old.told → AllCovered old.told new.told)
 
--- So many saves were tried while it worked, and one of the ending book: each that succeeded has the
--- next sequence, and the others are counted. Where the last one succeeded, recovery finds the
--- ending book's image under that sequence.
+-- The number of saves tried while it worked, and one of the final book: each that succeeded has the
+-- next sequence, and the others are counted. If the last one succeeded, recovery finds the final
+-- book's image under that sequence.
 pub record IsEachSaved (saver : Saver) (count : ℕ) (outcome : Outcome) (told : Option History)
     (b : BookState) : Type 0 where
   pub sequence : ℕ
@@ -134,9 +134,9 @@ abbrev pub AreEachSaved : Option Saver → Outcome → DiskSeen → ℕ → Type
 AreEachSaved saver outcome new count =
     IfSome saver (λ s. IfBook outcome.end (IsEachSaved s count outcome new.told))
 
--- What stands on the disk at the end. Without a saver it was not touched. With one the ending book
--- is saved, or that is counted; where recovery found an image of the run, it does so at each
--- moment; and saves are missed as often as the disk failed.
+-- The state of the disk at the end. Without a saver it was not touched. With one the final book is
+-- saved, or that is counted; if recovery found an image of the run, it does so at each moment; and
+-- saves are missed as often as the disk failed.
 pub record HasKept (b : BookState) (saver : Option Saver) (outcome : Outcome) (old new : DiskSeen)
     : Type 0 where
   pub untouched : IsNone saver → IsUntouched outcome old new
@@ -145,13 +145,13 @@ pub record HasKept (b : BookState) (saver : Option Saver) (outcome : Outcome) (o
       → Leaves (FindsIn (IsOfRun b)) old.told new.told)
   pub missed : IsMissedByFaults outcome old new
 
--- memory was wanting before anything was done
+-- memory ran out before anything was done
 pub record IsNothing (outcome : Outcome) : Type 0 where
   pub ended : outcome.end ≡ Memory
   pub missed : outcome.missed ≡ 0
   pub unsaved : outcome.unsaved ≡ 0
 
--- the ending book was saved, if it was to be, and the outcome tells what became of all saves
+-- the final book was saved, if it was to be, and the outcome says what became of all saves
 pub record HasConcluded (outcome : Outcome) (old : KeptSeen) (disk : DiskSeen) : Type 0 where
   pub saves : Option Saves
   pub moves : Moves (IfBook outcome.end IsSoundBook) (IfBook outcome.end (IsOurs old)) old

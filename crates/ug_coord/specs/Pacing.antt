@@ -8,7 +8,7 @@ use Rattle.ug_coord.specs.declared.pacing.Pacing.{Pacing}
 abbrev pub is_due : ℕ → ℕ → Bool
 is_due every count = (if nat_eq every 0 then false else nat_eq (count % every) 0)
 
--- since the last save a report was heard, and as many as are to lie between two
+-- since the last save a report was received, and as many as must lie between two
 pub record IsApart (pacing : Pacing) (heard : ℕ) : Type 0 where
   pub since : pacing.since < heard
   pub apart : pacing.since + pacing.apart ≤ heard
@@ -18,8 +18,8 @@ pub record IsSaveDue (pacing : Pacing) (b : BookState) : Type 0 where
   pub may : IsApart pacing b.heard
   pub due : is_due b.settings.every b.heard ≡ true
 
--- how many reports lie at least between a save with so many open nodes and the next: eight for each
--- node, as far as a number of 64 bits goes
+-- the least number of reports between a save with this number of open nodes and the next: eight for
+-- each node, as far as a number of 64 bits goes
 abbrev pub apart_after : ℕ → ℕ
 apart_after nodes = min (nodes * 8) (2 ^ 64 - 1)
 

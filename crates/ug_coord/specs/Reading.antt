@@ -1,4 +1,4 @@
--- What is read of the stream of a rank.
+-- Reading the stream of a rank.
 use Rattle.std.specs.Prelude.{◌≡◌, ◌<◌, ℕ, List, Option, Some, length, slice_index_or, slice_set}
 use Rattle.std.specs.Option.{ForSome}
 use Rattle.ug_io.specs.Crews.{Adds, CrewSeen, HasLost, IsAlive, IsSilent, heard_from}
@@ -38,7 +38,7 @@ pub record HasFed (old new : CrewSeen) (before after : List Waiting) (rank : ℕ
   pub faults : new.faults ≡ old.faults
   pub streams : after ≡ slice_set before rank (fed (slice_index_or before rank first) bytes)
 
--- bytes came from a rank that lives, and memory was wanting to keep them: its stream is shut
+-- bytes came from a live rank, and memory ran out while keeping them: its stream is shut
 pub record HasLacked (old new : CrewSeen) (before after : List Waiting) (rank : ℕ) : Type 0 where
   pub bytes : List ℕ
   pub alive : IsAlive old rank
@@ -47,7 +47,7 @@ pub record HasLacked (old new : CrewSeen) (before after : List Waiting) (rank : 
   pub faults : new.faults ≡ old.faults
   pub streams : after ≡ slice_set before rank (shut (slice_index_or before rank first))
 
--- a rank that lived is gone
+-- a live rank is lost
 pub record HasGone (old new : CrewSeen) (before after : List Waiting) (rank : ℕ) : Type 0 where
   pub lost : HasLost old new rank
   pub streams : after ≡ before
@@ -58,7 +58,7 @@ pub record HasBroken (old new : CrewSeen) (before after : List Waiting) : Type 0
   pub faults : Rose old.faults new.faults
   pub streams : after ≡ before
 
--- what a turn came to
+-- the result of a turn
 abbrev pub HasTaken : CrewSeen → CrewSeen → List Waiting → List Waiting → Turn → Type 0
 HasTaken old new before after (Fed rank) = HasFed old new before after rank
 HasTaken old new before after (Gone rank) = HasGone old new before after rank

@@ -4,7 +4,7 @@ use Rattle.ug_restart.specs.declared.outcome.End.{End}
 use Rattle.ug_restart.specs.declared.outcome.End.TheVariants.{Memory}
 use Rattle.ug_coord.specs.Deeds.{Deed, Failed, Launched, Lost, SetUp}
 
--- the rank was started and told the problem, in these deeds; or that could not be told, or it could
+-- the rank was started and sent the problem, in these deeds; or that could not be sent, or it could
 -- not be started, and then it is lost
 abbrev pub IsStart : ℕ → List Deed → Type 0
 IsStart rank deeds =
@@ -17,13 +17,13 @@ AreStarts zero deeds = deeds ≡ []
 AreStarts (suc n) deeds = (before its : List Deed)
     × (deeds ≡ before ++ its) × AreStarts n before × IsStart n its
 
--- of so many ranks each was started, or that failed, before anything else was done
+-- each of the ranks was started, or that failed, before anything else was done
 pub record AreStarted (ranks : ℕ) (deeds : List Deed) : Type 0 where
   pub starts : List Deed
   pub are : AreStarts ranks starts
   pub rest : List Deed
   pub split : deeds ≡ starts ++ rest
 
--- so it is, unless memory was wanting before anything was done
+-- so it is, unless memory ran out before anything was done
 abbrev pub HasStarted : ℕ → List Deed → End → Type 0
 HasStarted ranks deeds end = AreStarted ranks deeds ⊎ ((deeds ≡ []) × (end ≡ Memory))

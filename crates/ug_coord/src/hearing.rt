@@ -1,4 +1,4 @@
-//! What a coordinator hears of its crew, a report at a time.
+//! Receiving: a coordinator takes the reports of its crew, one at a time.
 
 ghost use Rattle.std.specs.Prelude.{◌≡◌, ◌<◌, false, MatchBool};
 ghost use Rattle.ug_rules.specs.Hearing.{IsHearable};
@@ -21,8 +21,8 @@ use ug_stream::Next;
 impl<R, O: Observer, C: Crew> Hub<'_, R, O, C> {
     ghost use Rattle.ug_coord.specs.HubViews.{hub_seen};
 
-    /// Hears a report that is there, or waits until something comes. False where that failed, and
-    /// all ranks are gone.
+    /// Receives a report that has arrived, or waits until something comes. Returns false if that
+    /// failed, and all ranks are lost.
     pub fn listen(&mut self) -> bool
         requires on { (from : HubState) × IsOnIn (is_next Hearing) from (hub_seen C.seen self.old) }
         requires settled { IsSettled self.old.book }
@@ -45,8 +45,8 @@ impl<R, O: Observer, C: Crew> Hub<'_, R, O, C> {
         true
     }
 
-    // Waits until something comes, and hears the first report of it. False where that failed, and
-    // all ranks are gone.
+    // Waits until something comes, and receives the first report of it. Returns false if that
+    // failed, and all ranks are lost.
     fn turn(&mut self) -> bool
         requires on { (from : HubState) × IsOnIn (is_next Hearing) from (hub_seen C.seen self.old) }
         requires settled { IsSettled self.old.book }
@@ -82,8 +82,8 @@ impl<R, O: Observer, C: Crew> Hub<'_, R, O, C> {
         }
     }
 
-    // Hears the next report of the rank, or that what came is none. False where all of it was
-    // heard.
+    // Receives the next report of the rank, or finds that its bytes are not one. Returns false if
+    // all of them were read.
     fn hear_next(&mut self, rank: u32) -> bool
         requires on { (from : HubState) × IsOnIn AnyPhase from (hub_seen C.seen self.old) }
         requires last { IsLastFed self.old.last self.old.book rank }
@@ -119,7 +119,7 @@ impl<R, O: Observer, C: Crew> Hub<'_, R, O, C> {
         }
     }
 
-    // Hears a report, which its bytes gave.
+    // Receives a report, which the rank's bytes gave.
     fn hear(&mut self, rank: u32, report: Report)
         requires there { rank < ranks_of self.old.book }
         requires hearable { IsHearable report }
@@ -137,7 +137,7 @@ impl<R, O: Observer, C: Crew> Hub<'_, R, O, C> {
         self.observe(is_point && heard == Heard::Kept);
     }
 
-    // Tells how the run stands, if that is wanted now and memory suffices.
+    // Calls the observer with the progress, if that is needed now and memory suffices.
     fn observe(&self, is_better: bool) {
         if !self.host.observer.wants(self.book.heard(), is_better) {
             return;
@@ -156,7 +156,7 @@ impl<R, O: Observer, C: Crew> Hub<'_, R, O, C> {
 impl<R, O, C: Crew> Hub<'_, R, O, C> {
     ghost use Rattle.ug_coord.specs.HubViews.{hub_seen};
 
-    // A turn failed, so all ranks are gone.
+    // Loses all ranks, after a turn that failed.
     fn lose_all(&mut self)
         requires on { (from : HubState) × IsOnIn IsBrokenOff from (hub_seen C.seen self.old) }
         ensures on { (from : HubState) → IsOnIn IsBrokenOff from (hub_seen C.seen self.old)
@@ -170,7 +170,7 @@ impl<R, O, C: Crew> Hub<'_, R, O, C> {
     }
 }
 
-// Whether it tells of a point.
+// Is the report a Solution?
 fn is_point(report: &Report) -> bool {
     match report {
         Report::Solution { .. } => true,

@@ -1,4 +1,4 @@
-//! A coordinator at work.
+//! The loop of a coordinator.
 
 ghost use Rattle.std.specs.Prelude.{◌≡◌, ◌<◌, true, false, length, MatchBool};
 ghost use Rattle.ug_coord.specs.Deeds.{Hearing, HubState};
@@ -21,19 +21,19 @@ use ug_io::Crew;
 use ug_restart::{Host, Observer};
 use ug_stream::Assembler;
 
-/// A coordinator at work, with its crew.
+/// A coordinator during a run, with its crew.
 #[derive(Drop)]
 pub struct Hub<'a, R, O, C> {
     pub book: Book,
-    /// What came from each rank and of which no report was taken yet.
+    /// Bytes that came from each rank and of which no report was taken yet.
     pub streams: Vec<Assembler>,
-    /// What is heard into.
+    /// The buffer for bytes that arrive.
     pub input: Vec<u8>,
-    /// The frame that is told.
+    /// The buffer for a frame that is sent.
     pub frame: Vec<u8>,
     /// The rank whose bytes came last, while more of its reports may be there.
     pub last: Option<u32>,
-    /// Whether memory was wanting.
+    /// Did memory run out?
     pub wants: bool,
     /// When the next save may come.
     pub pacing: Pacing,
@@ -44,7 +44,7 @@ pub struct Hub<'a, R, O, C> {
 }
 
 impl<R, O, C> Hub<'_, R, O, C> {
-    // Whether memory was wanting, or an end is due.
+    // Did memory run out, or is an end due?
     fn has_stopped(&self) -> bool
         ensures stopped { result ≡ true → self.now.wants ≡ false → IsOver self.now.book }
         ensures on { result ≡ false → (self.now.wants ≡ false) × ¬ IsOver self.now.book }
@@ -59,7 +59,7 @@ impl<R, O, C> Hub<'_, R, O, C> {
 impl<R, O, C: Crew> Hub<'_, R, O, C> {
     ghost use Rattle.ug_coord.specs.HubViews.{hub_seen};
 
-    // Decides.
+    // Makes a decision.
     fn decide(&mut self)
         requires more { ¬ IsOver self.old.book }
         requires saved { ¬ IsSaveDue self.old.pacing self.old.book }
@@ -73,7 +73,7 @@ impl<R, O, C: Crew> Hub<'_, R, O, C> {
         }
     }
 
-    // Saves the book, which is due.
+    // Saves the book, for which a save is due.
     fn save<D: Disk>(&mut self, keeper: &mut Keeper, disk: &mut D)
         requires due { IsSaveDue self.old.pacing self.old.book }
         requires keeper { IsKeeperOf (kept_seen keeper.old (D.seen disk.old)) self.old.book }
@@ -94,8 +94,8 @@ impl<R, O, C: Crew> Hub<'_, R, O, C> {
 impl<R: Wait, O: Observer, C: Crew> Hub<'_, R, O, C> {
     ghost use Rattle.ug_coord.specs.HubViews.{hub_seen};
 
-    /// Starts the crew, goes on until an end is due, and tells it the end. The book is saved as
-    /// often as its settings say.
+    /// Starts the crew, works until an end is due, and sends it the end. Saves the book as often as
+    /// its settings say.
     pub fn run<D: Disk>(&mut self, keeper: &mut Keeper, disk: &mut D)
         requires on { (from : HubState) × IsStartedIn IsRested 0 from (hub_seen C.seen self.old) }
         requires frame { IsSetUpFrame self.old.book self.old.frame.items }
@@ -106,6 +106,7 @@ impl<R: Wait, O: Observer, C: Crew> Hub<'_, R, O, C> {
             → StartsAndEnds (ranks_of self.old.book) from (hub_seen C.seen self.new)
             (kept_seen keeper.old (D.seen disk.old)) (kept_seen keeper.new (D.seen disk.new)) }
         ensures over { self.new.wants ≡ false → IsOver self.new.book }
+        ensures finished { C.finished self.new.crew ≡ true }
         ensures kept { HasKeptUp (hub_seen C.seen self.old) (hub_seen C.seen self.new)
             (kept_seen keeper.new (D.seen disk.new)) }
     {
@@ -114,8 +115,9 @@ impl<R: Wait, O: Observer, C: Crew> Hub<'_, R, O, C> {
         self.close();
     }
 
-    // Decides, tells the orders, and hears the next report, or waits until something comes. An end
-    // that is due comes before each of them, and then false is answered, as where a turn failed.
+    // Decides, sends the orders, and receives the next report, or waits until something comes.
+    // Before each of them it tests whether an end is due, and then returns false, as after a turn
+    // that failed.
     fn step(&mut self) -> bool
         requires on { (from : HubState) × IsOnIn IsRested from (hub_seen C.seen self.old) }
         requires more { ¬ IsOver self.old.book }
@@ -141,7 +143,7 @@ impl<R: Wait, O: Observer, C: Crew> Hub<'_, R, O, C> {
         self.listen()
     }
 
-    // A step, and a save where one is due for what was heard in it.
+    // Makes a step, and a save if one is due.
     fn advance<D: Disk>(&mut self, keeper: &mut Keeper, disk: &mut D) -> bool
         requires on { (from : HubState) × IsOnIn IsRested from (hub_seen C.seen self.old) }
         requires more { ¬ IsOver self.old.book }
@@ -171,7 +173,7 @@ impl<R: Wait, O: Observer, C: Crew> Hub<'_, R, O, C> {
         true
     }
 
-    // Goes on until an end is due, or memory is wanting.
+    // Works until an end is due or memory runs out.
     fn go_on<D: Disk>(&mut self, keeper: &mut Keeper, disk: &mut D)
         requires on { (from : HubState) × IsOnIn IsRested from (hub_seen C.seen self.old) }
         requires keeps { KeepsUp (hub_seen C.seen self.old)

@@ -1,4 +1,4 @@
-//! What is saved of the coordinator's book.
+//! Saving the coordinator's book.
 
 ghost use Rattle.std.specs.Prelude.{◌≡◌};
 ghost use Rattle.ug_rules.specs.Books.{IsSoundBook};
@@ -38,7 +38,7 @@ impl Keeper {
         }
     }
 
-    /// Saves the ending book, if there is one, and tells what became of it.
+    /// Saves the final book, if there is one. Returns what became of the save.
     pub fn keep_end<D: Disk>(&mut self, disk: &mut D, end: &End) -> Option<Attempt>
         requires { IsKeptBy (kept_seen self.old (D.seen disk.old)) }
         ensures became { IsEndKept end.now result
@@ -63,7 +63,7 @@ impl Keeper {
         }
     }
 
-    /// Saves for which memory was wanting.
+    /// Returns the number of saves that ran out of memory or of numbers.
     pub fn unsaved(&self) -> u64
         ensures { result ≡ unsaved_by self.now.saves }
     {

@@ -5,12 +5,11 @@ ghost use Rattle.ug_coord.specs.Pacing.{IsApart, IsSaveDue, is_due, saved_at};
 
 use ug_book::Book;
 
-// A snapshot copies each node. So many reports for each are heard before the next, so that copying
-// takes a small part of the time, however many nodes there are.
+// A snapshot copies each node. Between two saves there are this many reports for each node, so that
+// copying takes a small part of the time, however many nodes there are.
 const REPORTS_A_NODE: u64 = 8;
 
-/// How many reports had been heard at the last save, and how many more are to be heard at least
-/// before the next.
+/// The number of reports at the last save, and the least number of reports before the next.
 #[derive(Clone, Copy)]
 pub struct Pacing {
     pub since: u64,
@@ -18,7 +17,7 @@ pub struct Pacing {
 }
 
 impl Pacing {
-    /// For a run that begins with so many reports heard.
+    /// Returns the pacing of a run that begins with this number of reports.
     pub fn new(heard: u64) -> Pacing
         ensures { result ≡ record { since = heard; apart = 0 } }
     {
@@ -47,7 +46,7 @@ impl Pacing {
     }
 }
 
-// Whether one was heard since, and as many as are to lie between.
+// Did at least one report come since the last save, and as many as must lie between?
 fn is_apart(pacing: Pacing, heard: u64) -> bool
     ensures { IsTrue result ↔ IsApart pacing heard }
 {

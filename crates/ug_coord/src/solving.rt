@@ -1,6 +1,6 @@
 //! The coordinator's loop, from the start of the crew to its end.
 
-ghost use Rattle.std.specs.Prelude.{◌≡◌, ◌<◌, false, length, replicate, IfOk, IfSome};
+ghost use Rattle.std.specs.Prelude.{◌≡◌, ◌<◌, ◌⊎◌, false, true, length, replicate, IfOk, IfSome};
 ghost use Rattle.ug_rules.specs.Books.{IsBook, IsSoundBook};
 ghost use Rattle.ug_restart.specs.Outcomes.{HasFeasible, IfAnswered, IfBook, IsRight};
 ghost use Rattle.ug_stream.specs.Streams.{first};
@@ -27,7 +27,7 @@ use ug_records::to_record;
 use ug_restart::{End, Host, Observer, Outcome, Saves, tell_begin};
 use ug_stream::Assembler;
 
-/// How many bytes are heard at once.
+/// Number of bytes that are read at once.
 const READ: usize = 65_536;
 
 /// The crew after a solve, and how this ended.
@@ -37,10 +37,9 @@ pub struct Coordinated<C> {
     pub crew: C,
 }
 
-/// Solves what the opening has left, with a crew of which nothing was heard yet and no rank of
-/// which lives: starts each rank, and goes on until an end is due. At the end each rank that lives
-/// is told. With a saver the book is saved as often as its settings say, and at last the ending
-/// book.
+/// Solves what the opening has left, with a crew of which no rank is alive and nothing was received
+/// yet: starts each rank, and works until an end is due. At the end each live rank is sent End.
+/// With a saver the book is saved as often as its settings say, and the final book at last.
 #[tactic(auto)]
 pub fn coordinate<R: Wait, D: Disk, O: Observer, C: Crew + Drop>(
     host: &Host<'_, R, O>,
@@ -60,9 +59,12 @@ pub fn coordinate<R: Wait, D: Disk, O: Observer, C: Crew + Drop>(
         (AreEachSaved saver result.outcome (D.seen disk.new))
         (IsKeptSafe saver (D.seen disk.old) (D.seen disk.new)) }
 
-    // What stands on the disk.
+    // The state of the disk.
     ensures kept { HasKept (opening_book opening.now) saver result.outcome
         (D.seen disk.old) (D.seen disk.new) }
+
+    // The crew was waited for, unless nothing was begun.
+    ensures finished { IsNothing result.outcome ⊎ (C.finished result.crew ≡ true) }
 {
     tell_begin(host.observer, host.alloc, opening);
     match keeper_of(host.alloc, opening, saver) {
@@ -74,7 +76,7 @@ pub fn coordinate<R: Wait, D: Disk, O: Observer, C: Crew + Drop>(
     }
 }
 
-// Memory is wanting before the first deed.
+// Returns the outcome if memory runs out before the first deed.
 fn nothing() -> Outcome
     ensures { IsNothing result }
 {
@@ -123,6 +125,7 @@ fn solve<R: Wait, D: Disk, O: Observer, C: Crew + Drop>(
         (IsKeptSafe (savers keeper.saves) (D.seen disk.old) (D.seen disk.new)) }
     ensures kept { HasKept (opening_book opening.now) (savers keeper.saves) result.outcome
         (D.seen disk.old) (D.seen disk.new) }
+    ensures finished { IsNothing result.outcome ⊎ (C.finished result.crew ≡ true) }
 {
     let parts = match parts_of(host.alloc, opening) {
         Ok(parts) => parts,
@@ -233,7 +236,7 @@ fn parts_of(alloc: Global, opening: &Opening) -> Result<Parts, AllocError>
     })
 }
 
-// So many streams, at their begin.
+// Returns `count` streams, each at its start.
 fn streams_of(alloc: Global, count: u32) -> Result<Vec<Assembler>, AllocError>
     ensures { IfOk result (λ streams. streams.items ≡ replicate count first) }
 {
@@ -271,7 +274,7 @@ fn setup_of(alloc: Global, book: &Book) -> Result<Vec<u8>, AllocError>
     }
 }
 
-// How a run ends whose end is due, unless memory was wanting.
+// Returns how a run ends whose end is due, unless memory ran out.
 fn end_of(book: Book, wants: bool) -> End
     requires { wants ≡ false → IsOver book }
     ensures ended { is_ended result book }

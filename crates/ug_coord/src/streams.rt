@@ -9,16 +9,16 @@ use ug_frames::Report;
 use ug_io::{Came, Crew};
 use ug_stream::{Assembler, Next};
 
-/// What a turn of a crew came to.
+/// Result of a turn of a crew.
 #[derive(Clone, Copy)]
 pub enum Turn {
     /// Bytes came from the rank, and wait in its stream.
     Fed { rank: u32 },
-    /// The rank is gone.
+    /// The rank is lost.
     Gone { rank: u32 },
     /// The turn failed.
     Failed,
-    /// Memory was wanting for what came from the rank.
+    /// Memory ran out for what came from the rank.
     Wanting { rank: u32 },
 }
 
@@ -38,8 +38,8 @@ pub fn take_turn<C: Crew>(crew: &mut C, streams: &mut [Assembler], buffer: &mut 
     }
 }
 
-// The next bytes of the rank. Where there is no memory for them none is read any more: what came
-// behind them would not be what the rank told.
+// Appends the next bytes of the rank. If there is no memory for them, nothing more is read of the
+// rank: what comes behind them would not be what the rank sent.
 fn feed(streams: &mut [Assembler], rank: u32, piece: &[u8]) -> Result<(), AllocError>
     requires { rank < length streams.old }
     ensures ok { OnOk result (streams.new

@@ -1,6 +1,6 @@
-//! What a coordinator tells its crew: the start, its orders and the end.
+//! Sending: the start, the orders and the end.
 
-ghost use Rattle.std.specs.Prelude.{◌≡◌, ◌<◌, [], suc, false};
+ghost use Rattle.std.specs.Prelude.{◌≡◌, ◌<◌, [], suc, false, true};
 ghost use Rattle.ug_io.specs.Crews.{IsAlive, IsAway};
 ghost use Rattle.ug_frames.specs.Orders.{IsOrder};
 ghost use Rattle.ug_rules.specs.State.{BookState};
@@ -25,7 +25,7 @@ const END: &[u8] = &[0, 0, 0, 1, 8];
 impl<R, O, C: Crew> Hub<'_, R, O, C> {
     ghost use Rattle.ug_coord.specs.HubViews.{hub_seen};
 
-    /// The rank is gone: it is heard no more, and the book takes it for dead.
+    /// Loses the rank: nothing more is read from it, and the book declares it lost.
     pub fn lose(&mut self, rank: u32)
         requires { rank < ranks_of self.old.book }
         ensures seen { hub_seen C.seen self.new ≡ without rank (hub_seen C.seen self.old) }
@@ -38,7 +38,7 @@ impl<R, O, C: Crew> Hub<'_, R, O, C> {
         self.book.gone(rank);
     }
 
-    // Tells the frame to the rank. Where that fails it is gone, and false is answered.
+    // Sends the frame to the rank. If that fails, loses the rank and returns false.
     fn send(&mut self, rank: u32) -> bool
         requires there { rank < ranks_of self.old.book }
         requires alive { IsAlive (C.seen self.old.crew) rank }
@@ -56,7 +56,7 @@ impl<R, O, C: Crew> Hub<'_, R, O, C> {
         }
     }
 
-    // Starts the rank, which does not live. Where that fails it is gone, and false is answered.
+    // Starts the rank, which is not alive. If that fails, loses the rank and returns false.
     fn launch(&mut self, rank: u32) -> bool
         requires away { IsAway (C.seen self.old.crew) rank }
         requires there { rank < ranks_of self.old.book }
@@ -74,7 +74,7 @@ impl<R, O, C: Crew> Hub<'_, R, O, C> {
         }
     }
 
-    // Starts the rank, which does not live, and tells it the problem, which the frame is.
+    // Starts the rank, which is not alive, and sends it the problem, which the frame contains.
     fn start(&mut self, rank: u32)
         requires on { (phase : Phase) × (from : HubState)
             × IsStartedAs rank phase from (hub_seen C.seen self.old) }
@@ -91,7 +91,8 @@ impl<R, O, C: Crew> Hub<'_, R, O, C> {
         }
     }
 
-    /// Starts each rank, none of which lives, and tells it the problem, which the frame is.
+    /// Starts each rank, none of which is alive, and sends it the problem, which the frame
+    /// contains.
     pub fn start_all(&mut self)
         requires on { (phase : Phase) × (from : HubState)
             × IsStartedAs 0 phase from (hub_seen C.seen self.old) }
@@ -106,7 +107,7 @@ impl<R, O, C: Crew> Hub<'_, R, O, C> {
         }
     }
 
-    // Tells an order that just left the book to its rank, if this lives.
+    // Sends an order that just left the book to its rank, if that is alive.
     fn tell(&mut self, told: Told)
         requires order { IsOrder told.order }
         requires on { (from : HubState) × (before : BookState)
@@ -136,7 +137,7 @@ impl<R, O, C: Crew> Hub<'_, R, O, C> {
         }
     }
 
-    // Tells the earliest order that waits. False where none does.
+    // Sends the first queued order. Returns false if none is queued.
     fn tell_next(&mut self) -> bool
         requires on { (from : HubState) × IsOnIn AnyPhase from (hub_seen C.seen self.old) }
         ensures on { (phase : Phase) (from : HubState) → IsOnAs phase from (hub_seen C.seen self.old)
@@ -155,7 +156,7 @@ impl<R, O, C: Crew> Hub<'_, R, O, C> {
         }
     }
 
-    // Tells the end to the rank, if it lives.
+    // Sends the end to the rank, if it is alive.
     fn end(&mut self, rank: u32)
         ensures closed { (from : HubState) (old new : KeptSeen)
             → IsClosedBelow rank from (hub_seen C.seen self.old) old new
@@ -171,11 +172,12 @@ impl<R, O, C: Crew> Hub<'_, R, O, C> {
         }
     }
 
-    /// Tells the end to each rank that lives, and waits until all have ended.
+    /// Sends the end to each live rank, and waits until all have ended.
     pub fn close(&mut self)
         ensures ends { (from : HubState) (old new : KeptSeen)
             → IsKeptIn AnyPhase from (hub_seen C.seen self.old) old new
             → EndsFrom from (hub_seen C.seen self.new) old new }
+        ensures finished { C.finished self.new.crew ≡ true }
         ensures same { (self.new.book ≡ self.old.book) × (self.new.wants ≡ self.old.wants) }
         ensures pacing { self.new.pacing ≡ self.old.pacing }
     {
@@ -189,7 +191,7 @@ impl<R, O, C: Crew> Hub<'_, R, O, C> {
 impl<R: Wait, O, C: Crew> Hub<'_, R, O, C> {
     ghost use Rattle.ug_coord.specs.HubViews.{hub_seen};
 
-    /// Tells all orders that wait.
+    /// Sends all queued orders.
     pub fn tell_all(&mut self)
         requires on { (from : HubState) × IsOnIn AnyPhase from (hub_seen C.seen self.old) }
         ensures on { (phase : Phase) (from : HubState) → IsOnAs phase from (hub_seen C.seen self.old)

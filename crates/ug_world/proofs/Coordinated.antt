@@ -62,7 +62,7 @@ last_there : (sent : List Report) (report : Report)
 last_there [] report = refl
 last_there (first ∷ sent) report = last_there sent report
 
--- it comes, and is heard
+-- it comes, and is received
 took : (n : ℕ) (old mid : HubState) (past : Past) (rank : ℕ) (report : Report) (answer : Heard)
     → IsTaken old mid rank report answer → IsHonestSo old.book past.told (past.heard ++ report ∷ [])
     → Keeps n old.book past → Holds n (world_of mid.book (with_report past report answer))
@@ -92,7 +92,7 @@ left n old without past told t k =
     (ap (λ (b : BookState). world_of b (with_order past told)) t.rest
     ∙ ap (λ (orders : List Told). told_first orders (world_of old past)) (sym t.first)) k.true_ k.holds
 
--- and with it what was heard stays honest
+-- and with it what was received stays honest
 left_honest : (old without : BookState) (past : Past) (told : Told) → IsOrderTold old without told
     → IsHonestSo old past.told past.heard
     → IsHonestSo without (past.told ++ told ∷ []) past.heard
@@ -104,7 +104,7 @@ left_honest old without past told t honest =
     subst (λ p. AreHonest p (IsGivenWith p ((past.told ++ told ∷ []) ++ without.orders)) past.heard) (sym problem)
     (subst (λ (orders : List Told). AreHonest old.problem (IsGivenWith old.problem orders) past.heard) all honest)
 
--- a rank is gone
+-- a rank is lost
 gone : (n : ℕ) (old new : BookState) (past : Past) (rank : ℕ) → rank < length old.ranks
     → new ≡ killed rank old → AreTrue old past.heard → Holds n (world_of old past)
     → Holds n (world_of new past)
@@ -112,7 +112,7 @@ gone n old new past rank there dead true_ holds =
     event_holds n (world_of old past) (world_of new past) (Gone rank) (omega (arith, there, holds.wide))
     (ap (λ (b : BookState). world_of b past) dead) true_ holds
 
--- the rank of an order that could not be told
+-- the rank of an order that could not be sent
 unsent : (n : ℕ) (old mid : HubState) (past : Past) (rank : ℕ) (order : Order) → IsUnsent old mid rank order
     → IsHonestSo old.book past.told past.heard → Keeps n old.book past
     → Holds n (world_of mid.book (with_order past (record { rank = rank; order = order })))

@@ -80,7 +80,7 @@ heard_holds n old new place rank l t true_ h =
       wide = m.wide;
     })
 
--- an order that is told was among those that wait
+-- an order that is sent was among those that wait
 told_holds : (n : ℕ) (old : World) (orders : List Told) → old.book.orders ≡ orders → Holds n old
     → Holds n (told_first orders old)
 told_holds n old [] e h = h

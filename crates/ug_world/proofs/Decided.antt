@@ -118,7 +118,7 @@ readied_carries past sent old ready t =
     carries_both past sent old (announced (dropped old)) ready
     (carries_both past sent old (dropped old) (announced (dropped old)) first second) third
 
--- and so many steps of the fourth
+-- and this many steps of the fourth
 given_out_carries : (past : List Told) (sent : List Report) (steps : ℕ) (old ready : BookState)
     → IsBook old → IsReadied old ready → Carries past sent old (given steps ready)
 given_out_carries past sent steps old ready book t =

@@ -146,7 +146,7 @@ of_between : (past : List DiskWorld) (old : DiskWorld) → old.refused ≡ None 
     → IsBetween past old image → Through past old image
 of_between past old goes_on image t = (t.0, t.1 goes_on)
 
--- a run that goes on, with the same image acknowledged last
+-- a run that continues, with the same image acknowledged last
 module _ (past : List DiskWorld) (old new : DiskWorld)
     (problem : new.world.book.problem ≡ old.world.book.problem)
     (run : new.world.book.run ≡ old.world.book.run)
@@ -404,7 +404,7 @@ begun_found w b = record {
 abbrev Latest : List DiskWorld → DiskWorld → Image → Type 0
 Latest past old image = IsLatest past old.world.book (sequence_of old.saver) image × Unit {0}
 
--- a book that goes on has a greater number than what could be found
+-- a book that continues has a greater number than what could be found
 above : (past : List DiskWorld) (old : DiskWorld) (settings : Settings) (told : History)
     (b : BookState) → CouldAll (Latest past old) told
     → IsGoneOn old.world.book.problem settings (Some told) b → old.world.book.run < b.run

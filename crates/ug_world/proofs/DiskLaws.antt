@@ -146,7 +146,7 @@ acknowledged_all w sound a =
     all_found IsCovered w a.found a.finds a.last a.written
     (covered_of_book w.world.book sound (sequence_of w.saver) a.found.image a.image)
 
--- a run goes on from an image
+-- a run resumes from an image
 gone_on_holds : (since : History) (settings : Settings) (old new : DiskWorld)
     → CouldAll IsCovered old.told
     → Leaves (FindsIn IsCovered) (Some since) (Some new.told) → HasGoneOn settings old new

@@ -19,7 +19,7 @@ use Rattle.ug_world.specs.DiskLaws.{HasBegun, IsHonestOnDisk}
 use Rattle.ug_world.specs.DiskPlays.{HasCome, IsHaltedAt, IsLeftOf, NothingIsLost}
 use Rattle.ug_world.proofs.DiskLaws.{Holds, begun_holds, course_holds}
 
--- the events happened, and what stands may go on
+-- the events happened, and what stands may continue
 pub record IsOnTheWay (start : DiskWorld) (events : List DiskEvent) (done : ℕ) (w : DiskWorld)
     : Type 0 where
   pub come : HasCome start events done w

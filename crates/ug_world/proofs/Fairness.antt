@@ -1,4 +1,5 @@
--- That reports of workers are fair: those of hands and of dones where that is asked, all others anyway.
+-- That reports of workers are fair: those of hands and of dones where that is asked, all others
+-- anyway.
 use Rattle.std.proofs.Common.{◌≡◌, inl, inr, ℕ, ℤ, Bool, false, List, [], ◌∷◌, ◌++◌, append_assoc, append-nil, refl, sym, ap, subst, ◌∙◌}
 use Rattle.std.specs.Prelude.{Contains}
 use Rattle.std.proofs.lemmas.Bool.{eq-eqb}
@@ -48,12 +49,12 @@ orders_push gap r (one ∷ done) deed =
     ap (λ (os : List Order). to_rank r (sent_in gap one) ++ os) (orders_push gap r done deed)
     ∙ sym (append_assoc (to_rank r (sent_in gap one)) (orders_to gap r done) (to_rank r (sent_in gap deed)))
 
--- ---- when a report is heard
+-- ---- when a report is received
 
 module _ (b : BookState) (faults : ℕ) (unused : IsUnused b) (done : List Deed) (old mid : HubState)
     (so : IsCourse (beginning b faults) done old) (r : ℕ) (report : Report) (answer : Heard)
     (does : IsTaken old mid r report answer) (worked : IsWorked mid.said r) where
-  -- what the worker had heard and told when it told the report
+  -- what the worker had received and reported when it sent the report
   pub spoken_then : IsSpoken b.problem (orders_to b.settings.gap r done) (reports_from r done) report
   spoken_then =
       let deed : Deed = Took r report answer in
@@ -80,7 +81,7 @@ first_ready p sent heard t =
     sym t.told ∙ none_kept (reports_of t.deeds) (λ report there.
     nothing_in report (subst (λ (rs : List Report). Contains rs report) t.said (told_kept [] t.deeds report there)))
 
--- Ended is told behind the order
+-- Ended is reported behind the order
 ended_late : (p : Instance) (sent : List Order) (heard : List Report) → IsSpoken p sent heard Ended
     → Contains sent End
 ended_late p sent heard t = elim (took_turned [] t.deeds End t.said.1) [
@@ -108,7 +109,7 @@ IsOfWork Ended = ⊥
 module _ (b : BookState) (faults : ℕ) (unused : IsUnused b) (done : List Deed) (old mid : HubState)
     (so : IsCourse (beginning b faults) done old) (r : ℕ)
     (away : reports_from r done ≡ [] → IsAbsentAt old.book.ranks r) (answer : Heard) where
-  -- what is heard of a worker is fair, where its hands and dones are
+  -- what is received from a worker is fair, where its hands and dones are
   pub told_fair : (report : Report) → IsTaken old mid r report answer → IsWorked mid.said r
       → (IsOfWork report → IsFair old.book (state_at old.book.ranks r) report)
       → IsFair old.book (state_at old.book.ranks r) report

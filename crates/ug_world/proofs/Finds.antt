@@ -1,5 +1,5 @@
--- Where recovery finds an image that has P, whatever a crash leaves, it goes on to, if the images that
--- are new have P.
+-- If recovery finds an image that has P, whatever a crash leaves, it continues to have one, if the
+-- images that are new have P.
 use Rattle.std.proofs.Common.{◌≡◌, inl, inr, List, ℕ, Option, None, Some, refl, sym, ◌∙◌, ap, subst}
 use Rattle.ug_disk.specs.Histories.{History}
 use Rattle.ug_disk.specs.Crashes.{Leaves, MayLeaveBoth}
@@ -36,7 +36,7 @@ OfBook P book = (sequence : ℕ) (image : Image) → IsImageOf book sequence ima
 abbrev pub CouldAll : OfImage → History → Type 0
 CouldAll P told = (zero one : List ℕ) → MayLeaveBoth told.now zero one → FindsIn P zero one
 
--- and so does the last acknowledged one, where a run goes on
+-- and so does the last acknowledged one, where a run continues
 pub record HasAll (P : OfImage) (w : DiskWorld) : Type 0 where
   pub could : CouldAll P w.told
   pub last : w.refused ≡ None → LastIs P w.saver (Some w.told)
@@ -183,7 +183,7 @@ same_found P told zero one found all c recovered =
       is = finds.is;
     }
 
--- each book that goes on from what could be found has images that have P
+-- each book that resumes from what could be found has images that have P
 abbrev pub OfGoneOn : OfImage → Instance → Settings → History → Type 0
 OfGoneOn P p settings told = (book : BookState) → IsGoneOn p settings (Some told) book
     → OfBook P book

@@ -1,4 +1,4 @@
--- Each ticket that is given is told with the changes of its node.
+-- Each ticket that is given is reported with the changes of its node.
 use Rattle.std.proofs.Common.{◌≡◌, inl, inr, ℕ, zero, suc, ◌+◌, ◌%◌, Bool, true, false, List, [], ◌∷◌, ◌++◌, length, refl, ap, sym, ◌∙◌, subst, arith}
 use Rattle.std.specs.Prelude.{Some}
 use Rattle.std.proofs.lemmas.Bool.{cases_Bool}
@@ -18,7 +18,7 @@ use Rattle.ug_rules.specs.State.{BookState, current_for, current_of, ledger_of, 
 use Rattle.ug_rules.specs.Ranks.{ranks_that}
 use Rattle.ug_ranks.specs.Looks.{is_idle, is_racing}
 use Rattle.ug_rules.specs.Books.{IsBook}
-use Rattle.ug_rules.specs.Deciding.{assigned, assigned_by, assigned_times, given, given_to, is_race_due, params_with, usual_params, race_begun_with, raced_by, raced_by_all, work_order}
+use Rattle.ug_rules.specs.Deciding.{assigned, assigned_by, assigned_times, given, given_to, is_race_due, racer_params, usual_params, race_begun_with, raced_by, raced_by_all, work_order}
 use Rattle.ug_rules.proofs.BegunLemmas.{begin_is}
 use Rattle.ug_rules.proofs.HeldLemmas.{IsOfRacer, current_cases, is_current}
 use Rattle.ug_rules.proofs.RacerLemmas.{are_racing}
@@ -29,7 +29,7 @@ abbrev new_current : BookState → Entry → Current
 new_current b entry =
     record { ticket = ticket_with b (b.last + 1); node = entry.node; taken = [] }
 
--- it is told in this order
+-- it is reported in this order
 new_known : (past : List Told) (sent : List Report) (b : BookState) (r : ℕ) (entry : Entry) (params : Params)
     (race : Bool)
     → IsKnown (root_of b.problem) sent
@@ -94,14 +94,14 @@ raced_carries past sent b r entry raced = record {
   settings = refl;
   known = λ k. record {
     each = λ q c h.
-        let racer = racer_of (ticket_with b (b.last + 1)) (params_with (r % 16)) in
+        let racer = racer_of (ticket_with b (b.last + 1)) (racer_params r) in
         let orders = (raced_by r entry b).orders in
         elim (written_current b.raced b.ranks r (Racing racer) q c h) [
           | inl new ↦
               let at = subst (λ o. current_of o (Racing racer) ≡ Some c) raced new.1 in
               subst (λ d. IsKnown (root_of b.problem) sent (past ++ orders) d)
               (same_Some (new_current b entry) c at)
-              (new_known past sent b r entry (params_with (r % 16)) true)
+              (new_known past sent b r entry (racer_params r) true)
           | inr old ↦
               known_later (root_of b.problem) sent (past ++ b.orders) (past ++ orders) c
               (among_behind past b.orders orders (among_more b.orders _))

@@ -1,4 +1,4 @@
--- What is heard, and who dies, keeps what is known of the tickets.
+-- What is received, and who is lost, keeps what is known of the tickets.
 use Rattle.std.proofs.Common.{◌≡◌, ◌⊎◌, inl, inr, ℕ, ◌<◌, List, [], ◌∷◌, ◌++◌, length, refl, ap, sym, ◌∙◌, subst, arith}
 use Rattle.std.specs.Prelude.{Contains, Option, Some, None}
 use Rattle.std.proofs.lemmas.Bool.{cases_lt}

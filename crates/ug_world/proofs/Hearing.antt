@@ -1,4 +1,4 @@
--- What is heard agrees with the orders told, where it is fair.
+-- What is received agrees with the orders sent, where it is fair.
 use Rattle.std.proofs.Common.{◌≡◌, ◌≢◌, ◌⊎◌, inl, inr, ℕ, ℤ, ◌<◌, ◌-ℤ◌, true, false, List, [], ◌∷◌, ◌++◌, append-nil, length, Option, None, Some, refl, sym, ap, subst, ◌∙◌, arith}
 use Rattle.std.specs.Prelude.{Contains, slice_set, ◌≤ℤ◌, ◌<ℤ◌}
 use Rattle.std.specs.Int.{int_max}
@@ -120,7 +120,7 @@ named_more last heard report its named one there = elim (last_or heard report on
   | inr same ↦ subst (IsReportNamed last) same its
 ]
 
--- what was heard then, of each rank
+-- what was received then, of each rank
 pub record HasHeard (r : ℕ) (report : Report) (heard heard_then : ℕ → List Report) : Type 0 where
   pub its : heard_then r ≡ heard r ++ report ∷ []
   pub others : (q : ℕ) → q ≢ r → heard_then q ≡ heard q
@@ -209,7 +209,7 @@ better_backed p gap (Some y) x (Some v) better backed =
     at_most (cutoff_of p gap x) (cutoff_of p gap y) v
     (cutoff_up p gap x y (at_most_below (value_of p.objective x) (value_of p.objective y) better.less)) backed
 
--- ---- the book with a report kept, whatever was heard
+-- ---- the book with a report kept, whatever was received
 
 abbrev with_best : List ℤ → Outlook → Outlook
 with_best x o = record o { best = Some x }
@@ -393,7 +393,7 @@ hand_at b o (Active work) own number changes answer due fair none = λ same.
     none work (due.current (ap Some (sym same))) (f.next.next ∙ sym (ap hands_taken f.works))
 hand_at b o (Dead how) own number changes answer due fair none = tt
 
--- ---- a report is heard
+-- ---- a report is received
 
 abbrev report_kind : Report → ℕ
 report_kind (Solution own x) = 1

@@ -39,7 +39,7 @@ pub record IsKnown (root : List Interval) (sent : List Report) (orders : List To
   pub told : IsTold orders c
   pub taken : (i : ℕ) → i < length c.taken → IsBoxOfHand root sent c.ticket i (box_at c.taken i)
 
--- of each current ticket, by the orders that were told and those that wait
+-- of each current ticket, by the orders that were sent and those that wait
 pub record AreKnown (past : List Told) (b : BookState) (sent : List Report) : Type 0 where
   pub each : (q : ℕ) (c : Current) → current_of b.raced (state_at b.ranks q) ≡ Some c
       → IsKnown (root_of b.problem) sent (past ++ b.orders) c
@@ -51,7 +51,7 @@ AreAmong old new = (t : Told) → Contains old t → Contains new t
 pub among_more : (orders more : List Told) → AreAmong orders (orders ++ more)
 among_more orders more t h = Contains-append_left orders more t h
 
--- and those that were told stay so
+-- and those that were reported stay so
 pub among_behind : (past old new : List Told) → AreAmong old new
     → AreAmong (past ++ old) (past ++ new)
 among_behind past old new among t h = elim (Contains-append_cases past old t h) [

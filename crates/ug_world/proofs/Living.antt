@@ -41,7 +41,7 @@ abbrev IsHarmlessDeed : Deed → Type 0
 IsHarmlessDeed (Took rank report answer) = is_deadly answer ≡ false
 IsHarmlessDeed deed = Unit {0}
 
--- each rank of which nothing was heard has not joined
+-- each rank of which nothing was received has not joined
 abbrev pub AreAway : List Deed → HubState → Type 0
 AreAway done s = (rank : ℕ) → reports_from rank done ≡ [] → IsAbsentAt s.book.ranks rank
 
@@ -115,9 +115,9 @@ harmless_more deed deeds is all rank report answer there =
       | inr later ↦ all rank report answer later
     ]
 
--- ---- what was told and heard agrees, deed by deed
+-- ---- what was sent and received agrees, deed by deed
 
--- more was told and heard, and all orders are the same
+-- more was sent and received, and all orders are the same
 kept_by : (o : Outlook) (states : List State) (all all_then : List Told) (heard heard_then : ℕ → List Report)
     → all_then ≡ all → ((q : ℕ) → heard_then q ≡ heard q) → IsTracked o states all heard
     → IsTracked o states all_then heard_then
@@ -136,7 +136,7 @@ module _ (done : List Deed) (old : HubState) (deed : Deed) (new : HubState)
   abbrev Then : BookState → Type 0
   Then b = IsTrackedBy (left_of done_then) (λ (q : ℕ). reports_from q done_then) b
 
-  -- nothing was heard
+  -- nothing was received
   unheard : taken_in deed ≡ None → (q : ℕ) → reports_from q done_then ≡ reports_from q done
   unheard none q =
       reports_push q done deed
@@ -170,7 +170,7 @@ module _ (done : List Deed) (old : HubState) (deed : Deed) (new : HubState)
       (ap (λ (ts : List Told). ts ++ b.orders) left ∙ append_assoc (left_of done) (told ∷ []) b.orders
       ∙ ap (λ (ts : List Told). left_of done ++ ts) (sym is.first)) (unheard untaken) t)
 
--- a report was heard
+-- a report was received
 took_tracked : (done : List Deed) (old : HubState) (r : ℕ) (report : Report) (answer : Heard) (new : HubState)
     → IsTaken old new r report answer → IsFair old.book (state_at old.book.ranks r) report
     → IsReportNamed old.book.last report → is_deadly answer ≡ false → answer ≢ Memory

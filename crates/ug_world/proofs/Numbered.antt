@@ -22,7 +22,7 @@ use Rattle.ug_rules.specs.declared.told.Told.{Told}
 use Rattle.ug_rules.specs.Ranks.{of_ranks, ranks_that}
 use Rattle.ug_rules.specs.State.{BookState, cutoff_of_best}
 use Rattle.ug_rules.specs.Deaths.{killed, killed_at, lost_by, stop_at, stops_below, with_dead}
-use Rattle.ug_rules.specs.Deciding.{IsDecided, IsRaceEnded, IsReadied, Stands, announced, announced_as, announcement, announcements, assigned, assigned_by, assigned_times, collect_in, collect_out, collected, dropped, given, given_to, handouts, is_race_due, loser_stop, loser_stops, params_with, usual_params, race_begun_with, race_won, raced_by, raced_by_all, same_cutoff, stopped_collecting, winner_order, work_order}
+use Rattle.ug_rules.specs.Deciding.{IsDecided, IsRaceEnded, IsReadied, Stands, announced, announced_as, announcement, announcements, assigned, assigned_by, assigned_times, collect_in, collect_out, collected, dropped, given, given_to, handouts, is_race_due, loser_stop, loser_stops, racer_params, usual_params, race_begun_with, race_won, raced_by, raced_by_all, same_cutoff, stopped_collecting, winner_order, work_order}
 use Rattle.ug_rules.specs.Hearing.{after_hearing, counted, done_at, handed_at, kept}
 use Rattle.ug_rules.proofs.AnswerLemmas.{under_answer}
 
@@ -33,7 +33,8 @@ abbrev pub number_after : ℕ → Order → ℕ
 number_after from (WorkOrder ticket params race cutoff changes) = ticket.number
 number_after from order = from
 
--- an order may come next: one of work under a greater number, or any other but a first one or the end
+-- an order may come next: one of work under a greater number, or any other but a first one or the
+-- end
 abbrev pub MayCome : ℕ → Order → Type 0
 MayCome from (WorkOrder ticket params race cutoff changes) = from < ticket.number
 MayCome from (Setup gap bytes) = ⊥
@@ -174,7 +175,7 @@ enough_other r (Dead how) = tt
 
 -- ---- what a change of a book does to its orders
 
--- these left the queue, and others joined it, whose numbers go on from the last ticket
+-- these left the queue, and others joined it, whose numbers resume from the last ticket
 pub record Grows (left : List Told) (old new : BookState) : Type 0 where
   pub more : List Told
   pub orders : left ++ new.orders ≡ old.orders ++ more
@@ -271,7 +272,7 @@ killed_at_grows (Dead how) r b = grows_itself b
 pub killed_grows : (r : ℕ) (b : BookState) → Grows [] b (killed r b)
 killed_grows r b = killed_at_grows (state_at b.ranks r) r b
 
--- ---- what is heard
+-- ---- what is received
 
 handed_grows : (s : State) (r : ℕ) (changes : List Change) (b : BookState) → IsMore b (handed_at s r changes b)
 handed_grows Absent r changes b = grows_itself b
@@ -365,7 +366,7 @@ assigned_grows (suc n) b =
 
 raced_grows : (r : ℕ) (entry : Entry) (b : BookState) → IsMore b (raced_by r entry b)
 raced_grows r entry b = record {
-  more = work_order b r (b.last + 1) (params_with (r % 16)) true entry ∷ [];
+  more = work_order b r (b.last + 1) (racer_params r) true entry ∷ [];
   orders = refl;
   numbered = (omega arith, omega arith);
   problem = refl;

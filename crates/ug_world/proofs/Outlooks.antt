@@ -1,4 +1,4 @@
--- What the orders told and the reports heard of a rank say of its ticket.
+-- What the orders sent and the reports received from a rank say of its ticket.
 use Rattle.std.proofs.Common.{◌≡◌, inl, inr, ℕ, zero, suc, ℤ, ◌<◌, ◌≤◌, true, List, [], ◌∷◌, ◌++◌, length, Option, Some, refl, sym, ap, subst, arith}
 use Rattle.std.specs.Prelude.{Contains, IfSome, if◌then◌else◌, slice_set}
 use Rattle.std.proofs.lemmas.List.Elements.{Contains-append_cases}
@@ -72,7 +72,7 @@ IsReportNamed last report = Unit {0}
 abbrev pub AreNamed : ℕ → List Report → Type 0
 AreNamed last heard = (report : Report) → Contains heard report → IsReportNamed last report
 
--- the cutoff of each point that was heard under the ticket is backed
+-- the cutoff of each point that was received under the ticket is backed
 abbrev pub ArePointsBacked : Outlook → List Report → Ticket → Type 0
 ArePointsBacked o heard ticket = (x : List ℤ) → Contains heard (Solution ticket x)
     → IsBacked o (Some (cutoff_of o.problem o.gap x))
@@ -82,8 +82,8 @@ pub record IsGivenNumber (o : Outlook) (ticket : Ticket) : Type 0 where
   pub above : 0 < ticket.number
   pub below : ticket.number ≤ o.last
 
--- The rank takes part in a race: each order of work under its ticket says so and gives the raced node.
--- The race was not won by it, and no hand was heard under the ticket.
+-- The rank takes part in a race: each order of work under its ticket says so and gives the raced
+-- node. The race was not won by it, and no hand was received under the ticket.
 pub record IsRacerOn (o : Outlook) (all : List Told) (heard : List Report) (ticket : Ticket) : Type 0 where
   pub given : IsGivenNumber o ticket
   pub race : (told : Told) (work : Ordered) → Contains all told → told.order ≡ order_of work
@@ -94,8 +94,8 @@ pub record IsRacerOn (o : Outlook) (all : List Told) (heard : List Report) (tick
   pub none : hands_under ticket heard ≡ 0
   pub points : ArePointsBacked o heard ticket
 
--- The rank works: each order of work under its ticket gives its node, and as many hands were taken as
--- were heard.
+-- The rank works: each order of work under its ticket gives its node, and as many hands were taken
+-- as were received.
 pub record IsWorkOn (o : Outlook) (all : List Told) (heard : List Report) (ticket : Ticket)
     (changes : List Change) (taken : ℕ) : Type 0 where
   pub given : IsGivenNumber o ticket
@@ -111,7 +111,8 @@ IsOn o all heard (Racing racer) = IsRacerOn o all heard racer.ticket
 IsOn o all heard (Active work) = IsWorkOn o all heard work.ticket work.node.changes (length work.taken)
 IsOn o all heard (Dead how) = Unit {0}
 
--- All orders that were ever queued, and what was heard of each rank, agree with the ranks' states.
+-- All orders that were ever queued, and what was received from each rank, agree with the ranks'
+-- states.
 pub record IsTracked (o : Outlook) (states : List State) (all : List Told) (heard : ℕ → List Report)
     : Type 0 where
   pub orders : AreGoodOrders o all

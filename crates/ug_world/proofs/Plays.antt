@@ -79,15 +79,15 @@ sent_so old (event ∷ events) (new ∷ course) t =
 sent_so old [] (new ∷ course) t = absurd t
 sent_so old (event ∷ events) [] t = absurd t
 
--- ---- what was heard was sent
+-- ---- what was received was sent
 
--- event k hears at this place, and so many were sent earlier
+-- event k receives at this place, and this many were sent earlier
 record IsMissingFrom (earlier : ℕ) (events : List Event) (k place : ℕ) : Type 0 where
   rank : ℕ
   hears : slice_get events k ≡ Some (Hear place rank)
   few : earlier + length (sent_by (take k events)) ≤ place
 
--- no event before the last of a course hears where nothing was sent
+-- no event before the last of a course receives where nothing was sent
 none_from : (old : World) (events : List Event) (done : ℕ) (course : List World)
     → IsCourse old (take done events) course → (k place : ℕ) → k < done
     → IsMissingFrom (length old.sent) events k place → ⊥
@@ -178,7 +178,7 @@ module _ (b : BookState) (events : List Event) (done : ℕ) (world : World)
       none_before b events (length events) whole.course whole.happened k place
       (slice_get_within events k (Hear place m.rank) m.hears) m
 
--- ---- one report heard
+-- ---- one report received
 
 pub heard_so : (old : World) (place rank : ℕ) (report : Report) (answer : Heard)
     (book : BookState) (replies : List Heard)

@@ -1,4 +1,4 @@
--- That what is heard of a worker can be read: no bad bytes come from it.
+-- That what is received from a worker can be read: no bad bytes come from it.
 use Rattle.std.proofs.Common.{◌≡◌, ◌⊎◌, inl, inr, ℕ, ◌<◌, List, [], ◌∷◌, ◌++◌, length, append_assoc, append-nil, refl, sym, ap, subst, ◌∙◌, arith}
 use Rattle.std.specs.Prelude.{All}
 use Rattle.std.specs.List.{flat_map}
@@ -25,7 +25,7 @@ use Rattle.ug_serve.specs.Staffs.{IsWorked, heard_at}
 use Rattle.ug_serve.proofs.Heard.{front_of, one_way}
 use Rattle.ug_serve.proofs.Queues.{told_more, told_still}
 
--- a front of a frame that is shorter than it is cut short
+-- a prefix of a frame that is shorter than it is cut short
 pub front_cut : (bytes tail text rest : List ℕ) → IsLength (length text)
     → bytes ++ tail ≡ framed text ++ rest → length bytes < length (framed text) → IsCutShort bytes
 front_cut bytes tail text rest small same less = elim (cases_lt (length bytes) 4) [
@@ -48,7 +48,7 @@ abbrev behind_first : List ℕ → List ℕ
 behind_first [] = []
 behind_first (x ∷ xs) = xs
 
--- where one list begins another, or is longer than its front
+-- if one list begins another, or is longer than its front
 front_or : (bytes tail front rest : List ℕ) → bytes ++ tail ≡ front ++ rest
     → (length bytes < length front) ⊎ ((more : List ℕ) × (bytes ≡ front ++ more))
 front_or bytes tail [] rest same = inr (bytes, refl)
@@ -76,7 +76,7 @@ later_carried : (ms ns : List Report) → All reports.IsCarried (ms ++ ns) → A
 later_carried [] ns all = all
 later_carried (m ∷ ms) ns all = later_carried ms ns (All-tail reports.IsCarried m (ms ++ ns) all)
 
--- ---- what a worker told
+-- ---- what a worker reported
 
 -- it is the frames of these reports, and the rest of one
 record IsTelling (shown : List Said) : Type 0 where
@@ -137,7 +137,7 @@ telling now shown t (inr part) = record {
       ∙ one_more now.said t.all part.report t.parts;
 }
 
--- what is behind the frames of reports that were heard from a worker is not bad
+-- what is behind the frames of reports that were received from a worker is not bad
 pub never_bad : (said : List Exchange) (rank : ℕ) (heard : List Report) (rest : List ℕ) → IsWorked said rank
     → All reports.IsCarried heard → heard_at rank said ≡ flat_map reports.spelled heard ++ rest
     → IsDecoded reports.IsCarried reports.spelled rest Bad → ⊥

@@ -1,4 +1,4 @@
--- That a report is heard only before the end is told.
+-- That a report is received only before the end is sent.
 use Rattle.std.proofs.Common.{◌≡◌, inl, inr, eqb, ℕ, ℤ, List, [], ◌∷◌, sym, ap, subst, ◌∙◌}
 use Rattle.std.specs.Prelude.{Contains}
 use Rattle.std.specs.Option.{option_to_list}
@@ -17,7 +17,7 @@ use Rattle.ug_world.specs.Workers.{IsUnused}
 use Rattle.ug_world.proofs.Traffic.{left_in, left_of, only_there, orders_to, sent_in, to_rank}
 use Rattle.ug_world.proofs.Worked.{none_ends}
 
--- ---- once the end is told nothing else is done
+-- ---- once the end is sent nothing else is done
 
 abbrev Closes : HubState → Type 0
 Closes s = s.pace ≡ Closing
@@ -64,7 +64,7 @@ all_closing old [] new same closes = ap (λ (s : HubState). s.pace) same ∙ clo
 all_closing old (deed ∷ deeds) new (mid, does, more) closes =
     all_closing mid deeds new more (stays_closing old deed mid does closes)
 
--- ---- a deed that tells the end
+-- ---- a deed that reports the end
 
 -- no end left the queue
 abbrev NoneEnds : List Told → Type 0
@@ -105,7 +105,7 @@ closed_by gap r old (deed ∷ deeds) new (mid, does, more) none there =
           (λ rank left. none rank (Contains-append_right (option_to_list (left_in deed)) (left_of deeds) _ left)) later
     ]
 
--- where a report may be read no end was told
+-- where a report may be read no end was sent
 pub none_told : (b : BookState) (faults : ℕ) → IsUnused b → (done : List Deed) (s : HubState)
     → IsCourse (beginning b faults) done s → MayBeRead s.pace → (r : ℕ)
     → Contains (orders_to b.settings.gap r done) End → ⊥

@@ -1,4 +1,5 @@
--- That the hands and dones of a crew of workers are fair, where what was told and heard agrees.
+-- That the hands and dones of a crew of workers are fair, where what was sent and received
+-- agrees.
 use Rattle.std.proofs.Common.{◌≡◌, inl, inr, eqb, ℕ, ℤ, ◌≤◌, List, [], ◌∷◌, ◌++◌, Option, None, Some, refl, sym, ap, subst, ◌∙◌, arith}
 use Rattle.std.specs.Prelude.{Contains, IfSome}
 use Rattle.std.proofs.lemmas.List.Elements.{Contains-append_cases, Contains-append_left, Contains-append_right}
@@ -92,7 +93,7 @@ gap_sent gap r own bytes (deed ∷ deeds) none there =
           (Contains-append_right (option_to_list (left_in deed)) (left_of deeds) _ left)) later
     ]
 
--- ---- when a hand or a done is heard
+-- ---- when a hand or a done is received
 
 abbrev ticket_count : Option Ticket → ℕ
 ticket_count None = 0
@@ -170,7 +171,7 @@ module _ (b : BookState) (faults : ℕ) (unused : IsUnused b) (done : List Deed)
       }
   hand_at ticket number changes (Dead how) s on current = absurd (omega (arith, ap ticket_count current))
 
-  -- a cutoff that is known is backed, where the points heard under the ticket are
+  -- a cutoff that is known is backed, where the points received under the ticket are
   known_backed : (ticket : Ticket) (u : IsUnderSent sent ticket) (cutoff : ℤ)
       → ((x : List ℤ) → Contains heard (Solution ticket x)
       → IsBacked o (Some (cutoff_of old.book.problem old.book.settings.gap x)))

@@ -76,7 +76,7 @@ dead_anyway b rank dead = elim (cases_lt rank (length b.ranks)) [
 
 module _ (o : Opening) (end : End) (before : ℕ) (after : CrewSeen) (said : List Exchange) (Tried : ℕ → Type 0) (Safe : Type 0)
     (h : HasCoordinated (opening_book o) before after end Tried Safe) (told : after.said ≡ Some said) where
-  -- what was heard and told in the deeds is what the crew tells
+  -- what was received and reported in the deeds is what the crew says
   was_said : AreAlwaysWorked said → AreAlwaysWorked h.now.said
   was_said worked = subst AreAlwaysWorked
       (subst (λ (shown : Option (List Exchange)). IfSome shown (λ s. s ≡ h.now.said)) told h.shown) worked

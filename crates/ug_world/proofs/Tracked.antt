@@ -1,4 +1,4 @@
--- What is decided agrees with the orders told and the reports heard.
+-- What is decided agrees with the orders sent and the reports received.
 use Rattle.std.proofs.Common.{◌≡◌, inl, inr, ℕ, zero, suc, ℤ, ◌+◌, ◌%◌, Bool, true, false, List, [], ◌∷◌, ◌++◌, append_assoc, append-nil, length, Option, None, Some, refl, sym, ap, subst, ◌∙◌, arith}
 use Rattle.std.specs.Prelude.{Contains, IfSome, IsSomeAnd, if◌then◌else◌, slice_set, ◌≤ℤ◌}
 use Rattle.std.proofs.lemmas.Bool.{and_parts, cases_Bool, eqb-true}
@@ -22,7 +22,7 @@ use Rattle.ug_rules.specs.declared.demand.Wanted.{Wanted}
 use Rattle.ug_rules.specs.declared.demand.Wanted.TheVariants.{Ask, Enough, Nothing}
 use Rattle.ug_rules.specs.declared.told.Told.{Told}
 use Rattle.ug_rules.specs.State.{BookState, cutoff_of_best, ticket_with}
-use Rattle.ug_rules.specs.Deciding.{IsDecided, IsRaceEnded, IsReadied, announced, announced_as, announcement, announcements, assigned, assigned_by, assigned_times, collect_in, collect_out, collected, dropped, given, given_to, handouts, is_race_due, loser_stop, loser_stops, params_with, usual_params, race_begun_with, race_won, raced_by, raced_by_all, ranks_won, same_cutoff, stopped_collecting, winner_order, work_order}
+use Rattle.ug_rules.specs.Deciding.{IsDecided, IsRaceEnded, IsReadied, announced, announced_as, announcement, announcements, assigned, assigned_by, assigned_times, collect_in, collect_out, collected, dropped, given, given_to, handouts, is_race_due, loser_stop, loser_stops, racer_params, usual_params, race_begun_with, race_won, raced_by, raced_by_all, ranks_won, same_cutoff, stopped_collecting, winner_order, work_order}
 use Rattle.ug_rules.specs.Ranks.{of_ranks, racers_freed, ranks_that}
 use Rattle.ug_serve.specs.Transcripts.{Ordered, order_of}
 use Rattle.ug_serve.proofs.Counted.{hands_none}
@@ -30,13 +30,14 @@ use Rattle.ug_serve.proofs.Honesty.{nothing_in}
 use Rattle.ug_serve.proofs.Told.{first_or}
 use Rattle.ug_world.proofs.Outlooks.{AreGoodOrders, AreNew, IsBacked, IsFurther, IsGivenNumber, IsGoodOrder, IsNewOrder, IsOn, IsOrderNamed, IsRacerOn, IsTracked, IsWorkOn, NoneWins, Outlook, freed_at, freed_on, named_on, orders_on, outlook_of, set_on, state_on, winner_on, work_on}
 
--- the states of a book, with all orders that left its queue or wait there, and what was heard
+-- the states of a book, with all orders that left its queue or wait there, and what was received
 abbrev pub IsTrackedBy : List Told → (ℕ → List Report) → BookState → Type 0
 IsTrackedBy left heard b = IsTracked (outlook_of b) b.ranks (left ++ b.orders) heard
 
 -- ---- orders
 
--- an order that gives no ticket, and makes none the winner's; its cutoff, if it names one, is backed
+-- an order that gives no ticket, and makes none the winner's; its cutoff, if it names one, is
+-- backed
 pub record IsPlain (o : Outlook) (order : Order) : Type 0 where
   pub good : IsGoodOrder o order
   pub fresh : IsNewOrder o.last order
@@ -438,7 +439,7 @@ module _ (left : List Told) (heard : ℕ → List Report) where
   raced_so : (r : ℕ) (entry : Entry) (b : BookState) → b.raced ≡ Some entry → Is b → Is (raced_by r entry b)
   raced_so r entry b raced t =
       let new = raced_by r entry b in
-      let params = params_with (r % 16) in
+      let params = racer_params r in
       let more = work_order b r (b.last + 1) params true entry ∷ [] in
       let further : IsFurther (outlook_of b) (outlook_of new) =
       record { problem = refl; gap = refl; best = refl; last = omega arith } in

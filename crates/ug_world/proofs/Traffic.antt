@@ -34,7 +34,7 @@ use Rattle.ug_serve.proofs.Told.{first_or, in_front}
 use Rattle.ug_serve.proofs.Wires.{fed_so}
 use Rattle.ug_world.proofs.Numbered.{Grows, decided_grows, grows_both, grows_itself, grows_left, heard_grows, killed_grows, stands_grows}
 
--- ---- what a deed tells and hears
+-- ---- what a deed sends and receives
 
 -- the order that was put in a frame for a rank, if one was; one that comes first has this gap
 abbrev pub sent_in : ℤ → Deed → Option Told
@@ -56,7 +56,7 @@ pub record Delivery : Type 0 where
   pub rank : ℕ
   pub report : Report
 
--- the one that was heard, if one was
+-- the one that was received, if one was
 abbrev pub taken_in : Deed → Option Delivery
 taken_in (Took rank report answer) = Some (record { rank = rank; report = report })
 taken_in deed = None
@@ -83,7 +83,7 @@ abbrev pub orders_to : ℤ → ℕ → List Deed → List Order
 orders_to gap r [] = []
 orders_to gap r (deed ∷ deeds) = to_rank r (sent_in gap deed) ++ orders_to gap r deeds
 
--- the reports that were heard from it
+-- the reports that were received from it
 abbrev pub reports_from : ℕ → List Deed → List Report
 reports_from r [] = []
 reports_from r (deed ∷ deeds) = from_rank r (taken_in deed) ++ reports_from r deeds
@@ -93,7 +93,7 @@ abbrev pub left_of : List Deed → List Told
 left_of [] = []
 left_of (deed ∷ deeds) = option_to_list (left_in deed) ++ left_of deeds
 
--- all reports that were heard
+-- all reports that were received
 abbrev pub heard_of : List Deed → List Report
 heard_of [] = []
 heard_of (deed ∷ deeds) = report_in (taken_in deed) ++ heard_of deeds
@@ -154,8 +154,8 @@ abbrev IsStreamed : ℕ → HubState → HubState → List Report → Type 0
 IsStreamed r old new given =
     IsStill r old new given ⊎ (HasFed r old new given ⊎ (HasGiven r old new given ⊎ HasShut r old new given))
 
--- the bytes that were heard from the rank begin with the frames of these reports, and what is behind
--- them waits, unless its stream was shut
+-- the bytes that were received from the rank begin with the frames of these reports, and what is
+-- behind them waits, unless its stream was shut
 pub record IsRead (r : ℕ) (s : HubState) (given : List Report) : Type 0 where
   pub carried : All reports.IsCarried given
   pub rest : List ℕ
@@ -224,7 +224,8 @@ read_more r old new given more (inr (inr (inr t))) h = no_more r new given more 
 abbrev pub Fits : HubState → Type 0
 Fits s = length s.streams ≡ length s.lives
 
--- what a deed does for a rank: an order was put in a frame, one left the queue, a report was heard
+-- what a deed does for a rank: an order was put in a frame, one left the queue, a report was
+-- received
 record IsStep (r : ℕ) (old new : HubState) (sent left : Option Told) (taken : Option Delivery)
     : Type 0 where
   more : List Exchange
@@ -283,7 +284,7 @@ silent r old new left said streams lives fit grows = record {
   grows = grows;
 }
 
--- the frame of an order was told
+-- the frame of an order was sent
 told_only : (r : ℕ) (told : Told) → told_at r (told_to told.rank (orders.spelled told.order))
     ≡ flat_map orders.spelled (only (eqb told.rank r) told.order)
 told_only r told = elim (cases_eq told.rank r) [
@@ -322,7 +323,7 @@ telling r old new told left carried said streams lives own fit grows = record {
   grows = grows;
 }
 
--- bytes were heard, and the stream of their rank was set
+-- bytes were received, and the stream of their rank was set
 heard_for : (r q : ℕ) (old new : HubState) (bytes : List ℕ) → new.said ≡ old.said ++ heard_from q bytes
     → q ≡ r → heard_at r new.said ≡ heard_at r old.said ++ bytes
 heard_for r q old new bytes said same =
@@ -400,7 +401,7 @@ taking r old new q report answer t fit =
           (heard_grows answer q report old.book);
     }
 
--- a rank is gone
+-- a rank is lost
 losing : (r : ℕ) (old new : HubState) (q : ℕ) (more : List Exchange) → new.said ≡ old.said ++ more
     → told_at r more ≡ [] → IsStreamed r old new [] → length new.streams ≡ length old.streams
     → new.lives ≡ slice_set old.lives q false → new.book ≡ killed q old.book → Fits old
@@ -456,7 +457,7 @@ lost_step r old new q Nonsense t fit =
     (ap (λ (l : List Waiting). length l) t.why.streams ∙ length-set old.streams q t.why.stream)
     t.lives t.book fit
 
--- an order could not be told
+-- an order could not be sent
 unsent_grows : (old new : HubState) (rank : ℕ) (order : Order) → IsUnsent old new rank order
     → Grows (record { rank = rank; order = order } ∷ []) old.book new.book
 unsent_grows old new rank order t =

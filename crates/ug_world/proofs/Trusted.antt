@@ -1,4 +1,4 @@
--- What honest solvers tell of a Done is true.
+-- What honest solvers report of a Done is true.
 use Rattle.std.proofs.Common.{◌≡◌, inl, inr, ℕ, ℤ, zero, suc, ◌<◌, List, [], ◌∷◌, ◌++◌, length, refl, sym, subst, arith}
 use Rattle.std.specs.Prelude.{Contains, Option}
 use Rattle.ug_rows.specs.declared.area.Interval.{Interval}

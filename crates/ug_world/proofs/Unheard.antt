@@ -1,4 +1,4 @@
--- A rank of which no report was heard has not joined, as long as none dies.
+-- A rank of which no report was received has not joined, as long as none is lost.
 use Rattle.std.proofs.Common.{◌≡◌, ◌≢◌, inl, inr, ℕ, zero, suc, ℤ, Bool, true, false, List, [], ◌∷◌, Option, None, Some, refl, sym, ap, subst}
 use Rattle.std.specs.Prelude.{Contains, if◌then◌else◌, slice_set}
 use Rattle.std.proofs.lemmas.Bool.{cases_eq, false≢true}
@@ -186,7 +186,7 @@ decided_stays old new rank is absent =
     (collected_stays is.collected_.demand (given (handouts is.ready) is.ready) rank
     (given_stays (handouts is.ready) is.ready rank (readied_stays old is.ready rank is.readied absent)))
 
--- ---- a report of another rank is heard
+-- ---- a report of another rank is received
 
 handed_stays : (state : State) (r : ℕ) (changes : List Change) (b : BookState) (rank : ℕ) → r ≢ rank
     → Stays b (handed_at state r changes b) rank

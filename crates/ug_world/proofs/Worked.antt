@@ -1,4 +1,4 @@
--- What is heard of a crew of workers is honest.
+-- What is received from a crew of workers is honest.
 use Rattle.std.proofs.Common.{◌≡◌, inl, inr, eqb, ℕ, ℤ, ◌+◌, ◌<◌, ◌≤◌, Bool, true, false, List, [], ◌∷◌, ◌++◌, append_assoc, append-nil, Option, Some, None, refl, sym, ap, subst, ◌∙◌, arith}
 use Rattle.std.specs.Prelude.{Contains, replicate, slice_index_or}
 use Rattle.std.specs.Option.{option_to_list}
@@ -213,7 +213,7 @@ abbrev bound_in : Option Delivery → ℕ
 bound_in None = 0
 bound_in (Some delivery) = delivery.rank + 1
 
--- more than any rank from which a report was heard
+-- more than any rank from which a report was received
 abbrev bound_of : List Deed → ℕ
 bound_of [] = 0
 bound_of (deed ∷ deeds) = bound_in (taken_in deed) + bound_of deeds
@@ -357,7 +357,7 @@ module _ (b : BookState) (faults : ℕ) (unused : IsUnused b) (deeds : List Deed
       g.box ∙ ap (λ (w : Ordered). area_by (root_of b.problem) w.changes)
       (sym (same_work work other (ap (λ (t : Told). work_of t.order) same)))
 
-  -- all that was heard is honest, where workers told what was heard
+  -- all that was received is honest, where workers reported what was received
   pub honest_so : AreWorked now.said → IsHonestSo now.book (left_of deeds) (heard_of deeds)
   honest_so worked =
       subst (λ (p : Instance). AreHonest p (IsGivenWith p all) (heard_of deeds))
@@ -368,7 +368,7 @@ module _ (b : BookState) (faults : ℕ) (unused : IsUnused b) (deeds : List Deed
 
 -- ---- through a course
 
--- what a deed adds to what was told and heard
+-- what a deed adds to what was sent and received
 record IsAfter (deed : Deed) (past : Past) : Type 0 where
   told : (after deed past).told ≡ past.told ++ option_to_list (left_in deed)
   heard : (after deed past).heard ≡ past.heard ++ report_in (taken_in deed)

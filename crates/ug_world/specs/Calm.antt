@@ -1,5 +1,4 @@
--- The law of a calm crew of workers: where no call failed and memory was not wanting, no rank is
--- taken for gone.
+-- The law of a calm crew of workers: if no call failed and memory sufficed, no rank is lost.
 use Rattle.std.specs.Prelude.{◌≡◌, ℕ, false}
 use Rattle.ug_io.specs.Outside.{IsCalm}
 use Rattle.ug_ranks.specs.Looks.{is_joined}
@@ -12,8 +11,8 @@ use Rattle.ug_serve.specs.Staffs.{AreAlwaysWorked}
 use Rattle.ug_world.specs.Workers.{IsUnused}
 
 -- From a book that has given no ticket, and no rank of which has joined: the count of faults is the
--- same at the end, and memory was not wanting. At each moment what was heard of each rank was what
--- a worker tells.
+-- same at the end, and memory did not run out. At each moment the bytes received from each rank are
+-- what a worker sends.
 pub record IsCalmCourse (b : BookState) (faults : ℕ) (now : HubState) : Type 0 where
   pub unused : IsUnused b
   pub away : (rank : ℕ) → is_joined (state_at b.ranks rank) ≡ false

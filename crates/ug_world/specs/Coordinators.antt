@@ -14,7 +14,7 @@ use Rattle.ug_coord.specs.Hubs.{HasCome, StaysSound, beginning}
 use Rattle.ug_world.specs.Honest.{IsGivenWith}
 use Rattle.ug_world.specs.Laws.{LosesNothing}
 
--- the orders that left the queue so far, the reports that were heard, and what they were answered
+-- the orders that left the queue so far, the reports that were received, and their answers
 pub record Past : Type 0 where
   pub told : List Told
   pub heard : List Report
@@ -42,7 +42,7 @@ after (Passed rank order) past = with_order past (record { rank = rank; order = 
 after (Unwritten rank order) past = with_order past (record { rank = rank; order = order })
 after deed past = past
 
--- what was heard is honest, of the tickets in orders that left the queue or wait
+-- the reports received are honest, for the tickets in orders that left the queue or wait
 abbrev pub IsHonestSo : BookState → List Told → List Report → Type 0
 IsHonestSo b told heard = AreHonest b.problem (IsGivenWith b.problem (told ++ b.orders)) heard
 
@@ -75,14 +75,14 @@ StaysHonest old past (deed ∷ deeds) new (mid, does, more) = honest_at old past
     × (IsHonestSo mid.book (after deed past).told (after deed past).heard
     × StaysHonest mid (after deed past) deeds new more)
 
--- what is heard is honest through a course from the beginning
+-- the reports received are honest through a course from the beginning
 abbrev pub IsHonestFrom : (b : BookState) (faults : ℕ) (now : HubState) → HasCome (beginning b faults) now
     → Type 0
 IsHonestFrom b faults now come = StaysHonest (beginning b faults) nothing come.deeds now come.course
 
--- From a sound book that has given no ticket: whatever comes of the crew, whichever ranks are gone
+-- From a sound book that has given no ticket: whatever comes of the crew, whichever ranks are lost
 -- and whichever calls fail, at each moment the book is sound, so no better point is lost, as long
--- as what is heard is honest.
+-- as what is received is honest.
 abbrev pub CoordinatorsLoseNothing : Type 0
 CoordinatorsLoseNothing = (b : BookState) (faults : ℕ) (now : HubState)
     (come : HasCome (beginning b faults) now) → IsBook b ⊎ (come.deeds ≡ []) → IsSoundBook b → b.last ≡ 0

@@ -15,7 +15,7 @@ rank_of (Join rank) = Some rank
 rank_of (Gone rank) = Some rank
 rank_of event = None
 
--- a State that is sent tells of an open node
+-- a State that is sent has an open node
 abbrev pub IsSendable : Event → Type 0
 IsSendable (Send report) = IsHearable report
 IsSendable (Hear place rank) = Unit {0}
@@ -24,7 +24,7 @@ IsSendable (Gone rank) = Unit {0}
 IsSendable Decide = Unit {0}
 IsSendable Tell = Unit {0}
 
--- what is sent may be heard, and the settings of a restart are such
+-- a report that is sent may be received, and the settings of a restart are valid
 abbrev pub IsDiskEvent : DiskEvent → Type 0
 IsDiskEvent (InWorld event) = IsSendable event
 IsDiskEvent Note = Unit {0}

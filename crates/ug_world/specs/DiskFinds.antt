@@ -20,7 +20,7 @@ pub record IsOfWorld (past : List DiskWorld) (image : Image) : Type 0 where
   pub among : Contains past world
   pub moment : IsImageOf world.world.book image.sequence image
 
--- it is an image of a book with which a run would go on from what recovery could find in one of
+-- it is an image of a book with which a run would resume from what recovery could find in one of
 -- these worlds: such a restart may be refused when its image is on the disk
 pub record IsOfStart (past : List DiskWorld) (image : Image) : Type 0 where
   pub world : DiskWorld
@@ -43,7 +43,7 @@ pub record IsLatest (past : List DiskWorld) (book : BookState) (sequence : ℕ) 
   pub no_older : IsNoOlder book.run sequence image
   pub of : IsOfWorld past image ⊎ IsOfStart past image
 
--- at a moment of an event that is no restart it is of the run
+-- at a moment of an event other than a restart it is of the run
 abbrev pub IsOfSameRun : DiskEvent → BookState → Image → Type 0
 IsOfSameRun (InWorld event) book image = IsOfRun book image
 IsOfSameRun Note book image = IsOfRun book image
@@ -51,12 +51,12 @@ IsOfSameRun Save book image = IsOfRun book image
 IsOfSameRun (Crash zero one settings) book image = Unit {0}
 IsOfSameRun (Stop settings) book image = Unit {0}
 
--- what is found at each moment of an event
+-- the image found at each moment of an event
 abbrev pub IsThrough : List DiskWorld → DiskWorld → DiskEvent → Image → Type 0
 IsThrough past old event image = IsLatest past old.world.book (sequence_of old.saver) image
     × IsOfSameRun event old.world.book image
 
--- what is found between two events: where a run goes on an image of it
+-- the image found between two events: one of the run, if a run continues
 abbrev pub IsBetween : List DiskWorld → DiskWorld → Image → Type 0
 IsBetween past w image = IsLatest past w.world.book (sequence_of w.saver) image
     × (w.refused ≡ None → IsOfRun w.world.book image)

@@ -23,7 +23,7 @@ abbrev pub halted_by : Halt → Halted
 halted_by (NoSuchThere place) = NoSuch place
 halted_by NoMemory = Memory
 
--- the event names this rank, and the run has not so many
+-- the event names this rank, and the run has fewer
 pub record IsPastRanks (ranks : ℕ) (event : Event) (halted : Halted) : Type 0 where
   pub rank : ℕ
   pub names : rank_of event ≡ Some rank

@@ -40,7 +40,7 @@ NewRunsBegin =
     → IsBook book → book ≡ opening_book start.opening
     → HasBegun (beginning book (record { saver = start.saver; told = new; faults = faults }))
 
--- and what `restart` answers, where the very image from which it goes on was Covered
+-- and what `restart` returns, if the very image from which it resumes was Covered
 abbrev pub NextRunsBegin : Type 0
 NextRunsBegin =
     (p : Instance) (settings : Settings) (old new : History) (faults : ℕ) (start : Start)
@@ -50,7 +50,7 @@ NextRunsBegin =
     → IsBook book → book ≡ opening_book start.opening
     → HasBegun (beginning book (record { saver = start.saver; told = new; faults = faults }))
 
--- No better point is lost, neither by the book of a run that goes on nor by the disk: whatever a
+-- No better point is lost, neither by the book of a run that continues nor by the disk: whatever a
 -- crash might have left, at any moment since then, recovery finds an image that is Covered, so each
 -- point that is better than its incumbent lies in one of its nodes.
 pub record LosesNothingSince (since : History) (w : DiskWorld) : Type 0 where
@@ -65,7 +65,7 @@ LoseNothing since (event ∷ events) (new ∷ course) =
 LoseNothing since [] (new ∷ course) = ⊥
 LoseNothing since (event ∷ events) [] = ⊥
 
--- so far all that solvers sent to the run that goes on is honest
+-- so far everything that solvers sent to the run that continues is honest
 abbrev pub IsHonestOnDisk : DiskWorld → Type 0
 IsHonestOnDisk w = w.refused ≡ None → IsHonest w.world
 

@@ -24,14 +24,14 @@ pub record IsLeftOf (w : DiskWorld) (left : PlayedDisk) : Type 0 where
   pub replies : left.replies ≡ w.world.replies
   pub attempts : left.attempts ≡ w.attempts
 
--- so many of the events happened, one after another, and led to what stands
+-- the first `done` events happened, one after another, and led to this world
 pub record HasCome (start : DiskWorld) (events : List DiskEvent) (done : ℕ) (w : DiskWorld)
     : Type 0 where
   pub course : List DiskWorld
   pub happened : IsDiskCourse start (take done events) course
   pub ends : disk_end_of start course ≡ w
 
--- all of the events happened, and a run goes on
+-- all of the events happened, and a run continues
 pub record IsPlayedOnDisk (start : DiskWorld) (events : List DiskEvent) (left : PlayedDisk)
     : Type 0 where
   pub w : DiskWorld
@@ -45,7 +45,7 @@ abbrev pub IsHaltedAt : Option DiskEvent → DiskWorld → DiskWorld → Halted 
 IsHaltedAt None old new why = IsRefused old why × (new ≡ old)
 IsHaltedAt (Some event) old new why = IsHalted old event new why
 
--- so many of the events happened, and why no more did
+-- this number of events happened, and why no more did
 pub record IsStoppedOnDisk (start : DiskWorld) (events : List DiskEvent) (fault : PlayDiskFault)
     : Type 0 where
   pub w : DiskWorld
@@ -54,7 +54,7 @@ pub record IsStoppedOnDisk (start : DiskWorld) (events : List DiskEvent) (fault 
   pub halted : IsHaltedAt (slice_get events fault.done) w new fault.why
   pub is_left : IsLeftOf new fault.left
 
--- no better point is lost by what is left, if a run went on, nor since then by its disk
+-- no better point is lost by the book that is left, if a run continued, nor since then by its disk
 pub record NothingIsLost (since : History) (w : DiskWorld) (left : PlayedDisk) : Type 0 where
   pub book : w.refused ≡ None → LosesNothing left.book
   pub disk : Leaves (FindsIn IsCovered) (Some since) (Some (history_of left.disk))

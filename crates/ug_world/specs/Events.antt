@@ -6,8 +6,8 @@ use Rattle.ug_rules.specs.Hearing.{IsHearable}
 use Rattle.ug_world.specs.declared.event.Event.{Event}
 use Rattle.ug_world.specs.declared.event.Event.TheVariants.{Send, Hear, Join, Gone, Decide, Tell}
 
--- an event of a world with so many ranks: its rank is there, and a State that is sent tells of an
--- open node
+-- an event of a world with this many ranks: its rank exists, and a State that is sent has an open
+-- node
 abbrev pub IsEvent : ℕ → Event → Type 0
 IsEvent ranks (Send report) = IsHearable report
 IsEvent ranks (Hear place rank) = rank < ranks
@@ -25,7 +25,7 @@ report_of event = []
 abbrev pub sent_by : List Event → List Report
 sent_by events = flat_map report_of events
 
--- event k hears a report at this place, and no more than so many were sent before it
+-- event k receives the report at this place, and at most as many were sent before it
 pub record IsMissing (events : List Event) (k place : ℕ) : Type 0 where
   pub rank : ℕ
   pub hears : slice_get events k ≡ Some (Hear place rank)

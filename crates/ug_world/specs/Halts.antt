@@ -12,7 +12,7 @@ use Rattle.ug_rules.specs.State.{BookState}
 use Rattle.ug_world.specs.Worlds.{World}
 use Rattle.ug_world.specs.Plays.{IsLeftBy}
 
--- the event hears a report at this place, and no more than so many were sent
+-- the event receives the report at this place, and at most as many were sent
 pub record IsPast (w : World) (event : Event) (place : ℕ) : Type 0 where
   pub rank : ℕ
   pub hears : event ≡ Hear place rank
@@ -24,12 +24,12 @@ abbrev pub IsNotThere : List Report → ℕ → Halt → Type 0
 IsNotThere sent place (NoSuch other) = (other ≡ place) × (length sent ≤ place)
 IsNotThere sent place Memory = Unit {0}
 
--- it hears where nothing was sent, and nothing has changed; or memory ended it
+-- it receives a report that was not sent, and nothing has changed; or memory ran out
 abbrev pub IsHalted : World → Event → World → Halt → Type 0
 IsHalted old event new (NoSuch place) = IsPast old event place × (new ≡ old)
 IsHalted old event new Memory = IsLeftBy (Some event) old.book new.book
 
--- the fault that this is, after so many events
+-- the fault, after this many events
 abbrev pub fault_of : Halt → ℕ → BookState → PlayFault
 fault_of (NoSuch place) done b = NoSuchFault place b
 fault_of Memory done b = MemoryFault b done

@@ -23,6 +23,6 @@ pub record IsGivenWith (p : Instance) (orders : List Told) (ticket : Ticket)
       (record { rank = rank; order = WorkOrder ticket params race cutoff changes })
   pub box : area ≡ area_by (root_of p) changes
 
--- so far all that solvers sent is honest, of the tickets in orders that were told or wait
+-- so far everything that solvers sent is honest, for the tickets in orders that were sent or wait
 abbrev pub IsHonest : World → Type 0
 IsHonest w = AreHonest w.book.problem (IsGivenWith w.book.problem (w.told ++ w.book.orders)) w.sent

@@ -67,7 +67,7 @@ beginning b s = record {
   attempts = [];
 }
 
--- while a run goes on, the saver knows how the slots stand, and what is noted is an image
+-- while a run continues, the saver knows the state of the slots, and what is noted is an image
 abbrev pub IsAble : DiskWorld → Type 0
 IsAble w = w.refused ≡ None → IsKept w.saver (Some w.told) × IfSome w.noted IsImage
 
@@ -86,7 +86,7 @@ pub record HasNoted (old new : DiskWorld) : Type 0 where
   pub moment : IsImageOf old.world.book 1 image
   pub rest : new ≡ record old { noted = Some image }
 
--- the image was saved under another sequence, or an attempt was made, and what became of it is told
+-- the image was saved under another sequence, or an attempt was made, and the result is recorded
 pub record HasAttempted (image : Image) (old new : DiskWorld) : Type 0 where
   pub attempt : Attempt
   pub next : Image
@@ -100,7 +100,7 @@ pub record HasAttempted (image : Image) (old new : DiskWorld) : Type 0 where
     attempts = old.attempts ++ attempt ∷ [];
   }
 
--- what is noted, if something is, is saved or an attempt is made
+-- the noted image, if there is one, is saved or an attempt is made
 abbrev pub SavesWhat : Option Image → DiskWorld → DiskWorld → Type 0
 SavesWhat None old new = new ≡ old
 SavesWhat (Some image) old new = HasAttempted image old new
@@ -109,8 +109,8 @@ pub record IsSavedOrNot (old new : DiskWorld) : Type 0 where
   pub goes_on : old.refused ≡ None
   pub saves : SavesWhat old.noted old new
 
--- a run goes on from an image that recovery finds, once an image of its book is acknowledged, and
--- no call of the disk failed; no order of it was told yet
+-- a run resumes from an image that recovery finds, once an image of its book is acknowledged, and
+-- no call of the disk failed; no order of it was sent yet
 pub record HasGoneOn (settings : Settings) (old new : DiskWorld) : Type 0 where
   pub book : IsGoneOn old.world.book.problem settings (Some old.told) new.world.book
   pub is : IsBook new.world.book
@@ -125,8 +125,8 @@ pub record HasGoneOn (settings : Settings) (old new : DiskWorld) : Type 0 where
     attempts = old.attempts;
   }
 
--- the restart is refused, for the first cause that is so or for want of memory; for a fault of the
--- disk where its count of faults rose, and for no other cause where it did
+-- the restart is refused, for the first cause that applies or out of memory; for a fault of the
+-- disk if its count of faults rose, and for no other cause then
 pub record IsNotRestarted (settings : Settings) (old new : DiskWorld) : Type 0 where
   pub fault : StartFault
   pub why : IsNotGoneOn old.world.book.problem settings (Some old.told) (Some new.told) fault
@@ -139,7 +139,7 @@ pub record IsNotRestarted (settings : Settings) (old new : DiskWorld) : Type 0 w
   }
 
 -- The coordinator restarts. At each moment of that recovery finds what it could find before, or the
--- first image of a book that goes on from such an image.
+-- first image of a book that resumes from such an image.
 pub record HasRestarted (settings : Settings) (old new : DiskWorld) : Type 0 where
   pub leaves : Leaves (IsSafeStart (Some old.told)
       (IsGoneOn old.world.book.problem settings (Some old.told))) (Some old.told) (Some new.told)
@@ -173,7 +173,7 @@ abbrev pub last_left : History → List DiskEvent → History
 last_left told [] = told
 last_left told (event ∷ events) = last_left (left_by event told) events
 
--- what stands at the end of a course
+-- the world at the end of a course
 abbrev pub disk_end_of : DiskWorld → List DiskWorld → DiskWorld
 disk_end_of old [] = old
 disk_end_of old (new ∷ course) = disk_end_of new course

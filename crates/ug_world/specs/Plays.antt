@@ -12,9 +12,9 @@ use Rattle.ug_world.specs.Worlds.{IsCourse, World, end_of, opening}
 use Rattle.ug_world.specs.Honest.{IsHonest}
 use Rattle.ug_world.specs.Laws.{LosesNothing}
 
--- what stands of the next event, where there is one: nothing where a report is not sent or not
--- heard, or an order not told; no rank fails to join or to die, and no decision fails to be made,
--- as far as memory goes
+-- the effect of the next event, if there is one, when a schedule stops: none if a report is not
+-- sent or received, or an order not sent; no rank fails to join or to be lost, and no decision
+-- fails to be made, as far as memory goes
 abbrev pub IsLeftBy : Option Event → BookState → BookState → Type 0
 IsLeftBy None old new = new ≡ old
 IsLeftBy (Some (Send report)) old new = new ≡ old
@@ -22,7 +22,7 @@ IsLeftBy (Some (Hear place rank)) old new = new ≡ old
 IsLeftBy (Some Tell) old new = new ≡ old
 IsLeftBy event old new = ⊥
 
--- so many of the events happened to the book, with nothing sent earlier, and this is what stands
+-- this number of events happened to the book, with nothing sent earlier, and this is the world
 pub record IsAfter (b : BookState) (events : List Event) (done : ℕ) (course : List World)
     (left : BookState) : Type 0 where
   pub happened : IsCourse (opening b []) (take done events) course
@@ -34,7 +34,8 @@ pub record IsPlayed (b : BookState) (events : List Event) (played : Played) : Ty
   pub after : IsAfter b events (length events) course played.book
   pub replies : played.replies ≡ (end_of (opening b []) course).replies
 
--- so many events happened, and the next is the first that hears a report where none was sent
+-- this number of events happened, and the next is the first that receives a report that was not
+-- sent
 pub record IsNoSuch (b : BookState) (events : List Event) (place : ℕ) (left : BookState)
     : Type 0 where
   pub done : ℕ
@@ -43,7 +44,7 @@ pub record IsNoSuch (b : BookState) (events : List Event) (place : ℕ) (left : 
   pub missing : IsMissing events done place
   pub first : (k other : ℕ) → k < done → ¬ IsMissing events k other
 
--- so many events happened, and memory ended the next
+-- this number of events happened, and memory ran out in the next
 pub record IsOutOfMemory (b : BookState) (events : List Event) (done : ℕ) (left : BookState)
     : Type 0 where
   pub there : done < length events
@@ -55,7 +56,7 @@ abbrev pub IsStopped : BookState → List Event → PlayFault → Type 0
 IsStopped b events (NoSuch place left) = IsNoSuch b events place left
 IsStopped b events (Memory left done) = IsOutOfMemory b events done left
 
--- no event hears a report where none was sent
+-- no event receives a report that was not sent
 abbrev pub AreAllThere : List Event → Type 0
 AreAllThere events = (k place : ℕ) → ¬ IsMissing events k place
 

@@ -47,9 +47,9 @@ pub record StaysLast (old new : Store) : Type 0 where
   pub last : last_slot new.saver ≡ last_slot old.saver
   pub sequence : sequence_of new.saver ≡ sequence_of old.saver
 
--- A save became this: it is acknowledged, and no call of the disk failed; or one did, and the last
--- acknowledged image stays; or memory was wanting, or numbers were at their end, and the disk is as
--- it was.
+-- The result of a save: it is acknowledged, and no call of the disk failed; or one did, and the
+-- last acknowledged image stays; or memory ran out, or no number is left, and the disk is
+-- unchanged.
 abbrev pub IsAttempt : Attempt → Store → Image → Store → Type 0
 IsAttempt Saved old image new =
     IsTried old image new × IsDone old image new × (new.faults ≡ old.faults)

@@ -21,19 +21,19 @@ pub record IsUnused (b : BookState) : Type 0 where
   pub last : b.last ≡ 0
   pub orders : b.orders ≡ []
 
--- From a sound book that has given no ticket: where at each moment what was heard of each rank is
--- what a worker tells that hears what was told to the rank, at each moment the book is sound, so
--- no better point is lost. Nothing is asked of what is told.
+-- From a sound book that has given no ticket: if at each moment the bytes received from each rank
+-- are what a worker sends that receives what was sent to the rank, then at each moment the book is
+-- sound, so no better point is lost. Nothing is assumed of what the workers send.
 abbrev pub CoordinatorsOfWorkersLoseNothing : Type 0
 CoordinatorsOfWorkersLoseNothing = (b : BookState) (faults : ℕ) (now : HubState)
     (come : HasCome (beginning b faults) now) → IsBook b ⊎ (come.deeds ≡ []) → IsSoundBook b → IsUnused b
     → AreAlwaysWorked now.said
     → StaysSound (beginning b faults) now come × LosesNothing now.book
 
--- How a solve of what an opening left has ended, where workers did it. The book with which it ended
--- is one of the same run, loses no better point, and has a feasible incumbent, if it has one. An
--- answer is right. At the limit just as many reports were heard as may be, and a node is held. With
--- a saver, where all that recovery could find was Covered, it is so at each moment.
+-- How a solve by workers of what an opening left has ended. The final book is one of the same run,
+-- loses no better point, and has a feasible incumbent, if it has one. An answer is right. At the
+-- limit exactly as many reports were received as the limit says, and a node is held. With a saver,
+-- if everything that recovery could find was Covered, it is so at each moment.
 pub record HasSolved (o : Opening) (saver : Option Saver) (end : End) (old new : DiskSeen) : Type 0 where
   pub same : IfBook end (IsSameRun (opening_book o))
   pub sound : IfBook end LosesNothing

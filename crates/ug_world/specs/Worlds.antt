@@ -1,4 +1,4 @@
--- What is so between two events, and what an event does: the rules of the coordinator, and the list
+-- The world between two events, and what an event does: the rules of the coordinator, and the list
 -- of what was sent.
 use Rattle.std.specs.Prelude.{◌≡◌, ◌⊎◌, ℕ, List, [], ◌∷◌, ◌++◌, Some, slice_get}
 use Rattle.ug_frames.specs.declared.report.Report.{Report}
@@ -13,8 +13,8 @@ use Rattle.ug_rules.specs.HearingLaws.{HasRisingChanges}
 use Rattle.ug_world.specs.declared.event.Event.{Event}
 use Rattle.ug_world.specs.declared.event.Event.TheVariants.{Send, Hear, Join, Gone, Decide, Tell}
 
--- the book, the orders of its run that were told, the reports that were sent, and what those that
--- were heard were answered, each with the earliest first
+-- the book, the orders of its run that were sent, the reports that were sent, and the answers to
+-- those that were received, each with the earliest first
 pub record World : Type 0 where
   pub book : BookState
   pub told : List Told
@@ -25,9 +25,9 @@ pub record World : Type 0 where
 abbrev pub opening : BookState → List Report → World
 opening b earlier = record { book = b; told = []; sent = earlier; replies = [] }
 
--- the report at this place, whose changes rise as their type has it, is heard from a rank and gets
--- the answer that is due, which may be that memory ran out for a hand; it stays among those that
--- were sent
+-- the report at this place, whose changes rise as their type has it, is received from a rank and
+-- gets the answer that is due, which may be that memory ran out for a hand; it stays among those
+-- that were sent
 pub record IsHeard (old : World) (place rank : ℕ) (new : World) : Type 0 where
   pub report : Report
   pub answer : Heard
@@ -39,7 +39,7 @@ pub record IsHeard (old : World) (place rank : ℕ) (new : World) : Type 0 where
     replies = old.replies ++ answer ∷ [];
   }
 
--- memory ended a decision, and so many steps of it stand
+-- memory ran out in a decision, and the first steps of it stand
 pub record IsCutShort (old new : BookState) : Type 0 where
   pub steps : ℕ
   pub stands : Stands steps old new
@@ -49,7 +49,7 @@ pub record HasDecided (old new : World) : Type 0 where
   pub decided : IsDecided old.book new.book ⊎ IsCutShort old.book new.book
   pub rest : new ≡ record old { book = new.book }
 
--- the earliest of the orders that wait, if one does, is told: it leaves the queue
+-- the first queued order, if there is one, is sent: it leaves the queue
 abbrev pub told_first : List Told → World → World
 told_first [] w = w
 told_first (first ∷ rest) w =

@@ -8,8 +8,8 @@ pub enum DiskEvent {
     World(Event),
     /// The image of this moment is noted, to be saved.
     Note,
-    /// What was noted last is saved. Each call of the disk ends or fails as its script has it.
-    /// Where nothing is noted nothing happens.
+    /// The last noted image is saved. Each call of the disk succeeds or fails as its script says.
+    /// Nothing happens if nothing is noted.
     Save,
     /// Power fails and leaves these bytes of the slots. The coordinator restarts.
     Crash {

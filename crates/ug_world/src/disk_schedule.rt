@@ -21,8 +21,8 @@ use ug_restart::Attempt;
 /// What became of each save, the earliest first.
 pub type Attempts = Items<Attempt>;
 
-/// What a schedule leaves: the book and the saver of the last run, the disk, what the reports that
-/// were heard were answered, and what became of each save.
+/// Result of a schedule: the book and the saver of the last run, the disk, the answers to the
+/// reports received, and the result of each save.
 #[derive(Drop)]
 pub struct PlayedDisk {
     pub book: Book,
@@ -32,8 +32,7 @@ pub struct PlayedDisk {
     pub attempts: Attempts,
 }
 
-/// Why a schedule was not played to its end, after so many events that are done, and what stands
-/// then.
+/// Why a schedule was not played to its end, after `done` events, and the state then.
 #[derive(Drop)]
 pub struct PlayDiskFault {
     pub why: Halted,
@@ -42,10 +41,10 @@ pub struct PlayDiskFault {
 }
 
 /// Plays a schedule of what happens between a coordinator and its solvers, of saves, crashes and
-/// restarts. A restart that is refused leaves no run, and the schedule stops there where another
-/// restart does not follow.
+/// restarts. A restart that is refused leaves no run, and the schedule stops there unless another
+/// restart follows.
 ///
-/// What became of each save is told, and a save or a restart fails for the disk only where the disk
+/// The result of each save is recorded, and a save or a restart fails for the disk only if the disk
 /// failed. As long as solvers are honest each better point lies in a primitive node of the book,
 /// and in a node of an image that recovery finds whatever a crash leaves, at each moment of a save
 /// too.
@@ -78,7 +77,7 @@ pub fn play_disk(
     }
 }
 
-// What a schedule leaves that was stopped after so many events.
+// Returns the state of a schedule that was stopped after this many events.
 fn stop(machine: Machine, why: Halted, done: usize) -> PlayDiskFault
     ensures why { result.why ≡ why }
     ensures done { result.done ≡ done }

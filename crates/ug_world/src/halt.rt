@@ -10,7 +10,7 @@ use ug_restart::StartFault;
 /// Why an event did not happen.
 #[derive(Clone, Copy, Debug, PartialEq, Eq)]
 pub enum Halted {
-    /// It hears the report at this place, where none was sent.
+    /// It receives the report at this place, which was not sent.
     NoSuch { place: usize },
     /// It names this rank, which the run has not.
     NoRank { rank: u32 },

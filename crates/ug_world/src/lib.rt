@@ -1,5 +1,5 @@
-//! Schedules: lists of what may happen between a coordinator, its solvers and a disk, played. It
-//! stands on ug_book for `play`, and on ug_restart for `play_disk`, with saves, crashes and
+//! Schedules: lists of what may happen between a coordinator, its solvers and a disk, played.
+//! Depends on ug_book for `play`, and on ug_restart for `play_disk`, with saves, crashes and
 //! restarts on a disk in memory: they make the calls that the events are, and say what each does.
 //! The laws: whatever happens, in whatever order, no better point is lost, by the book nor by what
 //! recovery finds, as long as the solvers are honest; and what a coordinator of ug_coord does is

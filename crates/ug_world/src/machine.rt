@@ -118,7 +118,7 @@ impl Machine {
 }
 
 impl Machine {
-    // An event of a run that goes on, if its rank is one of the run's.
+    // Plays an event of a run that continues, if its rank is one of the run's.
     fn world(&mut self, event: &Event) -> Result<(), Halted>
         requires event { IsSendable event.now }
         requires able { IsAble (world_of self.old) }
@@ -147,7 +147,7 @@ impl Machine {
         Ok(())
     }
 
-    // What was noted is saved, or an attempt is made, and what became of it is told.
+    // Saves the noted image, or makes an attempt, and records the result.
     fn save(&mut self) -> Result<(), Halted>
         requires { IsAble (world_of self.old) }
         ensures saved { OnOk result (IsSavedOrNot (world_of self.old) (world_of self.new)) }

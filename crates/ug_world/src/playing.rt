@@ -21,7 +21,7 @@ use ug_rules::{Heard, Told};
 /// Why an event did not happen.
 #[derive(Clone, Copy)]
 pub enum Halt {
-    /// It hears the report at this place, where none was sent.
+    /// It receives the report at this place, which was not sent.
     NoSuch { place: usize },
     Memory,
 }
@@ -42,8 +42,8 @@ impl<T: Drop> From<AllocFailed<T>> for Halt {
     }
 }
 
-/// A schedule that is played: the book, which of its orders were told, what was sent, and what
-/// those heard were answered.
+/// A schedule that is played: the book, which of its orders were sent, what was sent, and the
+/// answers to the reports received.
 #[derive(Drop)]
 pub struct Playing {
     book: Book,
@@ -75,7 +75,7 @@ impl Playing {
         ensures value { result ≡ opening book [] }
         ensures book { IsBook book }
     {
-        // The problem tells that the book is one.
+        // The problem shows that the book is one.
         let _problem = book.problem();
         Playing {
             book,
@@ -93,12 +93,12 @@ impl Playing {
     }
 
     /// Another book takes the place of this one, as after a restart. What was sent stays sent; no
-    /// order of the other was told.
+    /// order of the other was sent.
     pub fn replace(&mut self, book: Book)
         ensures value { self.new ≡ record self.old { book = book; told = [] } }
         ensures book { IsBook book }
     {
-        // The problem tells that the book is one.
+        // The problem shows that the book is one.
         let _lent = book.problem();
         drop(mem::replace(&mut self.book, book));
         self.told.clear();
@@ -160,7 +160,7 @@ impl Playing {
         Ok(())
     }
 
-    // The report at a place of those sent is heard from a rank.
+    // Receives the report at a place of those sent from a rank.
     fn hear(&mut self, place: usize, rank: u32) -> Result<(), Halt>
         requires { rank < length self.old.book.ranks }
         ensures heard { OnOk result (IsHeard self.old place rank self.new) }
@@ -184,7 +184,7 @@ impl Playing {
         let _ = self.book.decide();
     }
 
-    // The earliest order that waits is told.
+    // Sends the first queued order.
     fn tell(&mut self) -> Result<(), Halt>
         ensures told { OnOk result (Happens self.old Event.Tell self.new) }
         ensures err { IfErr result (λ halt. (halt ≡ Memory) × (self.new ≡ self.old)) }

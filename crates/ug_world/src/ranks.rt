@@ -6,7 +6,7 @@ ghost use Rattle.ug_world.specs.DiskHalts.{IsPastRanks};
 use crate::event::Event;
 use crate::halt::Halted;
 
-/// Whether the rank that an event names, if it names one, is one of so many.
+/// Is the rank that an event names, if it names one, below `ranks`?
 pub fn check_rank(event: &Event, ranks: u32) -> Result<(), Halted>
     requires { IsSendable event.now }
     ensures there { OnOk result (IsEvent ranks event.now) }

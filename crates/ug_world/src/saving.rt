@@ -10,8 +10,8 @@ use ug_disk::MemoryDisk;
 use ug_image::{Image, length};
 use ug_restart::Attempt;
 
-/// Saves an image under the next sequence, and tells what became of it. One of 2^63 bytes or more,
-/// which no memory holds, is not saved, nor is one after the last sequence.
+/// Saves an image under the next sequence, and returns what became of it. One of 2^63 bytes or
+/// more, which no memory holds, is not saved, nor is one after the last sequence.
 pub fn save(alloc: Global, disk: &mut MemoryDisk, saver: &mut Saver, image: &mut Image) -> Attempt
     requires kept { IsKept saver.old (Some (history_of disk.old)) }
     requires image { IsImage image.old }

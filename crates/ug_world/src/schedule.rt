@@ -11,7 +11,7 @@ use ug_book::Book;
 use ug_lists::Items;
 use ug_rules::Heard;
 
-/// What the reports that were heard were answered, the earliest first.
+/// The answers to the reports received, the earliest first.
 pub type Replies = Items<Heard>;
 
 /// A schedule that was played to its end.
@@ -24,15 +24,15 @@ pub struct Played {
 /// Why a schedule was not played to its end.
 #[derive(Drop)]
 pub enum PlayFault {
-    /// An event hears the report at this place, where none was sent. The book is as it was then.
+    /// An event receives the report at this place, which was not sent. The book is as it was then.
     NoSuch { place: usize, book: Book },
-    /// Memory ended the event after so many that are done. The book is as it was then, but for the
+    /// Memory ran out in the event after `done` events. The book is as it was then, except for the
     /// steps of a decision that stand.
     Memory { book: Book, done: usize },
 }
 
 /// Plays a schedule: makes the calls of the book that the events are, one after another. A report
-/// may be heard often, from any rank, or never. The orders stay in the book.
+/// may be received often, from any rank, or never. The orders stay in the book.
 ///
 /// Solvers need not be honest. As long as they are, a sound book that has given no ticket stays
 /// sound, and each better point lies in one of its primitive nodes.
@@ -59,7 +59,7 @@ pub fn play(alloc: Global, book: Book, events: &[Event]) -> Result<Played, PlayF
     })
 }
 
-// What a schedule leaves that was stopped after so many events.
+// Returns the state of a schedule that was stopped after this many events.
 fn stop(playing: Playing, halt: Halt, done: usize) -> PlayFault
     ensures { result ≡ fault_of halt done playing.book }
 {

@@ -20,10 +20,10 @@ use ug_restart::{Host, Observer};
 use ug_serve::WorkerCrew;
 
 /// Solves what the opening has left, by a crew of workers in memory of which none was started yet.
-/// With a saver the book is saved, and at last the ending one. Whatever the schedule of their
-/// visits, where the opening has each better point an answer is right, and what is saved stays
-/// Covered. Where no call of the crew failed, as its count tells before and after, there is an
-/// answer, unless the limit was met or memory was wanting. Nothing is asked of the workers.
+/// With a saver the book is saved, and the final one at last. Whatever the schedule of their
+/// visits, if the opening has each better point, an answer is right, and what is saved stays
+/// Covered. If no call of the crew failed, as its count shows before and after, there is an answer,
+/// unless the limit was reached or memory ran out. Nothing is assumed of the workers.
 pub fn solve_by_workers<'a, R: Wait, D: Disk, O: Observer>(
     host: &Host<'_, R, O>,
     opening: &Opening,
