@@ -1,11 +1,21 @@
--- What waits to go to a connection.
-use Rattle.std.specs.Prelude.{◌≡◌, ℕ, List, drop}
+-- What waits to go to a connection, and what was written to it.
+use Rattle.std.specs.Prelude.{◌≡◌, ℕ, true, List, ◌++◌, drop, Option}
+use Rattle.std.specs.Io.KnownBytes.{Appends}
 use Rattle.ug_real.specs.declared.outbox.Outbox.{Outbox}
+use Rattle.ug_real.specs.declared.outbox.Unsent.{Unsent}
+use Rattle.ug_real.specs.declared.outbox.Unsent.TheVariants.{Memory, Cut}
 
 -- the bytes that did not go yet
 abbrev pub waiting : Outbox → List ℕ
 waiting outbox = drop outbox.sent outbox.bytes.items
 
--- an end of the bytes is left: those ahead of it went
-abbrev pub IsLeft : List ℕ → List ℕ → Type 0
-IsLeft bytes left = (gone : ℕ) × (left ≡ drop gone bytes)
+-- a prefix of the bytes was written, where the writer's contents are known, and the rest is left
+pub record HasWritten (old new : Option (List ℕ)) (bytes left : List ℕ) : Type 0 where
+  pub gone : List ℕ
+  pub whole : bytes ≡ gone ++ left
+  pub written : Appends old new gone
+
+-- out of memory the same bytes wait, and after a failed write the outbox is closed
+abbrev pub IsUnsent : Outbox → Outbox → Unsent → Type 0
+IsUnsent old new Memory = waiting new ≡ waiting old
+IsUnsent old new (Cut error) = new.is_closed ≡ true

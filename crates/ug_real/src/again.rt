@@ -1,4 +1,5 @@
-ghost use Rattle.std.specs.Prelude.{◌≡◌, ◌≤◌, length, IfOk, IfSome};
+ghost use Rattle.std.specs.Prelude.{◌≡◌, ◌≤◌, length, IfOk, IfSome, IsErr, IsNone};
+ghost use Rattle.std.specs.Io.KnownBytes.{WriteAppends};
 
 use crate::cause::failed_by;
 use std::fs::File;
@@ -8,7 +9,8 @@ use std::os::unix::fs::FileExt;
 
 // What a call gave, or nothing where a signal interrupted it before it had done anything.
 fn unless_interrupted(got: io::Result<usize>) -> Option<io::Result<usize>>
-    ensures { IfSome result (λ given. given ≡ got) }
+    ensures given { IfSome result (λ given. given ≡ got) }
+    ensures interrupted { IsNone result → IsErr got }
 {
     if failed_by(&got, ErrorKind::Interrupted) {
         drop(got);
@@ -48,7 +50,8 @@ pub fn read_at(file: &File, buffer: &mut [u8], at: u64) -> io::Result<usize>
 
 /// Writes some of the bytes, and tries again where a signal interrupts the call.
 pub fn write<W: Write>(to: &mut W, bytes: &[u8]) -> io::Result<usize>
-    ensures { IfOk result (λ n. n ≤ length bytes.now) }
+    ensures within { IfOk result (λ n. n ≤ length bytes.now) }
+    ensures written { WriteAppends (W.contents to.old) (W.contents to.new) result bytes.now }
 {
     for _ in 0..u64::MAX {
         if let Some(got) = unless_interrupted(to.write(bytes)) {

@@ -1,8 +1,12 @@
+ghost use Rattle.std.specs.Prelude.{◌≡◌, true, IsErr};
+
 use std::io;
 use std::io::ErrorKind;
 
 /// Whether the call failed, and for this cause.
-pub fn failed_by<T>(got: &io::Result<T>, cause: ErrorKind) -> bool {
+pub fn failed_by<T>(got: &io::Result<T>, cause: ErrorKind) -> bool
+    ensures { result ≡ true → IsErr got.now }
+{
     match got {
         Ok(_) => false,
         Err(error) => error.kind() == cause,

@@ -13,15 +13,20 @@ pub enum Departure {
     Ended(i32),
     /// Memory was wanting for what it was to be told.
     Untold(io::Error),
+    /// A write to its connection failed, and it did not end.
+    Cut(io::Error),
     /// It closed its connection, or its standard input before it had one, and did not end.
     HungUp,
     /// It ended, and the system does not tell how.
     Lost,
 }
 
-/// Who is told why a rank is gone, once each time that one is.
+/// Who is told why a rank is gone, once each time that one is, and of one that is stopped.
 pub trait Watcher {
     fn gone(&mut self, rank: u32, why: &Departure);
+
+    /// The rank has sent nothing for so many seconds, and the system says that it is stopped.
+    fn silent(&mut self, rank: u32, seconds: u64);
 }
 
 /// How a child with this status ended.
@@ -49,6 +54,7 @@ impl fmt::Display for Departure {
             Departure::Killed(signal) => put(f, "killed by signal ", signal),
             Departure::Ended(code) => put(f, "ended with status ", code),
             Departure::Untold(error) => put(f, "could not be told: ", error),
+            Departure::Cut(error) => put(f, "its connection failed: ", error),
             Departure::HungUp => f.write_str("closed its connection and did not end"),
             Departure::Lost => f.write_str("ended, and its status is not known"),
         }

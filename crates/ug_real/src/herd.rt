@@ -6,9 +6,11 @@ use crate::peer::{Peer, Sought};
 use mio::{Events, Poll, Registry, Token};
 use slab::Slab;
 use std::alloc::Global;
+use std::fs::File;
 use std::io;
 use std::io::ErrorKind;
 use std::net::Net;
+use std::rt::Files;
 use std::thread::sleep;
 use std::time::{Clock, Duration, Instant};
 
@@ -25,6 +27,12 @@ const GATHER: u64 = 100;
 /// How many milliseconds the end of a child is waited for once all were told to end.
 const PATIENCE: u64 = 10_000;
 
+/// After how many seconds without a byte it is looked whether a child is stopped.
+const SILENCE: u64 = 60;
+
+/// How many milliseconds apart it is looked for silent children, and a wait lasts at most.
+const LOOKS: u64 = 10_000;
+
 /// So many bytes came from a rank, or, where there are none, it is gone. The key is that of the
 /// child.
 #[derive(Clone, Copy)]
@@ -39,6 +47,8 @@ pub struct Heard {
 pub struct Herd<F: Drop> {
     // The key whose turn in this round it is.
     next: usize,
+    // When silent children were last looked for.
+    looked: Option<Instant>,
     watch: Option<Watch>,
     peers: Slab<Peer<F>>,
 }
@@ -185,6 +195,27 @@ fn is_past<R: Clock>(rt: &R, since: Option<Instant>) -> bool {
     }
 }
 
+// Tells of the children that have been silent for long, and are stopped.
+fn report_stopped<F: Drop, R, W>(
+    peers: &mut Slab<Peer<F>>,
+    rt: &R,
+    alloc: Global,
+    now: Instant,
+    watcher: &mut W,
+)
+where
+    R: Files<File = File>,
+    W: Watcher,
+{
+    for key in 0..peers.capacity() {
+        if let Some(peer) = peers.get_mut(key) {
+            if peer.is_silent(now, SILENCE) {
+                peer.report_stopped(rt, alloc, watcher, SILENCE);
+            }
+        }
+    }
+}
+
 // Lets those go that have not come.
 fn dismiss_awaited<F: Drop>(peers: &mut Slab<Peer<F>>, registry: &Registry) {
     for key in 0..peers.capacity() {
@@ -202,6 +233,7 @@ impl<F: Drop> Herd<F> {
     pub fn new(alloc: Global) -> Herd<F> {
         Herd {
             next: 0,
+            looked: None,
             watch: None,
             peers: Slab::new(alloc),
         }
@@ -323,17 +355,46 @@ impl<F: Drop> Herd<F> {
         }
     }
 
-    /// Waits until bytes come from a child, or one is gone.
-    pub fn turn<R: Clock>(&mut self, clock: &R, buffer: &mut [u8]) -> io::Result<Heard>
+    // Looks for silent children, unless that was done a while ago. Nothing else depends on it.
+    fn look_for_silent<R, W>(&mut self, rt: &R, alloc: Global, watcher: &mut W)
+    where
+        R: Files<File = File> + Clock,
+        W: Watcher,
+    {
+        let Ok(now) = Instant::now(rt) else {
+            return;
+        };
+        if let Some(looked) = self.looked {
+            if now.duration_since(looked) < Duration::from_millis(LOOKS) {
+                return;
+            }
+        }
+        self.looked = Some(now);
+        report_stopped(&mut self.peers, rt, alloc, now, watcher);
+    }
+
+    /// Waits until bytes come from a child, or one is gone. The watcher is told of one that is
+    /// silent for long, and stopped.
+    pub fn turn<R, W>(
+        &mut self,
+        rt: &R,
+        alloc: Global,
+        watcher: &mut W,
+        buffer: &mut [u8],
+    ) -> io::Result<Heard>
+    where
+        R: Files<File = File> + Clock,
+        W: Watcher,
         ensures { IfOk result (λ heard. heard.count ≤ length buffer.new) }
     {
         for _ in 0..u64::MAX {
             if let Some(heard) = self.hear(buffer) {
                 return Ok(heard);
             }
-            if let Err(error) = self.look(clock, None) {
+            if let Err(error) = self.look(rt, Some(LOOKS)) {
                 return Err(error);
             }
+            self.look_for_silent(rt, alloc, watcher);
         }
         Err(io::Error::from(ErrorKind::TimedOut))
     }

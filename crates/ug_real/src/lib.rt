@@ -41,4 +41,5 @@ pub use process_crew::ProcessCrew;
 pub use reader::Reader;
 pub use real_folder::RealFolder;
 pub use socket_link::SocketLink;
+pub use sockets::SocketFolder;
 pub use writer::Writer;

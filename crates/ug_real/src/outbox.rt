@@ -1,8 +1,8 @@
-ghost use Rattle.std.specs.Prelude.{◌≡◌, ◌≤◌, ◌++◌, [], true, false, length, IfOk, OnOk, OnErr};
+ghost use Rattle.std.specs.Prelude.{◌≡◌, ◌≤◌, ◌++◌, [], true, false, length, take, IfErr, IfOk, OnOk, OnErr};
+ghost use Rattle.std.specs.Io.KnownBytes.{Appends};
 
 use crate::again;
-use crate::cause::failed_by;
-use std::alloc::{AllocError, Global};
+use std::alloc::Global;
 use std::io::{ErrorKind, Write};
 use std::{io, mem};
 
@@ -21,23 +21,31 @@ pub struct Outbox {
     ghost within: { sent ≤ length bytes.items },
 }
 
-/// Writes the bytes from their front until all went, or no more can go for now, and says how many.
+/// Why bytes neither went nor wait to go.
+#[derive(Drop)]
+pub enum Unsent {
+    /// Out of memory for those that have to wait.
+    Memory,
+    /// A write failed.
+    Cut(io::Error),
+}
+
+/// Writes a prefix of the bytes, until all went or no more can go for now, and returns its length.
 pub fn write_out<W: Write>(to: &mut W, bytes: &[u8]) -> io::Result<usize>
-    ensures { IfOk result (λ n. n ≤ length bytes.now) }
+    ensures within { IfOk result (λ n. n ≤ length bytes.now) }
+    ensures written { IfOk result (λ n.
+        Appends (W.contents to.old) (W.contents to.new) (take n bytes.now)) }
 {
     let mut sent = 0usize;
     for _ in 0..u64::MAX {
-        let rest = bytes.get(sent..).unwrap_or(&[]);
+        let rest = &bytes[sent..];
         if rest.is_empty() {
             break;
         }
-        let wrote = again::write(to, rest);
-        if failed_by(&wrote, ErrorKind::WouldBlock) {
-            break;
-        }
-        match wrote {
+        match again::write(to, rest) {
             Ok(0) => return Err(io::Error::from(ErrorKind::WriteZero)),
-            Ok(n) => sent = sent.saturating_add(n).min(bytes.len()),
+            Ok(n) => sent += n,
+            Err(error) if error.kind() == ErrorKind::WouldBlock => break,
             Err(error) => return Err(error),
         }
     }
@@ -45,7 +53,7 @@ pub fn write_out<W: Write>(to: &mut W, bytes: &[u8]) -> io::Result<usize>
 }
 
 impl Outbox {
-    ghost use Rattle.ug_real.specs.Outboxes.{IsLeft, waiting};
+    ghost use Rattle.ug_real.specs.Outboxes.{HasWritten, IsUnsent, waiting};
 
     /// Nothing waits.
     pub fn new(alloc: Global) -> Outbox
@@ -96,44 +104,56 @@ impl Outbox {
 
     /// Takes no bytes any more.
     pub fn close(&mut self)
-        ensures { waiting self.new ≡ [] }
+        ensures waiting { waiting self.new ≡ [] }
+        ensures closed { self.new.is_closed ≡ true }
     {
         self.empty();
         self.is_closed = true;
     }
 
     /// Keeps the bytes behind the others, unless it is closed.
-    pub fn push(&mut self, bytes: &[u8]) -> Result<(), AllocError>
+    pub fn push(&mut self, bytes: &[u8]) -> Result<(), Unsent>
         ensures ok { OnOk result (self.old.is_closed ≡ false
             → waiting self.new ≡ waiting self.old ++ bytes.now) }
         ensures closed { self.old.is_closed ≡ true → waiting self.new ≡ waiting self.old }
-        ensures err { OnErr result (waiting self.new ≡ waiting self.old) }
+        ensures err { IfErr result (IsUnsent self.old self.new) }
     {
         if self.is_closed {
             return Ok(());
         }
         self.forget();
-        self.bytes.extend_from_slice(bytes)
-    }
-
-    /// Sends what can go for now. It closes where the other end takes nothing any more.
-    pub fn flush<W: Write>(&mut self, to: &mut W)
-        ensures { IsLeft (waiting self.old) (waiting self.new) }
-    {
-        match write_out(to, self.rest()) {
-            Ok(n) => {
-                self.sent = self.sent.saturating_add(n);
-                self.forget();
-            }
-            Err(_) => self.close(),
+        match self.bytes.extend_from_slice(bytes) {
+            Ok(()) => Ok(()),
+            Err(_) => Err(Unsent::Memory),
         }
     }
 
-    /// Sends the bytes behind the others as far as they can go for now, and keeps the rest.
-    pub fn send<W: Write>(&mut self, to: &mut W, bytes: &[u8]) -> Result<(), AllocError>
+    /// Sends what can go for now. It closes if a write fails.
+    pub fn flush<W: Write>(&mut self, to: &mut W) -> io::Result<()>
+        ensures ok { OnOk result (HasWritten (W.contents to.old) (W.contents to.new)
+            (waiting self.old) (waiting self.new)) }
+        ensures err { OnErr result (self.new.is_closed ≡ true) }
+    {
+        match write_out(to, self.rest()) {
+            Ok(n) => {
+                self.sent += n;
+                self.forget();
+                Ok(())
+            }
+            Err(error) => {
+                self.close();
+                Err(error)
+            }
+        }
+    }
+
+    /// Sends the bytes behind the others as far as they can go for now, and keeps the rest, unless
+    /// it is closed. It closes if a write fails.
+    pub fn send<W: Write>(&mut self, to: &mut W, bytes: &[u8]) -> Result<(), Unsent>
         ensures ok { OnOk result (self.old.is_closed ≡ false
-            → IsLeft (waiting self.old ++ bytes.now) (waiting self.new)) }
-        ensures err { OnErr result (waiting self.new ≡ waiting self.old) }
+            → HasWritten (W.contents to.old) (W.contents to.new)
+            (waiting self.old ++ bytes.now) (waiting self.new)) }
+        ensures err { IfErr result (IsUnsent self.old self.new) }
     {
         if self.is_closed {
             return Ok(());
@@ -143,9 +163,9 @@ impl Outbox {
         }
         match write_out(to, bytes) {
             Ok(n) => self.push(bytes.get(n..).unwrap_or(&[])),
-            Err(_) => {
+            Err(error) => {
                 self.close();
-                Ok(())
+                Err(Unsent::Cut(error))
             }
         }
     }

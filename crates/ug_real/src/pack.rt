@@ -4,7 +4,7 @@ ghost use Rattle.slab.specs.Slab.{HasRoomFor};
 use crate::departure::Watcher;
 use crate::herd::{Heard, Herd};
 use crate::peer::Peer;
-use crate::sockets::{Door, SocketFile, Sockets};
+use crate::sockets::{Door, SocketFile, SocketFolder, Sockets};
 use crate::ward::Ward;
 use std::alloc::Global;
 use std::fs::File;
@@ -19,28 +19,29 @@ use std::time::Clock;
 pub struct Children<'a> {
     /// The program that each of them is.
     pub program: &'a str,
-    /// The folder in which each comes to its socket.
-    pub sockets: &'a str,
+    /// Where the folder is in which each comes to its socket.
+    pub sockets: SocketFolder<'a>,
 }
 
 /// Children, each at the other end of a socket, behind one poll.
 #[derive(Drop)]
 pub struct Pack<'a, R: Files<File = File>, W: Drop> {
-    starter: Starter<'a, R>,
+    // Before the starter: its sockets go before their folder.
     pub herd: Herd<SocketFile<'a, R>>,
+    starter: Starter<'a, R>,
     pub watcher: W,
 }
 
 // What starts the children.
 #[derive(Drop)]
-struct Starter<'a, R> {
+struct Starter<'a, R: Files<File = File>> {
     alloc: Global,
     program: &'a str,
     rt: &'a R,
-    sockets: Sockets<'a>,
+    sockets: Sockets<'a, R>,
 }
 
-impl<'a, R: Files + Processes<Started = SystemProcess>> Starter<'a, R> {
+impl<'a, R: Files<File = File> + Processes<Started = SystemProcess>> Starter<'a, R> {
     // Starts the child that is this rank and is to come to this door. The herd has room for it.
     fn start_at(
         &self,
@@ -68,7 +69,7 @@ where
     fn start(&mut self, rank: u32, herd: &mut Herd<SocketFile<'a, R>>) -> io::Result<()>
         requires { HasRoomFor herd.old.peers 1 }
     {
-        match self.sockets.bind(self.rt, rank) {
+        match self.sockets.bind(rank) {
             Ok(door) => self.start_at(rank, door, herd),
             Err(error) => Err(error),
         }
@@ -86,7 +87,7 @@ where
                 alloc,
                 program: children.program,
                 rt,
-                sockets: Sockets::new(alloc, children.sockets),
+                sockets: Sockets::new(rt, alloc, children.sockets),
             },
             herd: Herd::new(alloc),
             watcher,
@@ -106,7 +107,8 @@ where
     pub fn turn(&mut self, buffer: &mut [u8]) -> io::Result<Heard>
         ensures { IfOk result (λ heard. heard.count ≤ length buffer.new) }
     {
-        let turned = self.herd.turn(self.starter.rt, buffer);
+        let Starter { rt, alloc, .. } = &self.starter;
+        let turned = self.herd.turn(*rt, *alloc, &mut self.watcher, buffer);
         if let Ok(Heard { key, count: 0, .. }) = turned {
             self.herd.part(key, &mut self.watcher);
         }
@@ -117,5 +119,6 @@ where
     /// to its socket is killed, and so is one that goes on for too long.
     pub fn finish(&mut self) {
         self.herd.finish(self.starter.rt);
+        self.starter.sockets.close();
     }
 }

@@ -2,14 +2,16 @@ ghost use Rattle.std.specs.Prelude.{◌≤◌, length, IfSome};
 
 use crate::again;
 use crate::cause::failed_by;
-use crate::departure::Departure;
-use crate::outbox::Outbox;
+use crate::departure::{Departure, Watcher};
+use crate::outbox::{Outbox, Unsent};
 use crate::sockets::Door;
 use crate::ward::Ward;
 use mio::net::UnixStream;
 use mio::{Interest, Registry, Token};
-use std::alloc::Global;
+use std::alloc::{AllocError, Global};
+use std::fs::File;
 use std::io::ErrorKind;
+use std::rt::Files;
 use std::time::{Duration, Instant};
 use std::{io, mem};
 
@@ -28,11 +30,20 @@ pub struct Peer<F: Drop> {
     is_shut: bool,
     // Why it is gone, where its end does not say it.
     why: Option<Departure>,
+    // Why its connection takes nothing any more.
+    cut: Option<io::Error>,
     // Since when its end is waited for.
     since: Option<Instant>,
+    // Bytes came from it since it was last looked at whether some do.
+    has_spoken: bool,
+    // Since when nothing came from it, as far as that was looked at.
+    quiet: Option<Instant>,
+    // Somebody was told that it is stopped.
+    is_reported: bool,
     outbox: Outbox,
-    line: Line<F>,
+    // Before its line: it is killed before the file of its socket goes, for which it may look.
     child: Ward,
+    line: Line<F>,
 }
 
 // The connection to a child.
@@ -67,6 +78,10 @@ impl<F: Drop> Peer<F> {
             is_ending: false,
             is_shut: false,
             why: None,
+            cut: None,
+            has_spoken: false,
+            quiet: None,
+            is_reported: false,
             since: None,
         }
     }
@@ -135,9 +150,9 @@ impl<F: Drop> Peer<F> {
         let both = Interest::READABLE | Interest::WRITABLE;
         match registry.register(&mut stream, token, both) {
             Ok(()) => {
-                self.outbox.flush(&mut stream);
                 drop(mem::replace(&mut self.line, Line::Open(stream)));
                 self.is_stirred = true;
+                self.flush();
             }
             Err(error) => {
                 drop(stream);
@@ -148,9 +163,29 @@ impl<F: Drop> Peer<F> {
 
     // Hears it no more, and kills it.
     fn give_up(&mut self, why: Departure) {
-        self.close();
         self.child.kill();
+        self.close();
         self.why.get_or_insert(why);
+    }
+
+    // Sends what can go for now.
+    fn flush(&mut self) {
+        let flushed = match &mut self.line {
+            Line::Open(stream) => self.outbox.flush(stream),
+            Line::Awaited(_) | Line::Closed => Ok(()),
+        };
+        if let Err(error) = flushed {
+            self.lose(error);
+        }
+    }
+
+    // Sends it nothing more, since a write failed. It is heard until its end, which most likely is
+    // why, and killed if that does not come soon.
+    fn lose(&mut self, error: io::Error) {
+        drop(self.cut.replace(error));
+        self.is_ending = true;
+        self.is_stirred = true;
+        self.child.look();
     }
 
     // Closes its connection.
@@ -169,9 +204,7 @@ impl<F: Drop> Peer<F> {
         if self.is_awaited() && self.child.has_ended() {
             self.close();
         }
-        if let Line::Open(stream) = &mut self.line {
-            self.outbox.flush(stream);
-        }
+        self.flush();
         self.is_stirred = true;
     }
 
@@ -194,12 +227,16 @@ impl<F: Drop> Peer<F> {
             self.since = self.since.or(now);
             return;
         }
-        match &self.line {
-            Line::Open(_) => {
+        match (&self.line, mem::take(&mut self.cut)) {
+            (Line::Open(_), Some(error)) => self.give_up(Departure::Cut(error)),
+            (Line::Open(_), None) => {
                 self.is_ending = false;
                 self.since = None;
             }
-            Line::Awaited(_) | Line::Closed => self.give_up(Departure::HungUp),
+            (Line::Awaited(_) | Line::Closed, cut) => {
+                drop(cut);
+                self.give_up(Departure::HungUp);
+            }
         }
     }
 
@@ -220,7 +257,40 @@ impl<F: Drop> Peer<F> {
                 self.child.look();
                 None
             }
-            Ok(n) => Some(n),
+            Ok(n) => {
+                self.has_spoken = true;
+                Some(n)
+            }
+        }
+    }
+
+    /// Whether nothing has come from it for so many seconds, as far as is known at this time, and
+    /// nobody was told that it is stopped.
+    pub fn is_silent(&mut self, now: Instant, seconds: u64) -> bool {
+        if mem::replace(&mut self.has_spoken, false) {
+            self.quiet = Some(now);
+            return false;
+        }
+        match self.quiet {
+            Some(quiet) => {
+                !self.is_reported && now.duration_since(quiet) >= Duration::from_secs(seconds)
+            }
+            None => {
+                self.quiet = Some(now);
+                false
+            }
+        }
+    }
+
+    /// Tells that it is stopped, if it is.
+    pub fn report_stopped<R, W>(&mut self, rt: &R, alloc: Global, watcher: &mut W, seconds: u64)
+    where
+        R: Files<File = File>,
+        W: Watcher,
+    {
+        if !self.is_shut && self.child.is_stopped(rt, alloc) {
+            self.is_reported = true;
+            watcher.silent(self.rank, seconds);
         }
     }
 
@@ -244,7 +314,8 @@ impl<F: Drop> Peer<F> {
         }
     }
 
-    /// Sends it bytes, or keeps them until it can take them.
+    /// Sends it bytes, or keeps them until it can take them. One whose connection is closed, or
+    /// whose connection fails, is sent nothing: its end is reported.
     pub fn send(&mut self, registry: &Registry, token: Token, bytes: &[u8]) -> io::Result<()> {
         self.answer(registry, token);
         let sent = match &mut self.line {
@@ -254,15 +325,19 @@ impl<F: Drop> Peer<F> {
         };
         match sent {
             Ok(()) => Ok(()),
-            Err(error) => Err(error.into()),
+            Err(Unsent::Memory) => Err(AllocError.into()),
+            Err(Unsent::Cut(error)) => {
+                self.lose(error);
+                Ok(())
+            }
         }
     }
 
     /// Closes its connection and kills it. Nobody is to hear of it.
     pub fn shut(&mut self) {
         self.is_shut = true;
-        self.close();
         self.child.kill();
+        self.close();
     }
 
     /// Why it is gone.

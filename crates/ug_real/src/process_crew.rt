@@ -23,6 +23,7 @@ use ug_io::{Came, Crew, Failed};
 pub struct ProcessCrew<'a, R: Files<File = File>, W: Drop> {
     lives: Vec<bool>,
     faults: Faults,
+    is_finished: bool,
     pack: Pack<'a, R, W>,
 }
 
@@ -86,6 +87,7 @@ where
                 pack: Pack::new(rt, alloc, children, watcher),
                 lives,
                 faults: Faults::new(),
+                is_finished: false,
             }),
             Err(error) => {
                 drop(watcher);
@@ -106,6 +108,8 @@ where
     W: Watcher + Drop,
 {
     ghost seen = { λ c. record { said = None; lives = c.lives.items; faults = c.faults.count } };
+
+    ghost finished = { λ c. c.is_finished };
 
     fn is_alive(&self, rank: u32) -> bool {
         let at = rank as usize;
@@ -154,5 +158,6 @@ where
 
     fn finish(&mut self) {
         self.pack.finish();
+        self.is_finished = true;
     }
 }

@@ -9,7 +9,8 @@ const OPEN: &[u8] = &[1];
 pub struct Saves {
     // How many there were.
     count: u64,
-    // Whether something is on the disk of what was written.
+    // Whether an image was saved in this run. A run whose first save fails ends, and its end
+    // reports why.
     has_saved: bool,
     // How many writes and syncs failed since.
     failures: u64,
@@ -57,7 +58,9 @@ impl Saves {
             let count = self.failures;
             if count.is_power_of_two() {
                 let saves = saves_of(count);
-                let _ = eprintln!(rt; "ug: {path}: {error}; {count} {saves} failed so far");
+                let _ = eprintln!(rt;
+                    "ug: warning: {path}: {error}; {count} {saves} failed so far"
+                );
             }
         }
     }
@@ -65,17 +68,19 @@ impl Saves {
     /// What was written is on the disk, and where that was an opened gate an image is saved. Says
     /// so on standard error where the last save had failed.
     pub fn settled<R: Eprint>(&mut self, rt: &R, path: &str) {
-        self.has_saved = true;
         if !self.opens {
             return;
         }
         self.opens = false;
+        self.has_saved = true;
         self.count = self.count.saturating_add(1);
         if self.fails {
             self.fails = false;
             let count = self.failures;
             let saves = saves_of(count);
-            let _ = eprintln!(rt; "ug: {path}: saved again, after {count} {saves} that failed");
+            let _ = eprintln!(rt;
+                "ug: warning: {path}: saved again, after {count} {saves} that failed"
+            );
         }
     }
 }

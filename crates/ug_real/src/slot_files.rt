@@ -119,10 +119,7 @@ fn len_of(file: &File) -> io::Result<u64> {
 
 // Why a folder is not locked that is.
 fn busy() -> io::Error {
-    io::Error::new(
-        ErrorKind::ResourceBusy,
-        "another program writes in this folder",
-    )
+    io::Error::new(ErrorKind::ResourceBusy, "another run writes in this folder")
 }
 
 // The folder, locked.
@@ -152,7 +149,7 @@ fn locked_folder<R: Files<File = File>>(rt: &R, path: &str, makes: bool) -> io::
 fn kept<R: Eprint>(rt: &R, path: &str, copied: io::Result<()>) -> io::Result<()> {
     if copied.is_ok() {
         let _ = eprintln!(rt;
-            "ug: {path}: begins anew; the checkpoint that was there is kept as before0, before1"
+            "ug: warning: {path}: the run begins anew; the old checkpoint is kept as before0, before1"
         );
     }
     copied

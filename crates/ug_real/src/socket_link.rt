@@ -21,8 +21,9 @@ const GATHER: u64 = 100;
 
 /// A worker's end of a Unix socket as a link. It connects at the first call; a failed connecting is
 /// a fault of that call. What is written goes at the next read that waits, or that is the first in
-/// a while: to tell the system of each report would cost more than most reports do. Where it cannot
-/// go, that is a fault of the read.
+/// a while: to tell the system of each report would cost more than most reports do. If it cannot
+/// go, that is a fault of the read. What is written between a read that brought bytes and the next
+/// read goes at once, and is a fault of the write if it cannot: so the last answer never waits.
 #[derive(Drop)]
 pub struct SocketLink<'a, R> {
     has_ended: bool,
@@ -39,11 +40,13 @@ struct Wire<'a, R> {
     rt: &'a R,
 }
 
-// A connection, whether its calls wait, and when it was last looked at.
+// A connection, whether its calls wait, whether the last read brought bytes, and when it was last
+// looked at.
 #[derive(Drop)]
 struct Line {
     stream: BufWriter<UnixStream, Global>,
     waits: bool,
+    has_read: bool,
     looked: Option<Instant>,
 }
 
@@ -147,7 +150,7 @@ impl Line {
 
     // Reads some bytes, or none where it is not to wait and none is there, or where it looked a
     // moment ago.
-    fn read(
+    fn get(
         &mut self,
         clock: &impl Clock,
         buffer: &mut [u8],
@@ -165,8 +168,26 @@ impl Line {
         }
     }
 
+    // Reads some bytes or none, as `get` does, and notes whether some came.
+    fn read(
+        &mut self,
+        clock: &impl Clock,
+        buffer: &mut [u8],
+        wait: bool,
+    ) -> io::Result<Option<usize>>
+        ensures count { IfOk result (λ got. IfSome got (λ n. n ≤ length buffer.new)) }
+        ensures waits { IfOk result (λ got. wait ≡ true → IsSome got) }
+    {
+        let got = self.get(clock, buffer, wait);
+        self.has_read = match &got {
+            Ok(Some(n)) => *n > 0,
+            Ok(None) | Err(_) => false,
+        };
+        got
+    }
+
     // Takes some bytes to be written, and writes what waits where there is no room for them.
-    fn write(&mut self, bytes: &[u8]) -> io::Result<usize>
+    fn put(&mut self, bytes: &[u8]) -> io::Result<usize>
         ensures { IfOk result (λ n. n ≤ length bytes.now) }
     {
         let got = again::write(&mut self.stream, bytes);
@@ -179,6 +200,19 @@ impl Line {
             Err(error) => Err(error),
         }
     }
+
+    // Takes some bytes to be written, and writes them at once if the last read brought bytes.
+    fn write(&mut self, bytes: &[u8]) -> io::Result<usize>
+        ensures { IfOk result (λ n. n ≤ length bytes.now) }
+    {
+        match self.put(bytes) {
+            Ok(n) if self.has_read => match self.flush() {
+                Ok(()) => Ok(n),
+                Err(error) => Err(error),
+            },
+            wrote => wrote,
+        }
+    }
 }
 
 // A connection to the socket of a path.
@@ -188,6 +222,7 @@ fn connected<R: Net>(rt: &R, alloc: Global, path: &str) -> io::Result<Line> {
             Ok(stream) => Ok(Line {
                 stream,
                 waits: true,
+                has_read: false,
                 looked: None,
             }),
             Err(error) => Err(error),

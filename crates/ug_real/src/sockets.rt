@@ -1,10 +1,10 @@
 use crate::cause::failed_by;
 use mio::net::UnixListener;
 use std::alloc::{AllocError, Global};
-use std::fs::{DirBuilder, File, Permissions, TryLockError};
+use std::fs::{DirBuilder, File, TryLockError};
 use std::io::ErrorKind;
 use std::net::Net;
-use std::os::unix::fs::{DirBuilderExt, MetadataExt, PermissionsExt};
+use std::os::unix::fs::{DirBuilderExt, MetadataExt};
 use std::os::unix::net::SocketAddr;
 use std::rt::Files;
 use std::{fs, io};
@@ -12,13 +12,43 @@ use std::{fs, io};
 /// How many bytes the path to a socket has at most.
 const LONGEST: usize = 107;
 
-/// The folder in which the children of a crew come to their sockets. It is locked from the first
-/// call on, so that no other crew takes its sockets away.
+/// How many names of a fresh folder are tried.
+const NAMES: u32 = 10_000;
+
+/// Where the folder of the sockets is.
+#[derive(Clone, Copy)]
+pub enum SocketFolder<'a> {
+    /// In the folder of this path, which is made if it is not there.
+    Given(&'a str),
+    /// In this folder, of a name that no other run has.
+    Fresh(&'a str),
+}
+
+/// The sockets to which the children of a crew come. They are in a folder of their own, which their
+/// user alone may enter. It is made and locked by the first call, so that no other crew takes its
+/// sockets away, and removed when this is closed or dropped.
 #[derive(Drop)]
-pub struct Sockets<'a> {
+pub struct Sockets<'a, R: Files<File = File>> {
+    rt: &'a R,
     alloc: Global,
-    folder: &'a str,
-    lock: Option<File>,
+    place: SocketFolder<'a>,
+    own: Option<OwnFolder<'a, R>>,
+}
+
+// The folder that has the sockets, locked.
+struct OwnFolder<'a, R: Files<File = File>> {
+    rt: &'a R,
+    path: String,
+    lock: File,
+}
+
+impl<R: Files<File = File>> Drop for OwnFolder<'_, R> {
+    // It is removed under the lock, so that it is not another's by then.
+    fn drop(self) {
+        let OwnFolder { rt, path, lock } = self;
+        let _ = fs::remove_dir(rt, path.as_str());
+        drop(lock);
+    }
 }
 
 /// A socket to which a child is to come, and what removes its file.
@@ -52,11 +82,22 @@ fn refused(why: &'static str) -> io::Error {
     io::Error::new(ErrorKind::PermissionDenied, why)
 }
 
-// The folder, if its owner alone may write it.
+// The folder, if nobody else may change what lies in it. In a sticky folder everybody changes only
+// what is his own.
 fn own_alone(folder: File) -> io::Result<File> {
-    if folder.metadata()?.mode() & 0o022 != 0 {
+    let mode = folder.metadata()?.mode();
+    if mode & 0o022 != 0 && mode & 0o1000 == 0 {
         drop(folder);
         return Err(refused("others may write in the folder of sockets"));
+    }
+    Ok(folder)
+}
+
+// The folder, if its owner alone may enter it.
+fn entered_alone(folder: File) -> io::Result<File> {
+    if folder.metadata()?.mode() & 0o077 != 0 {
+        drop(folder);
+        return Err(refused("others may enter the folder of sockets"));
     }
     Ok(folder)
 }
@@ -67,10 +108,7 @@ fn locked(folder: File) -> io::Result<File> {
         Ok(()) => Ok(folder),
         Err(TryLockError::WouldBlock) => {
             drop(folder);
-            Err(io::Error::new(
-                ErrorKind::ResourceBusy,
-                "another program has its sockets in this folder",
-            ))
+            Err(taken())
         }
         Err(TryLockError::Error(error)) => {
             drop(folder);
@@ -79,13 +117,90 @@ fn locked(folder: File) -> io::Result<File> {
     }
 }
 
-// The folder of this path, made for this user alone where it is not there, and locked.
-fn open_folder<R: Files<File = File>>(rt: &R, path: &str) -> io::Result<File> {
+// Why a folder is not taken that another program has.
+fn taken() -> io::Error {
+    io::Error::new(
+        ErrorKind::ResourceBusy,
+        "another program has its sockets in this folder",
+    )
+}
+
+// The folder, if it still is the one of this path: its last owner may have removed it.
+fn still_at<R: Files>(rt: &R, path: &str, folder: File) -> io::Result<File> {
+    let there = fs::symlink_metadata(rt, path)?;
+    let it = folder.metadata()?;
+    if there.ino() != it.ino() || there.dev() != it.dev() {
+        drop(folder);
+        return Err(taken());
+    }
+    Ok(folder)
+}
+
+// The folder of this path, locked, if its owner alone may enter it.
+fn lock_own<R: Files<File = File>>(rt: &R, path: &str) -> io::Result<File> {
+    File::open(rt, path)
+        .and_then(entered_alone)
+        .and_then(locked)
+        .and_then(|folder| still_at(rt, path, folder))
+}
+
+// Makes a folder that its user alone may enter.
+fn make_private<R: Files>(rt: &R, path: &str, with_parents: bool) -> io::Result<()> {
     DirBuilder::new()
-        .recursive(true)
+        .recursive(with_parents)
         .mode(0o700)
-        .create(rt, path)?;
-    File::open(rt, path).and_then(own_alone).and_then(locked)
+        .create(rt, path)
+}
+
+// Makes the folder of the sockets in this one, which is made too if it is not there. A path that
+// begins as an option does would be one to a child.
+fn make_in<R: Files<File = File>>(rt: &R, alloc: Global, folder: &str) -> io::Result<String> {
+    make_private(rt, folder, true)?;
+    drop(File::open(rt, folder).and_then(own_alone)?);
+    let here = if folder.starts_with("-") { "./" } else { "" };
+    let path = format!(in alloc; "{here}{folder}/ug-sockets")?;
+    match make_private(rt, path.as_str(), true) {
+        Ok(()) => Ok(path),
+        Err(error) => {
+            drop(path);
+            Err(error)
+        }
+    }
+}
+
+// Makes a folder of the sockets in this one, of a name that nothing has.
+fn make_fresh<R: Files>(rt: &R, alloc: Global, folder: &str) -> io::Result<String> {
+    for number in 0..NAMES {
+        let path = format!(in alloc; "{folder}/ug-{number}")?;
+        let made = make_private(rt, path.as_str(), false);
+        if made.is_ok() {
+            return Ok(path);
+        }
+        drop(path);
+        if !failed_by(&made, ErrorKind::AlreadyExists) {
+            return Err(made.err().unwrap_or(taken()));
+        }
+    }
+    Err(taken())
+}
+
+// Makes the folder of the sockets, and locks it.
+fn make_own<'a, R: Files<File = File>>(
+    rt: &'a R,
+    alloc: Global,
+    place: SocketFolder<'_>,
+) -> io::Result<OwnFolder<'a, R>> {
+    let path = match place {
+        SocketFolder::Given(folder) => make_in(rt, alloc, folder)?,
+        SocketFolder::Fresh(folder) => make_fresh(rt, alloc, folder)?,
+    };
+    match lock_own(rt, path.as_str()) {
+        Ok(lock) => Ok(OwnFolder { rt, path, lock }),
+        Err(error) => {
+            drop(path);
+            Err(error)
+        }
+    }
 }
 
 // Removes a file that lies at this path.
@@ -133,10 +248,11 @@ fn path_of(alloc: Global, folder: &str, rank: u32) -> Result<String, AllocError>
     format!(in alloc; "{folder}/ug-{rank}.sock")
 }
 
-// A socket at this path, which is this address. A file that lies there is removed.
-fn listen_at<R: Files + Net>(rt: &R, path: &str, address: &SocketAddr) -> io::Result<UnixListener> {
+// A socket at this path. A file that lies there is removed.
+fn listen_at<R: Files + Net>(rt: &R, path: &str) -> io::Result<UnixListener> {
+    let address = address_of(path)?;
     match remove_old(rt, path) {
-        Ok(()) => UnixListener::bind_addr(rt, address),
+        Ok(()) => UnixListener::bind_addr(rt, &address),
         Err(error) => Err(error),
     }
 }
@@ -152,85 +268,64 @@ fn address_of(path: &str) -> io::Result<SocketAddr> {
     SocketAddr::from_pathname(path)
 }
 
-impl<'a> Sockets<'a> {
-    /// A folder that is not looked at yet.
-    pub fn new(alloc: Global, folder: &'a str) -> Sockets<'a> {
-        Sockets {
-            alloc,
-            folder,
-            lock: None,
-        }
-    }
-
-    // Opens the folder where it is not open.
-    fn open<R: Files<File = File>>(&mut self, rt: &R) -> io::Result<()> {
-        if self.lock.is_none() {
-            match open_folder(rt, self.folder) {
-                Ok(folder) => drop(self.lock.replace(folder)),
-                Err(error) => return Err(error),
-            }
-        }
-        Ok(())
-    }
-
-    /// Makes the socket of a rank, which this user alone can come to. A file that lies there is
-    /// removed.
-    pub fn bind<'r, R: Files<File = File> + Net>(
-        &mut self,
-        rt: &'r R,
-        rank: u32,
-    ) -> io::Result<Door<SocketFile<'r, R>>> {
-        match path_of(self.alloc, self.folder, rank) {
-            Ok(path) => match self.listen(rt, path.as_str()) {
-                Ok(listener) => self.guarded(rt, listener, path),
-                Err(error) => {
-                    drop(path);
-                    Err(error)
-                }
-            },
-            Err(error) => Err(error.into()),
-        }
-    }
-
-    // A socket at this path. A file that lies there is removed.
-    fn listen<R: Files<File = File> + Net>(
-        &mut self,
-        rt: &R,
-        path: &str,
-    ) -> io::Result<UnixListener> {
-        match address_of(path) {
-            Ok(address) => match self.open(rt) {
-                Ok(()) => listen_at(rt, path, &address),
-                Err(error) => Err(error),
-            },
-            Err(error) => Err(error),
-        }
-    }
-
-    // A socket at this path to which this user alone can come.
-    fn guarded<'r, R: Files>(
-        &self,
-        rt: &'r R,
-        listener: UnixListener,
-        path: String,
-    ) -> io::Result<Door<SocketFile<'r, R>>> {
-        let file = SocketFile { rt, path };
-        match self.guard(rt, file.path()) {
-            Ok(()) => Ok(Door { listener, file }),
+impl<'a, R: Files<File = File>> OwnFolder<'a, R> {
+    // A socket to which this file belongs, in a folder of this user.
+    fn listen(&self, file: &str) -> io::Result<UnixListener>
+    where
+        R: Net,
+    {
+        let listener = listen_at(self.rt, file)?;
+        match own_folder(self.rt, &self.lock, file) {
+            Ok(()) => Ok(listener),
             Err(error) => {
-                drop(file);
                 drop(listener);
                 Err(error)
             }
         }
     }
 
-    // Lets this user alone use the file, in a folder of this user.
-    fn guard<R: Files>(&self, rt: &R, file: &str) -> io::Result<()> {
-        fs::set_permissions(rt, file, Permissions::from_mode(0o600))?;
-        match &self.lock {
-            Some(folder) => own_folder(rt, folder, file),
-            None => Err(not_own()),
+    // The socket of a rank. Its file is removed also if it is not of use.
+    fn bind(&self, alloc: Global, rank: u32) -> io::Result<Door<SocketFile<'a, R>>>
+    where
+        R: Net,
+    {
+        let path = path_of(alloc, self.path.as_str(), rank)?;
+        let file = SocketFile { rt: self.rt, path };
+        match self.listen(file.path()) {
+            Ok(listener) => Ok(Door { listener, file }),
+            Err(error) => {
+                drop(file);
+                Err(error)
+            }
         }
+    }
+}
+
+impl<'a, R: Files<File = File> + Net> Sockets<'a, R> {
+    /// A folder that is not made yet.
+    pub fn new(rt: &'a R, alloc: Global, place: SocketFolder<'a>) -> Sockets<'a, R> {
+        Sockets {
+            rt,
+            alloc,
+            place,
+            own: None,
+        }
+    }
+
+    /// Makes the socket of a rank, which this user alone can come to. A file that lies there is
+    /// removed.
+    pub fn bind(&mut self, rank: u32) -> io::Result<Door<SocketFile<'a, R>>> {
+        match &self.own {
+            Some(own) => own.bind(self.alloc, rank),
+            None => match make_own(self.rt, self.alloc, self.place) {
+                Ok(own) => self.own.insert(own).bind(self.alloc, rank),
+                Err(error) => Err(error),
+            },
+        }
+    }
+
+    /// Removes the folder, in which nothing lies any more.
+    pub fn close(&mut self) {
+        drop(self.own.take());
     }
 }

@@ -1,11 +1,14 @@
+use crate::again;
 use crate::departure::{Departure, end_of};
 use mio::unix::SourceFd;
 use mio::{Interest, Registry, Token};
 use std::alloc::Global;
+use std::fs::File;
 use std::io;
 use std::io::ErrorKind;
 use std::os::fd::AsRawFd;
 use std::process::{Child, Command, ExitStatus, Processes, Stdio, SystemProcess};
+use std::rt::Files;
 
 /// A child program. One that has not ended is killed where it is dropped, and waited for.
 pub struct Ward {
@@ -36,6 +39,19 @@ fn spawn<R: Processes<Started = SystemProcess>>(
     }
 }
 
+// The state of a process, by the file that the system has of it: behind its name in parentheses.
+fn state_in<R: Files<File = File>>(rt: &R, path: &str) -> Option<u8> {
+    let mut buffer = [0u8; 256];
+    let Ok(mut file) = File::open(rt, path) else {
+        return None;
+    };
+    let count = again::read(&mut file, &mut buffer).unwrap_or(0);
+    drop(file);
+    let line = buffer.get(..count).unwrap_or(&[]);
+    let at = line.iter().rposition(|byte| *byte == b')')?;
+    line.get(at.saturating_add(2)).copied()
+}
+
 impl Ward {
     /// Starts the program as a worker that is to come to this socket. Its standard output is none,
     /// and its standard input a pipe on which nothing comes: that this closes tells of its end.
@@ -54,6 +70,18 @@ impl Ward {
                 state: State::Runs,
             }),
             Err(error) => Err(error),
+        }
+    }
+
+    /// Whether it is stopped, by a signal or a debugger. If the system does not say so it is not.
+    pub fn is_stopped<R: Files<File = File>>(&self, rt: &R, alloc: Global) -> bool {
+        match format!(in alloc; "/proc/{}/stat", self.child.id()) {
+            Ok(path) => {
+                let state = state_in(rt, path.as_str());
+                drop(path);
+                state == Some(b'T') || state == Some(b't')
+            }
+            Err(_) => false,
         }
     }
 

@@ -1,12 +1,18 @@
-use Rattle.std.proofs.Common.{length, sym, ◌∙◌, arith}
-use Rattle.std.proofs.lemmas.Grind.{common_steps}
-use Rattle.std.proofs.Math.Seq.{drop-length}
+use Rattle.std.proofs.Common.{ap, take, sym, subst, ◌∙◌, ◌++◌}
+use Rattle.std.specs.Io.KnownBytes.{Appends}
 use Rattle.ug_real.specs.Outboxes.{waiting}
+use Rattle.ug_real.proofs.Writing.{left_whole}
 use Rattle.ug_real.proofs.outbox.Outbox.flush.Goals as goal
 
--- the connection takes nothing any more, and nothing is left for it
-pub returns-in-Err : goal.returns-in-Err
-returns-in-Err g c = let all = waiting c.args.self.now in (length all, c.close.ensures ∙ sym (drop-length all))
-
-pub returns-in-Ok : goal.returns-in-Ok
-returns-in-Ok g c = grind (arith, common_steps)
+pub returns-in-Ok-clause-ok : goal.returns-in-Ok-clause-ok
+returns-in-Ok-clause-ok g c =
+    let box = c.args.self.now in
+    let n = c.in-Ok.n in
+    let old = g.W.Write.contents c.args.to.now in
+    let new = g.W.Write.contents c.write_out.new.to in
+    record {
+      gone = take n (waiting box);
+      whole = left_whole box.sent n box.bytes.items
+          ∙ ap (λ l. take n (waiting box) ++ l) (sym c.forget.ensures.waiting);
+      written = subst (λ l. Appends old new (take n l)) c.rest.ensures c.in-Ok.ensures.written;
+    }
