@@ -8,7 +8,7 @@ use Rattle.clap.specs.declared.builder.action.ArgAction.TheVariants.{SetTrue}
 abbrev pub positional : Text → Rule
 positional name = record (new_rule name) { required = true }
 
--- an option that may be left out
+-- an option without a default
 abbrev pub optional : Text → Rule
 optional name = record (new_rule name) { long = Some name }
 
@@ -16,7 +16,7 @@ optional name = record (new_rule name) { long = Some name }
 abbrev pub demanded : Text → Rule
 demanded name = record (optional name) { required = true }
 
--- an option that has this word where it is left out
+-- an option with this default
 abbrev pub defaulted : Text → Text → Rule
 defaulted name word = record (optional name) { defaults = word ∷ [] }
 
@@ -34,13 +34,14 @@ ranks_rules = defaulted (codes "mode") (codes "threads")
     ∷ optional (codes "high")
     ∷ []
 
--- how often is saved, and how far is gone; and the folder of the sockets
+-- when checkpoints are saved and when the run ends; and the folder of the sockets, which is a fresh one
+-- by default
 abbrev pub bounds_rules : List Rule
 bounds_rules = optional (codes "every")
     ∷ defaulted (codes "limit") (codes "1099511627776")
     ∷ optional (codes "box")
     ∷ defaulted (codes "gap") (codes "0")
-    ∷ defaulted (codes "sockets") (codes ".")
+    ∷ defaulted (codes "sockets") (codes "")
     ∷ []
 
 -- a command with these arguments added, in their order

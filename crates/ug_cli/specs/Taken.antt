@@ -54,7 +54,7 @@ abbrev pub usual_every : Mode → ℕ
 usual_every Threads = 100
 usual_every Processes = 10000
 
--- how often is saved, how far is gone, the bound of a column that has none, and the gap
+-- when checkpoints are saved, when the run ends, the bound for infinite ones, and the gap
 pub record AreBounds (rows : List Row) (mode : Mode) (bounds : Limits) : Type 0 where
   pub every : IsGivenOr (usual_every mode) 1 4294967295 (word_of (codes "every") rows) bounds.every
   pub limit : IsGiven 0 1099511627776 (word_of (codes "limit") rows) bounds.limit
@@ -163,12 +163,12 @@ abbrev pub CrossedIsNotTaken : Type 0
 CrossedIsNotTaken = (words : List Text) (low high : ℕ) (plan : Plan)
     → IsCrossed words low high → TakenWords words plan → ⊥
 
--- what a plan needs beside its files: a crew of so many solvers, or a link
+-- what a plan needs beside its files: a crew of this many solvers, or a link
 pub record Needs : Type 0 where
   pub crew : Option ℕ
   pub link : Bool
 
--- so many solvers in processes are a crew
+-- solvers in processes are a crew
 abbrev pub crew_of : Mode → ℕ → Option ℕ
 crew_of Threads solvers = None
 crew_of Processes solvers = Some solvers

@@ -38,7 +38,7 @@ pub fn given(matches: &ArgMatches<'_>, name: &str, least: u64, most: u64) -> Opt
     }
 }
 
-/// The number of an argument, or another one where it is left out.
+/// Returns the number of an argument, or the default.
 pub fn given_or(
     matches: &ArgMatches<'_>,
     name: &str,
@@ -60,7 +60,7 @@ pub fn given_or(
     }
 }
 
-/// The number of an argument that may be left out.
+/// Returns the number of an optional argument.
 pub fn given_if(matches: &ArgMatches<'_>, name: &str, least: u64, most: u64) -> Option<Option<u64>>
     ensures found { IfSome result
         (IsGivenIf least most (word_of name.now (rows_of (found_of matches.now)))) }

@@ -6,7 +6,7 @@ pub fn crossed_is_not_taken()
     ensures { CrossedIsNotTaken }
 {}
 
-/// The words tell what a run needs beside its files: whoever has a plan of them knows it of each.
+/// The words determine what a run needs beside its files: each of their plans needs the same.
 pub fn words_tell_the_needs()
     ensures { WordsTellTheNeeds }
 {}

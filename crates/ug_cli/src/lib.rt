@@ -1,8 +1,8 @@
 //! Reads the words of the command line as a plan: which command, on what, with which settings.
-//! It stands on clap, whose definition of a parse it takes for what a command line is.
-//! `read_words` gives the plan that the words ask for, with defaults filled in. It refuses exactly
-//! where they ask for none, or where the high in force is below the low in force.
-//! Numbers are decimal digits without sign or leading zero, each within its range.
+//! Depends on clap, whose definition of a parse it uses for what a command line is. `read_words`
+//! returns the plan that the words ask for, with defaults filled in. It refuses exactly if they ask
+//! for none, or if the high watermark in force is below the low one. Numbers are decimal digits
+//! without sign or leading zero, each within its range.
 #![tactic(auto)]
 
 mod given;

@@ -18,7 +18,7 @@ fn positional<'a>(alloc: Global, name: &'a str) -> Arg<'a>
     Arg::new(alloc, name).required(true)
 }
 
-// An option that may be left out.
+// Returns an option without a default.
 fn optional<'a>(alloc: Global, name: &'a str) -> Arg<'a>
     ensures rule { rule_of result ≡ optional_rule name.now }
     ensures local { result.global ≡ false }
@@ -34,7 +34,7 @@ fn demanded<'a>(alloc: Global, name: &'a str) -> Arg<'a>
     Arg::new(alloc, name).long(name).required(true)
 }
 
-// An option that has this word where it is left out.
+// Returns an option with this default.
 fn defaulted<'a>(alloc: Global, name: &'a str, word: &'a str) -> Arg<'a>
     ensures rule { rule_of result ≡ defaulted_rule name.now word.now }
     ensures local { result.global ≡ false }
@@ -102,7 +102,7 @@ fn with_bounds<'a>(
     let command = add(command, defaulted(alloc, "limit", "1099511627776"));
     let command = add(command, optional(alloc, "box"));
     let command = add(command, defaulted(alloc, "gap", "0"));
-    add(command, defaulted(alloc, "sockets", "."))
+    add(command, defaulted(alloc, "sockets", ""))
 }
 
 fn solve<'a>(alloc: Global) -> Result<Command<'a>, AllocError>

@@ -1,49 +1,49 @@
 use ug_branch::Base;
 
-/// How many solvers there are, how they work, and how many open nodes the pool is to hold.
+/// The number of solvers, how they work, and the watermarks of the pool.
 #[derive(Clone, Copy, PartialEq, Eq)]
 pub struct Solvers {
     pub solvers: u32,
-    /// Whether the solvers begin with a race.
+    /// Do the solvers begin with a race?
     pub racing: bool,
-    /// What they leave out where they do not race.
+    /// The base of all work outside a race.
     pub base: Base,
-    /// Below this many open nodes, nodes are collected.
+    /// Low watermark: below it open nodes are collected.
     pub low: u32,
-    /// At this many, no more are.
+    /// High watermark: at it collecting stops.
     pub high: u32,
 }
 
-/// How often is saved, and how far is gone.
+/// When checkpoints are saved, when the run ends, the box and the gap.
 #[derive(Clone, Copy, PartialEq, Eq)]
 pub struct Limits {
-    /// A checkpoint is saved at reports whose numbers are multiples of this: in processes at
-    /// each, in threads no sooner than eight for each open node of the one before.
+    /// A checkpoint is saved after reports whose numbers are multiples of this, but no sooner than
+    /// eight reports for each open node of the save before.
     pub every: u32,
-    /// After this many reports the run ends.
+    /// The run ends after this number of reports.
     pub limit: u64,
-    /// The bound of a column that has none in the file.
+    /// The bound that replaces infinite bounds of the file.
     pub boxed: Option<u32>,
-    /// How far from the best an answer may be, in the units that are printed.
+    /// Absolute gap, in the units that are printed.
     pub gap: u64,
 }
 
-/// Where the solvers run.
+/// How the solvers run.
 #[derive(Clone, Copy, PartialEq, Eq)]
 pub enum Mode {
-    /// In threads of the program.
+    /// As threads of the program.
     Threads,
-    /// In processes of their own, each at a socket.
+    /// As processes, each at a socket.
     Processes,
 }
 
-/// How a file is solved.
+/// The settings of a solve.
 #[derive(Clone, Copy, PartialEq, Eq)]
 pub struct Asked<'a> {
     pub mode: Mode,
     pub ranks: Solvers,
     pub bounds: Limits,
-    /// The folder of the sockets.
+    /// The folder of the sockets; a fresh one if it is empty.
     pub sockets: &'a str,
 }
 
@@ -51,12 +51,12 @@ pub struct Asked<'a> {
 #[derive(Clone, Copy, PartialEq, Eq)]
 pub struct Solve<'a> {
     pub file: &'a str,
-    /// The folder of the checkpoint, where one is to be kept.
+    /// The folder of the checkpoint, if one is kept.
     pub checkpoint: Option<&'a str>,
     pub settings: Asked<'a>,
 }
 
-/// Go on from a checkpoint.
+/// Resume from a checkpoint.
 #[derive(Clone, Copy, PartialEq, Eq)]
 pub struct Restart<'a> {
     pub file: &'a str,
@@ -79,7 +79,7 @@ pub struct Show<'a> {
     pub checkpoint: &'a str,
 }
 
-/// Solve a made instance.
+/// Solve a generated instance.
 #[derive(Clone, Copy, PartialEq, Eq)]
 pub struct Gen {
     pub seed: u32,
@@ -87,7 +87,7 @@ pub struct Gen {
     pub solvers: u32,
 }
 
-/// What the words ask for, with defaults filled in.
+/// The plan of a command line, with defaults filled in.
 #[derive(Clone, Copy, PartialEq, Eq)]
 pub enum Plan<'a> {
     Solve(Solve<'a>),

@@ -58,8 +58,8 @@ fn box_of(matches: &ArgMatches<'_>) -> Option<Option<u32>>
     }
 }
 
-// How often is saved where no word says it. While a coordinator of processes saves it hears
-// nothing, so there saves are seldom.
+// Returns the default of `--every`. A coordinator of processes receives nothing while it saves, so
+// its saves are rare.
 fn usual_every(mode: Mode) -> u64
     ensures value { result ≡ usual_every mode }
     ensures most { result ≤ 4294967295 }
@@ -90,7 +90,7 @@ fn bounds_of(matches: &ArgMatches<'_>, mode: Mode) -> Option<Limits>
     }
 }
 
-// Where the solvers run.
+// Returns how the solvers run.
 fn mode_of(matches: &ArgMatches<'_>) -> Option<Mode>
     ensures found { IfSome result
         (IsMode (word_of (codes "mode") (rows_of (found_of matches.now)))) }

@@ -8,7 +8,7 @@ use std::alloc::AllocError;
 pub enum Usage {
     /// Memory ran out.
     Memory,
-    /// The words ask for no plan: they are no command, or a number is none or out of range.
+    /// The words ask for no plan: the command is invalid, or a number is invalid or out of range.
     Words,
     /// The high in force is below the low in force.
     HighBelowLow { low: u32, high: u32 },
