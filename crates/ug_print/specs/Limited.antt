@@ -34,11 +34,11 @@ pub record IsLeftLine (name : List ℕ) (b : BookState) (text : List ℕ) : Type
   pub primitive : ArePrimitive b nodes
   pub is : text ≡ left_line name best (length nodes)
 
--- the line of a book that goes on
+-- the line of a book that continues
 abbrev pub IsOpenLine : BookState → List ℕ → Type 0
 IsOpenLine b text = IsLeftLine (codes "open") b text
 
--- the line of one all whose ranks are gone
+-- the line of one all whose ranks are lost
 abbrev pub IsStrandedLine : BookState → List ℕ → Type 0
 IsStrandedLine b text = IsLeftLine (codes "stranded") b text
 

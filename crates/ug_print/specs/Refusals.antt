@@ -1,4 +1,4 @@
--- The line of a text that is refused.
+-- The line of a file that is refused.
 use Rattle.std.specs.Prelude.{ℕ, List, [], ◌++◌, Option, Some, None, codes}
 use Rattle.std.specs.Fmt.{decimal}
 use Rattle.ug_drafts.specs.declared.fault.Kind.{Kind}

@@ -5,7 +5,7 @@ use crate::words::push_named_number;
 use std::alloc::{AllocError, Global};
 
 /// Adds how many saves the disk failed, and how many were refused for memory, where there are any.
-/// After an error the text may have a part of these lines.
+/// After an error the output may have a part of these lines.
 pub fn push_counts(
     text: &mut Vec<u8>,
     alloc: Global,

@@ -1,9 +1,9 @@
 //! The lines that the program prints, each of which a definition in specs/ pins, and what standard
-//! error says of a text that is refused, which none does.
-//! It stands on ug_book for what a run answers, on ug_restart for why none begins, on ug_image for
-//! what a checkpoint has, and on ug_drafts for why a text is refused.
+//! error says of a file that is refused, which none does.
+//! It depends on ug_book for what a run answers, on ug_restart for why none begins, on ug_image for
+//! what a checkpoint has, and on ug_drafts for why a file is refused.
 //! Each function makes or adds whole lines and takes memory for nothing but them and their numbers;
-//! what is written where memory is wanting takes none.
+//! what is written where memory runs out takes none.
 #![tactic(auto)]
 
 mod answers;

@@ -6,7 +6,7 @@ use crate::words::{push_number, push_word};
 use std::alloc::{AllocError, Global};
 use ug_book::Book;
 
-/// The line of a book that goes on: the value of its incumbent, and how many primitive nodes it
+/// The line of a book that continues: the value of its incumbent, and how many primitive nodes it
 /// has.
 pub fn open_line(alloc: Global, book: &Book) -> Result<Vec<u8>, AllocError>
     ensures { IfOk result (λ text. IsOpenLine book.now text.items) }
@@ -14,7 +14,7 @@ pub fn open_line(alloc: Global, book: &Book) -> Result<Vec<u8>, AllocError>
     left_line(alloc, book, b"open")
 }
 
-/// The line of a book all whose ranks are gone, with the same numbers.
+/// The line of a book all whose ranks are lost, with the same numbers.
 pub fn stranded_line(alloc: Global, book: &Book) -> Result<Vec<u8>, AllocError>
     ensures { IfOk result (λ text. IsStrandedLine book.now text.items) }
 {

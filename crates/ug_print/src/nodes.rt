@@ -7,7 +7,7 @@ use ug_image::SavedNode;
 use ug_nodes::Change;
 use ug_problem::Column;
 
-/// Adds a line for each node. After an error the text may have a part of them.
+/// Adds a line for each node. After an error the output may have a part of them.
 #[tactic(auto, using(crate::proofs::NodeLines::nodes_more))]
 pub fn push_node_lines(
     text: &mut Vec<u8>,

@@ -1,4 +1,4 @@
-//! Words and lines that are added to a text. After an error the text may have a part of them.
+//! Words and lines that are added to the output. After an error the output may have a part of them.
 
 ghost use Rattle.std.specs.Prelude.{◌≡◌, ◌++◌, OnOk};
 ghost use Rattle.std.specs.Fmt.{decimal, signed_decimal};
