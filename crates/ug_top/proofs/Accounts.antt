@@ -54,7 +54,7 @@ unread_source (Refused refusal text) old new same less = absurd (omega (arith, s
 unread_source ReadFault old new rose less = refl
 unread_source Memory old new same less = absurd (omega (arith, same, less))
 
--- a text was gathered, and states no problem
+-- a file was gathered, and states no problem
 pub unread_calm : (boxed : Option ℕ) (text : List ℕ) (e : Ended) (old new : ℕ)
     → IsTextUnread boxed text e → new ≡ old → unread_cause e old new
 unread_calm boxed text (Lines status told best) old new t same = absurd t
@@ -106,7 +106,7 @@ fault_not_read faults.Spent e = absurd (cc e)
 run_not_read : (Ran : Outcome → Type 0) (Not : StartFault → Type 0) (gap : ℕ) (e : Ended)
     → TellsRun Ran Not gap e → status_of e ≡ statuses.ReadFault → ⊥
 run_not_read Ran Not gap (Lines status text best) (inl (outcome, ran, lines)) is =
-    over_not_read status (outcome_is_over gap outcome status text.items lines) is
+    over_not_read status (outcome_is_over gap outcome status text.items lines.lines) is
 run_not_read Ran Not gap (Lines status text best) (inr (fault, not, tells)) is =
     fault_not_read fault (sym tells.0 ∙ is)
 run_not_read Ran Not gap (Quiet status) t is = absurd t

@@ -1,5 +1,5 @@
 -- What the ending book of a run is, by what the run began with.
-use Rattle.std.proofs.Common.{◌≡◌, ℕ, [], ◌∷◌, map, None, IfSome, ◌∙◌, subst, inl}
+use Rattle.std.proofs.Common.{◌≡◌, ℕ, [], ◌∷◌, map, None, IfSome, ◌∙◌, subst, inl, Option}
 use Rattle.ug_problem.specs.Instances.{Instance, root_of}
 use Rattle.ug_problem.specs.Incumbents.{one_kept}
 use Rattle.ug_problem.proofs.Incumbents.{all_of_one}
@@ -20,7 +20,8 @@ use Rattle.ug_restart.specs.Outcomes.{HasFeasible, IfAnswered, IfBook, IsRight, 
 use Rattle.ug_world.specs.Coordinators.{CoordinatorsLoseNothing}
 use Rattle.ug_top.specs.Solved.{CountsSaves, Crewed, HasSolved, StaysCalm}
 use Rattle.ug_top.proofs.Solved.{solved_feasible, solved_right, solved_same, strands_so}
-use Rattle.ug_top.specs.Runs.{IsOf, IsRightFor, IsRun}
+use Rattle.ug_disk.specs.Histories.{DiskSeen, History}
+use Rattle.ug_top.specs.Runs.{AreSavedInTurn, IsKeptOn, IsOf, IsRightFor, IsRun, IsRunKept}
 
 -- each point lies in the root
 root_covers : (p : Instance) (settings : Settings)
@@ -98,4 +99,24 @@ is_run law Began Trusted Saves by p settings outcome given began of unused sound
           (solved_right law by.was by.now given outcome.end solved unused crew (sound trusted));
       live = live;
       strands = strands_so by.was by.now given outcome.end solved live;
+    }
+
+-- such a run, and what it kept on a disk
+pub is_run_kept : CoordinatorsLoseNothing → (Is : BookState → Type 0)
+    (Trusted : (b : BookState) → Is b → Type 0) (by : Crewed) (p : Instance) (settings : Settings)
+    (outcome : Outcome) (old new : DiskSeen) (begun : Option History) (given : BookState)
+    → (began : Is given) → IsOf p settings given → given.last ≡ 0
+    → (Trusted given began → IsSoundBook given)
+    → (solved : HasSolved by given outcome.end)
+    → CountsSaves by given outcome.end solved (AreSavedInTurn begun outcome new given)
+    → (StaysCalm by given outcome.end solved → ¬ IsStranded outcome.end)
+    → IsKeptOn Is given begun outcome old new
+    → IsRunKept Is Trusted by p settings outcome old new
+unfolding is_run
+is_run_kept law Is Trusted by p settings outcome old new begun given began of unused sound solved saves live kept =
+    record {
+      begun = begun;
+      ran = is_run law Is Trusted (AreSavedInTurn begun outcome new) by p settings outcome given began of
+          unused sound solved saves live;
+      kept = kept;
     }

@@ -1,4 +1,4 @@
--- Where all that recovery could find was Covered, it is so at each moment of a run.
+-- If all that recovery could find was Covered, it is so at each moment of a run.
 use Rattle.std.proofs.Common.{◌≡◌, inl, inr, ℕ, List, Option, None, Some, IfSome, refl, sym, ◌∙◌, subst}
 use Rattle.ug_disk.specs.declared.slot.Slot.{Slot}
 use Rattle.ug_disk.specs.Histories.{History}
@@ -31,7 +31,7 @@ pub begun_sound : (p : Instance) (settings : Settings) (old : Option History) (b
 begun_sound p settings old b t =
     subst IsSoundBook (sym t.is) (root_is_sound p (next_run t.found) settings)
 
--- where the image from which it goes on was Covered
+-- where the image from which it continues was Covered
 pub image_sound : (p : Instance) (settings : Settings) (old : Option History) (b : BookState)
     (t : IsGoneOn p settings old b) → IsCovered t.found.image → IsSoundBook b
 image_sound p settings old b t covered =
@@ -109,7 +109,7 @@ now_covered told b saver sound a = record {
   };
 }
 
--- it begins, and goes on to its end
+-- it begins, and continues to its end
 pub run_covered : (old mid new : Option History) (b : BookState) (saver : Saver)
     (P : BookState → Type 0) → ((k : BookState) → P k → IsSoundBook k) → P b
     → CoversWhatIsFound old → Leaves (IsSafeStart old P) old mid → IsAcknowledgedStart mid b saver

@@ -6,7 +6,7 @@ use Rattle.ug_top.specs.declared.ended.Ended.{Ended}
 use Rattle.ug_top.specs.declared.ended.Ended.TheVariants.{Lines, Quiet, Refused, ReadFault, Memory}
 use Rattle.ug_top.specs.Unread.{HasStopped}
 
--- where a text was gathered
+-- where a file was gathered
 pub has_stopped : (a b : Option (List ℕ)) (e : Ended) → StopsAtEnd a b → HasStopped a b e
 has_stopped a b (Lines status told best) h = h
 has_stopped a b (Quiet status) h = h

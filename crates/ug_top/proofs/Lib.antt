@@ -3,8 +3,10 @@ mod Runs
 mod Accounts
 pub mod Books
 pub mod Covering
+pub mod Answering
 mod Exact
 mod Gathered
+mod Left
 mod Scales
 mod Stored
 mod Tellings

@@ -3,7 +3,7 @@ use Rattle.std.proofs.Common.{◌≡◌, ℕ, List, [], ◌++◌, Option, Some, 
 use Rattle.std.specs.Option.{option_map}
 use Rattle.ug_io.specs.Outside.{Takes}
 
--- a front of the bytes went there, and these are left
+-- a prefix of the bytes went there, and these are left
 pub record Went (old new : Option (List ℕ)) (bytes rest : List ℕ) : Type 0 where
   pub front : List ℕ
   pub parts : bytes ≡ front ++ rest

@@ -81,7 +81,7 @@ asked_planned (Some command) words (plans.Gen gen) asks t = planned_gen command.
 pub taken_planned : (words : List Text) (plan : Plan) → TakenWords words plan → IsPlannedOf plan
 taken_planned words plan t = asked_planned _ words plan t.asked.asks t
 
--- ---- a text that states a problem is not refused, and one with a fault is told
+-- ---- a file that states a problem is not refused, and one with a fault is reported
 
 stated : OneOutcome → (boxed : Option ℕ) (left : Option (List ℕ)) (by : Crewed) (status : Status) (p : Instance)
     → (status ≡ statuses.Refused → ⊥) → (IsSeenCalm by → status ≡ statuses.Stranded → ⊥) → States left boxed p
@@ -119,11 +119,11 @@ stranded_end gap (over.Limited b) text t = absurd (cc t.0)
 stranded_end gap (over.Stranded b) text t = tt
 stranded_end gap over.Memory text t = t
 
-module _ (one : OneOutcome) (Ran : Instance → Outcome → Type 0)
+module _ (one : OneOutcome) (Idle : Type 0) (Ran : Instance → Outcome → Type 0)
     (Not : Instance → StartFault → Type 0) (asked : Asked) (left : Option (List ℕ))
     (text : List ℕ) (by : Crewed)
     (live : (p : Instance) (o : Outcome) → Ran p o → IsSeenCalm by → ¬ IsStranded o.end) where
-  file_complete : (status : Status) → AreFileLines Ran Not asked left status text
+  file_complete : (status : Status) → AreFileLines Idle Ran Not asked left status text
       → IsComplete asked.bounds.boxed left by status
   file_complete statuses.Answered t =
       stated one asked.bounds.boxed left by statuses.Answered t.problem (λ e. absurd (cc e)) (λ calm e. absurd (cc e)) t.states
@@ -158,10 +158,10 @@ solve_complete : OneOutcome → {A : Type 0} (folder : Option A) (asked : Asked)
     (status : Status) (text : List ℕ) → AreSolveLines folder asked old new status text
     → IsComplete asked.bounds.boxed old.source.left (crews_at old new) status
 solve_complete one None asked old new status text t =
-    file_complete one _ _ asked old.source.left text (crews_at old new)
+    file_complete one _ _ _ asked old.source.left text (crews_at old new)
     (λ p o ran. run_live _ _ _ (crews_at old new) p _ o ran.ran) status t
 solve_complete one (Some folder) asked old new status text t =
-    file_complete one _ _ asked old.source.left text (crews_at old new)
+    file_complete one _ _ _ asked old.source.left text (crews_at old new)
     (λ p o ran. run_live _ _ _ (crews_at old new) p _ o ran.ran) status t
 
 pub lines_complete : OneOutcome → (plan : Plan) (old new : Outside) (status : Status)
@@ -169,7 +169,7 @@ pub lines_complete : OneOutcome → (plan : Plan) (old new : Outside) (status : 
 lines_complete one (plans.Solve solve) old new status text t =
     solve_complete one solve.checkpoint solve.settings old new status text t
 lines_complete one (plans.Restart restart) old new status text t =
-    file_complete one _ _ restart.settings old.source.left text (crews_at old new)
+    file_complete one _ _ _ restart.settings old.source.left text (crews_at old new)
     (λ p o ran. run_live _ _ _ (crews_at old new) p _ o ran.ran) status t
 lines_complete one (plans.Worker worker) old new status text t = tt
 lines_complete one (plans.Show show) old new status text t = tt

@@ -123,7 +123,7 @@ unsafely given faults crew end Tried Safe h = record {
   safe = λ sound. tt;
 }
 
--- and as if the crew told what went between
+-- and as if the crew reported what went between
 abbrev tells_it : (given : BookState) (faults : ℕ) (crew : CrewSeen) (end : End) (Tried : ℕ → Type 0) (Safe : Type 0)
     (h : HasCoordinated given faults crew end Tried Safe)
     → HasCoordinated given faults (record crew { said = Some h.now.said }) end (λ count. Unit {0}) (Unit {0})
@@ -195,12 +195,12 @@ pub saved_in_turn : (was now : Option CrewSeen) (given : BookState) (end : End) 
     (saver : Saver) (outcome : Outcome) (new : DiskSeen) (begun : Option History)
     → IsAcknowledgedStart begun given saver
     → counts_saves was now given end h (AreEachSaved (Some saver) outcome new)
-    → counts_saves was now given end h (AreSavedInTurn outcome new given)
+    → counts_saves was now given end h (AreSavedInTurn begun outcome new given)
 saved_in_turn None None given end h saver outcome new begun first saves = tt
 saved_in_turn None (Some now) given end h saver outcome new begun first saves = absurd h
 saved_in_turn (Some was) None given end h saver outcome new begun first saves = absurd h
 saved_in_turn (Some was) (Some now) given end h saver outcome new begun first saves =
-    record { begun = begun; saver = saver; first = first; each = saves }
+    record { saver = saver; first = first; each = saves }
 
 -- where nothing is asked of the saves
 pub any_saves : (was now : Option CrewSeen) (given : BookState) (end : End) (h : has_solved was now given end)
@@ -259,7 +259,7 @@ worked_told : (before after : ℕ) (told : Option (List Exchange)) (said : List 
 worked_told before after None said shown seen = absurd seen
 worked_told before after (Some own) said shown seen = subst (IsCalmlyWorked before after) shown seen
 
--- what the crew tells is what went between
+-- what the crew says is what went between
 seen_calm : (was now : Option CrewSeen) (given : BookState) (end : End) (h : has_solved was now given end)
     → is_seen_calm was now → stays_calm was now given end h
 seen_calm None None given end h seen = tt

@@ -9,7 +9,6 @@ use Rattle.ug_checkpoint.specs.Runs.{CouldLeave}
 use Rattle.ug_checkpoint.specs.declared.error.LoadError.{LoadError}
 use Rattle.ug_restart.proofs.Causes.{not_loaded}
 use Rattle.ug_io.specs.Outside.{Rose}
-use Rattle.ug_rules.specs.State.{BookState}
 use Rattle.ug_restart.proofs.Going.{rose_rises}
 use Rattle.ug_restart.specs.Faults.{fault_of_load, start_cause}
 use Rattle.ug_restart.specs.declared.fault.StartFault.{StartFault}
@@ -18,7 +17,6 @@ use Rattle.ug_restart.specs.declared.outcome.Outcome.{Outcome}
 use Rattle.ug_restart.specs.Openings.{CoversWhatIsFound}
 use Rattle.ug_restart.specs.Moments.{AllCovered, IsCoveredFind}
 use Rattle.ug_restart.specs.Outcomes.{IsMissedByFaults, IsUntouched}
-use Rattle.ug_top.specs.Runs.{IsKeptOn}
 use Rattle.ug_top.specs.Solved.{Crewed, KeepsCovered, KeepsCoveredBy}
 use Rattle.ug_top.proofs.Solved.{kept_anyway}
 use Rattle.ug_top.specs.declared.ended.Ended.{Ended}
@@ -94,7 +92,7 @@ outcome_stored : (Keeps : Type 0) (gap : ℕ) (outcome : Outcome) (e : Ended) (o
     → TellsOutcome gap outcome e → old.faults ≤ new.faults → Keeps
     → IsStored Keeps old new (status_of e)
 outcome_stored Keeps gap outcome (Lines status text best) old new t rises moment =
-    over Keeps old new status (outcome_is_over gap outcome status text.items t) rises moment
+    over Keeps old new status (outcome_is_over gap outcome status text.items t.lines) rises moment
 outcome_stored Keeps gap outcome (Quiet status) old new t rises moment = absurd t
 outcome_stored Keeps gap outcome (Refused refusal text) old new t rises moment = absurd t
 outcome_stored Keeps gap outcome ReadFault old new t rises moment = absurd t
@@ -121,11 +119,11 @@ missed_from outcome old mid new same t = record {
 }
 
 -- a run with a checkpoint
-pub kept_stored : (Keeps : Type 0) (gap : ℕ) (Is : BookState → Type 0) (outcome : Outcome) (e : Ended)
-    (old new : DiskSeen) → TellsOutcome gap outcome e → IsKeptOn Is outcome old new
+pub kept_stored : (Keeps : Type 0) (gap : ℕ) (outcome : Outcome) (e : Ended) (old new : DiskSeen)
+    → TellsOutcome gap outcome e → IsMissedByFaults outcome old new
     → Keeps → IsStored Keeps old new (status_of e)
-kept_stored Keeps gap Is outcome e old new t kept moment =
-    outcome_stored Keeps gap outcome e old new t (missed_rises outcome old new kept.missed) moment
+kept_stored Keeps gap outcome e old new t missed moment =
+    outcome_stored Keeps gap outcome e old new t (missed_rises outcome old new missed) moment
 
 -- a run without one
 pub alone_stored : (by : Crewed) (gap : ℕ) (outcome : Outcome) (e : Ended) (old new : DiskSeen)
@@ -138,7 +136,7 @@ alone_stored by gap outcome e old new t u =
 pub end_stored : (outcome : Outcome) (e : Ended) (old new : DiskSeen) → TellsEnd outcome e
     → new.told ≡ old.told → new.faults ≡ old.faults → IsStored (KeepsCovered old new) old new (status_of e)
 end_stored outcome (Lines status text best) old new t same calm =
-    over (KeepsCovered old new) old new status (line_is_over outcome.end status text.items t)
+    over (KeepsCovered old new) old new status (line_is_over outcome.end status text.items t.0)
     (omega (arith, calm)) (keeps_untouched old new same)
 end_stored outcome (Quiet status) old new t same calm = absurd t
 end_stored outcome (Refused refusal text) old new t same calm = absurd t
@@ -182,7 +180,7 @@ faulty Keeps (faults.SmallerGap kept asked) old new calm moment =
 faulty Keeps faults.Spent old new calm moment =
     calm_fault Keeps statuses.Spent old new (λ e. absurd (cc e)) (λ u. u) calm moment
 
--- a fault that is told, or for which memory was wanting
+-- a fault that is reported, or for which memory ran out
 pub fault_stored : (Keeps : Type 0) (fault : StartFault) (e : Ended) (old new : DiskSeen) → TellsFault fault e
     → start_cause fault old.faults new.faults → Keeps
     → IsStored Keeps old new (status_of e)
@@ -217,7 +215,7 @@ image_stored image ReadFault old new t calm leaves = absurd t
 image_stored image Memory old new t calm leaves =
     memory (KeepsCovered old new) old new (omega (arith, calm)) (load_covered old.told new.told leaves)
 
--- where nothing is loaded, the same is said of the start that stands for it
+-- if nothing is loaded, the same is said of the start that stands for it
 pub load_stored : (error : LoadError) (e : Ended) (old new : DiskSeen)
     → TellsFault (fault_of_load error) e → load_cause error old.faults new.faults
     → Leaves (CouldLeave old.told) old.told new.told → IsStored (KeepsCovered old new) old new (status_of e)

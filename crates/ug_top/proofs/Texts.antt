@@ -1,4 +1,4 @@
--- What the text that was kept states, all bytes of the source state.
+-- What the file that was kept states, all bytes of the source state.
 use Rattle.std.proofs.Common.{ℕ, List, Option, Some, None, IfSome}
 use Rattle.ug_problem.specs.Instances.{Instance}
 use Rattle.ug_mps.specs.Reads.{Reads}
@@ -18,9 +18,11 @@ pub told_unread : (left : Option (List ℕ)) (text : List ℕ) (boxed : Option �
     → IsUnread boxed left e
 told_unread left text boxed (Lines status told best) enough unread = absurd unread
 told_unread left text boxed (Quiet status) enough unread = absurd unread
-told_unread None text boxed (Refused refusal told) enough (f, first, same) =
-    record { fault = f; first = tt; is = same }
-told_unread (Some bytes) text boxed (Refused refusal told) enough (f, first, same) =
-    record { fault = f; first = enough.fault boxed f first; is = same }
+told_unread None text boxed (Refused refusal told) enough (f, first, same, at) =
+    (record { fault = f; first = tt; is = same }, record { fault = f; first = tt; is = at })
+told_unread (Some bytes) text boxed (Refused refusal told) enough (f, first, same, at) = (
+  record { fault = f; first = enough.fault boxed f first; is = same },
+  record { fault = f; first = enough.fault boxed f first; is = at },
+)
 told_unread left text boxed ReadFault enough unread = absurd unread
 told_unread left text boxed Memory enough unread = tt

@@ -5,18 +5,15 @@ use Rattle.ug_io.specs.Crews.{CrewSeen}
 use Rattle.ug_io.specs.Links.{LinkSeen}
 use Rattle.ug_io.specs.Outside.{Rose, SourceSeen}
 use Rattle.ug_disk.specs.declared.slot.Slot.{Slot}
-use Rattle.ug_disk.specs.Crashes.{Leaves}
 use Rattle.ug_disk.specs.Histories.{DiskSeen}
 use Rattle.ug_problem.specs.Instances.{Instance}
 use Rattle.ug_restart.specs.declared.fault.StartFault.{StartFault}
 use Rattle.ug_restart.specs.declared.fault.StartFault.TheVariants as faults
 use Rattle.ug_restart.specs.declared.outcome.Outcome.{Outcome}
-use Rattle.ug_restart.specs.Starts.{IsBegun, IsGoneOn, IsNotBegun, IsNotGoneOn, IsSafeStart}
-use Rattle.ug_restart.specs.Keeps.{KeepsImage}
 use Rattle.ug_checkpoint.specs.declared.found.Found.{Found}
 use Rattle.ug_checkpoint.specs.Recovery.{HasFound, IsFirstBadSlot, Loaded}
 use Rattle.ug_restart.specs.Outcomes.{IsUntouched}
-use Rattle.ug_top.specs.Runs.{IsKeptOn, IsNewRun, IsRunOn, IsSavedRun}
+use Rattle.ug_top.specs.Runs.{IsNewRun, IsNoRunOn, IsNoSavedRun, IsRunOn, IsSavedRun}
 use Rattle.ug_print.specs.Lines.{memory_line, read_fault_line}
 use Rattle.ug_print.specs.Faults.{fault_line}
 use Rattle.ug_print.specs.Checkpoints.{AreCheckpointLines}
@@ -36,7 +33,7 @@ use Rattle.ug_cli.specs.declared.plan.Plan.TheVariants as plans
 use Rattle.ug_top.specs.Outside.{Outside}
 use Rattle.ug_top.specs.Solved.{Crewed, unchanged}
 use Rattle.ug_top.specs.Plans.{IsPlanned, IsPlannedGen, settings_for, settings_made}
-use Rattle.ug_top.specs.Lines.{AreFaultLines, AreRunLines, IsEndLine, IsRefusedLine}
+use Rattle.ug_top.specs.Lines.{AreFaultLines, AreRunLines, IsEndLine, IsRefusedLine, States}
 use Rattle.ug_top.specs.declared.status.Status.{Status}
 use Rattle.ug_top.specs.declared.status.Status.TheVariants as statuses
 use Rattle.ug_top.specs.declared.ended.Ended.{Ended}
@@ -59,32 +56,47 @@ text_of Memory = memory_line
 
 -- ---- a file
 
+-- A run of the problem that the source states, or why it does not begin, whose lines are not there.
+pub record HasEndedUnprinted (Ran : Instance → Outcome → Type 0)
+    (Not : Instance → StartFault → Type 0) (boxed : Option ℕ) (left : Option (List ℕ)) : Type 0 where
+  pub problem : Instance
+  pub states : States left boxed problem
+  pub ended : ((outcome : Outcome) × Ran problem outcome)
+      ⊎ ((fault : StartFault) × Not problem fault)
+
+-- Memory ran out: before anything was saved or solved, or so that no more can be said of how a run
+-- ended, or why none began. What is on the disk is what such a run leaves there.
+pub record AreMemoryLines (Idle : Type 0) (Ended : Type 0) (text : List ℕ) : Type 0 where
+  pub line : text ≡ memory_line
+  pub when : Idle ⊎ Ended
+
 -- the lines of each status of a run of the problem that the source states
-abbrev pub AreFileLines : (Instance → Outcome → Type 0) → (Instance → StartFault → Type 0) → Asked
-    → Option (List ℕ) → Status → List ℕ → Type 0
-AreFileLines Ran Not asked left statuses.Answered text =
+abbrev pub AreFileLines : Type 0 → (Instance → Outcome → Type 0)
+    → (Instance → StartFault → Type 0) → Asked → Option (List ℕ) → Status → List ℕ → Type 0
+AreFileLines Idle Ran Not asked left statuses.Answered text =
     AreRunLines Ran asked.bounds.gap asked.bounds.boxed left statuses.Answered text
-AreFileLines Ran Not asked left statuses.Limited text =
+AreFileLines Idle Ran Not asked left statuses.Limited text =
     AreRunLines Ran asked.bounds.gap asked.bounds.boxed left statuses.Limited text
-AreFileLines Ran Not asked left statuses.Stranded text =
+AreFileLines Idle Ran Not asked left statuses.Stranded text =
     AreRunLines Ran asked.bounds.gap asked.bounds.boxed left statuses.Stranded text
-AreFileLines Ran Not asked left statuses.Refused text =
+AreFileLines Idle Ran Not asked left statuses.Refused text =
     IsRefusedLine asked.bounds.boxed left text
-AreFileLines Ran Not asked left statuses.ReadFault text = text ≡ read_fault_line
-AreFileLines Ran Not asked left statuses.Memory text = text ≡ memory_line
-AreFileLines Ran Not asked left statuses.DiskFault text =
+AreFileLines Idle Ran Not asked left statuses.ReadFault text = text ≡ read_fault_line
+AreFileLines Idle Ran Not asked left statuses.Memory text =
+    AreMemoryLines Idle (HasEndedUnprinted Ran Not asked.bounds.boxed left) text
+AreFileLines Idle Ran Not asked left statuses.DiskFault text =
     AreFaultLines Not asked.bounds.boxed left statuses.DiskFault text
-AreFileLines Ran Not asked left statuses.NoCheckpoint text =
+AreFileLines Idle Ran Not asked left statuses.NoCheckpoint text =
     AreFaultLines Not asked.bounds.boxed left statuses.NoCheckpoint text
-AreFileLines Ran Not asked left statuses.OtherProblem text =
+AreFileLines Idle Ran Not asked left statuses.OtherProblem text =
     AreFaultLines Not asked.bounds.boxed left statuses.OtherProblem text
-AreFileLines Ran Not asked left statuses.BadImage text =
+AreFileLines Idle Ran Not asked left statuses.BadImage text =
     AreFaultLines Not asked.bounds.boxed left statuses.BadImage text
-AreFileLines Ran Not asked left statuses.Spent text =
+AreFileLines Idle Ran Not asked left statuses.Spent text =
     AreFaultLines Not asked.bounds.boxed left statuses.Spent text
-AreFileLines Ran Not asked left statuses.SmallerGap text =
+AreFileLines Idle Ran Not asked left statuses.SmallerGap text =
     AreFaultLines Not asked.bounds.boxed left statuses.SmallerGap text
-AreFileLines Ran Not asked left status text = ⊥
+AreFileLines Idle Ran Not asked left status text = ⊥
 
 -- a new solve without a checkpoint: the disk is left alone, and nothing keeps it from beginning
 pub record HasRunAlone (by : Crewed) (asked : Asked) (old new : DiskSeen) (p : Instance)
@@ -96,55 +108,48 @@ abbrev pub BeginsAlways : Instance → StartFault → Type 0
 BeginsAlways p fault = ⊥
 
 -- a new solve with a checkpoint
-pub record HasRunSaved (by : Crewed) (asked : Asked) (old new : DiskSeen) (p : Instance)
-    (outcome : Outcome) : Type 0 where
-  pub ran : IsSavedRun by p (settings_for asked p) old.told new outcome
-  pub kept : IsKeptOn (IsBegun p (settings_for asked p) old.told) outcome old new
+abbrev pub HasRunSaved : Crewed → Asked → DiskSeen → DiskSeen → Instance → Outcome → Type 0
+HasRunSaved by asked old new p outcome =
+    IsSavedRun by p (settings_for asked p) outcome old new
 
--- It does not begin: at each moment a crash leaves what a beginning may leave, so nothing was saved
--- but, perhaps, its first image. Where an image was found before, whatever a crash left, one is
--- found still: one that could be found before, or that first one.
-pub record HasNotBegun (asked : Asked) (old new : DiskSeen) (p : Instance) (fault : StartFault)
-    : Type 0 where
-  pub why : IsNotBegun old.told new.told fault
-  pub safe : Leaves (IsSafeStart old.told (IsBegun p (settings_for asked p) old.told))
-      old.told new.told
-  pub kept : KeepsImage (IsBegun p (settings_for asked p) old.told) old.told new.told
+-- it does not begin
+abbrev pub HasNotBegun : Crewed → Asked → DiskSeen → DiskSeen → Instance → StartFault → Type 0
+HasNotBegun by asked old new p fault =
+    IsNoSavedRun by p (settings_for asked p) old new fault
 
--- a run that goes on from the checkpoint
-pub record HasRunOn (by : Crewed) (asked : Asked) (old new : DiskSeen) (p : Instance)
-    (outcome : Outcome) : Type 0 where
-  pub ran : IsRunOn by p (settings_for asked p) old.told new outcome
-  pub kept : IsKeptOn (IsGoneOn p (settings_for asked p) old.told) outcome old new
+-- a run that resumes from the checkpoint
+abbrev pub HasRunOn : Crewed → Asked → DiskSeen → DiskSeen → Instance → Outcome → Type 0
+HasRunOn by asked old new p outcome =
+    IsRunOn by p (settings_for asked p) outcome old new
 
--- it does not go on, and likewise nothing was saved but, perhaps, its first image, and an image is
--- found still
-pub record HasNotGoneOn (asked : Asked) (old new : DiskSeen) (p : Instance) (fault : StartFault)
-    : Type 0 where
-  pub why : IsNotGoneOn p (settings_for asked p) old.told new.told fault
-  pub safe : Leaves (IsSafeStart old.told (IsGoneOn p (settings_for asked p) old.told))
-      old.told new.told
-  pub kept : KeepsImage (IsGoneOn p (settings_for asked p) old.told) old.told new.told
+-- it does not resume
+abbrev pub HasNotGoneOn : Crewed → Asked → DiskSeen → DiskSeen → Instance → StartFault → Type 0
+HasNotGoneOn by asked old new p fault = IsNoRunOn by p (settings_for asked p) old new fault
 
 -- the crew as it was and as it is
 abbrev pub crews_at : Outside → Outside → Crewed
 crews_at old new = record { was = old.crew; now = new.crew }
 
+-- no solver was started, and nothing was saved
+pub record IsIdleSince (old new : Outside) : Type 0 where
+  pub crew : new.crew ≡ old.crew
+  pub disk : new.disk ≡ old.disk
+
 -- how a solve ends, where a checkpoint is kept and where none is
 abbrev pub AreSolveLines : {A : Type 0} → Option A → Asked → Outside → Outside → Status → List ℕ
     → Type 0
 AreSolveLines None asked old new status text =
-    AreFileLines (HasRunAlone (crews_at old new) asked old.disk new.disk) BeginsAlways asked
+    AreFileLines (IsIdleSince old new) (HasRunAlone (crews_at old new) asked old.disk new.disk) BeginsAlways asked
     old.source.left status text
 AreSolveLines (Some folder) asked old new status text =
-    AreFileLines (HasRunSaved (crews_at old new) asked old.disk new.disk)
-    (HasNotBegun asked old.disk new.disk) asked old.source.left status text
+    AreFileLines (IsIdleSince old new) (HasRunSaved (crews_at old new) asked old.disk new.disk)
+    (HasNotBegun (crews_at old new) asked old.disk new.disk) asked old.source.left status text
 
 -- how a restart ends
 abbrev pub AreRestartLines : Asked → Outside → Outside → Status → List ℕ → Type 0
 AreRestartLines asked old new status text =
-    AreFileLines (HasRunOn (crews_at old new) asked old.disk new.disk)
-    (HasNotGoneOn asked old.disk new.disk) asked old.source.left status text
+    AreFileLines (IsIdleSince old new) (HasRunOn (crews_at old new) asked old.disk new.disk)
+    (HasNotGoneOn (crews_at old new) asked old.disk new.disk) asked old.source.left status text
 
 -- ---- a checkpoint
 
@@ -197,9 +202,9 @@ IsUnreadFor statuses.LinkFault = Unit {0}
 IsUnreadFor statuses.BadFrame = Unit {0}
 IsUnreadFor status = ⊥
 
--- The count of the disk's faults does not fall. A disk fault is told only where it rose, and it did
--- not where a run was refused for another cause. Where no text was read the slots are as they were.
--- What of the disk stays Covered at each moment, is said so.
+-- The count of the disk's faults does not fall. A disk fault is reported only where it rose, and it
+-- did not where a run was refused for another cause. Where no text was read the slots are as they
+-- were. What of the disk stays Covered at each moment, is said so.
 pub record IsStored (Keeps : Type 0) (old new : DiskSeen) (status : Status) : Type 0 where
   pub rises : old.faults ≤ new.faults
   pub fault : status ≡ statuses.DiskFault → Rose old.faults new.faults
@@ -207,7 +212,8 @@ pub record IsStored (Keeps : Type 0) (old new : DiskSeen) (status : Status) : Ty
   pub unread : IsUnreadFor status → new.told ≡ old.told
   pub any_moment : Keeps
 
--- The count of the source's faults does not fall, and a read fault is told exactly where it rose.
+-- The count of the source's faults does not fall, and a read fault is reported exactly where it
+-- rose.
 pub record IsReadAs (old new : SourceSeen) (status : Status) : Type 0 where
   pub rises : old.faults ≤ new.faults
   pub fault : status ≡ statuses.ReadFault → Rose old.faults new.faults
@@ -256,13 +262,13 @@ AreWorkerLines link statuses.BadFrame text = HasMetBad link × (text ≡ [])
 AreWorkerLines link statuses.Memory text = text ≡ []
 AreWorkerLines link status text = ⊥
 
--- the status is this, unless memory was wanting
+-- the status is this, unless memory ran out
 abbrev pub IsOrWants : Status → Status → Type 0
 IsOrWants status due = (status ≡ due) ⊎ (status ≡ statuses.Memory)
 
 -- What is seen of the link at the end shows the status: a link fault where a call of it failed or
--- it has ended. And where it tells what was said: a bad frame where what came from some place on is
--- no order that is due, and 0 where Ended was told.
+-- it has ended. And where it says what was said: a bad frame where what came from some place on is
+-- no order that is due, and 0 where Ended was sent.
 pub record ShowsStatus (seen : LinkSeen) (status : Status) : Type 0 where
   pub fault : IsLost seen → IsOrWants status statuses.LinkFault
   pub bad : IsSome seen.said → (at : ℕ) → HasServed seen (service.BadFrame at)
@@ -305,7 +311,7 @@ IsPlannedOf (plans.Worker worker) = Unit {0}
 IsPlannedOf (plans.Show show) = Unit {0}
 IsPlannedOf (plans.Gen gen) = IsPlannedGen gen
 
--- a crew of so many solvers is there, where one is needed, and none lives yet
+-- a crew of this many solvers is there, where one is needed, and none lives yet
 abbrev pub HasCrewFor : Option ℕ → Option CrewSeen → Type 0
 HasCrewFor None None = Unit {0}
 HasCrewFor None (Some seen) = ⊥

@@ -1,10 +1,13 @@
 pub mod Ran
 pub mod Ends
+pub mod Left
 pub mod Lines
 pub mod Outcomes
 pub mod Outside
 pub mod Plans
 pub mod Runs
 pub mod Scaled
+pub mod Headline
+pub mod Honesty
 pub mod Unread
 pub mod Solved

@@ -53,7 +53,7 @@ AreEndLines gap (ends.Limited b) status text = (status ≡ statuses.Limited) × 
 AreEndLines gap (ends.Stranded b) status text = (status ≡ statuses.Stranded) × IsStrandedLine b text
 AreEndLines gap ends.Memory status text = ⊥
 
--- the lines of the incumbent of a run that may go on
+-- the lines of the incumbent of a run that may continue
 abbrev pub IsLeftPoint : End → List ℕ → Type 0
 IsLeftPoint (ends.Answered b) text = ⊥
 IsLeftPoint (ends.Limited b) text = text ≡ best_lines b.problem b.best
@@ -75,15 +75,21 @@ pub record AreOutcomeLines (gap : ℕ) (outcome : Outcome) (status : Status) (te
   pub end : AreEndLines gap outcome.end status first
   pub is : text ≡ first ++ count_lines outcome.missed outcome.unsaved
 
--- the source states the problem under the box, where its bytes are told
+-- the source states the problem under the box, where its bytes are known
 abbrev pub States : Option (List ℕ) → Option ℕ → Instance → Type 0
 States left boxed p = IfSome left (λ bytes. Reads bytes boxed p)
 
--- the line of the first fault of the bytes under the box, where they are told
+-- the line of the first fault of the bytes under the box, where they are known
 pub record IsRefusedLine (boxed : Option ℕ) (left : Option (List ℕ)) (text : List ℕ) : Type 0 where
   pub fault : MpsFault
   pub first : IfSome left (λ bytes. FirstFault bytes boxed fault)
   pub is : text ≡ refused_line fault
+
+-- this is the number of the line of the first fault, where the bytes are known
+pub record IsFaultLine (boxed : Option ℕ) (left : Option (List ℕ)) (line : ℕ) : Type 0 where
+  pub fault : MpsFault
+  pub first : IfSome left (λ bytes. FirstFault bytes boxed fault)
+  pub is : line ≡ fault.line
 
 -- a run of the problem that the source states ended with this outcome, which Ran holds of
 pub record AreRunLines (Ran : Instance → Outcome → Type 0) (gap : ℕ) (boxed : Option ℕ)

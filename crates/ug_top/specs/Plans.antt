@@ -26,7 +26,7 @@ settings_for asked p = record {
   gap = scaled_gap asked.bounds.gap p.objective.scale;
 }
 
--- the settings of a run of a made instance: as of a solve with so many solvers and nothing else
+-- the settings of a run of a made instance: as of a solve with this many solvers and nothing else
 abbrev pub settings_made : ℕ → Settings
 settings_made solvers = record {
   solvers = solvers;

@@ -20,13 +20,13 @@ use Rattle.ug_top.specs.declared.status.Status.{Status}
 use Rattle.ug_top.specs.declared.status.Status.TheVariants.{Usage, Refused, ReadFault, Stranded}
 use Rattle.ug_top.specs.declared.status.Status.TheVariants.{WriteFault, Memory}
 
--- the first fault of the text was told, unless the source failed or memory was wanting
+-- the first fault of the file was reported, unless the source failed or memory ran out
 abbrev pub IsToldOf : Status → Type 0
 IsToldOf status = (status ≡ Refused) ⊎ ((status ≡ ReadFault) ⊎ (status ≡ Memory))
 
--- Where the source's bytes are told: of one with a first fault that is told, and one that states a
--- problem is not refused. Where threads solved, or a crew that stayed calm and was worked, as it
--- tells itself, the run is not stranded.
+-- Where the source's bytes are known: of one with a first fault that is reported, and one that
+-- states a problem is not refused. If threads solved, or a crew that stayed calm and was worked, as
+-- it reports itself, the run is not stranded.
 pub record IsComplete (boxed : Option ℕ) (left : Option (List ℕ)) (by : Crewed) (status : Status)
     : Type 0 where
   pub fault : IfSome left (λ bytes. (f : MpsFault) → FirstFault bytes boxed f → IsToldOf status)
@@ -51,13 +51,13 @@ IsExactOf (plans.Worker worker) link status = IfSome link (λ seen. ShowsStatus 
 IsExactOf (plans.Show show) link status = Unit {0}
 IsExactOf (plans.Gen gen) link status = Unit {0}
 
--- reading stopped with the line ENDATA, unless the source failed or memory was wanting
+-- reading stopped with the line ENDATA, unless the source failed or memory ran out
 abbrev pub IsReadTo : Outside → Outside → Status → Type 0
 IsReadTo old new status = (status ≡ ReadFault)
     ⊎ ((status ≡ Memory) ⊎ StopsAtEnd old.source.left new.source.left)
 
 -- The words ask for a plan, and what is due is what it comes to. Without a checkpoint the disk is
--- left alone. Where there was no crew there is none, and the solvers were threads.
+-- left alone. If there was no crew there is none, and the solvers were threads.
 pub record IsWorked (words : List Text) (old new : Outside) (status : Status) (text : List ℕ)
     : Type 0 where
   pub plan : Plan
@@ -76,12 +76,12 @@ pub record IsNoPlan (words : List Text) (status : Status) (text : List ℕ) : Ty
   pub usage : status ≡ Usage
   pub nothing : text ≡ []
 
--- memory was wanting when the words were read
+-- memory ran out when the words were read
 pub record IsUnread (status : Status) (text : List ℕ) : Type 0 where
   pub memory : status ≡ Memory
   pub line : text ≡ memory_line
 
--- where no plan is carried out, nothing is read or saved
+-- if no plan is carried out, nothing is read or saved
 pub record IsIdle (words : List Text) (old new : Outside) (status : Status) (text : List ℕ)
     : Type 0 where
   pub untouched : new ≡ old
@@ -107,7 +107,7 @@ pub record IsWritten (due status : Status) (text : List ℕ) (old new : SinkSeen
   pub all : Takes old.written new.written text
   pub calm : new.faults ≡ old.faults
 
--- a front of the lines was, and then the sink failed
+-- a prefix of the lines was, and then the sink failed
 pub record IsCutShort (status : Status) (text : List ℕ) (old new : SinkSeen) : Type 0 where
   pub is : status ≡ WriteFault
   pub front : TakesFront old.written new.written text
@@ -118,7 +118,7 @@ abbrev pub HasTold : Status → List ℕ → SinkSeen → SinkSeen → Status �
 HasTold due text old new status =
     IsWritten due status text old new ⊎ IsCutShort status text old new
 
--- What was due is told.
+-- What was due is printed.
 pub record HasRun (words : List Text) (old new : Outside) (before after : SinkSeen)
     (status : Status) : Type 0 where
   pub due_status : Status

@@ -32,7 +32,7 @@ abbrev pub crewed : {C : Type 0} → (C → CrewSeen) → Option C → Option C 
 crewed seen old new = record { was = seen_if seen old; now = seen_if seen new }
 
 -- Threads at a desk led there, where there is no crew, or else a coordinator at the crew, which had
--- failed as often before as was seen of it then. Where there was a crew there is one, and no other.
+-- failed as often before as was seen of it then. If there was a crew there is one, and no other.
 abbrev pub has_solved : Option CrewSeen → Option CrewSeen → BookState → End → Type 0
 has_solved None None given end = HasEnded given end
 has_solved None (Some now) given end = ⊥
@@ -44,7 +44,7 @@ abbrev pub HasSolved : Crewed → BookState → End → Type 0
 HasSolved by given end = has_solved by.was by.now given end
 
 -- A run that ended with this book is stranded just where a crew solved, a node is held, fewer
--- reports were heard than may be, and no rank is alive.
+-- reports were received than may be, and no rank is alive.
 abbrev pub strands_just : Option CrewSeen → End → BookState → Type 0
 strands_just None end b = ¬ IsStranded end
 strands_just (Some crew) end b = IsStranded end ↔ ends.IsStranded b
@@ -65,7 +65,7 @@ abbrev pub CountsSaves : (by : Crewed) (given : BookState) (end : End) → HasSo
     → (ℕ → Type 0) → Type 0
 CountsSaves by given end solved Tried = counts_saves by.was by.now given end solved Tried
 
--- nothing is to be trusted of threads; of a crew, that what was heard of it is honest
+-- nothing is to be trusted of threads; of a crew, that what was received from it is honest
 abbrev pub is_trusted : (was now : Option CrewSeen) (given : BookState) (end : End)
     → has_solved was now given end → Type 0
 is_trusted None None given end solved = Unit {0}
@@ -78,8 +78,8 @@ abbrev pub IsTrusted : (by : Crewed) (given : BookState) (end : End) → HasSolv
     → Type 0
 IsTrusted by given end solved = is_trusted by.was by.now given end solved
 
--- no call of the crew failed, as its count of faults tells, and at each moment what was heard of
--- each rank was what a worker tells
+-- no call of the crew failed, as its count of faults shows, and at each moment what was received
+-- from each rank was what a worker reports
 pub record IsCalmlyWorked (before after : ℕ) (said : List Exchange) : Type 0 where
   pub calm : IsCalm before after
   pub worked : AreAlwaysWorked said
@@ -97,7 +97,8 @@ abbrev pub StaysCalm : (by : Crewed) (given : BookState) (end : End) → HasSolv
     → Type 0
 StaysCalm by given end solved = stays_calm by.was by.now given end solved
 
--- the same of what the crew itself tells, so that one that tells nothing is not taken for worked
+-- the same of what the crew itself reports, so that one that reports nothing is not taken for
+-- worked
 abbrev pub is_seen_calm : Option CrewSeen → Option CrewSeen → Type 0
 is_seen_calm None None = Unit {0}
 is_seen_calm None (Some now) = ⊥
@@ -107,8 +108,8 @@ is_seen_calm (Some was) (Some now) = IsSomeAnd now.said (IsCalmlyWorked was.faul
 abbrev pub IsSeenCalm : Crewed → Type 0
 IsSeenCalm by = is_seen_calm by.was by.now
 
--- Solvers led there, with so many saves. Where they can be trusted, and the run began soundly, it
--- was safe. Where they stayed calm and were worked, the run is not stranded.
+-- Solvers led there, with this many saves. If they can be trusted, and the run began soundly, it
+-- was safe. If they stayed calm and were worked, the run is not stranded.
 pub record HasSolvedSafely (by : Crewed) (given : BookState) (end : End) (Tried : ℕ → Type 0)
     (Safe : Type 0) : Type 0 where
   pub solved : HasSolved by given end
@@ -116,18 +117,18 @@ pub record HasSolvedSafely (by : Crewed) (given : BookState) (end : End) (Tried 
   pub safe : IsTrusted by given end solved → IsSoundBook given → Safe
   pub live : StaysCalm by given end solved → ¬ IsStranded end
 
--- the crew is one for so many solvers, none of which lives yet, where there is one
+-- the crew is one for this many solvers, none of which lives yet, where there is one
 abbrev pub FitsCrew : ℕ → Option CrewSeen → Type 0
 FitsCrew solvers crew = IfSome crew (λ seen. IsFresh seen solvers)
 
--- where there was a crew there is one, and no other
+-- if there was a crew there is one, and no other
 abbrev pub IsStillThere : Option CrewSeen → Option CrewSeen → Type 0
 IsStillThere None None = Unit {0}
 IsStillThere None (Some new) = ⊥
 IsStillThere (Some old) None = ⊥
 IsStillThere (Some old) (Some new) = Unit {0}
 
--- where all that recovery could find was Covered, it is so at each moment
+-- if all that recovery could find was Covered, it is so at each moment
 abbrev pub KeepsCovered : DiskSeen → DiskSeen → Type 0
 KeepsCovered old new = CoversWhatIsFound old.told → AllCovered old.told new.told
 

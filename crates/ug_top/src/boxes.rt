@@ -1,25 +1,25 @@
-//! Which columns of an answer stand at a bound that the box put, and not the text.
+//! Which columns of an answer are at a bound that the box put, and not the file.
 
 use std::alloc::Global;
 use ug_mps::{FreeEnds, free_ends};
 use ug_problem::{Column, Shared};
 use ug_restart::{End, Observer};
 
-/// The problem that a text states.
+/// The problem that a file states.
 #[derive(Drop)]
 pub struct Stated {
     pub problem: Shared,
-    /// Which bounds the text leaves infinite, where a box is put for them and memory suffices.
+    /// Which bounds the file leaves infinite, where a box is put for them and memory suffices.
     pub ends: Option<Vec<FreeEnds>>,
 }
 
-/// Which bounds the text leaves infinite, where a box is put for them and memory suffices.
+/// Which bounds the file leaves infinite, where a box is put for them and memory suffices.
 pub fn ends_for(alloc: Global, text: &[u8], boxed: Option<u32>) -> Option<Vec<FreeEnds>> {
     boxed?;
     free_ends(alloc, text)
 }
 
-/// Tells the observer of each column of an answer that is not 0 and stands at a bound of the box.
+/// Reports the observer of each column of an answer that is not 0 and is at a bound of the box.
 pub fn tell_boxes<O: Observer>(observer: &O, end: &End, ends: Option<Vec<FreeEnds>>) {
     let Some(ends) = ends else {
         return;

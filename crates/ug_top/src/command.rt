@@ -5,7 +5,9 @@ ghost use Rattle.ug_top.specs.Ends.{AreLinesOf, AreRestartLines, AreSolveLines, 
 ghost use Rattle.ug_top.specs.Ends.{HasNotBegun, HasNotGoneOn, HasRunAlone, HasRunOn, HasRunSaved};
 ghost use Rattle.ug_top.specs.Ends.{IsAccounted, IsDiskless, IsLeftAlone, IsPlannedOf, IsStored};
 ghost use Rattle.ug_top.specs.Ends.{status_of, text_of};
+ghost use Rattle.ug_top.specs.Left.{IsLeftBy};
 ghost use Rattle.ug_top.specs.Outcomes.{TellsRun};
+ghost use Rattle.ug_cli.specs.declared.plan.Plan.TheVariants as plans;
 ghost use Rattle.ug_top.specs.Solved.{FitsCrew, IsStillThere, KeepsCoveredBy, crewed};
 ghost use Rattle.ug_top.specs.Unread.{HasStopped};
 
@@ -50,6 +52,8 @@ pub fn run_plan<
     ensures stopped { HasStopped (S.seen objects.old.input).left (S.seen objects.new.input).left
         result }
     ensures crew { IsStillThere (seen_if C.seen objects.old.crew) (seen_if C.seen objects.new.crew) }
+    ensures left { IsLeftBy plan.now (outside S.seen D.seen C.seen L.seen objects.old)
+        (outside S.seen D.seen C.seen L.seen objects.new) result }
 {
     match plan {
         Plan::Solve(solve) => run_solve(host, solve, objects),
@@ -82,6 +86,8 @@ fn run_solve<
     ensures stopped { HasStopped (S.seen objects.old.input).left (S.seen objects.new.input).left
         result }
     ensures crew { IsStillThere (seen_if C.seen objects.old.crew) (seen_if C.seen objects.new.crew) }
+    ensures left { IsLeftBy (plans.Solve solve.now) (outside S.seen D.seen C.seen L.seen objects.old)
+        (outside S.seen D.seen C.seen L.seen objects.new) result }
 {
     let boxed = solve.settings.bounds.boxed;
     let stated = match read_problem(host.alloc, boxed, &mut objects.input) {
@@ -95,7 +101,7 @@ fn run_solve<
     }
 }
 
-// Reads the problem and goes on with it.
+// Reads the problem and continues with it.
 #[tactic(auto, using(crate::proofs::Gathered::has_stopped, crate::proofs::Gathered::stops_unread))]
 fn run_restart<
     R: Threads + Wait + Sync,
@@ -115,6 +121,8 @@ fn run_restart<
     ensures stopped { HasStopped (S.seen objects.old.input).left (S.seen objects.new.input).left
         result }
     ensures crew { IsStillThere (seen_if C.seen objects.old.crew) (seen_if C.seen objects.new.crew) }
+    ensures left { IsLeftBy (plans.Restart restart.now) (outside S.seen D.seen C.seen L.seen objects.old)
+        (outside S.seen D.seen C.seen L.seen objects.new) result }
 {
     let boxed = restart.settings.bounds.boxed;
     let stated = match read_problem(host.alloc, boxed, &mut objects.input) {
@@ -167,7 +175,8 @@ fn run_saved<R: Threads + Wait + Sync, D: Disk, O: Observer, C: Crew + Drop>(
     ensures run { TellsRun
         (HasRunSaved (crewed C.seen crew.old crew.new) asked.now (D.seen disk.old) (D.seen disk.new)
         stated.problem)
-        (HasNotBegun asked.now (D.seen disk.old) (D.seen disk.new) stated.problem)
+        (HasNotBegun (crewed C.seen crew.old crew.new) asked.now (D.seen disk.old) (D.seen disk.new)
+        stated.problem)
         asked.now.bounds.gap result }
     ensures stored { IsStored
         (KeepsCoveredBy (crewed C.seen crew.old crew.new) (D.seen disk.old) (D.seen disk.new))
@@ -190,7 +199,7 @@ fn run_saved<R: Threads + Wait + Sync, D: Disk, O: Observer, C: Crew + Drop>(
     }
 }
 
-// Goes on with the problem from the checkpoint.
+// Continues with the problem from the checkpoint.
 fn run_on<R: Threads + Wait + Sync, D: Disk, O: Observer, C: Crew + Drop>(
     host: &Host<'_, R, O>,
     asked: &Asked<'_>,
@@ -203,7 +212,8 @@ fn run_on<R: Threads + Wait + Sync, D: Disk, O: Observer, C: Crew + Drop>(
     ensures run { TellsRun
         (HasRunOn (crewed C.seen crew.old crew.new) asked.now (D.seen disk.old) (D.seen disk.new)
         stated.problem)
-        (HasNotGoneOn asked.now (D.seen disk.old) (D.seen disk.new) stated.problem)
+        (HasNotGoneOn (crewed C.seen crew.old crew.new) asked.now (D.seen disk.old) (D.seen disk.new)
+        stated.problem)
         asked.now.bounds.gap result }
     ensures stored { IsStored
         (KeepsCoveredBy (crewed C.seen crew.old crew.new) (D.seen disk.old) (D.seen disk.new))

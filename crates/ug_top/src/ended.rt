@@ -1,5 +1,6 @@
-ghost use Rattle.std.specs.Prelude.{◌≡◌};
+ghost use Rattle.std.specs.Prelude.{◌≡◌, option_map};
 ghost use Rattle.ug_top.specs.Ends.{status_of, text_of};
+ghost use Rattle.ug_top.specs.Left.{best_of, line_of};
 
 use crate::ran::Refusal;
 use crate::status::Status;
@@ -18,14 +19,14 @@ pub enum Ended {
     Quiet {
         status: Status,
     },
-    /// The text states no problem.
+    /// The file states no problem.
     Refused {
         refusal: Refusal,
         text: Vec<u8>,
     },
     /// The source failed.
     ReadFault,
-    /// Memory was wanting.
+    /// Memory ran out.
     Memory,
 }
 
@@ -56,8 +57,10 @@ impl Ended {
         }
     }
 
-    /// Why the text was refused, where it was.
-    pub fn refusal(&self) -> Option<Refusal> {
+    /// Why the file was refused, where it was.
+    pub fn refusal(&self) -> Option<Refusal>
+        ensures { option_map (λ r. r.line) result ≡ line_of self.now }
+    {
         match self {
             Ended::Refused { refusal, .. } => Some(*refusal),
             Ended::Lines { .. } | Ended::Quiet { .. } => None,
@@ -66,7 +69,9 @@ impl Ended {
     }
 
     /// The lines of a best point that is no answer yet.
-    pub fn into_best(self) -> Option<Vec<u8>> {
+    pub fn into_best(self) -> Option<Vec<u8>>
+        ensures { option_map (λ v. v.items) result ≡ best_of self }
+    {
         match self {
             Ended::Lines { text, best, .. } => {
                 drop(text);

@@ -1,4 +1,5 @@
-ghost use Rattle.std.specs.Prelude.{IsNone};
+ghost use Rattle.std.specs.Prelude.{◌≡◌, IsNone, None};
+ghost use Rattle.ug_top.specs.Left.{best_of};
 ghost use Rattle.ug_top.specs.Outside.{seen_if};
 ghost use Rattle.ug_top.specs.Plans.{IsPlannedGen};
 ghost use Rattle.ug_top.specs.Solved.{KeepsCovered};
@@ -32,6 +33,7 @@ pub fn run_made<R: Threads + Wait + Sync, D: Disk, O: Observer, C: Crew + Drop>(
         (D.seen disk.old) (D.seen disk.new) (status_of result) }
     ensures alone { IsLeftAlone (D.seen disk.old) (D.seen disk.new) }
     ensures threads { IsNone (seen_if C.seen crew.new) }
+    ensures best { best_of result ≡ None }
 {
     let Ok(problem) = make(host.alloc, asked.seed, asked.size) else {
         return Ended::Memory;

@@ -1,14 +1,12 @@
-ghost use Rattle.std.specs.Prelude.{Some, IfOk, IfErr, OnErr};
+ghost use Rattle.std.specs.Prelude.{Some, IfOk, IfErr};
 ghost use Rattle.ug_checkpoint.specs.Savers.{IsKept};
 ghost use Rattle.ug_book.specs.Openings.{IsOpening, opening_book};
 ghost use Rattle.ug_coord.specs.Keeping.{AreEachSaved, HasKept, IsKeptSafe};
-ghost use Rattle.ug_disk.specs.Crashes.{Leaves};
 ghost use Rattle.ug_rules.specs.Books.{AreSettings};
 ghost use Rattle.ug_restart.specs.Faults.{start_cause};
-ghost use Rattle.ug_restart.specs.Starts.{IsBegun, IsGoneOn, IsNotBegun, IsNotGoneOn, IsSafeStart};
 ghost use Rattle.ug_restart.specs.Outcomes.{IsUntouched};
 ghost use Rattle.ug_top.specs.Outside.{seen_if};
-ghost use Rattle.ug_top.specs.Runs.{IsKeptOn, IsNewRun, IsRunOn, IsSavedRun};
+ghost use Rattle.ug_top.specs.Runs.{IsNewRun, IsNoRunOn, IsNoSavedRun, IsRunOn, IsSavedRun};
 ghost use Rattle.ug_top.specs.Solved.{FitsCrew, HasSolvedSafely, IsStillThere, KeepsCoveredBy};
 ghost use Rattle.ug_top.specs.Solved.{crewed};
 
@@ -65,15 +63,10 @@ pub fn solve_saved<R: Threads + Wait + Sync, D: Disk, O: Observer, C: Crew + Dro
 ) -> Result<Outcome, StartFault>
     requires settings { AreSettings settings }
     requires fits { FitsCrew settings.solvers (seen_if C.seen crew.old) }
-    ensures ran { IfOk result
-        (IsSavedRun (crewed C.seen crew.old crew.new) problem settings (D.seen disk.old).told
-        (D.seen disk.new)) }
-    ensures kept { IfOk result (λ o. IsKeptOn
-        (IsBegun problem settings (D.seen disk.old).told) o (D.seen disk.old) (D.seen disk.new)) }
-    ensures refused { IfErr result (IsNotBegun (D.seen disk.old).told (D.seen disk.new).told) }
-    ensures safe { OnErr result (Leaves
-        (IsSafeStart (D.seen disk.old).told (IsBegun problem settings (D.seen disk.old).told))
-        (D.seen disk.old).told (D.seen disk.new).told) }
+    ensures ran { IfOk result (λ o. IsSavedRun (crewed C.seen crew.old crew.new) problem settings o
+        (D.seen disk.old) (D.seen disk.new)) }
+    ensures refused { IfErr result (IsNoSavedRun (crewed C.seen crew.old crew.new) problem settings
+        (D.seen disk.old) (D.seen disk.new)) }
     ensures cause { IfErr result (λ fault. start_cause fault
         (D.seen disk.old).faults (D.seen disk.new).faults) }
     ensures any_moment { KeepsCoveredBy (crewed C.seen crew.old crew.new)
@@ -87,7 +80,7 @@ pub fn solve_saved<R: Threads + Wait + Sync, D: Disk, O: Observer, C: Crew + Dro
     }
 }
 
-/// Goes on from the checkpoint on the disk, which is of the same problem, with its incumbent and
+/// Resumes from the checkpoint on the disk, which is of the same problem, with its incumbent and
 /// its boxes, under the run number after its own.
 pub fn go_on<R: Threads + Wait + Sync, D: Disk, O: Observer, C: Crew + Drop>(
     host: &Host<'_, R, O>,
@@ -98,16 +91,10 @@ pub fn go_on<R: Threads + Wait + Sync, D: Disk, O: Observer, C: Crew + Drop>(
 ) -> Result<Outcome, StartFault>
     requires settings { AreSettings settings }
     requires fits { FitsCrew settings.solvers (seen_if C.seen crew.old) }
-    ensures ran { IfOk result
-        (IsRunOn (crewed C.seen crew.old crew.new) problem settings (D.seen disk.old).told
-        (D.seen disk.new)) }
-    ensures kept { IfOk result (λ o. IsKeptOn
-        (IsGoneOn problem settings (D.seen disk.old).told) o (D.seen disk.old) (D.seen disk.new)) }
-    ensures refused { IfErr result (IsNotGoneOn problem settings
-        (D.seen disk.old).told (D.seen disk.new).told) }
-    ensures safe { OnErr result (Leaves
-        (IsSafeStart (D.seen disk.old).told (IsGoneOn problem settings (D.seen disk.old).told))
-        (D.seen disk.old).told (D.seen disk.new).told) }
+    ensures ran { IfOk result (λ o. IsRunOn (crewed C.seen crew.old crew.new) problem settings o
+        (D.seen disk.old) (D.seen disk.new)) }
+    ensures refused { IfErr result (IsNoRunOn (crewed C.seen crew.old crew.new) problem settings
+        (D.seen disk.old) (D.seen disk.new)) }
     ensures cause { IfErr result (λ fault. start_cause fault
         (D.seen disk.old).faults (D.seen disk.new).faults) }
     ensures any_moment { KeepsCoveredBy (crewed C.seen crew.old crew.new)

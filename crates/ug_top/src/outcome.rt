@@ -16,7 +16,7 @@ use ug_restart::{End, Outcome, StartFault};
 // A status and its lines.
 type Told = (Status, Vec<u8>);
 
-/// Tells how a run ended, under the gap as it was asked for, and which saves are counted.
+/// Says how a run ended, under the gap as it was asked for, and which saves are counted.
 pub fn tell_outcome(alloc: Global, outcome: &Outcome, gap: u64) -> Ended
     requires { IfAnswered outcome.now.end (λ b. held_nodes b ≡ []) }
     ensures { TellsOutcome gap outcome.now result }
@@ -43,7 +43,7 @@ fn with_counts(alloc: Global, status: Status, text: Vec<u8>, outcome: &Outcome, 
     }
 }
 
-// The lines of the incumbent of a run that may go on, if it has one and memory suffices.
+// The lines of the incumbent of a run that may continue, if it has one and memory suffices.
 fn best_of(alloc: Global, end: &End) -> Option<Vec<u8>>
     ensures { IfSome result (λ text. IsLeftPoint end.now text.items) }
 {
@@ -66,7 +66,7 @@ fn end_lines(alloc: Global, end: &End, gap: u64) -> Result<Option<Told>, AllocEr
     }
 }
 
-/// Tells the first line of how a run ended, without a gap.
+/// Reports the first line of how a run ended, without a gap.
 pub fn tell_end(alloc: Global, outcome: &Outcome) -> Ended
     requires none { IfAnswered outcome.now.end (λ b. held_nodes b ≡ []) }
     requires stranded { IsStranded outcome.now.end → ⊥ }
@@ -96,7 +96,7 @@ fn end_line(alloc: Global, end: &End) -> Result<Option<Told>, AllocError>
     }
 }
 
-/// Tells why a run does not begin.
+/// Says why a run does not begin.
 pub fn tell_fault(alloc: Global, fault: &StartFault) -> Ended
     ensures { TellsFault fault.now result }
 {

@@ -1,7 +1,7 @@
 use crate::status::Status;
 use ug_drafts::Cause;
 
-/// Why a text is refused: of its first fault the line, counted from 1, or 0 for an empty text, and
+/// Why a file is refused: of its first fault the line, counted from 1, or 0 for an empty text, and
 /// the cause.
 #[derive(Clone, Copy)]
 pub struct Refusal {
@@ -10,7 +10,7 @@ pub struct Refusal {
 }
 
 /// How a run of the program ended, and why its text was refused, where it was. Of a best point that
-/// is no answer yet, of a run that goes on or of a checkpoint, the lines of the columns that are
+/// is no answer yet, of a run that continues or of a checkpoint, the lines of the columns that are
 /// not 0, if there is one and memory sufficed.
 #[derive(Drop)]
 pub struct Ran {

@@ -45,7 +45,7 @@ pub fn read_problem<S: Source>(
     }
 }
 
-// The problem that the text states under the box.
+// The problem that the file states under the box.
 fn problem_of(alloc: Global, text: &[u8], boxed: Option<u32>) -> Result<Problem, Ended>
     requires { IfSome boxed (λ u. u ≤ 10 ^ 9) }
     ensures reads { IfOk result (Reads text.now boxed) }

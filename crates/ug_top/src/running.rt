@@ -1,12 +1,17 @@
+ghost use Rattle.std.specs.Prelude.{◌≡◌, IfSome};
 ghost use Rattle.ug_print.specs.Lines.{memory_line};
 ghost use Rattle.ug_cli.specs.declared.plan.Plan.{Plan};
 ghost use Rattle.ug_cli.specs.Taken.{TakenWords, texts};
 ghost use Rattle.ug_top.specs.Outside.{outside};
 ghost use Rattle.ug_top.specs.Ends.{HasNeeds, status_of, text_of};
+ghost use Rattle.ug_top.specs.Headline.{HasAnswered};
+ghost use Rattle.ug_top.specs.Honesty.{AreChildrenHonest};
+ghost use Rattle.ug_top.specs.Left.{IsBestFor, IsFaultFor, best_of, line_of};
 ghost use Rattle.ug_top.specs.Ran.{HasRun, HasTold, IsDue, due_status, due_text};
 
 use crate::command::run_plan;
 use crate::ended::Ended;
+use crate::headline::answers_are_right;
 use crate::objects::Objects;
 use crate::ran::Ran;
 use crate::status::Status;
@@ -23,7 +28,9 @@ use ug_serve::services_end_in_one_way;
 /// Does all that the program does: reads the words, which are those behind the program's name, does
 /// what they ask for, and writes the lines of it. `Memory` alone has no cause: it may come in place
 /// of any status but `Usage`, or before the outside fails. What the words need, a crew or a link,
-/// is among the objects. Of a text that was refused it answers why, whatever became of its line.
+/// is among the objects. What it did says how it ended, whatever it was; a run that answered has
+/// printed a right answer, which `answers_are_right` derives. Of a file that was refused it answers
+/// why, whatever became of its line.
 pub fn run<R, S, K, D, O, C, L>(
     host: &Host<'_, R, O>,
     words: &[String],
@@ -40,11 +47,21 @@ where
     L: Link + Drop,
     requires { (plan : Plan) → TakenWords (texts words.now) plan
         → HasNeeds plan (outside S.seen D.seen C.seen L.seen objects.old) }
-    ensures { HasRun (texts words.now)
+    ensures did { HasRun (texts words.now)
         (outside S.seen D.seen C.seen L.seen objects.old)
         (outside S.seen D.seen C.seen L.seen objects.new)
         (K.seen out.old) (K.seen out.new) result.status }
+    ensures right { result.status ≡ Status.Answered → HasAnswered
+        (AreChildrenHonest (outside S.seen D.seen C.seen L.seen objects.old)
+        (outside S.seen D.seen C.seen L.seen objects.new)) (texts words.now)
+        (outside S.seen D.seen C.seen L.seen objects.old) (K.seen out.old) (K.seen out.new) }
+    ensures best { IfSome result.best (λ v. IsBestFor (texts words.now)
+        (outside S.seen D.seen C.seen L.seen objects.old)
+        (outside S.seen D.seen C.seen L.seen objects.new) v.items) }
+    ensures fault { IfSome result.refusal (λ r. IsFaultFor (texts words.now)
+        (outside S.seen D.seen C.seen L.seen objects.old) r.line) }
 {
+    answers_are_right();
     let Some(ended) = carry_out(host, words, objects) else {
         return Ran {
             status: Status::Usage,
@@ -62,7 +79,7 @@ where
     }
 }
 
-/// Tells want of memory where the words could not be read, so that nothing is read or saved.
+/// Reports lack of memory where the words could not be read, so that nothing is read or saved.
 pub fn tell_unread<K: Sink>(out: &mut K) -> Status
     ensures { HasTold Status.Memory memory_line (K.seen out.old) (K.seen out.new) result }
 {
@@ -99,9 +116,14 @@ where
     L: Link + Drop,
     requires { (plan : Plan) → TakenWords (texts words.now) plan
         → HasNeeds plan (outside S.seen D.seen C.seen L.seen objects.old) }
-    ensures { IsDue (texts words.now)
+    ensures due { IsDue (texts words.now)
         (outside S.seen D.seen C.seen L.seen objects.old)
         (outside S.seen D.seen C.seen L.seen objects.new) (due_status result) (due_text result) }
+    ensures best { IfSome result (λ e. IfSome (best_of e) (IsBestFor (texts words.now)
+        (outside S.seen D.seen C.seen L.seen objects.old)
+        (outside S.seen D.seen C.seen L.seen objects.new))) }
+    ensures fault { IfSome result (λ e. IfSome (line_of e) (IsFaultFor (texts words.now)
+        (outside S.seen D.seen C.seen L.seen objects.old))) }
 {
     one_outcome();
     services_end_in_one_way();

@@ -1,6 +1,7 @@
-ghost use Rattle.std.specs.Prelude.{◌≡◌, [], true, IsSomeAnd};
+ghost use Rattle.std.specs.Prelude.{◌≡◌, [], true, None, IsSomeAnd};
 ghost use Rattle.ug_serve.specs.Courses.{IsFresh};
 ghost use Rattle.ug_top.specs.Ends.{AreWorkerLines, HasLinkFor, status_of, text_of};
+ghost use Rattle.ug_top.specs.Left.{best_of};
 ghost use Rattle.ug_top.specs.Outside.{seen_if};
 
 use crate::ended::Ended;
@@ -18,7 +19,8 @@ pub fn run_worker<R: Threads + Wait + Sync, O: Observer, L: Link + Drop>(
     link: &mut Option<L>,
 ) -> Ended
     requires { HasLinkFor true (seen_if L.seen link.old) }
-    ensures { AreWorkerLines (seen_if L.seen link.new) (status_of result) (text_of result) }
+    ensures lines { AreWorkerLines (seen_if L.seen link.new) (status_of result) (text_of result) }
+    ensures best { best_of result ≡ None }
 {
     let Some(own) = link.take() else {
         unreachable!()

@@ -1,7 +1,9 @@
+ghost use Rattle.std.specs.Prelude.{IfSome};
 ghost use Rattle.ug_image.specs.Images.{IsImage};
 ghost use Rattle.ug_top.specs.Outcomes.{TellsImage};
 ghost use Rattle.ug_top.specs.Solved.{KeepsCovered};
 ghost use Rattle.ug_top.specs.Ends.{AreShowLines, IsStored, status_of, text_of};
+ghost use Rattle.ug_top.specs.Left.{IsPointFound, best_of};
 
 use crate::ended::Ended;
 use crate::outcome::tell_fault;
@@ -13,12 +15,13 @@ use ug_image::Image;
 use ug_print::{checkpoint_lines, checkpoint_point};
 use ug_restart::StartFault;
 
-/// Tells the checkpoint that recovery finds, or why it finds none.
+/// Reports the checkpoint that recovery finds, or why it finds none.
 pub fn show<D: Disk>(alloc: Global, disk: &mut D) -> Ended
     ensures lines { AreShowLines (D.seen disk.old) (D.seen disk.new)
         (status_of result) (text_of result) }
     ensures stored { IsStored (KeepsCovered (D.seen disk.old) (D.seen disk.new))
         (D.seen disk.old) (D.seen disk.new) (status_of result) }
+    ensures point { IfSome (best_of result) (IsPointFound (D.seen disk.old) (D.seen disk.new)) }
 {
     match load(alloc, disk) {
         Ok(Some(found)) => {
@@ -35,7 +38,7 @@ pub fn show<D: Disk>(alloc: Global, disk: &mut D) -> Ended
     }
 }
 
-// Tells the image that was found.
+// Reports the image that was found.
 fn shown(alloc: Global, image: &Image) -> Ended
     requires { IsImage image.now }
     ensures { TellsImage image.now result }

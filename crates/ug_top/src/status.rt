@@ -10,7 +10,7 @@ pub enum Status {
     Answered,
     /// The words are no command.
     Usage,
-    /// The text states no problem.
+    /// The file states no problem.
     Refused,
     /// The source failed.
     ReadFault,
@@ -18,11 +18,11 @@ pub enum Status {
     WriteFault,
     /// The disk failed before the run had begun.
     DiskFault,
-    /// All solvers in processes are gone, and nodes are left.
+    /// All solvers in processes are lost, and nodes are left.
     Stranded,
-    /// As many reports were heard as may be, and nodes are left.
+    /// As many reports were received as may be, and nodes are left.
     Limited,
-    /// Memory was wanting.
+    /// Memory ran out.
     Memory,
     /// There is no checkpoint.
     NoCheckpoint,

@@ -3,7 +3,7 @@ ghost use Rattle.ug_io.specs.Outside.{IsCounted, Takes, TakesFront};
 
 use ug_io::{Failed, Sink};
 
-/// Writes all the bytes. After a failure a front of them is written.
+/// Writes all the bytes. After a failure a prefix of them is written.
 #[tactic(auto, using(crate::proofs::Moved::went_more))]
 pub fn write_all<K: Sink>(out: &mut K, bytes: &[u8]) -> Result<(), Failed>
     ensures all { OnOk result

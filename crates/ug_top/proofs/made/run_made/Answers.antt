@@ -4,6 +4,7 @@ use Rattle.ug_rules.specs.declared.settings.Settings.{Settings}
 use Rattle.ug_top.specs.Runs.{IsNewRun}
 use Rattle.ug_top.specs.Plans.{settings_made}
 use Rattle.ug_top.specs.declared.status.Status.TheVariants as statuses
+use Rattle.ug_top.proofs.Left.{end_best}
 use Rattle.ug_top.proofs.Stored.{end_stored, keeps_untouched, untouched}
 use Rattle.ug_top.specs.Outside.{seen_if}
 use Rattle.ug_top.specs.Solved.{KeepsCovered, unchanged}
@@ -44,3 +45,7 @@ pub returns-clause-threads : goal.returns-clause-threads
 returns-clause-threads g c =
     stays_none (seen_if g.C.Crew.seen c.args.crew.now) (seen_if g.C.Crew.seen c.solve_new-outcome.new.crew)
     c.requires.threads c.solve_new-outcome.ensures.crew
+
+pub returns-clause-best : goal.returns-clause-best
+returns-clause-best g c =
+    end_best c.solve_new-outcome.result c.tell_end-ended.result c.tell_end-ended.ensures

@@ -8,6 +8,7 @@ use Rattle.ug_restart.specs.declared.fault.StartFault.TheVariants as faults
 use Rattle.ug_restart.proofs.Goings.{image_of_loaded}
 use Rattle.ug_top.specs.declared.ended.Ended.TheVariants as ended
 use Rattle.ug_top.specs.Solved.{KeepsCovered}
+use Rattle.ug_top.proofs.Left.{fault_best, image_best}
 use Rattle.ug_top.proofs.Stored.{fault_stored, image_stored, load_covered, load_stored}
 use Rattle.ug_top.proofs.show.show.Goals as goal
 
@@ -56,3 +57,25 @@ returns-in-Err-BadImage-clause-stored g c =
     c.tell_fault-in-Err-BadImage.result old new c.tell_fault-in-Err-BadImage.ensures
     (subst (λ (e : LoadError). load_cause e old.faults new.faults) c.in-Err-BadImage.field-0-is
     c.in-Err-BadImage.ensures.cause) c.load.ensures.any_moment
+
+pub returns-in-Ok-Some-clause-point : goal.returns-in-Ok-Some-clause-point
+returns-in-Ok-Some-clause-point g c =
+    let old = g.D.Disk.seen c.args.disk.now in
+    let new = g.D.Disk.seen c.load.new.disk in
+    image_best old new c.in-Ok-Some.found
+    (subst (λ (f : Option Found). HasFound old.told new.told f) c.in-Ok-Some.field-0-is
+    c.in-Ok-Some.ensures.found)
+    c.shown-ended.result c.shown-ended.ensures
+
+pub returns-in-Ok-None-clause-point : goal.returns-in-Ok-None-clause-point
+returns-in-Ok-None-clause-point g c =
+    fault_best _ faults.NoCheckpoint c.tell_fault.result c.tell_fault.ensures
+
+pub returns-in-Err-Fault-clause-point : goal.returns-in-Err-Fault-clause-point
+returns-in-Err-Fault-clause-point g c =
+    fault_best _ faults.DiskFault c.tell_fault-in-Err-Fault.result c.tell_fault-in-Err-Fault.ensures
+
+pub returns-in-Err-BadImage-clause-point : goal.returns-in-Err-BadImage-clause-point
+returns-in-Err-BadImage-clause-point g c =
+    fault_best _ (faults.BadImage c.in-Err-BadImage.slot c.in-Err-BadImage.at)
+    c.tell_fault-in-Err-BadImage.result c.tell_fault-in-Err-BadImage.ensures
