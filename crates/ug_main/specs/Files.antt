@@ -1,5 +1,5 @@
 -- What the program did with real files, children and sockets, of whose bytes nothing is told.
-use Rattle.std.specs.Prelude.{◌≡◌, ℕ, List, Option, None}
+use Rattle.std.specs.Prelude.{◌≡◌, ℕ, List, Option, None, IfSome, false, replicate}
 use Rattle.clap.specs.Walk.{Text}
 use Rattle.ug_io.specs.Crews.{CrewSeen}
 use Rattle.ug_io.specs.Links.{LinkSeen}
@@ -40,11 +40,28 @@ of_files reads stores crew link = record {
 abbrev pub of_output : ℕ → SinkSeen
 of_output writes = record { written = None; faults = writes }
 
--- what the words ask for was done, and this status says how it ended; no call had failed before of
--- files, whatever crew and link there were, and these are all that failed
+-- none of this many solvers lives yet, and no call of the crew has failed
+pub record IsNewCrew (seen : CrewSeen) : Type 0 where
+  pub solvers : ℕ
+  pub nobody : seen.lives ≡ replicate solvers false
+  pub calm : seen.faults ≡ 0
+
+-- the link has not ended, and no call of it has failed
+pub record IsNewLink (seen : LinkSeen) : Type 0 where
+  pub open_ : seen.ended ≡ false
+  pub calm : seen.faults ≡ 0
+
+-- the crew and the link are new, if they are there
+pub record AreNew (crew : Option CrewSeen) (link : Option LinkSeen) : Type 0 where
+  pub its_crew : IfSome crew IsNewCrew
+  pub its_link : IfSome link IsNewLink
+
+-- What the words ask for was done, and this status says how it ended. No call had failed before, the
+-- crew and the link were new, and these are all that failed.
 pub record HasRunOnFiles (words : List Text) (seen : FilesSeen) (status : Status) : Type 0 where
   pub crew : Option CrewSeen
   pub link : Option LinkSeen
+  pub new : AreNew crew link
   pub ran : HasRun words (of_files 0 0 crew link)
       (of_files seen.reads seen.stores seen.crew seen.link) (of_output 0) (of_output seen.writes) status
 

@@ -1,10 +1,10 @@
-//! The program `ug`: solves bounded integer programs of MPS files, and goes on from checkpoints. It
-//! stands on ug_top, on ug_cli for the words, on ug_print for why a text is refused, and on
-//! ug_real. `main` makes the real objects, a reader of the file, a writer to standard output, the
-//! folder of the checkpoint, and where words ask for it a crew of children or the socket of one;
-//! `carry_out` runs with them, under the contract of `run`, which says what was printed. Standard
-//! error gets the usage line, why a run failed, and, on a terminal or with `UG_PROGRESS` set, how
-//! it gets on.
+//! The program `ug`: solves bounded integer programs of MPS files, and resumes from checkpoints. It
+//! depends on ug_top, on ug_cli for the words, on ug_print for why a file is refused, and on
+//! ug_real. `main` makes the real objects: a reader of the file, a writer to standard output, the
+//! folder of the checkpoint, and if the words ask for it a crew of children or the socket of one.
+//! `carry_out` runs with them under the contract of `run`, which says what was printed. Standard
+//! error gets the usage line, why a run failed and what helps, and, on a terminal or with
+//! `UG_PROGRESS` set, its progress. docs/messages.md lists these lines.
 #![tactic(auto)]
 
 ghost use Rattle.std.specs.Prelude.{◌≡◌, IfOk, IfSome};
@@ -12,11 +12,13 @@ ghost use Rattle.ug_cli.specs.declared.plan.Plan.{Plan};
 ghost use Rattle.ug_cli.specs.Taken.{TakenWords, needs_of, texts};
 ghost use Rattle.ug_top.specs.Ends.{HasCrewFor, HasLinkFor, HasNeeds, IsPlanOf};
 ghost use Rattle.ug_top.specs.Outside.{outside, seen_if};
-ghost use Rattle.ug_main.specs.Files.{HasRunOnFiles, IsUnbegun, crew_seen, link_seen};
+ghost use Rattle.ug_main.specs.Files.{HasRunOnFiles, IsNewCrew, IsNewLink, IsUnbegun, crew_seen, link_seen};
 ghost use Rattle.ug_top.specs.Ran.{HasRun};
 
+mod at_once;
 mod descriptors;
 mod gone;
+mod messages;
 mod paths;
 mod reasons;
 mod teller;
@@ -24,11 +26,13 @@ mod words;
 
 use crate::descriptors::take_standard;
 use crate::gone::Gone;
+use crate::messages::{advise, explain, explain_link, explain_output, explain_refusal, tell_best};
 use crate::paths::{Paths, Purpose, paths_of};
 use crate::reasons::Reasons;
 use crate::teller::Teller;
 use crate::words::Behind;
 use std::alloc::AllocError;
+use std::env::VarError;
 use std::fs::File;
 use std::io::{Eprint, IsTerminal, Print, Printer};
 use std::net::Net;
@@ -37,14 +41,15 @@ use std::rt::{Env, Files};
 use std::sync::Wait;
 use std::thread::Threads;
 use std::time::Clock;
-use std::{env, io};
+use std::{env, fs, io};
 use ug_cli::{Asked, Mode, Plan, Usage, crossed_is_not_taken, read_words, words_tell_the_needs};
 use ug_disk::Disk;
 use ug_io::{Crew, Link, Sink, Source};
-use ug_print::{columns_refused, reason};
-use ug_real::{Children, FileDisk, ProcessCrew, Reader, RealFolder, SocketLink, Writer};
+use ug_real::{
+    Children, FileDisk, ProcessCrew, Reader, RealFolder, SocketFolder, SocketLink, Writer,
+};
 use ug_restart::{Host, Observer};
-use ug_top::{Objects, Ran, Refusal, Status, run, tell_unread};
+use ug_top::{Objects, Ran, Status, run, tell_unread};
 
 // The words behind the program's own name. A word that is not UTF-8 is no command.
 fn words_of<R: Env + AllocGlobal>(rt: &R) -> Result<Vec<String>, Status> {
@@ -85,11 +90,36 @@ type Real<'a, R> = Objects<
     SocketLink<'a, R>,
 >;
 
-// The words of a run, and the program that its children are.
+// The words of a run, the program that its children are, and the folder of folders that are made
+// for a run.
 #[derive(Drop)]
 struct Called {
     name: String,
+    temporary: String,
     words: Vec<String>,
+}
+
+// The variables that name a folder for what is made for a run.
+const TEMPORARY: &[&str] = &["XDG_RUNTIME_DIR", "TMPDIR"];
+
+// The first folder that these variables name, else `/tmp`.
+fn temporary_of<R: Env + Files + AllocGlobal>(rt: &R) -> Result<String, Status> {
+    for &name in TEMPORARY {
+        match env::var(&(rt, rt.alloc()), name) {
+            Ok(path) => {
+                if fs::metadata(rt, path.as_str()).is_ok_and(|it| it.is_dir()) {
+                    return Ok(path);
+                }
+                drop(path);
+            }
+            Err(VarError::OutOfMemory) => return Err(Status::Memory),
+            Err(_) => {}
+        }
+    }
+    match String::from_str(rt.alloc(), "/tmp") {
+        Ok(path) => Ok(path),
+        Err(_) => Err(Status::Memory),
+    }
 }
 
 // Finds what the words name, and does what the words ask for.
@@ -193,8 +223,9 @@ where
         + Threads
         + Wait
         + Sync,
-    ensures { IfSome plan.entry (λ p. IfOk result (λ crew.
+    ensures needs { IfSome plan.entry (λ p. IfOk result (λ crew.
         HasCrewFor (needs_of p).crew (seen_if crew_seen crew))) }
+    ensures new { IfOk result (λ crew. IfSome (seen_if crew_seen crew) IsNewCrew) }
 {
     let asked = match plan {
         Some(Plan::Solve(solve)) => solve.settings,
@@ -210,6 +241,11 @@ where
     match mode {
         Mode::Threads => Ok(None),
         Mode::Processes => {
+            let sockets = if sockets.is_empty() {
+                SocketFolder::Fresh(called.temporary.as_str())
+            } else {
+                SocketFolder::Given(sockets)
+            };
             let children = Children {
                 program: called.name.as_str(),
                 sockets,
@@ -227,7 +263,9 @@ where
 fn link_of<'a, R>(rt: &'a R, plan: Option<Plan<'a>>) -> Option<SocketLink<'a, R>>
 where
     R: Net + Clock + AllocGlobal,
-    ensures { IfSome plan.entry (λ p. HasLinkFor (needs_of p).link (seen_if link_seen result)) }
+    ensures needs { IfSome plan.entry (λ p.
+        HasLinkFor (needs_of p).link (seen_if link_seen result)) }
+    ensures new { IfSome (seen_if link_seen result) IsNewLink }
 {
     match plan {
         Some(Plan::Worker(worker)) => Some(SocketLink::new(rt, rt.alloc(), worker.socket)),
@@ -259,7 +297,7 @@ where
     let mut out = Writer::new(io::writer(rt));
     let status = tell_unread(&mut out);
     if status == Status::WriteFault {
-        explain(rt, "standard output", out.reason());
+        explain_output(rt, out.reason());
     }
     Worked {
         status,
@@ -332,8 +370,8 @@ where
     }
 }
 
-// Does the job with these objects. Why it failed goes to standard error: the system's words where a
-// call did, else what is the matter with the text or the checkpoint.
+// Does the job with these objects. Standard error says why it failed: the system's words if a call
+// did, else what is wrong with the file or the checkpoint.
 fn carry_out<R, O, S, K, D, C, L>(
     host: &Host<'_, R, O>,
     job: Job<'_>,
@@ -358,12 +396,12 @@ where
     let rt = host.rt;
     match ran.status {
         Status::ReadFault => explain(rt, job.paths.file, objects.input.reason()),
-        Status::WriteFault => explain(rt, "standard output", out.reason()),
+        Status::WriteFault => explain_output(rt, out.reason()),
         Status::Refused => explain_refusal(rt, job.paths.file, ran.refusal),
         Status::DiskFault => explain(rt, job.paths.folder, objects.disk.reason()),
         Status::LinkFault => {
             if let Some(link) = &objects.link {
-                explain(rt, job.paths.socket, link.reason());
+                explain_link(rt, job.paths.socket, link.reason());
             }
         }
         status => advise(rt, job.paths, status),
@@ -376,59 +414,6 @@ where
     status
 }
 
-// Tells the lines of a best point that is no answer yet, if there are some.
-fn tell_best<R: Eprint>(rt: &R, lines: &[u8]) {
-    let Ok(lines) = str::from_utf8(lines) else {
-        let _ = eprintln!(rt; "ug: some names of the best point are not UTF-8");
-        return;
-    };
-    for line in lines.lines() {
-        let _ = eprintln!(rt; "ug: best point: {line}");
-    }
-}
-
-// Says what is the matter with the text of this file, which was refused, and what helps.
-fn explain_refusal<R: Eprint>(rt: &R, file: &str, refusal: Option<Refusal>) {
-    if let Some(Refusal { line, cause }) = refusal {
-        let reason = reason(cause);
-        match columns_refused(cause) {
-            Some(count) if count > 1 => {
-                let _ = eprintln!(rt; "ug: {file}: line {line}: {reason}; {count} columns are so");
-            }
-            _ => {
-                let _ = eprintln!(rt; "ug: {file}: line {line}: {reason}");
-            }
-        }
-    }
-}
-
-// Says what is the matter with the checkpoint in this folder, and what helps where solvers are
-// gone.
-fn advise<R: Eprint>(rt: &R, paths: Paths<'_>, status: Status) {
-    let folder = paths.folder;
-    let advice = match status {
-        Status::Stranded if folder.is_empty() => {
-            let _ = eprintln!(rt;
-                "ug: all solvers are gone; with --checkpoint a run can be gone on with"
-            );
-            return;
-        }
-        Status::Stranded => "all solvers are gone; `ug restart` goes on from the checkpoint",
-        Status::BadFrame => {
-            let socket = paths.socket;
-            let _ = eprintln!(rt; "ug: {socket}: what came is no order");
-            return;
-        }
-        Status::NoCheckpoint => "there is no checkpoint here",
-        Status::OtherProblem => "the checkpoint is of another problem; each has its own folder",
-        Status::BadImage => "a slot of the checkpoint is damaged, or no slot of ug",
-        Status::Spent => "the numbers of the checkpoint are used up; begin in a new folder",
-        Status::SmallerGap => "the checkpoint was made with a greater gap; ask for one as great",
-        _ => return,
-    };
-    let _ = eprintln!(rt; "ug: {folder}: {advice}");
-}
-
 // Whether a variable of this value asks for something.
 fn asks(value: &str) -> bool {
     !value.is_empty() && value != "0"
@@ -439,21 +424,17 @@ fn wants_progress(rt: &HostRuntime) -> bool {
     rt.stderr().is_terminal() || env::var(rt, "UG_PROGRESS").is_ok_and(|value| asks(&value))
 }
 
-// Says why a call on this file failed.
-fn explain<R: Eprint>(rt: &R, file: &str, error: Option<&io::Error>) {
-    if let Some(error) = error {
-        let _ = eprintln!(rt; "ug: {file}: {error}");
-    }
-}
-
-// The program's own name, and its words.
-fn call_of<R: Env + AllocGlobal>(rt: &R) -> Result<Called, Status> {
-    let name = name_of(rt)?;
-    match words_of(rt) {
-        Ok(words) => Ok(Called { name, words }),
-        Err(status) => {
-            drop(name);
-            Err(status)
+// The program's own name, its words, and the folder for what is made for a run.
+fn call_of<R: Env + Files + AllocGlobal>(rt: &R) -> Result<Called, Status> {
+    match (name_of(rt), temporary_of(rt), words_of(rt)) {
+        (Ok(name), Ok(temporary), Ok(words)) => Ok(Called {
+            name,
+            temporary,
+            words,
+        }),
+        (name, temporary, words) => {
+            let failed = name.err().or(temporary.err()).or(words.err());
+            Err(failed.unwrap_or(Status::Memory))
         }
     }
 }

@@ -18,14 +18,16 @@ returns g c =
     } in
     subst (λ words. HasRunOnFiles (texts words) seen c.carry_out-status.result) c.deref.ensures.value
     (from_none _ _ c.new.result.faults.count c.disk_of.result.faults.count
-    c.new-out.result.faults.count _ _ seen c.new.ensures c.disk_of.ensures c.new-out.ensures
+    c.new-out.result.faults.count _ _ seen
+    (record { its_crew = c.in-Ok.ensures.new; its_link = c.link_of.ensures.new })
+    c.new.ensures c.disk_of.ensures c.new-out.ensures
     c.carry_out-status.ensures)
 
 pub carry_out-status-requires-after_bounds : goal.carry_out-status-requires-after_bounds
 carry_out-status-requires-after_bounds g c κs within = λ other taken.
     has_needs c.words_tell_the_needs.ensures (texts c.deref.result.now) c.args.plan _
     (subst (λ words. IsPlanOf (texts words) c.args.plan) (sym c.deref.ensures.value) c.requires)
-    c.in-Ok.ensures c.link_of.ensures other taken
+    c.in-Ok.ensures.needs c.link_of.ensures.needs other taken
 
 pub returns-in_default : goal.returns-in_default
 returns-in_default g c = unbegun_is_run _ _ _ c.unbegun.ensures
