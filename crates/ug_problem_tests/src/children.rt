@@ -1,5 +1,5 @@
-//! Crews of real children at real sockets, and the links to them: told, heard and seen off, lost,
-//! not to be started, and at work on a large problem.
+//! Crews of real children at real sockets, and the links to them: reported, received and seen off,
+//! lost, not to be started, and at work on a large problem.
 
 mod child;
 mod crews;

@@ -1,4 +1,4 @@
-//! A crew in memory: what comes of each rank, who is gone, and calls that fail.
+//! A crew in memory: what comes of each rank, who is lost, and calls that fail.
 
 use crate::expect::holds;
 use std::alloc::Global;
@@ -11,13 +11,13 @@ enum Call {
     Turn {
         came: Option<Came>,
     },
-    /// Bytes to a rank that lives, and whether they could be told.
+    /// Bytes to a rank that lives, and whether they could be reported.
     Send {
         rank: u32,
         bytes: &'static [u8],
         done: bool,
     },
-    /// A rank that lives is heard no more.
+    /// A rank that lives is received no more.
     Shut {
         rank: u32,
     },
@@ -160,7 +160,8 @@ fn comes_so(crew: &mut MemoryCrew<'_>, call: Call) -> bool {
     }
 }
 
-// Whether each call comes to what it is to, under a script, and that was heard and told in the end.
+// Whether each call comes to what it is to, under a script, and that was received and reported in
+// the end.
 fn are_so(alloc: Global, failing: &[u64], calls: &[Call], exchanged: &[Exchange]) -> bool {
     let Ok(failing) = failing.to_vec(alloc) else {
         return false;

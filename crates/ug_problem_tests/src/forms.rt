@@ -1,7 +1,7 @@
 //! Some hundred small problems, each searched by two tasks: one whose sums are kept in 64 bits, and
-//! one of the same problem with a row more, which no point breaks and whose factor is so large that
-//! they are kept in 128. Both are the same, step by step. And what bound propagation leaves of each
-//! is what its slow body leaves.
+//! one of the same problem with a row more, which no point breaks and whose coefficient is so large
+//! that they are kept in 128. Both are the same, step by step. And what bound propagation leaves of
+//! each is what its slow body leaves.
 
 ghost use Rattle.ug_problem.specs.Better.{IsGap, IsSmallCutoff};
 
@@ -33,7 +33,7 @@ fn are_same_boxes(first: &Option<Handed>, second: &Option<Handed>) -> bool {
     }
 }
 
-// Whether both tell the same of what is left.
+// Whether both report the same of what is left.
 fn agree(first: &mut Task, second: &mut Task) -> bool {
     first.left() == second.left()
         && first.cutoff() == second.cutoff()
@@ -75,7 +75,7 @@ fn step_both(first: &mut Task, second: &mut Task) -> Option<bool> {
     }
 }
 
-// Whether both searches are the same to their end, where every so many steps a box of each is
+// Whether both searches are the same to their end, where every this many steps a box of each is
 // handed away; how many steps.
 fn steps_to_end(first: &mut Task, second: &mut Task, hands: u32) -> Option<u32> {
     for at in 0..3000 {

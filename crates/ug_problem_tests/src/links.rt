@@ -12,7 +12,7 @@ enum Call {
         wait: bool,
         got: Option<Got>,
     },
-    /// A write of these bytes, of which so many are taken.
+    /// A write of these bytes, of which this many are taken.
     Write {
         bytes: &'static [u8],
         took: Option<usize>,

@@ -61,7 +61,7 @@ fn is_nothing_zeros(alloc: Global) -> Option<bool> {
     is_so.ok()
 }
 
-// Whether the problem of the text is spelled so, if the text has no fault.
+// Whether the problem of the file is spelled so, if the file has no fault.
 fn is_text_spelled_so(alloc: Global, wanted: &[u8]) -> Option<bool> {
     let problem = read(alloc, TEXT, None).ok()?;
     let is_so = is_spelled_so(alloc, &problem, wanted);
@@ -108,10 +108,10 @@ const SPOILED: &[(usize, u8, usize)] = &[
     (22, 127, 22), // a side above 10^37
     (38, 1, 38), // 16,777,217 terms
     (45, 1, 42), // a column that is not there
-    (61, 0, 46), // a factor of 0
+    (61, 0, 46), // a coefficient of 0
     (62, 2, 62), // a sense of 2
     (63, 61, 63), // a scale of 61
-    (88, 127, 88), // a factor above 10^24
+    (88, 127, 88), // a coefficient above 10^24
 ];
 
 #[test]

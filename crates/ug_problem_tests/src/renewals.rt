@@ -1,9 +1,9 @@
-//! A worker that renews its task, at a seat in memory that notes what it is told and asks for
+//! A worker that renews its task, at a seat in memory that notes what it is sent and asks for
 //! nothing; and one whose seat knows of a cutoff, or has a task dropped behind its point. By hand,
 //! of the stairs (served/stairs.rt): the first round finds a point and leaves three boxes, the
 //! second finds one and leaves five. The third finds the point with a = 9 by 13 halvings of b and
-//! 15 of c, drops the 30 boxes left of it, halves a from 6..8 to 8 and then b four times: 64 steps,
-//! and seven boxes are left. No value is below -65534.
+//! 15 of c, drops the 30 boxes left of it, branches a from 6..8 to 8 and then b four times: 64
+//! steps, and seven boxes are left. No value is below -65534.
 
 ghost use Rattle.std.specs.Prelude.{◌≡◌, None};
 
@@ -177,14 +177,14 @@ fn walks_by_hand(walk: &mut Walk) -> bool {
     matches!(walk.step(), Ok(false))
 }
 
-// The task of all of the stairs, upper halves first.
+// The task of all of the stairs, upper branches first.
 fn task(alloc: Global) -> Option<Task> {
     task_of(alloc, read(alloc, STAIRS, None).ok()?, 3, Params::new(4), 0)
 }
 
-// A task that is renewed after so many rounds at the least, and whatever part of all they are;
+// A task that is renewed after this many rounds at the least, and whatever part of all they are;
 // after how many the race is won; for which hand there is no memory; which cutoff is known without
-// a report, and whether a task is dropped behind its point; what is told, and whether the boxes
+// a report, and whether a task is dropped behind its point; what is reported, and whether the boxes
 // handed are those by hand.
 #[derive(Clone, Copy)]
 struct Case {
@@ -245,7 +245,7 @@ const CASES: &[Case] = &[
     },
 ];
 
-// Whether a worker that searches the stairs tells that, and hands these boxes.
+// Whether a worker that searches the stairs says that, and hands these boxes.
 fn is_so<R: Wait>(rt: &R, alloc: Global, case: &Case) -> bool {
     let Some(task) = task(alloc) else {
         return false;

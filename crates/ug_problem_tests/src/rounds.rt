@@ -119,7 +119,7 @@ BOUNDS
 ENDATA
 ";
 
-// The same with factors whose sums are kept in 128 bits.
+// The same with coefficients whose sums are kept in 128 bits.
 const SECOND_WIDE_LOOK: &[u8] = b"ROWS
  N Z
  E r
@@ -152,7 +152,7 @@ BOUNDS
 ENDATA
 ";
 
-// A row whose side is so far off that no point keeps to it.
+// A row whose side is so far off that no point satisfies it.
 const TOO_FAR: &[u8] = b"ROWS
  N Z
  G r
@@ -210,7 +210,7 @@ fn are(sides: &[Interval], wanted: &[(i32, i32)]) -> bool {
     sides.len() == wanted.len()
 }
 
-// Whether this is what was wanted.
+// Whether this is what was needed.
 fn is_wanted(tight: &Tight, wanted: &Outcome) -> bool {
     match (tight, wanted) {
         (Tight::Kept(area), Ok(wanted)) => are(area.as_slice(), wanted),
@@ -237,7 +237,7 @@ fn both_leave_of(alloc: Global, problem: &Problem, cutoff: Option<i128>, wanted:
         && is_so(tighten_plain(alloc, problem, cutoff, root), wanted)
 }
 
-// Whether both bodies leave what is wanted of the root of this problem.
+// Whether both bodies leave what is needed of the root of this problem.
 fn both_leave(alloc: Global, text: &[u8], cutoff: Option<i128>, wanted: &Outcome) -> bool {
     if !is_small(cutoff) {
         return false;

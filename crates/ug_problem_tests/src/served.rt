@@ -1,4 +1,4 @@
-//! A worker at the end of a link in memory, alone and in a crew, and all bytes that it tells.
+//! A worker at the end of a link in memory, alone and in a crew, and all bytes that it reports.
 
 mod bytes;
 mod cases;

@@ -14,7 +14,7 @@ use ug_gen::make;
 use ug_mps::read;
 use ug_problem::Problem;
 
-// Sums of even factors are to be odd.
+// Sums of even coefficients are to be odd.
 const ODD: &[u8] = b"ROWS
  N Z
  E R
@@ -139,7 +139,7 @@ fn made_instances_end_in_a_fortieth_of_the_steps(rt: HostRuntime) {
         sharpened = sharpened.saturating_add(fewer);
     }
     holds_at(&rt, 50_000 < alone, &alone);
-    // Without what a list says of halves they take half as many again.
+    // Without what a list says of branches they take half as many again.
     holds_at(&rt, sharpened < alone / 40, &(alone, sharpened));
 }
 

@@ -14,7 +14,7 @@ const NUMBERS: &[&str] = &[
     "13", "14", "15",
 ];
 
-// The next draw of up to so many numbers.
+// The next draw of up to this many numbers.
 fn drawn(state: &mut u64, count: u32) -> u32 {
     *state = state
         .wrapping_mul(6_364_136_223_846_793_005)
@@ -22,7 +22,7 @@ fn drawn(state: &mut u64, count: u32) -> u32 {
     ((*state >> 33) as u32).checked_rem(count).unwrap_or(0)
 }
 
-// A draw of so many numbers from this place on.
+// A draw of this many numbers from this place on.
 fn spelled(state: &mut u64, place: u32, count: u32) -> &'static str {
     let drawn = place.saturating_add(drawn(state, count));
     NUMBERS.get(drawn as usize).copied().unwrap_or("")
@@ -47,7 +47,7 @@ fn push_section(text: &mut Vec<u8>, header: &str, lines: &[u8]) -> bool {
     push(text, header) && text.extend_from_slice(lines).is_ok()
 }
 
-// What a text says of its rows, and of its columns, section by section, without their headers.
+// What a file says of its rows, and of its columns, section by section, without their headers.
 #[derive(Drop)]
 struct Sections {
     rows: Vec<u8>,
@@ -82,7 +82,7 @@ impl Sections {
             & (drawn < 3 || push_line(&mut self.ranges, &[row, "3"]))
     }
 
-    // A factor of the column in the row, from -4 on.
+    // A coefficient of the column in the row, from -4 on.
     fn add_factor(&mut self, column: &'static str, row: &'static str, state: &mut u64) -> bool {
         let factor = spelled(state, 0, 10);
         push_line(&mut self.columns, &[column, row, factor])
@@ -102,7 +102,7 @@ impl Sections {
         so & push_line(&mut self.bounds, &bounds)
     }
 
-    // A row that no point breaks, with a factor so large that no sum is kept in 64 bits.
+    // A row that no point breaks, with a coefficient so large that no sum is kept in 64 bits.
     fn add_wide(&mut self) -> bool {
         push_line(&mut self.rows, &["G", "V"])
             & push_line(&mut self.columns, &["X", "V", "1000000000000"])
@@ -133,7 +133,7 @@ impl Sections {
     }
 }
 
-// Appends the text of a number.
+// Appends the digits of a number.
 fn push_text(alloc: Global, text: &mut Vec<u8>, number: u32, wide: bool) -> bool {
     let mut sections = Sections::new(alloc);
     let so = sections.add(number, wide) && sections.push_all(text);
@@ -158,8 +158,8 @@ pub fn problem(alloc: Global, number: u32) -> Option<Problem> {
     made(alloc, number, false)
 }
 
-/// The same problem with one row more, which no point breaks and whose factor is so large that no
-/// sum of the problem is kept in 64 bits.
+/// The same problem with one row more, which no point breaks and whose coefficient is so large that
+/// no sum of the problem is kept in 64 bits.
 pub fn wide_problem(alloc: Global, number: u32) -> Option<Problem> {
     made(alloc, number, true)
 }

@@ -196,7 +196,7 @@ const LOWER: [Interval; 2] = [Interval { low: 2, high: 3 }, Interval { low: 2, h
 
 const LOWEST: [Interval; 2] = [Interval { low: 0, high: 1 }, Interval { low: 2, high: 7 }];
 
-// Whether that box is given, by its number and its sides; or none, if none is wanted.
+// Whether that box is given, by its number and its sides; or none, if none is needed.
 fn is_given(given: Result<Option<Handed>, AllocError>, wanted: Option<(u64, &[Interval])>) -> bool {
     let is_so = match (&given, wanted) {
         (Ok(Some(given)), Some((number, sides))) => {
@@ -248,7 +248,7 @@ fn hands_first(task: &mut Task) -> bool {
         && task.ticket() == Ticket { run: 1, number: 3 }
 }
 
-/// What is looked at in a search of the square.
+/// What is examined in a search of the square.
 #[derive(Clone, Copy)]
 enum Looked {
     Lowered,

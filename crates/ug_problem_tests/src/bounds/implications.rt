@@ -10,7 +10,7 @@ use ug_problem::Problem;
 use ug_rows::{Row, Term};
 use ug_surrogate::{ImpliedError, Multipliers, Side, are_of, implied};
 
-// The terms, by column and factor, and the high side of a row.
+// The terms, by column and coefficient, and the high side of a row.
 type Wanted = (&'static [(u32, i128)], i128);
 
 // A problem, the weight of its objective, weights of sides, a cutoff, and the row that they imply.

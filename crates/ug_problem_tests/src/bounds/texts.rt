@@ -70,7 +70,7 @@ BOUNDS
 ENDATA
 ";
 
-// One column of a great factor.
+// One column of a great coefficient.
 pub const WIDE: &[u8] = b"ROWS
  N Z
  L r
@@ -84,7 +84,7 @@ BOUNDS
 ENDATA
 ";
 
-// One column of a great factor in the objective.
+// One column of a great coefficient in the objective.
 pub const COSTLY: &[u8] = b"ROWS
  N Z
  G r

@@ -49,7 +49,7 @@ fn make_program<R: Files>(rt: &R, name: &str, parts: &[&str]) -> bool {
     }
 }
 
-// Makes a program of the text that has this test's own program between two parts.
+// Makes a program of a script that has this test's own program between two parts.
 fn make_around_own<R: Files + Env + AllocGlobal>(
     rt: &R,
     name: &str,
@@ -66,7 +66,7 @@ fn make_around_own<R: Files + Env + AllocGlobal>(
     }
 }
 
-/// Makes a program `echo` in this folder, which says back what it hears.
+/// Makes a program `echo` in this folder, which says back what it receives.
 pub fn make_echo<R: Files + Env + AllocGlobal>(rt: &R) -> bool {
     let before = "#!/bin/sh
 exec \"";
@@ -84,8 +84,8 @@ exec \"";
     make_around_own(rt, "solver", before, behind)
 }
 
-/// Makes a program `child` in this folder. As rank 0 it says back what it hears, as rank 1 a signal
-/// ends it, as rank 2 it ends with status 3, and as any other it never comes to its socket.
+/// Makes a program `child` in this folder. As rank 0 it says back what it receives, as rank 1 a
+/// signal ends it, as rank 2 it ends with status 3, and as any other it never comes to its socket.
 pub fn make_child<R: Files + Env + AllocGlobal>(rt: &R) -> bool {
     let before = "#!/bin/sh
 case \"$3\" in

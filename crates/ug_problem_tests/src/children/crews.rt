@@ -1,4 +1,4 @@
-//! Crews of children as they should be: told, heard, and seen off.
+//! Crews of children as they should be: reported, received, and seen off.
 
 ghost use Rattle.std.specs.Prelude.{◌≡◌, ◌<◌, length};
 
@@ -14,7 +14,7 @@ use std::fs;
 use std::fs::{File, Files};
 use std::os::unix::fs::MetadataExt;
 use ug_io::Crew;
-use ug_real::{Children, ProcessCrew};
+use ug_real::{Children, ProcessCrew, SocketFolder};
 
 const MANY: usize = 7 * TIMES;
 
@@ -36,7 +36,7 @@ fn is_private<R: Files>(rt: &R, folder: &str) -> bool {
     }
 }
 
-// Whether three ranks that are told much before they come each say all of it back.
+// Whether three ranks that are reported much before they come each say all of it back.
 fn says_it_back<C: Crew>(alloc: Global, crew: &mut C) -> bool
     requires { 2 < length (C.seen crew.old).lives }
 {
@@ -51,7 +51,7 @@ fn says_it_back<C: Crew>(alloc: Global, crew: &mut C) -> bool
     so
 }
 
-// Whether one that hangs up is gone, and one that is shut is started again.
+// Whether one that hangs up is lost, and one that is shut is started again.
 fn goes_on_without<C: Crew>(crew: &mut C) -> bool
     requires { 2 < length (C.seen crew.old).lives }
 {
@@ -64,7 +64,7 @@ fn goes_on_without<C: Crew>(crew: &mut C) -> bool
         && start_again(crew, 1)
 }
 
-// Whether another is heard where one takes nothing of the much that it is told.
+// Whether another is received where one takes nothing of the much that it is reported.
 fn is_not_held_up<C: Crew>(alloc: Global, crew: &mut C) -> bool {
     let mut many = Vec::new(alloc);
     let so = put_over_and_over(&mut many, TIMES)
@@ -88,7 +88,8 @@ fn talks_on<C: Crew>(crew: &mut C) -> bool
     start(crew, 0) && tell(crew, 0, b"t") && listen(crew, wanted, &mut [0u8; 1000]).gone == 0
 }
 
-// Whether two others come, and are heard byte by byte, so that the one that talks is always ahead.
+// Whether two others come, and are received byte by byte, so that the one that talks is always
+// ahead.
 fn hears_beside_it<C: Crew>(crew: &mut C) -> bool {
     let wanted = Tally {
         bytes: [0, 3, 5],
@@ -98,7 +99,7 @@ fn hears_beside_it<C: Crew>(crew: &mut C) -> bool {
     bytes[1] == 3 && bytes[2] == 5 && gone == 0
 }
 
-// Whether one that talks on keeps two others neither from coming nor from being heard.
+// Whether one that talks on keeps two others neither from coming nor from being received.
 fn hears_beside_a_talker<C: Crew>(crew: &mut C) -> bool
     requires { 2 < length (C.seen crew.old).lives }
 {
@@ -110,7 +111,7 @@ fn hears_beside_a_talker<C: Crew>(crew: &mut C) -> bool
         && hears_beside_it(crew)
 }
 
-// Whether the crew goes through it as it should. Where all are seen off, nothing is left by then.
+// Whether the crew goes through it as it should. If all are seen off, nothing is left by then.
 fn goes_through<R, C>(rt: &R, crew: &mut C, scene: Scene, sockets: &str) -> bool
 where
     R: Files<File = File> + AllocGlobal,
@@ -125,12 +126,12 @@ where
 }
 
 // Whether a crew whose sockets are in this folder goes through it as it should, and nothing is left
-// of it. The lines have why its ranks are gone.
+// of it. The lines have why its ranks are lost.
 fn goes_well(rt: &HostRuntime, lines: &mut Vec<String>, scene: Scene, sockets: &str) -> bool {
     let alloc = rt.alloc();
     let children = Children {
         program: "./echo",
-        sockets,
+        sockets: SocketFolder::Given(sockets),
     };
     match ProcessCrew::new(rt, alloc, 3, children, Notes { alloc, lines }) {
         Ok(mut crew) => {

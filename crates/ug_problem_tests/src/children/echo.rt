@@ -39,7 +39,7 @@ fn talk(link: &mut impl Link) {
     }
 }
 
-// Whether it goes on, and where it does not, whether it is to stay once its link is closed.
+// Whether it continues, and where it does not, whether it is to stay once its link is closed.
 #[derive(Clone, Copy)]
 enum Next {
     Hear,
@@ -62,7 +62,7 @@ fn answer(rt: &impl Clock, link: &mut impl Link, piece: &[u8]) -> Next {
     Next::Leave { stays: false }
 }
 
-// Says back what it hears, as `echo` does. Whether it is to stay once its link is closed.
+// Says back what it receives, as `echo` does. Whether it is to stay once its link is closed.
 fn serve(rt: &impl Clock, link: &mut impl Link) -> bool {
     let mut buffer = [0u8; 4096];
     for _ in 0..u64::MAX {
@@ -76,10 +76,10 @@ fn serve(rt: &impl Clock, link: &mut impl Link) -> bool {
     false
 }
 
-/// Says back what it hears until its link ends, or a piece of it begins with a byte 'q'. Where one
-/// begins with 'h' it closes its link and stays, and where one does with 's' it stays and takes
-/// nothing, and where one does with 't' it talks on without an end: so such a byte is told once all
-/// before it was said back.
+/// Says back what it receives until its link ends, or a piece of it begins with a byte 'q'. Where
+/// one begins with 'h' it closes its link and stays, and where one does with 's' it stays and takes
+/// nothing, and where one does with 't' it talks on without an end: so such a byte is sent once
+/// all before it was said back.
 pub fn echo<R: Net + Clock + AllocGlobal>(rt: &R, path: &str) {
     let mut link = SocketLink::new(rt, rt.alloc(), path);
     let is_to_stay = serve(rt, &mut link);

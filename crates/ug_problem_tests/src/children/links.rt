@@ -52,7 +52,7 @@ fn other_end(rt: &impl Abort, listener: &UnixListener) -> UnixStream {
     other
 }
 
-// Whether the other end is told something, and a link that looks finds it there.
+// Whether the other end is sent something, and a link that looks finds it there.
 fn tells(rt: &impl Clock, other: &mut impl Write, bytes: &[u8]) -> bool {
     let so = other.write_all(bytes).is_ok();
     pause(rt);
@@ -75,7 +75,7 @@ fn reads_in_pieces(rt: &impl Clock, link: &mut impl Link, other: &mut impl Write
         && reads(link, b"f", true)
 }
 
-// Whether the link ends, where the other end is gone and has not read all that it was told.
+// Whether the link ends, where the other end is lost and has not read all that it was reported.
 fn ends(rt: &impl Clock, link: &mut impl Link) -> bool {
     fails(link, true) && gives(rt, link, Got::End) && takes(link, b"y") && fails(link, true)
 }

@@ -6,15 +6,15 @@ use std::fs::{File, Files};
 use std::io::Read;
 use ug_io::{Came, Crew};
 
-/// How many bytes were heard of each of three ranks, as long as they were `a` to `g` over and over,
-/// and how many ranks are gone.
+/// How many bytes were received from each of three ranks, as long as they were `a` to `g` over and
+/// over, and how many ranks are lost.
 #[derive(Clone, Copy, PartialEq)]
 pub struct Tally {
     pub bytes: [usize; 3],
     pub gone: usize,
 }
 
-/// Adds so many times the bytes `a` to `g`. Whether there was memory for them.
+/// Adds this many times the bytes `a` to `g`. Whether there was memory for them.
 pub fn put_over_and_over(bytes: &mut Vec<u8>, count: usize) -> bool {
     for _ in 0..count {
         if bytes.extend_from_slice(b"abcdefg").is_err() {
@@ -24,13 +24,13 @@ pub fn put_over_and_over(bytes: &mut Vec<u8>, count: usize) -> bool {
     true
 }
 
-// The byte that comes behind so many.
+// The byte that comes behind this many.
 fn next_of(count: usize) -> u8 {
     b'a' + (count % 7) as u8
 }
 
 impl Tally {
-    // Whether it has what is wanted, or more.
+    // Whether it has what is needed, or more.
     fn has(&self, wanted: &Tally) -> bool {
         let [zero, one, two] = self.bytes;
         let [least_zero, least_one, least_two] = wanted.bytes;
@@ -66,7 +66,7 @@ impl Tally {
     }
 }
 
-/// Listens by way of the buffer until so many bytes came from each rank, and so many ranks are
+/// Listens by way of the buffer until this many bytes came from each rank, and this many ranks are
 /// gone, at least.
 pub fn listen<C: Crew>(crew: &mut C, wanted: Tally, buffer: &mut [u8]) -> Tally
     requires { 0 < length buffer.old }
@@ -84,8 +84,8 @@ pub fn listen<C: Crew>(crew: &mut C, wanted: Tally, buffer: &mut [u8]) -> Tally
     tally
 }
 
-/// Whether just so many bytes come from each rank, and so many ranks are gone, once there are as
-/// many.
+/// Whether just this many bytes come from each rank, and this many ranks are lost, once there are
+/// as many.
 pub fn hears<C: Crew>(crew: &mut C, bytes: [usize; 3], gone: usize) -> bool
     ensures { length (C.seen crew.new).lives ≡ length (C.seen crew.old).lives }
 {
@@ -117,34 +117,29 @@ pub fn start_again<C: Crew>(crew: &mut C, rank: u32) -> bool {
     crew.launch(rank).is_ok()
 }
 
-/// Tells the bytes to the rank, if it lives.
+/// Sends the bytes to the rank, if it lives.
 pub fn tell<C: Crew>(crew: &mut C, rank: u32, bytes: &[u8]) -> bool
     ensures { length (C.seen crew.new).lives ≡ length (C.seen crew.old).lives }
 {
     crew.is_alive(rank) && crew.send(rank, bytes).is_ok()
 }
 
-/// Tells the bytes to three ranks that live.
+/// Sends the bytes to three ranks that live.
 pub fn tell_three<C: Crew>(crew: &mut C, bytes: &[u8]) -> bool {
     tell(crew, 0, bytes) && tell(crew, 1, bytes) && tell(crew, 2, bytes)
 }
 
-/// Whether no child is left, and none of four sockets in this folder.
+/// Whether no child is left, and no folder of sockets in this one.
 pub fn is_clean<R: Files<File = File> + AllocGlobal>(rt: &R, folder: &str) -> bool {
-    for rank in 0..4u32 {
-        let Ok(path) = format!(in rt.alloc(); "{folder}/ug-{rank}.sock") else {
-            return false;
-        };
-        let is_there = fs::exists(rt, path.as_str()).unwrap_or(false);
-        drop(path);
-        if is_there {
-            return false;
-        }
-    }
-    is_childless(rt)
+    let Ok(path) = format!(in rt.alloc(); "{folder}/ug-sockets") else {
+        return false;
+    };
+    let is_there = fs::exists(rt, path.as_str()).unwrap_or(false);
+    drop(path);
+    !is_there && is_childless(rt)
 }
 
-// Whether this program has no child, where the system tells it.
+// Whether this program has no child, where the system reports it.
 fn is_childless<R: Files<File = File>>(rt: &R) -> bool {
     match File::open(rt, "/proc/thread-self/children") {
         Ok(mut file) => {

@@ -8,19 +8,25 @@ use crate::children::notes::{Notes, are_lines};
 use crate::expect::holds;
 use std::alloc::AllocGlobal;
 use std::fs;
-use std::fs::{File, Files, Permissions};
+use std::fs::{DirBuilder, File, Files, Permissions};
 use std::net::Net;
-use std::os::unix::fs::PermissionsExt;
+use std::os::unix::fs::{DirBuilderExt, PermissionsExt};
 use std::os::unix::net::UnixListener;
 use std::process::{Processes, SystemProcess};
 use std::time::Clock;
 use ug_io::Crew;
-use ug_real::{Children, ProcessCrew};
+use ug_real::{Children, ProcessCrew, SocketFolder};
 
 // Leaves an old socket where the first rank's is to be. Another test may have left the folder.
 fn leave_socket<R: Files + Net>(rt: &R) -> bool {
-    drop(fs::create_dir(rt, "sockets"));
-    let listener = UnixListener::bind(rt, "sockets/ug-0.sock");
+    let folder = "sockets/ug-sockets";
+    drop(
+        DirBuilder::new()
+            .recursive(true)
+            .mode(0o700)
+            .create(rt, folder),
+    );
+    let listener = UnixListener::bind(rt, "sockets/ug-sockets/ug-0.sock");
     let so = listener.is_ok();
     drop(listener);
     so
@@ -31,7 +37,7 @@ fn outer_two_live<C: Crew>(crew: &C) -> bool {
     crew.is_alive(0) && !crew.is_alive(1) && !crew.is_alive(2) && crew.is_alive(3)
 }
 
-// Whether of four ranks two end, one says back what it hears, and one never comes.
+// Whether of four ranks two end, one says back what it receives, and one never comes.
 fn loses_two<C: Crew>(crew: &mut C) -> bool
     requires { 3 < length (C.seen crew.old).lives }
 {
@@ -50,7 +56,7 @@ fn loses_two_of_four(rt: &HostRuntime, lines: &mut Vec<String>) -> bool {
     let alloc = rt.alloc();
     let children = Children {
         program: "./child",
-        sockets: "sockets",
+        sockets: SocketFolder::Given("sockets"),
     };
     match ProcessCrew::new(rt, alloc, 4, children, Notes { alloc, lines }) {
         Ok(mut crew) => {
@@ -132,21 +138,24 @@ where
     }
 }
 
-// Whether no child is started with these, for this reason, and nothing is left.
-fn leaves_nothing<R>(rt: &R, children: Children<'_>, why: &str) -> bool
+// Whether no child is started with this program and folder, for this reason, and nothing is left.
+fn leaves_nothing<R>(rt: &R, program: &str, sockets: &str, why: &str) -> bool
 where
     R: Files<File = File> + Net + Processes<Started = SystemProcess> + Clock + AllocGlobal,
 {
+    let children = Children {
+        program,
+        sockets: SocketFolder::Given(sockets),
+    };
     let mut lines = Vec::new(rt.alloc());
     let so = starts_none(rt, children, &mut lines);
-    are_lines(lines, &[why]) && so && is_clean(rt, children.sockets)
+    are_lines(lines, &[why]) && so && is_clean(rt, sockets)
 }
 
 #[test]
 fn a_child_that_cannot_be_started_leaves_nothing(rt: HostRuntime) {
     holds(&rt, make_child(&rt) && make_bad_folders(&rt));
     for &(program, sockets, why) in CASES {
-        let children = Children { program, sockets };
-        holds(&rt, leaves_nothing(&rt, children, why));
+        holds(&rt, leaves_nothing(&rt, program, sockets, why));
     }
 }

@@ -1,7 +1,7 @@
 use std::alloc::Global;
 use ug_real::{Departure, Watcher};
 
-/// Keeps why ranks are gone, as it is printed.
+/// Keeps why ranks are lost, as it is printed.
 #[derive(Drop)]
 pub struct Notes<'a> {
     pub alloc: Global,
@@ -11,6 +11,12 @@ pub struct Notes<'a> {
 impl Watcher for Notes<'_> {
     fn gone(&mut self, rank: u32, why: &Departure) {
         if let Ok(line) = format!(in self.alloc; "{rank} {why}") {
+            let _ = self.lines.push(line);
+        }
+    }
+
+    fn silent(&mut self, rank: u32, seconds: u64) {
+        if let Ok(line) = format!(in self.alloc; "{rank} silent for {seconds} s") {
             let _ = self.lines.push(line);
         }
     }

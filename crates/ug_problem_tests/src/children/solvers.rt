@@ -1,4 +1,4 @@
-//! Children that solve: three workers of one large problem, of which each byte is looked at.
+//! Children that solve: three workers of one large problem, of which each byte is examined.
 
 ghost use Rattle.std.specs.Prelude.{◌<◌, length};
 
@@ -12,12 +12,12 @@ use std::process::Abort;
 use std::sync::Wait;
 use std::time::Clock;
 use ug_io::{Came, Crew};
-use ug_real::{Children, ProcessCrew, SocketLink};
+use ug_real::{Children, ProcessCrew, SocketFolder, SocketLink};
 use ug_serve::{Service, serve};
 
 const SOLVERS: Children<'static> = Children {
     program: "./solver",
-    sockets: "sockets",
+    sockets: SocketFolder::Given("sockets"),
 };
 
 const COLUMNS: u32 = 10_000;
@@ -110,7 +110,7 @@ fn put_reports(bytes: &mut Vec<u8>, rank: u8) -> bool {
         & put(bytes, ENDED)
 }
 
-// What was heard of each rank, and how many are gone.
+// What was received from each rank, and how many are lost.
 #[derive(Drop)]
 struct Heard {
     ranks: [Vec<u8>; 3],
@@ -134,7 +134,7 @@ impl Heard {
         }
     }
 
-    // Takes note of what comes next, and tells the end to a rank that has searched all. Whether
+    // Takes note of what comes next, and reports the end to a rank that has searched all. Whether
     // something came.
     fn hear<C: Crew>(&mut self, crew: &mut C, buffer: &mut [u8]) -> bool
         requires { 0 < length buffer.old }
@@ -151,7 +151,7 @@ impl Heard {
         }
     }
 
-    // Listens until three ranks are gone.
+    // Listens until three ranks are lost.
     fn listen<C: Crew>(&mut self, crew: &mut C) {
         let mut buffer = [0u8; 4096];
         for _ in 0..u64::MAX {
@@ -170,7 +170,7 @@ impl Heard {
     }
 }
 
-// Whether the rank is told the problem and its work.
+// Whether the rank is sent the problem and its work.
 fn is_told<C: Crew>(alloc: Global, crew: &mut C, rank: u8) -> bool {
     let mut orders = Vec::new(alloc);
     let so = put_orders(&mut orders, rank)
@@ -188,8 +188,8 @@ fn has_said(alloc: Global, heard: &Heard, rank: u8) -> bool {
     so
 }
 
-// Each of three ranks is told the problem and its work, and the end once it has searched all; it
-// says just what it has to, and is gone.
+// Each of three ranks is sent the problem and its work, and the end once it has searched all;
+// it says just what it has to, and is lost.
 fn say_what_they_have_to<C: Crew>(rt: &impl Abort, alloc: Global, crew: &mut C)
     requires { 2 < length (C.seen crew.old).lives }
 {

@@ -10,7 +10,7 @@ fn half(digit: u8) -> u8 {
 // The run and the number of the ticket (1, 1).
 const TICKET: &[u8] = b"\0\0\0\0\0\0\0\x01\0\0\0\0\0\0\0\x01";
 
-/// Adds the bytes that a text of two digits each spells, with blanks between some; `t` is the
+/// Adds the bytes that two digits each spell, with blanks between some; `t` is the
 /// ticket (1, 1), and `z` eight bytes of 0. Whether there was memory for them.
 pub fn spell(bytes: &mut Vec<u8>, text: &str) -> bool {
     let mut so = true;

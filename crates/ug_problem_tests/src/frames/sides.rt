@@ -6,7 +6,7 @@ use ug_frames::Decoded;
 
 /// Orders, or reports.
 pub trait Side: Drop {
-    /// What stands at the front of the bytes.
+    /// What is at the front of the bytes.
     fn decode(alloc: Global, bytes: &[u8]) -> Result<Decoded<Self>, AllocError>
     where
         Self: Sized;
@@ -16,7 +16,7 @@ pub trait Side: Drop {
     fn copy(buffer: &mut Vec<u8>, alloc: Global, bytes: &[u8]) -> bool;
 }
 
-// What is at the front of some bytes, if there is memory to tell: a frame of so many, say.
+// What is at the front of some bytes, if there is memory to say so: a frame of this many, say.
 #[derive(Clone, Copy, PartialEq)]
 enum Front {
     Whole { used: usize },
@@ -67,7 +67,7 @@ fn is_whole<M: Side>(alloc: Global, bytes: &mut Vec<u8>) -> bool {
         && front_at::<M>(alloc, bytes) == whole
 }
 
-// Whether the text is the frame of a message, or of none, and is none before its last byte.
+// Whether the bytes are the frame of a message, or of none, and is none before its last byte.
 fn is_so<M: Side>(alloc: Global, text: &str, is_message: bool) -> bool {
     let mut bytes = Vec::new(alloc);
     let is_spelled = spell(&mut bytes, text) && needs_all::<M>(alloc, &bytes);
@@ -80,7 +80,7 @@ fn is_so<M: Side>(alloc: Global, text: &str, is_message: bool) -> bool {
     is_spelled && is_so
 }
 
-// What stands behind the first colon.
+// What follows the first colon.
 fn text_of(line: &str) -> &str {
     match line.split_once(": ") {
         Some((_, text)) => text,

@@ -36,7 +36,7 @@ fn next(alloc: Global, assembler: &mut Assembler) -> u8 {
     }
 }
 
-// Adds what is told of a piece, message by message, until more is needed or the bytes are bad.
+// Adds what is reported of a piece, message by message, until more is needed or the bytes are bad.
 // Whether there was memory for it.
 fn add_told(alloc: Global, assembler: &mut Assembler, piece: &[u8], all: &mut Vec<u8>) -> bool {
     let mut so = assembler.feed(piece).is_ok();
@@ -50,7 +50,7 @@ fn add_told(alloc: Global, assembler: &mut Assembler, piece: &[u8], all: &mut Ve
     so
 }
 
-// Adds what is told of the bytes where they come in pieces of this length.
+// Adds what is reported of the bytes where they come in pieces of this length.
 fn add_pieces(alloc: Global, bytes: &[u8], long: usize, all: &mut Vec<u8>) -> bool {
     let mut assembler = Assembler::new(alloc);
     let mut so = true;
@@ -64,7 +64,7 @@ fn add_pieces(alloc: Global, bytes: &[u8], long: usize, all: &mut Vec<u8>) -> bo
     so
 }
 
-// Whether that is told first, and nothing behind it; or nothing but `b` where it ends so.
+// Whether that is reported first, and nothing behind it; or nothing but `b` where it ends so.
 fn are(told: &[u8], wanted: &[u8]) -> bool {
     let Some(rest) = told.strip_prefix(wanted) else {
         return false;
@@ -77,7 +77,7 @@ fn are(told: &[u8], wanted: &[u8]) -> bool {
     true
 }
 
-// Whether these are told of the bytes where they come in pieces of this length.
+// Whether these are reported of the bytes where they come in pieces of this length.
 fn are_told(alloc: Global, text: &str, long: usize, wanted: &[u8]) -> bool {
     let mut bytes = Vec::new(alloc);
     let mut all = Vec::new(alloc);

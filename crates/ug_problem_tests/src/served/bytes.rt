@@ -8,7 +8,7 @@ use std::alloc::Global;
 use std::sync::Wait;
 use ug_serve::Served;
 
-/// What comes over the link, in pieces, the calls that fail, and what is told and how it ends.
+/// What comes over the link, in pieces, the calls that fail, and what is reported and how it ends.
 struct Case {
     pieces: &'static [&'static str],
     failing: &'static [u64],

@@ -1,4 +1,4 @@
-//! Cases of a worker at a link: what is ordered, and what is told.
+//! Cases of a worker at a link: what is ordered, and what is reported.
 
 use crate::expect::holds_at;
 use crate::served::link::{SOUND, is_told};
@@ -8,7 +8,7 @@ use std::process::Abort;
 use std::sync::Wait;
 use ug_serve::Served;
 
-/// What is ordered behind a problem under a gap, piece by piece, what is then told, and how it
+/// What is ordered behind a problem under a gap, piece by piece, what is then reported, and how it
 /// ends.
 #[derive(Clone, Copy)]
 pub struct Case {
@@ -19,7 +19,7 @@ pub struct Case {
     pub end: Served,
 }
 
-/// Nothing comes for now: what stands behind is seen at the next look.
+/// Nothing comes for now: what follows is seen at the next look.
 pub const GAP: &[Ordered] = &[];
 
 /// Adds a piece. Whether it is a whole one, and there was memory for it.
@@ -40,7 +40,7 @@ fn add_piece(alloc: Global, pieces: &mut Vec<Vec<u8>>, orders: &[Ordered]) -> bo
     push_piece(pieces, piece, so)
 }
 
-/// Adds the pieces of a case over the problem of a text, that of the problem first.
+/// Adds the pieces of a case over the problem of a file, that of the problem first.
 pub fn add_pieces(alloc: Global, pieces: &mut Vec<Vec<u8>>, text: &[u8], case: &Case) -> bool {
     let mut setup = Vec::new(alloc);
     let is_set = add_setup(alloc, &mut setup, case.gap, text);
@@ -51,7 +51,7 @@ pub fn add_pieces(alloc: Global, pieces: &mut Vec<Vec<u8>>, text: &[u8], case: &
     so
 }
 
-// Whether the problem of the text is served as the case has it.
+// Whether the problem of the file is served as the case has it.
 fn is_served_so<R: Wait>(rt: &R, alloc: Global, text: &[u8], case: &Case) -> bool {
     let mut pieces = Vec::new(alloc);
     let mut wanted = Vec::new(alloc);
@@ -63,7 +63,7 @@ fn is_served_so<R: Wait>(rt: &R, alloc: Global, text: &[u8], case: &Case) -> boo
     is_so
 }
 
-/// Expects each case over the problem of the text.
+/// Expects each case over the problem of the file.
 pub fn each_is_served_so<R: Wait + Abort>(rt: &R, alloc: Global, text: &[u8], cases: &[Case]) {
     for case in cases {
         holds_at(rt, is_served_so(rt, alloc, text, case), &case.what);

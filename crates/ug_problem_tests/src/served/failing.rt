@@ -38,7 +38,7 @@ const POINTS: Run = Run {
     calls: 202,
 };
 
-// Whether a front of the whole is told, and the service ends by a fault.
+// Whether a prefix of the whole is reported, and the service ends by a fault.
 fn is_cut_off<R: Wait>(
     rt: &R,
     alloc: Global,

@@ -1,14 +1,14 @@
-//! What a worker tells over a link in memory.
+//! What a worker reports over a link in memory.
 
 use std::alloc::Global;
 use std::sync::Wait;
 use ug_io::{MemoryLink, Said, Script};
 use ug_serve::{Served, serve};
 
-/// What was told over a link, beside the bytes that were wanted, and how its service ended.
+/// What was reported over a link, beside the bytes that were wanted, and how its service ended.
 #[derive(Clone, Copy)]
 pub struct Told {
-    /// How many of the bytes wanted were told, if no others were.
+    /// How many of the bytes wanted were reported, if no others were.
     pub front: Option<usize>,
     pub end: Served,
 }
@@ -26,7 +26,7 @@ pub const SOUND: Calls<'static> = Calls {
     most: 1000,
 };
 
-// How many of the bytes wanted were told, if no others were.
+// How many of the bytes wanted were reported, if no others were.
 fn front_told(said: &[Said], wanted: &[u8]) -> Option<usize> {
     let mut told = 0usize;
     for one in said {
@@ -40,7 +40,7 @@ fn front_told(said: &[Said], wanted: &[u8]) -> Option<usize> {
     Some(told)
 }
 
-// What is told where these pieces come, and then the end of the link.
+// What is reported where these pieces come, and then the end of the link.
 fn told_over<R: Wait>(
     rt: &R,
     alloc: Global,
@@ -59,8 +59,8 @@ fn told_over<R: Wait>(
     Some(Told { front, end })
 }
 
-/// What is told where these pieces come, and then the end of the link. An empty piece is a gap: a
-/// read that does not wait finds nothing there, once. None where there is no memory to tell.
+/// What is reported where these pieces come, and then the end of the link. An empty piece is a gap:
+/// a read that does not wait finds nothing there, once. None where there is no memory to say so.
 pub fn told_of<R: Wait>(
     rt: &R,
     alloc: Global,
@@ -82,7 +82,7 @@ pub fn told_of<R: Wait>(
     told
 }
 
-/// Whether these bytes are told over the pieces, and no others, and the service ends so.
+/// Whether these bytes are reported over the pieces, and no others, and the service ends so.
 pub fn is_told<R: Wait>(
     rt: &R,
     alloc: Global,

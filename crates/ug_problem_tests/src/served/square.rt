@@ -1,6 +1,6 @@
 //! Two columns whose sum is at least 5 and minimised, each search within one round of steps.
-//! By hand: the lower half of the first column that is open is looked at first. So five halvings
-//! lead to (0, 5), which is found, and the five boxes left have no lesser sum. The first order has
+//! By hand: the lower half of the first column that is open is examined first. So five halvings
+//! lead to (0, 5), which is found, and the five boxes left have no smaller sum. The first order has
 //! 175 bytes, and one to work without a cutoff 28 and 12 for each change.
 
 use crate::served::cases::{Case, GAP, each_is_served_so};
@@ -24,7 +24,7 @@ const SECOND_ROOT: Ordered = Ordered::Work(Work {
     ..WHOLE
 });
 
-// The lesser sums alone.
+// The smaller sums alone.
 const ROOT_BELOW_4: Ordered = Ordered::Work(Work {
     cutoff: Some(4),
     ..WHOLE
@@ -35,7 +35,7 @@ const ROOT_BELOW_9: Ordered = Ordered::Work(Work {
     ..WHOLE
 });
 
-// The upper half is looked at first.
+// The upper half is examined first.
 const ROOT_FROM_ABOVE: Ordered = Ordered::Work(Work { params: 4, ..WHOLE });
 
 // The first column from 4 on.
@@ -219,8 +219,8 @@ const BEGUN: &[Case] = &[
         ],
         end: Served::Ended,
     },
-    // The first column is halved to 4, where the second one is 1 at least and is halved to it. The
-    // cutoff of the first task is none of the second one's.
+    // The first column is branched on to 4, where the second one is 1 at least and is branched on
+    // to it. The cutoff of the first task is none of the second one's.
     Case {
         what: "two tasks",
         gap: 0,
@@ -259,7 +259,7 @@ const BEGUN: &[Case] = &[
     },
 ];
 
-// Cutoffs that are told, and gaps.
+// Cutoffs that are reported, and gaps.
 const CUTOFFS: &[Case] = &[
     Case {
         what: "an incumbent as good as the best",
@@ -273,7 +273,7 @@ const CUTOFFS: &[Case] = &[
         told: &[Reported::Ready, DONE_AT_5, Reported::Ended],
         end: Served::Ended,
     },
-    // The point that is found has the lesser cutoff.
+    // The point that is found has the smaller cutoff.
     Case {
         what: "an incumbent that is worse",
         gap: 0,
@@ -361,7 +361,7 @@ const CUTOFFS: &[Case] = &[
         ],
         end: Served::Ended,
     },
-    // A cutoff that is told has the gap in it already.
+    // A cutoff that is sent has the gap in it already.
     Case {
         what: "an incumbent under a gap",
         gap: 2,
@@ -390,7 +390,7 @@ const CUTOFFS: &[Case] = &[
 
 // Tasks that are dropped, and orders that are refused.
 const DROPPED: &[Case] = &[
-    // Nothing is told of the task that is dropped.
+    // Nothing is reported of the task that is dropped.
     Case {
         what: "work behind a stop, in one piece",
         gap: 0,

@@ -1,4 +1,4 @@
-//! Workers as a crew in memory: what they tell is what a worker at a link has to tell, however
+//! Workers as a crew in memory: what they report is what a worker at a link has to send, however
 //! their bytes go.
 
 ghost use Rattle.std.specs.Prelude.{◌≡◌, ◌<◌, length};
@@ -11,8 +11,9 @@ use std::process::Abort;
 use ug_io::{Came, Crew, zeros};
 use ug_serve::{Visit, WorkerCrew};
 
-/// How the bytes of a worker go: so many visits, each with so many bytes of orders and of reports
-/// at most, and then with all that there is; and how many bytes are heard at once, one at least.
+/// How the bytes of a worker go: this many visits, each with this many bytes of orders and of
+/// reports at most, and then with all that there is; and how many bytes are received at once, one
+/// at least.
 #[derive(Clone, Copy)]
 struct Way {
     what: &'static str,
@@ -54,7 +55,7 @@ const WAYS: &[Way] = &[
     },
 ];
 
-// The rank at which the worker is. The one below it has one that is told nothing.
+// The rank at which the worker is. The one below it has one that is sent nothing.
 const RANK: u32 = 1;
 
 // Starts the rank, if it does not live.
@@ -81,8 +82,8 @@ fn hear<C: Crew>(crew: &mut C, buffer: &mut [u8], bytes: &mut Vec<u8>) -> bool
     so
 }
 
-// Adds what the worker tells where these pieces are told to it, each once it has told all that it
-// has to tell. Whether all could be told.
+// Adds what the worker reports where these pieces are sent to it, each once it has reported all
+// that it has to send. Whether all could be sent.
 fn hear_all<C: Crew>(
     crew: &mut C,
     buffer: &mut [u8],
@@ -99,7 +100,7 @@ fn hear_all<C: Crew>(
     so
 }
 
-// Whether the worker tells that, of a crew of which two ranks are started, by way of so much room.
+// Whether the worker says that, of a crew of which two ranks are started, by way of so much room.
 fn tells<C: Crew>(
     alloc: Global,
     crew: &mut C,
@@ -145,7 +146,7 @@ fn tells_in(alloc: Global, way: Way, pieces: &[Vec<u8>], wanted: &[u8]) -> bool 
     so
 }
 
-/// Expects that a worker of a crew tells what the case has, in each way.
+/// Expects that a worker of a crew says what the case has, in each way.
 pub fn crew_tells_the_same(rt: &impl Abort, alloc: Global, text: &[u8], case: &Case) {
     let mut pieces = Vec::new(alloc);
     let mut wanted = Vec::new(alloc);

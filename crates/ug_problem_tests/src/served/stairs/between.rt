@@ -30,7 +30,7 @@ const BETWEEN: &[Case] = &[
         told: &[Reported::Ready, FIRST_ROUND, THREE_LEFT, Reported::Ended],
         end: Served::Ended,
     },
-    // Nothing is told of the task that is dropped.
+    // Nothing is reported of the task that is dropped.
     Case {
         what: "a stop, and work behind it",
         gap: 0,

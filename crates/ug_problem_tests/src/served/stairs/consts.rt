@@ -189,7 +189,7 @@ pub const LAST_TWO_LEFT: Reported = Reported::State {
     floor: 524290,
 };
 
-/// The end of the task under the least cutoff, with so many boxes handed.
+/// The end of the task under the least cutoff, with this many boxes handed.
 pub const DONE_0: Reported = Reported::Done {
     ticket: FIRST,
     cutoff: Some(-65534),
