@@ -2,18 +2,26 @@
 _ug() {
     local at=$COMP_CWORD words=
     local word=${COMP_WORDS[at]} before=${COMP_WORDS[at - 1]}
-    local options='--solvers --racing --base --low --high --every --limit --box --gap --checkpoint'
-    options+=' --mode --sockets'
+    # bench/options writes from here, by docs/options.tsv,
+    local options='--solvers --racing --base --low --high --checkpoint --every --limit --gap --box --mode --sockets'
+    local numbers='--solvers --low --high --every --limit --gap --box'
+    local folders='--checkpoint --sockets'
+    local -A values=([--base]='bound surrogate' [--mode]='threads processes')
+    # to here (bench/options)
     # Between an option and its word '=' may stand, which is a word by itself here.
     [ "$before" = = ] && before=${COMP_WORDS[at - 2]}
     [ "$word" = = ] && before=${COMP_WORDS[at - 1]} word=
+    if [ "$at" -gt 1 ]; then
+        case " $folders " in *" $before "*) before=folder ;; esac
+        case " $numbers " in *" $before "*) before=number ;; esac
+        [ -z "${values[$before]-}" ] || words=${values[$before]} before=words
+    fi
     case $at:${COMP_WORDS[1]}:$before:$word in
     1:*) words=$(compgen -W 'solve restart show gen worker help version' -- "$word") ;;
-    *:--checkpoint:* | *:--sockets:*) words=$(compgen -d -- "$word") ;;
-    *:--mode:*) words=$(compgen -W 'threads processes' -- "$word") ;;
-    *:--base:*) words=$(compgen -W 'bound surrogate' -- "$word") ;;
+    *:folder:*) words=$(compgen -d -- "$word") ;;
+    *:words:*) words=$(compgen -W "$words" -- "$word") ;;
     *:--socket:*) words=$(compgen -f -- "$word") ;;
-    *:--solvers:* | *:--low:* | *:--high:* | *:--every:* | *:--limit:* | *:--box:* | *:--gap:*) ;;
+    *:number:*) ;;
     *:worker:*) words=$(compgen -W --socket -- "$word") ;;
     *:show:*) words=$(compgen -W --checkpoint -- "$word") ;;
     *:gen:*:-*) words=$(compgen -W --solvers -- "$word") ;;
