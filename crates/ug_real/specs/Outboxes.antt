@@ -1,13 +1,22 @@
 -- What waits to go to a connection, and what was written to it.
-use Rattle.std.specs.Prelude.{◌≡◌, ℕ, true, List, ◌++◌, drop, Option}
+use Rattle.std.specs.Prelude.{◌≡◌, ℕ, true, List, [], ◌++◌, drop, Option, None, Some}
 use Rattle.std.specs.Io.KnownBytes.{Appends}
 use Rattle.ug_real.specs.declared.outbox.Outbox.{Outbox}
 use Rattle.ug_real.specs.declared.outbox.Unsent.{Unsent}
 use Rattle.ug_real.specs.declared.outbox.Unsent.TheVariants.{Memory, Cut}
 
--- the bytes that did not go yet
+-- what is left of shared bytes of which this many went
+abbrev pub rest_of : Option (List ℕ) → ℕ → List ℕ
+rest_of None gone = []
+rest_of (Some bytes) gone = drop gone bytes
+
+-- the bytes that did not go yet, but for the shared ones
+abbrev pub own_waiting : Outbox → List ℕ
+own_waiting outbox = drop outbox.sent outbox.bytes.items
+
+-- the bytes that did not go yet: the shared ones first
 abbrev pub waiting : Outbox → List ℕ
-waiting outbox = drop outbox.sent outbox.bytes.items
+waiting outbox = rest_of outbox.ahead outbox.gone ++ own_waiting outbox
 
 -- a prefix of the bytes was written, where the writer's contents are known, and the rest is left
 pub record HasWritten (old new : Option (List ℕ)) (bytes left : List ℕ) : Type 0 where

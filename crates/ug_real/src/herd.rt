@@ -3,6 +3,7 @@ ghost use Rattle.slab.specs.Slab.{HasRoomFor};
 
 use crate::departure::Watcher;
 use crate::peer::{Peer, Sought};
+use crate::shared_bytes::SharedFrame;
 use mio::{Events, Poll, Registry, Token};
 use slab::Slab;
 use std::alloc::Global;
@@ -50,6 +51,8 @@ pub struct Herd<F: Drop> {
     // When silent children were last looked for.
     looked: Option<Instant>,
     watch: Option<Watch>,
+    // What children that have not connected are to be sent.
+    frame: SharedFrame,
     peers: Slab<Peer<F>>,
 }
 
@@ -122,12 +125,13 @@ fn hurry_all<F: Drop>(peers: &mut Slab<Peer<F>>, registry: &Registry, now: Optio
 fn send_to<F: Drop>(
     peers: &mut Slab<Peer<F>>,
     registry: &Registry,
+    frame: &mut SharedFrame,
     rank: u32,
     bytes: &[u8],
 ) -> io::Result<()> {
     if let Some(key) = key_of(peers, Sought::Rank(rank)) {
         if let Some(peer) = peers.get_mut(key) {
-            return peer.send(registry, Token(key), bytes);
+            return peer.send(registry, Token(key), frame, bytes);
         }
     }
     Err(missing())
@@ -235,6 +239,7 @@ impl<F: Drop> Herd<F> {
             next: 0,
             looked: None,
             watch: None,
+            frame: SharedFrame::new(alloc),
             peers: Slab::new(alloc),
         }
     }
@@ -277,7 +282,10 @@ impl<F: Drop> Herd<F> {
     /// Tells the bytes to the rank, now or as soon as they can go.
     pub fn send(&mut self, rank: u32, bytes: &[u8]) -> io::Result<()> {
         match &self.watch {
-            Some(watch) => send_to(&mut self.peers, watch.poll.registry(), rank, bytes),
+            Some(watch) => {
+                let registry = watch.poll.registry();
+                send_to(&mut self.peers, registry, &mut self.frame, rank, bytes)
+            }
             None => Err(missing()),
         }
     }
@@ -330,6 +338,9 @@ impl<F: Drop> Herd<F> {
         let waited = self.wait_for_events(most);
         if waited.is_ok() {
             self.heed(clock, is_any_leaving);
+        }
+        if key_of(&self.peers, Sought::Awaited).is_none() {
+            self.frame.clear();
         }
         waited
     }

@@ -26,6 +26,7 @@ mod process_crew;
 mod reader;
 mod real_folder;
 mod saves;
+mod shared_bytes;
 mod slot_copies;
 mod slot_files;
 mod socket_link;

@@ -1,7 +1,9 @@
-ghost use Rattle.std.specs.Prelude.{◌≡◌, ◌≤◌, ◌++◌, [], true, false, length, take, IfErr, IfOk, OnOk, OnErr};
+ghost use Rattle.std.specs.Prelude.{◌≡◌, ◌≤◌, ◌++◌, [], true, false, None, drop, length, take, IfErr, IfOk, IsTrue, MatchBool, OnOk, OnErr};
+ghost use Rattle.std.specs.Option.{ForSome};
 ghost use Rattle.std.specs.Io.KnownBytes.{Appends};
 
 use crate::again;
+use crate::shared_bytes::SharedBytes;
 use std::alloc::Global;
 use std::io::{ErrorKind, Write};
 use std::{io, mem};
@@ -13,12 +15,17 @@ const KEPT: usize = 1 << 16;
 #[derive(Drop)]
 pub struct Outbox {
     alloc: Global,
+    // Bytes that go before the others, in memory that other outboxes share.
+    ahead: Option<SharedBytes>,
+    // The number of those that went.
+    gone: usize,
     bytes: Vec<u8>,
-    // So many of them went.
+    // The number of these that went.
     sent: usize,
     // The other end takes nothing any more.
     is_closed: bool,
     ghost within: { sent ≤ length bytes.items },
+    ghost gone_within: { ForSome ahead (λ all. gone ≤ length all) },
 }
 
 /// Why bytes neither went nor wait to go.
@@ -53,7 +60,7 @@ pub fn write_out<W: Write>(to: &mut W, bytes: &[u8]) -> io::Result<usize>
 }
 
 impl Outbox {
-    ghost use Rattle.ug_real.specs.Outboxes.{HasWritten, IsUnsent, waiting};
+    ghost use Rattle.ug_real.specs.Outboxes.{HasWritten, IsUnsent, own_waiting, rest_of, waiting};
 
     /// Nothing waits.
     pub fn new(alloc: Global) -> Outbox
@@ -61,22 +68,26 @@ impl Outbox {
     {
         Outbox {
             alloc,
+            ahead: None,
+            gone: 0,
             bytes: Vec::new(alloc),
             sent: 0,
             is_closed: false,
         }
     }
 
-    // What did not go yet.
+    // Returns the bytes that did not go yet, but for the shared ones.
     fn rest(&self) -> &[u8]
-        ensures { result.now ≡ waiting self.now }
+        ensures { result.now ≡ own_waiting self.now }
     {
         self.bytes.get(self.sent..).unwrap_or(&[])
     }
 
-    // Forgets what went. It moves the rest only where as much went at least.
+    // Forgets what went. Moves the rest only if as much went at least.
     fn forget(&mut self)
-        ensures waiting { waiting self.new ≡ waiting self.old }
+        ensures waiting { own_waiting self.new ≡ own_waiting self.old }
+        ensures ahead { self.new.ahead ≡ self.old.ahead }
+        ensures gone { self.new.gone ≡ self.old.gone }
         ensures closed { self.new.is_closed ≡ self.old.is_closed }
     {
         let rest = self.rest().len();
@@ -89,9 +100,11 @@ impl Outbox {
         }
     }
 
-    // Lets all bytes go, and most of their memory.
+    // Drops the bytes but the shared ones, and most of their memory.
     fn empty(&mut self)
-        ensures waiting { waiting self.new ≡ [] }
+        ensures waiting { own_waiting self.new ≡ [] }
+        ensures ahead { self.new.ahead ≡ self.old.ahead }
+        ensures gone { self.new.gone ≡ self.old.gone }
         ensures closed { self.new.is_closed ≡ self.old.is_closed }
     {
         if self.bytes.capacity() > KEPT {
@@ -102,16 +115,18 @@ impl Outbox {
         self.sent = 0;
     }
 
-    /// Takes no bytes any more.
+    /// Drops all bytes. It takes no more from now on.
     pub fn close(&mut self)
         ensures waiting { waiting self.new ≡ [] }
         ensures closed { self.new.is_closed ≡ true }
     {
+        drop(self.ahead.take());
+        self.gone = 0;
         self.empty();
         self.is_closed = true;
     }
 
-    /// Keeps the bytes behind the others, unless it is closed.
+    /// Queues the bytes behind the others, unless it is closed.
     pub fn push(&mut self, bytes: &[u8]) -> Result<(), Unsent>
         ensures ok { OnOk result (self.old.is_closed ≡ false
             → waiting self.new ≡ waiting self.old ++ bytes.now) }
@@ -128,18 +143,44 @@ impl Outbox {
         }
     }
 
+    /// Queues bytes that others share behind the others, unless it is closed. Copies them if bytes
+    /// wait already.
+    pub fn push_shared(&mut self, bytes: SharedBytes) -> Result<(), Unsent>
+        ensures ok { OnOk result (self.old.is_closed ≡ false
+            → waiting self.new ≡ waiting self.old ++ bytes) }
+        ensures closed { self.old.is_closed ≡ true → waiting self.new ≡ waiting self.old }
+        ensures err { IfErr result (IsUnsent self.old self.new) }
+    {
+        if self.is_closed {
+            drop(bytes);
+            return Ok(());
+        }
+        if self.waits() {
+            let pushed = self.push(bytes.bytes());
+            drop(bytes);
+            return pushed;
+        }
+        drop(self.ahead.replace(bytes));
+        self.gone = 0;
+        Ok(())
+    }
+
+    // Does anything wait?
+    fn waits(&self) -> bool
+        ensures { MatchBool result (Unit {0})
+            ((self.now.ahead ≡ None) × (own_waiting self.now ≡ [])) }
+    {
+        self.ahead.is_some() || !self.rest().is_empty()
+    }
+
     /// Sends what can go for now. It closes if a write fails.
     pub fn flush<W: Write>(&mut self, to: &mut W) -> io::Result<()>
         ensures ok { OnOk result (HasWritten (W.contents to.old) (W.contents to.new)
             (waiting self.old) (waiting self.new)) }
         ensures err { OnErr result (self.new.is_closed ≡ true) }
     {
-        match write_out(to, self.rest()) {
-            Ok(n) => {
-                self.sent += n;
-                self.forget();
-                Ok(())
-            }
+        match self.flush_all(to) {
+            Ok(()) => Ok(()),
             Err(error) => {
                 self.close();
                 Err(error)
@@ -147,7 +188,78 @@ impl Outbox {
         }
     }
 
-    /// Sends the bytes behind the others as far as they can go for now, and keeps the rest, unless
+    // Sends what can go for now.
+    fn flush_all<W: Write>(&mut self, to: &mut W) -> io::Result<()>
+        ensures ok { OnOk result (HasWritten (W.contents to.old) (W.contents to.new)
+            (waiting self.old) (waiting self.new)) }
+    {
+        match self.flush_ahead(to) {
+            Ok(true) => self.flush_own(to),
+            Ok(false) => Ok(()),
+            Err(error) => Err(error),
+        }
+    }
+
+    // Returns the shared bytes that did not go yet.
+    fn rest_ahead(&self) -> &[u8]
+        ensures { result.now ≡ rest_of self.now.ahead self.now.gone }
+    {
+        match &self.ahead {
+            Some(ahead) => ahead.bytes().get(self.gone..).unwrap_or(&[]),
+            None => &[],
+        }
+    }
+
+    // Forgets this number of the shared bytes, which went. Returns true if none of them is left.
+    #[tactic(auto, using(crate::proofs::Writing::rest_dropped, crate::proofs::Writing::none_left))]
+    fn forget_ahead(&mut self, count: usize) -> bool
+        requires { count ≤ length (rest_of self.old.ahead self.old.gone) }
+        ensures rest { rest_of self.new.ahead self.new.gone
+            ≡ drop count (rest_of self.old.ahead self.old.gone) }
+        ensures own { own_waiting self.new ≡ own_waiting self.old }
+        ensures none { IsTrue result → self.new.ahead ≡ None }
+    {
+        if let Some(ahead) = &self.ahead {
+            let all = ahead.bytes().len();
+            if count < all - self.gone {
+                self.gone += count;
+                return false;
+            }
+        }
+        drop(self.ahead.take());
+        self.gone = 0;
+        true
+    }
+
+    // Sends what can go for now of the shared bytes. Returns true if none of them is left.
+    fn flush_ahead<W: Write>(&mut self, to: &mut W) -> io::Result<bool>
+        ensures ok { OnOk result (HasWritten (W.contents to.old) (W.contents to.new)
+            (waiting self.old) (waiting self.new)) }
+        ensures none { IfOk result (λ all. IsTrue all → self.new.ahead ≡ None) }
+    {
+        match write_out(to, self.rest_ahead()) {
+            Ok(n) => Ok(self.forget_ahead(n)),
+            Err(error) => Err(error),
+        }
+    }
+
+    // Sends what can go for now of the others.
+    fn flush_own<W: Write>(&mut self, to: &mut W) -> io::Result<()>
+        requires { self.old.ahead ≡ None }
+        ensures ok { OnOk result (HasWritten (W.contents to.old) (W.contents to.new)
+            (waiting self.old) (waiting self.new)) }
+    {
+        match write_out(to, self.rest()) {
+            Ok(n) => {
+                self.sent += n;
+                self.forget();
+                Ok(())
+            }
+            Err(error) => Err(error),
+        }
+    }
+
+    /// Sends the bytes behind the others as far as they can go for now, and queues the rest, unless
     /// it is closed. It closes if a write fails.
     pub fn send<W: Write>(&mut self, to: &mut W, bytes: &[u8]) -> Result<(), Unsent>
         ensures ok { OnOk result (self.old.is_closed ≡ false
@@ -158,7 +270,7 @@ impl Outbox {
         if self.is_closed {
             return Ok(());
         }
-        if !self.rest().is_empty() {
+        if self.waits() {
             return self.push(bytes);
         }
         match write_out(to, bytes) {

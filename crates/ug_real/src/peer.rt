@@ -4,6 +4,7 @@ use crate::again;
 use crate::cause::failed_by;
 use crate::departure::{Departure, Watcher};
 use crate::outbox::{Outbox, Unsent};
+use crate::shared_bytes::SharedFrame;
 use crate::sockets::Door;
 use crate::ward::Ward;
 use mio::net::UnixStream;
@@ -64,6 +65,8 @@ pub enum Sought {
     Stirred,
     /// One that is to end soon, of which no event need tell.
     Leaving,
+    /// One that has not connected.
+    Awaited,
 }
 
 impl<F: Drop> Peer<F> {
@@ -116,6 +119,7 @@ impl<F: Drop> Peer<F> {
             Sought::Rank(rank) => self.rank == rank && !self.is_shut,
             Sought::Stirred => self.is_stirred,
             Sought::Leaving => self.is_leaving(),
+            Sought::Awaited => self.is_awaited(),
         }
     }
 
@@ -315,12 +319,19 @@ impl<F: Drop> Peer<F> {
     }
 
     /// Sends it bytes, or keeps them until it can take them. One whose connection is closed, or
-    /// whose connection fails, is sent nothing: its end is reported.
-    pub fn send(&mut self, registry: &Registry, token: Token, bytes: &[u8]) -> io::Result<()> {
+    /// whose connection fails, is sent nothing: its end is reported. Until it connects it shares a
+    /// long frame with the others that have not connected.
+    pub fn send(
+        &mut self,
+        registry: &Registry,
+        token: Token,
+        frame: &mut SharedFrame,
+        bytes: &[u8],
+    ) -> io::Result<()> {
         self.answer(registry, token);
         let sent = match &mut self.line {
             Line::Open(stream) => self.outbox.send(stream, bytes),
-            Line::Awaited(_) => self.outbox.push(bytes),
+            Line::Awaited(_) => frame.queue(&mut self.outbox, bytes),
             Line::Closed => Ok(()),
         };
         match sent {
