@@ -51,6 +51,16 @@ moves Covers Ours (Some before) old (Some after) new =
 abbrev pub Moves : Type 0 → Type 0 → KeptSeen → KeptSeen → Type 0
 Moves Covers Ours old new = moves Covers Ours old.saves old.disk new.saves new.disk
 
+-- an image of this book was to be saved, whatever became of that
+abbrev pub has_saved : BookState → Option Saves → DiskSeen → Option Saves → DiskSeen → Type 0
+has_saved b None old after new = Unit {0}
+has_saved b (Some before) old None new = ⊥
+has_saved b (Some before) old (Some after) new = (attempt : Attempt)
+    × IsAttempted (IsOfBook b) attempt (time before old) (time after new)
+
+abbrev pub HasSaved : BookState → KeptSeen → KeptSeen → Type 0
+HasSaved b old new = has_saved b old.saves old.disk new.saves new.disk
+
 -- what became of the save of the ending book; without a saver there was none
 abbrev pub end_kept : End → Option Attempt → Option Saves → DiskSeen → Option Saves → DiskSeen → Type 0
 end_kept end last None old after new = last ≡ None

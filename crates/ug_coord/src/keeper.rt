@@ -3,7 +3,7 @@
 ghost use Rattle.std.specs.Prelude.{◌≡◌};
 ghost use Rattle.ug_rules.specs.Books.{IsSoundBook};
 ghost use Rattle.ug_restart.specs.Outcomes.{IfBook};
-ghost use Rattle.ug_coord.specs.Keeping.{HasTried, IsEndKept, IsKeptBy, IsOurs, Moves, missed_by};
+ghost use Rattle.ug_coord.specs.Keeping.{HasSaved, HasTried, IsEndKept, IsKeptBy, IsOurs, Moves, missed_by};
 ghost use Rattle.ug_coord.specs.Keeping.{unsaved_by};
 ghost use Rattle.ug_coord.specs.Keepers.{kept_seen};
 
@@ -28,6 +28,8 @@ impl Keeper {
             (IsOurs (kept_seen self.old (D.seen disk.old)) book.now)
             (kept_seen self.old (D.seen disk.old)) (kept_seen self.new (D.seen disk.new)) }
         ensures tried { HasTried 1 (kept_seen self.old (D.seen disk.old))
+            (kept_seen self.new (D.seen disk.new)) }
+        ensures saved { HasSaved book.now (kept_seen self.old (D.seen disk.old))
             (kept_seen self.new (D.seen disk.new)) }
     {
         match &mut self.saves {

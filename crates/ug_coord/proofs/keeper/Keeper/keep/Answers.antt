@@ -4,7 +4,7 @@ use Rattle.ug_book.specs.Views.{IsSameRun}
 use Rattle.ug_restart.specs.Going.{time}
 use Rattle.ug_restart.specs.Saves.{IsOfBook, book_of}
 use Rattle.ug_restart.specs.declared.saves.Saves.{Saves}
-use Rattle.ug_coord.specs.Keeping.{has_tried}
+use Rattle.ug_coord.specs.Keeping.{has_saved, has_tried}
 use Rattle.ug_coord.proofs.Tries.{attempted_tries, none_fell}
 use Rattle.ug_coord.proofs.keeper.Keeper.keep.Goals as goal
 
@@ -17,3 +17,11 @@ returns-in-Some-clause-tried g c =
     (attempted_tries (IsOfBook c.args.book.now) c.finish.result old new c.finish.ensures.became
     (none_fell (IsSoundBook c.args.book.now) (IsSameRun (book_of c.in-Some.saves) c.args.book.now) old new
     c.finish.ensures.goes_on))
+
+pub returns-in-Some-clause-saved : goal.returns-in-Some-clause-saved
+returns-in-Some-clause-saved g c =
+    let seen = g.D.Disk.seen c.args.disk.now in
+    let then = g.D.Disk.seen c.finish.new.disk in
+    let same : Some c.in-Some.saves ≡ c.args.self.now.saves = search rules in
+    subst (λ (s : Option Saves). has_saved c.args.book.now s seen (Some c.finish.new.self) then) same
+    (c.finish.result, c.finish.ensures.became)
