@@ -33,7 +33,7 @@ use Rattle.ug_worker.proofs.Quiet.{handed_below, quiet_same}
 use Rattle.ug_worker.specs.declared.tally.Renewal.{Renewal}
 use Rattle.ug_worker.specs.declared.tally.Tally.{Tally}
 use Rattle.ug_worker.specs.Engagements.{Engaged, HasTaken, IsFoundBy, IsDoneBy, IsHandedBy, IsReplied, IsSince, IsStatedBy, is_replied, Stands, lowered, under}
-use Rattle.ug_worker.specs.Renewals.{begun, counted, fresh}
+use Rattle.ug_worker.specs.Renewals.{begun, counted, fresh, usual}
 use Rattle.ug_desk.specs.Entries.{LockedState}
 use Rattle.ug_desk.specs.Histories.{Call, Entry, copied, ended, handed, left, offered, stated, taken}
 use Rattle.ug_desk.specs.Dones.{IsOfTicket}
@@ -199,14 +199,14 @@ come_still after p q stage h come o opened =
     }
 
 -- a worker sits down
-pub come_sat : (renewal : Option Renewal) (p : PassState) → HasCome p Away
-    → HasCome p (Free (fresh renewal))
-come_sat renewal p come o opened =
+pub come_sat : (renewal : Option Renewal) (p : PassState) → IfSome renewal (λ rule. rule ≡ usual)
+    → HasCome p Away → HasCome p (Free (fresh renewal))
+come_sat renewal p is come o opened =
     let at = come o opened in
     record {
       course = record {
         deeds = Sat renewal ∷ at.course.deeds;
-        lead = (Away, at.course.lead, refl, tt);
+        lead = (Away, at.course.lead, refl, is);
         calls = at.course.calls;
         within = at.course.within;
       };

@@ -1,5 +1,5 @@
 -- A line of deeds of a worker at a desk, each with what stood when it was done.
-use Rattle.std.specs.Prelude.{◌≡◌, ℕ, ◌≤◌, false, List, [], ◌∷◌, ◌++◌, Ok}
+use Rattle.std.specs.Prelude.{◌≡◌, ℕ, ◌≤◌, false, List, [], ◌∷◌, ◌++◌, Ok, IfSome}
 use mathlib.Core.List.{IsPrefix}
 use Rattle.ug_ranks.specs.Looks.{is_alive}
 use Rattle.ug_ranks.specs.States.{state_at}
@@ -9,7 +9,8 @@ use Rattle.ug_desk.specs.Entries.{IsReplayed, LockedState}
 use Rattle.ug_desk.specs.Histories.{Entry, stated}
 use Rattle.ug_desk.specs.Passes.{calls_of}
 use Rattle.ug_desk.specs.Words.{floor_of, word_at}
-use Rattle.ug_threads.specs.Deeds.{Away, Called, Deed, Does, EndedInVain, LeftInVain, Read, Stage}
+use Rattle.ug_worker.specs.Renewals.{usual}
+use Rattle.ug_threads.specs.Deeds.{Away, Called, Deed, Does, EndedInVain, LeftInVain, Read, Sat, Stage}
 
 -- the entries that the history has of the deeds of pass r, in order
 abbrev pub entries_in : ℕ → List Deed → List Entry
@@ -34,7 +35,9 @@ pub record HasStood (o : Opening) (r : ℕ) (past : List Deed) (history : List E
 
 -- No cutoff that was read before is below the one that is replied. The end of a task is reported in
 -- vain if the task was not of the rank's ticket, and a worker leaves in vain if its rank was dead.
+-- A worker releases tasks by the program's rule, or never.
 abbrev pub IsInLine : Opening → ℕ → List Deed → Deed → Type 0
+IsInLine o r past (Sat renewal) = IfSome renewal (λ rule. rule ≡ usual)
 IsInLine o r past (Called (stated count low (Ok reply))) =
     AreReadAbove o (word_at (floor_of o.problem) reply.cutoff) past
 IsInLine o r past (EndedInVain task history) =

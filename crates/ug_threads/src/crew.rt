@@ -1,6 +1,7 @@
 //! The threads of a solve, one for each pass.
 
-ghost use Rattle.std.specs.Prelude.{◌≡◌, [], length, IfOk};
+ghost use Rattle.std.specs.Prelude.{◌≡◌, [], length, IfOk, IfSome};
+ghost use Rattle.ug_worker.specs.Renewals.{usual};
 ghost use Rattle.ug_threads.specs.Places.{IsAt, IsAtOf};
 ghost use Rattle.ug_threads.specs.Rooms.{AreAllAt};
 ghost use Rattle.ug_threads.specs.Crews.{ArePassesAt, HasStarted, IsCrewAt, IsNewCrew, IsPassAt, count_of};
@@ -271,8 +272,10 @@ fn sit<R: Wait, O: Observer>(
     seat.into_pass()
 }
 
-// Whether tasks are renewed. Without a checkpoint nothing is gained by it.
-fn renewal_for(pace: &Pace) -> Option<Renewal> {
+// Returns the rule by which tasks are released. Without a checkpoint nothing is gained by it.
+fn renewal_for(pace: &Pace) -> Option<Renewal>
+    ensures { IfSome result (λ rule. rule ≡ usual) }
+{
     if pace.is_wanted() {
         return Some(Renewal::usual());
     }

@@ -8,7 +8,7 @@ ghost use Rattle.ug_restart.specs.Saves.{missed_of, opening_of, saver_of, unsave
 ghost use Rattle.ug_restart.specs.Moments.{AllCovered, FindsIn, IsCoveredNow, IsFoundNow, IsOfRun};
 ghost use Rattle.ug_restart.specs.Going.{GoesOn, time};
 ghost use Rattle.ug_restart.specs.Outcomes.{IsMissedByFaults, IsSavedOrCounted, IsUntouched};
-ghost use Rattle.ug_threads.specs.Outcomes.{HasEnded};
+ghost use Rattle.ug_threads.specs.Outcomes.{HasEnded, IsSavedLast};
 
 use crate::ending::end_of;
 use crate::listener::{Saving, Silent};
@@ -185,6 +185,8 @@ fn conclude<'a, R: Threads + Wait + Sync, D: Disk, O: Observer>(
     ensures ended { HasEnded (opening_book opening.now) result.outcome.end }
     ensures saved { IsSavedOrCounted result.outcome (D.seen result.kept.disk.now).told }
     ensures missed { result.outcome.missed ≡ missed_of result.kept.saves }
+    ensures last { IsSavedLast (time listener.entry.saves (D.seen listener.entry.disk.now))
+        result.outcome (time result.kept.saves (D.seen result.kept.disk.now)) }
     ensures goes_on { GoesOn (IsSoundBook (opening_book opening.now)) (Unit {0})
         (time listener.entry.saves (D.seen listener.entry.disk.now))
         (time result.kept.saves (D.seen result.kept.disk.now)) }

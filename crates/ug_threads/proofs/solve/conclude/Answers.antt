@@ -33,3 +33,12 @@ returns-clause-goes_on g c =
     both_go (opening_book c.args.opening.now) c.args.opening.now c.end_of-end.result _ _ _
     refl c.requires.saves ended c.solve-solved.ensures.moves.1
     c.save_end-last.ensures.goes_on
+
+pub returns-clause-last : goal.returns-clause-last
+returns-clause-last g c = record {
+  then = _;
+  opening = c.solve-solved.ensures.moves.1.opening;
+  missed = c.solve-solved.ensures.moves.1.missed;
+  became = c.save_end-last.ensures.became;
+  unsaved = c.unsaved-unsaved.ensures;
+}
