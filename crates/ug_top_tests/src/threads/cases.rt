@@ -87,3 +87,10 @@ pub const RAMP: Small<'static> = Small {
     rows: &[],
     objective: &[-1],
 };
+
+/// Three columns of which every point is as good as any.
+pub const FLAT: Small<'static> = Small {
+    columns: &[(0, 1), (0, 1), (0, 1)],
+    rows: &[],
+    objective: &[],
+};

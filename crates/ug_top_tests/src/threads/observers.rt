@@ -40,6 +40,28 @@ pub fn one_asks_again() -> [Hold; 3] {
     [first, second, third]
 }
 
+/// In a race of two, rank 0 asks first, and rank 1 has its task before rank 0 reports its first point,
+/// but begins after that report. The next report is rank 1's.
+pub fn second_begins_late() -> [Hold; 3] {
+    let turns = 1_000_000_000;
+    let first = Hold {
+        at: coming(1, Moment::Asking, 1),
+        until: coming(0, Moment::Answered, 1),
+        turns,
+    };
+    let second = Hold {
+        at: coming(1, Moment::Answered, 1),
+        until: coming(0, Moment::Answered, 3),
+        turns,
+    };
+    let third = Hold {
+        at: coming(0, Moment::Asking, 4),
+        until: coming(1, Moment::Answered, 2),
+        turns,
+    };
+    [first, second, third]
+}
+
 fn pass_by<O: Observer>(observer: &O, rank: u32, times: u32) {
     for _ in 0..times {
         observer.pass(rank, Moment::Asking);

@@ -1,10 +1,10 @@
 use crate::expect::{holds, holds_at, same};
 use crate::running::sound_disk;
 use crate::threads::answer::{Answer, answer_of};
-use crate::threads::cases::{CHOICE, KNAPSACK, LONG, ODD, RAMP, SQUARE};
+use crate::threads::cases::{CHOICE, FLAT, KNAPSACK, LONG, ODD, RAMP, SQUARE};
 use crate::threads::family::Member;
 use crate::threads::holding::HoldingObserver;
-use crate::threads::observers::{each_waits, one_asks_again};
+use crate::threads::observers::{each_waits, one_asks_again, second_begins_late};
 use crate::threads::problems::Small;
 use crate::threads::solving::{settings, solved, solved_on, solved_without};
 use crate::threads::trying::least_by_trying;
@@ -63,6 +63,27 @@ fn node_is_handed_to_a_rank_that_waits(rt: HostRuntime) {
     holds(&rt, outcome.as_ref().is_some_and(two_are_held));
     same(&rt, &observer.missed(), &0);
     drop(outcome);
+    drop(observer);
+}
+
+// The number of reports of a run that ended with an answer.
+fn reports_of(outcome: &Outcome) -> Option<u64> {
+    match &outcome.end {
+        End::Answered(book) => Some(book.heard()),
+        _ => None,
+    }
+}
+
+// Rank 1 reads the cutoff of rank 0's point before its first step, so it has no point to report. Two
+// reports answer the run: that point, and the end of rank 1's task.
+#[test]
+fn cutoff_is_read_before_the_first_step(rt: HostRuntime) {
+    let observer = HoldingObserver::new(rt.alloc(), 2, &second_begins_late()).expect(&rt, "memory");
+    let limits = settings(2, true, u64::MAX);
+    let outcome = solved_without(&rt, rt.alloc(), &FLAT, limits, &observer);
+    same(&rt, &outcome.as_ref().and_then(reports_of), &Some(2));
+    drop(outcome);
+    same(&rt, &observer.missed(), &0);
     drop(observer);
 }
 
