@@ -7,7 +7,7 @@ use std::io;
 use std::io::{ErrorKind, Read, Write};
 use std::os::unix::fs::FileExt;
 
-// What a call gave, or nothing where a signal interrupted it before it had done anything.
+// Returns the result of a call, or `None` if a signal interrupted it before it did anything.
 fn unless_interrupted(got: io::Result<usize>) -> Option<io::Result<usize>>
     ensures given { IfSome result (λ given. given ≡ got) }
     ensures interrupted { IsNone result → IsErr got }
@@ -19,12 +19,12 @@ fn unless_interrupted(got: io::Result<usize>) -> Option<io::Result<usize>>
     Some(got)
 }
 
-// The error of a call that signals interrupt at each try.
+// Returns the error of a call that a signal interrupted at each try.
 fn interrupted() -> io::Error {
     io::Error::from(ErrorKind::Interrupted)
 }
 
-/// Reads some bytes, and tries again where a signal interrupts the call.
+/// Reads some bytes and returns their number. Repeats the call if a signal interrupts it.
 pub fn read<F: Read>(from: &mut F, buffer: &mut [u8]) -> io::Result<usize>
     ensures { IfOk result (λ n. n ≤ length buffer.new) }
 {
@@ -36,7 +36,8 @@ pub fn read<F: Read>(from: &mut F, buffer: &mut [u8]) -> io::Result<usize>
     Err(interrupted())
 }
 
-/// Reads some bytes from a place on, and tries again where a signal interrupts the call.
+/// Reads some bytes of the file from a place on and returns their number. Repeats the call if a
+/// signal interrupts it.
 pub fn read_at(file: &File, buffer: &mut [u8], at: u64) -> io::Result<usize>
     ensures { IfOk result (λ n. n ≤ length buffer.new) }
 {
@@ -48,7 +49,7 @@ pub fn read_at(file: &File, buffer: &mut [u8], at: u64) -> io::Result<usize>
     Err(interrupted())
 }
 
-/// Writes some of the bytes, and tries again where a signal interrupts the call.
+/// Writes some of the bytes and returns their number. Repeats the call if a signal interrupts it.
 pub fn write<W: Write>(to: &mut W, bytes: &[u8]) -> io::Result<usize>
     ensures within { IfOk result (λ n. n ≤ length bytes.now) }
     ensures written { WriteAppends (W.contents to.old) (W.contents to.new) result bytes.now }

@@ -3,7 +3,7 @@ ghost use Rattle.std.specs.Prelude.{◌≡◌, true, IsErr};
 use std::io;
 use std::io::ErrorKind;
 
-/// Whether the call failed, and for this cause.
+/// Did the call fail for this cause?
 pub fn failed_by<T>(got: &io::Result<T>, cause: ErrorKind) -> bool
     ensures { result ≡ true → IsErr got.now }
 {

@@ -2,34 +2,35 @@ use std::os::unix::process::ExitStatusExt;
 use std::process::ExitStatus;
 use std::{fmt, io};
 
-/// Why a rank of a crew is gone.
+/// Why a rank of a crew is lost.
 #[derive(Drop)]
 pub enum Departure {
-    /// It could not be started, or its connection could not be taken.
+    /// It could not be started, or its connection could not be accepted.
     Unstarted(io::Error),
     /// A signal of this number ended it.
     Killed(i32),
     /// It ended with this status.
     Ended(i32),
-    /// Memory was wanting for what it was to be told.
+    /// Bytes for it could not be queued: out of memory, or no child has this rank.
     Untold(io::Error),
     /// A write to its connection failed, and it did not end.
     Cut(io::Error),
     /// It closed its connection, or its standard input before it had one, and did not end.
     HungUp,
-    /// It ended, and the system does not tell how.
+    /// It ended, and its status is not known.
     Lost,
 }
 
-/// Who is told why a rank is gone, once each time that one is, and of one that is stopped.
+/// Receives the loss of each rank, once, and of each rank that is stopped.
 pub trait Watcher {
+    /// The rank is lost, for this reason.
     fn gone(&mut self, rank: u32, why: &Departure);
 
-    /// The rank has sent nothing for so many seconds, and the system says that it is stopped.
+    /// The rank has sent nothing for `seconds`, and the system reports that it is stopped.
     fn silent(&mut self, rank: u32, seconds: u64);
 }
 
-/// How a child with this status ended.
+/// Returns how a child with this status ended.
 pub fn end_of(status: ExitStatus) -> Departure {
     match (status.signal(), status.code()) {
         (Some(signal), _) => Departure::Killed(signal),
@@ -38,7 +39,7 @@ pub fn end_of(status: ExitStatus) -> Departure {
     }
 }
 
-// Words, and what they are of.
+// Writes words and what they refer to.
 fn put<W: fmt::Write, T: fmt::Display>(
     f: &mut fmt::Formatter<W>,
     words: &str,

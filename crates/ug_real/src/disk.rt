@@ -8,8 +8,8 @@ use std::io;
 use ug_disk::{Disk, Slot};
 use ug_io::Failed;
 
-/// The files of a folder as a disk, which tells what the folder tells. Want of memory is a fault
-/// like any other.
+/// The files of a folder as a disk. It shows the history that the folder shows. Out of memory
+/// counts as a fault, as any other failure.
 #[derive(Drop)]
 pub struct FileDisk<F: Folder + Drop> {
     faults: Faults,
@@ -17,7 +17,7 @@ pub struct FileDisk<F: Folder + Drop> {
 }
 
 impl<F: Folder + Drop> FileDisk<F> {
-    /// The slots of this folder. No call has failed yet.
+    /// Returns the disk of this folder, with no call failed yet.
     pub fn new(folder: F) -> FileDisk<F>
         ensures folder { result.folder ≡ folder }
         ensures faults { result.faults.count ≡ 0 }
@@ -28,14 +28,14 @@ impl<F: Folder + Drop> FileDisk<F> {
         }
     }
 
-    /// The folder.
+    /// Returns the folder.
     pub fn folder(&self) -> &F
         ensures { result.now ≡ self.now.folder }
     {
         &self.folder
     }
 
-    /// Why the last call failed that did, in the system's words.
+    /// Returns the system's error of the last failed call, if a call has failed.
     pub fn error(&self) -> Option<&io::Error> {
         self.faults.last.as_ref()
     }

@@ -4,14 +4,17 @@ ghost use Rattle.ug_io.specs.Outside.{IsCounted, Rose};
 use std::io;
 use ug_io::Failed;
 
-/// How many calls failed, and why the last of them did.
+/// The number of failed calls, and the error of the last one.
 #[derive(Drop)]
 pub struct Faults {
+    /// The number of failed calls, up to its largest value.
     pub count: u64,
+    /// The error of the last call whose error was recorded.
     pub last: Option<io::Error>,
 }
 
 impl Faults {
+    /// Returns the state before the first call.
     pub fn new() -> Faults
         ensures { result.count ≡ 0 }
     {
@@ -21,7 +24,7 @@ impl Faults {
         }
     }
 
-    /// One fault more. The count stands still at its greatest value.
+    /// Counts a fault, up to the largest count, and records its error.
     pub fn add(&mut self, error: io::Error) -> Failed
         ensures { Rose self.old.count self.new.count }
     {
@@ -29,7 +32,7 @@ impl Faults {
         self.rise()
     }
 
-    /// One fault more, whose cause is told elsewhere.
+    /// Counts a fault whose cause is reported elsewhere.
     pub fn rise(&mut self) -> Failed
         ensures { Rose self.old.count self.new.count }
     {
@@ -37,7 +40,7 @@ impl Faults {
         Failed
     }
 
-    /// What a call gave, its error counted.
+    /// Returns the result of a call. If it is an error, counts and records it.
     pub fn counted<T: Drop>(&mut self, got: io::Result<T>) -> Result<T, Failed>
         ensures given { IfOk result (λ x. got ≡ Ok x) }
         ensures failed { OnErr result (IsErr got) }

@@ -7,20 +7,21 @@ ghost use Rattle.ug_real.specs.Folders.{FolderSeen, IsSettled};
 use std::io;
 use ug_disk::Slot;
 
-/// The files of both slots in a folder, by the calls that a system has for them: what a disk is
-/// made of. A file and its name in the folder reach the disk each by a sync of its own.
+/// The files of both slots in a folder, by the calls of the operating system. A disk is built on
+/// it. A file and its name in the folder each reach the disk by a sync of their own.
 pub trait Folder {
-    /// What became of the slots so far, and whose file is on the disk.
+    /// The history of the slots so far, and the slot whose file was synced and not written since;
+    /// both only if the folder shows them.
     ghost seen: { Self → FolderSeen };
 
-    /// How many bytes the slot's file has.
+    /// Returns the length of the slot's file in bytes.
     fn len(&mut self, slot: Slot) -> io::Result<u64>
         ensures len { IfOk result (λ n. Reads (seen self.old).told slot
             (λ bytes. n ≡ length bytes)) }
         ensures same { (seen self.new).told ≡ (seen self.old).told }
         ensures real { AreReal (seen self.old).told };
 
-    /// Reads some of its bytes from a place on into the front of the buffer, and says how many. For
+    /// Reads some of the file's bytes from a place on into the buffer and returns their number. For
     /// a buffer that is not empty, 0 is the end.
     fn read_at(&mut self, slot: Slot, at: u64, buffer: &mut [u8]) -> io::Result<usize>
         ensures within { IfOk result (λ n. n ≤ length buffer.new) }
@@ -31,7 +32,7 @@ pub trait Folder {
         ensures same { (seen self.new).told ≡ (seen self.old).told }
         ensures real { AreReal (seen self.old).told };
 
-    /// Writes all of the bytes over those of the file from a place on, and past their end.
+    /// Overwrites the file's bytes from a place on, and extends them.
     fn write_at(&mut self, slot: Slot, at: u64, bytes: &[u8]) -> io::Result<()>
         requires { Reads (seen self.old).told slot (λ bytes. at ≤ length bytes) }
         ensures ok { OnOk result (Steps (seen self.old).told (seen self.new).told slot
@@ -41,7 +42,7 @@ pub trait Folder {
         ensures real { AreReal (seen self.old).told };
 
     /// Waits until the bytes of the slot's file are on the disk. A crash may still leave what it
-    /// could leave before, since the folder need not have the file's name.
+    /// could leave before, since the file's name in the folder may not be on the disk.
     fn sync_file(&mut self, slot: Slot) -> io::Result<()>
         ensures ok { OnOk result (IsSettled (seen self.new) slot) }
         ensures same { OnOk result ((seen self.new).told ≡ (seen self.old).told) }
@@ -49,8 +50,8 @@ pub trait Folder {
             (λ state. state)) }
         ensures real { AreReal (seen self.old).told };
 
-    /// Waits until the names in the folder are on the disk. A crash then leaves what a read gives
-    /// of the slot whose file is.
+    /// Waits until the names in the folder are on the disk. After it, a crash leaves what a read
+    /// returns of the slot whose file is synced.
     fn sync_folder(&mut self) -> io::Result<()>
         ensures ok { OnOk result ((slot : Slot) → IsSettled (seen self.old) slot
             → Steps (seen self.old).told (seen self.new).told slot (λ state. synced state.bytes)) }

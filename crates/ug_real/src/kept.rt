@@ -1,7 +1,7 @@
 use std::io;
 use ug_disk::Slot;
 
-/// What is kept of each slot from the first call on it.
+/// One value for each slot, stored by the first call that needs it.
 #[derive(Drop)]
 pub struct Kept<T: Drop> {
     zero: Option<T>,
@@ -9,6 +9,7 @@ pub struct Kept<T: Drop> {
 }
 
 impl<T: Drop> Kept<T> {
+    /// Returns the state with no value stored.
     pub fn new() -> Kept<T> {
         Kept {
             zero: None,
@@ -16,7 +17,7 @@ impl<T: Drop> Kept<T> {
         }
     }
 
-    /// What is kept of the slot.
+    /// Returns the value stored for the slot, if there is one.
     pub fn of(&self, slot: Slot) -> Option<&T> {
         match slot {
             Slot::Zero => self.zero.as_ref(),
@@ -24,7 +25,7 @@ impl<T: Drop> Kept<T> {
         }
     }
 
-    /// Keeps what was got of the slot.
+    /// Stores a value for the slot and returns it, or returns the error and stores nothing.
     pub fn keep(&mut self, slot: Slot, got: io::Result<T>) -> io::Result<&T> {
         match slot {
             Slot::Zero => keep(&mut self.zero, got),
@@ -33,7 +34,7 @@ impl<T: Drop> Kept<T> {
     }
 }
 
-/// Keeps what was got in its place.
+/// Stores a value in the place and returns it, or returns the error and stores nothing.
 pub fn keep<T: Drop>(place: &mut Option<T>, got: io::Result<T>) -> io::Result<&T> {
     match got {
         Ok(value) => Ok(place.insert(value)),

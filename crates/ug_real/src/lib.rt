@@ -1,14 +1,18 @@
-//! The outside as it is: files as a source and as a disk, standard output as a sink, a Unix socket
-//! as a link, and child programs as a crew. It stands on ug_io and ug_disk, on mio for readiness
-//! and on slab for connections. `Reader`, `Writer`, `FileDisk`, `SocketLink` and `ProcessCrew` keep
-//! the contracts of the traits that they fill; each call that fails raises their count of faults,
-//! and its reason is kept. A `FileDisk` stands on a `Folder`, whose contract is what is asked of a
-//! system: with one that tells what became of its files it keeps all that a disk promises. The real
-//! ones tell nothing of bytes: what a real file or socket gives and what a terminal takes, no
-//! contract can say. A `ProcessCrew` is a `Pack`: a `Herd` of `Peer`s behind one poll. A peer is a
-//! connection with an `Outbox`, where what the child does not take waits, and a `Ward`, the child
-//! itself. Dropping a ward ends its child, and dropping the `SocketFile` of a child that has not
-//! come removes it, so none is left.
+//! Implementations of the traits of ug_io and ug_disk by the operating system: files as a source
+//! and as a disk, standard output as a sink, a Unix socket as a link, and child programs as a crew.
+//! Depends on ug_io and ug_disk, on mio for readiness and on slab for connections.
+//!
+//! `Reader`, `Writer`, `FileDisk`, `SocketLink` and `ProcessCrew` satisfy the contracts of their
+//! traits. Each failed call raises the count of faults, and its error is recorded. A `FileDisk` is
+//! built on a `Folder`, whose contract states what is required of a system: over a folder that
+//! shows the history of its files, the disk satisfies the whole contract of `Disk`. The real
+//! implementations show no bytes: no contract can say what a real file or socket returns, or what a
+//! terminal accepts.
+//!
+//! A `ProcessCrew` has a `Pack`: a `Herd` of `Peer`s behind one poll. A peer is one child: its
+//! connection, an `Outbox` that holds the bytes not written yet, and a `Ward`, the child process.
+//! Dropping a ward ends its process, and dropping the `SocketFile` of a child that has not
+//! connected removes the file, so none is left.
 #![tactic(auto)]
 
 mod again;

@@ -17,21 +17,21 @@ pub struct Outbox {
     alloc: Global,
     // Bytes that go before the others, in memory that other outboxes share.
     ahead: Option<SharedBytes>,
-    // The number of those that went.
+    // The number of those that are written.
     gone: usize,
     bytes: Vec<u8>,
-    // The number of these that went.
+    // The number of these that are written.
     sent: usize,
-    // The other end takes nothing any more.
+    // The other end accepts nothing any more.
     is_closed: bool,
     ghost within: { sent ≤ length bytes.items },
     ghost gone_within: { ForSome ahead (λ all. gone ≤ length all) },
 }
 
-/// Why bytes neither went nor wait to go.
+/// Why bytes were neither written nor queued.
 #[derive(Drop)]
 pub enum Unsent {
-    /// Out of memory for those that have to wait.
+    /// Out of memory for the bytes that must wait.
     Memory,
     /// A write failed.
     Cut(io::Error),
@@ -62,7 +62,7 @@ pub fn write_out<W: Write>(to: &mut W, bytes: &[u8]) -> io::Result<usize>
 impl Outbox {
     ghost use Rattle.ug_real.specs.Outboxes.{HasWritten, IsUnsent, own_waiting, rest_of, waiting};
 
-    /// Nothing waits.
+    /// Returns an empty outbox.
     pub fn new(alloc: Global) -> Outbox
         ensures { waiting result ≡ [] }
     {
@@ -76,14 +76,15 @@ impl Outbox {
         }
     }
 
-    // Returns the bytes that did not go yet, but for the shared ones.
+    // Returns the bytes not written yet, but for the shared ones.
     fn rest(&self) -> &[u8]
         ensures { result.now ≡ own_waiting self.now }
     {
         self.bytes.get(self.sent..).unwrap_or(&[])
     }
 
-    // Forgets what went. Moves the rest only if as much went at least.
+    // Removes the written bytes, but for the shared ones. It moves the rest only if at least as many
+    // bytes were written.
     fn forget(&mut self)
         ensures waiting { own_waiting self.new ≡ own_waiting self.old }
         ensures ahead { self.new.ahead ≡ self.old.ahead }
@@ -100,7 +101,7 @@ impl Outbox {
         }
     }
 
-    // Drops the bytes but the shared ones, and most of their memory.
+    // Drops all bytes but the shared ones, and the buffer if it is large.
     fn empty(&mut self)
         ensures waiting { own_waiting self.new ≡ [] }
         ensures ahead { self.new.ahead ≡ self.old.ahead }
@@ -115,7 +116,7 @@ impl Outbox {
         self.sent = 0;
     }
 
-    /// Drops all bytes. It takes no more from now on.
+    /// Drops all bytes, and accepts no more.
     pub fn close(&mut self)
         ensures waiting { waiting self.new ≡ [] }
         ensures closed { self.new.is_closed ≡ true }
@@ -126,7 +127,8 @@ impl Outbox {
         self.is_closed = true;
     }
 
-    /// Queues the bytes behind the others, unless it is closed.
+    /// Queues the bytes behind the others. A closed outbox drops them. If memory runs out nothing
+    /// is queued.
     pub fn push(&mut self, bytes: &[u8]) -> Result<(), Unsent>
         ensures ok { OnOk result (self.old.is_closed ≡ false
             → waiting self.new ≡ waiting self.old ++ bytes.now) }
@@ -143,8 +145,8 @@ impl Outbox {
         }
     }
 
-    /// Queues bytes that others share behind the others, unless it is closed. Copies them if bytes
-    /// wait already.
+    /// Queues shared bytes behind the others. Copies them if bytes wait already. A closed outbox drops
+    /// them. If memory runs out nothing is queued.
     pub fn push_shared(&mut self, bytes: SharedBytes) -> Result<(), Unsent>
         ensures ok { OnOk result (self.old.is_closed ≡ false
             → waiting self.new ≡ waiting self.old ++ bytes) }
@@ -173,7 +175,7 @@ impl Outbox {
         self.ahead.is_some() || !self.rest().is_empty()
     }
 
-    /// Sends what can go for now. It closes if a write fails.
+    /// Writes as many bytes as can be written now. Closes the outbox if a write fails.
     pub fn flush<W: Write>(&mut self, to: &mut W) -> io::Result<()>
         ensures ok { OnOk result (HasWritten (W.contents to.old) (W.contents to.new)
             (waiting self.old) (waiting self.new)) }
@@ -188,7 +190,7 @@ impl Outbox {
         }
     }
 
-    // Sends what can go for now.
+    // Writes as many bytes as can be written now.
     fn flush_all<W: Write>(&mut self, to: &mut W) -> io::Result<()>
         ensures ok { OnOk result (HasWritten (W.contents to.old) (W.contents to.new)
             (waiting self.old) (waiting self.new)) }
@@ -200,7 +202,7 @@ impl Outbox {
         }
     }
 
-    // Returns the shared bytes that did not go yet.
+    // Returns the shared bytes not written yet.
     fn rest_ahead(&self) -> &[u8]
         ensures { result.now ≡ rest_of self.now.ahead self.now.gone }
     {
@@ -210,7 +212,7 @@ impl Outbox {
         }
     }
 
-    // Forgets this number of the shared bytes, which went. Returns true if none of them is left.
+    // Removes this number of shared bytes, which are written. Returns true if none of them is left.
     #[tactic(auto, using(crate::proofs::Writing::rest_dropped, crate::proofs::Writing::none_left))]
     fn forget_ahead(&mut self, count: usize) -> bool
         requires { count ≤ length (rest_of self.old.ahead self.old.gone) }
@@ -231,7 +233,7 @@ impl Outbox {
         true
     }
 
-    // Sends what can go for now of the shared bytes. Returns true if none of them is left.
+    // Writes as many shared bytes as can be written now. Returns true if none of them is left.
     fn flush_ahead<W: Write>(&mut self, to: &mut W) -> io::Result<bool>
         ensures ok { OnOk result (HasWritten (W.contents to.old) (W.contents to.new)
             (waiting self.old) (waiting self.new)) }
@@ -243,7 +245,7 @@ impl Outbox {
         }
     }
 
-    // Sends what can go for now of the others.
+    // Writes as many of the others as can be written now.
     fn flush_own<W: Write>(&mut self, to: &mut W) -> io::Result<()>
         requires { self.old.ahead ≡ None }
         ensures ok { OnOk result (HasWritten (W.contents to.old) (W.contents to.new)
@@ -259,8 +261,8 @@ impl Outbox {
         }
     }
 
-    /// Sends the bytes behind the others as far as they can go for now, and queues the rest, unless
-    /// it is closed. It closes if a write fails.
+    /// Writes as many of the bytes as can be written now, behind the queued ones, and queues the
+    /// rest. A closed outbox drops them. Closes the outbox if a write fails.
     pub fn send<W: Write>(&mut self, to: &mut W, bytes: &[u8]) -> Result<(), Unsent>
         ensures ok { OnOk result (self.old.is_closed ≡ false
             → HasWritten (W.contents to.old) (W.contents to.new)

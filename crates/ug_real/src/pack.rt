@@ -17,22 +17,24 @@ use std::time::Clock;
 /// How the children of a crew are started.
 #[derive(Clone, Copy)]
 pub struct Children<'a> {
-    /// The program that each of them is.
+    /// The path of the program that each child runs.
     pub program: &'a str,
-    /// Where the folder is in which each comes to its socket.
+    /// The place of the folder with the sockets to which the children connect.
     pub sockets: SocketFolder<'a>,
 }
 
-/// Children, each at the other end of a socket, behind one poll.
+/// Children at the other ends of sockets, behind one poll.
 #[derive(Drop)]
 pub struct Pack<'a, R: Files<File = File>, W: Drop> {
+    /// Declared before `starter`, so that the sockets are removed before their folder.
     // Before the starter: its sockets go before their folder.
     pub herd: Herd<SocketFile<'a, R>>,
     starter: Starter<'a, R>,
+    /// Receives the losses of ranks.
     pub watcher: W,
 }
 
-// What starts the children.
+// Starts the children.
 #[derive(Drop)]
 struct Starter<'a, R: Files<File = File>> {
     alloc: Global,
@@ -42,7 +44,7 @@ struct Starter<'a, R: Files<File = File>> {
 }
 
 impl<'a, R: Files<File = File> + Processes<Started = SystemProcess>> Starter<'a, R> {
-    // Starts the child that is this rank and is to come to this door. The herd has room for it.
+    // Starts the child of this rank, which connects to this door. The herd has room for it.
     fn start_at(
         &self,
         rank: u32,
@@ -65,7 +67,7 @@ impl<'a, R> Starter<'a, R>
 where
     R: Files<File = File> + Net + Processes<Started = SystemProcess>,
 {
-    // Starts the child that is this rank. The herd has room for it.
+    // Binds a socket and starts the child of this rank. The herd has room for it.
     fn start(&mut self, rank: u32, herd: &mut Herd<SocketFile<'a, R>>) -> io::Result<()>
         requires { HasRoomFor herd.old.peers 1 }
     {
@@ -81,6 +83,7 @@ where
     R: Files<File = File> + Net + Processes<Started = SystemProcess> + Clock,
     W: Watcher + Drop,
 {
+    /// Returns a crew without children. The folder of the sockets is made at the first launch.
     pub fn new(rt: &'a R, alloc: Global, children: Children<'a>, watcher: W) -> Pack<'a, R, W> {
         Pack {
             starter: Starter {
@@ -94,7 +97,7 @@ where
         }
     }
 
-    /// Starts the child that is this rank.
+    /// Starts the child of this rank.
     pub fn launch(&mut self, rank: u32) -> io::Result<()> {
         let opened = self.herd.open(self.starter.rt, self.starter.alloc);
         if opened.is_err() {
@@ -103,7 +106,8 @@ where
         self.starter.start(rank, &mut self.herd)
     }
 
-    /// Waits until bytes come from a rank, or one is gone.
+    /// Waits until bytes come from a rank or one is lost. Removes a lost one and reports it to the
+    /// watcher.
     pub fn turn(&mut self, buffer: &mut [u8]) -> io::Result<Heard>
         ensures { IfOk result (λ heard. heard.count ≤ length buffer.new) }
     {
@@ -115,8 +119,8 @@ where
         turned
     }
 
-    /// Lets all go out that was told, and waits until each child has ended. One that has not come
-    /// to its socket is killed, and so is one that goes on for too long.
+    /// Writes the queued bytes, waits until each child has ended, and removes the folder of the
+    /// sockets. A child that has not connected is killed, and so is one that runs too long.
     pub fn finish(&mut self) {
         self.herd.finish(self.starter.rt);
         self.starter.sockets.close();

@@ -16,9 +16,9 @@ use std::rt::Files;
 use std::time::Clock;
 use ug_io::{Came, Crew, Failed};
 
-/// Child programs as a crew, each at the other end of a Unix socket. What a child does not take
-/// waits in memory; a child that takes nothing holds up no other. It tells nothing of bytes. No
-/// child and no socket's file is left where it is dropped.
+/// Child programs as a crew, each at the other end of a Unix socket. Bytes that a child does not
+/// read yet wait in memory; a child that reads nothing delays no other. The crew shows no bytes.
+/// When it is dropped no child and no socket file is left.
 #[derive(Drop)]
 pub struct ProcessCrew<'a, R: Files<File = File>, W: Drop> {
     lives: Vec<bool>,
@@ -27,13 +27,13 @@ pub struct ProcessCrew<'a, R: Files<File = File>, W: Drop> {
     pack: Pack<'a, R, W>,
 }
 
-// Why a turn has nothing to wait for.
+// Returns the error of a turn of a crew in which no rank is alive.
 fn nobody() -> io::Error {
     io::Error::new(ErrorKind::NotFound, "no rank lives")
 }
 
-// Takes note of what a turn gave. What comes from a rank that does not live is a fault. The buffer
-// is there for the contract alone.
+// Counts and returns the result of a turn. A lost rank is not alive any more and counts as a fault.
+// Bytes from a rank that is not alive are a fault. The buffer is only needed by the contract.
 fn came(
     lives: &mut Vec<bool>,
     faults: &mut Faults,
@@ -70,8 +70,8 @@ where
     R: Files<File = File> + Net + Processes<Started = SystemProcess> + Clock,
     W: Watcher + Drop,
 {
-    /// A crew of so many ranks, none of which lives yet. The watcher is told why a rank is gone,
-    /// unless it was shut. No call has failed yet.
+    /// Returns a crew of this number of ranks, none of them alive yet, with no call failed. The
+    /// watcher is called once for each rank that is lost, unless it was shut.
     pub fn new(
         rt: &'a R,
         alloc: Global,
@@ -96,7 +96,8 @@ where
         }
     }
 
-    /// Why the last call failed that did, in the system's words.
+    /// Returns the system's error of the last failed call whose error was recorded. The causes of
+    /// lost ranks, of failed starts and of failed sends go to the watcher only.
     pub fn error(&self) -> Option<&io::Error> {
         self.faults.last.as_ref()
     }

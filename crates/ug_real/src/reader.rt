@@ -7,7 +7,8 @@ use std::io;
 use std::rt::Files;
 use ug_io::{Failed, Source};
 
-/// A file as a source. It is opened at the first call; a failed opening is a fault of that call.
+/// A file as a source. The first call opens it; if that fails, the call fails and the next one
+/// tries again.
 #[derive(Drop)]
 pub struct Reader<'a, R: Files> {
     faults: Faults,
@@ -17,7 +18,7 @@ pub struct Reader<'a, R: Files> {
 }
 
 impl<'a, R: Files> Reader<'a, R> {
-    /// The file of this path. No call has failed yet.
+    /// Returns a source for the file of this path, with no call failed yet.
     pub fn new(rt: &'a R, path: &'a str) -> Reader<'a, R>
         ensures { result.faults.count ≡ 0 }
     {
@@ -29,13 +30,13 @@ impl<'a, R: Files> Reader<'a, R> {
         }
     }
 
-    /// Why the last call failed that did, in the system's words.
+    /// Returns the system's error of the last failed call, if a call has failed.
     pub fn error(&self) -> Option<&io::Error> {
         self.faults.last.as_ref()
     }
 }
 
-// Reads some bytes of the file, which is opened where it is not open.
+// Reads some bytes of the file, and opens it first if it is not open.
 fn read_some<R: Files>(
     rt: &R,
     path: &str,

@@ -10,7 +10,7 @@ use std::io::{Eprint, ErrorKind};
 use std::rt::Files;
 use ug_disk::Slot;
 
-/// The files `slot0` and `slot1` of a folder. It tells nothing of them.
+/// The files `slot0` and `slot1` of a folder. It shows nothing of their history.
 #[derive(Drop)]
 pub struct RealFolder<'a, R: Files<File = File>> {
     access: Access<'a, R>,
@@ -23,7 +23,7 @@ enum Access<'a, R: Files<File = File>> {
     Reading(SlotCopies<'a, R>),
 }
 
-// Why a folder for reading alone is not written.
+// Returns the error of a write to a folder that is open for reading only.
 fn reads_alone() -> io::Error {
     io::Error::new(
         ErrorKind::Unsupported,
@@ -32,36 +32,36 @@ fn reads_alone() -> io::Error {
 }
 
 impl<'a, R: Files<File = File>> RealFolder<'a, R> {
-    /// A folder in which a run begins. The folder and the files are made where they are not there,
-    /// at the first call; from then on no other `RealFolder` writes it until this one is dropped: a
-    /// call on one that would is an error. Before the first write what the slots have, if they have
-    /// any, is copied to the files `before0` and `before1`, in place of what these had, and
-    /// standard error says so. Where that fails so does the write, and the slots are as they were.
+    /// Returns a folder in which a new run begins. The first call makes the folder and the files if
+    /// they are missing, and locks the folder: until this object is dropped, calls on any other one
+    /// that may write there fail. Before the first write, if a slot has any bytes, both are copied
+    /// to the files `before0` and `before1`, which are overwritten, and standard error says so. If
+    /// the copy fails, so does the write, and the slots are unchanged.
     pub fn beginning(rt: &'a R, alloc: Global, path: &'a str) -> RealFolder<'a, R> {
         RealFolder {
             access: Access::Writing(SlotFiles::new(rt, alloc, path, Stage::Begins)),
         }
     }
 
-    /// A folder from which a run goes on. Nothing is made before the first write: a file that is
-    /// not there is an empty slot. No other writes it at the same time either.
+    /// Returns a folder from which a run resumes. Nothing is made before the first write: a missing
+    /// file is an empty slot. It is locked as above.
     pub fn going_on(rt: &'a R, alloc: Global, path: &'a str) -> RealFolder<'a, R> {
         RealFolder {
             access: Access::Writing(SlotFiles::new(rt, alloc, path, Stage::Looks)),
         }
     }
 
-    /// A folder for reading alone, also while another program writes it. Nothing is made, and a
-    /// file that is not there is an empty slot. Both slots are copied when one is first looked at,
-    /// as two readings of both in a row gave them. A write is an error, and a sync has nothing to
-    /// do: what a crash would leave is for the program that writes.
+    /// Returns a folder for reading only, also while another program writes it. Nothing is made,
+    /// and a missing file is an empty slot. The first call copies both slots, once two readings of
+    /// both in a row agree. A write fails, and a sync does nothing: what a crash would leave
+    /// concerns the program that writes.
     pub fn reading(rt: &'a R, alloc: Global, path: &'a str) -> RealFolder<'a, R> {
         RealFolder {
             access: Access::Reading(SlotCopies::new(rt, alloc, path)),
         }
     }
 
-    /// How many images were saved here.
+    /// Returns the number of images saved by this object.
     pub fn saves(&self) -> u64 {
         match &self.access {
             Access::Writing(files) => files.saves(),
@@ -97,7 +97,7 @@ impl<R: Files<File = File> + Eprint> Folder for RealFolder<'_, R> {
     fn sync_file(&mut self, slot: Slot) -> io::Result<()> {
         match &mut self.access {
             Access::Writing(files) => files.sync(slot),
-            // Nothing was written here that could wait to reach the disk.
+            // Nothing was written here that would have to be synced.
             Access::Reading(_) => Ok(()),
         }
     }

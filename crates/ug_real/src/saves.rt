@@ -1,32 +1,31 @@
 use std::io;
 use std::io::Eprint;
 
-// What is written at a slot's front when all behind it is on the disk: its gate, open.
+// The bytes written at the front of a slot once all behind it is on the disk: an open gate.
 const OPEN: &[u8] = &[1];
 
-/// How the saves in a folder went, as far as standard error is told of it.
+/// The saves in a folder, as far as messages on standard error depend on them.
 #[derive(Clone, Copy)]
 pub struct Saves {
-    // How many there were.
+    // The number of saves.
     count: u64,
-    // Whether an image was saved in this run. A run whose first save fails ends, and its end
-    // reports why.
+    // Was an image saved in this run? A run whose first save fails ends, and its end reports why.
     has_saved: bool,
-    // How many writes and syncs failed since.
+    // The number of writes and syncs that failed after that.
     failures: u64,
-    // Whether the last one failed.
+    // Did a call fail since the last save?
     fails: bool,
-    // Whether the gate of a slot was opened and is not on the disk yet, which ends a save.
+    // Was the gate of a slot opened and not synced yet? The sync ends the save.
     opens: bool,
 }
 
-// As many saves, in words.
+// Returns the noun for this number of saves.
 fn saves_of(count: u64) -> &'static str {
     if count == 1 { "save" } else { "saves" }
 }
 
 impl Saves {
-    /// None yet.
+    /// Returns the state before the first save.
     pub fn new() -> Saves {
         Saves {
             count: 0,
@@ -37,19 +36,19 @@ impl Saves {
         }
     }
 
-    /// How many there were.
+    /// Returns the number of saves.
     pub fn count(&self) -> u64 {
         self.count
     }
 
-    /// Takes note of the bytes that were written last, from this place on.
+    /// Records the bytes that were written last, from this place on.
     pub fn wrote(&mut self, at: u64, bytes: &[u8]) {
         self.opens = at == 0 && bytes == OPEN;
     }
 
-    /// Says on standard error why a call failed that a save made: at the first one, at the second,
-    /// at the fourth and so on. A save ends with the first call that fails. The caller tells of the
-    /// first save of all.
+    /// Prints on standard error why a call of a save failed: for the first failure, the second, the
+    /// fourth and so on. A save ends with its first failed call. Before the first save of the run
+    /// it prints nothing: the caller reports that failure.
     pub fn failed<R: Eprint>(&mut self, rt: &R, path: &str, error: &io::Error) {
         self.opens = false;
         if self.has_saved {
@@ -65,8 +64,8 @@ impl Saves {
         }
     }
 
-    /// What was written is on the disk, and where that was an opened gate an image is saved. Says
-    /// so on standard error where the last save had failed.
+    /// Records that the last write is on the disk. If it opened a gate, an image is saved; if a
+    /// call had failed since the save before, standard error says so.
     pub fn settled<R: Eprint>(&mut self, rt: &R, path: &str) {
         if !self.opens {
             return;

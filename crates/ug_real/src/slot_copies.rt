@@ -9,11 +9,11 @@ use std::rt::Files;
 use std::{io, mem};
 use ug_disk::Slot;
 
-/// How often the slots are read again, where another program is writing them. Where they lie in
-/// memory, large images can follow each other so fast that a hundred readings are too few.
+/// The number of repeated readings of the slots while another program writes them. If they are in
+/// memory, large images may follow each other so fast that a hundred readings are too few.
 const MOST_READINGS: u32 = 1000;
 
-/// Copies of both slots as they stood at one moment, made at the first call. Nothing in the folder
+/// Copies of both slots as they were at one moment, made at the first call. Nothing in the folder
 /// is made or locked.
 #[derive(Drop)]
 pub struct SlotCopies<'a, R: Files<File = File>> {
@@ -39,7 +39,7 @@ impl Copies {
     }
 }
 
-// Copies some of the bytes from a place on to the front of the buffer.
+// Copies some of the bytes from a place on into the buffer and returns their number.
 fn copy(bytes: &[u8], at: u64, buffer: &mut [u8]) -> usize
     ensures count { result ≡ min (length bytes.now - at) (length buffer.new) }
     ensures bytes { take result buffer.new ≡ take result (drop at bytes.now) }
@@ -50,7 +50,7 @@ fn copy(bytes: &[u8], at: u64, buffer: &mut [u8]) -> usize
     n
 }
 
-// All bytes of the file.
+// Returns all bytes of the file.
 fn contents(alloc: Global, mut file: File) -> io::Result<Vec<u8>> {
     let mut bytes = Vec::new(alloc);
     let read = file.read_to_end(&mut bytes);
@@ -64,7 +64,7 @@ fn contents(alloc: Global, mut file: File) -> io::Result<Vec<u8>> {
     }
 }
 
-// Whether the second reading failed, or gave the bytes that the first one gave.
+// Did the second reading fail, or return the same bytes as the first?
 fn is_last(first: &io::Result<Copies>, second: &io::Result<Copies>) -> bool {
     match (first, second) {
         (Ok(before), Ok(after)) => before == after,
@@ -72,7 +72,7 @@ fn is_last(first: &io::Result<Copies>, second: &io::Result<Copies>) -> bool {
     }
 }
 
-// No bytes, if the error is that there is no file.
+// Returns no bytes if the error is that the file is missing, otherwise the error.
 fn unless_missing(alloc: Global, error: io::Error) -> io::Result<Vec<u8>> {
     if error.kind() == ErrorKind::NotFound {
         drop(error);
@@ -82,6 +82,7 @@ fn unless_missing(alloc: Global, error: io::Error) -> io::Result<Vec<u8>> {
 }
 
 impl<'a, R: Files<File = File>> SlotCopies<'a, R> {
+    /// Returns the copies of the slots in the folder of this path, none made yet.
     pub fn new(rt: &'a R, alloc: Global, path: &'a str) -> SlotCopies<'a, R> {
         SlotCopies {
             rt,
@@ -91,7 +92,7 @@ impl<'a, R: Files<File = File>> SlotCopies<'a, R> {
         }
     }
 
-    // All bytes of the slot's file at one reading. A file that is not there has none.
+    // Returns all bytes of the slot's file at one reading: none if it is missing.
     fn whole(&self, slot: Slot) -> io::Result<Vec<u8>> {
         match open_slot(
             self.rt,
@@ -105,7 +106,7 @@ impl<'a, R: Files<File = File>> SlotCopies<'a, R> {
         }
     }
 
-    // All bytes of both slots at one reading, slot 0 first.
+    // Returns all bytes of both slots at one reading, slot 0 first.
     fn both(&self) -> io::Result<Copies> {
         let zero = self.whole(Slot::Zero)?;
         match self.whole(Slot::One) {
@@ -117,9 +118,10 @@ impl<'a, R: Files<File = File>> SlotCopies<'a, R> {
         }
     }
 
-    // What two readings of both slots in a row gave: so they stood, both at once, between the two.
-    // Another program may be writing a slot, and go on to the other before that one is read: of
-    // slots that are copied one by one each could have its gate shut.
+    // Reads both slots until two readings in a row agree: both had these bytes at one moment
+    // between them. Another program may finish one slot and start the other while they are read, so
+    // copies made one after the other might both have a closed gate. Fails if no two readings
+    // agree.
     fn settled(&self) -> io::Result<Copies> {
         let mut last = self.both();
         if last.is_err() {
@@ -137,7 +139,7 @@ impl<'a, R: Files<File = File>> SlotCopies<'a, R> {
         Err(io::Error::new(ErrorKind::ResourceBusy, "the slots change at each reading"))
     }
 
-    // Both slots, copied where they are not.
+    // Returns both slots, copied at the first call.
     fn copies(&mut self) -> io::Result<&Copies> {
         if self.kept.is_none() {
             let got = self.settled();
@@ -148,7 +150,7 @@ impl<'a, R: Files<File = File>> SlotCopies<'a, R> {
             .ok_or(io::Error::from(ErrorKind::NotFound))
     }
 
-    /// How many bytes the slot has.
+    /// Returns the length of the slot in bytes.
     pub fn len(&mut self, slot: Slot) -> io::Result<u64> {
         match self.copies() {
             Ok(copies) => Ok(copies.of(slot).len() as u64),
@@ -156,7 +158,7 @@ impl<'a, R: Files<File = File>> SlotCopies<'a, R> {
         }
     }
 
-    /// Reads some of the slot's bytes from a place on.
+    /// Reads some of the slot's bytes from a place on and returns their number.
     pub fn read(&mut self, slot: Slot, at: u64, buffer: &mut [u8]) -> io::Result<usize>
         ensures { IfOk result (λ n. n ≤ length buffer.new) }
     {

@@ -13,7 +13,7 @@ use std::rt::Files;
 use std::{fs, io};
 use ug_disk::Slot;
 
-// The name of the slot's file.
+// Returns the name of the slot's file.
 fn name_of(slot: Slot) -> &'static str {
     match slot {
         Slot::Zero => "slot0",
@@ -21,7 +21,7 @@ fn name_of(slot: Slot) -> &'static str {
     }
 }
 
-// The name of the file that keeps what the slot had before a run began anew.
+// Returns the name of the file that receives a copy of the slot before a new run overwrites it.
 fn before_name_of(slot: Slot) -> &'static str {
     match slot {
         Slot::Zero => "before0",
@@ -32,16 +32,15 @@ fn before_name_of(slot: Slot) -> &'static str {
 /// What is done with the slots of a folder.
 #[derive(Clone, Copy)]
 pub enum Stage {
-    /// They are looked at, and nothing is made: a file that is not there is an empty slot.
+    /// They are read and nothing is made: a missing file is an empty slot.
     Looks,
-    /// They are looked at, and made where they are not there. Before the first write what they have
-    /// is to be kept.
+    /// They are read, and made if they are missing. Before the first write they are copied.
     Begins,
     /// They are written.
     Writes,
 }
 
-/// The files of both slots, open for writing in a folder that is locked for as long.
+/// The files of both slots, open for writing in a folder that is locked while this lives.
 #[derive(Drop)]
 pub struct SlotFiles<'a, R: Files<File = File>> {
     rt: &'a R,
@@ -53,7 +52,7 @@ pub struct SlotFiles<'a, R: Files<File = File>> {
     kept: Kept<File>,
 }
 
-// Copies all that is left to read of a file, and waits until it is on the disk.
+// Copies the rest of a file and waits until the copy is on the disk.
 fn copied(mut from: File, mut to: File) -> io::Result<()> {
     let synced = match io::copy(&mut from, &mut to) {
         Ok(_) => to.sync_all(),
@@ -64,7 +63,7 @@ fn copied(mut from: File, mut to: File) -> io::Result<()> {
     synced
 }
 
-/// The slot's file in the folder, opened in these ways.
+/// Opens the slot's file in the folder with these options.
 pub fn open_slot<R: Files<File = File>>(
     rt: &R,
     alloc: Global,
@@ -75,7 +74,7 @@ pub fn open_slot<R: Files<File = File>>(
     open_file(rt, alloc, folder, name_of(slot), ways)
 }
 
-// The file in the folder that keeps what the slot had, made anew.
+// Opens the file for the copy of the slot, and truncates it.
 fn open_before<R: Files<File = File>>(
     rt: &R,
     alloc: Global,
@@ -87,7 +86,7 @@ fn open_before<R: Files<File = File>>(
     open_file(rt, alloc, folder, before_name_of(slot), &ways)
 }
 
-// The file of this name in the folder.
+// Opens the file of this name in the folder.
 fn open_file<R: Files<File = File>>(
     rt: &R,
     alloc: Global,
@@ -105,7 +104,7 @@ fn open_file<R: Files<File = File>>(
     }
 }
 
-// The file that was opened.
+// Returns the file, which was opened before.
 fn opened(file: Option<&File>) -> io::Result<&File> {
     file.ok_or(io::Error::from(ErrorKind::NotFound))
 }
@@ -117,12 +116,12 @@ fn len_of(file: &File) -> io::Result<u64> {
     }
 }
 
-// Why a folder is not locked that is.
+// Returns the error if another run has locked the folder.
 fn busy() -> io::Error {
     io::Error::new(ErrorKind::ResourceBusy, "another run writes in this folder")
 }
 
-// The folder, locked.
+// Locks the folder and returns it.
 fn locked(folder: File) -> io::Result<File> {
     match folder.try_lock() {
         Ok(()) => Ok(folder),
@@ -137,7 +136,7 @@ fn locked(folder: File) -> io::Result<File> {
     }
 }
 
-// The folder of this path, locked. It is made where it is not there, if that may be.
+// Opens and locks the folder of this path. Makes it first if it is missing and `makes` is set.
 fn locked_folder<R: Files<File = File>>(rt: &R, path: &str, makes: bool) -> io::Result<File> {
     if makes {
         fs::create_dir_all(rt, path)?;
@@ -145,7 +144,7 @@ fn locked_folder<R: Files<File = File>>(rt: &R, path: &str, makes: bool) -> io::
     File::open(rt, path).and_then(locked)
 }
 
-// What copying gave, which keeps what the slots had. Says so on standard error where it succeeded.
+// Returns the result of the copy of the slots. If it succeeded, prints so on standard error.
 fn kept<R: Eprint>(rt: &R, path: &str, copied: io::Result<()>) -> io::Result<()> {
     if copied.is_ok() {
         let _ = eprintln!(rt;
@@ -155,7 +154,8 @@ fn kept<R: Eprint>(rt: &R, path: &str, copied: io::Result<()>) -> io::Result<()>
     copied
 }
 
-// What a call gave, or this where the error is that there is no file, and none is made.
+// Returns the result of a call, or `none` if the error is that the file is missing and `makes` is
+// not set.
 fn unless_missing<T: Copy>(got: io::Result<T>, makes: bool, none: T) -> io::Result<T>
     ensures { IfOk result (λ given. (got ≡ Ok given) ⊎ (given ≡ none)) }
 {
@@ -167,7 +167,7 @@ fn unless_missing<T: Copy>(got: io::Result<T>, makes: bool, none: T) -> io::Resu
 }
 
 impl<'a, R: Files<File = File>> SlotFiles<'a, R> {
-    /// Those of the folder of this path, of which nothing is open yet.
+    /// Returns the files of the folder of this path, with nothing open yet.
     pub fn new(rt: &'a R, alloc: Global, path: &'a str, stage: Stage) -> SlotFiles<'a, R> {
         SlotFiles {
             rt,
@@ -180,17 +180,17 @@ impl<'a, R: Files<File = File>> SlotFiles<'a, R> {
         }
     }
 
-    /// How many images were saved.
+    /// Returns the number of images saved.
     pub fn saves(&self) -> u64 {
         self.saves.count()
     }
 
-    // Whether what is not there is made.
+    // Is a missing file or folder made?
     fn makes(&self) -> bool {
         !matches!(&self.stage, Stage::Looks)
     }
 
-    // The folder, locked where it is not.
+    // Returns the folder, locked at the first call.
     fn lock(&mut self) -> io::Result<&File> {
         if self.folder.is_none() {
             let makes = self.makes();
@@ -199,7 +199,7 @@ impl<'a, R: Files<File = File>> SlotFiles<'a, R> {
         opened(self.folder.as_ref())
     }
 
-    // The slot's file in the locked folder.
+    // Opens the slot's file in the locked folder.
     fn open(&mut self, slot: Slot) -> io::Result<File> {
         match self.lock() {
             Ok(_) => {
@@ -212,7 +212,7 @@ impl<'a, R: Files<File = File>> SlotFiles<'a, R> {
         }
     }
 
-    // The slot's file, opened where it is not open.
+    // Returns the slot's file, opened at the first call.
     fn file(&mut self, slot: Slot) -> io::Result<&File> {
         if self.kept.of(slot).is_none() {
             let got = self.open(slot);
@@ -221,13 +221,13 @@ impl<'a, R: Files<File = File>> SlotFiles<'a, R> {
         opened(self.kept.of(slot))
     }
 
-    /// How many bytes the slot has.
+    /// Returns the length of the slot in bytes.
     pub fn len(&mut self, slot: Slot) -> io::Result<u64> {
         let got = self.file(slot).and_then(len_of);
         unless_missing(got, self.makes(), 0)
     }
 
-    /// Reads some of the slot's bytes from a place on.
+    /// Reads some of the slot's bytes from a place on and returns their number.
     pub fn read(&mut self, slot: Slot, at: u64, buffer: &mut [u8]) -> io::Result<usize>
         ensures { IfOk result (λ n. n ≤ length buffer.new) }
     {
@@ -252,13 +252,13 @@ impl<'a, R: Files<File = File>> SlotFiles<'a, R> {
         }
     }
 
-    // Copies what the slot has to the file that keeps it, in place of what that had.
+    // Copies the slot to its `before` file, which is overwritten.
     fn copy(&mut self, slot: Slot) -> io::Result<()> {
         let to = match open_before(self.rt, self.alloc, self.path, slot) {
             Ok(to) => to,
             Err(error) => return Err(error),
         };
-        // Opened anew, so that it is read from its begin on.
+        // Opened anew, so that it is read from its beginning.
         match open_slot(
             self.rt,
             self.alloc,
@@ -274,7 +274,7 @@ impl<'a, R: Files<File = File>> SlotFiles<'a, R> {
         }
     }
 
-    // Copies what both slots have.
+    // Copies both slots and syncs the names of the copies.
     fn copy_both(&mut self) -> io::Result<()> {
         let zero = self.copy(Slot::Zero);
         if zero.is_err() {
@@ -287,7 +287,7 @@ impl<'a, R: Files<File = File>> SlotFiles<'a, R> {
         self.sync_folder()
     }
 
-    // Whether some slot has bytes.
+    // Does a slot have any bytes?
     fn has_any(&mut self) -> io::Result<bool> {
         match self.len(Slot::Zero) {
             Ok(zero) => match self.len(Slot::One) {
@@ -300,7 +300,7 @@ impl<'a, R: Files<File = File>> SlotFiles<'a, R> {
 }
 
 impl<R: Files<File = File> + Eprint> SlotFiles<'_, R> {
-    // Keeps what the slots have, if they have any, and says so on standard error.
+    // Copies the slots if one has any bytes, and prints so on standard error.
     fn keep_before(&mut self) -> io::Result<()> {
         match self.has_any() {
             Ok(true) => {
@@ -312,7 +312,7 @@ impl<R: Files<File = File> + Eprint> SlotFiles<'_, R> {
         }
     }
 
-    // What a call gave that a save made. That it failed is noted.
+    // Returns the result of a call of a save, and records a failure.
     fn noted(&mut self, got: io::Result<()>) -> io::Result<()> {
         if let Err(error) = &got {
             self.saves.failed(self.rt, self.path, error);
@@ -320,8 +320,8 @@ impl<R: Files<File = File> + Eprint> SlotFiles<'_, R> {
         got
     }
 
-    /// Writes all of the bytes from a place on. Where a run begins, what the slots had is kept
-    /// before the first of them is written.
+    /// Writes all of the bytes from a place on. In a new run the slots are copied before the first
+    /// write.
     pub fn write(&mut self, slot: Slot, at: u64, bytes: &[u8]) -> io::Result<()> {
         if matches!(&self.stage, Stage::Begins) {
             let kept = self.keep_before();
@@ -338,7 +338,7 @@ impl<R: Files<File = File> + Eprint> SlotFiles<'_, R> {
     /// Waits until the bytes of the slot's file are on the disk.
     pub fn sync(&mut self, slot: Slot) -> io::Result<()> {
         let got = self.file(slot).and_then(File::sync_all);
-        // What is only looked at and is not there has nothing that could wait to reach the disk.
+        // If the file is missing and was not to be made, nothing has to reach the disk.
         let got = unless_missing(got, self.makes(), ());
         self.noted(got)
     }

@@ -12,18 +12,20 @@ use std::os::unix::net::UnixStream;
 use std::time::{Clock, Duration, Instant};
 use ug_io::{Failed, Got, Link};
 
-/// How many bytes may wait to be written.
+/// The number of bytes that may wait to be written.
 const HELD: usize = 8_192;
 
-/// For how many microseconds what is written may wait for more, and what came is not looked for
-/// again. A round of a small problem takes a few, and a call of the system as many.
+/// The number of microseconds for which written bytes may wait for more, and for which no new read
+/// is tried without waiting. A round of a small problem takes a few microseconds, and a system call
+/// as many.
 const GATHER: u64 = 100;
 
-/// A worker's end of a Unix socket as a link. It connects at the first call; a failed connecting is
-/// a fault of that call. What is written goes at the next read that waits, or that is the first in
-/// a while: to tell the system of each report would cost more than most reports do. If it cannot
-/// go, that is a fault of the read. What is written between a read that brought bytes and the next
-/// read goes at once, and is a fault of the write if it cannot: so the last answer never waits.
+/// A worker's end of a Unix socket as a link. The first call connects; if that fails, the call
+/// fails. Written bytes wait until the next read that waits, or that is the first one in 100
+/// microseconds, or until the buffer is full: one system call for each report would cost more than
+/// most reports do. If these bytes cannot be sent, the read fails. Bytes written between a read
+/// that returned bytes and the next read are sent at once, and the write fails if they cannot be
+/// sent: so the last answer never waits.
 #[derive(Drop)]
 pub struct SocketLink<'a, R> {
     has_ended: bool,
@@ -31,7 +33,7 @@ pub struct SocketLink<'a, R> {
     wire: Wire<'a, R>,
 }
 
-// A socket's path, and the connection to it once there is one.
+// The path of a socket, and the connection once there is one.
 #[derive(Drop)]
 struct Wire<'a, R> {
     line: Option<Line>,
@@ -40,8 +42,8 @@ struct Wire<'a, R> {
     rt: &'a R,
 }
 
-// A connection, whether its calls wait, whether the last read brought bytes, and when it was last
-// looked at.
+// A connection: do its calls wait, did the last read return bytes, and when was it last read
+// without waiting?
 #[derive(Drop)]
 struct Line {
     stream: BufWriter<UnixStream, Global>,
@@ -51,7 +53,8 @@ struct Line {
 }
 
 impl<'a, R: Net + Clock> SocketLink<'a, R> {
-    /// The socket of this path. No call has failed yet. It takes memory once it connects.
+    /// Returns a link to the socket of this path, with no call failed yet. It allocates when it
+    /// connects.
     pub fn new(rt: &'a R, alloc: Global, path: &'a str) -> SocketLink<'a, R>
         ensures ended { result.has_ended ≡ false }
         ensures faults { result.faults.count ≡ 0 }
@@ -68,14 +71,14 @@ impl<'a, R: Net + Clock> SocketLink<'a, R> {
         }
     }
 
-    /// Why the last call failed that did, in the system's words.
+    /// Returns the system's error of the last failed call, if a call has failed.
     pub fn error(&self) -> Option<&io::Error> {
         self.faults.last.as_ref()
     }
 }
 
 impl Line {
-    // Has its calls wait from now on, or not.
+    // Makes its calls wait from now on, or not.
     fn set(&mut self, waits: bool) -> io::Result<()> {
         if waits != self.waits {
             self.stream.get_ref().set_nonblocking(!waits)?;
@@ -84,8 +87,8 @@ impl Line {
         Ok(())
     }
 
-    // Whether some time has passed since the last look, which is noted then. Without a clock it
-    // has.
+    // Has enough time passed since the last read that does not wait? If so, records the time now.
+    // Without a clock it has.
     fn is_due(&mut self, clock: &impl Clock) -> bool {
         let now = Instant::now(clock).ok();
         if let (Some(looked), Some(now)) = (self.looked, now) {
@@ -97,7 +100,7 @@ impl Line {
         true
     }
 
-    // Writes what waits to be written, and waits where none can go.
+    // Writes the bytes that wait. If none can be written now, waits until they are written.
     fn flush(&mut self) -> io::Result<()> {
         let got = self.stream.flush();
         if !failed_by(&got, ErrorKind::WouldBlock) {
@@ -110,8 +113,8 @@ impl Line {
         }
     }
 
-    // Reads some bytes, and waits where none is there. What is there is read as the mode has it,
-    // since a change of it is a call of the system too.
+    // Reads some bytes, and waits if there are none. First reads in the current mode, since
+    // changing it is a system call too.
     fn wait(&mut self, buffer: &mut [u8]) -> io::Result<usize>
         ensures { IfOk result (λ n. n ≤ length buffer.new) }
     {
@@ -129,7 +132,7 @@ impl Line {
         }
     }
 
-    // Reads some bytes, if one is there.
+    // Reads some bytes, or returns `None` if there are none.
     fn look(&mut self, buffer: &mut [u8]) -> io::Result<Option<usize>>
         ensures { IfOk result (λ got. IfSome got (λ n. n ≤ length buffer.new)) }
     {
@@ -148,8 +151,8 @@ impl Line {
         got.map(Some)
     }
 
-    // Reads some bytes, or none where it is not to wait and none is there, or where it looked a
-    // moment ago.
+    // Reads some bytes. If `wait` is not set, returns `None` if there are none, or if the last such
+    // read was a moment ago.
     fn get(
         &mut self,
         clock: &impl Clock,
@@ -168,7 +171,7 @@ impl Line {
         }
     }
 
-    // Reads some bytes or none, as `get` does, and notes whether some came.
+    // Reads as `get` does, and records whether bytes were received.
     fn read(
         &mut self,
         clock: &impl Clock,
@@ -186,7 +189,7 @@ impl Line {
         got
     }
 
-    // Takes some bytes to be written, and writes what waits where there is no room for them.
+    // Buffers some bytes to be written, and writes the buffered ones if there is no room.
     fn put(&mut self, bytes: &[u8]) -> io::Result<usize>
         ensures { IfOk result (λ n. n ≤ length bytes.now) }
     {
@@ -201,7 +204,7 @@ impl Line {
         }
     }
 
-    // Takes some bytes to be written, and writes them at once if the last read brought bytes.
+    // Buffers some bytes to be written, and writes them at once if the last read returned bytes.
     fn write(&mut self, bytes: &[u8]) -> io::Result<usize>
         ensures { IfOk result (λ n. n ≤ length bytes.now) }
     {
@@ -215,7 +218,7 @@ impl Line {
     }
 }
 
-// A connection to the socket of a path.
+// Connects to the socket of a path.
 fn connected<R: Net>(rt: &R, alloc: Global, path: &str) -> io::Result<Line> {
     match UnixStream::connect(rt, path) {
         Ok(stream) => match BufWriter::with_capacity(alloc, HELD, stream) {
@@ -231,7 +234,7 @@ fn connected<R: Net>(rt: &R, alloc: Global, path: &str) -> io::Result<Line> {
     }
 }
 
-// What a write gave. That it took nothing is an error, unless there was nothing.
+// Returns the result of a write. Writing no byte is an error if there was one to write.
 fn at_least_one(wrote: io::Result<usize>, bytes: &[u8]) -> io::Result<usize>
     ensures some { IfOk result (λ n. 0 < length bytes.now → 0 < n) }
     ensures given { IfOk result (λ n. wrote ≡ Ok n) }
@@ -243,7 +246,7 @@ fn at_least_one(wrote: io::Result<usize>, bytes: &[u8]) -> io::Result<usize>
 }
 
 impl<R: Net + Clock> Wire<'_, R> {
-    // The connection, made where it is not.
+    // Returns the connection, made at the first call.
     fn line(&mut self) -> io::Result<&mut Line> {
         match &mut self.line {
             Some(line) => Ok(line),
@@ -254,8 +257,8 @@ impl<R: Net + Clock> Wire<'_, R> {
         }
     }
 
-    // Reads some bytes, or none where it is not to wait and none is there, or where it looked a
-    // moment ago.
+    // Reads some bytes. If `wait` is not set, returns `None` if there are none, or if the last such
+    // read was a moment ago.
     fn read(&mut self, buffer: &mut [u8], wait: bool) -> io::Result<Option<usize>>
         ensures count { IfOk result (λ got. IfSome got (λ n. n ≤ length buffer.new)) }
         ensures waits { IfOk result (λ got. wait ≡ true → IsSome got) }
@@ -267,7 +270,7 @@ impl<R: Net + Clock> Wire<'_, R> {
         }
     }
 
-    // Takes some bytes to be written, at least one where there is one.
+    // Buffers some bytes to be written, at least one if there is one, and returns their number.
     fn write(&mut self, bytes: &[u8]) -> io::Result<usize>
         ensures some { IfOk result (λ n. 0 < length bytes.now → 0 < n) }
         ensures within { IfOk result (λ n. n ≤ length bytes.now) }

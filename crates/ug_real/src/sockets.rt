@@ -9,24 +9,24 @@ use std::os::unix::net::SocketAddr;
 use std::rt::Files;
 use std::{fs, io};
 
-/// How many bytes the path to a socket has at most.
+/// The largest number of bytes in the path of a socket.
 const LONGEST: usize = 107;
 
-/// How many names of a fresh folder are tried.
+/// The number of names that are tried for a new folder.
 const NAMES: u32 = 10_000;
 
-/// Where the folder of the sockets is.
+/// The place of the folder of sockets.
 #[derive(Clone, Copy)]
 pub enum SocketFolder<'a> {
-    /// In the folder of this path, which is made if it is not there.
+    /// Within the folder of this path, which is made if it is missing.
     Given(&'a str),
-    /// In this folder, of a name that no other run has.
+    /// Within this folder, under a name that no other run uses.
     Fresh(&'a str),
 }
 
-/// The sockets to which the children of a crew come. They are in a folder of their own, which their
-/// user alone may enter. It is made and locked by the first call, so that no other crew takes its
-/// sockets away, and removed when this is closed or dropped.
+/// The sockets to which the children of a crew connect. They are in a folder of their own that only
+/// its user may enter. The first call makes and locks it, so that no other crew replaces the
+/// sockets. It is removed when this object is closed or dropped.
 #[derive(Drop)]
 pub struct Sockets<'a, R: Files<File = File>> {
     rt: &'a R,
@@ -35,7 +35,7 @@ pub struct Sockets<'a, R: Files<File = File>> {
     own: Option<OwnFolder<'a, R>>,
 }
 
-// The folder that has the sockets, locked.
+// The folder with the sockets, locked.
 struct OwnFolder<'a, R: Files<File = File>> {
     rt: &'a R,
     path: String,
@@ -43,7 +43,7 @@ struct OwnFolder<'a, R: Files<File = File>> {
 }
 
 impl<R: Files<File = File>> Drop for OwnFolder<'_, R> {
-    // It is removed under the lock, so that it is not another's by then.
+    // Removed while it is locked, so that it cannot belong to another program by then.
     fn drop(self) {
         let OwnFolder { rt, path, lock } = self;
         let _ = fs::remove_dir(rt, path.as_str());
@@ -51,20 +51,23 @@ impl<R: Files<File = File>> Drop for OwnFolder<'_, R> {
     }
 }
 
-/// A socket to which a child is to come, and what removes its file.
+/// A socket to which a child connects, and the owner of its file.
 #[derive(Drop)]
 pub struct Door<F: Drop> {
+    /// The socket.
     pub listener: UnixListener,
+    /// Removes the file of the socket when it is dropped.
     pub file: F,
 }
 
-/// The file of a socket, which is removed where this is dropped.
+/// The file of a socket, which is removed when this is dropped.
 pub struct SocketFile<'a, R: Files> {
     rt: &'a R,
     path: String,
 }
 
 impl<R: Files> SocketFile<'_, R> {
+    /// Returns the path of the file.
     pub fn path(&self) -> &str {
         self.path.as_str()
     }
@@ -77,13 +80,13 @@ impl<R: Files> Drop for SocketFile<'_, R> {
     }
 }
 
-// Why no socket is made in this folder.
+// Returns the error if no socket may be made in this folder.
 fn refused(why: &'static str) -> io::Error {
     io::Error::new(ErrorKind::PermissionDenied, why)
 }
 
-// The folder, if nobody else may change what lies in it. In a sticky folder everybody changes only
-// what is his own.
+// Returns the folder unless others may change its entries. In a sticky folder each user changes
+// only their own.
 fn own_alone(folder: File) -> io::Result<File> {
     let mode = folder.metadata()?.mode();
     if mode & 0o022 != 0 && mode & 0o1000 == 0 {
@@ -93,7 +96,7 @@ fn own_alone(folder: File) -> io::Result<File> {
     Ok(folder)
 }
 
-// The folder, if its owner alone may enter it.
+// Returns the folder if only its owner may enter it.
 fn entered_alone(folder: File) -> io::Result<File> {
     if folder.metadata()?.mode() & 0o077 != 0 {
         drop(folder);
@@ -102,7 +105,7 @@ fn entered_alone(folder: File) -> io::Result<File> {
     Ok(folder)
 }
 
-// The folder, locked.
+// Locks the folder and returns it.
 fn locked(folder: File) -> io::Result<File> {
     match folder.try_lock() {
         Ok(()) => Ok(folder),
@@ -117,7 +120,7 @@ fn locked(folder: File) -> io::Result<File> {
     }
 }
 
-// Why a folder is not taken that another program has.
+// Returns the error if another program uses the folder.
 fn taken() -> io::Error {
     io::Error::new(
         ErrorKind::ResourceBusy,
@@ -125,7 +128,7 @@ fn taken() -> io::Error {
     )
 }
 
-// The folder, if it still is the one of this path: its last owner may have removed it.
+// Returns the folder if it is still the one at this path: its last owner may have removed it.
 fn still_at<R: Files>(rt: &R, path: &str, folder: File) -> io::Result<File> {
     let there = fs::symlink_metadata(rt, path)?;
     let it = folder.metadata()?;
@@ -136,7 +139,7 @@ fn still_at<R: Files>(rt: &R, path: &str, folder: File) -> io::Result<File> {
     Ok(folder)
 }
 
-// The folder of this path, locked, if its owner alone may enter it.
+// Opens and locks the folder of this path, if only its owner may enter it.
 fn lock_own<R: Files<File = File>>(rt: &R, path: &str) -> io::Result<File> {
     File::open(rt, path)
         .and_then(entered_alone)
@@ -144,7 +147,7 @@ fn lock_own<R: Files<File = File>>(rt: &R, path: &str) -> io::Result<File> {
         .and_then(|folder| still_at(rt, path, folder))
 }
 
-// Makes a folder that its user alone may enter.
+// Makes a folder that only its user may enter.
 fn make_private<R: Files>(rt: &R, path: &str, with_parents: bool) -> io::Result<()> {
     DirBuilder::new()
         .recursive(with_parents)
@@ -152,8 +155,9 @@ fn make_private<R: Files>(rt: &R, path: &str, with_parents: bool) -> io::Result<
         .create(rt, path)
 }
 
-// Makes the folder of the sockets in this one, which is made too if it is not there. A path that
-// begins as an option does would be one to a child.
+// Makes the folder of the sockets within this one, which is made too if it is missing, and returns
+// its path. Fails if others may change the entries of this folder. A path that begins with `-` gets
+// `./` in front, since a child would read it as an option.
 fn make_in<R: Files<File = File>>(rt: &R, alloc: Global, folder: &str) -> io::Result<String> {
     make_private(rt, folder, true)?;
     drop(File::open(rt, folder).and_then(own_alone)?);
@@ -168,7 +172,8 @@ fn make_in<R: Files<File = File>>(rt: &R, alloc: Global, folder: &str) -> io::Re
     }
 }
 
-// Makes a folder of the sockets in this one, of a name that nothing has.
+// Makes a folder for the sockets within this one, under a name that is not used, and returns its
+// path.
 fn make_fresh<R: Files>(rt: &R, alloc: Global, folder: &str) -> io::Result<String> {
     for number in 0..NAMES {
         let path = format!(in alloc; "{folder}/ug-{number}")?;
@@ -184,7 +189,7 @@ fn make_fresh<R: Files>(rt: &R, alloc: Global, folder: &str) -> io::Result<Strin
     Err(taken())
 }
 
-// Makes the folder of the sockets, and locks it.
+// Makes the folder of the sockets and locks it.
 fn make_own<'a, R: Files<File = File>>(
     rt: &'a R,
     alloc: Global,
@@ -203,7 +208,7 @@ fn make_own<'a, R: Files<File = File>>(
     }
 }
 
-// Removes a file that lies at this path.
+// Removes the file at this path, if there is one.
 fn remove_old<R: Files>(rt: &R, path: &str) -> io::Result<()> {
     let removed = fs::remove_file(rt, path);
     if failed_by(&removed, ErrorKind::NotFound) {
@@ -213,7 +218,7 @@ fn remove_old<R: Files>(rt: &R, path: &str) -> io::Result<()> {
     removed
 }
 
-// Whether this user made the file.
+// Does the file belong to this user?
 fn is_of<R: Files>(rt: &R, file: &str, user: u32) -> io::Result<bool> {
     match fs::symlink_metadata(rt, file) {
         Ok(metadata) => Ok(metadata.uid() == user),
@@ -221,7 +226,7 @@ fn is_of<R: Files>(rt: &R, file: &str, user: u32) -> io::Result<bool> {
     }
 }
 
-// Whether the folder is of the user who made this file.
+// Does the folder belong to the user who made this file?
 fn is_own<R: Files>(rt: &R, folder: &File, file: &str) -> io::Result<bool> {
     match folder.metadata() {
         Ok(metadata) => is_of(rt, file, metadata.uid()),
@@ -229,12 +234,12 @@ fn is_own<R: Files>(rt: &R, folder: &File, file: &str) -> io::Result<bool> {
     }
 }
 
-// Why no socket is made in a folder whose user did not make it.
+// Returns the error if the folder belongs to another user.
 fn not_own() -> io::Error {
     refused("the folder of sockets is another user's")
 }
 
-// Sees that the folder is of the user who made this file.
+// Fails unless the folder belongs to the user who made this file.
 fn own_folder<R: Files>(rt: &R, folder: &File, file: &str) -> io::Result<()> {
     match is_own(rt, folder, file) {
         Ok(true) => Ok(()),
@@ -243,12 +248,12 @@ fn own_folder<R: Files>(rt: &R, folder: &File, file: &str) -> io::Result<()> {
     }
 }
 
-// The path to the socket of a rank.
+// Returns the path to the socket of a rank.
 fn path_of(alloc: Global, folder: &str, rank: u32) -> Result<String, AllocError> {
     format!(in alloc; "{folder}/ug-{rank}.sock")
 }
 
-// A socket at this path. A file that lies there is removed.
+// Binds a socket at this path. Removes the file there first, if there is one.
 fn listen_at<R: Files + Net>(rt: &R, path: &str) -> io::Result<UnixListener> {
     let address = address_of(path)?;
     match remove_old(rt, path) {
@@ -257,7 +262,7 @@ fn listen_at<R: Files + Net>(rt: &R, path: &str) -> io::Result<UnixListener> {
     }
 }
 
-// The address of a socket at this path.
+// Returns the address of a socket at this path. Fails if the path is too long.
 fn address_of(path: &str) -> io::Result<SocketAddr> {
     if path.len() > LONGEST {
         return Err(io::Error::new(
@@ -269,7 +274,7 @@ fn address_of(path: &str) -> io::Result<SocketAddr> {
 }
 
 impl<'a, R: Files<File = File>> OwnFolder<'a, R> {
-    // A socket to which this file belongs, in a folder of this user.
+    // Binds a socket at this path, in a folder of this user.
     fn listen(&self, file: &str) -> io::Result<UnixListener>
     where
         R: Net,
@@ -284,7 +289,7 @@ impl<'a, R: Files<File = File>> OwnFolder<'a, R> {
         }
     }
 
-    // The socket of a rank. Its file is removed also if it is not of use.
+    // Binds the socket of a rank. If that fails, removes its file.
     fn bind(&self, alloc: Global, rank: u32) -> io::Result<Door<SocketFile<'a, R>>>
     where
         R: Net,
@@ -302,7 +307,7 @@ impl<'a, R: Files<File = File>> OwnFolder<'a, R> {
 }
 
 impl<'a, R: Files<File = File> + Net> Sockets<'a, R> {
-    /// A folder that is not made yet.
+    /// Returns the sockets of a folder that is not made yet.
     pub fn new(rt: &'a R, alloc: Global, place: SocketFolder<'a>) -> Sockets<'a, R> {
         Sockets {
             rt,
@@ -312,8 +317,8 @@ impl<'a, R: Files<File = File> + Net> Sockets<'a, R> {
         }
     }
 
-    /// Makes the socket of a rank, which this user alone can come to. A file that lies there is
-    /// removed.
+    /// Binds the socket of a rank, to which only this user can connect. Removes the file at its
+    /// path first, if there is one.
     pub fn bind(&mut self, rank: u32) -> io::Result<Door<SocketFile<'a, R>>> {
         match &self.own {
             Some(own) => own.bind(self.alloc, rank),
@@ -324,7 +329,7 @@ impl<'a, R: Files<File = File> + Net> Sockets<'a, R> {
         }
     }
 
-    /// Removes the folder, in which nothing lies any more.
+    /// Removes the folder, which must be empty.
     pub fn close(&mut self) {
         drop(self.own.take());
     }

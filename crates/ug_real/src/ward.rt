@@ -10,7 +10,7 @@ use std::os::fd::AsRawFd;
 use std::process::{Child, Command, ExitStatus, Processes, Stdio, SystemProcess};
 use std::rt::Files;
 
-/// A child program. One that has not ended is killed where it is dropped, and waited for.
+/// A child process. Dropping it kills the process if it has not ended, and waits for its end.
 pub struct Ward {
     child: Child,
     state: State,
@@ -24,7 +24,7 @@ enum State {
     Lost,
 }
 
-// Starts the command as a worker that is to come to this socket.
+// Starts the command as a worker that connects to this socket.
 fn spawn<R: Processes<Started = SystemProcess>>(
     rt: &R,
     command: &mut Command,
@@ -39,7 +39,7 @@ fn spawn<R: Processes<Started = SystemProcess>>(
     }
 }
 
-// The state of a process, by the file that the system has of it: behind its name in parentheses.
+// Returns the state of a process from its `stat` file: the letter behind the name in parentheses.
 fn state_in<R: Files<File = File>>(rt: &R, path: &str) -> Option<u8> {
     let mut buffer = [0u8; 256];
     let Ok(mut file) = File::open(rt, path) else {
@@ -53,8 +53,9 @@ fn state_in<R: Files<File = File>>(rt: &R, path: &str) -> Option<u8> {
 }
 
 impl Ward {
-    /// Starts the program as a worker that is to come to this socket. Its standard output is none,
-    /// and its standard input a pipe on which nothing comes: that this closes tells of its end.
+    /// Starts the program as a worker that connects to this socket. Its standard output is
+    /// discarded. Its standard input is a pipe on which nothing is sent: the pipe closes when the
+    /// child ends.
     pub fn start<R: Processes<Started = SystemProcess>>(
         rt: &R,
         alloc: Global,
@@ -73,7 +74,7 @@ impl Ward {
         }
     }
 
-    /// Whether it is stopped, by a signal or a debugger. If the system does not say so it is not.
+    /// Is it stopped, by a signal or a debugger? False if the system does not say.
     pub fn is_stopped<R: Files<File = File>>(&self, rt: &R, alloc: Global) -> bool {
         match format!(in alloc; "/proc/{}/stat", self.child.id()) {
             Ok(path) => {
@@ -85,7 +86,8 @@ impl Ward {
         }
     }
 
-    /// Has its end reported, as an error under this token.
+    /// Registers the pipe with the poll. The closing of the pipe, an error event under this token,
+    /// reports the child's end.
     pub fn register(&self, registry: &Registry, token: Token) -> io::Result<()> {
         match &self.child.stdin {
             Some(pipe) => {
@@ -96,7 +98,7 @@ impl Ward {
         }
     }
 
-    /// Looks whether it has ended.
+    /// Tests whether it has ended, and records its status.
     pub fn look(&mut self) {
         match self.child.try_wait() {
             Ok(Some(status)) => self.state = State::Ended(status),
@@ -108,7 +110,7 @@ impl Ward {
         }
     }
 
-    /// Whether it was found to have ended.
+    /// Was it found to have ended?
     pub fn has_ended(&self) -> bool {
         match self.state {
             State::Runs => false,
@@ -116,7 +118,7 @@ impl Ward {
         }
     }
 
-    /// How it ended.
+    /// Returns how it ended.
     pub fn departure(&self) -> Departure {
         match self.state {
             State::Ended(status) => end_of(status),

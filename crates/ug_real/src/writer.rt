@@ -6,8 +6,8 @@ use std::io;
 use std::io::Write;
 use ug_io::{Failed, Sink};
 
-/// A writer of std as a sink, such as standard output. A write of nothing of a piece that is not
-/// empty is a fault.
+/// A writer of std as a sink, such as standard output. It is a fault if no byte of a non-empty
+/// piece is written.
 #[derive(Drop)]
 pub struct Writer<W: Write + Drop> {
     faults: Faults,
@@ -15,7 +15,7 @@ pub struct Writer<W: Write + Drop> {
 }
 
 impl<W: Write + Drop> Writer<W> {
-    /// A sink to this writer. No call has failed yet.
+    /// Returns a sink to this writer, with no call failed yet.
     pub fn new(to: W) -> Writer<W>
         ensures { result.faults.count ≡ 0 }
     {
@@ -25,7 +25,7 @@ impl<W: Write + Drop> Writer<W> {
         }
     }
 
-    /// Why the last call failed that did, in the system's words.
+    /// Returns the system's error of the last failed call, if a call has failed.
     pub fn error(&self) -> Option<&io::Error> {
         self.faults.last.as_ref()
     }
