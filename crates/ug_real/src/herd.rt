@@ -15,40 +15,42 @@ use std::rt::Files;
 use std::thread::sleep;
 use std::time::{Clock, Duration, Instant};
 
-/// How many events a wait takes note of at most.
+/// The largest number of events that one wait returns.
 const EVENTS: usize = 256;
 
-/// After how many milliseconds a child that is to end soon is looked at again.
+/// The number of milliseconds between two tests of a child that should end soon.
 const SOON: u64 = 10;
 
-/// For how many microseconds more is let come once something came. To be woken for each report
-/// alone would cost more than most reports do.
+/// The number of microseconds for which a turn waits for more after something came. One wakeup for
+/// each report would cost more than most reports do.
 const GATHER: u64 = 100;
 
-/// How many milliseconds the end of a child is waited for once all were told to end.
+/// The number of milliseconds for which `finish` waits for the next child to end.
 const PATIENCE: u64 = 10_000;
 
-/// After how many seconds without a byte it is looked whether a child is stopped.
+/// The number of seconds without a byte after which a child is tested for being stopped.
 const SILENCE: u64 = 60;
 
-/// How many milliseconds apart it is looked for silent children, and a wait lasts at most.
+/// The least number of milliseconds between two searches for silent children, and the longest wait.
 const LOOKS: u64 = 10_000;
 
-/// So many bytes came from a rank, or, where there are none, it is gone. The key is that of the
-/// child.
+/// `count` bytes came from a rank, or, if it is 0, the rank is lost. The key is that of the child.
 #[derive(Clone, Copy)]
 pub struct Heard {
+    /// The key of the child.
     pub key: usize,
+    /// The rank.
     pub rank: u32,
+    /// The number of bytes, a prefix of the buffer.
     pub count: usize,
 }
 
-/// Children, and the poll that tells of them.
+/// Children, and the poll that reports their events.
 #[derive(Drop)]
 pub struct Herd<F: Drop> {
-    // The key whose turn in this round it is.
+    // The first key that is not served yet in this round.
     next: usize,
-    // When silent children were last looked for.
+    // The time of the last search for silent children.
     looked: Option<Instant>,
     watch: Option<Watch>,
     // What children that have not connected are to be sent.
@@ -56,19 +58,19 @@ pub struct Herd<F: Drop> {
     peers: Slab<Peer<F>>,
 }
 
-// The poll, and where it notes events.
+// The poll and its buffer for events.
 #[derive(Drop)]
 struct Watch {
     poll: Poll,
     events: Events,
 }
 
-// Why a call has no child, or no poll, to work with.
+// Returns the error of a call that has no child, or no poll, to work with.
 fn missing() -> io::Error {
     io::Error::from(ErrorKind::NotFound)
 }
 
-// Makes the poll, and where it notes events, where there is none.
+// Makes the poll and its buffer for events, unless they are there.
 fn open_watch(place: &mut Option<Watch>, net: &impl Net, alloc: Global) -> io::Result<()> {
     if place.is_some() {
         return Ok(());
@@ -89,7 +91,7 @@ fn open_watch(place: &mut Option<Watch>, net: &impl Net, alloc: Global) -> io::R
     }
 }
 
-// The key of a child that is what is looked for.
+// Returns the lowest key of a child that satisfies the condition, if there is one.
 fn key_of<F: Drop>(peers: &Slab<Peer<F>>, sought: Sought) -> Option<usize> {
     for (key, peer) in peers.iter() {
         if peer.is(sought) {
@@ -99,7 +101,7 @@ fn key_of<F: Drop>(peers: &Slab<Peer<F>>, sought: Sought) -> Option<usize> {
     None
 }
 
-// Has each child take note of what an event tells of it.
+// Passes each event to its child.
 fn stir_all<F: Drop>(peers: &mut Slab<Peer<F>>, registry: &Registry, events: &Events) {
     for event in events {
         let Token(key) = event.token();
@@ -109,7 +111,7 @@ fn stir_all<F: Drop>(peers: &mut Slab<Peer<F>>, registry: &Registry, events: &Ev
     }
 }
 
-// Looks at the children that are to end soon.
+// Tests the children that should end soon.
 fn hurry_all<F: Drop>(peers: &mut Slab<Peer<F>>, registry: &Registry, now: Option<Instant>) {
     for key in 0..peers.capacity() {
         if let Some(peer) = peers.get_mut(key) {
@@ -121,7 +123,7 @@ fn hurry_all<F: Drop>(peers: &mut Slab<Peer<F>>, registry: &Registry, now: Optio
     }
 }
 
-// Tells the bytes to the rank, if there is a child that is it.
+// Sends the bytes to the child of this rank. Fails if there is none.
 fn send_to<F: Drop>(
     peers: &mut Slab<Peer<F>>,
     registry: &Registry,
@@ -137,7 +139,8 @@ fn send_to<F: Drop>(
     Err(missing())
 }
 
-// Hears one of the children at these keys. One that was shut and has ended is let go.
+// Receives from the first of the children at these keys that has something. Drops children that
+// were shut and have ended.
 fn hear_among<F: Drop>(
     peers: &mut Slab<Peer<F>>,
     first: usize,
@@ -154,7 +157,7 @@ fn hear_among<F: Drop>(
     None
 }
 
-// Hears the child at this key, if there is something to hear.
+// Receives from a child, if it has something.
 fn hear_of<F: Drop>(peer: &mut Peer<F>, key: usize, buffer: &mut [u8]) -> Option<Heard>
     ensures { IfSome result (λ heard. heard.count ≤ length buffer.new) }
 {
@@ -168,7 +171,7 @@ fn hear_of<F: Drop>(peer: &mut Peer<F>, key: usize, buffer: &mut [u8]) -> Option
     }
 }
 
-// Whether it is gone, and nobody is to hear of it.
+// Is the child lost after it was shut? The caller must not learn of this loss.
 fn is_over(heard: Option<Heard>, is_shut: bool) -> bool {
     match heard {
         Some(heard) => heard.count == 0 && is_shut,
@@ -176,7 +179,8 @@ fn is_over(heard: Option<Heard>, is_shut: bool) -> bool {
     }
 }
 
-// Hears the child at this key, if there is one. One that is over is let go.
+// Receives from the child at this key, if there is one and it has something. Drops the child if it
+// was shut and has ended.
 fn hear_at<F: Drop>(peers: &mut Slab<Peer<F>>, key: usize, buffer: &mut [u8]) -> Option<Heard>
     ensures { IfSome result (λ heard. heard.count ≤ length buffer.new) }
 {
@@ -191,7 +195,7 @@ fn hear_at<F: Drop>(peers: &mut Slab<Peer<F>>, key: usize, buffer: &mut [u8]) ->
     heard
 }
 
-// Whether this time is past, since which a child ended. Without a clock it is.
+// Have `PATIENCE` milliseconds passed since this time? Without a clock they have.
 fn is_past<R: Clock>(rt: &R, since: Option<Instant>) -> bool {
     match (since, Instant::now(rt)) {
         (Some(since), Ok(now)) => now.duration_since(since) >= Duration::from_millis(PATIENCE),
@@ -199,7 +203,7 @@ fn is_past<R: Clock>(rt: &R, since: Option<Instant>) -> bool {
     }
 }
 
-// Tells of the children that have been silent for long, and are stopped.
+// Reports the children that have been silent for long and are stopped.
 fn report_stopped<F: Drop, R, W>(
     peers: &mut Slab<Peer<F>>,
     rt: &R,
@@ -220,7 +224,7 @@ where
     }
 }
 
-// Lets those go that have not come.
+// Drops the children that have not connected.
 fn dismiss_awaited<F: Drop>(peers: &mut Slab<Peer<F>>, registry: &Registry) {
     for key in 0..peers.capacity() {
         if let Some(peer) = peers.get_mut(key) {
@@ -233,7 +237,7 @@ fn dismiss_awaited<F: Drop>(peers: &mut Slab<Peer<F>>, registry: &Registry) {
 }
 
 impl<F: Drop> Herd<F> {
-    /// None, and no poll yet.
+    /// Returns no children, without a poll.
     pub fn new(alloc: Global) -> Herd<F> {
         Herd {
             next: 0,
@@ -244,7 +248,7 @@ impl<F: Drop> Herd<F> {
         }
     }
 
-    /// Makes room for one more, and the poll where there is none.
+    /// Reserves a place for one more child, and makes the poll if there is none.
     pub fn open(&mut self, net: &impl Net, alloc: Global) -> io::Result<()>
         ensures { OnOk result (HasRoomFor self.new.peers 1) }
     {
@@ -254,7 +258,7 @@ impl<F: Drop> Herd<F> {
         }
     }
 
-    // Has what becomes of the child told by the poll.
+    // Registers the child with the poll.
     fn register(&self, peer: &mut Peer<F>, key: usize) -> io::Result<()> {
         match &self.watch {
             Some(watch) => peer.register(watch.poll.registry(), Token(key)),
@@ -262,7 +266,8 @@ impl<F: Drop> Herd<F> {
         }
     }
 
-    /// Takes in a child, for which there is room.
+    /// Adds a child, for which a place is reserved. If it cannot be registered, the child is
+    /// dropped and so killed.
     pub fn admit(&mut self, mut peer: Peer<F>) -> io::Result<()>
         requires { HasRoomFor self.old.peers 1 }
     {
@@ -279,7 +284,8 @@ impl<F: Drop> Herd<F> {
         }
     }
 
-    /// Tells the bytes to the rank, now or as soon as they can go.
+    /// Sends the bytes to the rank, now or as soon as they can be written. Fails if no child has
+    /// this rank.
     pub fn send(&mut self, rank: u32, bytes: &[u8]) -> io::Result<()> {
         match &self.watch {
             Some(watch) => {
@@ -290,7 +296,7 @@ impl<F: Drop> Herd<F> {
         }
     }
 
-    /// Closes the connection to the rank, and kills it.
+    /// Closes the connection to the rank and kills its child.
     pub fn shut(&mut self, rank: u32) {
         if let Some(key) = key_of(&self.peers, Sought::Rank(rank)) {
             if let Some(peer) = self.peers.get_mut(key) {
@@ -299,8 +305,7 @@ impl<F: Drop> Herd<F> {
         }
     }
 
-    // Hears one of the children whose turn in this round is still to come, if there is something to
-    // hear.
+    // Receives from a child that is not served yet in this round, if one has something.
     fn hear(&mut self, buffer: &mut [u8]) -> Option<Heard>
         ensures { IfSome result (λ heard. heard.count ≤ length buffer.new) }
     {
@@ -312,9 +317,9 @@ impl<F: Drop> Herd<F> {
         heard
     }
 
-    // Begins a round. It looks what has become of all children, so that one that never stops
-    // talking keeps no other from coming, being heard or being told, and waits, so many
-    // milliseconds at most, where there is nothing to hear, and then a little longer.
+    // Begins a round. Passes new events to all children first, so that one that never stops sending
+    // keeps no other from connecting, sending or receiving. If none has anything, it waits for at
+    // most `most` milliseconds, and after an event a little longer.
     fn look<R: Clock>(&mut self, clock: &R, most: Option<u64>) -> io::Result<()> {
         self.next = 0;
         if key_of(&self.peers, Sought::Stirred).is_some() {
@@ -327,7 +332,8 @@ impl<F: Drop> Herd<F> {
         waited
     }
 
-    // Waits until there may be something to hear or to send, so many milliseconds at most.
+    // Waits for events for at most `most` milliseconds, less if a child should end soon, and passes
+    // them on.
     fn wait<R: Clock>(&mut self, clock: &R, most: Option<u64>) -> io::Result<()> {
         let is_any_leaving = key_of(&self.peers, Sought::Leaving).is_some();
         let most = if is_any_leaving {
@@ -345,7 +351,7 @@ impl<F: Drop> Herd<F> {
         waited
     }
 
-    // Waits until the poll tells of something, so many milliseconds at most.
+    // Waits for events of the poll for at most `most` milliseconds.
     fn wait_for_events(&mut self, most: Option<u64>) -> io::Result<()> {
         match &mut self.watch {
             Some(watch) => watch
@@ -355,7 +361,7 @@ impl<F: Drop> Herd<F> {
         }
     }
 
-    // Has the children take note of what the poll told, and looks at those that are to end soon.
+    // Passes the events of the poll to the children, and tests those that should end soon.
     fn heed<R: Clock>(&mut self, clock: &R, is_any_leaving: bool) {
         if let Some(watch) = &self.watch {
             stir_all(&mut self.peers, watch.poll.registry(), &watch.events);
@@ -366,7 +372,8 @@ impl<F: Drop> Herd<F> {
         }
     }
 
-    // Looks for silent children, unless that was done a while ago. Nothing else depends on it.
+    // Reports silent children that are stopped, unless the last search was a short while ago.
+    // Nothing else depends on it.
     fn look_for_silent<R, W>(&mut self, rt: &R, alloc: Global, watcher: &mut W)
     where
         R: Files<File = File> + Clock,
@@ -384,8 +391,8 @@ impl<F: Drop> Herd<F> {
         report_stopped(&mut self.peers, rt, alloc, now, watcher);
     }
 
-    /// Waits until bytes come from a child, or one is gone. The watcher is told of one that is
-    /// silent for long, and stopped.
+    /// Waits until bytes come from a child or one is lost. Reports to the watcher a child that has
+    /// been silent for long and is stopped.
     pub fn turn<R, W>(
         &mut self,
         rt: &R,
@@ -410,7 +417,7 @@ impl<F: Drop> Herd<F> {
         Err(io::Error::from(ErrorKind::TimedOut))
     }
 
-    /// Lets the child at this key go, and tells why.
+    /// Drops the child at this key, and reports to the watcher why it is lost.
     pub fn part<W: Watcher>(&mut self, key: usize, watcher: &mut W) {
         if let Some(mut peer) = self.peers.try_remove(key) {
             let why = peer.departure();
@@ -420,7 +427,8 @@ impl<F: Drop> Herd<F> {
         }
     }
 
-    // Hears what the children say in the rest of this round, and lets those go that have ended.
+    // Reads and drops the bytes of the children in the rest of this round, and drops the children
+    // that have ended.
     fn drain(&mut self) {
         let mut buffer = [0u8; 4096];
         for _ in 0..u64::MAX {
@@ -432,7 +440,8 @@ impl<F: Drop> Herd<F> {
         }
     }
 
-    // Waits until each child has ended, so long at most behind the one before, or a wait fails.
+    // Waits until every child has ended. Gives up if none ends for `PATIENCE` milliseconds, or if a
+    // wait fails.
     fn see_off<R: Clock>(&mut self, clock: &R) {
         let mut since = Instant::now(clock).ok();
         for _ in 0..u64::MAX {
@@ -452,8 +461,8 @@ impl<F: Drop> Herd<F> {
         }
     }
 
-    /// Lets all go out that was told, and waits until each child has ended. One that has not come
-    /// to its socket is killed, and so is one that goes on for too long.
+    /// Writes every send queue and waits for the children to end. A child that has not connected is
+    /// killed, and so are all that are left when no further one ends for 10 seconds.
     pub fn finish<R: Clock>(&mut self, clock: &R) {
         if let Some(watch) = &self.watch {
             dismiss_awaited(&mut self.peers, watch.poll.registry());

@@ -16,33 +16,35 @@ use std::rt::Files;
 use std::time::{Duration, Instant};
 use std::{io, mem};
 
-/// How many milliseconds a child has to end once it has hung up.
+/// The number of milliseconds that a child has to end after it closed its connection or its
+/// standard input.
 const GRACE: u64 = 1000;
 
-/// A child of a crew, and the connection to it. Until it comes there is a file of its socket.
+/// A child of a crew, and the connection to it. The file of its socket exists until it connects.
 #[derive(Drop)]
 pub struct Peer<F: Drop> {
     rank: u32,
-    // There may be something to hear of it.
+    // It may have something to read, or be lost.
     is_stirred: bool,
-    // It closed its standard input, so it ends, most likely.
+    // It closed its standard input or a write to it failed, so it most likely ends.
     is_ending: bool,
-    // Nobody is to hear of it.
+    // The coordinator receives nothing of it any more.
     is_shut: bool,
-    // Why it is gone, where its end does not say it.
+    // Why it is lost, if its exit status does not say it.
     why: Option<Departure>,
-    // Why its connection takes nothing any more.
+    // Why its connection accepts nothing any more.
     cut: Option<io::Error>,
-    // Since when its end is waited for.
+    // Since when its end is awaited.
     since: Option<Instant>,
-    // Bytes came from it since it was last looked at whether some do.
+    // Bytes came from it since the last test of its silence.
     has_spoken: bool,
-    // Since when nothing came from it, as far as that was looked at.
+    // The time of the first test since which nothing came from it.
     quiet: Option<Instant>,
-    // Somebody was told that it is stopped.
+    // It was reported as stopped.
     is_reported: bool,
     outbox: Outbox,
-    // Before its line: it is killed before the file of its socket goes, for which it may look.
+    // Declared before `line`: it is killed before the file of its socket is removed, which it may
+    // need.
     child: Ward,
     line: Line<F>,
 }
@@ -50,27 +52,27 @@ pub struct Peer<F: Drop> {
 // The connection to a child.
 #[derive(Drop)]
 enum Line<F: Drop> {
-    // It has not come yet.
+    // It has not connected yet.
     Awaited(Door<F>),
     Open(UnixStream),
     Closed,
 }
 
-/// What is looked for among children.
+/// A condition on a child.
 #[derive(Clone, Copy)]
 pub enum Sought {
-    /// One that is this rank, and is not shut.
+    /// It has this rank and is not shut.
     Rank(u32),
-    /// One of which there may be something to hear.
+    /// It may have something to read, or be lost.
     Stirred,
-    /// One that is to end soon, of which no event need tell.
+    /// It should end soon, and no event may report that.
     Leaving,
-    /// One that has not connected.
+    /// It has not connected.
     Awaited,
 }
 
 impl<F: Drop> Peer<F> {
-    /// A child that is to come to this door.
+    /// Returns a child that connects to this door.
     pub fn new(alloc: Global, rank: u32, door: Door<F>, child: Ward) -> Peer<F> {
         Peer {
             rank,
@@ -89,15 +91,17 @@ impl<F: Drop> Peer<F> {
         }
     }
 
+    /// Returns its rank.
     pub fn rank(&self) -> u32 {
         self.rank
     }
 
+    /// Was it shut?
     pub fn is_shut(&self) -> bool {
         self.is_shut
     }
 
-    /// Whether it has not come to its socket.
+    /// Has it not connected yet?
     pub fn is_awaited(&self) -> bool {
         match &self.line {
             Line::Awaited(_) => true,
@@ -105,7 +109,7 @@ impl<F: Drop> Peer<F> {
         }
     }
 
-    // Whether it is to end soon, of which no event need tell.
+    // Should it end soon, perhaps without an event?
     fn is_leaving(&self) -> bool {
         match &self.line {
             Line::Closed => !self.child.has_ended(),
@@ -113,7 +117,7 @@ impl<F: Drop> Peer<F> {
         }
     }
 
-    /// Whether it is what is looked for.
+    /// Does it satisfy the condition?
     pub fn is(&self, sought: Sought) -> bool {
         match sought {
             Sought::Rank(rank) => self.rank == rank && !self.is_shut,
@@ -123,7 +127,7 @@ impl<F: Drop> Peer<F> {
         }
     }
 
-    /// Has what becomes of it reported under this token.
+    /// Registers its socket, until it connects, and its standard input under this token.
     pub fn register(&mut self, registry: &Registry, token: Token) -> io::Result<()> {
         if let Line::Awaited(door) = &mut self.line {
             registry.register(&mut door.listener, token, Interest::READABLE)?;
@@ -131,7 +135,7 @@ impl<F: Drop> Peer<F> {
         self.child.register(registry, token)
     }
 
-    // Takes the connection, if it has come.
+    // Accepts its connection, if there is one.
     fn answer(&mut self, registry: &Registry, token: Token) {
         let Line::Awaited(door) = &mut self.line else {
             return;
@@ -142,14 +146,15 @@ impl<F: Drop> Peer<F> {
                 self.open(registry, token, stream);
             }
             Err(error) => match error.kind() {
-                // A connection that was given up is none.
+                // The connection was closed again, or there is none yet.
                 ErrorKind::WouldBlock | ErrorKind::Interrupted | ErrorKind::ConnectionAborted => {}
                 _ => self.give_up(Departure::Unstarted(error)),
             },
         }
     }
 
-    // Goes on with its connection. The socket it came to is not needed any more.
+    // Registers the connection, removes the socket that it was made to, and writes the queued
+    // bytes.
     fn open(&mut self, registry: &Registry, token: Token, mut stream: UnixStream) {
         let both = Interest::READABLE | Interest::WRITABLE;
         match registry.register(&mut stream, token, both) {
@@ -165,14 +170,14 @@ impl<F: Drop> Peer<F> {
         }
     }
 
-    // Hears it no more, and kills it.
+    // Closes its connection and kills it.
     fn give_up(&mut self, why: Departure) {
         self.child.kill();
         self.close();
         self.why.get_or_insert(why);
     }
 
-    // Sends what can go for now.
+    // Writes as many queued bytes as can be written now.
     fn flush(&mut self) {
         let flushed = match &mut self.line {
             Line::Open(stream) => self.outbox.flush(stream),
@@ -183,8 +188,8 @@ impl<F: Drop> Peer<F> {
         }
     }
 
-    // Sends it nothing more, since a write failed. It is heard until its end, which most likely is
-    // why, and killed if that does not come soon.
+    // A write failed: sends it nothing more. Reading continues until its end, which is most likely
+    // the cause of the failure. If it does not end soon it is killed.
     fn lose(&mut self, error: io::Error) {
         drop(self.cut.replace(error));
         self.is_ending = true;
@@ -192,13 +197,14 @@ impl<F: Drop> Peer<F> {
         self.child.look();
     }
 
-    // Closes its connection.
+    // Closes its connection and drops the queued bytes.
     fn close(&mut self) {
         drop(mem::replace(&mut self.line, Line::Closed));
         self.outbox.close();
     }
 
-    /// Takes note of what may have become of it: bytes, room for bytes, its coming, or its end.
+    /// Follows an event of the poll: accepts its connection, writes queued bytes, and tests whether
+    /// it has ended if `is_ending` is set. Afterwards it may have something to read.
     pub fn stir(&mut self, registry: &Registry, token: Token, is_ending: bool) {
         if is_ending {
             self.is_ending = true;
@@ -212,7 +218,7 @@ impl<F: Drop> Peer<F> {
         self.is_stirred = true;
     }
 
-    // Whether its end was waited for long enough. Without a clock it was.
+    // Has its end been awaited long enough? Without a clock it has.
     fn has_waited(&self, now: Option<Instant>) -> bool {
         match (now, self.since) {
             (Some(now), Some(since)) => now.duration_since(since) >= Duration::from_millis(GRACE),
@@ -221,8 +227,8 @@ impl<F: Drop> Peer<F> {
         }
     }
 
-    /// Goes on waiting for its end at this time, if it has not come, or kills it where that has
-    /// lasted too long. One that has only closed its standard input may stay.
+    /// Continues to wait for its end at this time, or kills it if that took too long. A child that
+    /// has only closed its standard input may stay.
     pub fn hurry(&mut self, now: Option<Instant>) {
         if self.child.has_ended() {
             return;
@@ -244,7 +250,7 @@ impl<F: Drop> Peer<F> {
         }
     }
 
-    // Reads some bytes. It closes where none will come any more.
+    // Reads some bytes and returns their number. Closes the connection if no more will come.
     fn take(&mut self, buffer: &mut [u8]) -> Option<usize>
         ensures { IfSome result (λ n. n ≤ length buffer.new) }
     {
@@ -268,8 +274,8 @@ impl<F: Drop> Peer<F> {
         }
     }
 
-    /// Whether nothing has come from it for so many seconds, as far as is known at this time, and
-    /// nobody was told that it is stopped.
+    /// Has nothing come from it for this number of seconds, and was it not reported as stopped? The
+    /// seconds count from the first call since the last byte.
     pub fn is_silent(&mut self, now: Instant, seconds: u64) -> bool {
         if mem::replace(&mut self.has_spoken, false) {
             self.quiet = Some(now);
@@ -286,7 +292,7 @@ impl<F: Drop> Peer<F> {
         }
     }
 
-    /// Tells that it is stopped, if it is.
+    /// Reports to the watcher that it is stopped, if it is.
     pub fn report_stopped<R, W>(&mut self, rt: &R, alloc: Global, watcher: &mut W, seconds: u64)
     where
         R: Files<File = File>,
@@ -298,8 +304,8 @@ impl<F: Drop> Peer<F> {
         }
     }
 
-    /// Hears some bytes of it, and says how many, if there are any for now. 0 tells that it is
-    /// gone, which comes behind all that it said.
+    /// Reads some bytes and returns their number, or `None` if there are none now. Returns 0 if it
+    /// is lost, once all that it sent is read.
     pub fn hear(&mut self, buffer: &mut [u8]) -> Option<usize>
         ensures { IfSome result (λ n. n ≤ length buffer.new) }
     {
@@ -318,9 +324,9 @@ impl<F: Drop> Peer<F> {
         }
     }
 
-    /// Sends it bytes, or keeps them until it can take them. One whose connection is closed, or
-    /// whose connection fails, is sent nothing: its end is reported. Until it connects it shares a
-    /// long frame with the others that have not connected.
+    /// Sends it bytes, and queues those that it cannot take now. Fails only if memory runs out. If
+    /// its connection is closed or fails, the bytes are dropped: its end is reported later. Until it
+    /// connects it shares a long frame with the others that have not connected.
     pub fn send(
         &mut self,
         registry: &Registry,
@@ -344,14 +350,14 @@ impl<F: Drop> Peer<F> {
         }
     }
 
-    /// Closes its connection and kills it. Nobody is to hear of it.
+    /// Closes its connection and kills it. Its end is not reported.
     pub fn shut(&mut self) {
         self.is_shut = true;
         self.child.kill();
         self.close();
     }
 
-    /// Why it is gone.
+    /// Returns why it is lost.
     pub fn departure(&mut self) -> Departure {
         match mem::take(&mut self.why) {
             Some(why) => why,

@@ -29,7 +29,7 @@ fn before_name_of(slot: Slot) -> &'static str {
     }
 }
 
-/// What is done with the slots of a folder.
+/// The use of the slots of a folder.
 #[derive(Clone, Copy)]
 pub enum Stage {
     /// They are read and nothing is made: a missing file is an empty slot.
