@@ -48,7 +48,7 @@ pub struct Task {
     parts: Parts,
     handed: Hands,
     sharpening: Sharpening,
-    // The last box that was emptied, until the guide has learned from it.
+    // The last box that was emptied, until the guide has updated its weights by it.
     conflict: Option<Conflict>,
 }
 
@@ -100,7 +100,7 @@ fn only_left(alloc: Global, work: &Working, problem: &Problem) -> Result<Parts, 
     Parts::of(alloc, only_part(work, problem))
 }
 
-// What a search begins with.
+// The state with which a search begins.
 #[derive(Drop)]
 struct Beginning {
     work: Working,
@@ -175,7 +175,7 @@ impl Task {
           handed = [];
         }) }
     {
-        // The problem's type keeps that it is one.
+        // Shows that it is a problem: its type guarantees it.
         let _columns = problem.problem().columns();
         let sharpening = Sharpening::new(alloc, problem.problem(), &whole);
         match begun(alloc, problem.problem(), &whole) {
@@ -215,7 +215,7 @@ impl Task {
         self.look_on()
     }
 
-    // Does the same over the current formulation.
+    // Makes a step over the current formulation, as `step` does.
     fn look_on(&mut self) -> Result<Step, AllocError>
         ensures took { IfOk result (TookStep self.old self.new) }
         ensures empty { IfOk result (λ step. (step ≡ Empty) ↔ (self.old.boxes ≡ [])) }
@@ -300,7 +300,7 @@ impl Task {
         Ok(Some(Handed { number, area }))
     }
 
-    // Has the guide learn from the last box that was emptied.
+    // Updates the weights of the guide by the last box that was emptied.
     fn learn(&mut self)
         ensures { self.new ≡ self.old }
     {
@@ -358,7 +358,7 @@ impl Task {
         }
     }
 
-    // Branches by the list of multipliers that was kept last.
+    // Makes the guide branch by the list of multipliers that was kept last.
     fn follow(&mut self) -> Result<(), AllocError>
         ensures { self.new ≡ self.old }
     {
@@ -368,8 +368,8 @@ impl Task {
         }
     }
 
-    // Switches to a stronger formulation of the problem. The points that are searched for are the
-    // same. After an error the task is unchanged.
+    // Switches to a stronger formulation of the problem. The points searched for stay the same.
+    // After an error the task is unchanged.
     fn go_over(&mut self, stronger: Problem) -> Result<(), AllocError>
         requires base { self.old.params.base ≡ Surrogate }
         requires follows { Follows self.old.problem self.old.whole self.old.cutoff stronger }
@@ -379,7 +379,7 @@ impl Task {
             drop(stronger);
             return Ok(());
         };
-        // The problem's type keeps that it is one.
+        // Shows that it is a problem: its type guarantees it.
         let _columns = stronger.columns();
         begin(
             &mut self.work,

@@ -24,20 +24,23 @@ use ug_stream::Assembler;
 /// A coordinator during a run, with its crew.
 #[derive(Drop)]
 pub struct Hub<'a, R, O, C> {
+    /// The state of the coordinator.
     pub book: Book,
-    /// Bytes that came from each rank and of which no report was taken yet.
+    /// The bytes received from each rank that do not make a report yet.
     pub streams: Vec<Assembler>,
-    /// The buffer for bytes that arrive.
+    /// The buffer for bytes received.
     pub input: Vec<u8>,
-    /// The buffer for a frame that is sent.
+    /// The buffer for a frame to send.
     pub frame: Vec<u8>,
-    /// The rank whose bytes came last, while more of its reports may be there.
+    /// The rank from which bytes came last, while they may contain more reports.
     pub last: Option<u32>,
     /// Did memory run out?
     pub wants: bool,
-    /// When the next save may come.
+    /// Decides when the next save is due.
     pub pacing: Pacing,
+    /// The runtime, the allocator and the observer.
     pub host: &'a Host<'a, R, O>,
+    /// The workers of the run.
     pub crew: C,
     ghost room: { 0 < length input.items },
     ghost read: { AreReadBut last streams.items },
@@ -94,8 +97,8 @@ impl<R, O, C: Crew> Hub<'_, R, O, C> {
 impl<R: Wait, O: Observer, C: Crew> Hub<'_, R, O, C> {
     ghost use Rattle.ug_coord.specs.HubViews.{hub_seen};
 
-    /// Starts the crew, works until an end is due, and sends it the end. Saves the book as often as
-    /// its settings say.
+    /// Starts the crew, works until an end is due or memory runs out, and sends each rank the end.
+    /// Saves the book as often as its settings say.
     pub fn run<D: Disk>(&mut self, keeper: &mut Keeper, disk: &mut D)
         requires on { (from : HubState) × IsStartedIn IsRested 0 from (hub_seen C.seen self.old) }
         requires frame { IsSetUpFrame self.old.book self.old.frame.items }
@@ -116,8 +119,7 @@ impl<R: Wait, O: Observer, C: Crew> Hub<'_, R, O, C> {
     }
 
     // Decides, sends the orders, and receives the next report, or waits until something comes.
-    // Before each of them it tests whether an end is due, and then returns false, as after a turn
-    // that failed.
+    // Returns false if an end is due after the decision or after sending, or if a turn failed.
     fn step(&mut self) -> bool
         requires on { (from : HubState) × IsOnIn IsRested from (hub_seen C.seen self.old) }
         requires more { ¬ IsOver self.old.book }
@@ -143,7 +145,7 @@ impl<R: Wait, O: Observer, C: Crew> Hub<'_, R, O, C> {
         self.listen()
     }
 
-    // Makes a step, and a save if one is due.
+    // Makes a step, and saves if a save is due. Returns false if the step did.
     fn advance<D: Disk>(&mut self, keeper: &mut Keeper, disk: &mut D) -> bool
         requires on { (from : HubState) × IsOnIn IsRested from (hub_seen C.seen self.old) }
         requires more { ¬ IsOver self.old.book }

@@ -7,16 +7,22 @@ ghost use Rattle.ug_disk.specs.Scripts.{IsTurn};
 /// from 1.
 #[derive(Drop)]
 pub struct Script {
+    /// The calls that fail.
     pub failing: Vec<u64>,
+    /// The calls after which the disk stops.
     pub stopping: Vec<u64>,
 }
 
 /// The calls of a disk in memory so far.
 #[derive(Drop)]
 pub struct Calls {
+    /// The calls that fail or stop the disk.
     pub script: Script,
+    /// The number of calls.
     pub count: u64,
+    /// The number of faults, up to its largest value.
     pub faults: u64,
+    /// Has the disk stopped?
     pub is_stopped: bool,
 }
 

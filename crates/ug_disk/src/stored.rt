@@ -40,7 +40,9 @@ impl Model for Stored {
 /// The two slots in memory.
 #[derive(Drop)]
 pub struct StoredSlots {
+    /// Slot 0.
     pub zero: Stored,
+    /// Slot 1.
     pub one: Stored,
 }
 

@@ -3,7 +3,9 @@ use crate::slot::{Slot, Span};
 /// What a change replaced, so that the slot before the change is known.
 #[derive(Drop)]
 pub struct Undo {
+    /// The slot that was changed.
     pub slot: Slot,
+    /// Its state before, as far as the change replaced it.
     pub kept: Kept,
 }
 

@@ -14,7 +14,9 @@ use std::alloc::{AllocError, Global};
 /// rank.
 #[derive(Clone, Copy)]
 pub struct Piece<'a> {
+    /// The rank.
     pub rank: u32,
+    /// The bytes; none for a loss.
     pub bytes: &'a [u8],
 }
 

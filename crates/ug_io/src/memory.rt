@@ -9,6 +9,7 @@ use std::alloc::Global;
 /// A source in memory that never fails.
 #[derive(Drop)]
 pub struct MemorySource<'a> {
+    /// The bytes left.
     pub rest: &'a [u8],
 }
 
@@ -36,7 +37,9 @@ fn move_front(rest: &mut &[u8], buffer: &mut [u8]) -> usize
 /// A source in memory that fails where its script says.
 #[derive(Drop)]
 pub struct ScriptedSource<'a> {
+    /// The bytes left.
     pub rest: &'a [u8],
+    /// The calls that fail.
     pub script: Script,
 }
 

@@ -11,19 +11,19 @@ use ug_desk::{Desk, Pass};
 use ug_rules::Settings;
 use ug_worker::Took;
 
-/// What a desk answered to those who said what is left.
+/// The answers of a desk to `state` calls.
 #[derive(Clone, Copy)]
 pub struct Replies {
-    /// How many may continue.
+    /// The number of answers that let the worker continue.
     pub going: u64,
-    /// How many are to stop, or were not answered for lack of memory.
+    /// The number of answers that stop it, and of calls that ran out of memory.
     pub other: u64,
-    /// How many snapshots were made.
+    /// The number of snapshots made.
     pub snapshots: u64,
 }
 
 impl Replies {
-    /// Each number with its word.
+    /// Returns each number with its word.
     pub fn lines(&self) -> [(&'static str, u64); 3] {
         [
             ("going", self.going),
@@ -33,8 +33,8 @@ impl Replies {
     }
 }
 
-/// Takes the root of a desk and asks N times for what is left of it; each thousandth time a
-/// snapshot is made too.
+/// Takes the root of a desk and reports its state N times. Makes a snapshot at each thousandth
+/// report too.
 pub fn call_desk<R: Wait>(rt: &R, alloc: Global, calls: u64) -> Result<Replies, AllocError> {
     let opening = Opening::new(alloc, problem(alloc)?, 1, settings())?;
     let (desk, passes) = Desk::new(alloc, opening)?;
@@ -43,7 +43,7 @@ pub fn call_desk<R: Wait>(rt: &R, alloc: Global, calls: u64) -> Result<Replies, 
     Ok(replies)
 }
 
-// Takes what there is for the last of the passes, and asks N times for what is left of it.
+// Takes the work of the last pass, and reports its state N times.
 fn tell_all<R: Wait>(rt: &R, desk: &Desk, mut passes: Vec<Pass>, calls: u64) -> Replies
     requires { (k : _) (p : _) → slice_get passes.items k ≡ Some p → p.lock ≡ lock_of_desk desk.now }
 {
@@ -61,7 +61,7 @@ fn tell_all<R: Wait>(rt: &R, desk: &Desk, mut passes: Vec<Pass>, calls: u64) -> 
     replies
 }
 
-// Whether there is work for the pass, which it takes.
+// Takes work for the pass. Returns whether there is any.
 fn takes_work<R: Wait>(rt: &R, desk: &Desk, pass: &mut Pass) -> bool
     requires { pass.old.lock ≡ lock_of_desk desk.now }
     ensures lock { pass.new.lock ≡ pass.old.lock }
@@ -72,7 +72,7 @@ fn takes_work<R: Wait>(rt: &R, desk: &Desk, pass: &mut Pass) -> bool
     works
 }
 
-// Whether a snapshot was made.
+// Makes and drops a snapshot. Returns whether it was made.
 fn is_copied<R: Wait>(rt: &R, desk: &Desk, pass: &mut Pass) -> bool
     requires { pass.old.lock ≡ lock_of_desk desk.now }
     ensures lock { pass.new.lock ≡ pass.old.lock }
@@ -83,7 +83,7 @@ fn is_copied<R: Wait>(rt: &R, desk: &Desk, pass: &mut Pass) -> bool
     is_made
 }
 
-// Reports so often that two boxes are left.
+// Reports `calls` times that two boxes are left.
 fn tell<R: Wait>(rt: &R, desk: &Desk, pass: &mut Pass, calls: u64, replies: &mut Replies)
     requires { pass.old.lock ≡ lock_of_desk desk.now }
     ensures lock { pass.new.lock ≡ pass.old.lock }
@@ -99,7 +99,7 @@ fn tell<R: Wait>(rt: &R, desk: &Desk, pass: &mut Pass, calls: u64, replies: &mut
     }
 }
 
-// The settings of one rank.
+// Returns the settings of a run with one rank.
 fn settings() -> Settings
     ensures { AreSettings result }
 {

@@ -100,7 +100,7 @@ fn greater(a: i128, b: i128) -> i128
     if b < a { a } else { b }
 }
 
-// What a problem is made of.
+// The parts of a problem.
 #[derive(Drop)]
 struct Parts {
     columns: Columns,

@@ -15,7 +15,7 @@ pub fn check_problem(alloc: Global, kept: &Problem, read: &Problem) -> Result<()
     if kept.is(read) {
         return Ok(());
     }
-    // Records determine problems, and what lends its columns is a problem.
+    // Shows that both are problems: the records of two problems are equal only if they are.
     let (_kept_columns, _read_columns) = (kept.columns(), read.columns());
     let a = to_record(alloc, kept)?;
     let b = to_record(alloc, read)?;
@@ -32,8 +32,11 @@ pub fn check_problem(alloc: Global, kept: &Problem, read: &Problem) -> Result<()
 /// The first place at which two lists of bytes differ, and the bytes there.
 #[derive(Clone, Copy)]
 pub struct Difference {
+    /// The first place at which they differ.
     pub at: usize,
+    /// The byte there of the stored one, `None` past its end.
     pub kept: Option<u8>,
+    /// The byte there of the one that was read, `None` past its end.
     pub read: Option<u8>,
 }
 

@@ -10,9 +10,13 @@ pub enum Moment {
 /// The size of the model and of the run.
 #[derive(Drop)]
 pub struct Begun {
+    /// The number of columns.
     pub columns: usize,
+    /// The number of rows.
     pub rows: usize,
+    /// The number of solvers of the run.
     pub solvers: u32,
+    /// Does the model maximise?
     pub maximise: bool,
     /// The constant of the objective as it is printed; `None` if memory ran out.
     pub constant: Option<Vec<u8>>,

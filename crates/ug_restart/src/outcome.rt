@@ -3,6 +3,7 @@ use ug_book::Book;
 /// How a run ended, and which later saves were not made.
 #[derive(Drop)]
 pub struct Outcome {
+    /// How it ended.
     pub end: End,
     /// The number of later saves in which the disk failed.
     pub missed: u64,

@@ -19,7 +19,9 @@ use ug_rules::Settings;
 /// What a run begins with, and the saver that saved its first image.
 #[derive(Drop)]
 pub struct Start {
+    /// The state with which the run begins.
     pub opening: Opening,
+    /// Saves the images of the run.
     pub saver: Saver,
 }
 

@@ -20,7 +20,7 @@ use ug_checkpoint::Saver;
 use ug_disk::Disk;
 use ug_restart::{End, Host, Observer, Outcome, Saves, save_end, tell_begin};
 
-/// Solves what the opening has left, with one thread for each of its solvers. All threads have
+/// Solves the open nodes of the opening, with one thread for each of its solvers. All threads have
 /// ended when it returns. With a saver it saves the snapshots that the workers send, and the final
 /// book.
 #[tactic(auto, using(ug_restart::proofs::Outcomes::none_missed))]
@@ -148,7 +148,7 @@ fn saving<R: Threads + Wait + Sync, D: Disk, O: Observer>(
     outcome
 }
 
-// Returns the outcome, and the disk that was lent.
+// Returns the outcome, and the borrowed disk.
 fn parted<'a, D>(concluded: Concluded<'a, D>) -> (Outcome, &'a mut D)
     ensures outcome { result.0 ≡ concluded.entry.outcome }
     ensures name { result.1.ghost_name ≡ concluded.entry.kept.disk.ghost_name }
@@ -160,7 +160,7 @@ fn parted<'a, D>(concluded: Concluded<'a, D>) -> (Outcome, &'a mut D)
     (outcome, disk)
 }
 
-// Does nothing; it is the last use of what was lent.
+// Does nothing. It is the last use of the borrowed disk.
 fn take_back<D>(disk: &mut D)
     ensures { disk.new ≡ disk.old }
 {}

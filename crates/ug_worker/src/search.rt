@@ -39,8 +39,11 @@ pub struct Asked {
 /// A task that is searched.
 #[derive(Drop)]
 pub struct Search {
+    /// The task.
     pub task: Task,
+    /// The rounds made.
     pub tally: Tally,
+    /// The orders in force.
     pub asked: Asked,
 }
 
@@ -306,7 +309,8 @@ fn lower(task: &mut Task, cutoff: Option<i128>)
     }
 }
 
-// A task has each feasible point of its box below its cutoff in a box left or in one handed.
+// Shows that each feasible point of the task's box below its cutoff is in a box left or in a box
+// handed: its type guarantees it.
 fn is_one(task: &Task)
     ensures { IsTask task.now }
 {

@@ -44,6 +44,7 @@ impl Renewal {
 /// The rounds that a worker has made and reported, and when it releases a task, if ever.
 #[derive(Clone, Copy, PartialEq, Eq)]
 pub struct Tally {
+    /// When a task is released; never if `None`.
     pub renewal: Option<Renewal>,
     /// All rounds.
     pub all: u64,

@@ -42,7 +42,9 @@ pub fn work<R: Wait, S: Seat>(rt: &R, seat: &mut S, renewal: Option<Renewal>)
 /// A worker: its rounds, and its task, if it has one.
 #[derive(Drop)]
 pub struct Worker {
+    /// The rounds made.
     pub tally: Tally,
+    /// The task, if there is one.
     pub search: Option<Search>,
 }
 

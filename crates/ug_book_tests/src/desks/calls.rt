@@ -1,4 +1,4 @@
-//! One call of a pass each, and what is looked for in its answer.
+//! One call of a pass each, with a test of its answer.
 
 ghost use Rattle.std.specs.Prelude.{◌≡◌, IfSome};
 ghost use Rattle.ug_desk.specs.Backing.{IsKnownBacked};
@@ -12,7 +12,7 @@ use ug_rows::Point;
 use ug_rules::Heard;
 use ug_worker::Took;
 
-/// The work that a pass takes.
+/// Returns the task that a pass takes, if there is one.
 pub fn work<R: Wait>(rt: &R, desk: &Desk, pass: &mut Pass) -> Option<Task>
     requires { pass.old.lock ≡ lock_of_desk desk.now }
     ensures lock { pass.new.lock ≡ pass.old.lock }
@@ -25,7 +25,7 @@ pub fn work<R: Wait>(rt: &R, desk: &Desk, pass: &mut Pass) -> Option<Task>
     }
 }
 
-/// Whether there is nothing for a pass now.
+/// Does a pass get `Wait` when it takes work?
 pub fn waits<R: Wait>(rt: &R, desk: &Desk, pass: &mut Pass) -> bool
     requires { pass.old.lock ≡ lock_of_desk desk.now }
     ensures lock { pass.new.lock ≡ pass.old.lock }
@@ -36,7 +36,7 @@ pub fn waits<R: Wait>(rt: &R, desk: &Desk, pass: &mut Pass) -> bool
     waits
 }
 
-/// Whether all is over for a pass.
+/// Does a pass get `Over` when it takes work?
 pub fn is_over<R: Wait>(rt: &R, desk: &Desk, pass: &mut Pass) -> bool
     requires { pass.old.lock ≡ lock_of_desk desk.now }
     ensures lock { pass.new.lock ≡ pass.old.lock }
@@ -47,14 +47,14 @@ pub fn is_over<R: Wait>(rt: &R, desk: &Desk, pass: &mut Pass) -> bool
     is_over
 }
 
-/// Whether a step of a task is a split.
+/// Does the next step of a task branch?
 pub fn splits(task: &mut Task) -> bool
     ensures { task.new.problem ≡ task.old.problem }
 {
     matches!(task.step(), Ok(Step::Split))
 }
 
-/// Whether this many boxes are asked for of a pass that has two.
+/// Does a report of two boxes left ask for this number of boxes?
 pub fn is_asked_for<R: Wait>(rt: &R, desk: &Desk, pass: &mut Pass, count: u32) -> bool
     requires { pass.old.lock ≡ lock_of_desk desk.now }
     ensures lock { pass.new.lock ≡ pass.old.lock }
@@ -65,7 +65,7 @@ pub fn is_asked_for<R: Wait>(rt: &R, desk: &Desk, pass: &mut Pass, count: u32) -
     }
 }
 
-/// Whether the first box of a task that it hands is kept.
+/// Is the first box that a task hands kept?
 pub fn hands<R: Wait>(rt: &R, desk: &Desk, pass: &mut Pass, task: &mut Task) -> bool
     requires { pass.old.lock ≡ lock_of_desk desk.now }
     ensures lock { pass.new.lock ≡ pass.old.lock }
@@ -78,12 +78,12 @@ pub fn hands<R: Wait>(rt: &R, desk: &Desk, pass: &mut Pass, task: &mut Task) -> 
     heard == Heard::Kept
 }
 
-// The point (0, 5).
+// Returns the point (0, 5).
 fn least(alloc: Global) -> Option<Point> {
     Some(Point::from_vec(Vec::from_slice(alloc, &[0, 5]).ok()?))
 }
 
-/// Whether the point (0, 5) of a pass is kept.
+/// Is the point (0, 5) kept when a pass reports it?
 pub fn offers_least<R: Wait>(rt: &R, alloc: Global, desk: &Desk, pass: &mut Pass) -> bool
     requires { pass.old.lock ≡ lock_of_desk desk.now }
     ensures lock { pass.new.lock ≡ pass.old.lock }
