@@ -23,7 +23,7 @@ left_whole s n bs = sym (take-append-drop n (drop s bs))
 pub waiting_own : (o : Outbox) → o.ahead ≡ None → waiting o ≡ own_waiting o
 waiting_own o none = ap (λ a. rest_of a o.gone ++ own_waiting o) none
 
--- what is left of shared bytes of which `n` more went
+-- the rest of shared bytes of which `n` more went
 pub rest_dropped : (all : Option (List ℕ)) (gone n : ℕ) → rest_of all (gone + n) ≡ drop n (rest_of all gone)
 rest_dropped None gone zero = refl
 rest_dropped None gone (suc n) = refl
@@ -43,7 +43,7 @@ ahead_whole n old new own kept is same = ap (λ l. l ++ own) (sym (take-append-d
     ∙ (append_assoc (take n old) (drop n old) own
     ∙ ap (λ l. take n old ++ l) (ap (λ l. l ++ own) (sym is) ∙ ap (λ l. new ++ l) (sym same)))
 
--- what was written in two steps was written
+-- bytes that were written in two steps were written
 pub both_written : (a b c : Option (List ℕ)) (w v u : List ℕ) → HasWritten a b w v → HasWritten b c v u
     → HasWritten a c w u
 both_written a b c w v u p q = record {

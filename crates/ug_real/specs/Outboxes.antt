@@ -5,7 +5,7 @@ use Rattle.ug_real.specs.declared.outbox.Outbox.{Outbox}
 use Rattle.ug_real.specs.declared.outbox.Unsent.{Unsent}
 use Rattle.ug_real.specs.declared.outbox.Unsent.TheVariants.{Memory, Cut}
 
--- what is left of shared bytes of which this many went
+-- the rest of shared bytes of which this many went
 abbrev pub rest_of : Option (List ℕ) → ℕ → List ℕ
 rest_of None gone = []
 rest_of (Some bytes) gone = drop gone bytes
