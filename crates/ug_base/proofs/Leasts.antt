@@ -13,7 +13,7 @@ use Rattle.ug_base.proofs.LastBox.{halves_put}
 abbrev pub no_kept : Kept
 no_kept = record { part = no_part; least = no_part.floor }
 
--- what is kept beside parts is so beside the first of them
+-- a fact that is kept beside parts holds beside the first of them
 pub leasts_take : (n : ℕ) (before : Option ℤ) (kept : List Kept) → AreLeasts before kept → AreLeasts before (take n kept)
 leasts_take zero before kept h = tt
 leasts_take (suc n) before [] h = tt

@@ -86,7 +86,7 @@ pub nothing_left : (p : Instance) (cutoff : Option ℤ) (area : List Interval) (
     → IsTightened p cutoff area (Empty reason) → IsSeenHopeless p cutoff area
 nothing_left p cutoff area reason t = record { hopeless = subst IsHopeless t.value tt; none = t.kept }
 
--- what is left has no point
+-- the rest has no point
 left_crossed : (p : Instance) (cutoff : Option ℤ) (area inner : List Interval)
     → IsTightened p cutoff area (Kept inner) → IsCrossed inner → IsSeenHopeless p cutoff area
 left_crossed p cutoff area inner t c = record {
@@ -199,7 +199,7 @@ branch_halves p cutoff params area work halving t working h = record {
   working = working;
 }
 
--- what is seen in what is left of a box is seen in the box
+-- each point in the rest of a box is a point of the box
 pub seen_inside : (p : Instance) (cutoff : Option ℤ) (params : Params) (area : List Interval) (work : WorkState) (seen : Seen)
     → CanLook p cutoff area → IsTightened p cutoff area (Kept work.sums.area) → IsWorking p cutoff work
     → IsInSight params work.sums.area seen → IsSeen p cutoff params area work seen
@@ -230,7 +230,7 @@ crossed_hopeless p cutoff area c = record {
   none = λ x h g. no_point area x c h;
 }
 
--- what is left of a box has at most 10,000 columns
+-- the rest of a box has at most 10,000 columns
 pub few_columns : (p : Instance) (cutoff : Option ℤ) (area inner : List Interval) → CanLook p cutoff area
     → IsTightened p cutoff area (Kept inner) → length inner ≤ 10 ^ 4
 few_columns p cutoff area inner r t =

@@ -270,7 +270,7 @@ some_left t work old last same e none =
     let n = ap (λ (bs : List (List Interval)). length bs) (sym none ∙ last_of_fields t work old last same e) in
     absurd (omega (arith, n, length-append (front_of t.boxes) (area_of work last ∷ [])))
 
--- what is left of the last box is below the whole one
+-- the rest of the last box is below the whole one
 pub left_below : (t : TaskState) (s : Instance) (before after : WorkState) (old : List Part) (last : Part) (halving : Halving)
     → t.boxes ≡ areas_of before old → IsTask t → old ≡ front_of old ++ last ∷ []
     → IsSeenBranched s t.cutoff t.params (area_of before last) after halving → IsBelow after.sums.area t.whole

@@ -103,7 +103,7 @@ pub same_task : (t : TaskState) (before after : WorkState) (parts : List Part) �
 same_task t before after parts same e task =
     subst (λ (bs : List (List Interval)). IsTask (record t { boxes = bs })) (same ∙ sym e) task
 
--- what is searched stays so below the cutoff of a point that is found
+-- the searched formulation stays one below the cutoff of a point that is found
 pub searches_found : (t : TaskState) (s : Instance) (x : List ℤ) (cutoff : Option ℤ) → IsTask t → IsGood t.problem t.cutoff x
     → cutoff ≡ Some (cutoff_of t.problem t.gap x) → Searches t.params.base t.problem t.whole t.cutoff s
     → Searches t.params.base t.problem t.whole cutoff s

@@ -1,4 +1,4 @@
--- What is seen of a box over the formulation that is searched, said of the problem.
+-- Facts about a box over the searched formulation, stated about the problem.
 use Rattle.std.proofs.Common.{◌≡◌, refl, sym, subst, ap, map, ℤ, ◌<ℤ◌, List, Option, IfSome}
 use Rattle.ug_rows.specs.declared.area.Interval.{Interval}
 use Rattle.ug_rows.specs.declared.row.Objective.{Objective}
@@ -39,7 +39,7 @@ less_with : (a b : Objective) (cutoff : Option ℤ) (x : List ℤ) → a ≡ b �
     → IfSome cutoff (λ c. value_of b x <ℤ c)
 less_with a b cutoff x same h = subst (λ (o : Objective). IfSome cutoff (λ c. value_of o x <ℤ c)) same h
 
--- what is good is so in what is searched, and the other way
+-- a point is good in the searched formulation if and only if it is good
 pub good_there : (p : Instance) (whole : List Interval) (cutoff : Option ℤ) (s : Instance) (x : List ℤ) → Follows p whole cutoff s
     → IsInside whole x → IsGood p cutoff x → IsGood s cutoff x
 good_there p whole cutoff s x f inside good = record {
@@ -99,7 +99,7 @@ leaves Surrogate p whole cutoff s area inner h below left inside keeps = record 
   kept = keeps_good p whole cutoff s area h below inner keeps;
 }
 
--- what is left of a box is fixed, and its point is good
+-- the rest of a box is fixed, and its point is good
 pub record IsPointLeft (base : Base) (p : Instance) (cutoff : Option ℤ) (area : List Interval) (x : List ℤ) : Type 0 where
   pub inner : List Interval
   pub left : Leaves base p cutoff area inner
@@ -117,7 +117,7 @@ point_left base p whole cutoff s area x h below seen = record {
   good = good_back p whole cutoff s x (follows_of base p whole cutoff s h) seen.only.good;
 }
 
--- what is searched under a cutoff may be so under a lower one
+-- a formulation under a cutoff is one under a lower cutoff
 pub searches_lower : (base : Base) (p : Instance) (whole : List Interval) (old new : Option ℤ) (s : Instance)
     → ((x : List ℤ) → IsGood p new x → IsGood p old x) → Searches base p whole old s → Searches base p whole new s
 searches_lower Bound p whole old new s lower h = h

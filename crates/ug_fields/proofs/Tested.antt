@@ -6,7 +6,7 @@ use Rattle.ug_fields.specs.Readers.{IsReader, Takes}
 use Rattle.ug_fields.proofs.Takes.{first, then_, bind_ok, bind_err}
 use Rattle.ug_fields.proofs.Tests.{single, single_stops}
 
--- what is read passes a test
+-- a value that is read passes a test
 module _ {X : Type 0} (Good : X → Type 0) (field : X → List ℕ) (read : List ℕ → Reading X)
     (test : X → Bool) where
   abbrev tested_by : List ℕ → X × List ℕ → Reading X

@@ -7,7 +7,7 @@ use Rattle.std.proofs.lemmas.List.Folds.{list_all_more}
 use Rattle.std.proofs.lemmas.List.Splits.{slice_split-cons_yes, slice_split-cons_no}
 use Rattle.ug_lines.specs.Words.{is_blank, is_legible, is_line_byte, words_of, BeginsWord}
 
--- ---- where the first byte of a kind stands
+-- ---- the place of the first byte of a kind
 
 first-yes : (test : ℕ → Bool) (x : ℕ) (xs : List ℕ) → test x ≡ true → position_or_len test (x ∷ xs) ≡ 0
 first-yes test x xs e = ap (λ b. cond (not b) (1 + position_or_len test xs) 0) e

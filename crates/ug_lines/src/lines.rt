@@ -2,7 +2,7 @@ ghost use Rattle.std.specs.Prelude.{◌≡◌, ◌==◌, ◌<◌, ◌∷◌, ◌
 ghost use Rattle.std.specs.List.{position};
 ghost use Rattle.ug_lines.specs.Lines.{pieces, content_of};
 
-/// Where the first line feed stands.
+/// Returns the place of the first line feed.
 pub fn line_feed(text: &[u8]) -> Option<usize>
     ensures { result ≡ position (λ b. b == 10) text.now }
 {

@@ -36,21 +36,21 @@ pub fn is_legible(line: &[u8]) -> bool
     legible
 }
 
-// Where the first byte stands that is no blank.
+// Returns the place of the first byte other than a blank.
 fn first_byte(line: &[u8]) -> Option<usize>
     ensures { result ≡ position (λ b. not (is_blank b)) line.now }
 {
     line.iter().position(|b| !is_blank(*b))
 }
 
-// Where the first blank stands.
+// Returns the place of the first blank.
 fn first_blank(line: &[u8]) -> Option<usize>
     ensures { result ≡ position is_blank line.now }
 {
     line.iter().position(|b| is_blank(*b))
 }
 
-// The line from its first byte on that is no blank.
+// Returns the line from its first byte on that is not a blank.
 fn behind_blanks(line: &[u8]) -> &[u8]
     ensures words { words_of result.now ≡ words_of line.now }
     ensures begins { BeginsWord result.now }

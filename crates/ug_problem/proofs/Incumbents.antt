@@ -1,4 +1,4 @@
--- What better and right come to where one point is kept at most, and under a greater gap.
+-- The meaning of better and right if at most one point is kept, and under a greater gap.
 use Rattle.std.proofs.Common.{◌≡◌, refl, subst, ap, zero, suc, ℤ, pos, ◌+ℤ◌, ◌≤ℤ◌, ◌<ℤ◌, List, [], ◌∷◌, All, Option, Some, None, IfSome, arith}
 use Rattle.std.specs.Prelude.{Contains}
 use Rattle.std.specs.Option.{option_map, option_to_list}
@@ -18,7 +18,7 @@ pub one_point : (best : Option (List ℤ)) → cutoff_point (one_kept best) ≡ 
 one_point None = refl
 one_point (Some y) = refl
 
--- what is so of the point that is kept, if there is one
+-- a fact about the point that is kept, if there is one
 pub all_of_one : (P : List ℤ → Type 0) (best : Option (List ℤ)) → IfSome best P
     → All P (option_to_list best)
 all_of_one P None h k d l = absurd (omega (arith, l))
@@ -61,7 +61,7 @@ one_better p gap None x g b = record {
 one_better p gap (Some y) x g b =
     record { feasible = b.feasible; other = not_kept p gap y x g b.less; less = b.less }
 
--- what is better than a point of no greater value is better than the point
+-- a point better than a point of no greater value is better than the point
 less_still : (v w z gap : ℤ) → (v +ℤ gap) <ℤ w → w ≤ℤ z → (v +ℤ gap) <ℤ z
 less_still v w z gap less most = omega (arith, ints, less, most)
 
@@ -130,7 +130,7 @@ one_is_kept = record {
   right = λ p gap best g. (right_one p gap best g, one_right p gap best);
 }
 
--- what is less by more than the larger gap is less by more than the smaller
+-- a value that is less by more than the larger gap is less by more than the smaller
 less_by_less : (p : Instance) (gap more : ℤ) (point : Option (List ℤ)) (x : List ℤ) → gap ≤ℤ more
     → IfSome point (λ y. (value_of p.objective x +ℤ more) <ℤ value_of p.objective y)
     → IfSome point (λ y. (value_of p.objective x +ℤ gap) <ℤ value_of p.objective y)

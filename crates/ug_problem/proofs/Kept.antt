@@ -1,4 +1,4 @@
--- What is gathered term by term is where each column stands.
+-- The lists gathered term by term are the entries of each column.
 use Rattle.std.proofs.Common.{◌≡◌, ◌≢◌, refl, ◌∙◌, ap, sym, subst, inl, inr, ℕ, zero, suc, ◌+◌, ◌<◌, ◌⊎◌, List, [], ◌∷◌, ◌++◌, length, get_or, eq-eqb, ne_eqb, arith}
 use Rattle.std.proofs.lemmas.Bool.{cases_eq}
 use Rattle.std.proofs.lemmas.List.{length-map, length-append}
@@ -158,7 +158,7 @@ are_standings p j list h = record {
   all = λ r t among column. let a = h.all r t among column in (a.0, a.1, omega (arith, a.2));
 }
 
--- what is gathered over all terms is kept as where each column stands
+-- the lists gathered over all terms are kept as the entries of each column
 pub gathered_kept : (p : Instance) (lists : List (List Standing)) → IsFormed p → AreGathered (all_terms p) (length p.columns) lists
     → AreKept p lists
 gathered_kept p lists formed h = record {

@@ -77,7 +77,7 @@ whole_reversed (y ∷ ys) = subst IsWhole (sym (reverse_onto ys y [])) (whole_pu
 pub is_whole : (xs : List ℕ) → IsWhole xs
 is_whole xs = subst IsWhole (reverse-reverse xs) (whole_reversed (reverse xs))
 
--- what is known of a text of which something is kept
+-- facts about bytes of which some digits are kept
 record IsKeptOf (text : List ℕ) (d : Digits) : Type 0 where
   each : list_all is_ascii_digit text ≡ true
   number : significant_of text ≡ d.number
@@ -180,7 +180,7 @@ significant_rises xs (y ∷ ys) =
     let more : significant_of (xs ++ y ∷ []) ≤ significant_of ((xs ++ y ∷ []) ++ ys) = significant_rises (xs ++ y ∷ []) ys in
     subst P (append_assoc xs (y ∷ []) ys) (omega (arith, step, more))
 
--- a text of which nothing is kept begins no other
+-- bytes of which nothing is kept are a prefix of no others
 pub still_none : (xs ys : List ℕ) → kept_of xs ≡ None → kept_of (xs ++ ys) ≡ None
 still_none xs ys none = elim (cases_Bool (list_all is_ascii_digit xs)) [
   | inl each ↦ elim (cases_lt (significant_of xs) (10 ^ 38)) [
@@ -192,7 +192,7 @@ still_none xs ys none = elim (cases_Bool (list_all is_ascii_digit xs)) [
       ap (kept_by (xs ++ ys)) (and_left _ _ each)
 ]
 
--- what is kept behind a text of which d is kept, if r is what is kept of it and i bytes more
+-- if d is kept of some bytes, r is kept of these and i bytes more
 abbrev pub IsSoFar : Digits → List ℕ → ℕ → Option Digits → Type 0
 IsSoFar d bytes i r = (text : List ℕ) → kept_of text ≡ Some d → r ≡ kept_of (text ++ take i bytes)
 

@@ -36,7 +36,7 @@ pub number_none : (negative : Bool) (digits : List ℕ) (power : ℤ) → read_o
 number_none negative digits power e =
     number_is negative digits power ∙ ap (option_map (λ (d : Digits). decimal_from negative d.number (power +ℤ pos d.zeros))) e
 
--- what is before and behind a place is no longer than the text
+-- the bytes before and behind a place are no longer than the whole word
 pub pieces_fit : (text : List ℕ) (i : ℕ) → length (take i text) + length (drop (i + 1) text) ≤ length text
 pieces_fit text i = omega (arith, length-take i text, length-drop (i + 1) text)
 

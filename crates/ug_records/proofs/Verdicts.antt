@@ -46,7 +46,7 @@ made_is_it (Ok q) bytes p same e other is =
     same ∙ one
 made_is_it (Err e) bytes p same read other is = same
 
--- what is read of both is the same
+-- reading both gives the same
 pub records_are_unique : RecordsAreUnique
 records_are_unique p q r s is other same =
     let one = parts_reader.again p r (problem_is_whole p is) in

@@ -1,5 +1,4 @@
--- What is still to come of a record's bytes from one of its lines on, each list before what stands
--- behind it.
+-- The rest of a record's bytes from one of its lines on, each list before the next one.
 use Rattle.std.specs.Prelude.{ℕ, ◌+◌, List, [], ◌∷◌, ◌++◌, length, drop, slice_index_or}
 use Rattle.std.specs.List.{flat_map}
 use Rattle.ug_rows.specs.declared.row.Objective.{Objective}

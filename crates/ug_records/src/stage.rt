@@ -7,7 +7,7 @@ pub enum RecordStage {
     Column(usize),
     /// The head of this row, or behind the last that of the objective.
     Row(usize),
-    /// Of a row a term, or behind the last what follows the row.
+    /// A term of a row, or the end of the row behind its last term.
     Term(usize, usize),
     /// This term of the objective, or behind the last nothing.
     LastTerm(usize),

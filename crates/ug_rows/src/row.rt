@@ -17,7 +17,7 @@ pub struct Term {
 /// The terms of a sum, in rising order of their columns.
 pub type Terms = Items<Term>;
 
-/// A linear sum with the sides that it has to satisfy. A side that is `None` is no bound.
+/// A linear sum with the sides that it has to satisfy. A side that is `None` is infinite.
 #[derive(Drop)]
 pub struct Row {
     pub terms: Terms,
@@ -25,7 +25,7 @@ pub struct Row {
     pub high: Option<i128>,
 }
 
-/// What is minimised: a linear sum and a constant, both multiplied by 10 to the power of `scale`.
+/// The objective: a linear sum and a constant, both multiplied by 10 to the power of `scale`.
 #[derive(Drop)]
 pub struct Objective {
     pub terms: Terms,

@@ -16,7 +16,7 @@ use Rattle.ug_rules.specs.Deciding.{assigned, assigned_by, assigned_times, assig
 use Rattle.ug_rules.proofs.FirstLemmas.{first_idle}
 use Rattle.ug_rules.proofs.GivenLemmas.{CanBeGiven, given_book, given_stays_sound}
 
--- what is kept in turn is kept
+-- a fact that each step keeps is kept by all of them
 pub keeps_both : (a b c : BookState) → Keeps a b → Keeps b c → Keeps a c
 keeps_both a b c f g = record {
   book = λ h. g.book (f.book h);

@@ -157,7 +157,7 @@ pub none_raced : (raced : Option Entry) → (IsSome raced → ⊥) → raced ≡
 none_raced None h = refl
 none_raced (Some entry) h = absurd (h refl)
 
--- where a rank works none races
+-- if a rank works none races
 pub none_races : (b : BookState) (r : ℕ) (work : Work) → IsRaceAlone b
     → state_at b.ranks r ≡ Active work → SomeRaces b.ranks → ⊥
 none_races b r work alone is t =

@@ -139,7 +139,7 @@ stops_carried ss line all = of_each (stop_at line) 0 ss (λ j lt. by (0 + j) j (
     by n j (Racing racer) is = none_told
     by n j (Dead how) is = none_told
 
--- where a rank that works was lost
+-- if a rank that works was lost
 pub dead_carried : (b : BookState) → IsBook b → (r : ℕ) (line : List Name)
     → AreOrders (b.orders ++ stops_below line (slice_set b.ranks r (Dead Died)))
 dead_carried b h r line =
@@ -161,7 +161,7 @@ losers_carried ss winner all = of_each (loser_stop winner) 0 ss (λ j lt. by (0 
     by n j (Active work) is = none_told
     by n j (Dead how) is = none_told
 
--- where a race is won
+-- if a race is won
 pub won_carried : (b : BookState) → IsBook b → (rank : ℕ)
     → AreOrders (b.orders ++ winner_order rank (state_at b.ranks rank) ++ loser_stops rank b.ranks)
 won_carried b h rank =
@@ -185,7 +185,7 @@ cutoff_value p gap None problem fits feasible = tt
 cutoff_value p gap (Some x) problem fits feasible =
     cutoff_small p gap x (cutoff_of p gap x) problem fits refl feasible.inside
 
--- where it is announced
+-- if it is announced
 pub told_carried : (b : BookState) → IsBook b → (cutoff : ℤ) → IsValue cutoff
     → AreOrders (b.orders ++ announcements cutoff b.ranks)
 told_carried b h cutoff small = All-append Carried b.orders (announcements cutoff b.ranks) h.orders
@@ -197,7 +197,7 @@ told_carried b h cutoff small = All-append Carried b.orders (announcements cutof
       | inr not ↦ rw not none_told
     ]
 
--- where a node is given
+-- if a node is given
 pub given_carried : (b : BookState) → 0 < b.run → IsProblem b.problem → IsGap b.settings.gap
     → IfSome b.best (Feasible b.problem) → (r number : ℕ) (params : Params) (race : Bool)
     (entry : Entry) → 1 ≤ number → HasItsFloor b.problem entry → AreOrders b.orders
@@ -212,7 +212,7 @@ given_carried b some problem gap feasible r number params race entry first floor
       );
     }))
 
--- where it is reported of open nodes
+-- if it is reported of open nodes
 pub in_carried : (b : BookState) → IsBook b → (r count : ℕ) → 1 ≤ count
     → AreOrders (b.orders ++ collect_in r count (state_at b.ranks r))
 in_carried b h r count some = All-append Carried b.orders (collect_in r count (state_at b.ranks r))

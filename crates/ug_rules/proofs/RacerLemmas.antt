@@ -73,7 +73,7 @@ set_fewer_races ss r s l none (q, e) = elim (cases_eq q r) [
   | inr ne ↦ (q, sym (ap is_racing (state_there ss r s q ne)) ∙ e)
 ]
 
--- so did one that races after some ranks became idle, and it is none of them
+-- so did one that races after some ranks became idle, and it is not among them
 pub idled_fewer_races : (test : State → Bool) → test (Dead Died) ≡ false → (ss : List State)
     → SomeRaces (idled test ss) → (t : SomeRaces ss) × (test (state_at ss t.0) ≡ false)
 idled_fewer_races test h ss (q, e) = elim (cases_Bool (test (state_at ss q))) [

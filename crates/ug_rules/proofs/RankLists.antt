@@ -1,4 +1,4 @@
--- What is reported of each rank in turn.
+-- Reports of each rank in turn.
 use Rattle.std.proofs.Common.{◌≡◌, ℕ, zero, suc, ◌+◌, ◌<◌, List, [], ◌∷◌, ◌++◌, length, take, sym, ap, ◌∙◌, subst, arith}
 use Rattle.std.proofs.lemmas.List.{append-nil, append_assoc}
 use Rattle.ug_ranks.specs.declared.state.State.{State}

@@ -180,7 +180,7 @@ hand_by b r changes (Active work) =
     record { work = omega (arith, same); raced = omega arith; orders = omega arith }
 hand_by b r changes (Dead how) = same_takes_none b
 
--- what is kept
+-- the places that are kept
 pub kept_takes_none : (b : BookState) (r : ℕ) (report : Report) → r < length b.ranks
     → TakesNone b (kept r report b)
 kept_takes_none b r Ready l =

@@ -192,7 +192,7 @@ busy_given b = elim (cases_Bool (is_race_due b)) [
     all : is_race_due b ≡ false → is_race_awaited b ≡ false → handouts b ≡ assignments b
     all none goes = rw none (rw goes refl)
 
--- what is asked changes nothing of it
+-- asking for nodes changes nothing of it
 same_that : (test : State → Bool) → ((count : ℕ) (s : State) → test (asked_for count s) ≡ test s)
     → (k : ℕ) (ss : List State) (r count : ℕ)
     → of_ranks (rank_if test) k (set ss r (asked_for count (state_at ss r)))

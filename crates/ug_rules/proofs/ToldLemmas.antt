@@ -1,4 +1,4 @@
--- What is announced and asked changes no ledger.
+-- Announcements and requests change no ledger.
 use Rattle.std.proofs.Common.{inl, inr, ℕ, ◌≤◌, ℤ, List, [], ◌∷◌, ◌++◌, length, sym, subst, arith}
 use Rattle.std.specs.Prelude.{IfSome, Option, Some, None}
 use Rattle.ug_frames.specs.Ranges.{IsValue}

@@ -107,7 +107,7 @@ state_idled test e [] q = rw e refl
 state_idled test e (s ∷ ss) zero = refl
 state_idled test e (s ∷ ss) (suc q) = state_idled test e ss q
 
--- of a rank that passes, and of one that does not
+-- for a rank that passes, and for one that does not
 pub state_passed : (test : State → Bool) → test (Dead Died) ≡ false → (ss : List State) (q : ℕ)
     → test (state_at ss q) ≡ true → state_at (idled test ss) q ≡ Idle
 state_passed test e ss q h =
