@@ -5,7 +5,7 @@ ghost use Rattle.ug_branch.specs.Choices.{width_of, IsOpen, HasNoneOpen, AreClos
 use crate::params::{End, Params, Pick};
 use ug_rows::{IntBox, Interval};
 
-/// Where a box is branched on: the column, and the value that ends its lower half.
+/// The split of a box: the column, and the value that ends its lower half.
 #[derive(Clone, Copy, PartialEq, Eq)]
 pub struct Branch {
     pub column: u32,

@@ -44,7 +44,7 @@ fn push_rows(
     push_row(alloc, draws, 3, size, rows)
 }
 
-// What is minimised.
+// Returns the objective, which is minimised.
 fn objective(alloc: Global, draws: &Draws, size: u32) -> Result<Objective, AllocError>
     requires size { size ≤ 40 }
     requires drawn { 4 * size ≤ draws.now.count }

@@ -64,7 +64,7 @@ crossed_left [] None area = below_itself area
 crossed_left [] (Some cutoff) area = tt
 crossed_left (named ∷ rows) cutoff area = tt
 
--- what is left is below the box
+-- the rest is below the box
 rounds_below : (p : Instance) (cutoff : Option ℤ) (area : List Interval) → IsProblem p
     → length area ≡ length p.columns → IsLeftOf area (rounds p cutoff area)
 rounds_below p cutoff area problem wide =

@@ -52,7 +52,7 @@ shifted n s t = ap (λ (q : ℕ). q % 2) (div-div-eq-div-mul n (2 ^ s) (2 ^ t) �
 at_shift : (n s k : ℕ) → s ≤ k → bit_at n k ≡ bit_at (n / 2 ^ s) (k - s)
 at_shift n s k h = let e : k ≡ s + (k - s) = omega arith in ap (λ (i : ℕ). bit_at n i) e ∙ sym (shifted n s (k - s))
 
--- where nothing is left above a place there is no 1 from it on
+-- if nothing is left above a place there is no 1 from it on
 pub none_in : (word low : ℕ) → word / 2 ^ low ≡ 0 → IsFoundIn word low None
 none_in word low none k above =
     at_shift word low k above ∙ ap (λ (n : ℕ). bit_at n (k - low)) none ∙ bit_at-zero (k - low)

@@ -55,7 +55,7 @@ reached_whole p area n reach all h = record {
   each = λ r k there within. h.each r k (omega arith) within;
 }
 
--- what is measured are the sums
+-- the measured numbers are the sums
 pub summed_of : (ts : List Term) (area : List Interval) (ends : Ends) → IsMeasured ts area ends
     → IsSummed ts area (record { least = ends.least; greatest = ends.greatest })
 summed_of ts area ends h = record { small = h.small; least = h.least; greatest = h.greatest }

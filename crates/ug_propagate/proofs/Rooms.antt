@@ -305,7 +305,7 @@ room_after_low width look terms t area new room after reason least ready among t
     (same ∙ r.low ∙ ap (λ (s : ℤ). s -ℤ low_of look.low)
     (sym (sum_stays Greatest width terms t area moved.side ready.linear among there moved.end))))
 
--- what is left where no reason is reported
+-- the rest if no reason is reported
 pub kept_where_none : (told : Option Reason) (new : List Interval) (o : Tight) → IsNone told → outcome_of told new ≡ o → Kept new ≡ o
 kept_where_none None new o h e = e
 kept_where_none (Some reason) new o h e = absurd (cc)

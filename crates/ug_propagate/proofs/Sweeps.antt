@@ -101,7 +101,7 @@ good_keeps p (Some c) None row x named good =
     subst Q (sym named)
     (record { low = tt; high = value_below (sum_at p.objective.terms x) p.objective.constant c good.less })
 
--- what is left by a row of a part that is left
+-- the rest that a row leaves of a part that is left
 then_part : (p : Instance) (cutoff : Option ℤ) (last left area : List Interval) (name : Option ℕ) (row : Row)
     → IsNamed p cutoff name row → IsGoodPart p cutoff left area → IsPartFor row last left → IsGoodPart p cutoff last area
 then_part p cutoff last left area name row named part h = record {

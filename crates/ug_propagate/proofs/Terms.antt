@@ -76,7 +76,7 @@ raise_low_holds reason j q area x i there least =
     (λ some. inside_set area x j (record { low = q; high = side.high }) i there (record { low = least; high = w.high })))
     (λ looser. i)
 
--- what is not at most is above
+-- a number that is not at most another is above it
 above : (a b : ℤ) → (a ≤ℤ b → ⊥) → b <ℤ a
 above a b h = by_lt_z b a (λ lt. lt) (λ le. absurd (h le))
 

@@ -251,7 +251,7 @@ round_ends from p cutoff area awake o problem small resting within rest h =
     ∙ pass_to from (length p.rows + 1) p cutoff area awake o problem small resting within
     (λ k least less. (omega arith, rest k least (omega arith))) h)
 
--- where no row is awake a round gives the box itself
+-- if no row is queued a round returns the box itself
 pub round_rests : (p : Instance) (cutoff : Option ℤ) (area : List Interval) (awake : List ℕ) → IsProblem p → IsSmallCutoff cutoff
     → AreResting p cutoff area awake → RestFrom p awake 0 → round p cutoff (Kept area) ≡ Kept area
 round_rests p cutoff area awake problem small resting rest =

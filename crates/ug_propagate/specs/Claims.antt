@@ -23,7 +23,7 @@ Holds (Empty _) x = ⊥
 abbrev pub KeepsGood : Instance → Option ℤ → List Interval → Tight → Type 0
 KeepsGood p cutoff area tight = (x : List ℤ) → IsInside area x → IsGood p cutoff x → Holds tight x
 
--- what is left is below the box
+-- the rest is below the box
 abbrev pub IsLeftOf : List Interval → Tight → Type 0
 IsLeftOf area (Kept left) = IsBelow left area
 IsLeftOf area (Empty _) = Unit {0}

@@ -11,13 +11,13 @@ use Rattle.ug_propagate.specs.declared.tight.Tight.{Tight}
 use Rattle.ug_propagate.specs.declared.tight.Tight.TheVariants.{Kept, Empty}
 use Rattle.ug_propagate.specs.declared.tight.Reason.{Reason}
 
--- what is left of the box where this is left of column j
+-- the rest of the box if this is left of column j
 abbrev pub cut_of : Reason → ℕ → List Interval → Cut → Tight
 cut_of reason j area Whole = Kept area
 cut_of reason j area Nothing = Empty reason
 cut_of reason j area (To side) = Kept (slice_set area j side)
 
--- what is left is within the interval
+-- the rest is within the interval
 abbrev pub IsInnerCut : Interval → Cut → Type 0
 IsInnerCut side Whole = Unit {0}
 IsInnerCut side Nothing = Unit {0}

@@ -161,7 +161,7 @@ abbrev pub are_crossed : List Interval → Bool
 are_crossed [] = false
 are_crossed (side ∷ sides) = int_lt side.high side.low || are_crossed sides
 
--- what is said of a box without points: the row that is examined first, if there is one
+-- the reason for a box without points: the row that is examined first, if there is one
 abbrev pub crossed : List NamedRow → Option ℤ → List Interval → Tight
 crossed [] None area = Kept area
 crossed [] (Some cutoff) area = Empty (reason_of None High)

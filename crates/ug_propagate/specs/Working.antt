@@ -250,7 +250,7 @@ RestsWhereChanged Same look terms area = Unit {0}
 RestsWhereChanged Changed look terms area = HasOneSide look → IsAtRest look terms area
 RestsWhereChanged (Emptied reason) look terms area = Unit {0}
 
--- the rows are at rest on the box under this cutoff, or it is not known of any
+-- the rows are at fixpoint for the box and this cutoff, or it is not known of any
 abbrev pub AllRest : Instance → Rest → List Interval → Type 0
 AllRest p Unknown area = Unit {0}
 AllRest p (Under cutoff) area = (r : ℕ) → r ≤ length p.rows

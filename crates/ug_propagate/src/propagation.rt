@@ -11,7 +11,7 @@ use std::alloc::{AllocError, Global};
 use ug_problem::{NamedRow, Problem};
 use ug_rows::{IntBox, Interval, has_point};
 
-/// What is said of a box without points: the row that is examined first, if there is one.
+/// The reason for a box without points: the row that is examined first, if there is one.
 pub fn told_of_crossed(
     alloc: Global,
     rows: &[NamedRow],

@@ -2,9 +2,9 @@
 
 ghost use Rattle.std.specs.Prelude.{◌≡◌, ◌+◌, ◌<◌, ◌≤◌, ◌^◌, ◌+ℤ◌, ◌-ℤ◌, ◌*ℤ◌, unsigned_abs};
 
-/// The most that the absolute coefficients of a row come to where its sums are kept in 64 bits:
-/// over numbers of 32 bits they are then at most 2^60, and the product of a coefficient and a
-/// number of 33 bits at most 2^61.
+/// The largest total of the absolute coefficients of a row whose sums are kept in 64 bits: over
+/// numbers of 32 bits they are then at most 2^60, and the product of a coefficient and a number of
+/// 33 bits at most 2^61.
 pub const MOST_SIZE: u128 = 536_870_912;
 
 /// The product of a coefficient and a number of 33 bits.

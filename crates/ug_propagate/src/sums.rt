@@ -82,7 +82,7 @@ fn last_standing(standings: &[Standing]) -> Option<Standing>
     }
 }
 
-// Where a column is in the objective, if it does.
+// Returns the entry of a column in the objective, if it has one.
 fn objective_standing(problem: &Problem, column: usize) -> Option<Standing>
     requires { column < length problem.now.columns }
     ensures problem { IsProblem problem.now }

@@ -18,7 +18,7 @@ pub struct Reason {
 /// What bound propagation makes of a box.
 #[derive(Drop)]
 pub enum Tight {
-    /// What is left of the box.
+    /// The rest of the box.
     Kept(IntBox),
     /// Nothing is left, for this reason.
     Empty(Reason),

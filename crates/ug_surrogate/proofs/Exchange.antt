@@ -185,7 +185,7 @@ at_whole : (p : Instance) (m : Multipliers) (n : ℕ) (x : List ℤ) → IsProbl
 at_whole p m n x problem are wide =
     parts_whole n (parts_of p m) x (subst (λ (k : ℕ). ArePartsThere k (parts_of p m)) (sym wide) (parts_there p m problem are))
 
--- what is summed column by column is the least of the weighted sum
+-- the sum column by column is the least weighted sum
 pub least_weighted : (p : Instance) (area : List Interval) (m : Multipliers) (f : ℤ) → IsProblem p → AreMultipliers p m
     → length area ≡ length p.columns → IsNonEmpty area
     → f ≡ constant_of p m +ℤ least_below (length area) (parts_of p m) area → IsLeastWeighted p area m f

@@ -1,4 +1,4 @@
--- What is the same part by part is the same.
+-- Values that are the same part by part are the same.
 use Rattle.std.proofs.Common.{◌≡◌, ◌∙◌, ℤ, List, ℕ, ap}
 use Rattle.ug_rows.specs.declared.row.Row.{Row}
 use Rattle.ug_problem.specs.declared.column.Column.{Column}

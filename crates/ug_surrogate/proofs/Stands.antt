@@ -129,7 +129,7 @@ factor_among (u ∷ ts) t apart (inr later) =
     rw (ne_eqb u.column t.column (λ e. free_among u.column ts t apart.0 later (sym e)))
     (omega (arith, ints, factor_among ts t apart.1 later))
 
--- where no term is of the column it is 0
+-- if no term is of the column it is 0
 factor_without : (j : ℕ) (ts : List Term) → ((t : Term) → IsAmong t ts → t.column ≢ j) → factor_in j ts ≡ pos 0
 factor_without j [] none = refl
 factor_without j (t ∷ ts) none =

@@ -54,7 +54,7 @@ abbrev pub IsPassed : Instance → Multipliers → List Interval → Option ℕ 
 IsPassed p m area None = 10 ^ 38 < size_to p m area 0
 IsPassed p m area (Some r) = (k : ℕ) × PassesAt p m area r k
 
--- where the sum passes 10^38
+-- the row at which the sum passes 10^38
 abbrev pub IsTooBig : Instance → Multipliers → List Interval → TooBig → Type 0
 IsTooBig p m area told = IsPassed p m area told.row
 

@@ -17,7 +17,7 @@ use ug_rows::{Extreme, IntBox, Row, sum_of_ends};
 // The greatest cutoff.
 const MOST_CUTOFF: u128 = 20_000_000_000_000_000_000_000_000_000_000_000_000;
 
-// The name of a row that is no row of the file.
+// The name of a row that the file does not have.
 #[tactic(auto, using(crate::proofs::Follows::star_is_name))]
 fn name(alloc: Global) -> Result<Text, AllocError>
     ensures { IfOk result (λ name. IsName name) }

@@ -10,7 +10,7 @@ ghost use Rattle.ug_surrogate.specs.Rounding.{HasSmallSides, IsCommonDivisor, Is
 use crate::exact::{divide_down, divide_up, minus, plus, times};
 use ug_rows::{Extreme, IntBox, Interval, Row, Term, sum_of_ends};
 
-/// The sides that are left of a row. A side that is `None` is no bound.
+/// The sides that are left of a row. A side that is `None` is infinite.
 #[derive(Clone, Copy, Debug, PartialEq, Eq)]
 pub struct Sides {
     pub low: Option<i128>,
@@ -100,7 +100,7 @@ fn add_steps(base: i128, divisor: u128, steps: i128) -> i128
     plus(base, times(divisor as i128, steps))
 }
 
-// How many steps up from the base are needed to come to `low`.
+// Returns the number of steps up from the base that reach `low`.
 fn steps_up(divisor: u128, base: i128, low: i128) -> i128
     requires some { 0 < divisor }
     requires divisor { divisor ≤ 10 ^ 24 }
@@ -182,7 +182,7 @@ fn sides_left(low: Option<i128>, high: Option<i128>) -> Narrowed
     }
 }
 
-// What is left of the sides of a row whose sums over the box differ by multiples of a divisor.
+// Returns the rest of the sides of a row whose sums over the box differ by multiples of a divisor.
 fn narrowed_by(divisor: u128, row: &Row, area: &[Interval]) -> Narrowed
     requires divisor { divisor ≤ 10 ^ 24 }
     requires terms { IsLinear (length area.now) row.now.terms }
@@ -200,9 +200,9 @@ fn narrowed_by(divisor: u128, row: &Row, area: &[Interval]) -> Narrowed
     sides_left(low, high_down(divisor, base, row.high))
 }
 
-/// What is left of the sides of a row where its sums over a box differ by multiples of a common
+/// Returns the rest of the sides of a row if its sums over a box differ by multiples of a common
 /// divisor of the coefficients of the open columns: no point of the box that satisfies the row is
-/// lost. Where there is no such divisor above 1 the sides stay as they are. It takes no memory.
+/// lost. If there is no such divisor above 1, the sides stay as they are. Takes no memory.
 pub fn rounded(row: &Row, area: &IntBox) -> Narrowed
     requires terms { IsLinear (length area.now) row.now.terms }
     requires sides { HasSmallSides row.now }

@@ -1,4 +1,4 @@
--- What a call in a turn of its own comes to.
+-- The result of a call in a turn of its own.
 use Rattle.std.proofs.Common.{ℕ, List, ◌++◌, Option, sym, ap, ◌∙◌, subst}
 use Rattle.ug_turn.specs.declared.view.View.{View}
 use Rattle.ug_turn.specs.Histories.{told}

@@ -69,7 +69,7 @@ module _ {A : Type 0} where
   snoc_get (x ∷ xs) a b zero e = inl e
   snoc_get (x ∷ xs) a b (suc k) e = ⊎_elim (λ t. inl t) (λ t. inr (ap suc t.0, t.1)) (snoc_get xs a b k e)
 
-  -- what is in front is in the whole
+  -- an item of a prefix is in the whole
   pub front_get : (xs ys : List A) (k : ℕ) (a : A) → slice_get xs k ≡ Some a → slice_get (xs ++ ys) k ≡ Some a
   front_get [] ys k a e = absurd (cc (e))
   front_get (x ∷ xs) ys zero a e = e
@@ -126,7 +126,7 @@ module _ {V O E : Type 0} where
   pub may_gather : (lock : TableId) (s : Seat V O E) → IsAtRestAt lock s → IsGathering lock s
   may_gather lock s at = record { lock_is = at.lock_is; role = at.rest.role; step = at.rest.step; slots = at.rest.slots }
 
-  -- what is said of a seat and of those that ended with it, is said of all of them
+  -- a fact about a seat and about those that ended with it holds of all of them
   pub closed_of : (opening : V → O) (replays : V → List E → Type 0) (by : E → ℕ) (passes : ℕ) (seats front : List (Seat V O E)) (last : Seat V O E) (v : View O E) (value : V)
       → seats ≡ front ++ last ∷ [] → HasGathered (view_of last) front v → EndsWith opening replays by passes v value → IsClosed opening replays by passes seats value
   closed_of opening replays by passes seats front last v value is gathered ends = record {

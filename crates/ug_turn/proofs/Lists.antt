@@ -131,7 +131,7 @@ module _ {A : Type 0} where
   longer_whole (x ∷ xs) (y ∷ ys) p =
       let rest = longer_whole xs ys (p.0, cc (p.1)) in cc (p.1, rest)
 
-  -- what is in a list with one more is in the list, or is the last
+  -- an item of a list with one more is in the list, or is the last
   pub at_snoc_place : (l : List A) (a b : A) (j : ℕ) → get_elem? (l ++ a ∷ []) j ≡ some b → (get_elem? l j ≡ some b) ⊎ ((j ≡ length l) × (a ≡ b))
   at_snoc_place [] a b zero e = inr (refl, some-injective a b e)
   at_snoc_place [] a b (suc j) e = absurd (some-ne-none b (sym e))
@@ -147,7 +147,7 @@ set_same (w ∷ ws) (suc i) = ap (λ l. w ∷ l) (set_same ws i)
 -- ---- the entries of a pass
 
 module _ {E : Type 0} (by : E → ℕ) where
-  -- what another pass adds is no entry of this one
+  -- an entry that another pass adds belongs to the other pass
   pub calls_of_other : (p q : ℕ) (log : List E) (entry : Option E) → ((e : E) → entry ≡ Some e → by e ≡ q) → p ≢ q → calls_by by p (log ++ told entry) ≡ calls_by by p log
   calls_of_other p q log None is apart = ap (calls_by by p) (append-nil log)
   calls_of_other p q log (Some e) is apart =
@@ -161,7 +161,7 @@ module _ {E : Type 0} (by : E → ℕ) where
       let on : (by e == p) ≡ true = eq-eqb (by e) p (is e refl) in
       filter-append (λ x. by x == p) log (e ∷ []) ∙ (rw on refl)
 
--- ---- what is out with a seat
+-- ---- the value that is out with a seat
 
 module _ {A : Type 0} where
   some_or : A → Option A → A

@@ -19,7 +19,7 @@ module _ {V O E : Type 0} (opening : V → O) (replays : V → List E → Type 0
       (puts_home opening replays by cutoff passes start slots id v h its_pass is_out (subst (λ e. MayPut opening replays by cutoff v h.value e) (sym said) may))
 
 module _ {V O E : Type 0} where
-  -- what is out, where the slot that was taken is written
+  -- the value that is out, if the slot that was taken is written
   pub written : (m m' : Me (Option (Held V E)) (View O E)) (h : Held V E) → m' ≡ (m.0, (0, Some h) ∷ rest m.1) → m.1 ≡ (0, None) ∷ [] → m' ≡ (m.0, (0, Some h) ∷ [])
   written m m' h now was = now ∙ ap (λ (l : List (ℕ × Option (Held V E))). (m.0, (0, Some h) ∷ rest l)) was
 

@@ -11,7 +11,7 @@ use Rattle.ug_turn.specs.declared.view.Ended.{Ended}
 use Rattle.ug_turn.specs.declared.held.Held.{Held}
 use Rattle.ug_turn.specs.Histories.{calls_by}
 
--- what is at a moment, over all seats: the numbers drawn and served, who drew each, which seat
+-- the state at a moment, over all seats: the numbers drawn and served, who drew each, which seat
 -- has each pass, what the history began with, the history, and the cutoffs of value and word
 pub record Moment (O E : Type 0) : Type 0 where
   pub drawn : ℕ

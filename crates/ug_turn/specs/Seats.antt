@@ -80,7 +80,7 @@ pub record IsNoteOf {V O E : Type 0} (s note : Seat V O E) : Type 0 where
   pub known : (view_of note).known ≡ (view_of s).known
   pub slots : note.place.me.1 ≡ []
 
--- a seat that is no pass
+-- a seat that is a note, not a pass
 pub record IsNote {V O E : Type 0} (note : Seat V O E) : Type 0 where
   pub parts : (view_of note).parts ≡ 0
   pub slots : note.place.me.1 ≡ []

@@ -70,7 +70,7 @@ module _ {O E : Type 0} where
   abbrev pub informed : View O E → View O E → View O E
   informed v w = record v { told = w.seen; known = min v.known w.known }
 
-  -- what is kept of a pass that has ended
+  -- the record of a pass that has ended
   abbrev pub end_of : View O E → Ended E
   end_of v = record { pass = v.pass; seen = v.seen; mine = v.mine }
 

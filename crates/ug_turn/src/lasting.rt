@@ -17,7 +17,7 @@ pub trait Lasting {
     /// Which pass made an entry.
     ghost by: { Self.Entry → ℕ };
 
-    /// The cutoff as a word; the greatest word is none.
+    /// The cutoff as a word; the greatest word stands for no cutoff.
     ghost cutoff: { Self → ℕ };
 
     /// The word of the value's cutoff. It takes no memory.

@@ -1,8 +1,8 @@
-//! A lock by turns round one value, which shows the history that it stands for. Who wants the
-//! value goes in at the turnstile, draws a number, takes the value when it is served, and passes
-//! the turn on. The history is in proofs alone: what each seat has seen of it is a beginning of it,
-//! and the entries of each pass are the pass's own calls, each once. Beside the lock stands a
-//! cutoff, which only falls and is read without a turn.
+//! A lock by turns round one value, which shows its history. A thread that needs the value enters
+//! the turnstile, draws a number, takes the value when it is served, and passes the turn on. The
+//! history exists in proofs only: each seat has seen a prefix of it, and the entries of each pass
+//! are the pass's own calls, each once. Beside the lock is a cutoff, which only falls and is read
+//! without a turn.
 #![tactic(auto)]
 
 mod closing;
