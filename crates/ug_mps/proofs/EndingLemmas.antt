@@ -353,7 +353,7 @@ few_above bytes line l (more, e) =
     let len : 7 ≡ length l.open_ + length more = ap length is ∙ length-append l.open_ more in
     omega (arith, len, l.count, l.within)
 
--- what was seen up to a line feed, where it is no open line, was seen of all
+-- the result up to a line feed, unless a line is open there, is that of all bytes
 pub seen_all : (bytes : List ℕ) (at : ℕ) (r : Seen) → ((line : ℕ) → r ≢ seens.Open line) → IsSeenTo bytes at r → IsSeen bytes r
 seen_all bytes at (seens.Ended cut) n h = h
 seen_all bytes at seens.Passed n h = h

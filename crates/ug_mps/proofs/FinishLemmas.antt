@@ -1,4 +1,4 @@
--- What is made at the end is what the lines state.
+-- The problem made at the end is the one that the lines state.
 use Rattle.std.proofs.Common.{◌≡◌, ℕ, cond, Bool, true, false, List, [], ◌∷◌, ◌++◌, get_or, map, filter, All, Option, Some, None, sym, refl, ap, subst, ◌∙◌, ⊎_elim}
 use Rattle.std.specs.List.{zip}
 use Rattle.std.specs.Option.{option_map}

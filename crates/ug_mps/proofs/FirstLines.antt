@@ -110,7 +110,7 @@ content_front [] = ([], refl)
 content_front (b ∷ bs) = let h = content_front bs in
     content_choice (bytes_eq (b ∷ bs) (10 ∷ []) || bytes_eq (b ∷ bs) (13 ∷ 10 ∷ [])) b (content_of bs) h.0 bs h.1
 
--- what is in the first line begins the bytes
+-- the bytes begin with those of the first line
 pub line_front : (bytes : List ℕ) → (more : List ℕ) × (bytes ≡ first_line bytes ++ more)
 line_front bytes =
     let p = piece_front bytes in

@@ -153,7 +153,7 @@ last_going (column line n pairs ∷ h) name j apart here e =
     bytes_same name n (sym here.same ∙ ap (name_at names) same ∙ last.1.stands.same)
 last_going (_ ∷ h) name j apart here e = last_going h name j apart here e
 
--- a name that is no column continues with none
+-- a name that belongs to no column continues with none
 pub not_going : (h : List Entry) (name : List ℕ) → is_column h name ≡ false → goes_on h name ≡ false
 not_going h name e = false_from (goes_on h name) (λ t.
     let last = going_last h name t in

@@ -106,7 +106,7 @@ pub record IsFine (s : Section) (shape : Shape) : Type 0 where
   pub section : belongs (Some s) shape ≡ true
   pub words : IsWorded shape
 
--- what is said of a value, if there is one
+-- a statement about a value, if there is one
 abbrev If : {A : Type 0} → (A → Type 0) → Option A → Type 0
 If P None = Unit {0}
 If P (Some x) = P x
@@ -227,7 +227,7 @@ module _ (h : List Entry) (ws : List (List ℕ)) where
   data_taken n s shape new r same e t is took =
       rw (data_shaped s shape same e t is, subst (λ s. shape_in s ws ≡ Some shape) same is) took
 
--- what is at fault with the type of a bound, by the first word
+-- the fault of the type of a bound, by the first word
 pub type_by_first : (s : Option Section) (w : List ℕ) (ws : List (List ℕ)) (o : Option Complaint) → IsFirst w ws
     → ((more : List (List ℕ)) → or_fault (semi_continuous s (w ∷ more)) (bad_bound_kind s (w ∷ more)) ≡ o) → or_fault (semi_continuous s ws) (bad_bound_kind s ws) ≡ o
 type_by_first s w [] o f h = absurd f
@@ -272,7 +272,7 @@ shapeless : (h : List Entry) (s : Option Section) (ws : List (List ℕ)) → sha
     → data_fault h s ws ≡ or_fault (semi_continuous s ws) (or_fault (bad_bound_kind s ws) (Some (record { kind = kinds.Words; word = None })))
 shapeless h s ws n = rw (n, and_none (are_short ws)) refl
 
--- where the words of a header are at fault and what it says does not depend on a third word behind it
+-- if the words of a header are at fault and what it says does not depend on a third word behind it
 may_many : (s : Option Section) (b c : List ℕ) (vs ws : List (List ℕ)) → may_follow s (b ∷ c ∷ vs) ≡ may_follow s (b ∷ c ∷ ws)
 may_many None b c vs ws = refl
 may_many (Some s) b c vs ws = refl

@@ -12,7 +12,7 @@ use Rattle.ug_mps.specs.Ending.{begins_legibly, StopsFirst, NoneOf, HasNoFeed, I
 use Rattle.ug_mps.proofs.Bytes.{false_from, not_true, not_false}
 use Rattle.ug_mps.proofs.FirstLines.{line_byte, line_return}
 
--- ---- where a byte stands
+-- ---- the place of a byte
 
 -- the bytes before the first of which the test is true, that one, and the rest
 pub record CutAt (test : ℕ → Bool) (bytes : List ℕ) (at : ℕ) : Type 0 where

@@ -67,7 +67,7 @@ module _ (part : RowPart) (rows : KeptRows) (r : List ℕ) (i : ℕ) (apart : Ar
   repeated_no_pair o p j e n f l are below stand =
       let bad : AreAt rows.names [] (j ∷ []) = subst (λ q. AreAt rows.names [] (second_place q)) e (subst (λ q. AreAt rows.names (rows_in (second_shaped q)) (second_place p)) n stand.1) in absurd bad
 
-  -- what is at the second place
+  -- the value at the second place
   second_stands : (o : Option NamedWord) (p : Option ℕ) (j : ℕ) (w : NamedWord) → p ≡ Some j → o ≡ Some w → AreAt rows.names (rows_in (second_shaped o)) (second_place p) → StandsAt rows.names w.row.now j
   second_stands o p j w e n stand =
       (let at : AreAt rows.names (w.row.now ∷ []) (j ∷ []) = subst (λ q. AreAt rows.names (w.row.now ∷ []) (second_place q)) e (subst (λ q. AreAt rows.names (rows_in (second_shaped q)) (second_place p)) n stand) in at).0
@@ -121,7 +121,7 @@ module _ (part : RowPart) (old mid : KeptRows) (p : Pair) (i : ℕ) (apart : Are
       (subst (λ q. PutsPairs part (p ∷ pair_said w ∷ []) (i ∷ second_place q) old new) (sym e)
       (puts_two part p (pair_said w) i j old mid new apart is is'))
 
--- what is said of a call that went well
+-- facts about a call that succeeded
 pub if_ok : {E : Type 0} {A : Type 0} (r : Result A E) (P Q : Type 0) → (P → Q) → OnOk r P → OnOk r Q
 if_ok (Ok x) P Q f h = f h
 if_ok (Err e) P Q f h = h

@@ -77,7 +77,7 @@ module _ (names : List (List ℕ)) (order : List ℕ) (h : AreOrdered names orde
   pub stands_ordered : (name : List ℕ) (k : ℕ) → IsOrderedAt names order name k → StandsAt names name (get_or order k 0)
   stands_ordered name k a = record { there = h.within k a.there; same = a.same }
 
-  -- a name for which there is a gap is none of the names
+  -- a name for which there is a gap is not among the names
   pub gone_in_gap : (name : List ℕ) (k : ℕ) → IsGapFor names order name k → Contains names name → ⊥
   gone_in_gap name k g c =
       let s = at_contains names name c in

@@ -25,7 +25,7 @@ line_at text k = get_or (lines_of text) k no_line
 pub lines_before_more : (text : List ℕ) (k : ℕ) → k < length (lines_of text) → lines_before text (k + 1) ≡ line_at text k ∷ lines_before text k
 lines_before_more text k h = ap reverse (take_more (lines_of text) k no_line h) ∙ reverse-append (take k (lines_of text)) (line_at text k ∷ [])
 
--- what is said so far after line k, by what was said before it
+-- the statements up to line k, by those before it
 abbrev pub after_line : List ℕ → ℕ → List Entry → Option (List Entry)
 after_line text k h = after h (length (lines_before text k) + 1) (line_at text k)
 
@@ -185,7 +185,7 @@ one_fault text boxed f g (inr (inr (j, a, e, u))) (inr (inr (k, b, e', u'))) = o
 
 -- ---- there is an outcome
 
--- what is said ends with ENDATA
+-- the statements end with ENDATA
 pub ended_form : (h : List Entry) → is_ended h ≡ true → (g : List Entry) × (h ≡ header Endata ∷ g)
 ended_form [] e = absurd (false≢true e)
 ended_form (header s ∷ h) e = (h, ap (λ s. header s ∷ h) (section_same s Endata e))

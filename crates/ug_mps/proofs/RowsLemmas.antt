@@ -283,7 +283,7 @@ two_pairs (parts.Coefficient j) l p q = lists_same l.named _ _ _ _ _ _ (append_a
 two_pairs Side l p q = lists_same l.named _ _ _ _ _ _ refl (append_assoc l.sides (p ∷ []) (q ∷ [])) refl
 two_pairs Range l p q = lists_same l.named _ _ _ _ _ _ refl refl (append_assoc l.ranges (p ∷ []) (q ∷ []))
 
--- what is not repeated
+-- rows that are not repeated
 not_repeated_one : (taken : List ℕ → Bool) (r : List ℕ) (rs : List (List ℕ)) → repeated taken (r ∷ rs) ≡ None → (taken r ≡ false) × (repeated (λ word. taken word || bytes_eq word r) rs ≡ None)
 not_repeated_one taken r rs e = ⊎_elim
     (λ t. let bad : Some r ≡ None = rw t at e in absurd (cc))

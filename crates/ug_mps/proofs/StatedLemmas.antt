@@ -84,7 +84,7 @@ going_some [] n e = absurd (false≢true e)
 going_some (column line m pairs ∷ h) n e = some_by (goes_on h m) (columns_of h) (record { line = line; name = m; integer = is_integer_on h }) (λ t. going_some h m t)
 going_some (_ ∷ h) n e = going_some h n e
 
--- where there are coefficients there are columns
+-- if there are coefficients there are columns
 some_columns : (h : List Entry) → 0 < length (coefficients h) → 0 < length (columns_of h)
 some_columns [] a = absurd (omega (arith, a))
 some_columns (column line n pairs ∷ h) a = some_by (goes_on h n) (columns_of h) (record { line = line; name = n; integer = is_integer_on h }) (λ t. going_some h n t)
@@ -181,7 +181,7 @@ signed_all_small m terms s =
 
 -- ---- limits
 
--- what is not too wide
+-- a row that is not too wide
 pub record AreNarrow (role : Role) (n : Numbers) : Type 0 where
   pub scale : scale_of n ≤ 60
   pub terms : AreSmall (scaled_terms n)

@@ -103,7 +103,7 @@ abbrev pub mark : Bool → List ℕ
 mark true = []
 mark false = 32 ∷ 0 ∷ []
 
--- ---- where the last line begins
+-- ---- the beginning of the last line
 
 -- none of these lines is ENDATA
 abbrev pub AreOthers : List Line → Type 0

@@ -55,7 +55,7 @@ line_fault h line = or_fault (too_long line) (if is_comment line.content then No
     else or_fault (bad_byte line.content)
     (words_fault h (is_data line.content) (words_of line.content)))
 
--- ---- what is said
+-- ---- the statements
 
 -- a pair with its number
 abbrev pub pair_read : WordPair → Option Pair

@@ -242,7 +242,7 @@ fn of_row(rows: &[RowDraft], line: u64) -> Cause {
     Cause::Plain(Kind::TooWide)
 }
 
-// Why what the lines say is no problem.
+// Returns why the lines do not state a problem.
 fn of_draft(boxed: Option<u32>, draft: Draft, fault: &MpsFault) -> Cause {
     let (columns, rows) = draft.into_kept();
     let cause = match fault.kind {

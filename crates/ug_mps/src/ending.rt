@@ -125,7 +125,7 @@ fn after_stop(bytes: &[u8]) -> Tail
     }
 }
 
-// Where the first byte stands that may not be in a line.
+// Returns the place of the first byte that may not be in a line.
 fn stop(bytes: &[u8]) -> Option<usize>
     ensures { result ≡ position (λ b. not (is_line_byte b)) bytes.now }
 {
@@ -158,7 +158,7 @@ pub fn tail_of(after: bool, bytes: &[u8]) -> Tail
     }
 }
 
-// Where the first line feed from `from` on stands.
+// Returns the place of the first line feed from `from` on.
 fn feed_from(bytes: &[u8], from: usize) -> Option<usize>
     requires { from ≤ length bytes.now }
     ensures { MatchOption result (HasNoFeed (drop from bytes.now)) (IsFeedAt bytes.now from) }

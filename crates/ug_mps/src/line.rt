@@ -57,7 +57,7 @@ fn is_bounds(section: Option<Section>) -> bool
     }
 }
 
-// What is at fault with the type of a bound, where the section is BOUNDS.
+// Returns the fault of the type of a bound, if the section is BOUNDS.
 fn bad_type(section: Option<Section>, word: &[u8]) -> Option<Kind>
     ensures { (more : List (List ℕ))
         → or_fault (semi_continuous section (word.now ∷ more))

@@ -69,7 +69,7 @@ fn found(names: &[Text], order: &[u32], name: &[u8]) -> Option<u32>
     }
 }
 
-// Where the place of a new name goes among the ordered places.
+// Returns the index at which the place of a new name goes among the ordered places.
 fn gap_for(names: &[Text], order: &[u32], name: &[u8]) -> usize
     requires ordered { AreOrdered names.now order.now }
     requires new { ¬ Contains names.now name.now }

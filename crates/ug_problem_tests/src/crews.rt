@@ -4,7 +4,7 @@ use crate::expect::holds;
 use std::alloc::Global;
 use ug_io::{Came, Crew, Exchange, MemoryCrew, Piece, Script};
 
-/// A call of a crew, and what it comes to.
+/// A call of a crew, and its result.
 #[derive(Clone, Copy)]
 enum Call {
     /// A turn: what came, or that it failed.
@@ -51,8 +51,8 @@ const PIECES: &[Piece<'static>] = &[
     },
 ];
 
-// Two ranks are launched, by calls 1 and 2; a turn brings two bytes at most. The third rank is none
-// of the crew.
+// Two ranks are launched, by calls 1 and 2; a turn brings two bytes at most. The third rank is not
+// in the crew.
 const CALLS: &[Call] = &[
     Call::Turn {
         came: Some(Came::Bytes { rank: 1, count: 2 }),
@@ -142,7 +142,7 @@ const EXCHANGED_FAILING: &[Exchange] = &[
     },
 ];
 
-// Whether the call comes to that.
+// Does the call have this result?
 fn comes_so(crew: &mut MemoryCrew<'_>, call: Call) -> bool {
     let mut buffer = [0u8; 8];
     match call {
@@ -160,8 +160,7 @@ fn comes_so(crew: &mut MemoryCrew<'_>, call: Call) -> bool {
     }
 }
 
-// Whether each call comes to what it is to, under a script, and that was received and reported in
-// the end.
+// Does each call have its result under a script, and was this received and sent in the end?
 fn are_so(alloc: Global, failing: &[u64], calls: &[Call], exchanged: &[Exchange]) -> bool {
     let Ok(failing) = failing.to_vec(alloc) else {
         return false;

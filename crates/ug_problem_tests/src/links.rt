@@ -4,7 +4,7 @@ use crate::expect::holds;
 use std::alloc::Global;
 use ug_io::{Got, Link, MemoryLink, Said, Script};
 
-/// A call of a link, and what it comes to.
+/// A call of a link, and its result.
 #[derive(Clone, Copy)]
 enum Call {
     /// A read that waits, or not.
@@ -92,7 +92,7 @@ const FAILING: &[Call] = &[
 
 const SAID_FAILING: &[Said] = &[Said::Heard(b'a'), Said::Told(b'w'), Said::Heard(b'b')];
 
-// Whether the call comes to that.
+// Does the call have this result?
 fn comes_so(link: &mut MemoryLink<'_>, call: Call) -> bool {
     let mut buffer = [0u8; 8];
     match call {
@@ -101,7 +101,7 @@ fn comes_so(link: &mut MemoryLink<'_>, call: Call) -> bool {
     }
 }
 
-// Whether each call comes to what it is to, under a script, and that was said in the end.
+// Does each call have its result under a script, and was this said in the end?
 fn are_so(alloc: Global, failing: &[u64], most: usize, calls: &[Call], said: &[Said]) -> bool {
     let Ok(failing) = failing.to_vec(alloc) else {
         return false;

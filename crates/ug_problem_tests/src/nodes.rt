@@ -101,7 +101,7 @@ fn refused(rt: &impl Abort, alloc: Global, told: &[Told]) -> Option<AreaError> {
     error
 }
 
-// Changes, and the first that is none, by its column.
+// Changes, and the column of the first one that is invalid.
 const FIRST_BAD: &[(&[Told], Option<AreaError>)] = &[
     (
         &[(0, 4, 7), (1, 0, 7)],

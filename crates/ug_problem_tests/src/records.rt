@@ -75,7 +75,7 @@ fn records_are_spelled_so(rt: HostRuntime) {
     same(&rt, &is_text_spelled_so(rt.alloc(), SMALL), &Some(true));
 }
 
-// Where the first bad field begins.
+// Returns the place of the first bad field.
 fn place(alloc: Global, bytes: &[u8]) -> Option<usize> {
     match from_record(alloc, bytes).err()? {
         RecordError::BadRecord { at } => Some(at),
@@ -96,7 +96,7 @@ fn place_with(alloc: Global, written: &[u8], byte: usize, value: u8) -> Option<O
     Some(place)
 }
 
-// At this byte of the small record this value: where the bad field begins.
+// A byte of the small record, its new value, and the place of the bad field then.
 const SPOILED: &[(usize, u8, usize)] = &[
     (2, 40, 0), // 10,241 columns
     (4, 0, 4), // a name of no bytes

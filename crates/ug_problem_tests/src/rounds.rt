@@ -166,7 +166,7 @@ BOUNDS
 ENDATA
 ";
 
-// What is left of each column, or why nothing is.
+// The rest of each column, or why nothing is left.
 type Outcome = Result<&'static [(i32, i32)], Reason>;
 
 // What the rounds leave of the root under a cutoff.

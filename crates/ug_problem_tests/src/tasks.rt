@@ -248,7 +248,7 @@ fn hands_first(task: &mut Task) -> bool {
         && task.ticket() == Ticket { run: 1, number: 3 }
 }
 
-/// What is examined in a search of the square.
+/// The facts examined in a search of the square.
 #[derive(Clone, Copy)]
 enum Looked {
     Lowered,

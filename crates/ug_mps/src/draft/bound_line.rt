@@ -11,7 +11,7 @@ use crate::error::fault_of;
 use ug_drafts::{Amount, Kind, MpsError};
 use ug_lines::BoundKind;
 
-// The amount of a number, if there is one, or the word that is none.
+// Returns the amount of a number, if there is one, or the word that is not a number.
 fn amount_said<'a>(number: Option<&'a [u8]>) -> Result<Option<Amount>, &'a [u8]>
     requires { IfSome number (λ word. length word.now ≤ 255) }
     ensures said { MatchResult result

@@ -2,7 +2,7 @@ use crate::draft::Draft;
 use ug_drafts::{ColumnDraft, RowDraft};
 
 impl Draft {
-    /// What is kept of each column and of each row, without their names.
+    /// The data kept of each column and of each row, without their names.
     pub fn into_kept(self) -> (Vec<ColumnDraft>, Vec<RowDraft>) {
         let Draft {
             rows,

@@ -132,7 +132,7 @@ impl Rows {
         self.drafts[at as usize].put(part, number)
     }
 
-    /// The places of the rows that the pairs name, or the first name that is none of a row.
+    /// Returns the places of the rows that the pairs name, or the first name that is not a row's.
     pub fn look<'a>(&self, pairs: &NamedWords<'a>) -> Result<RowPlaces, &'a [u8]>
         ensures value { MatchResult result
             (λ places. (first_missing self.now.names (rows_in (pairs_shaped pairs.now)) ≡ None)

@@ -1,4 +1,4 @@
-//! Where a look-up of a name tries first.
+//! First places of a look-up of a name.
 
 ghost use Rattle.std.specs.Prelude.{◌≡◌, ◌+◌, ◌≤◌, ◌<◌, ◌^◌, length, IfSome};
 ghost use Rattle.ug_mps.specs.Names.{StandsAt};
@@ -18,8 +18,8 @@ const FIRST: usize = 64;
 const NO_PLACE: u32 = u32::MAX;
 
 /// Places of names by a hash of the names. They are guesses: each is compared before it is used,
-/// and where none is right nothing follows. So the hash needs no secret: whoever chooses names that
-/// fall together makes the guesses vain, and no look-up longer than by these few comparisons.
+/// and nothing follows if none is right. So the hash needs no secret: names chosen to collide make
+/// the guesses useless, and a look-up longer only by these few comparisons.
 #[derive(Drop)]
 pub struct Guesses {
     places: Vec<u32>,

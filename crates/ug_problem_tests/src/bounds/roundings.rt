@@ -36,7 +36,7 @@ fn put_sides(sides: &mut Vec<Interval>, bounds: &[(i32, i32)]) -> bool {
     so
 }
 
-// What is left of the sides of the first row over a box.
+// Returns the rest of the sides of the first row over a box.
 #[tactic(auto, using(ug_surrogate::proofs::Parts::row_linear, ug_surrogate::proofs::Parts::small_sides))]
 fn rounded_first(problem: &Problem, area: &IntBox) -> Option<Narrowed> {
     let rows = problem.rows();

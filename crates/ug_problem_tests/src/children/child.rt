@@ -84,8 +84,8 @@ exec \"";
     make_around_own(rt, "solver", before, behind)
 }
 
-/// Makes a program `child` in this folder. As rank 0 it says back what it receives, as rank 1 a
-/// signal ends it, as rank 2 it ends with status 3, and as any other it never comes to its socket.
+/// Makes a program `child` in this folder. Rank 0 sends back what it receives, a signal ends rank
+/// 1, rank 2 ends with status 3, and any other rank never connects to its socket.
 pub fn make_child<R: Files + Env + AllocGlobal>(rt: &R) -> bool {
     let before = "#!/bin/sh
 case \"$3\" in

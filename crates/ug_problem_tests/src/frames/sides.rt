@@ -6,7 +6,7 @@ use ug_frames::Decoded;
 
 /// Orders, or reports.
 pub trait Side: Drop {
-    /// What is at the front of the bytes.
+    /// Returns the message at the front of the bytes.
     fn decode(alloc: Global, bytes: &[u8]) -> Result<Decoded<Self>, AllocError>
     where
         Self: Sized;
@@ -16,7 +16,7 @@ pub trait Side: Drop {
     fn copy(buffer: &mut Vec<u8>, alloc: Global, bytes: &[u8]) -> bool;
 }
 
-// What is at the front of some bytes, if there is memory to say so: a frame of this many, say.
+// The result of reading the front of some bytes: a frame of this length, for example.
 #[derive(Clone, Copy, PartialEq)]
 enum Front {
     Whole { used: usize },
@@ -67,7 +67,7 @@ fn is_whole<M: Side>(alloc: Global, bytes: &mut Vec<u8>) -> bool {
         && front_at::<M>(alloc, bytes) == whole
 }
 
-// Whether the bytes are the frame of a message, or of none, and is none before its last byte.
+// Are the bytes the frame of a message, or not, and no frame before their last byte?
 fn is_so<M: Side>(alloc: Global, text: &str, is_message: bool) -> bool {
     let mut bytes = Vec::new(alloc);
     let is_spelled = spell(&mut bytes, text) && needs_all::<M>(alloc, &bytes);

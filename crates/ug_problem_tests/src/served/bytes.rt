@@ -110,8 +110,8 @@ const CASES: &[Case] = &[
                0000000000000000 00000001 16",
         end: Served::Ended,
     },
-    // A stop that is cut short at the look ahead of the first round is none, and behind it there is
-    // no task.
+    // A stop that is cut short between the orders before the first round is ignored, and behind it
+    // there is no task.
     Case {
         pieces: &[
             SETUP,

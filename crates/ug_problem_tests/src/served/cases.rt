@@ -8,8 +8,7 @@ use std::process::Abort;
 use std::sync::Wait;
 use ug_serve::Served;
 
-/// What is ordered behind a problem under a gap, piece by piece, what is then reported, and how it
-/// ends.
+/// The orders behind a problem under a gap, piece by piece, the reports that follow, and the end.
 #[derive(Clone, Copy)]
 pub struct Case {
     pub what: &'static str,

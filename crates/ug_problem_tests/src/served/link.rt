@@ -40,7 +40,7 @@ fn front_told(said: &[Said], wanted: &[u8]) -> Option<usize> {
     Some(told)
 }
 
-// What is reported where these pieces come, and then the end of the link.
+// Returns the reports if these pieces come, and then the end of the link.
 fn told_over<R: Wait>(
     rt: &R,
     alloc: Global,
@@ -59,8 +59,8 @@ fn told_over<R: Wait>(
     Some(Told { front, end })
 }
 
-/// What is reported where these pieces come, and then the end of the link. An empty piece is a gap:
-/// a read that does not wait finds nothing there, once. None where there is no memory to say so.
+/// Returns the reports if these pieces come, and then the end of the link. An empty piece is a gap:
+/// a read that does not wait finds nothing there, once. Returns `None` if memory runs out.
 pub fn told_of<R: Wait>(
     rt: &R,
     alloc: Global,

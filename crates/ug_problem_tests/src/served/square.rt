@@ -220,7 +220,7 @@ const BEGUN: &[Case] = &[
         end: Served::Ended,
     },
     // The first column is branched on to 4, where the second one is 1 at least and is branched on
-    // to it. The cutoff of the first task is none of the second one's.
+    // to it. The cutoff of the first task does not apply to the second one.
     Case {
         what: "two tasks",
         gap: 0,

@@ -13,7 +13,7 @@ pub const SECOND: Ticket = Ticket { run: 1, number: 2 };
 
 pub const NEXT_RUN: Ticket = Ticket { run: 2, number: 1 };
 
-/// What is to be searched.
+/// The box to search.
 #[derive(Clone, Copy)]
 pub struct Work {
     pub ticket: Ticket,

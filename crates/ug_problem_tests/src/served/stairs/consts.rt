@@ -143,7 +143,7 @@ pub const FOURTH: Reported = Reported::Hand {
     ],
 };
 
-/// What is left after the first round where none was handed, one, and two.
+/// The boxes left after the first round if none was handed, one, and two.
 pub const THREE_LEFT: Reported = Reported::State {
     ticket: FIRST,
     left: 3,
