@@ -52,7 +52,7 @@ handed_counts (Racing racer) r changes b = refl
 handed_counts (Active work) r changes b = refl
 handed_counts (Dead how) r changes b = refl
 
--- what is kept counts none either
+-- a report that is kept counts none either
 kept_counts : (r : ℕ) (report : Report) (b : BookState) → (kept r report b).heard ≡ b.heard
 kept_counts r Ready b = refl
 kept_counts r (Solution ticket x) b = refl

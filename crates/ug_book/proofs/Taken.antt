@@ -1,4 +1,4 @@
--- What is taken up takes no place that was kept for a node that is out, or for a Stop.
+-- Taking a report up takes no place that was kept for a node that is out, or for a Stop.
 use Rattle.std.proofs.Common.{◌≡◌, ℕ, ◌<◌, length, refl, ap, arith, if◌then◌else◌}
 use Rattle.std.specs.Prelude.{List}
 use Rattle.std.proofs.lemmas.List.{length-map, length-set}

@@ -21,7 +21,7 @@ none_by (Racing racer ∷ ss) e = none_by ss e
 none_by (Active work ∷ ss) e = absurd (true≢false e)
 none_by (Dead how ∷ ss) e = none_by ss e
 
--- where none does there is no such node
+-- if none does there is no such node
 pub none_work : (ss : List State) → All (λ s. is_working s ≡ false) ss → nodes_of ss ≡ []
 none_work ss all = none_by ss (list_any_none is_working ss all)
 
@@ -38,7 +38,7 @@ some_by (Dead how ∷ ss) e = some_by ss e
 pub some_work : (ss : List State) → Any (λ s. IsTrue (is_working s)) ss → nodes_of ss ≢ []
 some_work ss any = some_by ss (list_any-from_Any is_working ss any)
 
--- where a rank races there is a node that is raced
+-- if a rank races there is a node that is raced
 pub raced_where_racing : (b : BookState) (rank : ℕ) → IsBook b
     → is_racing (state_at b.ranks rank) ≡ true → IsSome b.raced
 raced_where_racing b rank book races = book.race.racing (are_racing b.ranks (rank, races))

@@ -79,7 +79,7 @@ const CASES: &[Case] = &[
         told: &[Some(b"")],
         way: Way::Stranded,
     },
-    // What the first says is no report; it is received no more, and the second does it all.
+    // The first rank sends a malformed message and is not read again; the second does all the work.
     Case {
         limit: 100,
         pieces: &[

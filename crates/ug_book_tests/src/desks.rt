@@ -16,7 +16,7 @@ use crate::expect::holds;
 use std::alloc::Global;
 use std::sync::Wait;
 
-/// What is examined in a desk.
+/// The facts examined in a desk.
 #[derive(Clone, Copy)]
 enum Looked {
     BoxIsWork,

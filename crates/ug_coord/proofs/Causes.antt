@@ -301,7 +301,7 @@ counted_lives (Unbacked cutoff incumbent) b rank alive = alive
 counted_lives (Short said was) b rank alive = alive
 counted_lives Memory b rank alive = alive
 
--- under an answer that is no death
+-- under an answer that loses no rank
 kept_alive : (deadly : Bool) (r : ℕ) (b : BookState) (rank : ℕ) → deadly ≡ false
     → Lives b (if deadly then killed r b else b) rank
 kept_alive false r b rank is alive = alive

@@ -247,7 +247,7 @@ heard_by answer r report old new run is pacing = record {
   pacing = pacing;
 }
 
--- where neither the book nor its pacing changed
+-- if neither the book nor its pacing changed
 pub quiet_none : (old new : HubSeen) → new.book ≡ old.book → new.pacing ≡ old.pacing
     → IsQuiet old new
 quiet_none old new same pacing =

@@ -96,7 +96,7 @@ reading said phase h more told decided =
 
 -- ---- who lives
 
--- a rank that is not alive does not live, also where it is none of the crew
+-- a rank that is not alive does not live, also if it is not in the crew
 pub away_is : (seen : CrewSeen) (rank : ℕ) → ¬ IsAlive seen rank → slice_index_or seen.lives rank false ≡ false
 away_is seen rank away = elim (cases_Bool (slice_index_or seen.lives rank false)) [
   | inl lives ↦ elim (cases_lt rank (length seen.lives)) [
@@ -592,7 +592,7 @@ frame_still {Z} old new before after run frame h =
     setup_still old new before.items after.items run.problem run.settings
     (ap (λ (v : Vec ℕ Z). v.items) frame) h
 
--- ---- what is read of a stream
+-- ---- reading a stream
 
 pub took_by : (b : HubState) (old mid new : HubSeen) (rank : ℕ) (report : Report) → ¬ IsOver old.book
     → old.book.orders ≡ []
@@ -756,7 +756,7 @@ pub in_phase : (P : Phase → Type 0) (phase : Phase) (b : HubState) (h : HubSee
     → IsOnIn P b h
 in_phase P phase b h is on = (phase, is, on)
 
--- what is done in any phase is done in this
+-- a deed done in any phase is done in this one
 pub stays_in : (P : Phase → Type 0) (b : HubState) (old new : HubSeen)
     → ((phase : Phase) → IsOnAs phase b old → IsOnAs phase b new) → IsOnIn P b old → IsOnIn P b new
 stays_in P b old new goes (phase, is, on) = (phase, is, goes phase on)

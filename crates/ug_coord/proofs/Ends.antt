@@ -167,7 +167,7 @@ exactly_so (Stranded own) b is =
     }
 exactly_so Memory b is = tt
 
--- what is known of the ending book
+-- facts about the ending book
 pub record IsEndingBook (b : BookState) (end : End) (wants : Bool) (book : BookState) : Type 0 where
   pub made : IsBook b
   pub ended : is_ended end book
@@ -282,7 +282,7 @@ begun_so o None (Some saves) begins = absurd begins
 begun_so o (Some saver) (Some saves) begins =
     subst (IsBegun o) (sym begins) (record { own = refl; missed = refl; unsaved = refl })
 
--- what is saved first is of the run
+-- the first image saved is of the run
 pub begun_ours : (o : Opening) (saves : Option Saves) (b : BookState) → IfSome saves (IsBegun o)
     → b ≡ opening_book o → IfSome saves (λ s. IsSameRun (book_of s) b)
 begun_ours o None b its same = tt

@@ -53,7 +53,7 @@ course_up old [] new same = same_faults old new (ap (λ (s : HubState). s.faults
 course_up old (deed ∷ deeds) new (mid, does, more) =
     omega (arith, faults_up old deed mid does, course_up mid deeds new more)
 
--- ---- where it rose
+-- ---- if it rose
 
 rose_on : (start old new : ℕ) → old ≤ new → Rose start old → Rose start new
 rose_on start old new up (inl less) = inl (omega (arith, up, less))

@@ -51,7 +51,7 @@ pub sound_last : (a : HubState) (deeds : List Deed) (b : HubState) (course : IsC
 sound_last a [] b same sound = subst (λ (s : HubState). IsSoundBook s.book) (sym same) sound
 sound_last a (deed ∷ deeds) b (mid, does, rest) sound = sound_last mid deeds b rest sound.1
 
--- ---- what is saved
+-- ---- the image saved
 
 nowhere : (Covers Ours : Type 0) (saves : Option Saves) (disk : DiskSeen) → moves Covers Ours saves disk saves disk
 nowhere Covers Ours None disk = refl
@@ -297,7 +297,7 @@ keeps_saved P from h old mid new due ours saved tried k =
           (tried_on (saves_in k.on.come.deeds) 1 old.saves mid.saves new.saves k.tried tried);
     }
 
--- what is saved is still of the run
+-- the image saved is still of the run
 pub kept_ours : (P : Phase → Type 0) (from : HubState) (h : HubSeen) (old new : KeptSeen) (b c : BookState)
     → IsKeptIn P from h old new → IsSameRun b c → IsOurs old b → IsOurs new c
 kept_ours P from h old new b c k same ours =

@@ -100,7 +100,7 @@ done_sound p gap best r c searched old new m s =
     is_sound p gap best new (done_ledger (root_of p) r c old new m l)
     (done_lossless p gap best old new r c l m searched (loses_none p gap best old s))
 
--- what is below the incumbent's cutoff is below each cutoff that the incumbent backs
+-- a point below the incumbent's cutoff is below each cutoff that the incumbent backs
 backed_below : (cutoff best : Option ℤ) (v : ℤ)
     → IfSome cutoff (λ c. IsSomeAnd best (λ least. least ≤ℤ c))
     → IfSome best (λ least. v <ℤ least) → IfSome cutoff (λ c. v <ℤ c)

@@ -78,7 +78,7 @@ module _ (root : List Interval) (old new : Ledger) (r : ℕ) (c : Current) (chan
     | inr e ↦ subst P (sym e) g
   ]
 
-  -- the new name is no held node's
+  -- the new name belongs to no held node
   own_made : own_name made.line ≡ next_hand c
   own_made =
       let last = length_push c.node.line (next_hand c) in

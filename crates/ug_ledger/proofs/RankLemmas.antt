@@ -6,7 +6,7 @@ use Rattle.std.proofs.lemmas.List.{get_or-set_same, get_or-set_other}
 use Rattle.std.proofs.lemmas.Option.{same_Some}
 use Rattle.ug_ledger.specs.Ledgers.{Current, IsCurrent, Ledger}
 
--- where the ticket of rank r was made current for c
+-- if the ticket of rank r was made current for c
 module _ (old new : Ledger) (r : ℕ) (c : Current) (there : r < length old.ranks)
     (ranks : new.ranks ≡ set old.ranks r (Some c)) where
   -- it is

@@ -1,4 +1,4 @@
--- What is found in sorted lines.
+-- Searches in sorted lines.
 use Rattle.std.proofs.Common.{◌≡◌, ℕ, ◌<◌, inl, inr, List, [], ◌∷◌, length, get_or, Result, Ok, Err, refl, sym, ap, ◌∙◌, subst, arith}
 use Rattle.std.specs.Prelude.{Contains, IsTrue, false, is_ok, ◌↔◌}
 use Rattle.std.specs.Borrow.{Bor}
@@ -76,7 +76,7 @@ less_not_equal o e f = let g : Less ≡ Equal = sym e ∙ f in cc
 greater_not_equal : (o : Ordering) → o ≡ Greater → o ≡ Equal → ⊥
 greater_not_equal o e f = let g : Greater ≡ Equal = sym e ∙ f in cc
 
--- a line that was not found is none of the lines
+-- a line that was not found is not among the lines
 not_found : (lines : List (Bor (List Name))) (line : Bor (List Name)) (i k : ℕ)
     → IsPartitionPoint (λ y. slice_cmp name_cmp y.now line.now ≡ Less) (λ y. slice_cmp name_cmp y.now line.now ≡ Greater) lines i
     → k < length lines → slice_cmp name_cmp (get_or lines k line).now line.now ≡ Equal → ⊥

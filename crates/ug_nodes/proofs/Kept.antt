@@ -25,7 +25,7 @@ lent_filter q (x ∷ xs) =
       | false ↦ lent_filter q xs
     ]
 
--- what is picked is there, and passes the test
+-- an item that is picked is there, and passes the test
 picked_there : (q : Node → Bool) (xs : List Node) (n : Node) → Contains (filter q xs) n → Contains xs n
 picked_there q xs n h = All-contains (Contains xs) (filter q xs) n (All-filter q (Contains xs) xs (All-contains_itself xs)) h
 

@@ -130,7 +130,7 @@ once_moved xs ys p once name =
     sum_by-IsPermutation (λ (n : Node). cond (is_same_name (own_name n.line) name) 1 0) xs ys p in
     subst (λ m. m ≤ 1) (sym same) (once name)
 
--- what is picked of nodes that are sorted by name goes by name
+-- nodes picked from nodes sorted by name are sorted by name
 pub picked_order : (q : Node → Bool) (held : List (Bor Node)) → IsSortedByKey key_of name_cmp held
     → AllPairs NotAfter (filter q (lent held))
 picked_order q held sorted = AllPairs-filter NotAfter q (lent held) (sorted_pairs held sorted)

@@ -102,7 +102,7 @@ not_passed root told changes i n rising changes_rise p there behind bad = record
       (λ k le h. let a = rest_above told n k rising le h in let b = behind (omega arith) in omega (arith, a, b));
 }
 
--- it is none of a box below the root
+-- it belongs to no box below the root
 pub change_unfit : (root : List Interval) (told changes : List Change) (i : ℕ) → i < length changes
     → (IsChangeOf root (change_at changes i) → ⊥) → ColumnFits root told changes (change_at changes i).column → ⊥
 change_unfit root told changes i there bad f = bad (f.valid i there refl)

@@ -68,7 +68,7 @@ pub record Spells (root : List Interval) (changes : List Change) (area : List In
   pub valid : AreChangesOf root changes
   pub told : Tell root changes area
 
--- the first change that is none of a box below the root is of this column
+-- the first change that belongs to no box below the root is of this column
 pub record IsFirstBad (root : List Interval) (changes : List Change) (column : ℕ) : Type 0 where
   pub at : ℕ
   pub there : at < length changes
@@ -76,7 +76,7 @@ pub record IsFirstBad (root : List Interval) (changes : List Change) (column : �
   pub bad : IsChangeOf root (change_at changes at) → ⊥
   pub before : (k : ℕ) → k < at → IsChangeOf root (change_at changes k)
 
--- why no box is made: a change is none of a box below the root, or each is one and memory ran out
+-- why no box is made: a change belongs to no box below the root, or all do and memory ran out
 abbrev pub IsAreaRefused : List Interval → List Change → AreaError → Type 0
 IsAreaRefused root changes Memory = AreChangesOf root changes
 IsAreaRefused root changes (Outside column) = IsFirstBad root changes column

@@ -5,11 +5,11 @@ use Rattle.std.specs.Ordering.{nat_cmp, ordering_then}
 use Rattle.ug_nodes.specs.declared.name.Ticket.{Ticket}
 use Rattle.ug_nodes.specs.declared.name.Name.{Name}
 
--- a ticket is before another: of an earlier run, or of the same run with a smaller number
+-- a ticket is before another if its run is earlier, or the run is the same and its number smaller
 abbrev pub IsTicketBefore : Ticket → Ticket → Type 0
 IsTicketBefore a b = (a.run < b.run) ⊎ ((a.run ≡ b.run) × (a.number < b.number))
 
--- a name is before another: of an earlier ticket, or of the same ticket with a smaller hand number
+-- a name is before another if its ticket is, or the ticket is the same and its hand number smaller
 abbrev pub IsNameBefore : Name → Name → Type 0
 IsNameBefore a b = IsTicketBefore a.ticket b.ticket ⊎ ((a.ticket ≡ b.ticket) × (a.hand < b.hand))
 

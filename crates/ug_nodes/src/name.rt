@@ -4,7 +4,7 @@ ghost use Rattle.ug_nodes.specs.Names.{IsTicketBefore, IsNameBefore, ticket_cmp,
 
 use std::cmp::Ordering;
 
-/// What is given with each assignment. In order of the run, then of the number.
+/// The number of an assignment. In order of the run, then of the number.
 #[derive(Clone, Copy, Debug, PartialEq, Eq, PartialOrd, Ord)]
 pub struct Ticket {
     pub run: u64,

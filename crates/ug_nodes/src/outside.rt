@@ -10,9 +10,9 @@ use crate::spelling::is_change_of;
 use std::cmp::Ordering;
 use ug_rows::{IntBox, Interval, is_closed_within};
 
-/// The least column in which the changes spell no box below the one that `told` spells: a change
-/// of it is none of a box below the root, or its bounds, the root's where no change lists it, are
-/// not within those given. There is none exactly where they spell such a box. It makes no box,
+/// Returns the least column in which the changes spell no box below the one that `told` spells: its
+/// change belongs to no box below the root, or its bounds, the root's if no change lists it, are
+/// not within those given. Returns `None` exactly if the changes spell such a box. It makes no box,
 /// takes no memory, and passes once over both lists.
 pub fn first_outside(root: &IntBox, told: &Changes, changes: &Changes) -> Option<u32>
     requires { AreChangesOf root.now told.now }

@@ -14,7 +14,7 @@ use ug_rows::{IntBox, Interval, is_closed_within};
 pub enum AreaError {
     /// Memory ran out.
     Memory,
-    /// The change of this column is the first that is none of a box below the root.
+    /// The change of this column is the first one that belongs to no box below the root.
     Outside { column: u32 },
 }
 
@@ -114,7 +114,7 @@ pub fn area_of(alloc: Global, root: &IntBox, changes: &Changes) -> Result<IntBox
     Ok(IntBox::from_vec(sides))
 }
 
-// The column of the first change that is none of a box below the root.
+// Returns the column of the first change that belongs to no box below the root.
 fn first_bad(root: &[Interval], changes: &[Change]) -> Option<u32>
     ensures { MatchOption result
         (AreChangesOf root.now changes.now)

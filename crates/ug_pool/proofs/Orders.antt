@@ -27,7 +27,7 @@ before_gt a b = ap is_lt (entry_cmp_total.antisymm a b) ∙ lt_reverse (entry_cm
 pub not_before_along : (a b c : Entry) → is_before b a ≡ false → is_before c b ≡ false → is_before c a ≡ false
 not_before_along a b c h k = before_gt c a ∙ upto entry_cmp_total a b c (sym (before_gt b a) ∙ h) (sym (before_gt c b) ∙ k)
 
--- what is before an entry is before each that is not before it
+-- an entry before another is before each that is not before that one
 pub before_along : (a b c : Entry) → is_before a b ≡ true → is_before c b ≡ false → is_before a c ≡ true
 before_along a b c h k = by_test (is_before a c) refl
   where
@@ -49,7 +49,7 @@ less_first Less p e h = cc
 less_first Equal p e h = cc
 less_first Greater p e h = cc
 
--- what is not before another has no smaller floor
+-- an entry that is not before another has no smaller floor
 pub floors_rise : (a b : Entry) → is_before b a ≡ false → a.floor ≤ℤ b.floor
 floors_rise a b h = by_ranked (b.floor <ℤ a.floor) (b.floor ≡ a.floor) (a.floor <ℤ b.floor) (int_cmp b.floor a.floor) (int_ranked b.floor a.floor _ refl)
     (λ e lt. absurd (less_first (int_cmp b.floor a.floor) _ e h))

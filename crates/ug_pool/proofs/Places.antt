@@ -38,7 +38,7 @@ insert_with_entry e xs at h =
     let behind = filter_drop (λ x. is_before e x) xs at h.ahead h.behind h.there in
     sym (ap (λ ys. ys ++ e ∷ filter (λ x. is_before e x) xs) ahead ∙ ap (λ ys. take at xs ++ e ∷ ys) behind)
 
--- what is at each place after it
+-- the entry at each place after it
 after_insert : (e : Entry) (xs : List Entry) (at : ℕ) (P : Entry → Type 0) (k : ℕ) → at ≤ length xs
     → (k < at → P (entry_at xs k)) → (k ≡ at → P e) → (at < k → P (entry_at xs (k - 1))) → P (entry_at (insert xs at e) k)
 after_insert e xs at P k h below here above = elim (cases_order k at) [

@@ -109,7 +109,7 @@ each_weaker : (P Q : Entry → Type 0) → ((x : Entry) → P x → Q x) → (xs
 each_weaker P Q w [] a = tt
 each_weaker P Q w (x ∷ xs) a = (w x a.0, each_weaker P Q w xs a.1)
 
--- what is before the first of entries that rise is before each
+-- an entry before the first of rising entries is before each
 before_each : (e x : Entry) (xs : List Entry) → is_before e x ≡ true → Each (λ y. is_before y x ≡ false) xs → Each (λ y. is_before e y ≡ true) xs
 before_each e x [] b a = tt
 before_each e x (y ∷ ys) b a = (before_along e x y b a.0, before_each e x ys b a.1)

@@ -1,4 +1,4 @@
--- What is read of the state of a rank.
+-- Readings of the state of a rank.
 use Rattle.std.specs.Prelude.{if◌then◌else◌, ℕ, Bool, true, false, List, [], length, Option, Some}
 use Rattle.std.specs.Prelude.{None}
 use Rattle.ug_rows.specs.declared.area.Interval.{Interval}

@@ -40,7 +40,7 @@ pub struct Assignment {
     pub params: Params,
 }
 
-/// How a rank came to be off.
+/// Why a rank is off.
 #[derive(Clone, Copy)]
 pub enum Off {
     Died,

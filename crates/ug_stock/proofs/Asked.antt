@@ -63,7 +63,7 @@ kept_asked ss r count e =
     same (Racing racer) e = refl
     same (Dead how) e = refl
 
--- what is asked changes no node that is worked on
+-- asking for nodes changes no node that is worked on
 pub asked_works : (ss : List State) (r count : ℕ)
     → nodes_of (slice_set ss r (asked_for count (state_at ss r))) ≡ nodes_of ss
 asked_works ss r count = same_nodes ss r (asked_for count (state_at ss r))

@@ -50,7 +50,7 @@ pub first_not_ahead : {X : Type 0} (Can : X → Type 0) (Ahead : X → X → Typ
 first_not_ahead Can Ahead xs one other h k =
     All-contains (IsNotAhead Can Ahead other) xs one k.none_ahead h.among h.can
 
--- where none can be picked there is no first
+-- if none can be picked there is no first
 pub none_first : {X : Type 0} (Can : X → Type 0) (Ahead : X → X → Type 0) (xs : List X) (x : X)
     → All (λ y. Can y → ⊥) xs → IsFirstBy Can Ahead xs x → ⊥
 none_first Can Ahead xs x none h = All-contains (λ y. Can y → ⊥) xs x none h.among h.can

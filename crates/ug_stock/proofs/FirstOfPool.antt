@@ -4,7 +4,7 @@ use Rattle.std.specs.Prelude.{Some, None, slice_get}
 use Rattle.std.proofs.lemmas.Option.{none-some, same_Some}
 use Rattle.ug_pool.specs.declared.entry.Entry.{Entry}
 
--- where there is none the pool is empty
+-- if there is none the pool is empty
 pub none_first : (es : List Entry) → slice_get es 0 ≡ None → es ≡ []
 none_first [] e = refl
 none_first (entry ∷ es) e = absurd (none-some entry (sym e))

@@ -13,7 +13,7 @@ use Rattle.ug_rules.proofs.RacerLemmas.{SomeRaces, are_racing, some_races}
 use Rattle.ug_rules.proofs.RankLists.{of_ranks_more}
 use Rattle.ug_rules.proofs.WorkLemmas.{idled, state_here, state_idled, state_there}
 
--- what is reported of the first ranks is no longer than what is reported of all
+-- the list of the first ranks' reports is no longer than that of all
 pub of_ranks_within : {A : Type 0} (f : ℕ → State → List A) (r : ℕ) (ss : List State) (k : ℕ)
     → length (of_ranks f r (take k ss)) ≤ length (of_ranks f r ss)
 of_ranks_within f r [] zero = omega arith
@@ -37,7 +37,7 @@ room_for_one f ss k there room left all is =
     let own = ap (λ (n : ℕ). length (f n (state_at ss k))) same in
     omega (arith, of_ranks_within f 0 ss (k + 1), long, own, all, is)
 
--- what is reported with one rank more
+-- the reports with one rank more
 pub more_told : {A : Type 0} (f : ℕ → State → List A) (ss : List State) (k : ℕ) → k < length ss
     → of_ranks f 0 (take (k + 1) ss) ≡ of_ranks f 0 (take k ss) ++ f k (state_at ss k)
 more_told {A = A} f ss k there =

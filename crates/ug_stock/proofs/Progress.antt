@@ -204,7 +204,7 @@ all_assigned terms old now steps r end p = λ b is. record {
       | inr empty ↦ omega (arith, empty)
     ]
 
--- where the pool is empty none is given
+-- if the pool is empty none is given
 pub none_assigned : (terms : Terms) (old : Stock) → length old.pool.entries ≡ 0
     → HasAssignedAll terms old old 0
 none_assigned terms old empty = λ b is. record {

@@ -52,7 +52,7 @@ none_less ss r there e = omega (
   of_set (λ ns. length ns) (λ ms ns. length-append ms ns) ss r (Dead Died) there,
 )
 
--- where a racer is lost its race may be lost
+-- if a racer is lost its race may be lost
 pub racer_dies : (s : State) (r : ℕ) (b : BookState) → is_racing s ≡ true
     → killed_at s r b ≡ race_lost (with_dead r b)
 racer_dies (Racing k) r b e = refl

@@ -1,4 +1,4 @@
--- What is needed of the ranks that work can be reported.
+-- The needs of the ranks that work can be reported.
 use Rattle.std.proofs.Common.{◌≡◌, ℕ, ◌+◌, ◌<◌, ◌≤◌, ◌^◌, List, [], ◌∷◌, length, filter, refl, sym, subst, ap, arith}
 use Rattle.std.specs.Prelude.{All, not}
 use Rattle.std.proofs.lemmas.List.{length-map}

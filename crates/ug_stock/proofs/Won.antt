@@ -151,7 +151,7 @@ none_won b enough e none = inr (record {
   same = refl;
 })
 
--- where no node is raced there is no race to end
+-- if no node is raced there is no race to end
 pub none_raced : (b : BookState) → StandsAlone b.ranks b.raced → is_some b.raced ≡ false
     → IsRaceEnded b b
 none_raced b alone e = none_won b b.settings.winner refl

@@ -6,7 +6,9 @@ use ug_ranks::Ranks;
 /// ranks, race and queue.
 #[derive(Drop)]
 pub struct Stock {
+    /// The open nodes, in order of floor, then name.
     pub pool: Pool,
+    /// The state of each rank.
     pub ranks: Ranks,
     /// The raced node with its floor, during a race.
     pub raced: Option<Entry>,

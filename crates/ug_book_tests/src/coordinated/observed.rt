@@ -72,8 +72,8 @@ impl Observer for Notes {
     }
 }
 
-// Rank 0 says what is no report, rank 1 that it has ended before it was ready, and rank 2 does it
-// all: it is ready with the third report that is received, and reports the point with the fourth.
+// Rank 0 sends a malformed message, rank 1 an Ended before it is ready, and rank 2 does all the
+// work: it is ready with the third report that is received, and reports the point with the fourth.
 const TWO_ARE_DROPPED: Case = Case {
     limit: 100,
     pieces: &[

@@ -80,7 +80,7 @@ fn saved<R: Wait>(rt: &R, alloc: Global, every: u64, disk: &mut MemoryDisk) -> R
     })
 }
 
-// What comes of it with an empty disk, of which this call fails; call 0 is none.
+// Returns the result with an empty disk, of which this call fails; 0 is not a call.
 fn saved_with<R: Wait>(rt: &R, alloc: Global, every: u64, failing: u64) -> Run {
     let Ok(failing) = [failing].as_slice().to_vec(alloc) else {
         return Run::NoMemory;

@@ -22,7 +22,7 @@ use ug_problem::Shared;
 use ug_restart::{End, Host, Unobserved};
 use ug_serve::{Visit, WorkerCrew};
 
-/// What is wrong with a crew of workers.
+/// The fault of a crew of workers.
 #[derive(Clone, Copy)]
 enum Wrong {
     /// The call of this number fails: a launch, a message or a turn.
