@@ -119,7 +119,7 @@ image_same s t a b is =
 apart : (a b : Image) → here Zero a ≡ here One b → ⊥
 apart a b is = let slots = slot_same Zero One a b is in absurd (cc slots)
 
--- where the larger one comes from
+-- the slot of the larger sequence
 pub chosen_zero : (a b : Option Image) (image : Image) → here Zero image ≡ chosen a b
     → a ≡ Some image
 chosen_zero None None image is = absurd (cc is)
@@ -162,7 +162,7 @@ recovers One zero one own others first second = record {
   greater = refl;
 }
 
--- of a slot alone
+-- for a slot alone
 pub chosen_alone : (slot : Slot) (image : Image)
     → chosen_of slot (Some image) None ≡ here slot image
 chosen_alone Zero image = refl

@@ -143,7 +143,7 @@ becomes_joins R S T (Some old) (Some mid) None slot first second next = absurd s
 becomes_joins R S T (Some old) (Some mid) (Some new) slot first second next =
     (second.0 ∙ first.0, next _ _ _ first.1 second.1)
 
--- what is at the end
+-- the state at the end
 pub stands_after : (R : Becoming) (P : SlotState → Type 0) (old new : Option History) (slot : Slot)
     → Becomes old new slot R → ((a b : SlotState) → R a b → P b) → Stands new slot P
 stands_after R P None None slot so_far next = tt

@@ -1,4 +1,4 @@
--- What is true of all that recovery could find stays true, if it is true of what is saved.
+-- A fact about all that recovery could find stays true, if it is true of the image saved.
 use Rattle.std.proofs.Common.{◌≡◌, inl, inr, ℕ, List, [], ◌∷◌, ◌++◌, Option, None, Some, sym, ◌∙◌, subst}
 use Rattle.ug_disk.specs.declared.slot.Slot.{Slot}
 use Rattle.ug_disk.specs.Histories.{History, Slots, slot_of}

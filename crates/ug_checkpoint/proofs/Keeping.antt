@@ -33,7 +33,7 @@ kept_from keeper sequence told last is knows standing =
     let stands = subst (λ l. Standing sequence told l) (sym is) standing in
     record { knows = knows; rests = stands.0; images = stands.1 }
 
--- what is synced is read in each image
+-- synced bytes are read in each image
 pub image_is : (state : SlotState) (image : List ℕ) → IsSynced state → MayLeave state image
     → image ≡ state.bytes
 image_is state image is left =

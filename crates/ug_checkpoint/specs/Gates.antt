@@ -43,7 +43,7 @@ pub record IsShut (state : SlotState) : Type 0 where
 abbrev pub MayBeShut : SlotState → Type 0
 MayBeShut state = Opens (MayLeave state) (loosened 0 1 state)
 
--- what is known of a slot by what its keeper knows of the gate
+-- the known state of a slot by its keeper's knowledge of the gate
 abbrev pub IsGate : Gate → SlotState → Type 0
 IsGate Unread state = IsSynced state
 IsGate Shut state = IsShut state

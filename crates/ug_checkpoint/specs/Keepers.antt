@@ -21,7 +21,7 @@ next_after (Some slot) = other slot
 abbrev pub target_of : Keeper → Slot
 target_of keeper = next_after keeper.last
 
--- what is known of a slot's gate
+-- the known state of a slot's gate
 abbrev pub gate_of : Slot → Keeper → Gate
 gate_of Zero keeper = keeper.zero
 gate_of One keeper = keeper.one

@@ -1,4 +1,4 @@
--- What recovery comes to.
+-- The result of recovery.
 use Rattle.std.specs.Prelude.{◌≡◌, ℕ, List, Option}
 use Rattle.ug_disk.specs.declared.slot.Slot.{Slot}
 use Rattle.ug_checkpoint.specs.declared.found.Found.{Found}

@@ -36,8 +36,8 @@ pub record IsAcknowledged (sequence : ℕ) (state : SlotState) : Type 0 where
   pub has : Has state.bytes image
   pub is : image.sequence ≡ sequence
 
--- how the slot stands that a save leaves alone: it has the last acknowledged image, or where there
--- is none it is shut
+-- the state of the slot that a save leaves alone: it has the last acknowledged image, or it is shut
+-- if there is not one
 abbrev pub Rests : Option Slot → ℕ → SlotState → Type 0
 Rests None sequence state = Opens (λ image. ⊥) state
 Rests (Some slot) sequence state = IsAcknowledged sequence state

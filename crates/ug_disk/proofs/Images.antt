@@ -6,7 +6,7 @@ use Rattle.std.proofs.lemmas.Bool.{cases_lt}
 use Rattle.ug_disk.specs.declared.slot.Span.{Span}
 use Rattle.ug_disk.specs.Slots.{SlotState, IsLoose, MayLeave, IsReal, synced, loosened, written, put_at}
 
--- what is loose stays so
+-- loose bytes stay loose
 pub loose_more : (spans : List Span) (span : Span) (place : ℕ) → IsLoose spans place
     → IsLoose (spans ++ span ∷ []) place
 loose_more spans span place loose = (

@@ -83,7 +83,7 @@ joins P (Some old) (Some mid) (Some new) first second = record {
       (append_assoc second.since first.since (old.now ∷ [])) left));
 }
 
--- what is true of fewer images
+-- facts about fewer images
 pub weakens : (P Q : Images) (old new : Option History) → ((zero one : List ℕ) → P zero one
     → Q zero one) → Leaves P old new → Leaves Q old new
 weakens P Q None new is leaves = tt

@@ -1,4 +1,4 @@
--- What is kept of a change gives back what the slot was.
+-- The record of a change restores the slot before it.
 use Rattle.std.proofs.Common.{◌≡◌, ℕ, ◌+◌, ◌-◌, ◌≤◌, List, [], ◌∷◌, ◌++◌, length, take, drop, sym, ◌∙◌, ap, arith, length-append, take-append-drop}
 use Rattle.std.proofs.lemmas.List.{take_at, drop_at, drop-drop, length-take-le, append_assoc, length_push}
 use Rattle.ug_disk.specs.declared.slot.Span.{Span}

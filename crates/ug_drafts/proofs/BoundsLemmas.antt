@@ -9,7 +9,7 @@ use Rattle.ug_drafts.specs.declared.bound.Amount.{Amount}
 use Rattle.ug_drafts.specs.declared.bound.Amount.TheVariants as amounts
 use Rattle.ug_drafts.specs.Bounds.{finite, upper_bound, lower_bound, sets, sets_both, IsSmall, IsBoundChange}
 
--- what is said of a value, if there is one
+-- a statement about a value, if there is one
 abbrev pub If : {A : Type 0} → (A → Type 0) → Option A → Type 0
 If P None = Unit {0}
 If P (Some x) = P x

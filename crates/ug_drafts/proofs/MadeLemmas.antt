@@ -1,4 +1,4 @@
--- What is made of a row.
+-- The row made from a draft.
 use Rattle.std.proofs.Common.{◌≡◌, ℕ, neg_ℤ, ◌<◌, ◌≤◌, cond, Bool, true, false, List, [], ◌∷◌, ◌++◌, length, Some, None, sym, refl, ap, ◌∙◌, arith}
 use Rattle.std.proofs.lemmas.Bool.{false≢true}
 use Rattle.std.proofs.lemmas.List.{same_lists, length-map, get_or-map, get_or_default}
@@ -35,7 +35,7 @@ pub signed_not : (terms : List Term) → terms ≡ signed_terms false terms
 signed_not [] = refl
 signed_not (t ∷ terms) = ap (λ ts. t ∷ ts) (signed_not terms)
 
--- what is made was not too wide
+-- a row that is made was not too wide
 made_from : (w : Bool) (m m' : Made) → Some m ≡ cond w None (Some m') → (w ≡ false) × (m ≡ m')
 made_from true m m' e = let bad : Some m ≡ None = e in absurd (cc)
 made_from false m m' e = (refl, cc)

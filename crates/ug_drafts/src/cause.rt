@@ -9,7 +9,7 @@ use ug_problem::{Decimal, MOST_FACTOR, MOST_SIDE};
 pub enum Cause {
     /// The kind of the fault reports it.
     Plain(Kind),
-    /// The first line is none of a file.
+    /// The first line does not belong to an MPS file.
     NoText,
     /// A byte order mark precedes the file.
     ByteOrderMark,
@@ -23,7 +23,7 @@ pub enum Cause {
     Unsolved,
     /// A sense is in the place of a header.
     SenseAsHeader,
-    /// A word behind OBJSENSE is no sense.
+    /// A word behind OBJSENSE is not a sense.
     Sense,
     /// The sense stands for a second time.
     SecondSense,

@@ -1,8 +1,8 @@
-//! What the rows and columns that are kept of a problem come to. It depends on ug_problem, and
-//! knows nothing of texts and their lines. An amount comes to what it sets of a column's bounds;
-//! `make_columns` gives the columns, `make_rows` the rows and the objective, each row times the
-//! least power of ten that makes its numbers whole, or the first fault. specs/ says what each of
-//! them is; memory grows by what is made alone.
+//! The columns, rows and objective made from the drafts of a file. Depends on ug_problem, and knows
+//! nothing of files and their lines. An amount sets a part of a column's bounds; `make_columns`
+//! returns the columns, `make_rows` the rows and the objective, each row times the least power of
+//! ten that makes its numbers whole, or the first fault. specs/ defines each of them. Memory is
+//! allocated for the results only.
 #![tactic(auto)]
 
 mod bound;

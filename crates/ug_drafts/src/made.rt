@@ -21,7 +21,7 @@ pub struct Made {
     pub scale: u8,
 }
 
-/// What is made of a row; nothing where its numbers are too wide.
+/// Returns the row made from a draft, or `None` if its numbers are too wide.
 pub fn make(alloc: Global, draft: &RowDraft) -> Result<Option<Made>, AllocError>
     requires { HasDecimals draft.now }
     ensures { IfOk result (λ made. made ≡ made_if draft.now.role (numbers_kept draft.now)) }

@@ -35,7 +35,7 @@ pub fn is_infinite(bound: Bound) -> bool
     }
 }
 
-/// Why a column is none of a problem, if it is not.
+/// Returns why a column cannot be one of a problem, if it cannot.
 pub fn column_kind(boxed: Option<u32>, draft: &ColumnDraft) -> Option<Kind>
     ensures { result ≡ column_kind boxed draft.now }
 {

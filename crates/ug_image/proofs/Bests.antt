@@ -71,7 +71,7 @@ pub record IsReadProblem (p : Instance) : Type 0 where
   pub is : IsProblem p
   pub short : length (record_of p) < 2 ^ 32
 
--- what is read where this many bytes of a record are there
+-- the result of reading if this many bytes of a record are there
 pub record IsRecordIn (n : ℕ) (bytes : List ℕ) (p : Instance) (rest : List ℕ) : Type 0 where
   pub there : n ≤ length bytes
   pub record_ : record_at (take n bytes) ≡ Ok p

@@ -71,7 +71,7 @@ in_order v i = nine (v ∷ []) (long_field i.run) (long_field i.sequence) (probl
     (best_fields i.best) (heard_field v i.heard) (gap_field v i.gap)
     (long_field (length i.nodes)) (nodes_fields v i.nodes)
 
--- what is done with what was read before a field
+-- the use of the values read before a field
 module _ (v run sequence : ℕ) where
   abbrev image_from : Instance → Option (List ℤ) → ℕ → ℤ → List SavedNode → Image
   image_from p best heard gap nodes = record {
@@ -109,7 +109,7 @@ module _ (v run sequence : ℕ) where
   abbrev after_problem : Instance × List ℕ → Reading Image
   after_problem p = best_at p.0 p.1 >>= after_best p.0
 
-  -- what is read of the counts is read of each
+  -- facts read from the counts hold of each
   counts_apart : (p : Instance) (best : Option (List ℤ)) (bytes : List ℕ)
       → (counts_at v bytes >>= after_counts p best)
       ≡ (heard_at v bytes >>= after_heard p best)

@@ -1,4 +1,4 @@
--- What is saved of a run, and what every image is.
+-- The saved state of a run, and the invariant of every image.
 use Rattle.std.specs.Prelude.{◌≡◌, ℕ, suc, ◌<◌, ◌≤◌, ◌^◌, List, [], length, slice_index_or, IfSome}
 use Rattle.ug_rows.specs.declared.area.Interval.{Interval}
 use Rattle.ug_problem.specs.Instances.{root_of}

@@ -1,5 +1,4 @@
--- What is still to come of an image's bytes from one of its lines on, each list before what stands
--- behind it.
+-- The rest of an image's bytes from one of its lines on, each list before the next one.
 use Rattle.std.specs.Prelude.{ℕ, ℤ, ◌+◌, List, [], ◌∷◌, ◌++◌, length, drop, Option, None, Some}
 use Rattle.std.specs.List.{flat_map}
 use Rattle.ug_fields.specs.Spelling.{count_field, bound_field, long_field, number_field}

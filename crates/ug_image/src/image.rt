@@ -14,7 +14,7 @@ pub struct SavedNode {
 /// The nodes of an image, in order of name.
 pub type Saved = Items<SavedNode>;
 
-/// What is saved of one moment of a run.
+/// The saved state of one moment of a run.
 #[derive(Drop)]
 pub struct Image {
     /// At least 1.

@@ -11,6 +11,6 @@ pub enum Stage {
     Value(usize),
     /// The head of this node, or behind the last nothing.
     Node(usize),
-    /// Of a node a change, or behind the last what follows the node.
+    /// A change of a node, or the end of the node behind its last change.
     Change(usize, usize),
 }

@@ -1,4 +1,4 @@
--- What is Covered at each moment of a save.
+-- Covered at each moment of a save.
 use Rattle.std.proofs.Common.{◌≡◌, inl, inr, ℕ, List, [], ◌∷◌, ◌++◌, Option, None, Some, IfSome, refl, sym, ◌∙◌, ap, subst}
 use Rattle.ug_disk.specs.declared.slot.Slot.{Slot}
 use Rattle.ug_disk.specs.Histories.{History, Slots, moments, slot_of}
@@ -27,7 +27,7 @@ could_now : (told : Option History) → LeavesNow (CouldLeave told) told
 could_now None = tt
 could_now (Some history) = λ zero one may. may
 
--- where nothing was done a crash leaves what it could
+-- if nothing was done a crash leaves what it could
 pub nothing_done : (saver : Saver) (told new : Option History) (P : Image → Type 0) → new ≡ told
     → Leaves (IsSafeSave saver told P) told new
 nothing_done saver told new P same =
@@ -111,7 +111,7 @@ last_one (Some slot) history a b first second =
     (has_same (slot_of slot history.now).bytes first.0 second.0 first.1 second.1)
     ∙ sym second.2)
 
--- ---- what is Covered
+-- ---- Covered
 
 abbrev Covers : Option Found → Type 0
 Covers found = IfSome found (λ (f : Found). IsCovered f.image)
@@ -140,7 +140,7 @@ abbrev pub Stays : Option History → Saver → Option History → Type 0
 Stays old after new =
     IfSome old (λ history. AllCovered (Some history) new × LastIsCovered after new)
 
--- where nothing was done
+-- if nothing was done
 pub covered_same : (before after : Saver) (old new : Option History) → new ≡ old
     → after ≡ before → IsCoveredNow before old → Stays old after new
 covered_same before after None new same saver now = tt
@@ -150,7 +150,7 @@ covered_same before after (Some history) new same saver now =
       subst (λ s. LastIsCovered s (Some history)) (sym saver) now.last,
     )
 
--- where a save ended well
+-- if a save ended well
 pub covered_saved : (before after : Saver) (old new : Option History) (image : Image)
     → IsCovered image
     → Leaves (savers.IsSafe (last_slot before) old (found_of before image)) old new
@@ -165,7 +165,7 @@ covered_saved before after (Some history) new image covered leaves last now = (
   record { found = Some (found_of before image); last = last; covered = covered },
 )
 
--- where it failed
+-- if it failed
 pub covered_failed : (before after : Saver) (old new : Option History) (image : Image)
     → IsCovered image
     → Leaves (savers.IsSafe (last_slot before) old (found_of before image)) old new

@@ -58,7 +58,7 @@ abbrev pub Stands : (Image → Type 0) → Option History → Saver → Option H
 Stands P old after new =
     IfSome old (λ history. Leaves (FindsIn P) (Some history) new × LastIs P after new)
 
--- where nothing was done
+-- if nothing was done
 pub found_same : (P : Image → Type 0) (before after : Saver) (old new : Option History)
     → new ≡ old → after ≡ before → IsFoundNow P before old → Stands P old after new
 found_same P before after None new same saver now = tt
@@ -79,7 +79,7 @@ found_during P before history new image is leaves now =
     (safe_found before history P (λ i. i ≡ image) (λ i same. subst P (sym same) is) now)
     (saving before (Some history) new image (λ i. i ≡ image) refl leaves)
 
--- where a save ended well
+-- if a save ended well
 pub found_saved : (P : Image → Type 0) (before after : Saver) (old new : Option History)
     (image : Image) → P image
     → Leaves (savers.IsSafe (last_slot before) old (found_of before image)) old new
@@ -91,7 +91,7 @@ found_saved P before after (Some history) new image is leaves last now = (
   record { found = found_of before image; last = last; is = is },
 )
 
--- where it failed
+-- if it failed
 pub found_failed : (P : Image → Type 0) (before after : Saver) (old new : Option History)
     (image : Image) → P image
     → Leaves (savers.IsSafe (last_slot before) old (found_of before image)) old new

@@ -55,7 +55,7 @@ next_saver found saver same last kept room = record {
   room = subst (λ n. n < 2 ^ 62) (sym same) (lt_of_not-le (λ great. room (inr great)));
 }
 
--- the run after one is no run 0
+-- the run after one is not run 0
 pub some_run : (lent : Option (Bor Found)) (run : ℕ) → run ≡ next_run (option_copied lent)
     → 0 < run
 some_run None run is = omega (arith, is)

@@ -164,7 +164,7 @@ attempted_more P Q more Saved old new is = (
 attempted_more P Q more Missed old new is = is
 attempted_more P Q more Unsaved old new is = is
 
--- where more is known of what is saved
+-- if more is known of what is saved
 pub goes_where : (P Q R S : Type 0) (old new : Time) → (Q → P) → (S → R) → GoesOn P R old new
     → GoesOn Q S old new
 goes_where P Q R S old new is ours goes = record {

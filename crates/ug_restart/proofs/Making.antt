@@ -50,7 +50,7 @@ next_of_book saver b made sequence is next moment = record {
   next = ap (λ (i : Image). i.sequence) moment.is ∙ next;
 }
 
--- what is known of the image that there is
+-- facts about the image that there is
 pub of_some : (o : Option Image) (P : Image → Type 0) (image : Image) → IfSome o P
     → o ≡ Some image → P image
 of_some o P image known is = subst (λ (k : Option Image). IfSome k P) is known

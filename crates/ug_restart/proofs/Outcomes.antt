@@ -62,7 +62,7 @@ pub each_covered : (Covers Ours : Type 0) (a c : Time) → GoesOn Covers Ours a 
 each_covered Covers Ours a c goes covers now =
     covered_each a.disk.told c.disk.told (saver_of c.saves) (goes.covered covers now)
 
--- where nothing was done
+-- if nothing was done
 pub still_covered : (saver : Saver) (told new : Option History) → new ≡ told
     → IsCoveredNow saver told → AllCovered told new
 still_covered saver told new same now =
@@ -87,7 +87,7 @@ time_found Covers Ours saves after old new o same goes ours now =
     (goes.found ours
     (subst (λ k. IsFoundNow (IsOfRun k) (saver_of saves) old.told) (sym same_book) now)))
 
--- where nothing was done
+-- if nothing was done
 pub still_found : (P : Image → Type 0) (saver : Saver) (told new : Option History) → new ≡ told
     → IsFoundNow P saver told → Leaves (FindsIn P) told new
 still_found P saver told new same now =
@@ -115,7 +115,7 @@ none_missed outcome old new none calm = record {
   calm = λ no. calm;
 }
 
--- what is Covered for a saver is so for the saves that have it
+-- Covered for a saver is Covered for the saves that have it
 pub covered_begun : (saves : Saves) (saver : Saver) (own : Opening) (told : Option History)
     → saves ≡ begun saver own → IsCoveredNow saver told → IsCoveredNow (saver_of saves) told
 covered_begun saves saver own told same now =

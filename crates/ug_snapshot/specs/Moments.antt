@@ -14,7 +14,7 @@ use Rattle.ug_image.specs.declared.image.Image.{Image}
 use Rattle.ug_image.specs.declared.image.SavedNode.{SavedNode}
 use Rattle.ug_image.specs.Images.{node_at}
 
--- what is saved of a node: its own name, and its box
+-- the saved form of a node: its own name, and its box
 abbrev pub saved_of : Node → SavedNode
 saved_of n = record { name = own_name n.line; changes = n.changes }
 

@@ -12,8 +12,8 @@ pub record SnapshotState : Type 0 where
   pub image : Image
   pub count : ℕ
 
--- the image is one of the opening's problem, run and gap; where the opening is covered so is it:
--- each better point lies in one of its nodes
+-- the image is one of the opening's problem, run and gap; if the opening is covered so is the
+-- image: each better point lies in one of its nodes
 pub record IsSnapshot (s : SnapshotState) : Type 0 where
   pub savable : IsImage s.image
   pub problem : s.image.problem ≡ s.opening.problem

@@ -1,6 +1,6 @@
-//! What is saved of a moment of a run. It depends on ug_book and on ug_image. `image_of` is the
-//! image of a book, which is Covered where the book is sound; a `Snapshot` is what a run began with
-//! and an image of it, which is Covered where the opening is.
+//! The saved state of a moment of a run. Depends on ug_book and on ug_image. `image_of` returns the
+//! image of a book, which is Covered if the book is sound; a `Snapshot` has the opening of a run
+//! and an image of it, which is Covered if the opening is.
 #![tactic(auto)]
 
 mod began;

@@ -14,8 +14,8 @@ use ug_lists::Items;
 use ug_nodes::Node;
 use ug_rows::Point;
 
-/// The image of this moment of the book, under a sequence. An image of 2^63 bytes or more, which no
-/// memory holds, is none.
+/// Returns the image of this moment of the book, under a sequence number. An image of 2^63 bytes or
+/// more, which no memory can hold, counts as out of memory.
 pub fn image_of(alloc: Global, book: &Book, sequence: u64) -> Result<Image, AllocError>
     requires { 1 ≤ sequence }
     ensures moment { IfOk result (IsImageOf book.now sequence) }
@@ -94,7 +94,7 @@ fn copied(alloc: Global, best: Option<&Point>) -> Result<Option<Point>, AllocErr
     }
 }
 
-// What is saved of the nodes.
+// Returns the saved form of the nodes.
 fn saved(alloc: Global, nodes: &[&Node]) -> Result<Saved, AllocError>
     ensures value { IfOk result (λ made. made ≡ map saved_of (lent nodes.now)) }
     ensures hands { IfOk result HaveHands }

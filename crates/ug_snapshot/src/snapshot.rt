@@ -10,7 +10,7 @@ use ug_image::Image;
 #[derive(Drop)]
 pub struct Snapshot {
     began: Began,
-    // Under sequence 1: whoever saves it gives it the one that is next.
+    // Under sequence 1: the saver replaces it by the next one.
     image: Image,
     count: u64,
 }

@@ -8,7 +8,7 @@ ghost use Rattle.ug_checkpoint.specs.Runs.{Stands, Becomes};
 use ug_disk::{Disk, Slot};
 use ug_io::Failed;
 
-/// What is known of the gate of a slot.
+/// The known state of the gate of a slot.
 #[derive(Clone, Copy, PartialEq, Eq)]
 pub enum Gate {
     /// Nothing is pending in the slot, and its gate was not examined.

@@ -10,7 +10,7 @@ use crate::slots::saving::save_into;
 use ug_disk::{Disk, Slot};
 use ug_io::Failed;
 
-/// What is known of two slots: which of them has what was acknowledged last, and of each whether
+/// The known state of two slots: which of them has the last acknowledged body, and of each whether
 /// its gate is shut.
 #[derive(Drop)]
 pub struct Keeper {
