@@ -344,7 +344,7 @@ offered_known x answer o after p q h well opened =
     (subst (λ (s : Settings). Backs new.book (Some (cutoff_of new.book.problem s.gap x))) settings
     (offered_backs p.rank x answer mid new step well)))
 
--- ---- where a turn comes
+-- ---- if a turn comes
 
 -- the book that was taken out backs what the pass knew
 pub known_out : (lock : TableId) (rank : ℕ) (old mid : ViewState) (shelf : Shelf) (cutoff : Option ℤ)

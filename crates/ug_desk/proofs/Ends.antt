@@ -86,7 +86,7 @@ module _ (handed taken : List (List Interval)) (found count : ℕ)
     due_on b told (Outside column) due = absurd due
     due_on b told Memory due = absurd due
 
--- what is done under it is the same
+-- the effect under it is the same
 after_on : (b : BookState) (r : ℕ) (ticket : Ticket) (told : Option ℤ) (count handed found : ℕ)
     (heard : Heard) → after_hearing heard r (Done ticket told count Plain) b
     ≡ after_hearing (told_on handed found heard) r (Done ticket told handed Plain) b
@@ -184,7 +184,7 @@ module _ (b : BookState) (r : ℕ) (task : TaskState) (of : IsOfTicket b r task)
               (Done task.ticket c (length task.handed) Plain) b) is_cutoff;
         })
 
-    -- where it is kept it is true: the boxes that the task handed are those that were taken
+    -- if it is kept it is true: the boxes that the task handed are those that were taken
     pub true_so : (ticket : Ticket) (cutoff : Option ℤ) → cutoff ≡ task.cutoff
         → AreAllHanded task.problem task.cutoff task.whole task.handed
         → IsTrueReport b r (Done ticket cutoff count Plain)

@@ -81,7 +81,7 @@ pub word_after : (word r : ℕ) (call : Call) (old new : DeskState) → word ≡
 word_after word r call old new is none s =
     is ∙ sym (word_stays old.book new.book (step_stays r call old new none s))
 
--- where the book alone changed
+-- if the book alone changed
 pub entered_by : (l : LockedState) (b : BookState) (count r : ℕ) (call : Call) → IsLocked l
     → Step r call l.now (record { book = b; tickets = l.now.tickets }) → IsSameRun l.now.book b
     → (IsSoundBook l.now.book → IsSoundBook b) → count ≡ one_more l.count

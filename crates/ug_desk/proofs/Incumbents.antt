@@ -34,7 +34,7 @@ use Rattle.ug_desk.specs.Reports.{HasHanded, HasNoted, HasOffered}
 use Rattle.ug_desk.specs.Takes.{with_joined}
 use Rattle.ug_desk.specs.Histories.{Call, Step, taken, offered, handed, stated, ended, left, copied}
 
--- what is to be beaten: the problem, the settings and the incumbent
+-- the point to beat: the problem, the settings and the incumbent
 pub record Aim : Type 0 where
   pub problem : Instance
   pub settings : Settings
@@ -88,7 +88,7 @@ deadly_stays : (deadly : Bool) (r : ℕ) (b : BookState) → Stays b (if deadly 
 deadly_stays true r b = killed_stays r b
 deadly_stays false r b = refl
 
--- what is done under an answer behind taking the report up
+-- the effect of an answer after taking the report up
 under_stays : (answer : Heard) (r : ℕ) (b : BookState)
     → Stays b (counted_under answer (killed_under answer r b))
 under_stays answer r b =
@@ -109,7 +109,7 @@ done_stays (Racing racer) r b = refl
 done_stays (Active work) r b = refl
 done_stays (Dead how) r b = refl
 
--- the report is none of a point
+-- the report is not of a point
 abbrev IsNoPoint : Report → Type 0
 IsNoPoint (Solution ticket x) = ⊥
 IsNoPoint report = Unit {0}
@@ -122,7 +122,7 @@ kept_stays r (Reported ticket count floor) b off = refl
 kept_stays r (Done ticket told count ending) b off = done_stays (state_at b.ranks r) r b
 kept_stays r Ended b off = refl
 
--- what is not kept is not taken up
+-- a report that is not kept is not taken up
 abbrev is_kept : Heard → Bool
 is_kept Kept = true
 is_kept answer = false

@@ -1,4 +1,4 @@
--- What is kept of a rank's work is what its task is made of.
+-- The parts kept of a rank's work make its task.
 use Rattle.std.proofs.Common.{◌≡◌, List, sym, subst}
 use Rattle.ug_problem.specs.Better.{IsGap, IsSmallCutoff}
 use Rattle.ug_problem.specs.Instances.{Instance, root_of}

@@ -1,4 +1,4 @@
--- What is saved of a sound book is covered.
+-- The image of a sound book is covered.
 use Rattle.std.proofs.Common.{◌≡◌, ℕ, sym, ap, ◌∙◌, subst}
 use Rattle.ug_rules.specs.declared.settings.Settings.{Settings}
 use Rattle.ug_rules.specs.Books.{IsSoundBook}
@@ -10,7 +10,7 @@ use Rattle.ug_book.specs.Openings.{IsCoveredOpening}
 use Rattle.ug_desk.specs.Entries.{IsLocked, LockedState}
 use Rattle.ug_snapshot.specs.Snapshots.{IsSnapshot}
 
--- what is read of a locked value is a snapshot
+-- the copy read of a locked value is a snapshot
 pub snapshot_so : (l : LockedState) (o : Opening) (image : Image) (count : ℕ) → IsLocked l
     → o ≡ l.opening → IsImageOf l.now.book 1 image → IsImage image
     → (IsSoundBook l.now.book → IsCovered image)

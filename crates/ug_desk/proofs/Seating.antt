@@ -22,7 +22,7 @@ module _ {X : Type 0} where
   next_at [] ys x = refl
   next_at (y ∷ xs) ys x = next_at xs ys x
 
-  -- what is so of each item and of one more
+  -- a fact about each item and about one more
   pub each_more : (P : ℕ → X → Type 0) (xs : List X) (x : X)
       → ((k : ℕ) (y : X) → slice_get xs k ≡ Some y → P k y) → P (length xs) x
       → (k : ℕ) (y : X) → slice_get (xs ++ x ∷ []) k ≡ Some y → P k y
@@ -40,7 +40,7 @@ fresh_at lock o seats before rest s is fresh =
     (subst (λ (all : List SeatState). slice_get all (length before) ≡ Some s) is (next_at before rest s))
 
 module _ {X Y : Type 0} (R : X → Y → Type 0) where
-  -- what is so of the items of two lists, place by place, and of one more of each
+  -- a fact about the items of two lists, place by place, and about one more of each
   pub pairs_more : (xs : List X) (ys : List Y) (x : X) (y : Y) → length ys ≡ length xs
       → ((k : ℕ) (a : X) (b : Y) → slice_get xs k ≡ Some a → slice_get ys k ≡ Some b → R a b)
       → R x y

@@ -14,7 +14,7 @@ pub enum Woken {
     All,
 }
 
-/// What is known of one rank.
+/// The known state of one rank.
 #[derive(Clone, Copy, PartialEq, Eq)]
 enum Place {
     /// It has not asked for work yet.

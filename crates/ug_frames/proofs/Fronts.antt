@@ -1,4 +1,4 @@
--- What is at the front of bytes, by what is read behind its length.
+-- The frame at the front of bytes, by what is read behind its length.
 use Rattle.std.proofs.Common.{◌≡◌, ℕ, ◌+◌, ◌^◌, ◌<◌, ◌≤◌, List, ◌++◌, length, take, drop, Result, Ok, Err, IfOk, refl, sym, ◌∙◌, ap, subst, append_assoc, arith, inl, inr}
 use Rattle.std.specs.Int.{w32, from_be_bytes}
 use Rattle.std.proofs.lemmas.List.{take_at, drop_at, take-append-drop, append_cancel_left, length-append, length-take, length-drop}

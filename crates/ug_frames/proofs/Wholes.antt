@@ -21,7 +21,7 @@ module _ {X : Type 0} (Good : X → Type 0) (field : X → List ℕ) (read : Lis
   abbrev end : X × List ℕ → Result X ℕ
   end x = cond (eqb (length x.1) 0) (Ok x.0) (Err (length x.1))
 
-  -- what is read by a reader, and has nothing behind it
+  -- a message that a reader reads with nothing behind it
   pub alone_reader : (most : ℕ) → IsReader Good field read
       → IsWhole most Good field (λ bytes. alone (read bytes))
   unfolding alone

@@ -17,7 +17,7 @@ IsFront bytes Bad = (4 ≤ length bytes) × ¬ IsLength (length_told bytes)
 IsFront bytes (There frame) =
     IsThere bytes × (frame.now ≡ take (length_told bytes) (drop 4 bytes))
 
--- what is said of a frame of this many bytes, by what was read of it
+-- the result for a frame of this many bytes, by what was read of it
 abbrev pub whole_of : {M : Type 0} → Result M Fault → ℕ → Result (Decoded M) AllocError
 whole_of (Ok message) used = Ok (decoded.Whole message used)
 whole_of (Err fault.Memory) used = Err alloc_error

@@ -1,4 +1,4 @@
--- What is at the front of a stream of frames.
+-- The front of a stream of frames.
 use Rattle.std.specs.Prelude.{◌≡◌, ℕ, ◌+◌, ◌<◌, ◌≤◌, List, ◌++◌, length, take, ◌⊎◌}
 use Rattle.std.specs.Int.{w32, from_be_bytes}
 use Rattle.ug_frames.specs.declared.decoded.Decoded.{Decoded}
@@ -35,8 +35,8 @@ module _ {M : Type 0} (IsCarried : M → Type 0) (spelled : M → List ℕ) wher
     pub rest : List ℕ
     pub parts : bytes ≡ spelled message ++ rest
 
-  -- What is at the front: more is needed where a frame is cut short, it is bad where none is
-  -- cut short and no message's frame is the front, else it is whole, and has this many bytes.
+  -- The result for the front: more is needed if a frame is cut short; it is bad if no frame is cut
+  -- short and no message's frame is the front; else it is whole, and has this many bytes.
   abbrev pub IsDecoded : List ℕ → Decoded M → Type 0
   IsDecoded bytes NeedMore = IsCutShort bytes
   IsDecoded bytes Bad = ¬ IsCutShort bytes × ((message : M) → ¬ BeginsWith bytes message)

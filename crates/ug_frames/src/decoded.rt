@@ -1,4 +1,4 @@
-/// What is at the front of the bytes that came.
+/// The result of reading the front of some bytes.
 #[derive(Drop)]
 pub enum Decoded<M> {
     /// A frame that is not all there yet.

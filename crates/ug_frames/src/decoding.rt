@@ -27,7 +27,7 @@ fn whole<M>(read: Result<M, Fault>, used: usize) -> Result<Decoded<M>, AllocErro
     }
 }
 
-/// What is at the front of the bytes, of orders. Memory runs out only for one that is there.
+/// Returns the order at the front of the bytes. Fails only if memory runs out for one there.
 pub fn decode_order(alloc: Global, bytes: &[u8]) -> Result<Decoded<Order>, AllocError>
     // The answer is right, and no other is.
     ensures read { IfOk result (IsDecoded IsCarried spelled bytes.now) }
@@ -42,7 +42,7 @@ pub fn decode_order(alloc: Global, bytes: &[u8]) -> Result<Decoded<Order>, Alloc
     }
 }
 
-/// What is at the front of the bytes, of reports. Memory runs out only for one that is there.
+/// Returns the report at the front of the bytes. Fails only if memory runs out for one there.
 pub fn decode_report(alloc: Global, bytes: &[u8]) -> Result<Decoded<Report>, AllocError>
     // The answer is right, and no other is.
     ensures read { IfOk result (IsDecoded IsCarriedReport spelled_report bytes.now) }

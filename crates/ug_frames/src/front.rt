@@ -10,7 +10,7 @@ const LONGEST: u32 = 67_108_860;
 pub enum Front<'a> {
     /// Not all that it counts, or the length itself is not all there.
     CutShort,
-    /// The length is none that a frame may have.
+    /// No frame may have this length.
     Bad,
     /// The bytes that it counts.
     There(&'a [u8]),

@@ -10,8 +10,7 @@ use Rattle.ug_problem.specs.Instances.{Instance}
 use Rattle.ug_problem.specs.Printed.{IsPrinted}
 use Rattle.ug_print.specs.Lines.{line, further, named_line}
 
--- what is claimed of a value: that it is optimal, or where a gap was asked for that it is within
--- this gap
+-- the claim about a value: that it is optimal, or, if a gap was given, that it is within this gap
 abbrev pub claim_under : ℕ → List ℕ
 claim_under gap =
     if gap == 0 then codes "optimal" else codes "within" ++ further (decimal gap)

@@ -42,7 +42,7 @@ node_lines columns place [] = []
 node_lines columns place (node ∷ nodes) =
     node_line columns place node ++ node_lines columns (place + 1) nodes
 
--- what is said of the whole, with the value of the best point as this word
+-- the lines of the whole, with the value of the best point as this word
 abbrev pub head_lines : Image → List ℕ → List ℕ
 head_lines image best =
     named_line (codes "run") (decimal image.run)

@@ -74,7 +74,7 @@ fn claim_line(alloc: Global, gap: u64, value: &[u8]) -> Result<Vec<u8>, AllocErr
     Ok(text)
 }
 
-// What is claimed under a gap.
+// Returns the claim under a gap.
 fn claim(alloc: Global, gap: u64) -> Result<Vec<u8>, AllocError>
     ensures { IfOk result (λ text. text.items ≡ claim_under gap) }
 {

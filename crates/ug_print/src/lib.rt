@@ -1,9 +1,9 @@
-//! The lines that the program prints, each of which a definition in specs/ pins, and what standard
-//! error says of a file that is refused, which none does.
-//! It depends on ug_book for what a run answers, on ug_restart for why none begins, on ug_image for
-//! what a checkpoint has, and on ug_drafts for why a file is refused.
-//! Each function makes or adds whole lines and takes memory for nothing but them and their numbers;
-//! what is written where memory runs out takes none.
+//! The lines that the program prints, each of which a definition in specs/ determines, and the
+//! explanation on standard error of a file that is refused, which none does. Depends on ug_book for
+//! the answer of a run, on ug_restart for the causes why none begins, on ug_image for the contents
+//! of a checkpoint, and on ug_drafts for the causes why a file is refused. Each function makes or
+//! adds whole lines, and allocates only for them and their numbers; the line for out of memory
+//! needs no memory.
 #![tactic(auto)]
 
 mod answers;

@@ -14,7 +14,7 @@ pub written_more : (a b c : Option (List ℕ)) (s n : ℕ) (bs : List ℕ) → A
 written_more a b c s n bs p q = subst (Appends a c)
     (ap (λ l. take s bs ++ take n l) (take_rest bs s) ∙ sym (take-add s n bs)) (Appends-trans a b c _ _ p q)
 
--- what is behind the first `s` is `n` bytes of it and what is behind `s + n`
+-- the bytes behind the first `s` are `n` bytes and those behind `s + n`
 pub left_whole : (s n : ℕ) (bs : List ℕ) → drop s bs ≡ take n (drop s bs) ++ drop (s + n) bs
 left_whole s n bs = sym (take-append-drop n (drop s bs))
     ∙ ap (λ l. take n (drop s bs) ++ l) (drop-drop n s bs)

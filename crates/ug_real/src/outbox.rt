@@ -8,7 +8,7 @@ use std::alloc::Global;
 use std::io::{ErrorKind, Write};
 use std::{io, mem};
 
-/// What is kept of an empty outbox's memory, in bytes.
+/// Capacity, in bytes, that an empty outbox keeps.
 const KEPT: usize = 1 << 16;
 
 /// Bytes that are to go to a connection, and did not go yet.

@@ -220,7 +220,7 @@ pub record IsUnderSent (sent : List Order) (ticket : Ticket) : Type 0 where
   pub its : work.ticket ≡ ticket
 
 -- A hand sends a box below that of the ticket, under the number of those that were received before.
--- Where the order was one of a race, the race was won.
+-- If the order was one of a race, the race was won.
 pub record IsHandSpoken (p : Instance) (sent : List Order) (heard : List Report) (ticket : Ticket)
     (number : ℕ) (changes : List Change) : Type 0 where
   pub under : IsUnderSent sent ticket

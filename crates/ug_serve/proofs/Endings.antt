@@ -134,7 +134,7 @@ over_stays a (Came bytes ∷ deeds) b (mid, does, more) over =
 over_stays a (Took order ∷ deeds) b (mid, does, more) over = absurd (none_taken a.stage order mid.stage does.taken over)
 over_stays a (Told report ∷ deeds) b (mid, does, more) over = absurd (none_told a.stage report mid.stage does.due over)
 
--- where Ended was sent it is over
+-- if Ended was sent it is over
 ended_over : (a : ServerState) (deeds : List Deed) (b : ServerState) → IsCourse a deeds b
     → Contains (reports_of deeds) Ended → is_over b.stage ≡ true
 ended_over a [] b same there = absurd (none_there Ended there)

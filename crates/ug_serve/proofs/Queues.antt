@@ -56,7 +56,7 @@ told_still said bytes =
     told_in_on said (heard bytes) ∙ ap (λ (b : List ℕ). told_in said ++ b) (told_in_heard bytes)
     ∙ append_none (told_in said)
 
--- ---- what is kept
+-- ---- the bytes that are kept
 
 pub kept_none : IsKept [] [] [] 0 0 0
 kept_none = record {

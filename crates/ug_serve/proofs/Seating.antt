@@ -293,7 +293,7 @@ begun_seated s tally ticket params race cutoff changes task h made =
       begun = record { its = refl; made = refl };
     }
 
--- a record that is refused for its bytes is none
+-- a record that is refused for its bytes is not a record
 pub refused_none : {T : Type 0} (bytes : List ℕ) (read : Result T RecordError) (why : RecordError) (at : ℕ)
     → read ≡ Err why → why ≡ BadRecord at → IfErr read (IsRefused bytes)
     → (p : Instance) → ¬ IsRecordOf bytes p

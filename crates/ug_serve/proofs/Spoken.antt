@@ -20,7 +20,7 @@ use Rattle.ug_serve.proofs.Heard.{front_orders, workers_are_heard}
 use Rattle.ug_serve.proofs.Honesty.{nothing_in}
 use Rattle.ug_serve.proofs.Told.{in_front}
 
--- of a transcript each front is one
+-- each prefix of a transcript is a transcript
 said_back : (basis : Basis) (past deeds : List Deed) → AreSaid basis (turned past deeds) → AreSaid basis past
 said_back basis past [] said = said
 said_back basis past (Came bytes ∷ deeds) said = said_back basis (Came bytes ∷ past) deeds said

@@ -72,7 +72,7 @@ told_is_no_order report order e = omega (arith, ap kind_of e)
 pub took_is_no_report : (order : Order) (report : Report) → Took order ≡ Told report → ⊥
 took_is_no_report order report e = omega (arith, ap kind_of e)
 
--- ---- an order that is none of work
+-- ---- an order other than Work
 
 pub last_took : (order : Order) (past : List Deed) → work_of order ≡ None
     → last_work (Took order ∷ past) ≡ last_work past
@@ -83,7 +83,7 @@ pub since_took : (order : Order) (past : List Deed) → work_of order ≡ None
 since_took order past none =
     ap (λ (work : Option Ordered). since_order work order (since_work past)) none
 
--- ---- what is known stays so
+-- ---- known facts stay true
 
 abbrev pub under_more : (basis : Basis) (past new : List Deed) (ticket : Ticket) → last_work new ≡ last_work past
     → (u : IsUnder basis past ticket) → IsUnder basis new ticket

@@ -268,7 +268,7 @@ at_begun basis past tally ticket params race cutoff changes new h =
     own work None same = tt
     own work (Some cutoff) same = inl same
 
--- ---- what is sent of it
+-- ---- the reports sent of it
 
 -- a point
 at_found : (basis : Basis) (past : List Deed) (e f : Engaged) (ticket : Ticket) (x : List ℤ)
@@ -369,7 +369,7 @@ at_handed basis past tally e f ticket number changes carried told at =
           here),
     )
 
--- what is left
+-- the boxes left
 at_stated : (basis : Basis) (past : List Deed) (tally : Tally) (e f : Engaged) (ticket : Ticket) (nodes : ℕ) (floor : ℤ)
     → ticket ≡ e.task.ticket → IsStatedBy tally e nodes floor f → IsAtTask basis past e.task e.racing
     → IsRestTold basis past ticket nodes × IsAtTask basis (Told (State ticket nodes floor) ∷ past) f.task f.racing
@@ -422,7 +422,7 @@ at_done basis past e ticket cutoff count told at =
 
 -- ---- each standing
 
--- what is so at each stage
+-- facts at each stage
 abbrev Holds : List Deed → Stage → Type 0
 Holds past Blank = (reports_in past ≡ []) × ((basis : Basis) → ¬ IsSetUpWith past basis)
 Holds past (SetUp basis) = IsSet past basis × (reports_in past ≡ [])

@@ -31,7 +31,7 @@ pub record Basis : Type 0 where
   pub problem : Instance
   pub gap : ℤ
 
--- where a worker stands: nothing was ordered yet; the problem came, and Ready is to be sent; it has
+-- the stage of a worker: nothing was ordered yet; the problem came, and Ready is to be sent; it has
 -- no task; it has one; the end was ordered, and Ended is to be sent; nothing comes after. From
 -- Ready on it counts its rounds.
 pub data Stage : Type 0 where
@@ -135,7 +135,7 @@ pub record IsDoneTold (e : Engaged) (ticket : Ticket) (cutoff : Option ℤ) (cou
   pub under : cutoff ≡ task.cutoff
   pub counted : count ≡ length task.handed
 
--- what is sent of a task
+-- the reports sent of a task
 abbrev pub IsToldBusy : Basis → Tally → Engaged → Report → Stage → Type 0
 IsToldBusy basis tally e (Solution ticket x) new =
     (f : Engaged) × (ticket ≡ e.task.ticket) × IsFoundBy e x f × (new ≡ Busy basis tally f)

@@ -28,7 +28,7 @@ abbrev pub queue_of : List Said → List ℕ → List ℕ → ℕ → Queue
 queue_of said put taken faults =
     record { said = said; put = put; taken = taken; faults = faults }
 
--- what is seen of it as a link
+-- the observation of it as a link
 abbrev pub queue_seen : Queue → LinkSeen
 queue_seen q = record { said = Some q.said; ended = false; faults = q.faults }
 

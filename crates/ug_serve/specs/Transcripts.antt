@@ -1,5 +1,5 @@
--- What is so of the reports that a worker sends, by what it received and sent before. Here deeds
--- are listed the latest first.
+-- Properties of the reports that a worker sends, by the orders received and the reports sent
+-- before. Here deeds are listed the latest first.
 use Rattle.std.specs.Prelude.{◌≡◌, ◌⊎◌, ℕ, ℤ, suc, ◌<◌, Bool, true, List, [], ◌∷◌, Contains}
 use Rattle.std.specs.Prelude.{Option, None, Some, IfSome}
 use Rattle.ug_rows.specs.declared.area.Interval.{Interval}
@@ -152,7 +152,8 @@ pub record IsEndOfTask (basis : Basis) (past : List Deed) (ticket : Ticket)
       → IsGood basis.problem cutoff x
       → IsInHands (root_of basis.problem) (told_since past) ticket count x
 
--- what is so where the report is sent: Ready is the first one, and Ended comes behind the order
+-- properties at the time when the report is sent: Ready is the first one, and Ended comes behind
+-- the order
 abbrev pub IsSaid : Basis → List Deed → Report → Type 0
 IsSaid basis past Ready = reports_in past ≡ []
 IsSaid basis past (Solution ticket x) =

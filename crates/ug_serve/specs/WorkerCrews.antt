@@ -1,4 +1,4 @@
--- What a crew of workers shows, and what a visit of one of them comes to.
+-- The observation of a crew of workers, and the result of a visit of one of them.
 use Rattle.std.specs.Prelude.{◌≡◌, ℕ, List, Some}
 use Rattle.ug_io.specs.declared.crew.Exchange.{Exchange}
 use Rattle.ug_io.specs.Crews.{CrewSeen, HasTurned}
@@ -10,7 +10,7 @@ use Rattle.ug_serve.specs.declared.crew.WorkerCrew.{WorkerCrew}
 abbrev pub exchanged_of : WorkerCrew → List Exchange
 exchanged_of c = c.staff
 
--- what is seen of it
+-- the observation of it
 abbrev pub crew_seen : WorkerCrew → CrewSeen
 crew_seen c = record {
   said = Some (exchanged_of c);

@@ -22,7 +22,7 @@ pub struct Visit {
     pub reports: usize,
 }
 
-/// What a visit came to.
+/// The result of a visit.
 #[derive(Clone, Copy)]
 pub enum Visited {
     /// Something came, or the rank is lost.
@@ -45,7 +45,7 @@ pub struct WorkerCrew<'a> {
     next: u32,
     lives: Vec<bool>,
     staff: Staff,
-    // What is left of the schedule.
+    // The rest of the schedule.
     schedule: &'a [Visit],
     is_finished: bool,
 }

@@ -14,15 +14,14 @@ pub fn workers_are_honest()
     ensures { WorkersAreHonest }
 {}
 
-/// What is received from a rank of a crew of workers, whatever the schedule, is what a worker sends
-/// that receives a prefix of what was sent to the rank.
+/// The bytes received from a rank of a crew of workers, whatever the schedule, are those of a
+/// worker that receives a prefix of what was sent to the rank.
 pub fn workers_are_heard()
     ensures { WorkersAreHeard }
 {}
 
-/// What is seen of a link shows how its service ended: that it is lost shows in its count or its
-/// end, and what was said, where it is sent, shows whether Ended was sent or what came was no
-/// order.
+/// The link shows how its service ended: its count of faults or its end shows that it is lost, and
+/// its bytes, if it shows them, whether Ended was sent or an invalid order was received.
 pub fn services_end_in_one_way()
     ensures { ServicesEndInOneWay }
 {}

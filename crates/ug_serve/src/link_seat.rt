@@ -83,7 +83,7 @@ impl<L: Link + Drop> LinkSeat<L> {
         }
     }
 
-    // Begins a task. An order of a box that is none below the root is refused.
+    // Begins a task. An order of a box that is not below the root is refused.
     fn begin(
         &mut self,
         ticket: Ticket,
@@ -253,7 +253,7 @@ impl<L: Link + Drop> Seat for LinkSeat<L> {
 
     ghost over = { λ seat. IsOver (seat_seen L.seen seat.wire seat.kept) };
 
-    // What is said of the seat names nothing that stands outside it.
+    // The contract of the seat names nothing outside it.
     type Home = u64;
 
     ghost home = { λ seat. 0 };

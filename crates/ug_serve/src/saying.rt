@@ -1,4 +1,4 @@
-//! What is kept of what goes over a link.
+//! Records of the bytes that go over a link.
 
 ghost use Rattle.std.specs.Prelude.{◌≡◌, ◌++◌, OnOk, OnErr};
 ghost use Rattle.ug_io.specs.Links.{told};

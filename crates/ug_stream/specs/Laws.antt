@@ -52,7 +52,7 @@ module _ {M : Type 0} (IsCarried : M → Type 0) (spelled : M → List ℕ) wher
       → IsOver r → IsOver s → flat_map spelled ms ++ r ≡ flat_map spelled ns ++ s
       → (ms ≡ ns) × (r ≡ s)
 
-  -- where a frame is cut short none is the front
+  -- if a frame is cut short none is the front
   abbrev pub ShortIsOver : Type 0
   ShortIsOver = (bytes : List ℕ) → IsCutShort bytes → IsOver bytes
 

@@ -6,7 +6,7 @@ use Rattle.ug_frames.specs.Fronts.{IsCutShort, IsDecoded}
 use Rattle.ug_stream.specs.declared.next.Next.{Next}
 use Rattle.ug_stream.specs.declared.next.Next.TheVariants.{Message, NeedMore, BadFrame}
 
--- where in the stream the first byte stands that waits; the bytes that wait; and whether bad ones
+-- the place in the stream of the first byte that waits; the bytes that wait; and whether bad ones
 -- came
 pub record Waiting : Type 0 where
   pub at : ℕ

@@ -16,7 +16,7 @@ pub struct Assembler {
     bytes: Vec<u8>,
     // How many of these bytes were given in messages.
     given: usize,
-    // Where in the stream the first byte stands that waits.
+    // The place in the stream of the first byte that waits.
     at: u64,
     bad: bool,
 }
@@ -66,7 +66,7 @@ impl Assembler {
         self.bad = true;
     }
 
-    /// Where in the stream the first byte stands that waits. The count stops at its greatest value.
+    /// Returns the place in the stream of the first byte that waits, up to the largest number.
     pub fn place(&self) -> u64
         ensures { result ≡ self.now.at }
     {

@@ -16,7 +16,7 @@ pub trait Framed: Sized {
     /// The bytes of its frame.
     ghost spelled: { Self → List ℕ };
 
-    /// What is at the front of the bytes.
+    /// The result of reading the front of the bytes.
     fn decode(alloc: Global, bytes: &[u8]) -> Result<Decoded<Self>, AllocError>
         ensures { IfOk result (IsDecoded carried spelled bytes.now) };
 }

@@ -8,7 +8,7 @@ use Rattle.ug_worker.specs.declared.tally.Tally.{Tally}
 use Rattle.ug_worker.specs.Engagements.{Engaged, HasTaken, is_replied, lowered}
 use Rattle.ug_worker.specs.Renewals.{begun}
 
--- what is so of each value is so of the one that came
+-- a fact about each value holds of the one that came
 pub if_ok : {T E : Type 0} (result : Result T E) (P : T → Type 0) → ((x : T) → P x) → IfOk result P
 if_ok (Ok x) P all = all x
 if_ok (Err e) P all = tt
