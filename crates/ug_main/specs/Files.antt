@@ -1,4 +1,4 @@
--- What the program did with real files, children and sockets, of whose bytes nothing is told.
+-- The program's work with real files, children and sockets, whose bytes are not shown.
 use Rattle.std.specs.Prelude.{◌≡◌, ℕ, List, Option, None, IfSome, false, replicate}
 use Rattle.clap.specs.Walk.{Text}
 use Rattle.ug_io.specs.Crews.{CrewSeen}
@@ -28,7 +28,7 @@ crew_seen crew = record { said = None; lives = crew.lives.items; faults = crew.f
 abbrev pub link_seen : {R : Type 0} → SocketLink R → LinkSeen
 link_seen link = record { said = None; ended = link.has_ended; faults = link.faults.count }
 
--- what is seen of files, of which nothing is told, by how often their calls failed
+-- the observation of files, which show no bytes, by how often their calls failed
 abbrev pub of_files : ℕ → ℕ → Option CrewSeen → Option LinkSeen → Outside
 of_files reads stores crew link = record {
   source = record { left = None; faults = reads };
@@ -65,8 +65,8 @@ pub record HasRunOnFiles (words : List Text) (seen : FilesSeen) (status : Status
   pub ran : HasRun words (of_files 0 0 crew link)
       (of_files seen.reads seen.stores seen.crew seen.link) (of_output 0) (of_output seen.writes) status
 
--- memory was wanting before anything was done: no call that reads or saves has failed, and the line
--- of it was told, or standard output failed
+-- memory ran out before anything was done: no call that reads or saves has failed, and the line for
+-- it was written, or standard output failed
 pub record IsUnbegun (seen : FilesSeen) (status : Status) : Type 0 where
   pub nothing : of_files seen.reads seen.stores seen.crew seen.link ≡ of_files 0 0 None None
   pub told : HasTold Memory memory_line (of_output 0) (of_output seen.writes) status

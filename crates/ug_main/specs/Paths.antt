@@ -19,8 +19,8 @@ pub record ArePaths (file folder socket : Text) (purpose : Purpose) (paths : Pat
 abbrev pub folder_of : Solve → Text
 folder_of solve = unwrap_or (option_map (λ folder. folder.now) solve.checkpoint) []
 
--- The paths of a plan, or of no plan. What is not named is empty. A run begins in the folder of a
--- solve, and goes on from that of a restart; any other is only shown.
+-- The paths of a plan, or without a plan. A path that is not named is empty. A run begins in the
+-- folder of a solve, and resumes from that of a restart; any other is only shown.
 abbrev pub ArePathsOf : Option Plan → Paths → Type 0
 ArePathsOf None paths = ArePaths [] [] [] Show paths
 ArePathsOf (Some (plans.Solve solve)) paths =

@@ -51,7 +51,7 @@ use ug_real::{
 use ug_restart::{Host, Observer};
 use ug_top::{Objects, Ran, Status, run, tell_unread};
 
-// The words behind the program's own name. A word that is not UTF-8 is no command.
+// Returns the words behind the program's own name. A word that is not UTF-8 is an invalid command.
 fn words_of<R: Env + AllocGlobal>(rt: &R) -> Result<Vec<String>, Status> {
     let words = env::args(&(Behind(rt), rt.alloc())).map_err(|error| status_of(&error))?;
     match words.collect(rt.alloc()) {
@@ -60,8 +60,8 @@ fn words_of<R: Env + AllocGlobal>(rt: &R) -> Result<Vec<String>, Status> {
     }
 }
 
-// The program's own name, by which it starts its children. Where there is none, or one that is not
-// UTF-8, it is empty, and no child can be started.
+// Returns the program's own name, with which it starts its children. If there is none, or it is not
+// UTF-8, the name is empty, and no child can be started.
 fn name_of<R: Env + AllocGlobal>(rt: &R) -> Result<String, Status> {
     let none = String::new(rt.alloc());
     match env::args(&(rt, rt.alloc())) {
@@ -73,7 +73,7 @@ fn name_of<R: Env + AllocGlobal>(rt: &R) -> Result<String, Status> {
     }
 }
 
-// What an error of reading the words comes to.
+// Returns the status for an error of reading the words.
 fn status_of(error: &io::Error) -> Status {
     if error.kind() == io::ErrorKind::OutOfMemory {
         Status::Memory
@@ -157,7 +157,7 @@ where
 struct Job<'a> {
     words: &'a [String],
     paths: Paths<'a>,
-    // Whether standard error tells more than why it failed.
+    // Does standard error show more than the cause of a failure?
     is_told: bool,
 }
 
@@ -273,7 +273,7 @@ where
     }
 }
 
-// Tells want of memory before anything was done, as a run tells it.
+// Reports out of memory before anything was done, as a run reports it.
 fn unbegun<R>(rt: &R) -> Worked<'_, R>
 where
     R: Files<File = File>

@@ -32,7 +32,7 @@ fn advice_in(words: &'static str) -> Advice {
     }
 }
 
-// What is wrong with a checkpoint.
+// Returns the cause of a fault of the checkpoint, and what helps.
 fn advice_of(status: Status) -> Option<Advice> {
     let words = match status {
         Status::NoCheckpoint => "no checkpoint; ug solve FILE --checkpoint DIR makes one",

@@ -7,7 +7,7 @@ use ug_cli::Plan;
 pub enum Purpose {
     /// A run begins in it.
     Begin,
-    /// A run goes on from it.
+    /// A run resumes from it.
     GoOn,
     /// It is only shown, or there is none.
     Show,

@@ -65,7 +65,7 @@ fn solvers(alloc: Global) -> Result<Vec<Solver>, AllocError> {
 }
 
 impl Crew {
-    // This many messages; where a book is over another is begun.
+    // Sends this many messages; when a book is over, another one is begun.
     fn send(&mut self, problem: &Shared, count: u64) -> Result<Answers, AllocError> {
         self.all_join()?;
         for _ in 0..count {

@@ -3,7 +3,7 @@ ghost use Rattle.ug_frames.specs.Orders.{IsOrder};
 use std::alloc::{AllocError, Global};
 use ug_frames::{Decoded, Order, decode_order, encode_order};
 
-/// What is done with a frame.
+/// The use of a frame.
 #[derive(Clone, Copy)]
 pub enum Way {
     Encode,
@@ -81,8 +81,9 @@ fn repeat(alloc: Global, bytes: &[u8], way: Way, times: u64) -> Result<u64, Allo
     }
 }
 
-/// Encodes an order to work with this many changes so often, and says how many bytes it wrote; or
-/// decodes it, and says how many changes it read. More than 10,000 changes are none.
+/// Encodes an order to work with this many changes `times` times and returns the number of bytes
+/// written, or decodes it and returns the number of changes read. More than 10,000 changes are
+/// refused.
 pub fn frame_often(alloc: Global, changes: u16, way: Way, times: u64) -> Result<u64, AllocError> {
     let mut bytes = Vec::new(alloc);
     let done = match put_work(&mut bytes, changes) {

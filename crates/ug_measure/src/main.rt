@@ -35,7 +35,7 @@ use std::process::ExitCode;
 use std::rt::{Env, Files};
 use std::sync::Wait;
 
-// What is measured.
+// The measurement to make.
 #[derive(Clone, Copy)]
 enum Task {
     Book { messages: u64 },

@@ -14,7 +14,8 @@ use std::io::{Input, Print};
 use std::{io, mem};
 use ug_book::Book;
 
-// Adds the line with what is replied to its words; None where it is no call that can be made now.
+// Adds the line with the reply to its words. Returns `None` if it is not a call that can be made
+// now.
 fn push_reply(
     alloc: Global,
     text: &mut String,
@@ -46,7 +47,7 @@ fn push_driven(alloc: Global, text: &mut String, line: &str, messages: u64) -> O
     pushed.ok()
 }
 
-// Adds what a line comes to.
+// Adds the result of a line.
 fn push_replayed(
     alloc: Global,
     text: &mut String,

@@ -28,7 +28,7 @@ pub struct Telling {
     pub value: Option<Text>,
 }
 
-// What is read of the reports.
+// The facts read from the reports.
 #[derive(Drop)]
 struct Heard {
     reports: u64,
@@ -122,7 +122,7 @@ fn orders_of(alloc: Global, problem: &Problem) -> Result<Vec<u8>, AllocError> {
     Err(AllocError)
 }
 
-// What is sent over a link of these orders.
+// Returns the facts read from the reports of a worker that serves these orders.
 fn heard_over<R: Wait>(rt: &R, alloc: Global, orders: &[u8]) -> Heard {
     let service = serve(rt, alloc, TaskLink::new(orders, END, Vec::new(alloc)));
     let mut heard = Heard::new();
@@ -133,7 +133,7 @@ fn heard_over<R: Wait>(rt: &R, alloc: Global, orders: &[u8]) -> Heard {
     heard
 }
 
-// What is reported of the whole problem, if the task was done.
+// Returns the reports on the whole problem, if the task was done.
 fn telling_of<R: Wait>(rt: &R, alloc: Global, problem: &Problem) -> Option<Telling> {
     let orders = orders_of(alloc, problem).ok()?;
     let heard = heard_over(rt, alloc, &orders);

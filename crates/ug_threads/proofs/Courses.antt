@@ -90,7 +90,7 @@ begins_same seen = ([], append-nil seen)
 
 -- ---- calls
 
--- what is answered is no higher than what was read before
+-- the answered cutoff is no higher than the one read before
 abbrev IsLine : PassState → Call → Type 0
 IsLine p call = (o : Opening) (past : List Deed) → p.opening ≡ Some o
     → AreReadAbove o p.known past → IsInLine o p.rank past (Called call)
@@ -320,7 +320,7 @@ known_under : (q : PassState) (cutoff : Option ℤ) (task : TaskState) → IsKno
 known_under q None task one two = one
 known_under q (Some c) task one two = known_lesser q task.cutoff c one two
 
--- what is kept of a cutoff that was read
+-- facts kept of a cutoff that was read
 known_kept : (found kept : Option ℤ) (p q : PassState) → HasLooked found p q
     → IfSome kept (λ c. found ≡ Some c) → IsKnownBacked q kept
 known_kept found None p q h from = known_none q
@@ -623,7 +623,7 @@ seat_handed d number area answer p q count less racing tally e f in_ handed_ few
           (λ cutoff known. known_on (Some (handed number area answer)) after p q cutoff h known) handed_ few s.its;
     }
 
--- ---- what is left
+-- ---- the rest
 
 replied_of : (count : ℕ) (floor : ℤ) (reply : Reply) (after : LockedState) (p q : PassState) (asked : Asked)
     (tally : Tally) (e f : Engaged) → HasCalledAt (Some (stated count floor (Ok reply))) after p q

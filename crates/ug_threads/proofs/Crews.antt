@@ -22,7 +22,7 @@ module _ {X : Type 0} where
   front_at (y ∷ xs) ys zero x e = e
   front_at (y ∷ xs) ys (suc k) x e = front_at xs ys k x e
 
-  -- what is so of all is so of all but the last, and of the last
+  -- a fact about all holds of all but the last, and of the last
   all_front : (P : X → Type 0) (all xs : List X) (x : X) → all ≡ xs ++ x ∷ []
       → ((k : ℕ) (y : X) → slice_get all k ≡ Some y → P y)
       → (k : ℕ) (y : X) → slice_get xs k ≡ Some y → P y

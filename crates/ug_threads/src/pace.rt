@@ -4,9 +4,9 @@ ghost use Rattle.std.specs.Prelude.{◌≡◌, ◌+◌, ◌*◌, ◌-◌, ◌^�
 
 use std::sync::atomic::{AtomicU64, Ordering};
 
-// All solvers wait while the nodes of a snapshot are copied. Between two snapshots there are this
-// many reports for each node, so that copying takes a small part of the time, however many nodes
-// there are.
+// No other call of the desk gets a turn while the nodes of a snapshot are copied. Between two
+// snapshots there are this many reports for each node, so that copying takes a small part of the
+// time, however many nodes there are.
 const REPORTS_A_NODE: u64 = 8;
 
 /// When a snapshot is due, for all seats of a desk together: behind a report whose number is a

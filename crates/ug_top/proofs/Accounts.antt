@@ -122,7 +122,7 @@ run_read Ran Not gap e old new t same =
 
 -- ---- commands that read no text
 
--- what is said of every disk is said of one that a crew may have saved on
+-- a statement about every disk holds of one that a crew may have saved on
 pub stored_by : (by : Crewed) (old new : DiskSeen) (status : Status)
     → IsStored (KeepsCovered old new) old new status → IsStored (KeepsCoveredBy by old new) old new status
 stored_by by old new status t = record {

@@ -31,7 +31,7 @@ pub begun_sound : (p : Instance) (settings : Settings) (old : Option History) (b
 begun_sound p settings old b t =
     subst IsSoundBook (sym t.is) (root_is_sound p (next_run t.found) settings)
 
--- where the image from which it continues was Covered
+-- if the image from which it continues was Covered
 pub image_sound : (p : Instance) (settings : Settings) (old : Option History) (b : BookState)
     (t : IsGoneOn p settings old b) → IsCovered t.found.image → IsSoundBook b
 image_sound p settings old b t covered =
@@ -40,7 +40,7 @@ image_sound p settings old b t covered =
     (boxes_saved t.found.image.nodes) settings).1
     (covered_on p settings.gap t.found t.problem t.gap covered))
 
--- where each was that could be found
+-- if each was that could be found
 pub gone_on_sound : (p : Instance) (settings : Settings) (old : Option History) (b : BookState)
     → CoversWhatIsFound old → IsGoneOn p settings old b → IsSoundBook b
 gone_on_sound p settings old b covers t =
@@ -118,7 +118,7 @@ run_covered old mid new b saver P sound holds covers leaves a goes_on =
     joins IsCoveredFind old mid new (start_covered old mid P sound covers leaves)
     (goes_on (sound b holds) (now_covered mid b saver (sound b holds) a))
 
--- where it is refused
+-- if it is refused
 pub refused_covered : (old new : Option History) (P : BookState → Type 0)
     → ((b : BookState) → P b → IsSoundBook b) → CoversWhatIsFound old
     → Leaves (IsSafeStart old P) old new → AllCovered old new

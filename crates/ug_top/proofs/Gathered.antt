@@ -6,7 +6,7 @@ use Rattle.ug_top.specs.declared.ended.Ended.{Ended}
 use Rattle.ug_top.specs.declared.ended.Ended.TheVariants.{Lines, Quiet, Refused, ReadFault, Memory}
 use Rattle.ug_top.specs.Unread.{HasStopped}
 
--- where a file was gathered
+-- if a file was gathered
 pub has_stopped : (a b : Option (List ℕ)) (e : Ended) → StopsAtEnd a b → HasStopped a b e
 has_stopped a b (Lines status told best) h = h
 has_stopped a b (Quiet status) h = h
@@ -14,6 +14,6 @@ has_stopped a b (Refused refusal told) h = h
 has_stopped a b ReadFault h = tt
 has_stopped a b Memory h = tt
 
--- where nothing was read
+-- if nothing was read
 pub stops_unread : (a : Option (List ℕ)) (e : Ended) → HasStopped a a e
 stops_unread a e = has_stopped a a e (stops_at_once a)

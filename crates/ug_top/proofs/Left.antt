@@ -36,7 +36,7 @@ weaker P Q (Some a) of t = of a t
 pub none_left : {A : Type 0} (P : A → Type 0) (o : Option A) → o ≡ None → IfSome o P
 none_left P o is = subst (λ q. IfSome q P) (sym is) tt
 
--- of a run
+-- for a run
 run_best : (Ran : Instance → Outcome → Type 0) (Not : Instance → StartFault → Type 0) (boxed : Option ℕ)
     (left : Option (List ℕ)) (p : Instance) → States left boxed p → (gap : ℕ) (e : Ended)
     → TellsRun (Ran p) (Not p) gap e → IfSome (best_of e) (IsIncumbentOf Ran boxed left)
@@ -59,7 +59,7 @@ run_line P Ran Not gap (Refused refusal text) t = absurd t
 run_line P Ran Not gap ReadFault t = absurd t
 run_line P Ran Not gap Memory t = tt
 
--- of a command that read no problem
+-- for a command that read no problem
 pub unread_best : (P : List ℕ → Type 0) (boxed : Option ℕ) (left : Option (List ℕ)) (e : Ended)
     → IsUnread boxed left e → IfSome (best_of e) P
 unread_best P boxed left (Lines status text best) t = absurd t
@@ -77,7 +77,7 @@ unread_fault boxed left (Refused refusal text) t = t.1
 unread_fault boxed left ReadFault t = tt
 unread_fault boxed left Memory t = tt
 
--- of a solve without a checkpoint
+-- for a solve without a checkpoint
 pub alone_best : {A : Type 0} (folder : Option A) (asked : Asked) (old new : Outside) (p : Instance)
     → folder ≡ None → States old.source.left asked.bounds.boxed p → (e : Ended)
     → TellsRun (HasRunAlone (crews_at old new) asked old.disk new.disk p) (BeginsAlways p)
@@ -99,7 +99,7 @@ saved_best {A} folder name asked old new p is states e t =
     (HasNotBegun (crews_at old new) asked old.disk new.disk)
     asked.bounds.boxed old.source.left p states asked.bounds.gap e t)
 
--- of a restart
+-- for a restart
 pub restart_best : (asked : Asked) (old new : Outside) (p : Instance)
     → States old.source.left asked.bounds.boxed p → (e : Ended)
     → TellsRun (HasRunOn (crews_at old new) asked old.disk new.disk p)
@@ -111,7 +111,7 @@ restart_best asked old new p states e t =
     (HasNotGoneOn (crews_at old new) asked old.disk new.disk)
     asked.bounds.boxed old.source.left p states asked.bounds.gap e t
 
--- of a checkpoint that is shown
+-- for a checkpoint that is shown
 pub image_best : (old new : DiskSeen) (found : Found) → HasFound old.told new.told (Some found)
     → (e : Ended) → TellsImage found.image e → IfSome (best_of e) (IsPointFound old new)
 image_best old new found has (Lines status text best) t =
@@ -123,7 +123,7 @@ image_best old new found has (Refused refusal text) t = absurd t
 image_best old new found has ReadFault t = absurd t
 image_best old new found has Memory t = tt
 
--- of a fault that is printed
+-- for a fault that is printed
 pub fault_best : (P : List ℕ → Type 0) (fault : StartFault) (e : Ended) → TellsFault fault e
     → IfSome (best_of e) P
 fault_best P fault (Lines status text best) t = mapped (λ v. v.items) P best (none_left _ best t.2)
@@ -132,7 +132,7 @@ fault_best P fault (Refused refusal text) t = absurd t
 fault_best P fault ReadFault t = absurd t
 fault_best P fault Memory t = tt
 
--- of a run whose end is printed
+-- for a run whose end is printed
 pub end_best : (outcome : Outcome) (e : Ended) → TellsEnd outcome e → best_of e ≡ None
 end_best outcome (Lines status text best) t = ap (option_map (λ v. v.items)) t.1
 end_best outcome (Quiet status) t = absurd t
@@ -140,7 +140,7 @@ end_best outcome (Refused refusal text) t = absurd t
 end_best outcome ReadFault t = absurd t
 end_best outcome Memory t = refl
 
--- where no file is read none is at fault
+-- if no file is read none is at fault
 pub show_line : (P : ℕ → Type 0) (old new : DiskSeen) (e : Ended)
     → AreShowLines old new (status_of e) (text_of e) → IfSome (line_of e) P
 show_line P old new (Lines status text best) t = tt
@@ -177,7 +177,7 @@ pub fault_for : (words : List Text) (plan : Plan) (old : Outside) (o : Option �
 fault_for words plan old o taken t =
     weaker _ _ o (λ line fault. record { plan = plan; taken = taken; fault = fault }) t
 
--- what is said of a mapped option is said of the option
+-- a statement about a mapped option holds of the option
 pub unmapped : {A B : Type 0} (f : A → B) (P : B → Type 0) (o : Option A) (q : Option B)
     → option_map f o ≡ q → IfSome q P → IfSome o (λ a. P (f a))
 unmapped f P None q is t = tt

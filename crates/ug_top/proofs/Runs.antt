@@ -1,4 +1,4 @@
--- What is due of a run, and that it is complete.
+-- The lines that are due of a run, and that it is complete.
 use Rattle.std.proofs.Common.{◌≡◌, inl, inr, ℕ, ◌≤◌, ◌^◌, List, Option, None, Some, IfSome, refl, sym, subst}
 use Rattle.clap.specs.Walk.{Row, Text}
 use Rattle.ug_problem.specs.Instances.{Instance}

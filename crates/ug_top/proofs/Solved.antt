@@ -1,4 +1,4 @@
--- What is so of a run's end, whoever solved.
+-- Facts about a run's end, whoever solved.
 use Rattle.std.proofs.Common.{◌≡◌, inl, inr, ℕ, [], Option, None, Some, IfSome, refl, sym, subst}
 use Rattle.std.specs.Prelude.{◌↔◌, IsNone, IsSomeAnd, List}
 use Rattle.std.proofs.lemmas.Bool.{false≢true}
@@ -83,7 +83,7 @@ crew_right (Limited own) b is sound right = tt
 crew_right (Stranded own) b is sound right = tt
 crew_right Memory b is sound right = tt
 
--- where it is trusted
+-- if it is trusted
 pub solved_right : CoordinatorsLoseNothing → (was now : Option CrewSeen) (given : BookState) (end : End)
     (h : has_solved was now given end) → given.last ≡ 0 → is_trusted was now given end h → IsSoundBook given
     → IfAnswered end IsRight
@@ -190,7 +190,7 @@ nobody_solved (Some crew) given outcome solvers fits alive none ranks =
     unsafely given crew.faults crew outcome.end (AreEachSaved None outcome disk) (IsKeptSafe None disk disk)
     (nothing_coordinated given crew None outcome disk (subst (IsFresh crew) ranks fits) alive none)
 
--- where the first image was acknowledged
+-- if the first image was acknowledged
 pub saved_in_turn : (was now : Option CrewSeen) (given : BookState) (end : End) (h : has_solved was now given end)
     (saver : Saver) (outcome : Outcome) (new : DiskSeen) (begun : Option History)
     → IsAcknowledgedStart begun given saver
@@ -202,7 +202,7 @@ saved_in_turn (Some was) None given end h saver outcome new begun first saves = 
 saved_in_turn (Some was) (Some now) given end h saver outcome new begun first saves =
     record { saver = saver; first = first; each = saves }
 
--- where nothing is asked of the saves
+-- if nothing is asked of the saves
 pub any_saves : (was now : Option CrewSeen) (given : BookState) (end : End) (h : has_solved was now given end)
     → counts_saves was now given end h (λ count. Unit {0})
 any_saves None None given end h = tt
@@ -246,7 +246,7 @@ kept_anyway by old new keeps = kept_always by.was by.now old new keeps
 
 -- ---- it is not stranded
 
--- where it ended without a book
+-- if it ended without a book
 pub nothing_live : (end : End) → end ≡ Memory → ¬ IsStranded end
 nothing_live (Answered b) is stranded = stranded
 nothing_live (Limited b) is stranded = stranded
@@ -299,7 +299,7 @@ strands_so None (Some now) given end h live = absurd h
 strands_so (Some was) None given end h live = absurd h
 strands_so (Some was) (Some now) given end h live = crew_strands end h.now.book h.ended h.exact
 
--- ---- where there is no crew
+-- ---- if there is no crew
 
 pub fits_none : (solvers : ℕ) (crew : Option CrewSeen) → IsNone crew → FitsCrew solvers crew
 fits_none solvers None none = tt

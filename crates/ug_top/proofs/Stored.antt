@@ -106,7 +106,7 @@ missed_rises outcome old new t = elim (cases_lt 0 outcome.missed) [
   | inr none ↦ omega (arith, t.calm (omega (arith, none)))
 ]
 
--- what is missed from a time on, before which the disk did not fail
+-- saves missed from a moment on, before which the disk did not fail
 pub missed_from : (outcome : Outcome) (old mid new : DiskSeen) → mid.faults ≡ old.faults
     → IsMissedByFaults outcome mid new → IsMissedByFaults outcome old new
 missed_from outcome old mid new same t = record {

@@ -1,4 +1,4 @@
--- What is known of a run is what its command's lines are.
+-- The known facts about a run are its command's lines.
 use Rattle.std.proofs.Common.{◌≡◌, ◌⊎◌, inl, inr, ℕ, List, Option, None, Some, refl, sym, subst, ◌∙◌}
 use Rattle.ug_problem.specs.Instances.{Instance}
 use Rattle.ug_restart.specs.declared.fault.StartFault.{StartFault}
@@ -217,7 +217,7 @@ unread_restart asked old new e idle t =
     unread_lines (IsIdleSince old new) (HasRunOn (crews_at old new) asked old.disk new.disk)
     (HasNotGoneOn (crews_at old new) asked old.disk new.disk) asked old.source.left e idle t
 
--- ---- what is known of a run
+-- ---- known facts about a run
 
 pub tells_outcome : (Ran : Outcome → Type 0) (Not : StartFault → Type 0) (gap : ℕ)
     (outcome : Outcome) (e : Ended) → Ran outcome → TellsOutcome gap outcome e

@@ -202,9 +202,9 @@ IsUnreadFor statuses.LinkFault = Unit {0}
 IsUnreadFor statuses.BadFrame = Unit {0}
 IsUnreadFor status = ⊥
 
--- The count of the disk's faults does not fall. A disk fault is reported only where it rose, and it
--- did not where a run was refused for another cause. Where no text was read the slots are as they
--- were. What of the disk stays Covered at each moment, is said so.
+-- The count of the disk's faults does not fall. A disk fault is reported only if it rose, and it
+-- did not if a run was refused for another cause. If no file was read the slots are as they were.
+-- The parts of the disk that stay Covered at each moment are stated too.
 pub record IsStored (Keeps : Type 0) (old new : DiskSeen) (status : Status) : Type 0 where
   pub rises : old.faults ≤ new.faults
   pub fault : status ≡ statuses.DiskFault → Rose old.faults new.faults
@@ -266,9 +266,9 @@ AreWorkerLines link status text = ⊥
 abbrev pub IsOrWants : Status → Status → Type 0
 IsOrWants status due = (status ≡ due) ⊎ (status ≡ statuses.Memory)
 
--- What is seen of the link at the end shows the status: a link fault where a call of it failed or
--- it has ended. And where it says what was said: a bad frame where what came from some place on is
--- no order that is due, and 0 where Ended was sent.
+-- The link at the end shows the status: a link fault if a call of it failed or it has ended. And if
+-- it shows its bytes: a bad frame if the bytes from some place on are not an order that is due, and
+-- 0 if Ended was sent.
 pub record ShowsStatus (seen : LinkSeen) (status : Status) : Type 0 where
   pub fault : IsLost seen → IsOrWants status statuses.LinkFault
   pub bad : IsSome seen.said → (at : ℕ) → HasServed seen (service.BadFrame at)

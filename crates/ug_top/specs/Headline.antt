@@ -17,8 +17,8 @@ use Rattle.ug_restart.specs.Openings.{CoversWhatIsFound}
 use Rattle.ug_top.specs.Outside.{Outside}
 use Rattle.ug_top.specs.Scaled.{scaled_gap}
 
--- The bytes state a problem, and the printed text has the lines of a right answer to it: of a
--- feasible point that no feasible point is better than by more than the gap, or `infeasible`, and
+-- The bytes state a problem, and the printed text has the lines of a right answer to it: those of a
+-- feasible point such that no feasible point is better by more than the gap, or `infeasible`, and
 -- no point is feasible. Behind them the saves that failed are counted, if any did.
 pub record IsRightText (bounds : Limits) (bytes text : List ℕ) : Type 0 where
   pub problem : Instance
@@ -35,8 +35,8 @@ pub record IsRightText (bounds : Limits) (bytes text : List ℕ) : Type 0 where
 abbrev pub IsRightFor : Limits → Outside → List ℕ → Type 0
 IsRightFor bounds old text = IfSome old.source.left (λ bytes. IsRightText bounds bytes text)
 
--- Of a solve this is promised without a premise on any file; of a restart if each checkpoint that
--- could be found was Covered, as each is that a run of this program saves.
+-- For a solve this is promised without a premise on any file; for a restart if each checkpoint that
+-- could be found was Covered, as each one that a run of this program saves is.
 abbrev pub IsRightOf : Plan → Outside → List ℕ → Type 0
 IsRightOf (Solve solve) old text = IsRightFor solve.settings.bounds old text
 IsRightOf (Restart restart) old text =

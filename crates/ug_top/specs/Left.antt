@@ -1,4 +1,4 @@
--- What a run tells beside its lines: the best point of a run that is no answer yet, or of a
+-- The results of a run beside its lines: the best point of a run that is not an answer yet, or of a
 -- checkpoint, and the line at which a file is at fault.
 use Rattle.std.specs.Prelude.{◌≡◌, ℕ, List, Option, None, Some, IfSome, option_map}
 use Rattle.clap.specs.Walk.{Text}

@@ -1,4 +1,4 @@
--- What a run comes to, as it is printed.
+-- The result of a run, as it is printed.
 use Rattle.std.specs.Prelude.{◌≡◌, ℕ, List, ◌++◌, Option, IfSome}
 use Rattle.ug_problem.specs.Instances.{Instance}
 use Rattle.ug_problem.specs.Right.{answer_of}

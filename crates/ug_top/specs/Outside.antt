@@ -7,19 +7,19 @@ use Rattle.ug_io.specs.Outside.{SourceSeen}
 use Rattle.ug_disk.specs.Histories.{DiskSeen}
 use Rattle.ug_top.specs.declared.objects.Objects.{Objects}
 
--- what is seen at one time of the source that it reads, of the disk on which it saves, and of its
--- crew and its link, where it has them
+-- the observation at one time of the source that it reads, of the disk on which it saves, and of
+-- its crew and its link, if it has them
 pub record Outside : Type 0 where
   pub source : SourceSeen
   pub disk : DiskSeen
   pub crew : Option CrewSeen
   pub link : Option LinkSeen
 
--- what is seen of what may be there
+-- the observation of an object that may be there
 abbrev pub seen_if : {X Seen : Type 0} → (X → Seen) → Option X → Option Seen
 seen_if seen x = option_map seen x
 
--- what is seen of a run's objects
+-- the observation of a run's objects
 abbrev pub outside : {S D C L : Type 0} → (S → SourceSeen) → (D → DiskSeen) → (C → CrewSeen)
     → (L → LinkSeen) → Objects S D C L → Outside
 outside source disk crew link objects = record {

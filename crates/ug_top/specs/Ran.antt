@@ -24,9 +24,9 @@ use Rattle.ug_top.specs.declared.status.Status.TheVariants.{WriteFault, Memory}
 abbrev pub IsToldOf : Status → Type 0
 IsToldOf status = (status ≡ Refused) ⊎ ((status ≡ ReadFault) ⊎ (status ≡ Memory))
 
--- Where the source's bytes are known: of one with a first fault that is reported, and one that
--- states a problem is not refused. If threads solved, or a crew that stayed calm and was worked, as
--- it reports itself, the run is not stranded.
+-- If the source's bytes are known: the first fault of a file that has one is reported, and a file
+-- that states a problem is not refused. If threads solved, or a crew that stayed calm and was
+-- worked, as it reports itself, the run is not stranded.
 pub record IsComplete (boxed : Option ℕ) (left : Option (List ℕ)) (by : Crewed) (status : Status)
     : Type 0 where
   pub fault : IfSome left (λ bytes. (f : MpsFault) → FirstFault bytes boxed f → IsToldOf status)
@@ -56,8 +56,8 @@ abbrev pub IsReadTo : Outside → Outside → Status → Type 0
 IsReadTo old new status = (status ≡ ReadFault)
     ⊎ ((status ≡ Memory) ⊎ StopsAtEnd old.source.left new.source.left)
 
--- The words ask for a plan, and what is due is what it comes to. Without a checkpoint the disk is
--- left alone. If there was no crew there is none, and the solvers were threads.
+-- The words ask for a plan, and its result is due. Without a checkpoint the disk is left alone. If
+-- there was no crew there is none, and the solvers were threads.
 pub record IsWorked (words : List Text) (old new : Outside) (status : Status) (text : List ℕ)
     : Type 0 where
   pub plan : Plan
@@ -113,7 +113,7 @@ pub record IsCutShort (status : Status) (text : List ℕ) (old new : SinkSeen) :
   pub front : TakesFront old.written new.written text
   pub fault : Rose old.faults new.faults
 
--- what is due is written, or the status is a write fault
+-- the lines that are due are written, or the status is a write fault
 abbrev pub HasTold : Status → List ℕ → SinkSeen → SinkSeen → Status → Type 0
 HasTold due text old new status =
     IsWritten due status text old new ⊎ IsCutShort status text old new

@@ -39,10 +39,10 @@ abbrev pub IsRightFor : Instance → Settings → BookState → Type 0
 IsRightFor p settings b = Right p settings.gap (one_kept b.best)
 
 -- The run began with such a book, and solvers led from it to the one with which it ended: threads,
--- where there is no crew. Whatever it began with, the incumbent then is feasible; if that can be
--- trusted, and the solvers, an answer is right. If a crew stayed calm and was worked, and always
--- of threads, the run is not stranded; of a crew it is so just where that is due,
--- and what is said of its saves is so of those that stand among its deeds.
+-- if there is no crew. Whatever it began with, the incumbent then is feasible; if the beginning can
+-- be trusted, and the solvers, an answer is right. By threads, and by a crew that stayed calm and
+-- was worked, the run is not stranded; by another crew it is exactly if that is due, and the clause
+-- on its saves holds of those that are among its deeds.
 pub record IsRun (Began : BookState → Type 0) (Trusted : (b : BookState) → Began b → Type 0)
     (Saves : BookState → ℕ → Type 0) (by : Crewed) (p : Instance) (settings : Settings)
     (outcome : Outcome) : Type 0 where

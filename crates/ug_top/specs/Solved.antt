@@ -18,7 +18,7 @@ use Rattle.ug_coord.specs.Hubs.{HasCoordinated, IsFresh}
 use Rattle.ug_world.specs.Coordinators.{IsHonestFrom}
 use Rattle.ug_top.specs.Outside.{seen_if}
 
--- what is seen of the crew, where there is one, as it was before and as it is after
+-- the observations of the crew, if there is one, before and after
 pub record Crewed : Type 0 where
   pub was : Option CrewSeen
   pub now : Option CrewSeen
@@ -27,7 +27,7 @@ pub record Crewed : Type 0 where
 abbrev pub unchanged : Option CrewSeen → Crewed
 unchanged crew = record { was = crew; now = crew }
 
--- what is seen of a crew that may be there, at two times
+-- the observations of a crew that may be there, at two times
 abbrev pub crewed : {C : Type 0} → (C → CrewSeen) → Option C → Option C → Crewed
 crewed seen old new = record { was = seen_if seen old; now = seen_if seen new }
 
@@ -52,7 +52,7 @@ strands_just (Some crew) end b = IsStranded end ↔ ends.IsStranded b
 abbrev pub StrandsJustWhere : Crewed → End → BookState → Type 0
 StrandsJustWhere by end b = strands_just by.was end b
 
--- what is asked of the number of saves is so of those that a crew's deeds have; nothing is asked of
+-- the condition on the number of saves holds of those that a crew's deeds have; there is none on
 -- threads
 abbrev pub counts_saves : (was now : Option CrewSeen) (given : BookState) (end : End)
     → has_solved was now given end → (ℕ → Type 0) → Type 0
@@ -65,7 +65,7 @@ abbrev pub CountsSaves : (by : Crewed) (given : BookState) (end : End) → HasSo
     → (ℕ → Type 0) → Type 0
 CountsSaves by given end solved Tried = counts_saves by.was by.now given end solved Tried
 
--- nothing is to be trusted of threads; of a crew, that what was received from it is honest
+-- threads need no trust; a crew is trusted if the reports received from it are honest
 abbrev pub is_trusted : (was now : Option CrewSeen) (given : BookState) (end : End)
     → has_solved was now given end → Type 0
 is_trusted None None given end solved = Unit {0}
@@ -84,7 +84,7 @@ pub record IsCalmlyWorked (before after : ℕ) (said : List Exchange) : Type 0 w
   pub calm : IsCalm before after
   pub worked : AreAlwaysWorked said
 
--- nothing is asked of threads; of a crew, that it stayed calm, and was worked in what its deeds say
+-- there is no condition on threads; a crew stayed calm, and was worked in its deeds
 abbrev pub stays_calm : (was now : Option CrewSeen) (given : BookState) (end : End)
     → has_solved was now given end → Type 0
 stays_calm None None given end solved = Unit {0}

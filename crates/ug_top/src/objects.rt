@@ -1,9 +1,9 @@
 /// What a run reads, where it saves, and with whom it works.
 #[derive(Drop)]
 pub struct Objects<S, D, C, L> {
-    /// What is read.
+    /// The source that is read.
     pub input: S,
-    /// Where is saved.
+    /// The disk on which checkpoints are saved.
     pub disk: D,
     /// The solvers of a run in processes, of which none lives yet.
     pub crew: Option<C>,

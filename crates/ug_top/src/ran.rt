@@ -9,9 +9,9 @@ pub struct Refusal {
     pub cause: Cause,
 }
 
-/// How a run of the program ended, and why its text was refused, where it was. Of a best point that
-/// is no answer yet, of a run that continues or of a checkpoint, the lines of the columns that are
-/// not 0, if there is one and memory sufficed.
+/// How a run of the program ended, and why its file was refused, if it was. For a best point that
+/// is not an answer yet, of a run that continues or of a checkpoint, the lines of the columns that
+/// are not 0, if there is one and memory sufficed.
 #[derive(Drop)]
 pub struct Ran {
     pub status: Status,

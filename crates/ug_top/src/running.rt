@@ -25,12 +25,12 @@ use ug_mps::one_outcome;
 use ug_restart::{Host, Observer};
 use ug_serve::services_end_in_one_way;
 
-/// Does all that the program does: reads the words, which are those behind the program's name, does
-/// what they ask for, and writes the lines of it. `Memory` alone has no cause: it may come in place
-/// of any status but `Usage`, or before the outside fails. What the words need, a crew or a link,
-/// is among the objects. What it did says how it ended, whatever it was; a run that answered has
-/// printed a right answer, which `answers_are_right` derives. Of a file that was refused it answers
-/// why, whatever became of its line.
+/// Does all that the program does: reads the words behind the program's name, does what they ask
+/// for, and writes the lines of it. `Memory` alone has no cause: it may replace any status but
+/// `Usage`, or come before a call outside fails. A crew or a link that the words need is among the
+/// objects. The result says how the run ended; a run that answered has printed a right answer,
+/// which `answers_are_right` derives. If a file was refused the result says why, also if its line
+/// could not be written.
 pub fn run<R, S, K, D, O, C, L>(
     host: &Host<'_, R, O>,
     words: &[String],

@@ -38,7 +38,7 @@ BOUNDS
 ENDATA
 ";
 
-/// What is reported of it.
+/// The report on it.
 pub const OPTIMUM: &str = "optimal 13\nA 2\nC 1";
 
 /// The status that was reported, and the lines, without the last line feed.

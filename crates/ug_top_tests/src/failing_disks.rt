@@ -42,7 +42,7 @@ fn told_by(told: &[u8]) -> Told {
     }
 }
 
-// What is reported of a command over slot 0, of whose disk this call fails; and whether a
+// Returns the report of a command over slot 0, if this call of its disk fails, and whether a
 // checkpoint is found then.
 fn told_where_it_fails<R: Threads + Wait + Sync + Abort>(
     rt: &R,

@@ -1,8 +1,8 @@
-//! Tests of the top call and of a solve by threads. They stand apart from the crates that they
-//! test, ug_top and ug_threads. Outsides that fail at each of their calls, runs in processes over
-//! crews and links in memory, threads in many orders. What words and texts come to, and commands
-//! over real folders, are tried with the built program (tests). Nothing here is proved but that the
-//! tests are safe and end.
+//! Tests of the top call and of a solve by threads, apart from the crates that they test, ug_top
+//! and ug_threads: outsides that fail at each of their calls, runs in processes over crews and
+//! links in memory, threads in many orders. The results of command lines and files, and commands
+//! over real folders, are tested with the built program (tests). Nothing here is proved except that
+//! the tests are safe and end.
 #![tactic(auto)]
 
 #[cfg(test)]

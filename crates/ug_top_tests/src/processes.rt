@@ -271,7 +271,7 @@ const LINKS: &[(&[&[u8]], u8)] = &[
     (&[&[0, 0, 0, 0]], 14),
 ];
 
-// Expects a worker over whose link these pieces come to end with this status.
+// Expects a worker that receives these pieces to end with this status.
 fn ends_so<R: Threads + Wait + Sync + Abort>(rt: &R, alloc: Global, pieces: &[&[u8]], status: u8) {
     let mut disk = sound_disk(alloc);
     let partners = Partners {

@@ -54,7 +54,7 @@ IsQuietDeed Saved = Unit {0}
 abbrev pub AreQuiet : List Deed → Type 0
 AreQuiet deeds = (deed : Deed) → Contains deeds deed → IsQuietDeed deed
 
--- ---- where memory ran out it is
+-- ---- if memory ran out it is
 
 wanted : (old new : HubState) → new.wants ≡ true → new.wants ≡ false → old.wants ≡ false
 wanted old new is none = absurd (false≢true (sym none ∙ is))

@@ -31,7 +31,7 @@ use Rattle.ug_world.proofs.Trusted.{AreTrue, honest_true, unused_true}
 abbrev world_of : BookState → Past → World
 world_of b past = record { book = b; told = past.told; sent = past.heard; replies = past.replies }
 
--- what is so at each standing
+-- facts about each state
 pub record Keeps (n : ℕ) (b : BookState) (past : Past) : Type 0 where
   pub holds : Holds n (world_of b past)
   pub true_ : AreTrue b past.heard

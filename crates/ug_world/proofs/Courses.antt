@@ -32,7 +32,7 @@ use Rattle.ug_world.proofs.Heard.{heard_carries, joined_carries, killed_carries}
 use Rattle.ug_world.proofs.Decided.{decided_carries, stood_carries}
 use Rattle.ug_world.proofs.Trusted.{AreTrue, honest_true, unused_true}
 
--- what is so of each world of a course, but that what was sent is true
+-- facts about each world of a course, except that true reports were sent
 pub record Holds (n : ℕ) (w : World) : Type 0 where
   pub book : IsBook w.book
   pub sound : IsSoundBook w.book

@@ -22,7 +22,7 @@ use Rattle.ug_rules.proofs.TicketLemmas.{idled_current, without_race}
 use Rattle.ug_world.proofs.Known.{Carries, among_more, carries_both, carries_itself, fewer_carried, written_current}
 use Rattle.ug_world.proofs.Given.{handed_out_carries}
 
--- what is announced
+-- the announcements
 announced_carries : (past : List Told) (sent : List Report) (cutoff : Option ℤ) (b : BookState)
     → Carries past sent b (announced_as cutoff b)
 announced_carries past sent None b = carries_itself past sent b
@@ -73,7 +73,7 @@ ended_carries past sent old new (inl (rank, t)) =
 ended_carries past sent old new (inr t) =
     subst (λ b. Carries past sent old b) (sym t.same) (carries_itself past sent old)
 
--- what is asked for
+-- the requests for nodes
 asked_carries : (past : List Told) (sent : List Report) (b : BookState) (r count : ℕ) (more : List Told)
     → Carries past sent b (record b {
       ranks = slice_set b.ranks r (asked_for count (state_at b.ranks r));

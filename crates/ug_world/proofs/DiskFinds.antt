@@ -109,7 +109,7 @@ run_on old new image problem run t =
 
 -- ---- between two events
 
--- what is noted is of the run and of one of these worlds
+-- the noted image is of the run and of one of these worlds
 pub record IsNotable (past : List DiskWorld) (book : BookState) (image : Image) : Type 0 where
   pub run : IsOfRun book image
   pub of : IsOfWorld past image
@@ -135,9 +135,9 @@ pub record Steps (past : List DiskWorld) (old : DiskWorld) (event : DiskEvent) (
   pub through : IsFoundThrough past old event new
   pub numbered : IsNumbered old event new
 
--- ---- where the disk is left alone
+-- ---- if the disk is left alone
 
--- what is found at each moment of an event that is no restart
+-- the image found at each moment of an event other than a restart
 abbrev Through : List DiskWorld → DiskWorld → Image → Type 0
 Through past old image = IsLatest past old.world.book (sequence_of old.saver) image
     × IsOfRun old.world.book image
@@ -231,7 +231,7 @@ noted_steps past old new t h =
 
 -- ---- a save
 
--- what is saved is under the next sequence
+-- the saved image is under the next sequence
 next_through : (past : List DiskWorld) (old : DiskWorld) (image next : Image)
     → IsNotable past old.world.book image → next ≡ record image { sequence = next.sequence }
     → sequence_of old.saver ≤ next.sequence → Through past old next
@@ -251,7 +251,7 @@ next_through past old image next t same above =
       record { problem = problem; run = run },
     )
 
--- what is found at each moment of it, and then
+-- the images found at each moment of the save, and after it
 pub record Saves (past : List DiskWorld) (old new : DiskWorld) : Type 0 where
   pub each : Leaves (FindsIn (Through past old)) (Some old.told) (Some new.told)
   pub all : HasAll (IsBetween (new ∷ past) new) new
@@ -333,7 +333,7 @@ attempted_steps past old new image goes_on is t h =
       numbered = ap (λ (b : BookState). b.run) book;
     }
 
--- where nothing was noted nothing happens
+-- if nothing was noted nothing happens
 none_steps : (past : List DiskWorld) (old new : DiskWorld) → old.refused ≡ None → new ≡ old
     → Keeps past old → Steps past old Save new
 none_steps past old new goes_on same h =

@@ -63,7 +63,7 @@ pub record Holds (since : History) (w : DiskWorld) : Type 0 where
   pub noted : w.refused ≡ None → IfSome w.noted IsCovered
   pub each : Leaves (FindsIn IsCovered) (Some since) (Some w.told)
 
--- where the disk and its saver are left alone
+-- if the disk and its saver are left alone
 since_alike : (since old new : History) → new ≡ old
     → Leaves (FindsIn IsCovered) (Some since) (Some old)
     → Leaves (FindsIn IsCovered) (Some since) (Some new)

@@ -62,7 +62,7 @@ one_more start old new events done event t h able more = record {
   able = able;
 }
 
--- ---- what is left
+-- ---- the rest
 
 come_holds : (start w : DiskWorld) (events : List DiskEvent) (done : ℕ) → HasBegun start
     → (come : HasCome start events done w) → All IsHonestOnDisk come.course
@@ -96,7 +96,7 @@ played_lost start w events left begins come honest is =
     left_lost since w w left is
     (stays since w (come_holds start w events (length events) begins come honest))
 
--- where nothing changed
+-- if nothing changed
 same_lost : (since : History) (w new : DiskWorld) → new ≡ w → Holds since w → Stays since w new
 same_lost since w new same h = subst (Stays since w) (sym same) (stays since w h)
 

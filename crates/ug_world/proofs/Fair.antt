@@ -33,8 +33,8 @@ pub record IsFairDone (b : BookState) (state : State) (told : Option ℤ) (count
   pub backed : IsBackedBy b.problem b.settings.gap b.best told
   pub all : count ≡ hands_taken state
 
--- what is asked of a report of a rank in this state: under another ticket than the rank's current one
--- nothing
+-- the condition on a report of a rank in this state: under another ticket than the rank's current
+-- one nothing
 abbrev pub IsFair : BookState → State → Report → Type 0
 IsFair b state Ready = is_deadly (ready_answer state) ≡ false
 IsFair b state (Solution ticket x) = Feasible b.problem x
@@ -155,7 +155,7 @@ done_current b (Dead how) ticket told count ending answer fair due = absurd due
 
 -- ---- any report
 
--- a report that is fair is no death
+-- a report that is fair loses no rank
 pub fair_lives : (b : BookState) (r : ℕ) (report : Report) (answer : Heard) → IsDue b r report answer
     → IsFair b (state_at b.ranks r) report → is_deadly answer ≡ false
 fair_lives b r Ready answer due fair = by_same answer (ready_answer (state_at b.ranks r)) due fair

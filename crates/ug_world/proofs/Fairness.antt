@@ -109,7 +109,7 @@ IsOfWork Ended = ⊥
 module _ (b : BookState) (faults : ℕ) (unused : IsUnused b) (done : List Deed) (old mid : HubState)
     (so : IsCourse (beginning b faults) done old) (r : ℕ)
     (away : reports_from r done ≡ [] → IsAbsentAt old.book.ranks r) (answer : Heard) where
-  -- what is received from a worker is fair, where its hands and dones are
+  -- reports received from a worker are fair, if its hands and dones are
   pub told_fair : (report : Report) → IsTaken old mid r report answer → IsWorked mid.said r
       → (IsOfWork report → IsFair old.book (state_at old.book.ranks r) report)
       → IsFair old.book (state_at old.book.ranks r) report

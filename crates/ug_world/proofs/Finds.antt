@@ -41,7 +41,7 @@ pub record HasAll (P : OfImage) (w : DiskWorld) : Type 0 where
   pub could : CouldAll P w.told
   pub last : w.refused ≡ None → LastIs P w.saver (Some w.told)
 
--- ---- where more is known
+-- ---- if more is known
 
 finds_more : (P Q : OfImage) → ((image : Image) → P image → Q image) → (zero one : List ℕ)
     → FindsIn P zero one → FindsIn Q zero one
@@ -70,7 +70,7 @@ could_has P told all found c =
     finds.recovered c.recovered) in
     subst (λ (f : Found). P f.image) e finds.is
 
--- ---- where nothing was done
+-- ---- if nothing was done
 
 last_alike : (P : OfImage) (old new : DiskWorld) → new.told ≡ old.told
     → last_slot new.saver ≡ last_slot old.saver → LastIs P old.saver (Some old.told)

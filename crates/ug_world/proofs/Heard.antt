@@ -1,4 +1,4 @@
--- What is received, and who is lost, keeps what is known of the tickets.
+-- Receiving a report and losing a rank keep the known facts about the tickets.
 use Rattle.std.proofs.Common.{◌≡◌, ◌⊎◌, inl, inr, ℕ, ◌<◌, List, [], ◌∷◌, ◌++◌, length, refl, ap, sym, ◌∙◌, subst, arith}
 use Rattle.std.specs.Prelude.{Contains, Option, Some, None}
 use Rattle.std.proofs.lemmas.Bool.{cases_lt}

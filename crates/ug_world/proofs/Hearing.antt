@@ -1,4 +1,4 @@
--- What is received agrees with the orders sent, where it is fair.
+-- Reports received agree with the orders sent, if they are fair.
 use Rattle.std.proofs.Common.{◌≡◌, ◌≢◌, ◌⊎◌, inl, inr, ℕ, ℤ, ◌<◌, ◌-ℤ◌, true, false, List, [], ◌∷◌, ◌++◌, append-nil, length, Option, None, Some, refl, sym, ap, subst, ◌∙◌, arith}
 use Rattle.std.specs.Prelude.{Contains, slice_set, ◌≤ℤ◌, ◌<ℤ◌}
 use Rattle.std.specs.Int.{int_max}
@@ -200,7 +200,7 @@ not_better_backed p gap (Some y) x was given n =
     (sym (ap (int_or was) n.kept_value))
     (subst (λ (v : ℤ). was ≤ℤ v) n.given_value n.more))
 
--- what is backed is so by a better point
+-- a cutoff that is backed is backed by a better point too
 better_backed : (p : Instance) (gap : ℤ) (best : Option (List ℤ)) (x : List ℤ) (cutoff : Option ℤ)
     → IsBetter p best x → IsBackedBy p gap best cutoff → IsBackedBy p gap (Some x) cutoff
 better_backed p gap best x None better backed = tt
@@ -399,7 +399,7 @@ abbrev report_kind : Report → ℕ
 report_kind (Solution own x) = 1
 report_kind report = 0
 
--- a report under no ticket, or one that is none of a point or a hand
+-- a report under no ticket, or one of neither a point nor a hand
 nothing_under : (o : Outlook) (state : State) (report : Report)
     → ((ticket : Ticket) → IsHeardUnder o ticket report) → IsHeardAt o state report
 nothing_under o Absent report h = tt
@@ -503,7 +503,7 @@ module _ (b : BookState) (left : List Told) (r : ℕ) (heard heard_then : ℕ �
   kept_so Ended h there due fair named t =
       unchanged Ended h named (nothing_under (outlook_of b) (state_at b.ranks r) Ended (λ ticket. tt)) t
 
-  -- what is so where the answer leaves the book as it is
+  -- facts if the answer leaves the book as it is
   well_at : (report : Report) (answer : Heard) → IsDue b r report answer → IsFair b (state_at b.ranks r) report
       → ((x : List ℤ) → IsSolutionDue b x answer
       → IsBacked (outlook_of b) (Some (cutoff_of b.problem b.settings.gap x)))

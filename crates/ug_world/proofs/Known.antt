@@ -1,4 +1,4 @@
--- What is known of each current ticket: the box with which it was given, and the hands taken under
+-- Known facts about each current ticket: the box with which it was given, and the hands taken under
 -- it were sent.
 use Rattle.std.proofs.Common.{◌≡◌, ◌⊎◌, inl, inr, ℕ, ◌<◌, Bool, List, ◌++◌, length, set, refl, ap, sym, ◌∙◌, subst}
 use Rattle.std.specs.Prelude.{ℤ, Contains, Option, Some}
@@ -111,7 +111,7 @@ carries_both past sent a b c f g = record {
 pub carries_itself : (past : List Told) (sent : List Report) (b : BookState) → Carries past sent b b
 carries_itself past sent b = record { problem = refl; settings = refl; known = λ k. k }
 
--- what is current was so before
+-- a ticket that is current was so before
 abbrev pub AreFewer : BookState → BookState → Type 0
 AreFewer old new =
     (q : ℕ) (c : Current) → current_of new.raced (state_at new.ranks q) ≡ Some c
@@ -141,7 +141,7 @@ pub same_is_fewer : (old new : BookState) → ledger_of new ≡ ledger_of old �
 same_is_fewer old new e q c h =
     current_is old q c (subst (λ (l : Ledger). IsCurrent l q c) e (is_current new q c h))
 
--- what is current after a state was written is so by this state, at its rank, or was so before
+-- a ticket current after a state was written is so by this state, at its rank, or was so before
 pub written_current : (raced : Option Entry) (ss : List State) (r : ℕ) (s : State) (q : ℕ)
     (c : Current) → current_of raced (state_at (set ss r s) q) ≡ Some c
     → ((q ≡ r) × (current_of raced s ≡ Some c)) ⊎ (current_of raced (state_at ss q) ≡ Some c)

@@ -36,7 +36,7 @@ use Rattle.ug_world.proofs.Traffic.{Delivery, from_rank, left_in, left_of, only,
 use Rattle.ug_world.proofs.Unheard.{IsAbsentAt, IsAway, decided_stays, heard_stays}
 use Rattle.ug_world.proofs.Worked.{left_push, traffic}
 
--- the answer, if the deed has one, is no death
+-- the answer, if the deed has one, loses no rank
 abbrev IsHarmlessDeed : Deed → Type 0
 IsHarmlessDeed (Took rank report answer) = is_deadly answer ≡ false
 IsHarmlessDeed deed = Unit {0}

@@ -89,7 +89,7 @@ numbered_on a b c [] us one two = numbered_less a b us c one two
 numbered_on a b c (t ∷ ts) us one two =
     (one.0, numbered_on (number_after a t.order) b c ts us one.1 two)
 
--- ---- orders that are none of work
+-- ---- orders other than Work
 
 abbrev IsOther : Order → Type 0
 IsOther (Setup gap bytes) = ⊥
@@ -226,7 +226,7 @@ alike old new h = record {
   settings = h.settings;
 }
 
--- orders that are none of work joined the queue
+-- orders other than Work joined the queue
 with_others : (old new : BookState) (more : List Told) → new.orders ≡ old.orders ++ more → AreOther more
     → new.last ≡ old.last → new.problem ≡ old.problem → new.settings ≡ old.settings → IsMore old new
 with_others old new more orders others last problem settings = record {
@@ -272,7 +272,7 @@ killed_at_grows (Dead how) r b = grows_itself b
 pub killed_grows : (r : ℕ) (b : BookState) → Grows [] b (killed r b)
 killed_grows r b = killed_at_grows (state_at b.ranks r) r b
 
--- ---- what is received
+-- ---- receiving reports
 
 handed_grows : (s : State) (r : ℕ) (changes : List Change) (b : BookState) → IsMore b (handed_at s r changes b)
 handed_grows Absent r changes b = grows_itself b

@@ -121,7 +121,7 @@ pub record IsTracked (o : Outlook) (states : List State) (all : List Told) (hear
 
 -- ---- lists of states
 
--- of a list in which one state was set: what holds of that where it stands, and of the others
+-- for a list in which one state was set: what holds of that where it stands, and of the others
 pub set_on : (P : State → Type 0) (states : List State) (at : ℕ) (state : State) (rank : ℕ)
     → (at ≡ rank → P state) → P (state_at states rank) → P (state_at (slice_set states at state) rank)
 set_on P [] at state rank its was = was
@@ -225,7 +225,7 @@ module _ (old new : Outlook) (f : IsFurther old new) where
   named_on heard named report there = report_named report (named report there)
 
   module _ (all more : List Told) (fresh : AreNew old.last more) (heard : List Report) where
-    -- an order of work under a ticket that was given is none of the new ones
+    -- an order of work under a ticket that was given is not a new one
     was_told : (told : Told) (work : Ordered) (ticket : Ticket) → IsGivenNumber old ticket
         → Contains (all ++ more) told → told.order ≡ order_of work → work.ticket ≡ ticket → Contains all told
     was_told told work ticket g there its same = elim (Contains-append_cases all more told there) [

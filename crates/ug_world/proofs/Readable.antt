@@ -137,7 +137,7 @@ telling now shown t (inr part) = record {
       ∙ one_more now.said t.all part.report t.parts;
 }
 
--- what is behind the frames of reports that were received from a worker is not bad
+-- the bytes behind the frames of reports received from a worker are not bad
 pub never_bad : (said : List Exchange) (rank : ℕ) (heard : List Report) (rest : List ℕ) → IsWorked said rank
     → All reports.IsCarried heard → heard_at rank said ≡ flat_map reports.spelled heard ++ rest
     → IsDecoded reports.IsCarried reports.spelled rest Bad → ⊥

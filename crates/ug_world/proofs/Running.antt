@@ -105,7 +105,7 @@ closed_by gap r old (deed ∷ deeds) new (mid, does, more) none there =
           (λ rank left. none rank (Contains-append_right (option_to_list (left_in deed)) (left_of deeds) _ left)) later
     ]
 
--- where a report may be read no end was sent
+-- if a report may be read no end was sent
 pub none_told : (b : BookState) (faults : ℕ) → IsUnused b → (done : List Deed) (s : HubState)
     → IsCourse (beginning b faults) done s → MayBeRead s.pace → (r : ℕ)
     → Contains (orders_to b.settings.gap r done) End → ⊥

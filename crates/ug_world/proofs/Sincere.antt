@@ -121,7 +121,7 @@ module _ (b : BookState) (faults : ℕ) (unused : IsUnused b) (done : List Deed)
   abbrev heard : List Report
   heard = reports_from r done
 
-  -- an order that was sent is one of the queue's, if it is none of the coordinator's own
+  -- an order that was sent is one of the queue's, unless it is the coordinator's own
   in_all : (order : Order) → (IsOwn b.problem order → ⊥) → Contains sent order
       → Contains all (record { rank = r; order = order })
   in_all order own there = elim ((traffic b faults unused done old so r).own order there) [

@@ -81,7 +81,7 @@ module _ (o : Opening) (end : End) (before : ℕ) (after : CrewSeen) (said : Lis
   was_said worked = subst AreAlwaysWorked
       (subst (λ (shown : Option (List Exchange)). IfSome shown (λ s. s ≡ h.now.said)) told h.shown) worked
 
-  -- where no call of the crew failed some rank lives
+  -- if no call of the crew failed some rank lives
   pub never_stranded : CalmWorkersLive → IsOpening o → AreAlwaysWorked said → IsCalm before after.faults
       → ¬ IsStranded end
   never_stranded law opening worked calm stranded =

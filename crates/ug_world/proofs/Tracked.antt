@@ -1,4 +1,4 @@
--- What is decided agrees with the orders sent and the reports received.
+-- Decisions agree with the orders sent and the reports received.
 use Rattle.std.proofs.Common.{◌≡◌, inl, inr, ℕ, zero, suc, ℤ, ◌+◌, ◌%◌, Bool, true, false, List, [], ◌∷◌, ◌++◌, append_assoc, append-nil, length, Option, None, Some, refl, sym, ap, subst, ◌∙◌, arith}
 use Rattle.std.specs.Prelude.{Contains, IfSome, IsSomeAnd, if◌then◌else◌, slice_set, ◌≤ℤ◌}
 use Rattle.std.proofs.lemmas.Bool.{and_parts, cases_Bool, eqb-true}
@@ -161,7 +161,7 @@ asked_on o all heard count (Racing racer) on = on
 asked_on o all heard count (Active work) on = on
 asked_on o all heard count (Dead how) on = tt
 
--- where no ticket was given no state has one
+-- if no ticket was given no state has one
 unused_on : (old new : Outlook) (all all_then : List Told) (heard : List Report) (state : State) → old.last ≡ 0
     → IsOn old all heard state → IsOn new all_then heard state
 unused_on old new all all_then heard Absent none on = tt

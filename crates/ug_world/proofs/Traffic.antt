@@ -109,7 +109,7 @@ only_all : {X : Type 0} → (P : X → Type 0) (b : Bool) (x : X) → P x → Al
 only_all P true x h = All-cons P x [] h (All-nil P)
 only_all P false x h = All-nil P
 
--- an order that is none of a queue: that which comes first, of this problem, or the end
+-- an order outside every queue: the first one, of this problem, or the end
 abbrev pub IsOwn : Instance → Order → Type 0
 IsOwn p (Setup gap bytes) = IsRecordOf bytes p
 IsOwn p End = Unit {0}
@@ -121,7 +121,7 @@ end_carried = record {
   fits = record { ticket = tt; fields = tt };
 }
 
--- ---- what comes to the stream of a rank
+-- ---- the stream of a rank
 
 -- nothing
 record IsStill (r : ℕ) (old new : HubState) (given : List Report) : Type 0 where

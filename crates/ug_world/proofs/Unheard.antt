@@ -23,7 +23,7 @@ use Rattle.ug_rules.specs.Ranks.{racers_freed, ranks_that}
 use Rattle.ug_rules.proofs.FirstLemmas.{passes}
 use Rattle.ug_serve.proofs.Told.{behind, in_front}
 
--- the rank has not joined yet, or is none
+-- the rank has not joined yet, or is not one
 abbrev pub IsAway : State → Type 0
 IsAway Absent = Unit {0}
 IsAway Idle = ⊥

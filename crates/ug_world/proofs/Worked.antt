@@ -1,4 +1,4 @@
--- What is received from a crew of workers is honest.
+-- Reports received from a crew of workers are honest.
 use Rattle.std.proofs.Common.{◌≡◌, inl, inr, eqb, ℕ, ℤ, ◌+◌, ◌<◌, ◌≤◌, Bool, true, false, List, [], ◌∷◌, ◌++◌, append_assoc, append-nil, Option, Some, None, refl, sym, ap, subst, ◌∙◌, arith}
 use Rattle.std.specs.Prelude.{Contains, replicate, slice_index_or}
 use Rattle.std.specs.Option.{option_to_list}
@@ -412,7 +412,7 @@ heard_push (one ∷ done) deed =
     ap (λ (rs : List Report). report_in (taken_in one) ++ rs) (heard_push done deed)
     ∙ sym (append_assoc (report_in (taken_in one)) (heard_of done) (report_in (taken_in deed)))
 
--- what is honest of more tickets is so of fewer
+-- reports honest of more tickets are honest of fewer
 less_given : (p : Instance) (G H : Ticket → List Interval → Type 0) (heard : List Report)
     → ((ticket : Ticket) (area : List Interval) → G ticket area → H ticket area) → AreHonest p H heard
     → AreHonest p G heard
@@ -449,7 +449,7 @@ honest_back old new told heard grows h =
     (subst (λ (os : List Told). AreHonest old.problem (IsGivenWith old.problem (told ++ os)) heard) grows.orders
     (subst (λ (p : Instance). AreHonest p (IsGivenWith p (told ++ new.orders)) heard) grows.problem h))
 
--- what is honest once a report was answered was so before
+-- reports honest once one was answered were so before
 now_by : (old mid : HubState) (past : Past) (deed : Deed) → Does old deed mid
     → IsHonestSo mid.book (after deed past).told (after deed past).heard → honest_at old past deed
 now_by old mid past (Launched rank) does h = tt

@@ -65,7 +65,7 @@ fn push_reply(alloc: Global, text: &mut String, book: &mut Book, words: &[&str])
     }
 }
 
-/// Adds a line and what the book replies; None where the line is no call.
+/// Adds a line and the book's reply. Returns `None` if the line is not a call.
 pub fn reply(
     alloc: Global,
     text: &mut String,

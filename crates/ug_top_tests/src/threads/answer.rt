@@ -1,7 +1,7 @@
 use ug_book::Answered;
 use ug_restart::{End, Outcome};
 
-/// What a problem comes to.
+/// The answer of a problem.
 #[derive(Clone, Copy, Debug, PartialEq, Eq)]
 pub enum Answer {
     Value(i128),
@@ -10,7 +10,7 @@ pub enum Answer {
     Other,
 }
 
-/// What a solve came to.
+/// The result of a solve.
 pub fn answer_of(outcome: &Outcome) -> Answer {
     let End::Answered(book) = &outcome.end else {
         return Answer::Other;

@@ -3,7 +3,7 @@ use std::sync::atomic::{AtomicU64, Ordering};
 use std::thread;
 use ug_restart::{Moment, Observer};
 
-/// That a rank comes to a moment for the time of this number, of which 1 is the first.
+/// A moment that a rank reaches for the time of this number, of which 1 is the first.
 #[derive(Clone, Copy, PartialEq, Eq)]
 pub struct Coming {
     pub rank: u32,
@@ -19,7 +19,7 @@ pub struct Hold {
     pub turns: u64,
 }
 
-// How often a rank has come to each moment.
+// The number of times that a rank has reached each moment.
 #[derive(Drop)]
 struct Comings {
     asking: AtomicU64,
@@ -56,7 +56,7 @@ impl HoldingObserver {
         self.missed.load(Ordering::SeqCst)
     }
 
-    // How often a rank has come to a moment; none of another number than the observer has.
+    // Returns how often a rank has reached a moment; 0 for a number that the observer has not.
     fn count_of(&self, rank: u32, moment: Moment) -> Option<&AtomicU64> {
         let comings = self.comings.get(rank as usize)?;
         Some(match moment {

@@ -3,7 +3,7 @@ use crate::threads::holding::{Coming, Hold, HoldingObserver};
 use crate::threads::yielding::YieldingObserver;
 use ug_restart::{Moment, Observer, Unobserved};
 
-// When a rank has come to a moment this many times.
+// Acts once a rank has reached a moment this many times.
 fn coming(rank: u32, moment: Moment, number: u64) -> Coming {
     Coming {
         rank,

@@ -70,7 +70,7 @@ pub fn solved_without<R: Threads + Wait + Sync, O: Observer>(
     }
 }
 
-/// What a problem comes to, without a saver.
+/// Returns the answer of a problem, without a saver.
 pub fn solved<R: Threads + Wait + Sync, O: Observer>(
     rt: &R,
     alloc: Global,

@@ -38,7 +38,7 @@ returns-clause-ran g c =
     (any_saves _ _ (opening_book c.in-Ok.opening) _ c.solve_by-outcome.ensures.solved.solved)
     c.solve_by-outcome.ensures.solved.live
 
--- where memory ran out before a solver began
+-- if memory ran out before a solver began
 pub returns-in_default-clause-ran : goal.returns-in_default-clause-ran
 returns-in_default-clause-ran g c =
     let p = c.args.problem in
