@@ -8,8 +8,8 @@ use Rattle.ug_problem.specs.Instances.{Instance, bounds_of, root_of}
 use Rattle.ug_problem.specs.Limits.{IsProblem}
 use Rattle.ug_propagate.specs.declared.working.Trailed.{Trailed}
 use Rattle.ug_propagate.specs.Running.{IsRunning}
-use Rattle.ug_propagate.specs.Working.{AllRest, AreTrailed, AreReached, AreResting, HasBits, IsBox, IsLater, IsWorking, WentBack, WorkState, undone}
-use Rattle.ug_propagate.proofs.Stepping.{reach_below, undone_append}
+use Rattle.ug_propagate.specs.Working.{AllAtFixpoint, AreTrailed, AreMaxSpans, AreAtFixpoint, HasBits, IsBox, IsLater, IsWorking, WentBack, WorkState, undone}
+use Rattle.ug_propagate.proofs.Stepping.{max_span_below, undone_append}
 use Rattle.ug_branch.specs.Choices.{AreClosed}
 use Rattle.ug_base.specs.declared.part.Part.{Part}
 use Rattle.ug_base.specs.Chains.{IsBase, IsChain, IsCut, IsPart, KeepsBases, Rise, area_of, areas_of, base_of, narrowed}
@@ -62,17 +62,17 @@ pub base_back : (p : Instance) (whole : List Interval) (depth : ℕ) (old new : 
     → IsBase p whole old → WentBack depth old new → IsRunning p new.sums → IsBelow new.sums.area whole → IsBase p whole new
 base_back p whole depth old new problem root base h sums below =
     let wide : length whole ≡ length p.columns = root.width ∙ length-map p.columns bounds_of in
-    let P : List ℕ → Type 0 = λ (awake : List ℕ). HasBits p awake in
+    let P : List ℕ → Type 0 = λ (queued : List ℕ). HasBits p queued in
     let C : Trailed → Type 0 = λ (change : Trailed). change.column < length p.columns in
-    let reach : AreReached p whole new.reach = subst (AreReached p whole) (sym h.reach) base.reach in
+    let max_span : AreMaxSpans p whole new.max_span = subst (AreMaxSpans p whole) (sym h.max_span) base.max_span in
     record {
       box = record {
         sums = sums;
-        reach = reach_below p new.sums.area whole new.reach problem wide below reach;
-        bits = subst P (sym h.awake) base.box.bits;
+        max_span = max_span_below p new.sums.area whole new.max_span problem wide below max_span;
+        bits = subst P (sym h.queued) base.box.bits;
       };
       trail = subst (AreTrailed (length p.columns)) (sym h.trail) (All-take C depth old.trail base.trail);
-      reach = reach;
+      max_span = max_span;
     }
 
 -- and in continuing
@@ -84,7 +84,7 @@ base_later p whole old new base h box =
     record {
       box = box;
       trail = subst (AreTrailed (length p.columns)) (sym h.trail) (All-append C old.trail h.more base.trail there);
-      reach = subst (AreReached p whole) (sym h.reach) base.reach;
+      max_span = subst (AreMaxSpans p whole) (sym h.max_span) base.max_span;
     }
 
 -- what going back to a part and setting which rows are awake gives
@@ -93,34 +93,34 @@ pub record IsBegun (p : Instance) (whole : List Interval) (cutoff : Option ℤ) 
   pub kept : KeepsBases depth old new
   pub working : IsWorking p cutoff new
 
-begun_as : (p : Instance) (whole : List Interval) (cutoff : Option ℤ) (depth : ℕ) (old mid : WorkState) (awake : List ℕ)
-    → IsBase p whole mid → KeepsBases depth old mid → AreResting p cutoff mid.sums.area awake → length awake ≡ length mid.awake
-    → IsBegun p whole cutoff depth old (record mid { awake = awake })
-begun_as p whole cutoff depth old mid awake base kept resting wide =
-    let bits : HasBits p awake = record {
+begun_as : (p : Instance) (whole : List Interval) (cutoff : Option ℤ) (depth : ℕ) (old mid : WorkState) (queued : List ℕ)
+    → IsBase p whole mid → KeepsBases depth old mid → AreAtFixpoint p cutoff mid.sums.area queued → length queued ≡ length mid.queued
+    → IsBegun p whole cutoff depth old (record mid { queued = queued })
+begun_as p whole cutoff depth old mid queued base kept at_fixpoint wide =
+    let bits : HasBits p queued = record {
       enough = omega (arith, base.box.bits.enough, wide);
       few = omega (arith, base.box.bits.few, wide);
     } in
-    let box : IsBox p (record mid { awake = awake }) = record { sums = base.box.sums; reach = base.box.reach; bits = bits } in
+    let box : IsBox p (record mid { queued = queued }) = record { sums = base.box.sums; max_span = base.box.max_span; bits = bits } in
     record {
-      base = record { box = box; trail = base.trail; reach = base.reach };
+      base = record { box = box; trail = base.trail; max_span = base.max_span };
       kept = record { deep = kept.deep; bases = kept.bases };
-      working = record { box = box; resting = resting };
+      working = record { box = box; at_fixpoint = at_fixpoint };
     }
 
 pub begun : (p : Instance) (whole : List Interval) (cutoff : Option ℤ) (part : Part) (old mid new : WorkState) → IsProblem p
     → IsBelow whole (root_of p) → IsBase p whole old → IsPart p whole old part → WentBack part.depth old mid
-    → IsRunning p mid.sums → AreResting p cutoff new.sums.area new.awake → new ≡ record mid { awake = new.awake }
-    → length new.awake ≡ length mid.awake → IsBegun p whole cutoff part.depth old new
-begun p whole cutoff part old mid new problem root base is back sums resting others wide =
+    → IsRunning p mid.sums → AreAtFixpoint p cutoff new.sums.area new.queued → new ≡ record mid { queued = new.queued }
+    → length new.queued ≡ length mid.queued → IsBegun p whole cutoff part.depth old new
+begun p whole cutoff part old mid new problem root base is back sums at_fixpoint others wide =
     let below : IsBelow mid.sums.area whole = subst (λ (a : List Interval). IsBelow a whole) (sym back.area) is.below in
     let mid_base : IsBase p whole mid = base_back p whole part.depth old mid problem root base back sums below in
     let kept : KeepsBases part.depth old mid = bases_back part.depth old mid is.deep back in
     let same : new.sums.area ≡ mid.sums.area = ap (λ (w : WorkState). w.sums.area) others in
-    let rest : AreResting p cutoff mid.sums.area new.awake =
-    subst (λ (a : List Interval). AreResting p cutoff a new.awake) same resting in
+    let rest : AreAtFixpoint p cutoff mid.sums.area new.queued =
+    subst (λ (a : List Interval). AreAtFixpoint p cutoff a new.queued) same at_fixpoint in
     subst (λ (w : WorkState). IsBegun p whole cutoff part.depth old w) (sym others)
-    (begun_as p whole cutoff part.depth old mid new.awake mid_base kept rest wide)
+    (begun_as p whole cutoff part.depth old mid new.queued mid_base kept rest wide)
 
 -- a box of which a column is narrowed has a point
 pub cut_some : (p : Instance) (base area : List Interval) (cut : Option Narrowing) → length base ≡ length p.columns → IsCut p base cut
@@ -164,7 +164,7 @@ part_kept p whole depth old new part within h is =
       deep = omega (arith, h.deep);
       below = subst (λ (a : List Interval). IsBelow a whole) same is.below;
       cut = subst (λ (a : List Interval). IsCut p a part.cut) same is.cut;
-      rest = subst (λ (a : List Interval). AllRest p part.rest a) same is.rest;
+      fixpoint = subst (λ (a : List Interval). AllAtFixpoint p part.fixpoint a) same is.fixpoint;
       floor = subst (λ (a : List Interval). part.floor ≡ box_floor p.objective (narrowed part.cut a)) same is.floor;
       closed = subst (λ (a : List Interval). AreClosed part.closed (narrowed part.cut a)) same is.closed;
     }

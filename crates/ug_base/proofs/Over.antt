@@ -12,7 +12,7 @@ use Rattle.ug_problem.specs.Instances.{Instance}
 use Rattle.ug_problem.specs.Limits.{IsProblem}
 use Rattle.ug_propagate.specs.declared.working.Trailed.{Trailed}
 use Rattle.ug_propagate.specs.Working.{AreTrailed, IsOver, WorkState, undone}
-use Rattle.ug_propagate.proofs.Stepping.{reach_below}
+use Rattle.ug_propagate.proofs.Stepping.{max_span_below}
 use Rattle.ug_branch.specs.Choices.{AreClosed}
 use Rattle.ug_base.specs.declared.part.Narrowing.{Narrowing}
 use Rattle.ug_base.specs.declared.part.Part.{Part}
@@ -94,7 +94,7 @@ part_over p s whole old new part columns objective over is =
       deep = omega (arith, is.deep, ap (λ (t : List Trailed). length t) over.trail);
       below = subst (λ (a : List Interval). IsBelow a whole) same is.below;
       cut = subst (λ (a : List Interval). IsCut s a part.cut) same (cut_over p s (base_of old part) part.cut columns is.cut);
-      rest = tt;
+      fixpoint = tt;
       floor = subst (λ (o : Objective). part.floor ≡ box_floor o (area_of new part)) (sym objective)
           (subst (λ (a : List Interval). part.floor ≡ box_floor p.objective (narrowed part.cut a)) same is.floor);
       closed = subst (λ (a : List Interval). AreClosed part.closed (narrowed part.cut a)) same is.closed;
@@ -132,11 +132,11 @@ chain_over p s whole old new parts after columns objective problem wide below ov
       base = record {
         box = record {
           sums = over.sums;
-          reach = reach_below s new.sums.area whole new.reach problem wide area over.reach;
+          max_span = max_span_below s new.sums.area whole new.max_span problem wide area over.max_span;
           bits = over.bits;
         };
         trail = trail;
-        reach = over.reach;
+        max_span = over.max_span;
       };
       each = parts_over p s whole old new parts columns objective over chain.each;
       rising = rise_over parts chain.rising;

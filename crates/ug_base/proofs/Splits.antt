@@ -13,7 +13,7 @@ use Rattle.ug_base.specs.declared.halving.Halving.{Halving}
 use Rattle.ug_branch.specs.Choices.{AreClosed}
 use Rattle.ug_problem.specs.Instances.{Instance}
 use Rattle.ug_propagate.specs.declared.working.Trailed.{Trailed}
-use Rattle.ug_propagate.specs.Working.{AllRest, WorkState, undone}
+use Rattle.ug_propagate.specs.Working.{AllAtFixpoint, WorkState, undone}
 use Rattle.ug_base.specs.declared.part.Part.{Part}
 use Rattle.ug_base.specs.Chains.{IsCut, IsPart, area_of, base_of, first_side, narrowed, other_side}
 use Rattle.ug_base.specs.Looks.{IsBranched}
@@ -79,7 +79,7 @@ base_here work part deep =
 pub part_here : (p : Instance) (whole : List Interval) (work : WorkState) (part : Part) (column : ℕ) (side : Interval)
     → part.depth ≡ length work.trail → part.cut ≡ Some (record { column = column; side = side }) → column < length p.columns
     → IsBelow work.sums.area whole → IsClosedWithin side (interval_at work.sums.area column) → IsNonEmpty work.sums.area
-    → AllRest p part.rest work.sums.area → part.floor ≡ box_floor p.objective (set work.sums.area column side)
+    → AllAtFixpoint p part.fixpoint work.sums.area → part.floor ≡ box_floor p.objective (set work.sums.area column side)
     → AreClosed part.closed (set work.sums.area column side) → IsPart p whole work part
 part_here p whole work part column side deep cut there below inner some rest floor closed =
     let same : work.sums.area ≡ base_of work part = sym (base_here work part deep) in
@@ -91,7 +91,7 @@ part_here p whole work part column side deep cut there below inner some rest flo
       cut = subst (λ c. IsCut p (base_of work part) c) (sym cut)
           (subst (λ (a : List Interval). IsCut p a (Some (record { column = column; side = side }))) same
           (record { there = there; inner = inner; some = some }));
-      rest = subst (λ (a : List Interval). AllRest p part.rest a) same rest;
+      fixpoint = subst (λ (a : List Interval). AllAtFixpoint p part.fixpoint a) same rest;
       floor = floor ∙ ap (λ (a : List Interval). box_floor p.objective a) area;
       closed = subst (AreClosed part.closed) area closed;
     }

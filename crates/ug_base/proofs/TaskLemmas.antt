@@ -13,9 +13,9 @@ use Rattle.ug_base.specs.Formulations.{Searches}
 use Rattle.ug_base.proofs.StepLemmas.{good_still, less_than}
 use Rattle.ug_base.proofs.Through.{searches_lower}
 use Rattle.ug_rows.specs.Sums.{box_floor}
-use Rattle.ug_propagate.specs.declared.resting.Rest.TheVariants.{Unknown}
+use Rattle.ug_propagate.specs.declared.fixpoint.Fixpoint.TheVariants.{Unknown}
 use Rattle.ug_propagate.specs.declared.working.Trailed.{Trailed}
-use Rattle.ug_propagate.specs.Working.{AreTrailed, AreReached, IsBox, WorkState, undone}
+use Rattle.ug_propagate.specs.Working.{AreTrailed, AreMaxSpans, IsBox, WorkState, undone}
 use Rattle.ug_base.specs.declared.part.Part.{Part}
 use Rattle.ug_base.specs.Chains.{IsChain, IsPart, areas_of, base_of}
 use Rattle.ug_base.specs.Tasks.{AreBelow, IsTask, TaskState, lesser_of}
@@ -24,7 +24,7 @@ use Rattle.ug_base.proofs.Floors.{lesser_is}
 -- a task with the whole box left and none handed
 pub new_task : (t : TaskState) (work : WorkState) (parts : List Part) (gap floor : ℤ) → IsProblem t.problem
     → IsBelow t.whole (root_of t.problem) → IsSmallCutoff t.cutoff → IsGap gap → t.gap ≡ gap
-    → parts ≡ record { depth = 0; cut = None; floor = floor; rest = Unknown; closed = 0 } ∷ [] → work.trail ≡ [] → work.sums.area ≡ t.whole
+    → parts ≡ record { depth = 0; cut = None; floor = floor; fixpoint = Unknown; closed = 0 } ∷ [] → work.trail ≡ [] → work.sums.area ≡ t.whole
     → t.boxes ≡ areas_of work parts → t.handed ≡ [] → IsTask t
 new_task t work parts gap floor problem below small g same e none area left handed =
     let P : List Interval → Type 0 = λ (a : List Interval). IsBelow a t.whole in
@@ -42,10 +42,10 @@ new_task t work parts gap floor problem below small g same e none area left hand
 
 -- and its one part
 pub new_chain : (p : Instance) (whole : List Interval) (work : WorkState) (parts : List Part)
-    → parts ≡ record { depth = 0; cut = None; floor = box_floor p.objective work.sums.area; rest = Unknown; closed = 0 } ∷ []
+    → parts ≡ record { depth = 0; cut = None; floor = box_floor p.objective work.sums.area; fixpoint = Unknown; closed = 0 } ∷ []
     → IsBox p work → work.trail ≡ [] → work.sums.area ≡ whole → IsChain p whole work parts
 new_chain p whole work parts e box none area =
-    let only : Part = record { depth = 0; cut = None; floor = box_floor p.objective work.sums.area; rest = Unknown; closed = 0 } in
+    let only : Part = record { depth = 0; cut = None; floor = box_floor p.objective work.sums.area; fixpoint = Unknown; closed = 0 } in
     let C : Trailed → Type 0 = λ (change : Trailed). change.column < length p.columns in
     let base : base_of work only ≡ work.sums.area =
     ap (λ (trail : List Trailed). undone work.sums.area (drop 0 trail)) none in
@@ -53,7 +53,7 @@ new_chain p whole work parts e box none area =
       deep = omega arith;
       below = subst (λ (a : List Interval). IsBelow a whole) (sym (base ∙ area)) (below_itself whole);
       cut = tt;
-      rest = tt;
+      fixpoint = tt;
       floor = ap (λ (a : List Interval). box_floor p.objective a) (sym base);
       closed = λ j less. absurd (omega arith);
     } in
@@ -61,7 +61,7 @@ new_chain p whole work parts e box none area =
       base = record {
         box = box;
         trail = subst (λ (trail : List Trailed). AreTrailed (length p.columns) trail) (sym none) (All-nil C);
-        reach = subst (λ (a : List Interval). AreReached p a work.reach) area box.reach;
+        max_span = subst (λ (a : List Interval). AreMaxSpans p a work.max_span) area box.max_span;
       };
       each = All-cons (IsPart p whole work) only [] is (All-nil (IsPart p whole work));
       rising = (All-nil (λ (later : Part). 0 ≤ later.depth), tt);

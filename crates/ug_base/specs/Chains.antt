@@ -10,8 +10,8 @@ use Rattle.ug_branch.specs.declared.params.Half.TheVariants.{Lower, Upper}
 use Rattle.ug_branch.specs.declared.choice.Branch.{Branch}
 use Rattle.ug_branch.specs.Choices.{AreClosed}
 use Rattle.ug_problem.specs.Instances.{Instance}
-use Rattle.ug_propagate.specs.declared.resting.Rest.TheVariants.{Unknown}
-use Rattle.ug_propagate.specs.Working.{AllRest, AreTrailed, AreReached, IsBox, WorkState, undone}
+use Rattle.ug_propagate.specs.declared.fixpoint.Fixpoint.TheVariants.{Unknown}
+use Rattle.ug_propagate.specs.Working.{AllAtFixpoint, AreTrailed, AreMaxSpans, IsBox, WorkState, undone}
 use Rattle.ug_base.specs.declared.part.Narrowing.{Narrowing}
 use Rattle.ug_base.specs.declared.part.Part.{Part}
 use Rattle.ug_base.specs.Fronts.{front_of}
@@ -51,7 +51,7 @@ pub record IsPart (p : Instance) (whole : List Interval) (work : WorkState) (par
   pub deep : part.depth ≤ length work.trail
   pub below : IsBelow (base_of work part) whole
   pub cut : IsCut p (base_of work part) part.cut
-  pub rest : AllRest p part.rest (base_of work part)
+  pub fixpoint : AllAtFixpoint p part.fixpoint (base_of work part)
   pub floor : part.floor ≡ box_floor p.objective (area_of work part)
   pub closed : AreClosed part.closed (area_of work part)
 
@@ -59,16 +59,16 @@ pub record IsPart (p : Instance) (whole : List Interval) (work : WorkState) (par
 pub record IsBase (p : Instance) (whole : List Interval) (work : WorkState) : Type 0 where
   pub box : IsBox p work
   pub trail : AreTrailed (length p.columns) work.trail
-  pub reach : AreReached p whole work.reach
+  pub max_span : AreMaxSpans p whole work.max_span
 
 -- the part, of which it is not known how its parent's rows rested
 abbrev pub unsettled : Part → Part
-unsettled part = record part { rest = Unknown }
+unsettled part = record part { fixpoint = Unknown }
 
 -- a part that stands for one that is not there
 abbrev pub no_part : Part
 no_part =
-    record { depth = 0; cut = None; floor = pos 0; rest = Unknown; closed = 0 }
+    record { depth = 0; cut = None; floor = pos 0; fixpoint = Unknown; closed = 0 }
 
 -- how many of the first columns are known to be closed in the last part's box
 abbrev pub closed_of : List Part → ℕ

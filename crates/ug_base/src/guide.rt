@@ -128,8 +128,8 @@ fn branch_on(params: Params, sides: &[Interval], column: usize) -> Option<Branch
     }
 }
 
-// Whether the params follow leanings and weights to a column. The others stay as different as they are, for a
-// race.
+// Whether the params follow leanings and weights to a column. The others stay as different as they
+// are, for a race.
 fn do_follow(params: Params) -> bool {
     params.pick == Pick::Place && params.end == End::Lowest
 }

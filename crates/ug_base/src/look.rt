@@ -58,7 +58,7 @@ pub fn begin(
     // The problem's type keeps that it is one.
     let _rows = problem.rows();
     work.go_back(problem, part.depth);
-    work.wait(problem, part.rest, cutoff);
+    work.wait(problem, part.fixpoint, cutoff);
 }
 
 // Narrows a column, if one is to be.

@@ -1,4 +1,4 @@
-use ug_propagate::Rest;
+use ug_propagate::Fixpoint;
 use ug_rows::Interval;
 
 /// A column that is narrowed to an interval.
@@ -17,7 +17,7 @@ pub struct Part {
     /// The floor of the box.
     pub floor: i128,
     /// How the rows of its parent rested.
-    pub rest: Rest,
+    pub fixpoint: Fixpoint,
     /// The number of first columns that are closed in the box.
     pub closed: usize,
 }

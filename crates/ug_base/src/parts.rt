@@ -12,7 +12,7 @@ use crate::part::Part;
 use std::alloc::{AllocError, Global};
 use std::collections::VecDeque;
 use std::marker::Model;
-use ug_propagate::Rest;
+use ug_propagate::Fixpoint;
 
 // A part, and the least floor up to it.
 #[derive(Clone, Copy)]
@@ -139,7 +139,7 @@ fn unsettle_all(kept: &mut VecDeque<Kept>)
     ensures { kept.new.items ≡ map unsettled_kept kept.old.items }
 {
     for k in 0..kept.len() {
-        kept[k].part.rest = Rest::Unknown;
+        kept[k].part.fixpoint = Fixpoint::Unknown;
     }
 }
 

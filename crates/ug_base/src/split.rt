@@ -1,6 +1,6 @@
 ghost use Rattle.std.specs.Prelude.{◌≡◌, ◌<◌, ◌<ℤ◌, ◌+ℤ◌, ◌++◌, ◌∷◌, [], pos, length, slice_set, Some, OnOk, OnErr};
 ghost use Rattle.ug_rows.specs.Boxes.{IsBelow, IsClosedWithin, IsNonEmpty, interval_at};
-ghost use Rattle.ug_propagate.specs.Working.{AllRest, IsWorking};
+ghost use Rattle.ug_propagate.specs.Working.{AllAtFixpoint, IsWorking};
 ghost use Rattle.ug_branch.specs.Choices.{AreClosed};
 ghost use Rattle.ug_base.specs.Chains.{HasSplit, IsBase, IsChain, IsPart, area_of, closed_of, first_side, other_side};
 ghost use Rattle.ug_base.specs.Looks.{IsBranched};
@@ -13,7 +13,7 @@ use crate::parts::Parts;
 use std::alloc::AllocError;
 use ug_branch::Half;
 use ug_problem::Problem;
-use ug_propagate::{Rest, Working, rest_after};
+use ug_propagate::{Fixpoint, Working, fixpoint_after};
 use ug_rows::{IntBox, Interval};
 
 // The interval up to its middle.
@@ -94,7 +94,7 @@ fn sides_at(work: &Working, guide: &Guide, halving: Halving) -> Sides
 // how many of its first columns are closed.
 #[derive(Clone, Copy)]
 struct Known {
-    rest: Rest,
+    fixpoint: Fixpoint,
     closed: usize,
 }
 
@@ -117,7 +117,7 @@ fn part_of(depth: usize, column: u32, side: Interval, floor: i128, known: Known)
       depth = depth;
       cut = Some (record { column = column; side = side });
       floor = floor;
-      rest = known.rest;
+      fixpoint = known.fixpoint;
       closed = known.closed;
     } }
 {
@@ -125,7 +125,7 @@ fn part_of(depth: usize, column: u32, side: Interval, floor: i128, known: Known)
         depth,
         cut: Some(Narrowing { column, side }),
         floor,
-        rest: known.rest,
+        fixpoint: known.fixpoint,
         closed: known.closed,
     }
 }
@@ -144,7 +144,7 @@ fn part_with(
     requires below { IsBelow work.now.sums.area whole.now }
     requires inner { IsClosedWithin side (interval_at work.now.sums.area column) }
     requires some { IsNonEmpty work.now.sums.area }
-    requires rest { AllRest problem.now known.rest work.now.sums.area }
+    requires fixpoint { AllAtFixpoint problem.now known.fixpoint work.now.sums.area }
     requires closed { AreClosed known.closed work.now.sums.area }
     ensures part { IsPart problem.now whole.now work.now result }
     ensures area { area_of work.now result ≡ slice_set work.now.sums.area column side }
@@ -177,7 +177,7 @@ pub fn split_last(
 {
     let problem = formulation.searched();
     let known = Known {
-        rest: rest_after(work, problem, cutoff),
+        fixpoint: fixpoint_after(work, problem, cutoff),
         closed: closed_from(work.sides(), parts.closed_last()),
     };
     let sides = sides_at(work, guide, halving);

@@ -5,7 +5,7 @@ ghost use Rattle.ug_problem.specs.Limits.{IsProblem};
 ghost use Rattle.ug_base.specs.declared.step.Step.TheVariants.{Empty};
 ghost use Rattle.ug_rows.specs.Sums.{box_floor};
 ghost use Rattle.ug_propagate.specs.Working.{IsBox};
-ghost use Rattle.ug_propagate.specs.declared.resting.Rest.TheVariants.{Unknown};
+ghost use Rattle.ug_propagate.specs.declared.fixpoint.Fixpoint.TheVariants.{Unknown};
 ghost use Rattle.ug_branch.specs.declared.params.Base.TheVariants.{Surrogate};
 ghost use Rattle.ug_surrogate.specs.Stronger.{Follows};
 ghost use Rattle.ug_base.specs.Covers.{AreCovered};
@@ -31,7 +31,7 @@ use std::marker::Model;
 use ug_branch::{Base, Params};
 use ug_nodes::{Hands, Ticket};
 use ug_problem::{Problem, Shared};
-use ug_propagate::{Rest, Working};
+use ug_propagate::{Fixpoint, Working};
 use ug_rows::{IntBox, Point};
 
 /// The depth-first search of one box for feasible points with a value below the cutoff.
@@ -71,7 +71,7 @@ fn only_part(work: &Working, problem: &Problem) -> Part
       depth = 0;
       cut = None;
       floor = box_floor problem.now.objective work.now.sums.area;
-      rest = Unknown;
+      fixpoint = Unknown;
       closed = 0;
     } }
 {
@@ -80,7 +80,7 @@ fn only_part(work: &Working, problem: &Problem) -> Part
         depth: 0,
         cut: None,
         floor,
-        rest: Rest::Unknown,
+        fixpoint: Fixpoint::Unknown,
         closed: 0,
     }
 }
@@ -93,7 +93,7 @@ fn only_left(alloc: Global, work: &Working, problem: &Problem) -> Result<Parts, 
           depth = 0;
           cut = None;
           floor = box_floor problem.now.objective work.now.sums.area;
-          rest = Unknown;
+          fixpoint = Unknown;
           closed = 0;
         } ∷ []) }
 {
@@ -118,7 +118,7 @@ fn begun(alloc: Global, problem: &Problem, whole: &IntBox) -> Result<Beginning, 
           depth = 0;
           cut = None;
           floor = box_floor problem.now.objective b.work.sums.area;
-          rest = Unknown;
+          fixpoint = Unknown;
           closed = 0;
         } ∷ []) }
 {

@@ -23,8 +23,8 @@ state_of b = record {
   announced = b.stock.announced;
 }
 
--- the fields are those of a book, the cutoff is the incumbent's, and there is room for each node that
--- may go back to the pool, and for the Stop of each rank that works
+-- the fields are those of a book, the cutoff is the incumbent's, and there is room for each node
+-- that may go back to the pool, and for the Stop of each rank that works
 pub record IsRoomy (b : Inside) : Type 0 where
   pub book : IsBook (state_of b)
   pub cutoff : b.incumbent.cutoff

@@ -34,8 +34,8 @@ ranks_rules = defaulted (codes "mode") (codes "threads")
     ∷ optional (codes "high")
     ∷ []
 
--- when checkpoints are saved and when the run ends; and the folder of the sockets, which is a fresh one
--- by default
+-- when checkpoints are saved and when the run ends; and the folder of the sockets, which is a fresh
+-- one by default
 abbrev pub bounds_rules : List Rule
 bounds_rules = optional (codes "every")
     ∷ defaulted (codes "limit") (codes "1099511627776")

@@ -39,8 +39,8 @@ abbrev pub IsBase : Option Text → Base → Type 0
 IsBase word Bound = word ≡ Some (codes "bound")
 IsBase word Surrogate = word ≡ Some (codes "surrogate")
 
--- how many solvers there are, whether they race, what they leave out where they do not, and how many
--- open nodes the pool is to hold
+-- how many solvers there are, whether they race, what they leave out where they do not, and how
+-- many open nodes the pool is to hold
 pub record AreRanks (rows : List Row) (ranks : Solvers) : Type 0 where
   pub solvers : IsGiven 1 256 (word_of (codes "solvers") rows) ranks.solvers
   pub racing : IsTrue ranks.racing ↔ (word_of (codes "racing") rows ≡ Some (codes "true"))

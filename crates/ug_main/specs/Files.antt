@@ -56,8 +56,8 @@ pub record AreNew (crew : Option CrewSeen) (link : Option LinkSeen) : Type 0 whe
   pub its_crew : IfSome crew IsNewCrew
   pub its_link : IfSome link IsNewLink
 
--- What the words ask for was done, and this status says how it ended. No call had failed before, the
--- crew and the link were new, and these are all that failed.
+-- What the words ask for was done, and this status says how it ended. No call had failed before,
+-- the crew and the link were new, and these are all that failed.
 pub record HasRunOnFiles (words : List Text) (seen : FilesSeen) (status : Status) : Type 0 where
   pub crew : Option CrewSeen
   pub link : Option LinkSeen

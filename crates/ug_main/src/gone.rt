@@ -6,8 +6,8 @@ use std::net::Net;
 use std::rt::Files;
 use ug_real::{Departure, Watcher};
 
-/// Prints on standard error why a rank of the crew is lost, if progress is asked for, and always why
-/// the first one could not be started: if none could, that is why the run failed.
+/// Prints on standard error why a rank of the crew is lost, if progress is asked for, and always
+/// why the first one could not be started: if none could, that is why the run failed.
 #[derive(Drop)]
 pub struct Gone<'a, R> {
     rt: AtOnce<'a, R>,

@@ -13,8 +13,8 @@ const MILLION: u64 = 1_000_000;
 /// Prints the progress of a run on standard error, if it is asked for: a line at the start; one for
 /// a better incumbent, unless the last line is less than a sixteenth of all reports ago; one after
 /// 1000, 2000, 5000, 10000 and so on reports, and from a million on at each million; one for a rank
-/// that is lost; and one at the end. A line that cannot be written at once is dropped, and so is one
-/// that is older than the last. Each column that is at a bound of the box is named in any case,
+/// that is lost; and one at the end. A line that cannot be written at once is dropped, and so is
+/// one that is older than the last. Each column that is at a bound of the box is named in any case,
 /// since the answer depends on it.
 #[derive(Drop)]
 pub struct Teller<'a, R> {

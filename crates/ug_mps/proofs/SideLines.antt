@@ -37,7 +37,8 @@ use Rattle.ug_mps.proofs.DraftLemmas.{in_section}
 
 -- ---- sets
 
--- the set of the line is another one than that of the history, exactly where it is another one than the draft's
+-- the set of the line is another one than that of the history, exactly where it is another one than
+-- the draft's
 pub other_same : (h : List Entry) (d : Draft) (named : Option (List ℕ)) → Drafts h d → is_other_set h named ≡ is_passed_set named d.set
 other_same h d None old = refl
 other_same h d (Some s) old = ap (λ u. is_passed_set (Some s) u) (sym old.set)

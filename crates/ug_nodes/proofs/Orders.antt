@@ -1,5 +1,5 @@
--- The orders of tickets and of names are total: of two, one is before the other or they are the same, and never
--- both; and what is before one that is before a third is before the third.
+-- The orders of tickets and of names are total: of two, one is before the other or they are the
+-- same, and never both; and what is before one that is before a third is before the third.
 use Rattle.std.proofs.Common.{◌≡◌, ◌⊎◌, ◌<◌, inl, inr, refl, sym, ◌∙◌, subst, arith}
 use Rattle.std.specs.Cmp.{IsTotalOrder}
 use Rattle.std.proofs.lemmas.Bool.{cases_order}

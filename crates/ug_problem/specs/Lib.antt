@@ -9,6 +9,6 @@ pub mod Better
 pub mod Printed
 pub mod Right
 pub mod Shared
-pub mod Standings
+pub mod ColumnEntries
 pub mod Offers
-pub mod Losing
+pub mod Locks

@@ -9,17 +9,17 @@
 mod answer;
 mod column;
 mod decimal;
+mod entries;
 mod error;
 mod feasible;
 mod laws;
 mod limits;
-mod losing;
+mod locks;
 mod offered;
 mod print;
 mod problem;
 mod same;
 mod shared;
-mod standings;
 
 pub use answer::{Answer, Broken};
 pub use column::{Column, Columns, NamedRow, NamedRows};
@@ -27,12 +27,12 @@ pub use decimal::{
     Decimal, ceiling_is_least, floor_is_greatest, reads_these_words, scales_from_its_places,
     starts_with_minus, without_sign,
 };
+pub use entries::ColumnEntry;
 pub use error::ProblemError;
 pub use laws::{better_is_below_the_cutoff, gaps_may_grow, one_point_is_kept};
 pub use limits::{MOST_COLUMNS, MOST_FACTOR, MOST_ROWS, MOST_SIDE, MOST_TERMS};
-pub use losing::Inward;
+pub use locks::Inward;
 pub use offered::Offered;
 pub use print::prints_one_text;
 pub use problem::Problem;
 pub use shared::Shared;
-pub use standings::Standing;

@@ -7,18 +7,18 @@ ghost use Rattle.ug_problem.specs.Better.{IsGap, cutoff_of};
 ghost use Rattle.ug_problem.specs.Feasible.{Feasible, IsFirstBroken};
 ghost use Rattle.ug_problem.specs.Instances.{IsFormed, bounds_of, instance_of, root_of};
 ghost use Rattle.ug_problem.specs.Limits.{IsProblem, IsRefused};
-ghost use Rattle.ug_problem.specs.Losing.{AreKeptLosing, IsLosing};
+ghost use Rattle.ug_problem.specs.Locks.{AreKeptLocks, AreLocksOf};
 ghost use Rattle.ug_problem.specs.Printed.{IsPrinted};
-ghost use Rattle.ug_problem.specs.Standings.{AreKept, AreStandings};
+ghost use Rattle.ug_problem.specs.ColumnEntries.{AreKept, AreColumnEntries};
 
 use crate::answer::Broken;
 use crate::column::{Column, Columns, NamedRow, NamedRows};
+use crate::entries::{ColumnEntries, ColumnEntry, copied_entries, entries_of, gather};
 use crate::error::ProblemError;
 use crate::feasible::find_broken;
 use crate::limits::check_limits;
-use crate::losing::{Inward, Losing, copied_losing, losing_of, rows_at};
+use crate::locks::{Inward, Locks, copied_locks, locks_of, rows_at};
 use crate::print::{shown, spell};
-use crate::standings::{Standing, Standings, copied_standings, gather, standings_of};
 use std::alloc::{AllocError, Global};
 use std::marker::Model;
 use ug_lists::{Same, Text};
@@ -31,16 +31,16 @@ pub struct Problem {
     rows: NamedRows,
     objective: Objective,
     root: IntBox,
-    standings: Standings,
-    losing: Losing,
+    entries: ColumnEntries,
+    locks: Locks,
 }
 
 impl Model for Problem {
     ghost use Rattle.std.specs.Prelude.{◌≡◌};
     ghost use Rattle.ug_problem.specs.Instances.{Instance, root_of};
     ghost use Rattle.ug_problem.specs.Limits.{IsProblem};
-    ghost use Rattle.ug_problem.specs.Losing.{AreKeptLosing};
-    ghost use Rattle.ug_problem.specs.Standings.{AreKept};
+    ghost use Rattle.ug_problem.specs.Locks.{AreKeptLocks};
+    ghost use Rattle.ug_problem.specs.ColumnEntries.{AreKept};
 
     ghost Value = { Instance };
 
@@ -50,8 +50,8 @@ impl Model for Problem {
         × (p.root
         ≡ root_of (record { columns = p.columns; rows = p.rows; objective = p.objective }))
         × AreKept (record { columns = p.columns; rows = p.rows; objective = p.objective })
-        p.standings
-        × AreKeptLosing p.rows p.standings p.losing };
+        p.entries
+        × AreKeptLocks p.rows p.entries p.locks };
 }
 
 // Returns the bounds of each column.
@@ -143,15 +143,15 @@ fn copied_parts(
 #[derive(Drop)]
 struct Derived {
     root: IntBox,
-    standings: Standings,
-    losing: Losing,
+    entries: ColumnEntries,
+    locks: Locks,
 }
 
 // The entries of each column, and the rows that lose slack with it.
 #[derive(Drop)]
 struct Stands {
-    standings: Standings,
-    losing: Losing,
+    entries: ColumnEntries,
+    locks: Locks,
 }
 
 fn stands_of(
@@ -161,15 +161,15 @@ fn stands_of(
     objective: &Objective,
 ) -> Result<Stands, AllocError>
     requires { IsProblem (instance_of columns.now rows.now objective.now) }
-    ensures standings { IfOk result (λ s. AreKept
-        (instance_of columns.now rows.now objective.now) s.standings) }
-    ensures losing { IfOk result (λ s. AreKeptLosing rows.now s.standings s.losing) }
+    ensures entries { IfOk result (λ s. AreKept
+        (instance_of columns.now rows.now objective.now) s.entries) }
+    ensures locks { IfOk result (λ s. AreKeptLocks rows.now s.entries s.locks) }
 {
-    let standings = gather(alloc, columns, rows, objective)?;
-    match losing_of(alloc, rows, &standings) {
-        Ok(losing) => Ok(Stands { standings, losing }),
+    let entries = gather(alloc, columns, rows, objective)?;
+    match locks_of(alloc, rows, &entries) {
+        Ok(locks) => Ok(Stands { entries, locks }),
         Err(error) => {
-            drop(standings);
+            drop(entries);
             Err(error)
         }
     }
@@ -186,19 +186,19 @@ fn derived_from(
     requires { IsFormed (instance_of columns.now rows.now objective.now) }
     ensures root { IfOk result (λ g. g.root
         ≡ root_of (instance_of columns.now rows.now objective.now)) }
-    ensures standings { IfOk result (λ g. AreKept
-        (instance_of columns.now rows.now objective.now) g.standings) }
-    ensures losing { IfOk result (λ g. AreKeptLosing rows.now g.standings g.losing) }
+    ensures entries { IfOk result (λ g. AreKept
+        (instance_of columns.now rows.now objective.now) g.entries) }
+    ensures locks { IfOk result (λ g. AreKeptLocks rows.now g.entries g.locks) }
     ensures kept { OnOk result (IsProblem (instance_of columns.now rows.now objective.now)) }
     ensures refused { IfErr result (IsRefused (instance_of columns.now rows.now objective.now)) }
 {
     check_limits(columns, rows, objective)?;
     let root = IntBox::from_vec(bounds(alloc, columns)?);
     match stands_of(alloc, columns, rows, objective) {
-        Ok(Stands { standings, losing }) => Ok(Derived {
+        Ok(Stands { entries, locks }) => Ok(Derived {
             root,
-            standings,
-            losing,
+            entries,
+            locks,
         }),
         Err(error) => {
             drop(root);
@@ -207,15 +207,15 @@ fn derived_from(
     }
 }
 
-fn copied_stands(standings: &Standings, losing: &Losing) -> Result<Stands, AllocError>
-    ensures standings { IfOk result (λ stands. stands.standings ≡ standings.now) }
-    ensures losing { IfOk result (λ stands. stands.losing ≡ losing.now) }
+fn copied_stands(entries: &ColumnEntries, locks: &Locks) -> Result<Stands, AllocError>
+    ensures entries { IfOk result (λ stands. stands.entries ≡ entries.now) }
+    ensures locks { IfOk result (λ stands. stands.locks ≡ locks.now) }
 {
-    let standings = copied_standings(standings)?;
-    match copied_losing(losing) {
-        Ok(losing) => Ok(Stands { standings, losing }),
+    let entries = copied_entries(entries)?;
+    match copied_locks(locks) {
+        Ok(locks) => Ok(Stands { entries, locks }),
         Err(error) => {
-            drop(standings);
+            drop(entries);
             Err(error)
         }
     }
@@ -223,23 +223,23 @@ fn copied_stands(standings: &Standings, losing: &Losing) -> Result<Stands, Alloc
 
 fn copied_derived(
     root: &IntBox,
-    standings: &Standings,
-    losing: &Losing,
+    entries: &ColumnEntries,
+    locks: &Locks,
 ) -> Result<Derived, AllocError>
     ensures root { IfOk result (λ derived. derived.root ≡ root.now) }
-    ensures standings { IfOk result (λ derived. derived.standings ≡ standings.now) }
-    ensures losing { IfOk result (λ derived. derived.losing ≡ losing.now) }
+    ensures entries { IfOk result (λ derived. derived.entries ≡ entries.now) }
+    ensures locks { IfOk result (λ derived. derived.locks ≡ locks.now) }
 {
-    let Stands { standings, losing } = copied_stands(standings, losing)?;
+    let Stands { entries, locks } = copied_stands(entries, locks)?;
     match root.clone() {
         Ok(root) => Ok(Derived {
             root,
-            standings,
-            losing,
+            entries,
+            locks,
         }),
         Err(error) => {
-            drop(standings);
-            drop(losing);
+            drop(entries);
+            drop(locks);
             Err(error)
         }
     }
@@ -263,16 +263,16 @@ impl Problem {
             Ok(
                 Derived {
                     root,
-                    standings,
-                    losing,
+                    entries,
+                    locks,
                 },
             ) => Ok(Problem {
                 columns,
                 rows,
                 objective,
                 root,
-                standings,
-                losing,
+                entries,
+                locks,
             }),
             Err(error) => {
                 drop(columns);
@@ -317,24 +317,24 @@ impl Problem {
 
     /// Returns the rows in which a column has a coefficient, in rising order, with the
     /// coefficients; the objective is the row behind the last. Takes no memory.
-    pub fn standings(&self, column: usize) -> &[Standing]
+    pub fn entries(&self, column: usize) -> &[ColumnEntry]
         requires { column < length self.now.columns }
-        ensures value { AreStandings self.now column result.now }
+        ensures value { AreColumnEntries self.now column result.now }
         ensures problem { IsProblem self.now }
     {
-        standings_of(&self.standings, column)
+        entries_of(&self.entries, column)
     }
 
     /// Returns the rows that lose slack if this bound of a column is tightened, in rising order.
     /// The objective, the row behind the last, counts as having a high side. Takes no memory.
-    pub fn losing(&self, inward: Inward, column: usize) -> &[u32]
+    pub fn locks(&self, inward: Inward, column: usize) -> &[u32]
         requires { column < length self.now.columns }
-        ensures value { IsLosing self.now column inward result.now }
+        ensures value { AreLocksOf self.now column inward result.now }
         ensures problem { IsProblem self.now }
     {
         match inward {
-            Inward::Up => rows_at(&self.losing.ups, column),
-            Inward::Down => rows_at(&self.losing.downs, column),
+            Inward::Up => rows_at(&self.locks.ups, column),
+            Inward::Down => rows_at(&self.locks.downs, column),
         }
     }
 
@@ -344,9 +344,9 @@ impl Problem {
     {
         let Derived {
             root,
-            standings,
-            losing,
-        } = copied_derived(&self.root, &self.standings, &self.losing)?;
+            entries,
+            locks,
+        } = copied_derived(&self.root, &self.entries, &self.locks)?;
         match copied_parts(&self.columns, &self.rows, &self.objective) {
             Ok(
                 Parts {
@@ -359,13 +359,13 @@ impl Problem {
                 rows,
                 objective,
                 root,
-                standings,
-                losing,
+                entries,
+                locks,
             }),
             Err(error) => {
                 drop(root);
-                drop(standings);
-                drop(losing);
+                drop(entries);
+                drop(locks);
                 Err(error)
             }
         }

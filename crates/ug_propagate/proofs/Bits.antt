@@ -5,7 +5,7 @@ use Rattle.std.proofs.lemmas.Bool.{cases_eq, cases_lt}
 use Rattle.std.proofs.lemmas.List.{get_or-set_other, get_or-set_same, get_or_past}
 use Rattle.std.proofs.lemmas.Nat.Bits.{bit_at-zero, bit_at_above, bit_at-trailing_zeros, bit_at_set_same, bit_at_set_other, bit_at_clear_same, bit_at_clear_other}
 use Rattle.std.specs.Int.{bit_at, bit_not, trailing_zeros}
-use Rattle.ug_propagate.specs.Awake.{AreAsleep, HasBit, IsFirstBit, IsFound, IsFoundIn, IsNext, NoneFrom, bit_of}
+use Rattle.ug_propagate.specs.Queued.{AreUnqueued, HasBit, IsFirstBit, IsFound, IsFoundIn, IsNext, NoneFrom, bit_of}
 
 same_place : (k r : ℕ) → k / 64 ≡ r / 64 → k % 64 ≡ r % 64 → k ≡ r
 same_place k r e f = omega arith
@@ -78,43 +78,43 @@ some_in word low fits some short =
       between = λ k above below. at_shift word low k above ∙ facts.2 (k - low) (omega arith);
     }
 
--- a word that is 0 has no row that is awake
+-- a word that is 0 has no row that is queued
 zero_word : (words : List ℕ) (at k : ℕ) → get_or words at 0 ≡ 0 → k / 64 ≡ at → bit_of words k ≡ 0
 zero_word words at k zero same =
     ap (λ (q : ℕ). bit_at (get_or words q 0) (k % 64)) same ∙ ap (λ (w : ℕ). bit_at w (k % 64)) zero ∙ bit_at-zero (k % 64)
 
-two_asleep : (words : List ℕ) (from mid to : ℕ) → AreAsleep words from mid → AreAsleep words mid to → AreAsleep words from to
-two_asleep words from mid to low high k least less = elim (cases_lt k mid) [
+two_unqueued : (words : List ℕ) (from mid to : ℕ) → AreUnqueued words from mid → AreUnqueued words mid to → AreUnqueued words from to
+two_unqueued words from mid to low high k least less = elim (cases_lt k mid) [
   | inl below ↦ low k least below
   | inr above ↦ high k above less
 ]
 
-one_asleep : (words : List ℕ) (at : ℕ) → get_or words at 0 ≡ 0 → AreAsleep words (64 * at) (64 * (at + 1))
-one_asleep words at zero k least less = zero_word words at k zero (omega arith)
+one_unqueued : (words : List ℕ) (at : ℕ) → get_or words at 0 ≡ 0 → AreUnqueued words (64 * at) (64 * (at + 1))
+one_unqueued words at zero k least less = zero_word words at k zero (omega arith)
 
 -- four words that are 0
-pub four_asleep : (words : List ℕ) (at : ℕ) → get_or words at 0 ≡ 0 → get_or words (at + 1) 0 ≡ 0 → get_or words (at + 2) 0 ≡ 0
-    → get_or words (at + 3) 0 ≡ 0 → AreAsleep words (64 * at) (64 * (at + 4))
-four_asleep words at first second third fourth k least less =
-    let a : AreAsleep words (64 * at) (64 * (at + 1)) = one_asleep words at first in
-    let b : AreAsleep words (64 * (at + 1)) (64 * (at + 2)) = λ j l m. zero_word words (at + 1) j second (omega arith) in
-    let c : AreAsleep words (64 * (at + 2)) (64 * (at + 3)) = λ j l m. zero_word words (at + 2) j third (omega arith) in
-    let d : AreAsleep words (64 * (at + 3)) (64 * (at + 4)) = λ j l m. zero_word words (at + 3) j fourth (omega arith) in
-    two_asleep words (64 * at) (64 * (at + 2)) (64 * (at + 4))
-    (two_asleep words (64 * at) (64 * (at + 1)) (64 * (at + 2)) a b)
-    (two_asleep words (64 * (at + 2)) (64 * (at + 3)) (64 * (at + 4)) c d) k least less
+pub four_unqueued : (words : List ℕ) (at : ℕ) → get_or words at 0 ≡ 0 → get_or words (at + 1) 0 ≡ 0 → get_or words (at + 2) 0 ≡ 0
+    → get_or words (at + 3) 0 ≡ 0 → AreUnqueued words (64 * at) (64 * (at + 4))
+four_unqueued words at first second third fourth k least less =
+    let a : AreUnqueued words (64 * at) (64 * (at + 1)) = one_unqueued words at first in
+    let b : AreUnqueued words (64 * (at + 1)) (64 * (at + 2)) = λ j l m. zero_word words (at + 1) j second (omega arith) in
+    let c : AreUnqueued words (64 * (at + 2)) (64 * (at + 3)) = λ j l m. zero_word words (at + 2) j third (omega arith) in
+    let d : AreUnqueued words (64 * (at + 3)) (64 * (at + 4)) = λ j l m. zero_word words (at + 3) j fourth (omega arith) in
+    two_unqueued words (64 * at) (64 * (at + 2)) (64 * (at + 4))
+    (two_unqueued words (64 * at) (64 * (at + 1)) (64 * (at + 2)) a b)
+    (two_unqueued words (64 * (at + 2)) (64 * (at + 3)) (64 * (at + 4)) c d) k least less
 
-pub none_passed : (words : List ℕ) (from : ℕ) → AreAsleep words (64 * from) (64 * (from + 4 * 0))
+pub none_passed : (words : List ℕ) (from : ℕ) → AreUnqueued words (64 * from) (64 * (from + 4 * 0))
 none_passed words from k least less = absurd (omega arith)
 
-pub four_passed : (words : List ℕ) (from k : ℕ) → AreAsleep words (64 * from) (64 * (from + 4 * k))
-    → AreAsleep words (64 * (from + 4 * k)) (64 * (from + 4 * k + 4)) → AreAsleep words (64 * from) (64 * (from + 4 * (k + 1)))
+pub four_passed : (words : List ℕ) (from k : ℕ) → AreUnqueued words (64 * from) (64 * (from + 4 * k))
+    → AreUnqueued words (64 * (from + 4 * k)) (64 * (from + 4 * k + 4)) → AreUnqueued words (64 * from) (64 * (from + 4 * (k + 1)))
 four_passed words from k low high =
-    let all = two_asleep words (64 * from) (64 * (from + 4 * k)) (64 * (from + 4 * k + 4)) low high in
+    let all = two_unqueued words (64 * from) (64 * (from + 4 * k)) (64 * (from + 4 * k + 4)) low high in
     λ j least less. all j least (omega arith)
 
-pub word_passed : (words : List ℕ) (from at : ℕ) → AreAsleep words (64 * from) (64 * at) → IsFoundIn (get_or words at 0) 0 None
-    → AreAsleep words (64 * from) (64 * (at + 1))
+pub word_passed : (words : List ℕ) (from at : ℕ) → AreUnqueued words (64 * from) (64 * at) → IsFoundIn (get_or words at 0) 0 None
+    → AreUnqueued words (64 * from) (64 * (at + 1))
 word_passed words from at h none k least less = elim (cases_lt k (64 * at)) [
   | inl below ↦ h k least below
   | inr above ↦
@@ -122,7 +122,7 @@ word_passed words from at h none k least less = elim (cases_lt k (64 * at)) [
       ap (λ (q : ℕ). bit_at (get_or words q 0) (k % 64)) same ∙ none (k % 64) (omega arith)
 ]
 
-pub word_found : (words : List ℕ) (from at bit : ℕ) → from ≤ at → at < length words → AreAsleep words (64 * from) (64 * at)
+pub word_found : (words : List ℕ) (from at bit : ℕ) → from ≤ at → at < length words → AreUnqueued words (64 * from) (64 * at)
     → IsFirstBit (get_or words at 0) 0 bit → IsNext words (64 * from) (64 * at + bit)
 word_found words from at bit least there h first =
     let word_is : (64 * at + bit) / 64 ≡ at = omega (arith, first.short) in
@@ -130,7 +130,7 @@ word_found words from at bit least there h first =
     record {
       least = omega arith;
       there = omega (arith, first.short);
-      awake = ap (λ (q : ℕ). bit_at (get_or words q 0) ((64 * at + bit) % 64)) word_is
+      queued = ap (λ (q : ℕ). bit_at (get_or words q 0) ((64 * at + bit) % 64)) word_is
           ∙ ap (λ (i : ℕ). bit_at (get_or words at 0) i) bit_is ∙ first.one;
       between = λ k from_ less. elim (cases_lt k (64 * at)) [
         | inl below ↦ h k from_ below
@@ -140,7 +140,7 @@ word_found words from at bit least there h first =
       ];
     }
 
-pub words_passed : (words : List ℕ) (from at : ℕ) → length words ≤ at → AreAsleep words (64 * from) (64 * at)
+pub words_passed : (words : List ℕ) (from at : ℕ) → length words ≤ at → AreUnqueued words (64 * from) (64 * at)
     → NoneFrom words (64 * from)
 words_passed words from at all h k least = elim (cases_lt k (64 * at)) [
   | inl below ↦ h k least below
@@ -148,7 +148,7 @@ words_passed words from at all h k least = elim (cases_lt k (64 * at)) [
       ap (λ (w : ℕ). bit_at w (k % 64)) (get_or_past words (k / 64) 0 (omega arith)) ∙ bit_at-zero (k % 64)
 ]
 
--- a row past the last word is not awake
+-- a row past the last word is not queued
 pub past_words : (words : List ℕ) (from : ℕ) → length words ≤ from / 64 → NoneFrom words from
 past_words words from all k least =
     ap (λ (w : ℕ). bit_at w (k % 64)) (get_or_past words (k / 64) 0 (omega arith)) ∙ bit_at-zero (k % 64)
@@ -163,7 +163,7 @@ next_here words from bit there first =
     record {
       least = omega (arith, first.least);
       there = omega (arith, first.short);
-      awake = ap (λ (q : ℕ). bit_at (get_or words q 0) ((64 * at + bit) % 64)) word_is
+      queued = ap (λ (q : ℕ). bit_at (get_or words q 0) ((64 * at + bit) % 64)) word_is
           ∙ ap (λ (i : ℕ). bit_at (get_or words at 0) i) bit_is ∙ first.one;
       between = λ k from_ less.
           let same : k / 64 ≡ at = omega (arith, first.short) in
@@ -186,7 +186,7 @@ next_later words from None none h = λ k least. elim (cases_lt k (64 * (from / 6
 next_later words from (Some r) none h = record {
   least = omega (arith, h.least);
   there = h.there;
-  awake = h.awake;
+  queued = h.queued;
   between = λ k least less. elim (cases_lt k (64 * (from / 64 + 1))) [
     | inl below ↦ rest_of_word words from k none least (omega arith)
     | inr above ↦ h.between k above less

@@ -17,12 +17,12 @@ use Rattle.ug_problem.specs.declared.column.NamedRow.{NamedRow}
 use Rattle.ug_problem.specs.Instances.{Instance, IsRow, no_row, row_at}
 use Rattle.ug_problem.specs.Limits.{IsProblem}
 use Rattle.ug_problem.proofs.Linear.{linear_row, linear_objective}
-use Rattle.ug_propagate.specs.declared.look.Look.{Look}
+use Rattle.ug_propagate.specs.declared.row_sides.RowSides.{RowSides}
 use Rattle.ug_propagate.specs.declared.tight.Tight.{Tight}
 use Rattle.ug_propagate.specs.declared.tight.Tight.TheVariants.{Kept, Empty}
 use Rattle.ug_propagate.specs.declared.tight.Reason.{Reason}
 use Rattle.ug_propagate.specs.Rounds.{keep_at_least, keep_at_most, lower_high, raise_low, floor_quotient, ceiling_quotient, over_rows, over_terms, over_objective, row_step, term_step, round, rounds, rounds_of, last_round, crossed, are_crossed, are_fixed}
-use Rattle.ug_propagate.specs.Steps.{IsLookable, IsTermOf}
+use Rattle.ug_propagate.specs.Steps.{IsPropagable, IsTermOf}
 
 pub most_pos : (reason : Reason) (f : ℤ) (j : ℕ) (s : ℤ) (area : List Interval) → pos 0 <ℤ f
     → keep_at_most reason f j s area ≡ lower_high reason j (floor_quotient s f) area
@@ -55,10 +55,10 @@ side_small None h = h
 side_small (Some s) h = omega (arith, h)
 
 -- each row of a problem is ready to be examined
-pub ready_row : (p : Instance) (r : ℕ) (look : Look) → IsProblem p → r < length p.rows
-    → look.low ≡ (row_at p r).low → look.high ≡ (row_at p r).high
-    → IsLookable (length p.columns) look (row_at p r).terms
-ready_row p r look problem there low high =
+pub ready_row : (p : Instance) (r : ℕ) (row_sides : RowSides) → IsProblem p → r < length p.rows
+    → row_sides.low ≡ (row_at p r).low → row_sides.high ≡ (row_at p r).high
+    → IsPropagable (length p.columns) row_sides (row_at p r).terms
+ready_row p r row_sides problem there low high =
     let formed : IsRow (length p.columns) (slice_index_or p.rows r no_row) =
     All-get_or (IsRow (length p.columns)) p.rows r no_row there problem.formed.rows in
     let P : Option ℤ → Type 0 = λ (s : Option ℤ). IfSome s (λ v. unsigned_abs v ≤ 4 * 10 ^ 37) in
@@ -70,10 +70,10 @@ ready_row p r look problem there low high =
     }
 
 -- so is the objective, under a cutoff of at most 2 * 10^37
-pub ready_objective : (p : Instance) (look : Look) (c : ℤ) → IsProblem p → unsigned_abs c ≤ 2 * 10 ^ 37
-    → look.low ≡ None → look.high ≡ Some (c -ℤ pos 1 -ℤ p.objective.constant)
-    → IsLookable (length p.columns) look p.objective.terms
-ready_objective p look c problem small low high =
+pub ready_objective : (p : Instance) (row_sides : RowSides) (c : ℤ) → IsProblem p → unsigned_abs c ≤ 2 * 10 ^ 37
+    → row_sides.low ≡ None → row_sides.high ≡ Some (c -ℤ pos 1 -ℤ p.objective.constant)
+    → IsPropagable (length p.columns) row_sides p.objective.terms
+ready_objective p row_sides c problem small low high =
     let P : Option ℤ → Type 0 = λ (s : Option ℤ). IfSome s (λ v. unsigned_abs v ≤ 4 * 10 ^ 37) in
     let k : unsigned_abs (c -ℤ pos 1 -ℤ p.objective.constant) ≤ 4 * 10 ^ 37 =
     omega (arith, abs_sub (c -ℤ pos 1) p.objective.constant, abs_sub c (pos 1), problem.objective.constant) in
@@ -125,8 +125,8 @@ terms_end name row ts i area whole h f =
     sym (ap (λ (l : List Term). over_terms name row l (Kept area)) (drop_all ts i h)) ∙ f
 
 -- a term of a row that is ready
-pub term_of : (width : ℕ) (look : Look) (ts : List Term) (i : ℕ) → IsLookable width look ts → i < length ts → IsTermOf width (term_at ts i)
-term_of width look ts i ready h = record {
+pub term_of : (width : ℕ) (row_sides : RowSides) (ts : List Term) (i : ℕ) → IsPropagable width row_sides ts → i < length ts → IsTermOf width (term_at ts i)
+term_of width row_sides ts i ready h = record {
   there = ready.linear.within i h;
   small = ready.linear.small i h;
   nonzero = ready.nonzero i h;

@@ -1,4 +1,4 @@
--- What a change of a column keeps of the rows that rest: those that lose room by it are awake.
+-- What a change of a column keeps of the rows that rest: those that lose slack by it are queued.
 use Rattle.std.proofs.Common.{◌≡◌, ◌≢◌, refl, sym, subst, ◌∙◌, ap, inl, inr, ℕ, zero, suc, ◌<◌, ◌⊎◌, ℤ, pos, negsuc, List, [], ◌∷◌, length, set, Option, Some, None, IsSome, true, false, arith}
 use Rattle.std.proofs.lemmas.Int.{ints, by_lt_z}
 use Rattle.std.proofs.lemmas.Bool.{cases_eq, cases_lt}
@@ -9,18 +9,18 @@ use Rattle.ug_rows.specs.Boxes.{HasSmallEnds, IsClosedWithin, interval_at}
 use Rattle.ug_rows.specs.Rows.{IsAmong, IsLinear, term_at}
 use Rattle.ug_rows.specs.Sums.{end_of}
 use Rattle.ug_rows.proofs.Replaced.{among_at}
-use Rattle.ug_problem.specs.declared.losing.Inward.{Inward}
-use Rattle.ug_problem.specs.declared.losing.Inward.TheVariants.{Up, Down}
-use Rattle.ug_problem.specs.declared.standings.Standing.{Standing}
+use Rattle.ug_problem.specs.declared.locks.Inward.{Inward}
+use Rattle.ug_problem.specs.declared.locks.Inward.TheVariants.{Up, Down}
+use Rattle.ug_problem.specs.declared.entries.ColumnEntry.{ColumnEntry}
 use Rattle.ug_problem.specs.Instances.{Instance}
-use Rattle.ug_problem.specs.Losing.{HasHighSide, HasLowSide, IsLosing, Loses, listed_at}
-use Rattle.ug_problem.specs.Standings.{standing_at, term_of, terms_of}
-use Rattle.ug_propagate.specs.declared.look.Look.{Look}
-use Rattle.ug_propagate.specs.Working.{AreResting, AreReached, AreUp, HasChanged, IsAtRest, IsBox, IsStep, WorkState, look_for}
+use Rattle.ug_problem.specs.Locks.{HasHighSide, HasLowSide, AreLocksOf, IsLock, listed_at}
+use Rattle.ug_problem.specs.ColumnEntries.{entry_at, term_of, terms_of}
+use Rattle.ug_propagate.specs.declared.row_sides.RowSides.{RowSides}
+use Rattle.ug_propagate.specs.Working.{AreAtFixpoint, AreMaxSpans, AreUp, HasChanged, IsAtFixpoint, IsBox, IsStep, WorkState, sides_for}
 use Rattle.ug_propagate.proofs.Kept.{rest_kept, small_inner}
 use Rattle.ug_propagate.proofs.Running.{linear_terms}
-use Rattle.ug_propagate.proofs.Stepping.{bits_woken, later_change, reach_cut, rest_other}
-use Rattle.ug_propagate.proofs.Waiting.{look_inner, look_last}
+use Rattle.ug_propagate.proofs.Stepping.{bits_enqueued, later_change, max_span_cut, rest_other}
+use Rattle.ug_propagate.proofs.Waiting.{propagate_inner, propagate_last}
 
 same_or : (a b : ℤ) → (a ≡ b) ⊎ (a ≢ b)
 same_or a b = by_lt_z a b (λ less. inr (λ (e : a ≡ b). omega (arith, ints, e, less)))
@@ -58,101 +58,101 @@ column_or ts j (suc n) = elim (column_or ts j n) [
   ]
 ]
 
--- a row that loses room by its term of column j is in the list
+-- a row that loses slack by its term of column j is in the list
 listed : (p : Instance) (j r k : ℕ) (inward : Inward) (list : List ℕ) → IsLinear (length p.columns) (terms_of p r)
-    → IsLosing p j inward list → k < length (terms_of p r) → (term_at (terms_of p r) k).column ≡ j
-    → Loses inward p.rows r (term_at (terms_of p r) k).factor → (i : ℕ) × (i < length list) × (listed_at list i ≡ r)
-listed p j r k inward list linear h there same loses =
+    → AreLocksOf p j inward list → k < length (terms_of p r) → (term_at (terms_of p r) k).column ≡ j
+    → IsLock inward p.rows r (term_at (terms_of p r) k).factor → (i : ℕ) × (i < length list) × (listed_at list i ≡ r)
+listed p j r k inward list linear h there same is_lock =
     let ts : List Term = terms_of p r in
     let at = h.are.all r (term_at ts k) (among_at ts k there) same in
-    let s : Standing = standing_at h.standings at.0 in
+    let s : ColumnEntry = entry_at h.entries at.0 in
     let among : IsAmong (term_of j s) ts = subst (λ (n : ℕ). IsAmong (term_of j s) (terms_of p n)) at.2 (h.are.each at.0 at.1) in
     let m = among_place (term_of j s) ts among in
     let place : m.0 ≡ k = one_place (length p.columns) ts m.0 k linear m.1 there (ap (λ (t : Term). t.column) m.2 ∙ sym same) in
     let factor : (term_at ts k).factor ≡ s.factor =
     ap (λ (n : ℕ). (term_at ts n).factor) (sym place) ∙ ap (λ (t : Term). t.factor) m.2 in
-    let hit : Loses inward p.rows s.row s.factor =
-    subst (λ (n : ℕ). Loses inward p.rows n s.factor) (sym at.2) (subst (λ (f : ℤ). Loses inward p.rows r f) factor loses) in
-    let l = h.losing.all at.0 at.1 hit in
+    let hit : IsLock inward p.rows s.row s.factor =
+    subst (λ (n : ℕ). IsLock inward p.rows n s.factor) (sym at.2) (subst (λ (f : ℤ). IsLock inward p.rows r f) factor is_lock) in
+    let l = h.locks.all at.0 at.1 hit in
     (l.0, l.1, l.2 ∙ at.2)
 
-has_high : (p : Instance) (cutoff : Option ℤ) (r : ℕ) → IsSome (look_for p cutoff r).high → HasHighSide p.rows r
+has_high : (p : Instance) (cutoff : Option ℤ) (r : ℕ) → IsSome (sides_for p cutoff r).high → HasHighSide p.rows r
 has_high p cutoff r some = elim (cases_lt r (length p.rows)) [
-  | inl inner ↦ inr (subst (λ (l : Look). IsSome l.high) (look_inner p cutoff r inner) some)
+  | inl inner ↦ inr (subst (λ (l : RowSides). IsSome l.high) (propagate_inner p cutoff r inner) some)
   | inr last ↦ inl last
 ]
 
-has_low : (p : Instance) (cutoff : Option ℤ) (r : ℕ) → IsSome (look_for p cutoff r).low → HasLowSide p.rows r
+has_low : (p : Instance) (cutoff : Option ℤ) (r : ℕ) → IsSome (sides_for p cutoff r).low → HasLowSide p.rows r
 has_low p cutoff r some = elim (cases_lt r (length p.rows)) [
-  | inl inner ↦ (inner, subst (λ (l : Look). IsSome l.low) (look_inner p cutoff r inner) some)
-  | inr last ↦ absurd (let h : false ≡ true = subst (λ (l : Look). IsSome l.low) (look_last p cutoff r last) some in cc)
+  | inl inner ↦ (inner, subst (λ (l : RowSides). IsSome l.low) (propagate_inner p cutoff r inner) some)
+  | inr last ↦ absurd (let h : false ≡ true = subst (λ (l : RowSides). IsSome l.low) (propagate_last p cutoff r last) some in cc)
 ]
 
-under_of : (p : Instance) (cutoff : Option ℤ) (r j : ℕ) (f : ℤ) (side was : Interval) (awake : List ℕ)
-    → ((inward : Inward) → AreUp p j inward awake → Loses inward p.rows r f → ⊥) → (was.low ≢ side.low → AreUp p j Up awake)
-    → (was.high ≢ side.high → AreUp p j Down awake)
-    → (end_of Least f side ≡ end_of Least f was) ⊎ ((look_for p cutoff r).high ≡ None)
-under_of p cutoff r j (pos n) side was awake gone up down = elim (same_or was.low side.low) [
+under_of : (p : Instance) (cutoff : Option ℤ) (r j : ℕ) (f : ℤ) (side was : Interval) (queued : List ℕ)
+    → ((inward : Inward) → AreUp p j inward queued → IsLock inward p.rows r f → ⊥) → (was.low ≢ side.low → AreUp p j Up queued)
+    → (was.high ≢ side.high → AreUp p j Down queued)
+    → (end_of Least f side ≡ end_of Least f was) ⊎ ((sides_for p cutoff r).high ≡ None)
+under_of p cutoff r j (pos n) side was queued gone up down = elim (same_or was.low side.low) [
   | inl same ↦ inl (sym same)
-  | inr ne ↦ elim (none_or (look_for p cutoff r).high) [
+  | inr ne ↦ elim (none_or (sides_for p cutoff r).high) [
     | inl none ↦ inr none
     | inr some ↦ absurd (gone Up (up ne) (has_high p cutoff r some))
   ]
 ]
-under_of p cutoff r j (negsuc n) side was awake gone up down = elim (same_or was.high side.high) [
+under_of p cutoff r j (negsuc n) side was queued gone up down = elim (same_or was.high side.high) [
   | inl same ↦ inl (sym same)
-  | inr ne ↦ elim (none_or (look_for p cutoff r).high) [
+  | inr ne ↦ elim (none_or (sides_for p cutoff r).high) [
     | inl none ↦ inr none
     | inr some ↦ absurd (gone Down (down ne) (has_high p cutoff r some))
   ]
 ]
 
-over_of : (p : Instance) (cutoff : Option ℤ) (r j : ℕ) (f : ℤ) (side was : Interval) (awake : List ℕ)
-    → ((inward : Inward) → AreUp p j inward awake → Loses inward p.rows r f → ⊥) → (was.low ≢ side.low → AreUp p j Up awake)
-    → (was.high ≢ side.high → AreUp p j Down awake)
-    → (end_of Greatest f side ≡ end_of Greatest f was) ⊎ ((look_for p cutoff r).low ≡ None)
-over_of p cutoff r j (pos n) side was awake gone up down = elim (same_or was.high side.high) [
+over_of : (p : Instance) (cutoff : Option ℤ) (r j : ℕ) (f : ℤ) (side was : Interval) (queued : List ℕ)
+    → ((inward : Inward) → AreUp p j inward queued → IsLock inward p.rows r f → ⊥) → (was.low ≢ side.low → AreUp p j Up queued)
+    → (was.high ≢ side.high → AreUp p j Down queued)
+    → (end_of Greatest f side ≡ end_of Greatest f was) ⊎ ((sides_for p cutoff r).low ≡ None)
+over_of p cutoff r j (pos n) side was queued gone up down = elim (same_or was.high side.high) [
   | inl same ↦ inl (sym same)
-  | inr ne ↦ elim (none_or (look_for p cutoff r).low) [
+  | inr ne ↦ elim (none_or (sides_for p cutoff r).low) [
     | inl none ↦ inr none
     | inr some ↦ absurd (gone Down (down ne) (has_low p cutoff r some))
   ]
 ]
-over_of p cutoff r j (negsuc n) side was awake gone up down = elim (same_or was.low side.low) [
+over_of p cutoff r j (negsuc n) side was queued gone up down = elim (same_or was.low side.low) [
   | inl same ↦ inl (sym same)
-  | inr ne ↦ elim (none_or (look_for p cutoff r).low) [
+  | inr ne ↦ elim (none_or (sides_for p cutoff r).low) [
     | inl none ↦ inr none
     | inr some ↦ absurd (gone Up (up ne) (has_low p cutoff r some))
   ]
 ]
 
-resting_change : (p : Instance) (j : ℕ) (side : Interval) (old new : WorkState) → j < length old.sums.area
+at_fixpoint_change : (p : Instance) (j : ℕ) (side : Interval) (old new : WorkState) → j < length old.sums.area
     → IsClosedWithin side (interval_at old.sums.area j) → length old.sums.area ≡ length p.columns → HasChanged p j side old new
-    → (cutoff : Option ℤ) → AreResting p cutoff old.sums.area old.awake → AreResting p cutoff new.sums.area new.awake
-resting_change p j side old new within closed wide h cutoff resting r there asleep =
+    → (cutoff : Option ℤ) → AreAtFixpoint p cutoff old.sums.area old.queued → AreAtFixpoint p cutoff new.sums.area new.queued
+at_fixpoint_change p j side old new within closed wide h cutoff at_fixpoint r there unqueued =
     let area : List Interval = old.sums.area in
     let was : Interval = interval_at area j in
     let ts : List Term = terms_of p r in
-    let look : Look = look_for p cutoff r in
-    let linear : IsLinear (length p.columns) ts = linear_terms p r h.woke.problem there in
-    let before : IsAtRest look ts area = resting r there (h.woke.asleep r asleep) in
-    subst (λ (a : List Interval). IsAtRest look ts a) (sym h.area) (elim (column_or ts j (length ts)) [
-      | inr none ↦ rest_other look ts area j side none before
+    let row_sides : RowSides = sides_for p cutoff r in
+    let linear : IsLinear (length p.columns) ts = linear_terms p r h.enqueued.problem there in
+    let before : IsAtFixpoint row_sides ts area = at_fixpoint r there (h.enqueued.unqueued r unqueued) in
+    subst (λ (a : List Interval). IsAtFixpoint row_sides ts a) (sym h.area) (elim (column_or ts j (length ts)) [
+      | inr none ↦ rest_other row_sides ts area j side none before
       | inl at ↦
           let k : ℕ = at.0 in
           let t : Term = term_at ts k in
-          let gone : (inward : Inward) → AreUp p j inward new.awake → Loses inward p.rows r t.factor → ⊥ =
-          λ inward u loses. (let l = listed p j r k inward u.list linear u.is at.1 at.2 loses in u.up r l.0 asleep l.1 l.2) in
-          let under : (end_of Least t.factor side ≡ end_of Least t.factor was) ⊎ (look.high ≡ None) =
-          under_of p cutoff r j t.factor side was new.awake gone h.woke.up h.woke.down in
-          let over : (end_of Greatest t.factor side ≡ end_of Greatest t.factor was) ⊎ (look.low ≡ None) =
-          over_of p cutoff r j t.factor side was new.awake gone h.woke.up h.woke.down in
+          let gone : (inward : Inward) → AreUp p j inward new.queued → IsLock inward p.rows r t.factor → ⊥ =
+          λ inward u is_lock. (let l = listed p j r k inward u.list linear u.is at.1 at.2 is_lock in u.up r l.0 unqueued l.1 l.2) in
+          let under : (end_of Least t.factor side ≡ end_of Least t.factor was) ⊎ (row_sides.high ≡ None) =
+          under_of p cutoff r j t.factor side was new.queued gone h.enqueued.up h.enqueued.down in
+          let over : (end_of Greatest t.factor side ≡ end_of Greatest t.factor was) ⊎ (row_sides.low ≡ None) =
+          over_of p cutoff r j t.factor side was new.queued gone h.enqueued.up h.enqueued.down in
           let P : ℕ → Type 0 = λ (c : ℕ). c < length area → IsClosedWithin side (interval_at area c)
           → HasSmallEnds side
-          → (end_of Least t.factor side ≡ end_of Least t.factor (interval_at area c)) ⊎ (look.high ≡ None)
-          → (end_of Greatest t.factor side ≡ end_of Greatest t.factor (interval_at area c)) ⊎ (look.low ≡ None)
-          → IsAtRest look ts (set area c side) in
-          let kept : P t.column = λ a b c d e. rest_kept (length p.columns) look ts t area side linear (among_at ts k at.1) a b c before d e in
+          → (end_of Least t.factor side ≡ end_of Least t.factor (interval_at area c)) ⊎ (row_sides.high ≡ None)
+          → (end_of Greatest t.factor side ≡ end_of Greatest t.factor (interval_at area c)) ⊎ (row_sides.low ≡ None)
+          → IsAtFixpoint row_sides ts (set area c side) in
+          let kept : P t.column = λ a b c d e. rest_kept (length p.columns) row_sides ts t area side linear (among_at ts k at.1) a b c before d e in
           let ends : HasSmallEnds side =
           small_inner side was (subst (λ (c : ℕ). HasSmallEnds (interval_at area c)) at.2 (before.is.small k at.1)) closed in
           (subst P at.2 kept) within closed ends under over
@@ -162,16 +162,16 @@ resting_change p j side old new within closed wide h cutoff resting r there asle
 pub step_change : (p : Instance) (j : ℕ) (side : Interval) (old new : WorkState) → IsBox p old → j < length p.columns
     → IsClosedWithin side (interval_at old.sums.area j) → HasChanged p j side old new → IsStep p old new
 step_change p j side old new box there closed h =
-    let P : List Interval → Type 0 = λ (a : List Interval). AreReached p a old.reach in
-    let Q : List ℤ → Type 0 = λ (r : List ℤ). AreReached p new.sums.area r in
+    let P : List Interval → Type 0 = λ (a : List Interval). AreMaxSpans p a old.max_span in
+    let Q : List ℤ → Type 0 = λ (r : List ℤ). AreMaxSpans p new.sums.area r in
     let within : j < length old.sums.area = omega (arith, there, box.sums.width) in
     record {
       box = record {
         sums = h.sums;
-        reach = subst Q (sym h.reach)
-            (subst P (sym h.area) (reach_cut p old.sums.area old.reach j side within closed box.reach));
-        bits = bits_woken p old.awake new.awake h.woke.width box.bits;
+        max_span = subst Q (sym h.max_span)
+            (subst P (sym h.area) (max_span_cut p old.sums.area old.max_span j side within closed box.max_span));
+        bits = bits_enqueued p old.queued new.queued h.enqueued.width box.bits;
       };
       later = later_change p j side old new within h;
-      resting = resting_change p j side old new within closed box.sums.width h;
+      at_fixpoint = at_fixpoint_change p j side old new within closed box.sums.width h;
     }

@@ -22,7 +22,7 @@ use Rattle.ug_propagate.specs.declared.tight.Tight.TheVariants.{Kept, Empty}
 use Rattle.ug_propagate.specs.declared.tight.Reason.{Reason}
 use Rattle.ug_propagate.specs.Rounds.{are_fixed, are_crossed, cutoff_row, over_rows, over_objective, round, row_step}
 use Rattle.ug_propagate.proofs.Parts.{IsPart}
-use Rattle.ug_propagate.proofs.Looks.{IsLookOf, IsUsable, Passes, IsPassed, row_look, row_passes}
+use Rattle.ug_propagate.proofs.Looks.{IsPropagationOf, IsUsable, Passes, IsPassed, row_propagation, row_passes}
 use Rattle.ug_propagate.proofs.Sweeps.{AreRowsFrom, all_rows_from, usable_named, usable_objective}
 
 and_left : (a b : Bool) → T (a && b) → T a
@@ -118,9 +118,9 @@ abbrev pub IsSame : List Interval → Tight → Type 0
 IsSame area (Kept left) = left ≡ area
 IsSame area (Empty reason) = Unit {0}
 
-look_same : (name : Option ℕ) (row : Row) (area : List Interval) (o : Tight) → IsFixed area → IsLookOf name row area o → IsSame area o
-look_same name row area (Kept left) fixed h = part_of_fixed left area h.part fixed
-look_same name row area (Empty reason) fixed h = tt
+propagate_same : (name : Option ℕ) (row : Row) (area : List Interval) (o : Tight) → IsFixed area → IsPropagationOf name row area o → IsSame area o
+propagate_same name row area (Kept left) fixed h = part_of_fixed left area h.part fixed
+propagate_same name row area (Empty reason) fixed h = tt
 
 pub empty_rows : (r : ℕ) (rest : List NamedRow) (reason : Reason) → over_rows r rest (Empty reason) ≡ Empty reason
 empty_rows r [] reason = refl
@@ -151,9 +151,9 @@ rows_pass p r (named ∷ rest) area left (Kept mid) problem wide from fixed same
     let e' : over_rows (r + 1) rest o ≡ Kept left = subst Q same e in
     let usable : IsUsable (length area) named.row.terms =
     subst P (sym wide) (usable_named p r named.row problem from.0 from.1) in
-    let look : IsLookOf (Some r) named.row area o = row_look (Some r) named.row area (fixed_nonempty area fixed) usable in
+    let row_sides : IsPropagationOf (Some r) named.row area o = row_propagation (Some r) named.row area (fixed_nonempty area fixed) usable in
     let later : AllPass rest area × (left ≡ area) =
-    rows_pass p (r + 1) rest area left o problem wide from.2 fixed (look_same (Some r) named.row area o fixed look) e' in
+    rows_pass p (r + 1) rest area left o problem wide from.2 fixed (propagate_same (Some r) named.row area o fixed row_sides) e' in
     ((passed_kept named.row area left o (r + 1) rest (row_passes (Some r) named.row area) e', later.0), later.1)
 
 -- the least of the objective is below the cutoff
@@ -183,9 +183,9 @@ objective_passes p (Some c) area left problem wide fixed e =
     let row : Row = cutoff_row p.objective c in
     let P : ℕ → Type 0 = λ (w : ℕ). IsUsable w p.objective.terms in
     let o : Tight = row_step None row area in
-    let look : IsLookOf None row area o =
-    row_look None row area (fixed_nonempty area fixed) (subst P (sym wide) (usable_objective p problem)) in
-    (kept_passed row area left o e (row_passes None row area), kept_same area left o e (look_same None row area o fixed look))
+    let row_sides : IsPropagationOf None row area o =
+    row_propagation None row area (fixed_nonempty area fixed) (subst P (sym wide) (usable_objective p problem)) in
+    (kept_passed row area left o e (row_passes None row area), kept_same area left o e (propagate_same None row area o fixed row_sides))
 
 -- a round that leaves a box of one point: each row and the objective pass there, and the box is as
 -- it was

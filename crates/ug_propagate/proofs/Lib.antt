@@ -7,7 +7,7 @@ pub mod Fixed
 pub mod Answers
 pub mod Bodies
 pub mod Still
-pub mod Rooms
+pub mod Slacks
 pub mod Running
 pub mod Measures
 pub mod Machine
@@ -15,7 +15,7 @@ pub mod Words
 pub mod Bits
 pub mod Stepping
 pub mod Fresh
-pub mod Woken
+pub mod Enqueued
 pub mod Cutoffs
 pub mod Waiting
 pub mod Objectives

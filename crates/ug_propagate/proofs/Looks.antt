@@ -63,9 +63,9 @@ pub record IsMissedIn (name : Option ℕ) (row : Row) (area : List Interval) (re
   pub missed : IsMissed reason.side row inner
 
 -- such a part of the box is left, or the row shows that nothing is
-abbrev pub IsLookOf : Option ℕ → Row → List Interval → Tight → Type 0
-IsLookOf name row area (Kept left) = IsPartFor row left area
-IsLookOf name row area (Empty reason) = IsMissedIn name row area reason
+abbrev pub IsPropagationOf : Option ℕ → Row → List Interval → Tight → Type 0
+IsPropagationOf name row area (Kept left) = IsPartFor row left area
+IsPropagationOf name row area (Empty reason) = IsMissedIn name row area reason
 
 missed_for : (name : Option ℕ) (row : Row) (inner area : List Interval) (side : Side) (reason : Reason)
     → reason ≡ reason_of name side → IsPartFor row inner area → IsMissed side row inner → IsMissedIn name row area reason
@@ -73,14 +73,14 @@ missed_for name row inner area side reason same part missed =
     subst (IsMissedIn name row area) (sym same)
     (record { named = refl; inner = inner; part = part; missed = missed })
 
-cut_look : (name : Option ℕ) (row : Row) (inner area : List Interval) (side : Side) (o : Tight)
+cut_propagation : (name : Option ℕ) (row : Row) (inner area : List Interval) (side : Side) (o : Tight)
     → IsPartFor row inner area → IsCut inner (reason_of name side) (IsMissed side row inner) o
-    → ((x : List ℤ) → Keeps row x → IsInside inner x → Holds o x) → IsLookOf name row area o
-cut_look name row inner area side (Kept left) part h holds = record {
+    → ((x : List ℤ) → Keeps row x → IsInside inner x → Holds o x) → IsPropagationOf name row area o
+cut_propagation name row inner area side (Kept left) part h holds = record {
   part = part_trans left inner area h part.part;
   kept = λ x keeps i. holds x keeps (part.kept x keeps i);
 }
-cut_look name row inner area side (Empty told) part h holds = missed_for name row inner area side told h.0 part h.1
+cut_propagation name row inner area side (Empty told) part h holds = missed_for name row inner area side told h.0 part h.1
 
 -- the terms are over the columns of a part as well
 there_in : (row : Row) (left area : List Interval) → IsUsable (length area) row.terms → IsPartFor row left area
@@ -89,34 +89,34 @@ there_in row left area usable h =
     let P : ℕ → Type 0 = λ (w : ℕ). AreThere w row.terms in
     subst P (sym h.part.width) usable.there
 
-then_low_look : (name : Option ℕ) (row : Row) (t : Term) (area : List Interval) (o : Tight)
+then_low_propagate : (name : Option ℕ) (row : Row) (t : Term) (area : List Interval) (o : Tight)
     → IsUsable (length area) row.terms → IsAmong t row.terms → t.column < length area → t.factor ≢ pos 0
-    → IsLookOf name row area o → IsLookOf name row area (then_low name row t o)
-then_low_look name row t area (Empty reason) usable among there ne h = h
-then_low_look name row t area (Kept left) usable among there ne h =
+    → IsPropagationOf name row area o → IsPropagationOf name row area (then_low name row t o)
+then_low_propagate name row t area (Empty reason) usable among there ne h = h
+then_low_propagate name row t area (Kept left) usable among there ne h =
     let within : t.column < length left = omega (arith, h.part.width) in
-    cut_look name row left area Low (over_low name row.terms row.low t left) h
+    cut_propagation name row left area Low (over_low name row.terms row.low t left) h
     (low_cuts name row.terms row.low t left (part_nonempty left area h.part) within ne)
     (λ x keeps i. low_holds name row.terms row.low t left x i (there_in row left area usable h) among within ne keeps.low)
 
-term_look : (name : Option ℕ) (row : Row) (t : Term) (area : List Interval) (o : Tight)
+term_propagation : (name : Option ℕ) (row : Row) (t : Term) (area : List Interval) (o : Tight)
     → IsUsable (length area) row.terms → IsAmong t row.terms → t.column < length area → t.factor ≢ pos 0
-    → IsLookOf name row area o → IsLookOf name row area (term_step name row t o)
-term_look name row t area (Empty reason) usable among there ne h = h
-term_look name row t area (Kept left) usable among there ne h =
+    → IsPropagationOf name row area o → IsPropagationOf name row area (term_step name row t o)
+term_propagation name row t area (Empty reason) usable among there ne h = h
+term_propagation name row t area (Kept left) usable among there ne h =
     let within : t.column < length left = omega (arith, h.part.width) in
-    then_low_look name row t area (under_high name row.terms row.high t left) usable among there ne
-    (cut_look name row left area High (under_high name row.terms row.high t left) h
+    then_low_propagate name row t area (under_high name row.terms row.high t left) usable among there ne
+    (cut_propagation name row left area High (under_high name row.terms row.high t left) h
     (high_cuts name row.terms row.high t left (part_nonempty left area h.part) within ne)
     (λ x keeps i. high_holds name row.terms row.high t left x i (there_in row left area usable h) among within ne keeps.high))
 
-terms_look : (name : Option ℕ) (row : Row) (rest : List Term) (area : List Interval) (o : Tight)
-    → IsUsable (length area) row.terms → AreOf (length area) row.terms rest → IsLookOf name row area o
-    → IsLookOf name row area (over_terms name row rest o)
-terms_look name row [] area o usable of h = h
-terms_look name row (t ∷ rest) area o usable of h =
-    terms_look name row rest area (term_step name row t o) usable of.3
-    (term_look name row t area o usable of.0 of.1 of.2 h)
+terms_propagation : (name : Option ℕ) (row : Row) (rest : List Term) (area : List Interval) (o : Tight)
+    → IsUsable (length area) row.terms → AreOf (length area) row.terms rest → IsPropagationOf name row area o
+    → IsPropagationOf name row area (over_terms name row rest o)
+terms_propagation name row [] area o usable of h = h
+terms_propagation name row (t ∷ rest) area o usable of h =
+    terms_propagation name row rest area (term_step name row t o) usable of.3
+    (term_propagation name row t area o usable of.0 of.1 of.2 h)
 
 -- the box itself is such a part
 whole_part : (row : Row) (area : List Interval) → IsNonEmpty area → IsPartFor row area area
@@ -135,15 +135,15 @@ pub if_falls_short : {A : Type 0} (P : A → Type 0) (low : Option ℤ) (sum : �
 if_falls_short P None sum x y f g = g tt
 if_falls_short P (Some low) sum x y f g = if_lt P sum low x y f g
 
-pub row_look : (name : Option ℕ) (row : Row) (area : List Interval) → IsNonEmpty area → IsUsable (length area) row.terms
-    → IsLookOf name row area (row_step name row area)
-row_look name row area n usable =
-    let P : Tight → Type 0 = IsLookOf name row area in
+pub row_propagation : (name : Option ℕ) (row : Row) (area : List Interval) → IsNonEmpty area → IsUsable (length area) row.terms
+    → IsPropagationOf name row area (row_step name row area)
+row_propagation name row area n usable =
+    let P : Tight → Type 0 = IsPropagationOf name row area in
     if_exceeds P row.high (least_sum row.terms area) _ _
     (λ missed. missed_for name row area area High (reason_of name High) refl (whole_part row area n) missed)
     (λ within. if_falls_short P row.low (greatest_sum row.terms area) _ _
     (λ missed. missed_for name row area area Low (reason_of name Low) refl (whole_part row area n) missed)
-    (λ both. terms_look name row row.terms area (Kept area) usable usable.each (whole_part row area n)))
+    (λ both. terms_propagation name row row.terms area (Kept area) usable usable.each (whole_part row area n)))
 
 not_exceeded : (high : Option ℤ) (least sum : ℤ) → least ≤ℤ sum → MatchOption high ⊥ (λ h. h <ℤ least) → IfSome high (λ h. sum ≤ℤ h) → ⊥
 not_exceeded None least sum h k m = k

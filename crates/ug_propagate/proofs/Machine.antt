@@ -10,8 +10,8 @@ use Rattle.ug_rows.proofs.Products.{abs_add, abs_sub}
 pub wider : (v : ℤ) → unsigned_abs v ≤ 10 ^ 24 * 2 ^ 31 → unsigned_abs v ≤ 10 ^ 24 * 2 ^ 32
 wider v h = omega arith
 
-pub room_same : (v : ℤ) → unsigned_abs v ≤ 9 * 10 ^ 37 → to_z w128 (of_z w128 v) ≡ v
-room_same v h = to_z-of_z w128 v (fits_signed_from_abs w128 v (omega arith))
+pub slack_same : (v : ℤ) → unsigned_abs v ≤ 9 * 10 ^ 37 → to_z w128 (of_z w128 v) ≡ v
+slack_same v h = to_z-of_z w128 v (fits_signed_from_abs w128 v (omega arith))
 
 span_same : (v : ℤ) → unsigned_abs v ≤ 10 ^ 24 * 2 ^ 32 → to_z w128 (of_z w128 v) ≡ v
 span_same v h = to_z-of_z w128 v (fits_signed_from_abs w128 v (omega arith))
@@ -19,28 +19,28 @@ span_same v h = to_z-of_z w128 v (fits_signed_from_abs w128 v (omega arith))
 both_same : (v : ℤ) → unsigned_abs v ≤ 9 * 10 ^ 37 + 10 ^ 24 * 2 ^ 32 → to_z w128 (of_z w128 v) ≡ v
 both_same v h = to_z-of_z w128 v (fits_signed_from_abs w128 v (omega arith))
 
--- a room and a span
-pub room_plus : (p a b c : ℤ) → unsigned_abs a ≤ 9 * 10 ^ 37 → unsigned_abs b ≤ 10 ^ 24 * 2 ^ 32
+-- a slack and a span
+pub slack_plus : (p a b c : ℤ) → unsigned_abs a ≤ 9 * 10 ^ 37 → unsigned_abs b ≤ 10 ^ 24 * 2 ^ 32
     → p ≡ to_z w128 (of_z w128 a) +ℤ to_z w128 (of_z w128 b) → b ≡ c → to_z w128 (of_z w128 p) ≡ a +ℤ c
-room_plus p a b c room span e same =
-    let p_is : p ≡ a +ℤ b = e ∙ ap (λ (v : ℤ). v +ℤ to_z w128 (of_z w128 b)) (room_same a room) ∙ ap (λ (v : ℤ). a +ℤ v) (span_same b span) in
-    let small : unsigned_abs p ≤ 9 * 10 ^ 37 + 10 ^ 24 * 2 ^ 32 = rw p_is (omega (arith, room, span, abs_add a b)) in
+slack_plus p a b c slack span e same =
+    let p_is : p ≡ a +ℤ b = e ∙ ap (λ (v : ℤ). v +ℤ to_z w128 (of_z w128 b)) (slack_same a slack) ∙ ap (λ (v : ℤ). a +ℤ v) (span_same b span) in
+    let small : unsigned_abs p ≤ 9 * 10 ^ 37 + 10 ^ 24 * 2 ^ 32 = rw p_is (omega (arith, slack, span, abs_add a b)) in
     both_same p small ∙ p_is ∙ ap (λ (v : ℤ). a +ℤ v) same
 
--- a room less a span
-pub room_minus : (p a b c : ℤ) → unsigned_abs a ≤ 9 * 10 ^ 37 → unsigned_abs b ≤ 10 ^ 24 * 2 ^ 32
+-- a slack less a span
+pub slack_minus : (p a b c : ℤ) → unsigned_abs a ≤ 9 * 10 ^ 37 → unsigned_abs b ≤ 10 ^ 24 * 2 ^ 32
     → p ≡ to_z w128 (of_z w128 a) -ℤ to_z w128 (of_z w128 b) → b ≡ c → to_z w128 (of_z w128 p) ≡ a -ℤ c
-room_minus p a b c room span e same =
-    let p_is : p ≡ a -ℤ b = e ∙ ap (λ (v : ℤ). v -ℤ to_z w128 (of_z w128 b)) (room_same a room) ∙ ap (λ (v : ℤ). a -ℤ v) (span_same b span) in
-    let small : unsigned_abs p ≤ 9 * 10 ^ 37 + 10 ^ 24 * 2 ^ 32 = rw p_is (omega (arith, room, span, abs_sub a b)) in
+slack_minus p a b c slack span e same =
+    let p_is : p ≡ a -ℤ b = e ∙ ap (λ (v : ℤ). v -ℤ to_z w128 (of_z w128 b)) (slack_same a slack) ∙ ap (λ (v : ℤ). a -ℤ v) (span_same b span) in
+    let small : unsigned_abs p ≤ 9 * 10 ^ 37 + 10 ^ 24 * 2 ^ 32 = rw p_is (omega (arith, slack, span, abs_sub a b)) in
     both_same p small ∙ p_is ∙ ap (λ (v : ℤ). a -ℤ v) same
 
--- a span less a room
+-- a span less a slack
 pub span_minus : (p a b c : ℤ) → unsigned_abs a ≤ 10 ^ 24 * 2 ^ 32 → unsigned_abs b ≤ 9 * 10 ^ 37
     → p ≡ to_z w128 (of_z w128 a) -ℤ to_z w128 (of_z w128 b) → a ≡ c → to_z w128 (of_z w128 p) ≡ c -ℤ b
-span_minus p a b c span room e same =
-    let p_is : p ≡ a -ℤ b = e ∙ ap (λ (v : ℤ). v -ℤ to_z w128 (of_z w128 b)) (span_same a span) ∙ ap (λ (v : ℤ). a -ℤ v) (room_same b room) in
-    let small : unsigned_abs p ≤ 9 * 10 ^ 37 + 10 ^ 24 * 2 ^ 32 = rw p_is (omega (arith, room, span, abs_sub a b)) in
+span_minus p a b c span slack e same =
+    let p_is : p ≡ a -ℤ b = e ∙ ap (λ (v : ℤ). v -ℤ to_z w128 (of_z w128 b)) (span_same a span) ∙ ap (λ (v : ℤ). a -ℤ v) (slack_same b slack) in
+    let small : unsigned_abs p ≤ 9 * 10 ^ 37 + 10 ^ 24 * 2 ^ 32 = rw p_is (omega (arith, slack, span, abs_sub a b)) in
     both_same p small ∙ p_is ∙ ap (λ (v : ℤ). v -ℤ b) same
 
 nothing_times : (f : ℤ) → pos 0 *ℤ f ≡ pos 0

@@ -41,31 +41,31 @@ stepped_up low s n e = ap (λ (v : ℤ). low +ℤ v) (sym e)
 stepped_down : (high s : ℤ) (n : ℕ) → pos n ≡ s → high -ℤ s ≡ high -ℤ pos n
 stepped_down high s n e = ap (λ (v : ℤ). high -ℤ v) (sym e)
 
--- this many steps from the end of the least product leave what the room leaves above it
-pub near_least : (reason : Reason) (f room : ℤ) (j n : ℕ) (area : List Interval) → f ≢ pos 0
-    → AreSteps room (unsigned_abs f) (interval_at area j) n
+-- this many steps from the end of the least product leave what the slack leaves above it
+pub near_least : (reason : Reason) (f slack : ℤ) (j n : ℕ) (area : List Interval) → f ≢ pos 0
+    → AreSteps slack (unsigned_abs f) (interval_at area j) n
     → Kept (set area j (near_end Least f (interval_at area j) n))
-    ≡ keep_at_most reason f j (room +ℤ (f *ℤ end_of Least f (interval_at area j))) area
-near_least reason (pos zero) room j n area ne h = absurd (ne refl)
-near_least reason (pos (suc d)) room j n area ne h =
+    ≡ keep_at_most reason f j (slack +ℤ (f *ℤ end_of Least f (interval_at area j))) area
+near_least reason (pos zero) slack j n area ne h = absurd (ne refl)
+near_least reason (pos (suc d)) slack j n area ne h =
     let low : ℤ = (interval_at area j).low in
-    sym (lowered_to reason j n area _ (up_to_high room low (suc d) (omega arith) ∙ stepped_up low _ n h.quotient) h.few)
-near_least reason (negsuc d) room j n area ne h =
+    sym (lowered_to reason j n area _ (up_to_high slack low (suc d) (omega arith) ∙ stepped_up low _ n h.quotient) h.few)
+near_least reason (negsuc d) slack j n area ne h =
     let high : ℤ = (interval_at area j).high in
-    sym (raised_to reason j n area _ (down_to_high room high d ∙ stepped_down high _ n h.quotient) h.few)
+    sym (raised_to reason j n area _ (down_to_high slack high d ∙ stepped_down high _ n h.quotient) h.few)
 
 -- and from that of the greatest what it leaves below
-pub near_greatest : (reason : Reason) (f room : ℤ) (j n : ℕ) (area : List Interval) → f ≢ pos 0
-    → AreSteps room (unsigned_abs f) (interval_at area j) n
+pub near_greatest : (reason : Reason) (f slack : ℤ) (j n : ℕ) (area : List Interval) → f ≢ pos 0
+    → AreSteps slack (unsigned_abs f) (interval_at area j) n
     → Kept (set area j (near_end Greatest f (interval_at area j) n))
-    ≡ keep_at_least reason f j ((f *ℤ end_of Greatest f (interval_at area j)) -ℤ room) area
-near_greatest reason (pos zero) room j n area ne h = absurd (ne refl)
-near_greatest reason (pos (suc d)) room j n area ne h =
+    ≡ keep_at_least reason f j ((f *ℤ end_of Greatest f (interval_at area j)) -ℤ slack) area
+near_greatest reason (pos zero) slack j n area ne h = absurd (ne refl)
+near_greatest reason (pos (suc d)) slack j n area ne h =
     let high : ℤ = (interval_at area j).high in
-    sym (raised_to reason j n area _ (down_to_low room high (suc d) (omega arith) ∙ stepped_down high _ n h.quotient) h.few)
-near_greatest reason (negsuc d) room j n area ne h =
+    sym (raised_to reason j n area _ (down_to_low slack high (suc d) (omega arith) ∙ stepped_down high _ n h.quotient) h.few)
+near_greatest reason (negsuc d) slack j n area ne h =
     let low : ℤ = (interval_at area j).low in
-    sym (lowered_to reason j n area _ (up_to_low room low d ∙ stepped_up low _ n h.quotient) h.few)
+    sym (lowered_to reason j n area _ (up_to_low slack low d ∙ stepped_up low _ n h.quotient) h.few)
 
 -- it is within the interval, and has a value
 pub near_within : (e : Extreme) (f : ℤ) (side : Interval) (n : ℕ) → pos n <ℤ (side.high -ℤ side.low)
@@ -76,27 +76,27 @@ near_within Greatest (pos d) side n few = record { low = omega (arith, ints); hi
 near_within Greatest (negsuc d) side n few = record { low = omega (arith, ints); high = omega (arith, ints); some = omega (arith, ints) }
 
 -- the steps and the interval, where numbers that went through words of the machine are the same
-steps_named : (f g room r : ℤ) (size n : ℕ) (side : Interval) → g ≡ f → r ≡ room → size ≡ unsigned_abs g → AreSteps r size side n
-    → AreSteps room (unsigned_abs f) side n
-steps_named f g room r size n side same kept sized h = record {
+steps_named : (f g slack r : ℤ) (size n : ℕ) (side : Interval) → g ≡ f → r ≡ slack → size ≡ unsigned_abs g → AreSteps r size side n
+    → AreSteps slack (unsigned_abs f) side n
+steps_named f g slack r size n side same kept sized h = record {
   quotient = h.quotient ∙ ap (λ (v : ℤ). int_div_euclid v (pos size)) kept
-      ∙ ap (λ (v : ℕ). int_div_euclid room (pos v)) (sized ∙ ap unsigned_abs same);
+      ∙ ap (λ (v : ℕ). int_div_euclid slack (pos v)) (sized ∙ ap unsigned_abs same);
   few = h.few;
 }
 
-pub least_taken : (reason : Reason) (f g room r : ℤ) (size j n : ℕ) (area : List Interval) (side : Interval) → f ≢ pos 0 → g ≡ f
-    → r ≡ room → size ≡ unsigned_abs g → AreSteps r size (interval_at area j) n → side ≡ near_end Least g (interval_at area j) n
-    → Kept (set area j side) ≡ keep_at_most reason f j (room +ℤ (f *ℤ end_of Least f (interval_at area j))) area
-least_taken reason f g room r size j n area side ne same kept sized h e =
+pub least_taken : (reason : Reason) (f g slack r : ℤ) (size j n : ℕ) (area : List Interval) (side : Interval) → f ≢ pos 0 → g ≡ f
+    → r ≡ slack → size ≡ unsigned_abs g → AreSteps r size (interval_at area j) n → side ≡ near_end Least g (interval_at area j) n
+    → Kept (set area j side) ≡ keep_at_most reason f j (slack +ℤ (f *ℤ end_of Least f (interval_at area j))) area
+least_taken reason f g slack r size j n area side ne same kept sized h e =
     ap (λ (s : Interval). Kept (set area j s)) (e ∙ ap (λ (v : ℤ). near_end Least v (interval_at area j) n) same)
-    ∙ near_least reason f room j n area ne (steps_named f g room r size n (interval_at area j) same kept sized h)
+    ∙ near_least reason f slack j n area ne (steps_named f g slack r size n (interval_at area j) same kept sized h)
 
-pub greatest_taken : (reason : Reason) (f g room r : ℤ) (size j n : ℕ) (area : List Interval) (side : Interval) → f ≢ pos 0 → g ≡ f
-    → r ≡ room → size ≡ unsigned_abs g → AreSteps r size (interval_at area j) n → side ≡ near_end Greatest g (interval_at area j) n
-    → Kept (set area j side) ≡ keep_at_least reason f j ((f *ℤ end_of Greatest f (interval_at area j)) -ℤ room) area
-greatest_taken reason f g room r size j n area side ne same kept sized h e =
+pub greatest_taken : (reason : Reason) (f g slack r : ℤ) (size j n : ℕ) (area : List Interval) (side : Interval) → f ≢ pos 0 → g ≡ f
+    → r ≡ slack → size ≡ unsigned_abs g → AreSteps r size (interval_at area j) n → side ≡ near_end Greatest g (interval_at area j) n
+    → Kept (set area j side) ≡ keep_at_least reason f j ((f *ℤ end_of Greatest f (interval_at area j)) -ℤ slack) area
+greatest_taken reason f g slack r size j n area side ne same kept sized h e =
     ap (λ (s : Interval). Kept (set area j s)) (e ∙ ap (λ (v : ℤ). near_end Greatest v (interval_at area j) n) same)
-    ∙ near_greatest reason f room j n area ne (steps_named f g room r size n (interval_at area j) same kept sized h)
+    ∙ near_greatest reason f slack j n area ne (steps_named f g slack r size n (interval_at area j) same kept sized h)
 
 pub closed_near : (e : Extreme) (f : ℤ) (side near : Interval) (n : ℕ) → pos n <ℤ (side.high -ℤ side.low) → near ≡ near_end e f side n
     → IsClosedWithin near side

@@ -131,21 +131,21 @@ quotient_is n d x some within above =
     omega (arith, ints, least, most)
 
 -- whole divisors more are as much more of the quotient
-pub quotient_more : (room low : ℤ) (d : ℕ) → 0 < d
-    → floor_quotient (room +ℤ (pos d *ℤ low)) (pos d) ≡ low +ℤ floor_quotient room (pos d)
-quotient_more room low d some =
-    let s : ℤ = floor_quotient room (pos d) in
+pub quotient_more : (slack low : ℤ) (d : ℕ) → 0 < d
+    → floor_quotient (slack +ℤ (pos d *ℤ low)) (pos d) ≡ low +ℤ floor_quotient slack (pos d)
+quotient_more slack low d some =
+    let s : ℤ = floor_quotient slack (pos d) in
     let e : pos d *ℤ (low +ℤ s) ≡ (pos d *ℤ low) +ℤ (pos d *ℤ s) = times_sum (pos d) low s in
-    quotient_is (room +ℤ (pos d *ℤ low)) d (low +ℤ s) some
-    (omega (arith, ints, e, floor_within room d some)) (omega (arith, ints, e, floor_above room d some))
+    quotient_is (slack +ℤ (pos d *ℤ low)) d (low +ℤ s) some
+    (omega (arith, ints, e, floor_within slack d some)) (omega (arith, ints, e, floor_above slack d some))
 
 turned_product : (d : ℕ) (x : ℤ) → negsuc d *ℤ x ≡ pos (suc d) *ℤ neg_ℤ x
 turned_product d (pos zero) = omega (arith, ints)
 turned_product d (pos (suc x)) = omega (arith, ints)
 turned_product d (negsuc x) = omega (arith, ints)
 
-negated_sum : (room product : ℤ) → neg_ℤ (product -ℤ room) ≡ room +ℤ neg_ℤ product
-negated_sum room product = omega (arith, ints)
+negated_sum : (slack product : ℤ) → neg_ℤ (product -ℤ slack) ≡ slack +ℤ neg_ℤ product
+negated_sum slack product = omega (arith, ints)
 
 negated_product : (d : ℕ) (x : ℤ) → neg_ℤ (pos d *ℤ x) ≡ pos d *ℤ neg_ℤ x
 negated_product d (pos zero) = omega (arith, ints)
@@ -161,29 +161,29 @@ back_down : (high s : ℤ) → neg_ℤ (neg_ℤ high +ℤ s) ≡ high -ℤ s
 back_down high s = omega (arith, ints)
 
 -- so far a product may be above its least, and below its greatest
-pub up_to_high : (room low : ℤ) (d : ℕ) → 0 < d
-    → floor_quotient (room +ℤ (pos d *ℤ low)) (pos d) ≡ low +ℤ int_div_euclid room (pos d)
-up_to_high room low d some = quotient_more room low d some
+pub up_to_high : (slack low : ℤ) (d : ℕ) → 0 < d
+    → floor_quotient (slack +ℤ (pos d *ℤ low)) (pos d) ≡ low +ℤ int_div_euclid slack (pos d)
+up_to_high slack low d some = quotient_more slack low d some
 
-pub down_to_high : (room high : ℤ) (d : ℕ)
-    → ceiling_quotient (room +ℤ (negsuc d *ℤ high)) (negsuc d) ≡ high -ℤ int_div_euclid room (pos (suc d))
-down_to_high room high d =
-    let n : ℤ = room +ℤ (negsuc d *ℤ high) in
-    let e : n ≡ room +ℤ (pos (suc d) *ℤ neg_ℤ high) = ap (λ (v : ℤ). room +ℤ v) (turned_product d high) in
+pub down_to_high : (slack high : ℤ) (d : ℕ)
+    → ceiling_quotient (slack +ℤ (negsuc d *ℤ high)) (negsuc d) ≡ high -ℤ int_div_euclid slack (pos (suc d))
+down_to_high slack high d =
+    let n : ℤ = slack +ℤ (negsuc d *ℤ high) in
+    let e : n ≡ slack +ℤ (pos (suc d) *ℤ neg_ℤ high) = ap (λ (v : ℤ). slack +ℤ v) (turned_product d high) in
     ap (λ (v : ℤ). neg_ℤ (floor_quotient v (pos (suc d)))) (twice n ∙ e)
-    ∙ ap neg_ℤ (quotient_more room (neg_ℤ high) (suc d) (omega arith)) ∙ back_down high (floor_quotient room (pos (suc d)))
+    ∙ ap neg_ℤ (quotient_more slack (neg_ℤ high) (suc d) (omega arith)) ∙ back_down high (floor_quotient slack (pos (suc d)))
 
-pub down_to_low : (room high : ℤ) (d : ℕ) → 0 < d
-    → ceiling_quotient ((pos d *ℤ high) -ℤ room) (pos d) ≡ high -ℤ int_div_euclid room (pos d)
-down_to_low room high d some =
-    let e : neg_ℤ ((pos d *ℤ high) -ℤ room) ≡ room +ℤ (pos d *ℤ neg_ℤ high) =
-    negated_sum room (pos d *ℤ high) ∙ ap (λ (v : ℤ). room +ℤ v) (negated_product d high) in
+pub down_to_low : (slack high : ℤ) (d : ℕ) → 0 < d
+    → ceiling_quotient ((pos d *ℤ high) -ℤ slack) (pos d) ≡ high -ℤ int_div_euclid slack (pos d)
+down_to_low slack high d some =
+    let e : neg_ℤ ((pos d *ℤ high) -ℤ slack) ≡ slack +ℤ (pos d *ℤ neg_ℤ high) =
+    negated_sum slack (pos d *ℤ high) ∙ ap (λ (v : ℤ). slack +ℤ v) (negated_product d high) in
     ap (λ (v : ℤ). neg_ℤ (floor_quotient v (pos d))) e
-    ∙ ap neg_ℤ (quotient_more room (neg_ℤ high) d some) ∙ back_down high (floor_quotient room (pos d))
+    ∙ ap neg_ℤ (quotient_more slack (neg_ℤ high) d some) ∙ back_down high (floor_quotient slack (pos d))
 
-pub up_to_low : (room low : ℤ) (d : ℕ)
-    → floor_quotient ((negsuc d *ℤ low) -ℤ room) (negsuc d) ≡ low +ℤ int_div_euclid room (pos (suc d))
-up_to_low room low d =
-    let e : neg_ℤ ((negsuc d *ℤ low) -ℤ room) ≡ room +ℤ (pos (suc d) *ℤ low) =
-    negated_sum room (negsuc d *ℤ low) ∙ ap (λ (v : ℤ). room +ℤ v) (twice_turned d low) in
-    ap (λ (v : ℤ). floor_quotient v (pos (suc d))) e ∙ quotient_more room low (suc d) (omega arith)
+pub up_to_low : (slack low : ℤ) (d : ℕ)
+    → floor_quotient ((negsuc d *ℤ low) -ℤ slack) (negsuc d) ≡ low +ℤ int_div_euclid slack (pos (suc d))
+up_to_low slack low d =
+    let e : neg_ℤ ((negsuc d *ℤ low) -ℤ slack) ≡ slack +ℤ (pos (suc d) *ℤ low) =
+    negated_sum slack (negsuc d *ℤ low) ∙ ap (λ (v : ℤ). slack +ℤ v) (twice_turned d low) in
+    ap (λ (v : ℤ). floor_quotient v (pos (suc d))) e ∙ quotient_more slack low (suc d) (omega arith)

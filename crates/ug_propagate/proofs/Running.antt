@@ -12,10 +12,10 @@ use Rattle.ug_rows.specs.Rows.{IsAmong, IsLinear, term_at}
 use Rattle.ug_rows.specs.Sums.{end_of, end_product, end_sum, least_sum, greatest_sum}
 use Rattle.ug_rows.proofs.Replaced.{among_at, product_new, sum_small, sum_with, sum_without}
 use Rattle.ug_problem.specs.declared.column.NamedRow.{NamedRow}
-use Rattle.ug_problem.specs.declared.standings.Standing.{Standing}
+use Rattle.ug_problem.specs.declared.entries.ColumnEntry.{ColumnEntry}
 use Rattle.ug_problem.specs.Instances.{Instance, no_row, row_at}
 use Rattle.ug_problem.specs.Limits.{IsProblem}
-use Rattle.ug_problem.specs.Standings.{AreStandings, standing_at, term_of, terms_of, terms_of_rows}
+use Rattle.ug_problem.specs.ColumnEntries.{AreColumnEntries, entry_at, term_of, terms_of, terms_of_rows}
 use Rattle.ug_problem.proofs.Linear.{linear_row, linear_objective}
 use Rattle.ug_propagate.specs.declared.measure.Moves.{Moves}
 use Rattle.ug_propagate.specs.declared.rows.ShortExtremes.{ShortExtremes}
@@ -23,7 +23,7 @@ use Rattle.ug_propagate.specs.declared.sums.Extremes.{Extremes}
 use Rattle.ug_propagate.specs.Running.{AreFirstSums, AreMoves, AreSums, HasMoved, IsRunning, IsSummed, SumsState, extremes_at, move_of, no_extremes, no_short, short_at, widened}
 use Rattle.ug_propagate.specs.Shorts.{AreShort, IsShortRow}
 use Rattle.ug_propagate.proofs.Machine.{times_difference}
-use Rattle.ug_propagate.proofs.Rooms.{small_put}
+use Rattle.ug_propagate.proofs.Slacks.{small_put}
 use Rattle.ug_propagate.proofs.Sizes.{factor_within, short_sum}
 
 -- the terms of a row
@@ -74,39 +74,39 @@ sums_whole p area n sums wide all h = record {
 }
 
 -- among the first i standings one is of row r, or none is
-abbrev pub IsPassed : List Standing → ℕ → ℕ → Type 0
-IsPassed standings i r = (k : ℕ) × (k < i) × ((standing_at standings k).row ≡ r)
+abbrev pub IsPassed : List ColumnEntry → ℕ → ℕ → Type 0
+IsPassed entries i r = (k : ℕ) × (k < i) × ((entry_at entries k).row ≡ r)
 
-abbrev pub IsAhead : List Standing → ℕ → ℕ → Type 0
-IsAhead standings i r = (k : ℕ) → k < i → (standing_at standings k).row ≢ r
+abbrev pub IsAhead : List ColumnEntry → ℕ → ℕ → Type 0
+IsAhead entries i r = (k : ℕ) → k < i → (entry_at entries k).row ≢ r
 
 -- row r has its new sums where it was passed, and its old ones where it is ahead
-abbrev pub IsShifted : Instance → ℕ → List Interval → Interval → List Standing → ℕ → ℕ → Extremes → Type 0
-IsShifted p j area side standings i r ends =
-    (IsPassed standings i r × IsSummed (terms_of p r) (set area j side) ends)
-    ⊎ (IsAhead standings i r × IsSummed (terms_of p r) area ends)
+abbrev pub IsShifted : Instance → ℕ → List Interval → Interval → List ColumnEntry → ℕ → ℕ → Extremes → Type 0
+IsShifted p j area side entries i r ends =
+    (IsPassed entries i r × IsSummed (terms_of p r) (set area j side) ends)
+    ⊎ (IsAhead entries i r × IsSummed (terms_of p r) area ends)
 
 -- the sums on the way from a box to that in which column j has another interval
-pub record AreShifted (p : Instance) (j : ℕ) (area : List Interval) (side : Interval) (standings : List Standing) (i : ℕ)
+pub record AreShifted (p : Instance) (j : ℕ) (area : List Interval) (side : Interval) (entries : List ColumnEntry) (i : ℕ)
     (sums : List Extremes) : Type 0 where
   pub count : length sums ≡ length p.rows + 1
-  pub each : (r : ℕ) → r ≤ length p.rows → IsShifted p j area side standings i r (extremes_at sums r)
+  pub each : (r : ℕ) → r ≤ length p.rows → IsShifted p j area side entries i r (extremes_at sums r)
 
-pub shift_begins : (p : Instance) (j : ℕ) (area : List Interval) (side : Interval) (standings : List Standing) (sums : List Extremes)
-    → AreSums p area sums → AreShifted p j area side standings 0 sums
-shift_begins p j area side standings sums h = record {
+pub shift_begins : (p : Instance) (j : ℕ) (area : List Interval) (side : Interval) (entries : List ColumnEntry) (sums : List Extremes)
+    → AreSums p area sums → AreShifted p j area side entries 0 sums
+shift_begins p j area side entries sums h = record {
   count = h.count;
   each = λ r there. inr ((λ k less. absurd (omega arith)), h.each r there);
 }
 
 -- the row of the next standing is ahead
-next_is_ahead : (p : Instance) (j : ℕ) (area : List Interval) (side : Interval) (standings : List Standing) (i r : ℕ) (ends : Extremes)
-    → AreStandings p j standings → i < length standings → (standing_at standings i).row ≡ r
-    → IsShifted p j area side standings i r ends → IsSummed (terms_of p r) area ends
-next_is_ahead p j area side standings i r ends are there same (inl passed) =
-    absurd (let h : (standing_at standings passed.0.0).row < (standing_at standings i).row = are.rising passed.0.0 i passed.0.1 there in
+next_is_ahead : (p : Instance) (j : ℕ) (area : List Interval) (side : Interval) (entries : List ColumnEntry) (i r : ℕ) (ends : Extremes)
+    → AreColumnEntries p j entries → i < length entries → (entry_at entries i).row ≡ r
+    → IsShifted p j area side entries i r ends → IsSummed (terms_of p r) area ends
+next_is_ahead p j area side entries i r ends are there same (inl passed) =
+    absurd (let h : (entry_at entries passed.0.0).row < (entry_at entries i).row = are.rising passed.0.0 i passed.0.1 there in
     omega (arith, h, same, passed.0.2))
-next_is_ahead p j area side standings i r ends are there same (inr ahead) = ahead.1
+next_is_ahead p j area side entries i r ends are there same (inr ahead) = ahead.1
 
 pub linear_terms : (p : Instance) (r : ℕ) → IsProblem p → r ≤ length p.rows → IsLinear (length p.columns) (terms_of p r)
 linear_terms p r problem there = elim (cases_eq r (length p.rows)) [
@@ -114,11 +114,11 @@ linear_terms p r problem there = elim (cases_eq r (length p.rows)) [
   | inr ne ↦ subst (IsLinear (length p.columns)) (terms_inner p r (omega arith)) (linear_row p r problem (omega arith))
 ]
 
-pub record IsReady (standing : Standing) (sums : List Extremes) : Type 0 where
-  pub there : standing.row < length sums
-  pub least : unsigned_abs (extremes_at sums standing.row).least ≤ 3 * 10 ^ 37
-  pub greatest : unsigned_abs (extremes_at sums standing.row).greatest ≤ 3 * 10 ^ 37
-  pub factor : unsigned_abs standing.factor ≤ 10 ^ 24
+pub record IsReady (entry : ColumnEntry) (sums : List Extremes) : Type 0 where
+  pub there : entry.row < length sums
+  pub least : unsigned_abs (extremes_at sums entry.row).least ≤ 3 * 10 ^ 37
+  pub greatest : unsigned_abs (extremes_at sums entry.row).greatest ≤ 3 * 10 ^ 37
+  pub factor : unsigned_abs entry.factor ≤ 10 ^ 24
 
 pub among_small : (width : ℕ) (ts : List Term) (t : Term) → ((k : ℕ) → k < length ts → unsigned_abs (term_at ts k).factor ≤ 10 ^ 24)
     → IsAmong t ts → unsigned_abs t.factor ≤ 10 ^ 24
@@ -127,15 +127,15 @@ among_small width (u ∷ ts) t small (inl same) = subst (λ (v : Term). unsigned
 among_small width (u ∷ ts) t small (inr later) = among_small width ts t (λ k there. small (suc k) (omega arith)) later
 
 -- the next row may be shifted
-pub next_ready : (p : Instance) (j : ℕ) (area : List Interval) (side : Interval) (standings : List Standing) (i : ℕ) (sums : List Extremes)
-    → IsProblem p → AreStandings p j standings → i < length standings → AreShifted p j area side standings i sums
-    → IsReady (standing_at standings i) sums
-next_ready p j area side standings i sums problem are there h =
-    let r : ℕ = (standing_at standings i).row in
+pub next_ready : (p : Instance) (j : ℕ) (area : List Interval) (side : Interval) (entries : List ColumnEntry) (i : ℕ) (sums : List Extremes)
+    → IsProblem p → AreColumnEntries p j entries → i < length entries → AreShifted p j area side entries i sums
+    → IsReady (entry_at entries i) sums
+next_ready p j area side entries i sums problem are there h =
+    let r : ℕ = (entry_at entries i).row in
     let within : r ≤ length p.rows = are.within i there in
     let linear : IsLinear (length p.columns) (terms_of p r) = linear_terms p r problem within in
     let now : IsSummed (terms_of p r) area (extremes_at sums r) =
-    next_is_ahead p j area side standings i r (extremes_at sums r) are there refl (h.each r within) in
+    next_is_ahead p j area side entries i r (extremes_at sums r) are there refl (h.each r within) in
     let least : unsigned_abs (least_sum (terms_of p r) area) ≤ 3 * 10 ^ 37 =
     sum_small Least (length p.columns) (terms_of p r) area linear now.small in
     let greatest : unsigned_abs (greatest_sum (terms_of p r) area) ≤ 3 * 10 ^ 37 =
@@ -144,7 +144,7 @@ next_ready p j area side standings i sums problem are there h =
       there = omega (arith, h.count, within);
       least = subst (λ (v : ℤ). unsigned_abs v ≤ 3 * 10 ^ 37) (sym now.least) least;
       greatest = subst (λ (v : ℤ). unsigned_abs v ≤ 3 * 10 ^ 37) (sym now.greatest) greatest;
-      factor = among_small (length p.columns) (terms_of p r) (term_of j (standing_at standings i)) linear.small (are.each i there);
+      factor = among_small (length p.columns) (terms_of p r) (term_of j (entry_at entries i)) linear.small (are.each i there);
     }
 
 gained : (least sum old new next : ℤ) → next ≡ least +ℤ (new -ℤ old) → least ≡ sum → next ≡ (sum -ℤ old) +ℤ new
@@ -196,28 +196,28 @@ summed_new width j ts t area side old ends linear among column there small h lea
     })
 
 -- a row that was passed stays so, and one that is ahead and not this one stays ahead
-step_other : (p : Instance) (j : ℕ) (area : List Interval) (side : Interval) (standings : List Standing) (i r : ℕ) (ends : Extremes)
-    → (standing_at standings i).row ≢ r → IsShifted p j area side standings i r ends
-    → IsShifted p j area side standings (i + 1) r ends
-step_other p j area side standings i r ends ne (inl passed) =
+step_other : (p : Instance) (j : ℕ) (area : List Interval) (side : Interval) (entries : List ColumnEntry) (i r : ℕ) (ends : Extremes)
+    → (entry_at entries i).row ≢ r → IsShifted p j area side entries i r ends
+    → IsShifted p j area side entries (i + 1) r ends
+step_other p j area side entries i r ends ne (inl passed) =
     inl ((passed.0.0, omega (arith, passed.0.1), passed.0.2), passed.1)
-step_other p j area side standings i r ends ne (inr ahead) =
+step_other p j area side entries i r ends ne (inr ahead) =
     inr (
       (λ k less. elim (cases_eq k i) [
-        | inl e ↦ λ same. ne (ap (λ (n : ℕ). (standing_at standings n).row) (sym e) ∙ same)
+        | inl e ↦ λ same. ne (ap (λ (n : ℕ). (entry_at entries n).row) (sym e) ∙ same)
         | inr other ↦ ahead.0 k (omega arith)
       ]),
       ahead.1,
     )
 
-pub shift_step : (p : Instance) (j : ℕ) (area : List Interval) (side : Interval) (standings : List Standing) (i : ℕ)
-    (sums new : List Extremes) (moves : Moves) → IsProblem p → AreStandings p j standings → i < length standings
+pub shift_step : (p : Instance) (j : ℕ) (area : List Interval) (side : Interval) (entries : List ColumnEntry) (i : ℕ)
+    (sums new : List Extremes) (moves : Moves) → IsProblem p → AreColumnEntries p j entries → i < length entries
     → j < length area → AreMoves (interval_at area j) side moves
-    → HasMoved (standing_at standings i).factor moves (standing_at standings i).row sums new
-    → AreShifted p j area side standings i sums → AreShifted p j area side standings (i + 1) new
-shift_step p j area side standings i sums new moves problem are there at went moved h =
-    let row : ℕ = (standing_at standings i).row in
-    let f : ℤ = (standing_at standings i).factor in
+    → HasMoved (entry_at entries i).factor moves (entry_at entries i).row sums new
+    → AreShifted p j area side entries i sums → AreShifted p j area side entries (i + 1) new
+shift_step p j area side entries i sums new moves problem are there at went moved h =
+    let row : ℕ = (entry_at entries i).row in
+    let f : ℤ = (entry_at entries i).factor in
     let within : row ≤ length p.rows = are.within i there in
     let long : row < length sums = omega (arith, h.count, within) in
     record {
@@ -229,9 +229,9 @@ shift_step p j area side standings i sums new moves problem are there at went mo
             ∙ ap (λ (n : ℕ). extremes_at (set sums row moved.ends) n) same
             ∙ get_or-set_same sums row moved.ends no_extremes long in
             let old : IsSummed (terms_of p row) area (extremes_at sums row) =
-            next_is_ahead p j area side standings i row (extremes_at sums row) are there refl (h.each row within) in
+            next_is_ahead p j area side entries i row (extremes_at sums row) are there refl (h.each row within) in
             let now : IsSummed (terms_of p row) (set area j side) moved.ends =
-            summed_new (length p.columns) j (terms_of p row) (term_of j (standing_at standings i)) area side (extremes_at sums row)
+            summed_new (length p.columns) j (terms_of p row) (term_of j (entry_at entries i)) area side (extremes_at sums row)
             moved.ends (linear_terms p row problem within) (are.each i there) refl at went.small old
             (moved.least ∙ moved_sum Least f (extremes_at sums row).least (interval_at area j) side moves went)
             (moved.greatest ∙ moved_sum Greatest f (extremes_at sums row).greatest (interval_at area j) side moves went) in
@@ -241,9 +241,9 @@ shift_step p j area side standings i sums new moves problem are there at went mo
         | inr other ↦
             let here : extremes_at new r ≡ extremes_at sums r =
             ap (λ (xs : List Extremes). extremes_at xs r) moved.put ∙ get_or-set_other sums row r moved.ends no_extremes other in
-            let S : Extremes → Type 0 = λ (e : Extremes). IsShifted p j area side standings (i + 1) r e in
+            let S : Extremes → Type 0 = λ (e : Extremes). IsShifted p j area side entries (i + 1) r e in
             subst S (sym here)
-            (step_other p j area side standings i r (extremes_at sums r) (λ e. other (sym e)) (h.each r inner))
+            (step_other p j area side entries i r (extremes_at sums r) (λ e. other (sym e)) (h.each r inner))
       ];
     }
 
@@ -259,24 +259,24 @@ summed_other j ts area side ends other h = record {
   greatest = h.greatest ∙ sym (sum_without Greatest ts area j side other);
 }
 
-shift_done : (p : Instance) (j : ℕ) (area : List Interval) (side : Interval) (standings : List Standing) (r i : ℕ) (ends : Extremes)
-    → AreStandings p j standings → length standings ≤ i → r ≤ length p.rows → IsShifted p j area side standings i r ends
+shift_done : (p : Instance) (j : ℕ) (area : List Interval) (side : Interval) (entries : List ColumnEntry) (r i : ℕ) (ends : Extremes)
+    → AreColumnEntries p j entries → length entries ≤ i → r ≤ length p.rows → IsShifted p j area side entries i r ends
     → IsSummed (terms_of p r) (set area j side) ends
-shift_done p j area side standings r i ends are all there (inl passed) = passed.1
-shift_done p j area side standings r i ends are all there (inr ahead) =
+shift_done p j area side entries r i ends are all there (inl passed) = passed.1
+shift_done p j area side entries r i ends are all there (inr ahead) =
     summed_other j (terms_of p r) area side ends
     (λ k within same.
     let at = are.all r (term_at (terms_of p r) k) (among_at (terms_of p r) k within) same in
     ahead.0 at.0 (omega (arith, at.1)) at.2)
     ahead.1
 
-pub shift_ends : (p : Instance) (j : ℕ) (area : List Interval) (side : Interval) (standings : List Standing) (i : ℕ)
-    (sums : List Extremes) → length area ≡ length p.columns → AreStandings p j standings → length standings ≤ i
-    → AreShifted p j area side standings i sums → AreSums p (set area j side) sums
-shift_ends p j area side standings i sums wide are all h = record {
+pub shift_ends : (p : Instance) (j : ℕ) (area : List Interval) (side : Interval) (entries : List ColumnEntry) (i : ℕ)
+    (sums : List Extremes) → length area ≡ length p.columns → AreColumnEntries p j entries → length entries ≤ i
+    → AreShifted p j area side entries i sums → AreSums p (set area j side) sums
+shift_ends p j area side entries i sums wide are all h = record {
   width = length-set area j side ∙ wide;
   count = h.count;
-  each = λ r there. shift_done p j area side standings r i (extremes_at sums r) are all there (h.each r there);
+  each = λ r there. shift_done p j area side entries r i (extremes_at sums r) are all there (h.each r there);
 }
 
 -- running sums are the sums over their box
@@ -307,21 +307,21 @@ summed_short Least ts area ends short h =
 summed_short Greatest ts area ends short h =
     subst (λ (v : ℤ). unsigned_abs v ≤ 2 ^ 60) (sym h.greatest) (short_sum Greatest ts area short h.small)
 
-pub record IsShortReady (standing : Standing) (sums : List ShortExtremes) : Type 0 where
-  pub there : standing.row < length sums
-  pub least : unsigned_abs (short_at sums standing.row).least ≤ 2 ^ 60
-  pub greatest : unsigned_abs (short_at sums standing.row).greatest ≤ 2 ^ 60
-  pub factor : unsigned_abs standing.factor ≤ 2 ^ 29
+pub record IsShortReady (entry : ColumnEntry) (sums : List ShortExtremes) : Type 0 where
+  pub there : entry.row < length sums
+  pub least : unsigned_abs (short_at sums entry.row).least ≤ 2 ^ 60
+  pub greatest : unsigned_abs (short_at sums entry.row).greatest ≤ 2 ^ 60
+  pub factor : unsigned_abs entry.factor ≤ 2 ^ 29
 
 -- the next row may be shifted in 64 bits
-pub short_ready : (p : Instance) (j : ℕ) (area : List Interval) (side : Interval) (standings : List Standing) (i : ℕ)
-    (sums : List ShortExtremes) → AreShort p → AreStandings p j standings → i < length standings
-    → AreShifted p j area side standings i (map widened sums) → IsShortReady (standing_at standings i) sums
-short_ready p j area side standings i sums short are there h =
-    let r : ℕ = (standing_at standings i).row in
+pub short_ready : (p : Instance) (j : ℕ) (area : List Interval) (side : Interval) (entries : List ColumnEntry) (i : ℕ)
+    (sums : List ShortExtremes) → AreShort p → AreColumnEntries p j entries → i < length entries
+    → AreShifted p j area side entries i (map widened sums) → IsShortReady (entry_at entries i) sums
+short_ready p j area side entries i sums short are there h =
+    let r : ℕ = (entry_at entries i).row in
     let within : r ≤ length p.rows = are.within i there in
     let now : IsSummed (terms_of p r) area (extremes_at (map widened sums) r) =
-    next_is_ahead p j area side standings i r (extremes_at (map widened sums) r) are there refl (h.each r within) in
+    next_is_ahead p j area side entries i r (extremes_at (map widened sums) r) are there refl (h.each r within) in
     let long : r < length sums = omega (arith, length-map sums widened, h.count, within) in
     let at : extremes_at (map widened sums) r ≡ widened (short_at sums r) = get_or-map widened sums r no_short no_extremes long in
     record {
@@ -329,7 +329,7 @@ short_ready p j area side standings i sums short are there h =
       least = subst (λ (ends : Extremes). unsigned_abs ends.least ≤ 2 ^ 60) at (summed_short Least (terms_of p r) area _ (short r within) now);
       greatest = subst (λ (ends : Extremes). unsigned_abs ends.greatest ≤ 2 ^ 60) at
           (summed_short Greatest (terms_of p r) area _ (short r within) now);
-      factor = omega (arith, factor_within (terms_of p r) (term_of j (standing_at standings i)) (are.each i there), short r within);
+      factor = omega (arith, factor_within (terms_of p r) (term_of j (entry_at entries i)) (are.each i there), short r within);
     }
 
 -- a row that moved in 64 bits moved, whatever name the coefficient has

@@ -10,9 +10,9 @@ use Rattle.ug_rows.specs.declared.sums.Extreme.TheVariants.{Least, Greatest}
 use Rattle.ug_rows.specs.Boxes.{interval_at}
 use Rattle.ug_rows.specs.Sums.{end_of, end_product}
 use Rattle.ug_rows.proofs.Orders.{at_most_trans}
-use Rattle.ug_propagate.specs.declared.measure.Room.{Room}
+use Rattle.ug_propagate.specs.declared.measure.Slack.{Slack}
 use Rattle.ug_propagate.proofs.Machine.{times_difference}
-use Rattle.ug_propagate.specs.Shorts.{IsShort, IsShortRoom, IsShortSpan}
+use Rattle.ug_propagate.specs.Shorts.{IsShort, IsShortSlack, IsShortSpan}
 use Rattle.ug_propagate.specs.Steps.{span_of}
 
 -- a number above the 64 bits
@@ -34,11 +34,11 @@ at_most_named v most end most_fits end_fits less lesser =
     (subst (λ (x : ℤ). most ≤ℤ x) (to_z-of_z w64 end end_fits) lesser)
 
 -- the smaller of two
-pub short_room_of : (room : Room) (high low most : ℤ) → to_z w128 (of_z w128 room.high) ≡ room.high
-    → to_z w128 (of_z w128 room.low) ≡ room.low → FitsSigned w64 high → FitsSigned w64 low → FitsSigned w64 most
-    → IsShort (to_z w128 (of_z w128 room.high)) high → IsShort (to_z w128 (of_z w128 room.low)) low
-    → most ≤ℤ to_z w64 (of_z w64 high) → most ≤ℤ to_z w64 (of_z w64 low) → IsShortRoom room (to_z w64 (of_z w64 most))
-short_room_of room high low most same_high same_low high_fits low_fits most_fits h k first second v small less =
+pub short_slack_of : (slack : Slack) (high low most : ℤ) → to_z w128 (of_z w128 slack.high) ≡ slack.high
+    → to_z w128 (of_z w128 slack.low) ≡ slack.low → FitsSigned w64 high → FitsSigned w64 low → FitsSigned w64 most
+    → IsShort (to_z w128 (of_z w128 slack.high)) high → IsShort (to_z w128 (of_z w128 slack.low)) low
+    → most ≤ℤ to_z w64 (of_z w64 high) → most ≤ℤ to_z w64 (of_z w64 low) → IsShortSlack slack (to_z w64 (of_z w64 most))
+short_slack_of slack high low most same_high same_low high_fits low_fits most_fits h k first second v small less =
     let under : v ≤ℤ high = at_most_named v most high most_fits high_fits less first in
     let over : v ≤ℤ low = at_most_named v most low most_fits low_fits less second in
     (subst (λ (x : ℤ). v ≤ℤ x) same_high (h v small under), subst (λ (x : ℤ). v ≤ℤ x) same_low (k v small over))
@@ -57,18 +57,18 @@ no_span t area e =
     sym (ap (λ (v : ℤ). (t.factor *ℤ v) -ℤ end_product Least t area) (one_end t.factor (interval_at area t.column) e)
     ∙ minus_self (end_product Least t area))
 
--- the room and its short form may be named otherwise
-pub short_room_is : (r s : Room) (m n : ℤ) → r ≡ s → m ≡ n → IsShortRoom s n → IsShortRoom r m
-short_room_is r s m n e f h = rw e (rw f h)
+-- the slack and its short form may be named otherwise
+pub short_slack_is : (r s : Slack) (m n : ℤ) → r ≡ s → m ≡ n → IsShortSlack s n → IsShortSlack r m
+short_slack_is r s m n e f h = rw e (rw f h)
 
-pub short_room_named : (r s : Room) (m n : ℤ) → FitsSigned w64 n → r ≡ s → m ≡ to_z w64 (of_z w64 n) → IsShortRoom s n → IsShortRoom r m
-short_room_named r s m n fits e f h = short_room_is r s m n e (f ∙ to_z-of_z w64 n fits) h
+pub short_slack_named : (r s : Slack) (m n : ℤ) → FitsSigned w64 n → r ≡ s → m ≡ to_z w64 (of_z w64 n) → IsShortSlack s n → IsShortSlack r m
+short_slack_named r s m n fits e f h = short_slack_is r s m n e (f ∙ to_z-of_z w64 n fits) h
 
--- a span of 64 bits within the short room is within both
-pub short_fits : (t : Term) (area : List Interval) (room : Room) (span most : ℤ) → IsShortSpan t area span → IsShortRoom room most
-    → span ≤ℤ most → (span_of t area ≤ℤ room.high) × (span_of t area ≤ℤ room.low)
-short_fits t area room span most is within less =
-    let P : ℤ → Type 0 = λ (v : ℤ). (v ≤ℤ room.high) × (v ≤ℤ room.low) in
+-- a span of 64 bits within the short slack is within both
+pub short_fits : (t : Term) (area : List Interval) (slack : Slack) (span most : ℤ) → IsShortSpan t area span → IsShortSlack slack most
+    → span ≤ℤ most → (span_of t area ≤ℤ slack.high) × (span_of t area ≤ℤ slack.low)
+short_fits t area slack span most is within less =
+    let P : ℤ → Type 0 = λ (v : ℤ). (v ≤ℤ slack.high) × (v ≤ℤ slack.low) in
     subst P is.value (within span is.small less)
 
 -- a product of 31 and 33 bits is of 63

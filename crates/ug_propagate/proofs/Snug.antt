@@ -1,5 +1,5 @@
--- A row with one side alone is at rest after its own look: each term fits once it was examined, and
--- continues to fit.
+-- A row with one side alone is at fixpoint after its own propagation: each term fits once it was
+-- examined, and continues to fit.
 use Rattle.std.proofs.Common.{◌≡◌, ◌≢◌, refl, sym, subst, ◌∙◌, ap, inl, inr, ℕ, zero, suc, ◌+◌, ◌*◌, ◌^◌, ◌<◌, ◌≤◌, ℤ, pos, negsuc, ◌-ℤ◌, ◌*ℤ◌, ◌≤ℤ◌, unsigned_abs, List, length, set, Option, Some, None, arith}
 use Rattle.std.proofs.Math.Nat.{mul-le-mul}
 use Rattle.std.proofs.lemmas.Int.{ints, by_lt_z, unsigned_abs-mul}
@@ -16,18 +16,18 @@ use Rattle.ug_rows.proofs.EndBounds.{mul_neg, mul_pos}
 use Rattle.ug_rows.proofs.Products.{abs_sub}
 use Rattle.ug_rows.proofs.Replaced.{among_at, sum_small}
 use Rattle.ug_rows.proofs.Orders.{at_most_itself, at_most_trans}
-use Rattle.ug_propagate.specs.declared.look.Look.{Look}
-use Rattle.ug_propagate.specs.declared.measure.Room.{Room}
+use Rattle.ug_propagate.specs.declared.row_sides.RowSides.{RowSides}
+use Rattle.ug_propagate.specs.declared.measure.Slack.{Slack}
 use Rattle.ug_propagate.specs.declared.tight.Tight.{Tight}
 use Rattle.ug_propagate.specs.declared.tight.Tight.TheVariants.{Kept, Empty}
 use Rattle.ug_propagate.specs.declared.tight.Reason.{Reason}
 use Rattle.ug_propagate.specs.declared.tight.Side.TheVariants.{Low, High}
 use Rattle.ug_propagate.specs.Rounds.{ceiling_quotient, floor_quotient, keep_at_least, keep_at_most, lower_high, raise_low, reason_of, term_step, then_low}
-use Rattle.ug_propagate.specs.Steps.{IsLookable, IsRoomOf, high_of, low_of, row_of, span_of}
-use Rattle.ug_propagate.specs.Working.{HasOneSide, IsAtRest}
+use Rattle.ug_propagate.specs.Steps.{IsPropagable, IsSlackOf, high_of, low_of, row_of, span_of}
+use Rattle.ug_propagate.specs.Working.{HasOneSide, IsAtFixpoint}
 use Rattle.ug_propagate.proofs.Parts.{if_lt}
 use Rattle.ug_propagate.proofs.Quotients.{ceiling_within, ceiling_within_neg, floor_within, floor_within_neg}
-use Rattle.ug_propagate.proofs.Rooms.{IsMoved, at_least_moved, at_most_moved, never_high, never_low, sum_stays}
+use Rattle.ug_propagate.proofs.Slacks.{IsMoved, at_least_moved, at_most_moved, never_high, never_low, sum_stays}
 use Rattle.ug_propagate.proofs.Still.{no_high, no_low}
 
 -- what the interval of column j is in what is left
@@ -101,24 +101,24 @@ span_small t area small ends =
     let b : unsigned_abs t.factor * unsigned_abs l ≤ 10 ^ 24 * 2 ^ 31 = mul-le-mul small (end_small Least t.factor _ ends) in
     omega (arith, a, b, unsigned_abs-mul t.factor g, unsigned_abs-mul t.factor l, abs_sub (t.factor *ℤ g) (t.factor *ℤ l))
 
--- each span is within the room of a side that is not there
-fits_no_high : (width : ℕ) (look : Look) (ts : List Term) (area : List Interval) (room : Room) (k : ℕ) → IsLookable width look ts
-    → IsRoomOf look ts area room → look.high ≡ None → k < length ts → span_of (term_at ts k) area ≤ℤ room.high
-fits_no_high width look ts area room k ready r none there =
-    let e : room.high ≡ pos (6 * 10 ^ 37) -ℤ least_sum ts area =
+-- each span is within the slack of a side that is not there
+fits_no_high : (width : ℕ) (row_sides : RowSides) (ts : List Term) (area : List Interval) (slack : Slack) (k : ℕ) → IsPropagable width row_sides ts
+    → IsSlackOf row_sides ts area slack → row_sides.high ≡ None → k < length ts → span_of (term_at ts k) area ≤ℤ slack.high
+fits_no_high width row_sides ts area slack k ready r none there =
+    let e : slack.high ≡ pos (6 * 10 ^ 37) -ℤ least_sum ts area =
     r.high ∙ ap (λ (h : Option ℤ). high_of h -ℤ least_sum ts area) none in
-    by_lt_z room.high (span_of (term_at ts k) area)
-    (λ less. absurd (never_high room.high (least_sum ts area) (span_of (term_at ts k) area) e
+    by_lt_z slack.high (span_of (term_at ts k) area)
+    (λ less. absurd (never_high slack.high (least_sum ts area) (span_of (term_at ts k) area) e
     (sum_small Least width ts area ready.linear r.small) (span_small (term_at ts k) area (ready.linear.small k there) (r.small k there)) less))
     (λ more. more)
 
-fits_no_low : (width : ℕ) (look : Look) (ts : List Term) (area : List Interval) (room : Room) (k : ℕ) → IsLookable width look ts
-    → IsRoomOf look ts area room → look.low ≡ None → k < length ts → span_of (term_at ts k) area ≤ℤ room.low
-fits_no_low width look ts area room k ready r none there =
-    let e : room.low ≡ greatest_sum ts area -ℤ low_of None =
+fits_no_low : (width : ℕ) (row_sides : RowSides) (ts : List Term) (area : List Interval) (slack : Slack) (k : ℕ) → IsPropagable width row_sides ts
+    → IsSlackOf row_sides ts area slack → row_sides.low ≡ None → k < length ts → span_of (term_at ts k) area ≤ℤ slack.low
+fits_no_low width row_sides ts area slack k ready r none there =
+    let e : slack.low ≡ greatest_sum ts area -ℤ low_of None =
     r.low ∙ ap (λ (l : Option ℤ). greatest_sum ts area -ℤ low_of l) none in
-    by_lt_z room.low (span_of (term_at ts k) area)
-    (λ less. absurd (never_low room.low (greatest_sum ts area) (span_of (term_at ts k) area) e
+    by_lt_z slack.low (span_of (term_at ts k) area)
+    (λ less. absurd (never_low slack.low (greatest_sum ts area) (span_of (term_at ts k) area) e
     (sum_small Greatest width ts area ready.linear r.small) (span_small (term_at ts k) area (ready.linear.small k there) (r.small k there)) less))
     (λ more. more)
 
@@ -129,28 +129,28 @@ span_other t area j side ne =
     ap (λ (s : Interval). (t.factor *ℤ end_of Greatest t.factor s) -ℤ (t.factor *ℤ end_of Least t.factor s))
     (get_or-set_other area j t.column side no_interval ne)
 
-apart : (width : ℕ) (look : Look) (ts : List Term) (i k : ℕ) → IsLookable width look ts → i < length ts → k < i
+apart : (width : ℕ) (row_sides : RowSides) (ts : List Term) (i k : ℕ) → IsPropagable width row_sides ts → i < length ts → k < i
     → (term_at ts k).column ≢ (term_at ts i).column
-apart width look ts i k ready there less e =
+apart width row_sides ts i k ready there less e =
     absurd (let h : (term_at ts k).column < (term_at ts i).column = ready.linear.rising k i less there in omega arith)
 
--- the first i terms fit within a room, and there is some
-pub record AreWithin (ts : List Term) (i : ℕ) (area : List Interval) (room : ℤ) : Type 0 where
-  pub some : pos 0 ≤ℤ room
-  pub fit : (k : ℕ) → k < i → span_of (term_at ts k) area ≤ℤ room
+-- the first i terms fit within a slack, and there is some
+pub record AreWithin (ts : List Term) (i : ℕ) (area : List Interval) (slack : ℤ) : Type 0 where
+  pub some : pos 0 ≤ℤ slack
+  pub fit : (k : ℕ) → k < i → span_of (term_at ts k) area ≤ℤ slack
 
--- they fit within the room of both sides
-pub record AreSnug (ts : List Term) (i : ℕ) (area : List Interval) (room : Room) : Type 0 where
-  pub high : AreWithin ts i area room.high
-  pub low : AreWithin ts i area room.low
+-- they fit within the slack of both sides
+pub record AreSnug (ts : List Term) (i : ℕ) (area : List Interval) (slack : Slack) : Type 0 where
+  pub high : AreWithin ts i area slack.high
+  pub low : AreWithin ts i area slack.low
 
 -- what a look at term t did to the box: it changed that column alone, kept this sum, and the term
 -- fits
-record IsCut (e : Extreme) (ts : List Term) (t : Term) (old new : List Interval) (room : ℤ) : Type 0 where
+record IsCut (e : Extreme) (ts : List Term) (t : Term) (old new : List Interval) (slack : ℤ) : Type 0 where
   side : Interval
   put : new ≡ set old t.column side
   sum : end_sum e ts new ≡ end_sum e ts old
-  own : span_of t new ≤ℤ room
+  own : span_of t new ≤ℤ slack
 
 -- without a low side a term satisfies the high side alone
 high_alone : (name : Option ℕ) (ts : List Term) (high : Option ℤ) (t : Term) (o : Tight)
@@ -158,13 +158,13 @@ high_alone : (name : Option ℕ) (ts : List Term) (high : Option ℤ) (t : Term)
 high_alone name ts high t (Empty reason) = refl
 high_alone name ts high t (Kept area) = refl
 
-left_high : (high sum was least before greatest room : ℤ) → greatest ≤ℤ (high -ℤ (was -ℤ before)) → least ≡ before
-    → sum ≡ was → room ≡ high -ℤ sum → (greatest -ℤ least) ≤ℤ room
-left_high high sum was least before greatest room h e f g = omega (arith, ints)
+left_high : (high sum was least before greatest slack : ℤ) → greatest ≤ℤ (high -ℤ (was -ℤ before)) → least ≡ before
+    → sum ≡ was → slack ≡ high -ℤ sum → (greatest -ℤ least) ≤ℤ slack
+left_high high sum was least before greatest slack h e f g = omega (arith, ints)
 
-left_low : (low sum was least greatest before room : ℤ) → (low -ℤ (was -ℤ before)) ≤ℤ least → greatest ≡ before
-    → sum ≡ was → room ≡ sum -ℤ low → (greatest -ℤ least) ≤ℤ room
-left_low low sum was least greatest before room h e f g = omega (arith, ints)
+left_low : (low sum was least greatest before slack : ℤ) → (low -ℤ (was -ℤ before)) ≤ℤ least → greatest ≡ before
+    → sum ≡ was → slack ≡ sum -ℤ low → (greatest -ℤ least) ≤ℤ slack
+left_low low sum was least greatest before slack h e f g = omega (arith, ints)
 
 -- the end of the changed column
 end_moved : (e : Extreme) (f : ℤ) (j : ℕ) (old new : List Interval) → j < length old → (m : IsMoved e f j old new)
@@ -178,11 +178,11 @@ sum_moved : (e : Extreme) (width : ℕ) (ts : List Term) (t : Term) (old new : L
 sum_moved e width ts t old new linear among there m =
     ap (λ (a : List Interval). end_sum e ts a) m.put ∙ sum_stays e width ts t old m.side linear among there m.end
 
-cut_high : (name : Option ℕ) (width : ℕ) (ts : List Term) (t : Term) (h : ℤ) (old new : List Interval) (room : ℤ)
+cut_high : (name : Option ℕ) (width : ℕ) (ts : List Term) (t : Term) (h : ℤ) (old new : List Interval) (slack : ℤ)
     → IsLinear width ts → IsAmong t ts → t.factor ≢ pos 0 → t.column < length old
     → Kept new ≡ term_step name (record { terms = ts; low = None; high = Some h }) t (Kept old)
-    → room ≡ h -ℤ least_sum ts new → IsCut Least ts t old new room
-cut_high name width ts t h old new room linear among ne there e r =
+    → slack ≡ h -ℤ least_sum ts new → IsCut Least ts t old new slack
+cut_high name width ts t h old new slack linear among ne there e r =
     let most : ℤ = h -ℤ (least_sum ts old -ℤ end_product Least t old) in
     let alone : Kept new ≡ keep_at_most (reason_of name High) t.factor t.column most old =
     e ∙ high_alone name ts (Some h) t (keep_at_most (reason_of name High) t.factor t.column most old) in
@@ -193,16 +193,16 @@ cut_high name width ts t h old new room linear among ne there e r =
       put = m.put;
       sum = stays;
       own = left_high h (least_sum ts new) (least_sum ts old) (end_product Least t new) (end_product Least t old)
-          (end_product Greatest t new) room
+          (end_product Greatest t new) slack
           (at_most_kept (reason_of name High) t.factor t.column most old new ne there alone)
           (ap (λ (v : ℤ). t.factor *ℤ v) (end_moved Least t.factor t.column old new there m)) stays r;
     }
 
-cut_low : (name : Option ℕ) (width : ℕ) (ts : List Term) (t : Term) (l : ℤ) (old new : List Interval) (room : ℤ)
+cut_low : (name : Option ℕ) (width : ℕ) (ts : List Term) (t : Term) (l : ℤ) (old new : List Interval) (slack : ℤ)
     → IsLinear width ts → IsAmong t ts → t.factor ≢ pos 0 → t.column < length old
     → Kept new ≡ term_step name (record { terms = ts; low = Some l; high = None }) t (Kept old)
-    → room ≡ greatest_sum ts new -ℤ l → IsCut Greatest ts t old new room
-cut_low name width ts t l old new room linear among ne there e r =
+    → slack ≡ greatest_sum ts new -ℤ l → IsCut Greatest ts t old new slack
+cut_low name width ts t l old new slack linear among ne there e r =
     let least : ℤ = l -ℤ (greatest_sum ts old -ℤ end_product Greatest t old) in
     let alone : Kept new ≡ keep_at_least (reason_of name Low) t.factor t.column least old = e in
     let m : IsMoved Greatest t.factor t.column old new = at_least_moved (reason_of name Low) t.factor t.column least old new alone in
@@ -212,12 +212,12 @@ cut_low name width ts t l old new room linear among ne there e r =
       put = m.put;
       sum = stays;
       own = left_low l (greatest_sum ts new) (greatest_sum ts old) (end_product Least t new) (end_product Greatest t new)
-          (end_product Greatest t old) room
+          (end_product Greatest t old) slack
           (at_least_kept (reason_of name Low) t.factor t.column least old new ne there alone)
           (ap (λ (v : ℤ). t.factor *ℤ v) (end_moved Greatest t.factor t.column old new there m)) stays r;
     }
 
--- what one more term has, where each before it has it and its own look gives it that
+-- what one more term has, where each before it has it and its own propagation gives it that
 one_more : (P : ℕ → Type 0) (i : ℕ) → ((k : ℕ) → k < i → P k) → P i → (k : ℕ) → k < i + 1 → P k
 one_more P i before own k less = elim (cases_eq k i) [
   | inl same ↦ subst P (sym same) own
@@ -225,123 +225,123 @@ one_more P i before own k less = elim (cases_eq k i) [
 ]
 
 -- the spans of the terms before it are as they were
-span_kept : (width : ℕ) (look : Look) (ts : List Term) (i k : ℕ) (old new : List Interval) (side : Interval)
-    → IsLookable width look ts → i < length ts → k < i → new ≡ set old (term_at ts i).column side
+span_kept : (width : ℕ) (row_sides : RowSides) (ts : List Term) (i k : ℕ) (old new : List Interval) (side : Interval)
+    → IsPropagable width row_sides ts → i < length ts → k < i → new ≡ set old (term_at ts i).column side
     → span_of (term_at ts k) new ≡ span_of (term_at ts k) old
-span_kept width look ts i k old new side ready there less put =
+span_kept width row_sides ts i k old new side ready there less put =
     ap (λ (a : List Interval). span_of (term_at ts k) a) put
-    ∙ span_other (term_at ts k) old (term_at ts i).column side (apart width look ts i k ready there less)
+    ∙ span_other (term_at ts k) old (term_at ts i).column side (apart width row_sides ts i k ready there less)
 
 at_most_same : (a b c d : ℤ) → a ≡ b → b ≤ℤ c → c ≡ d → a ≤ℤ d
 at_most_same a b c d e h f = omega (arith, ints)
 
 -- without a high side all terms fit under it
-all_high : (width : ℕ) (look : Look) (ts : List Term) (i : ℕ) (area : List Interval) (room : Room) → IsLookable width look ts
-    → IsRoomOf look ts area room → look.high ≡ None → i ≤ length ts → AreWithin ts i area room.high
-all_high width look ts i area room ready r none within = record {
-  some = by_lt_z room.high (pos 0)
-      (λ less. absurd (no_high room.high (least_sum ts area)
+all_high : (width : ℕ) (row_sides : RowSides) (ts : List Term) (i : ℕ) (area : List Interval) (slack : Slack) → IsPropagable width row_sides ts
+    → IsSlackOf row_sides ts area slack → row_sides.high ≡ None → i ≤ length ts → AreWithin ts i area slack.high
+all_high width row_sides ts i area slack ready r none within = record {
+  some = by_lt_z slack.high (pos 0)
+      (λ less. absurd (no_high slack.high (least_sum ts area)
       (r.high ∙ ap (λ (h : Option ℤ). high_of h -ℤ least_sum ts area) none) (sum_small Least width ts area ready.linear r.small) less))
       (λ more. more);
-  fit = λ k less. fits_no_high width look ts area room k ready r none (omega arith);
+  fit = λ k less. fits_no_high width row_sides ts area slack k ready r none (omega arith);
 }
 
-all_low : (width : ℕ) (look : Look) (ts : List Term) (i : ℕ) (area : List Interval) (room : Room) → IsLookable width look ts
-    → IsRoomOf look ts area room → look.low ≡ None → i ≤ length ts → AreWithin ts i area room.low
-all_low width look ts i area room ready r none within = record {
-  some = by_lt_z room.low (pos 0)
-      (λ less. absurd (no_low room.low (greatest_sum ts area)
+all_low : (width : ℕ) (row_sides : RowSides) (ts : List Term) (i : ℕ) (area : List Interval) (slack : Slack) → IsPropagable width row_sides ts
+    → IsSlackOf row_sides ts area slack → row_sides.low ≡ None → i ≤ length ts → AreWithin ts i area slack.low
+all_low width row_sides ts i area slack ready r none within = record {
+  some = by_lt_z slack.low (pos 0)
+      (λ less. absurd (no_low slack.low (greatest_sum ts area)
       (r.low ∙ ap (λ (l : Option ℤ). greatest_sum ts area -ℤ low_of l) none) (sum_small Greatest width ts area ready.linear r.small) less))
       (λ more. more);
-  fit = λ k less. fits_no_low width look ts area room k ready r none (omega arith);
+  fit = λ k less. fits_no_low width row_sides ts area slack k ready r none (omega arith);
 }
 
--- one more term fits, and the room is as it was
-within_more : (e : Extreme) (width : ℕ) (look : Look) (ts : List Term) (i : ℕ) (old new : List Interval) (before now : ℤ)
-    → IsLookable width look ts → i < length ts → before ≡ now → IsCut e ts (term_at ts i) old new now
+-- one more term fits, and the slack is as it was
+within_more : (e : Extreme) (width : ℕ) (row_sides : RowSides) (ts : List Term) (i : ℕ) (old new : List Interval) (before now : ℤ)
+    → IsPropagable width row_sides ts → i < length ts → before ≡ now → IsCut e ts (term_at ts i) old new now
     → AreWithin ts i old before → AreWithin ts (i + 1) new now
-within_more e width look ts i old new before now ready there same c h = record {
+within_more e width row_sides ts i old new before now ready there same c h = record {
   some = at_most_same (pos 0) (pos 0) before now refl h.some same;
   fit = one_more (λ (k : ℕ). span_of (term_at ts k) new ≤ℤ now) i
-      (λ k less. at_most_same _ _ _ _ (span_kept width look ts i k old new c.side ready there less c.put) (h.fit k less) same) c.own;
+      (λ k less. at_most_same _ _ _ _ (span_kept width row_sides ts i k old new c.side ready there less c.put) (h.fit k less) same) c.own;
 }
 
--- the high side alone: the room under it stays, so what fits continues to fit
-more_high : (width : ℕ) (look : Look) (ts : List Term) (i : ℕ) (old new : List Interval) (before now : Room) (high : Option ℤ)
-    → IsLookable width look ts → length old ≡ width → i < length ts → look.low ≡ None → look.high ≡ high
-    → IsRoomOf look ts old before → IsRoomOf look ts new now
-    → Kept new ≡ term_step look.row (row_of look ts) (term_at ts i) (Kept old)
+-- the high side alone: the slack under it stays, so what fits continues to fit
+more_high : (width : ℕ) (row_sides : RowSides) (ts : List Term) (i : ℕ) (old new : List Interval) (before now : Slack) (high : Option ℤ)
+    → IsPropagable width row_sides ts → length old ≡ width → i < length ts → row_sides.low ≡ None → row_sides.high ≡ high
+    → IsSlackOf row_sides ts old before → IsSlackOf row_sides ts new now
+    → Kept new ≡ term_step row_sides.row (row_of row_sides ts) (term_at ts i) (Kept old)
     → AreWithin ts i old before.high → AreWithin ts (i + 1) new now.high
-more_high width look ts i old new before now None ready wide there low high was is e h =
-    all_high width look ts (i + 1) new now ready is high (omega arith)
-more_high width look ts i old new before now (Some top) ready wide there low high was is e h =
+more_high width row_sides ts i old new before now None ready wide there low high was is e h =
+    all_high width row_sides ts (i + 1) new now ready is high (omega arith)
+more_high width row_sides ts i old new before now (Some top) ready wide there low high was is e h =
     let t : Term = term_at ts i in
     let P : Option ℤ → Option ℤ → Type 0 = λ (l u : Option ℤ).
-    Kept new ≡ term_step look.row (record { terms = ts; low = l; high = u }) t (Kept old) in
-    let here : P None (Some top) = subst (λ (u : Option ℤ). P None u) high (subst (λ (l : Option ℤ). P l look.high) low e) in
-    let room : now.high ≡ top -ℤ least_sum ts new = is.high ∙ ap (λ (u : Option ℤ). high_of u -ℤ least_sum ts new) high in
+    Kept new ≡ term_step row_sides.row (record { terms = ts; low = l; high = u }) t (Kept old) in
+    let here : P None (Some top) = subst (λ (u : Option ℤ). P None u) high (subst (λ (l : Option ℤ). P l row_sides.high) low e) in
+    let slack : now.high ≡ top -ℤ least_sum ts new = is.high ∙ ap (λ (u : Option ℤ). high_of u -ℤ least_sum ts new) high in
     let past : before.high ≡ top -ℤ least_sum ts old = was.high ∙ ap (λ (u : Option ℤ). high_of u -ℤ least_sum ts old) high in
     let column : t.column < length old = subst (λ (n : ℕ). t.column < n) (sym wide) (ready.linear.within i there) in
     let c : IsCut Least ts t old new now.high =
-    cut_high look.row width ts t top old new now.high ready.linear (among_at ts i there) (ready.nonzero i there) column here room in
-    within_more Least width look ts i old new before.high now.high ready there
-    (past ∙ ap (λ (s : ℤ). top -ℤ s) (sym c.sum) ∙ sym room) c h
+    cut_high row_sides.row width ts t top old new now.high ready.linear (among_at ts i there) (ready.nonzero i there) column here slack in
+    within_more Least width row_sides ts i old new before.high now.high ready there
+    (past ∙ ap (λ (s : ℤ). top -ℤ s) (sym c.sum) ∙ sym slack) c h
 
 -- the low side alone, likewise
-more_low : (width : ℕ) (look : Look) (ts : List Term) (i : ℕ) (old new : List Interval) (before now : Room) (low : Option ℤ)
-    → IsLookable width look ts → length old ≡ width → i < length ts → look.high ≡ None → look.low ≡ low
-    → IsRoomOf look ts old before → IsRoomOf look ts new now
-    → Kept new ≡ term_step look.row (row_of look ts) (term_at ts i) (Kept old)
+more_low : (width : ℕ) (row_sides : RowSides) (ts : List Term) (i : ℕ) (old new : List Interval) (before now : Slack) (low : Option ℤ)
+    → IsPropagable width row_sides ts → length old ≡ width → i < length ts → row_sides.high ≡ None → row_sides.low ≡ low
+    → IsSlackOf row_sides ts old before → IsSlackOf row_sides ts new now
+    → Kept new ≡ term_step row_sides.row (row_of row_sides ts) (term_at ts i) (Kept old)
     → AreWithin ts i old before.low → AreWithin ts (i + 1) new now.low
-more_low width look ts i old new before now None ready wide there high low was is e h =
-    all_low width look ts (i + 1) new now ready is low (omega arith)
-more_low width look ts i old new before now (Some bottom) ready wide there high low was is e h =
+more_low width row_sides ts i old new before now None ready wide there high low was is e h =
+    all_low width row_sides ts (i + 1) new now ready is low (omega arith)
+more_low width row_sides ts i old new before now (Some bottom) ready wide there high low was is e h =
     let t : Term = term_at ts i in
     let P : Option ℤ → Option ℤ → Type 0 = λ (d u : Option ℤ).
-    Kept new ≡ term_step look.row (record { terms = ts; low = d; high = u }) t (Kept old) in
-    let here : P (Some bottom) None = subst (λ (d : Option ℤ). P d None) low (subst (λ (u : Option ℤ). P look.low u) high e) in
-    let room : now.low ≡ greatest_sum ts new -ℤ bottom = is.low ∙ ap (λ (d : Option ℤ). greatest_sum ts new -ℤ low_of d) low in
+    Kept new ≡ term_step row_sides.row (record { terms = ts; low = d; high = u }) t (Kept old) in
+    let here : P (Some bottom) None = subst (λ (d : Option ℤ). P d None) low (subst (λ (u : Option ℤ). P row_sides.low u) high e) in
+    let slack : now.low ≡ greatest_sum ts new -ℤ bottom = is.low ∙ ap (λ (d : Option ℤ). greatest_sum ts new -ℤ low_of d) low in
     let past : before.low ≡ greatest_sum ts old -ℤ bottom = was.low ∙ ap (λ (d : Option ℤ). greatest_sum ts old -ℤ low_of d) low in
     let column : t.column < length old = subst (λ (n : ℕ). t.column < n) (sym wide) (ready.linear.within i there) in
     let c : IsCut Greatest ts t old new now.low =
-    cut_low look.row width ts t bottom old new now.low ready.linear (among_at ts i there) (ready.nonzero i there) column here room in
-    within_more Greatest width look ts i old new before.low now.low ready there
-    (past ∙ ap (λ (s : ℤ). s -ℤ bottom) (sym c.sum) ∙ sym room) c h
+    cut_low row_sides.row width ts t bottom old new now.low ready.linear (among_at ts i there) (ready.nonzero i there) column here slack in
+    within_more Greatest width row_sides ts i old new before.low now.low ready there
+    (past ∙ ap (λ (s : ℤ). s -ℤ bottom) (sym c.sum) ∙ sym slack) c h
 
 -- the first terms of a row with one side alone fit, and so does one more once it was examined
-pub snug_more : (width : ℕ) (look : Look) (ts : List Term) (i : ℕ) (old new : List Interval) (before now : Room)
-    → IsLookable width look ts → length old ≡ width → i < length ts → HasOneSide look
-    → IsRoomOf look ts old before → IsRoomOf look ts new now
-    → Kept new ≡ term_step look.row (row_of look ts) (term_at ts i) (Kept old)
+pub snug_more : (width : ℕ) (row_sides : RowSides) (ts : List Term) (i : ℕ) (old new : List Interval) (before now : Slack)
+    → IsPropagable width row_sides ts → length old ≡ width → i < length ts → HasOneSide row_sides
+    → IsSlackOf row_sides ts old before → IsSlackOf row_sides ts new now
+    → Kept new ≡ term_step row_sides.row (row_of row_sides ts) (term_at ts i) (Kept old)
     → AreSnug ts i old before → AreSnug ts (i + 1) new now
-snug_more width look ts i old new before now ready wide there (inl low) was is e h = record {
-  high = more_high width look ts i old new before now look.high ready wide there low refl was is e h.high;
-  low = all_low width look ts (i + 1) new now ready is low (omega arith);
+snug_more width row_sides ts i old new before now ready wide there (inl low) was is e h = record {
+  high = more_high width row_sides ts i old new before now row_sides.high ready wide there low refl was is e h.high;
+  low = all_low width row_sides ts (i + 1) new now ready is low (omega arith);
 }
-snug_more width look ts i old new before now ready wide there (inr high) was is e h = record {
-  high = all_high width look ts (i + 1) new now ready is high (omega arith);
-  low = more_low width look ts i old new before now look.low ready wide there high refl was is e h.low;
+snug_more width row_sides ts i old new before now ready wide there (inr high) was is e h = record {
+  high = all_high width row_sides ts (i + 1) new now ready is high (omega arith);
+  low = more_low width row_sides ts i old new before now row_sides.low ready wide there high refl was is e h.low;
 }
 
-pub snug_first : (ts : List Term) (area : List Interval) (room : Room) → pos 0 ≤ℤ room.high → pos 0 ≤ℤ room.low → AreSnug ts 0 area room
-snug_first ts area room high low = record {
+pub snug_first : (ts : List Term) (area : List Interval) (slack : Slack) → pos 0 ≤ℤ slack.high → pos 0 ≤ℤ slack.low → AreSnug ts 0 area slack
+snug_first ts area slack high low = record {
   high = record { some = high; fit = λ k less. absurd (omega arith) };
   low = record { some = low; fit = λ k less. absurd (omega arith) };
 }
 
 -- a term that was not tightened fits already
-pub snug_same : (ts : List Term) (i : ℕ) (area : List Interval) (room : Room) → span_of (term_at ts i) area ≤ℤ room.high
-    → span_of (term_at ts i) area ≤ℤ room.low → AreSnug ts i area room → AreSnug ts (i + 1) area room
-snug_same ts i area room high low h = record {
-  high = record { some = h.high.some; fit = one_more (λ (k : ℕ). span_of (term_at ts k) area ≤ℤ room.high) i h.high.fit high };
-  low = record { some = h.low.some; fit = one_more (λ (k : ℕ). span_of (term_at ts k) area ≤ℤ room.low) i h.low.fit low };
+pub snug_same : (ts : List Term) (i : ℕ) (area : List Interval) (slack : Slack) → span_of (term_at ts i) area ≤ℤ slack.high
+    → span_of (term_at ts i) area ≤ℤ slack.low → AreSnug ts i area slack → AreSnug ts (i + 1) area slack
+snug_same ts i area slack high low h = record {
+  high = record { some = h.high.some; fit = one_more (λ (k : ℕ). span_of (term_at ts k) area ≤ℤ slack.high) i h.high.fit high };
+  low = record { some = h.low.some; fit = one_more (λ (k : ℕ). span_of (term_at ts k) area ≤ℤ slack.low) i h.low.fit low };
 }
 
--- if all terms fit, the row is at rest
-pub snug_rests : (look : Look) (ts : List Term) (i : ℕ) (area : List Interval) (room : Room) → IsRoomOf look ts area room
-    → length ts ≤ i → AreSnug ts i area room → IsAtRest look ts area
-snug_rests look ts i area room is all h = record {
-  room = room;
+-- if all terms fit, the row is at fixpoint
+pub snug_at_fixpoint : (row_sides : RowSides) (ts : List Term) (i : ℕ) (area : List Interval) (slack : Slack) → IsSlackOf row_sides ts area slack
+    → length ts ≤ i → AreSnug ts i area slack → IsAtFixpoint row_sides ts area
+snug_at_fixpoint row_sides ts i area slack is all h = record {
+  slack = slack;
   is = is;
   high = h.high.some;
   low = h.low.some;

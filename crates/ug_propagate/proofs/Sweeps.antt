@@ -14,11 +14,11 @@ use Rattle.ug_problem.proofs.Linear.{linear_row, linear_objective}
 use Rattle.ug_propagate.specs.declared.tight.Tight.{Tight}
 use Rattle.ug_propagate.specs.declared.tight.Tight.TheVariants.{Kept, Empty}
 use Rattle.ug_propagate.specs.declared.tight.Reason.{Reason}
-use Rattle.ug_propagate.specs.Rounds.{cutoff_row, look_at, over_rows, over_objective, round, rounds_of, row_step}
+use Rattle.ug_propagate.specs.Rounds.{cutoff_row, propagate_row, over_rows, over_objective, round, rounds_of, row_step}
 use Rattle.ug_problem.specs.Better.{IsGood}
 use Rattle.ug_propagate.specs.Claims.{IsMissed, IsNamed, KeepsGood}
 use Rattle.ug_propagate.proofs.Parts.{IsPart, part_trans, part_nonempty, part_same}
-use Rattle.ug_propagate.proofs.Looks.{IsLookOf, IsPartFor, IsUsable, missed_none, row_look, usable_terms}
+use Rattle.ug_propagate.proofs.Looks.{IsPropagationOf, IsPartFor, IsUsable, missed_none, row_propagation, usable_terms}
 
 -- the rows are those of the problem from row r on
 abbrev pub AreRowsFrom : Instance → ℕ → List NamedRow → Type 0
@@ -109,12 +109,12 @@ then_part p cutoff last left area name row named part h = record {
   kept = λ x i good. h.kept x (good_keeps p cutoff name row x named good) (part.kept x i good);
 }
 
-look_sweep : (p : Instance) (cutoff : Option ℤ) (area left : List Interval) (name : Option ℕ) (row : Row) (o : Tight)
+propagate_sweep : (p : Instance) (cutoff : Option ℤ) (area left : List Interval) (name : Option ℕ) (row : Row) (o : Tight)
     → IsNamed p cutoff name row → IsUsable (length area) row.terms → IsGoodPart p cutoff left area
-    → IsLookOf name row left o → IsSweepOf p cutoff area o
-look_sweep p cutoff area left name row (Kept last) named usable part h =
+    → IsPropagationOf name row left o → IsSweepOf p cutoff area o
+propagate_sweep p cutoff area left name row (Kept last) named usable part h =
     then_part p cutoff last left area name row named part h
-look_sweep p cutoff area left name row (Empty reason) named usable part h =
+propagate_sweep p cutoff area left name row (Empty reason) named usable part h =
     let P : Option ℕ → Type 0 = λ (n : Option ℕ). IsNamed p cutoff n row in
     record {
       row = row;
@@ -125,14 +125,14 @@ look_sweep p cutoff area left name row (Empty reason) named usable part h =
       missed = h.missed;
     }
 
-look_at_sweep : (p : Instance) (cutoff : Option ℤ) (area : List Interval) (name : Option ℕ) (row : Row) (o : Tight)
+propagate_row_sweep : (p : Instance) (cutoff : Option ℤ) (area : List Interval) (name : Option ℕ) (row : Row) (o : Tight)
     → IsNamed p cutoff name row → IsUsable (length area) row.terms → IsSweepOf p cutoff area o
-    → IsSweepOf p cutoff area (look_at name row o)
-look_at_sweep p cutoff area name row (Empty reason) named usable h = h
-look_at_sweep p cutoff area name row (Kept left) named usable h =
+    → IsSweepOf p cutoff area (propagate_row name row o)
+propagate_row_sweep p cutoff area name row (Empty reason) named usable h = h
+propagate_row_sweep p cutoff area name row (Kept left) named usable h =
     let P : ℕ → Type 0 = λ (w : ℕ). IsUsable w row.terms in
-    look_sweep p cutoff area left name row (row_step name row left) named usable h
-    (row_look name row left (part_nonempty left area h.part) (subst P (sym h.part.width) usable))
+    propagate_sweep p cutoff area left name row (row_step name row left) named usable h
+    (row_propagation name row left (part_nonempty left area h.part) (subst P (sym h.part.width) usable))
 
 rows_sweep : (p : Instance) (cutoff : Option ℤ) (area : List Interval) (r : ℕ) (rest : List NamedRow) (o : Tight)
     → IsProblem p → length area ≡ length p.columns → AreRowsFrom p r rest → IsSweepOf p cutoff area o
@@ -140,8 +140,8 @@ rows_sweep : (p : Instance) (cutoff : Option ℤ) (area : List Interval) (r : �
 rows_sweep p cutoff area r [] o problem wide from h = h
 rows_sweep p cutoff area r (named ∷ rest) o problem wide from h =
     let P : ℕ → Type 0 = λ (w : ℕ). IsUsable w named.row.terms in
-    rows_sweep p cutoff area (r + 1) rest (look_at (Some r) named.row o) problem wide from.2
-    (look_at_sweep p cutoff area (Some r) named.row o (from.0, from.1)
+    rows_sweep p cutoff area (r + 1) rest (propagate_row (Some r) named.row o) problem wide from.2
+    (propagate_row_sweep p cutoff area (Some r) named.row o (from.0, from.1)
     (subst P (sym wide) (usable_named p r named.row problem from.0 from.1)) h)
 
 objective_sweep : (p : Instance) (cutoff : Option ℤ) (area : List Interval) (o : Tight)
@@ -150,7 +150,7 @@ objective_sweep : (p : Instance) (cutoff : Option ℤ) (area : List Interval) (o
 objective_sweep p None area o problem wide h = h
 objective_sweep p (Some c) area o problem wide h =
     let P : ℕ → Type 0 = λ (w : ℕ). IsUsable w p.objective.terms in
-    look_at_sweep p (Some c) area None (cutoff_row p.objective c) o refl (subst P (sym wide) (usable_objective p problem)) h
+    propagate_row_sweep p (Some c) area None (cutoff_row p.objective c) o refl (subst P (sym wide) (usable_objective p problem)) h
 
 pub round_sweep : (p : Instance) (cutoff : Option ℤ) (area : List Interval) (o : Tight)
     → IsProblem p → length area ≡ length p.columns → IsSweepOf p cutoff area o → IsSweepOf p cutoff area (round p cutoff o)

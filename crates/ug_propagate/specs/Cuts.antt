@@ -23,9 +23,9 @@ IsInnerCut side Whole = Unit {0}
 IsInnerCut side Nothing = Unit {0}
 IsInnerCut side (To inner) = IsClosedWithin inner side
 
--- this many whole steps of a size lie within the room, fewer than the interval is wide
-pub record AreSteps (room : ℤ) (size : ℕ) (side : Interval) (steps : ℕ) : Type 0 where
-  pub quotient : pos steps ≡ int_div_euclid room (pos size)
+-- this many whole steps of a size lie within the slack, fewer than the interval is wide
+pub record AreSteps (slack : ℤ) (size : ℕ) (side : Interval) (steps : ℕ) : Type 0 where
+  pub quotient : pos steps ≡ int_div_euclid slack (pos size)
   pub few : pos steps <ℤ (side.high -ℤ side.low)
 
 -- the values up to this many above the low, and those down to this many below the high

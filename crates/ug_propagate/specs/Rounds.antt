@@ -114,14 +114,14 @@ row_step name row area =
     else over_terms name row row.terms (Kept area)))
 
 -- one row, where the box is not yet found empty
-abbrev pub look_at : Option ℕ → Row → Tight → Tight
-look_at name row (Empty reason) = Empty reason
-look_at name row (Kept area) = row_step name row area
+abbrev pub propagate_row : Option ℕ → Row → Tight → Tight
+propagate_row name row (Empty reason) = Empty reason
+propagate_row name row (Kept area) = row_step name row area
 
 -- these rows in order, the first of them row r
 abbrev pub over_rows : ℕ → List NamedRow → Tight → Tight
 over_rows r [] outcome = outcome
-over_rows r (named ∷ rows) outcome = over_rows (r + 1) rows (look_at (Some r) named.row outcome)
+over_rows r (named ∷ rows) outcome = over_rows (r + 1) rows (propagate_row (Some r) named.row outcome)
 
 -- the objective as a row: its value is below the cutoff
 abbrev pub cutoff_row : Objective → ℤ → Row
@@ -135,7 +135,7 @@ cutoff_row objective cutoff =
 -- the objective, where there is a cutoff
 abbrev pub over_objective : Objective → Option ℤ → Tight → Tight
 over_objective objective None outcome = outcome
-over_objective objective (Some cutoff) outcome = look_at None (cutoff_row objective cutoff) outcome
+over_objective objective (Some cutoff) outcome = propagate_row None (cutoff_row objective cutoff) outcome
 
 -- one round: the rows, then the objective
 abbrev pub round : Instance → Option ℤ → Tight → Tight

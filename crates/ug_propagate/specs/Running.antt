@@ -11,8 +11,8 @@ use Rattle.ug_rows.specs.declared.sums.Extreme.{Extreme}
 use Rattle.ug_rows.specs.declared.sums.Extreme.TheVariants.{Least, Greatest}
 use Rattle.ug_rows.specs.Boxes.{HasSmallEnds}
 use Rattle.ug_problem.specs.Instances.{Instance, row_at}
-use Rattle.ug_problem.specs.Standings.{standing_at, term_of, terms_of}
-use Rattle.ug_problem.specs.declared.standings.Standing.{Standing}
+use Rattle.ug_problem.specs.ColumnEntries.{entry_at, term_of, terms_of}
+use Rattle.ug_problem.specs.declared.entries.ColumnEntry.{ColumnEntry}
 use Rattle.ug_propagate.specs.declared.measure.Moves.{Moves}
 use Rattle.ug_propagate.specs.declared.rows.RowSums.{RowSums}
 use Rattle.ug_propagate.specs.declared.rows.RowSums.TheVariants.{Short, Wide}
@@ -118,12 +118,12 @@ pub record HasMoved (factor : ℤ) (moves : Moves) (r : ℕ) (old new : List Ext
       ≡ (extremes_at old r).greatest +ℤ (factor *ℤ move_of Greatest factor moves)
 
 -- column j is in the objective so, or is not there
-abbrev pub IsObjectiveStanding : Instance → ℕ → Option Standing → Type 0
-IsObjectiveStanding p j None = (k : ℕ) → k < length p.objective.terms
+abbrev pub IsObjectiveEntry : Instance → ℕ → Option ColumnEntry → Type 0
+IsObjectiveEntry p j None = (k : ℕ) → k < length p.objective.terms
     → (term_at p.objective.terms k).column ≢ j
-IsObjectiveStanding p j (Some standing) = IsAmong (term_of j standing) p.objective.terms
+IsObjectiveEntry p j (Some entry) = IsAmong (term_of j entry) p.objective.terms
 
 -- it is the last of these
-pub record IsLastOf (standings : List Standing) (last : Standing) : Type 0 where
-  pub some : 0 < length standings
-  pub is : last ≡ standing_at standings (length standings - 1)
+pub record IsLastOf (entries : List ColumnEntry) (last : ColumnEntry) : Type 0 where
+  pub some : 0 < length entries
+  pub is : last ≡ entry_at entries (length entries - 1)

@@ -9,11 +9,11 @@ use Rattle.ug_rows.specs.declared.sums.Extreme.TheVariants.{Least, Greatest}
 use Rattle.ug_rows.specs.Boxes.{HasSmallEnds, interval_at}
 use Rattle.ug_rows.specs.Rows.{IsLinear, term_at}
 use Rattle.ug_rows.specs.Sums.{end_product, least_sum, greatest_sum}
-use Rattle.ug_propagate.specs.declared.look.Look.{Look}
-use Rattle.ug_propagate.specs.declared.look.Looked.{Looked}
-use Rattle.ug_propagate.specs.declared.look.Looked.TheVariants.{Same, Changed, Emptied}
+use Rattle.ug_propagate.specs.declared.row_sides.RowSides.{RowSides}
+use Rattle.ug_propagate.specs.declared.row_sides.Propagated.{Propagated}
+use Rattle.ug_propagate.specs.declared.row_sides.Propagated.TheVariants.{Same, Changed, Emptied}
 use Rattle.ug_propagate.specs.declared.measure.Ends.{Ends}
-use Rattle.ug_propagate.specs.declared.measure.Room.{Room}
+use Rattle.ug_propagate.specs.declared.measure.Slack.{Slack}
 use Rattle.ug_propagate.specs.declared.tight.Tight.{Tight}
 use Rattle.ug_propagate.specs.declared.tight.Tight.TheVariants.{Kept, Empty}
 use Rattle.ug_propagate.specs.declared.tight.Reason.{Reason}
@@ -23,27 +23,27 @@ abbrev pub outcome_of : Option Reason → List Interval → Tight
 outcome_of None area = Kept area
 outcome_of (Some reason) area = Empty reason
 
--- what a look answers, over the box that it leaves
-abbrev pub looked_of : Looked → List Interval → Tight
-looked_of Same area = Kept area
-looked_of Changed area = Kept area
-looked_of (Emptied reason) area = Empty reason
+-- what the propagation of a row answers, over the box that it leaves
+abbrev pub propagated_of : Propagated → List Interval → Tight
+propagated_of Same area = Kept area
+propagated_of Changed area = Kept area
+propagated_of (Emptied reason) area = Empty reason
 
--- a look that reports no change made none
-abbrev pub IsStill : Looked → List Interval → List Interval → Type 0
+-- a propagation that reports no change made none
+abbrev pub IsStill : Propagated → List Interval → List Interval → Type 0
 IsStill Same old new = new ≡ old
 IsStill Changed old new = Unit {0}
 IsStill (Emptied reason) old new = Unit {0}
 
 -- something is left
-abbrev pub IsGoing : Looked → Type 0
+abbrev pub IsGoing : Propagated → Type 0
 IsGoing Same = Unit {0}
 IsGoing Changed = Unit {0}
 IsGoing (Emptied reason) = ⊥
 
--- the row with these terms and the sides of the look
-abbrev pub row_of : Look → List Term → Row
-row_of look terms = record { terms = terms; low = look.low; high = look.high }
+-- the row with these terms and these sides
+abbrev pub row_of : RowSides → List Term → Row
+row_of row_sides terms = record { terms = terms; low = row_sides.low; high = row_sides.high }
 
 -- a term over `width` columns: its coefficient is not 0 and not above 10^24
 pub record IsTermOf (width : ℕ) (t : Term) : Type 0 where
@@ -52,11 +52,11 @@ pub record IsTermOf (width : ℕ) (t : Term) : Type 0 where
   pub nonzero : t.factor ≢ pos 0
 
 -- terms over `width` columns with coefficients that are not 0, and sides of at most 4 * 10^37
-pub record IsLookable (width : ℕ) (look : Look) (terms : List Term) : Type 0 where
+pub record IsPropagable (width : ℕ) (row_sides : RowSides) (terms : List Term) : Type 0 where
   pub linear : IsLinear width terms
   pub nonzero : (k : ℕ) → k < length terms → (term_at terms k).factor ≢ pos 0
-  pub low : IfSome look.low (λ low. unsigned_abs low ≤ 4 * 10 ^ 37)
-  pub high : IfSome look.high (λ high. unsigned_abs high ≤ 4 * 10 ^ 37)
+  pub low : IfSome row_sides.low (λ low. unsigned_abs low ≤ 4 * 10 ^ 37)
+  pub high : IfSome row_sides.high (λ high. unsigned_abs high ≤ 4 * 10 ^ 37)
 
 -- how far the product of a term goes over the box: the greatest less the least
 abbrev pub span_of : Term → List Interval → ℤ
@@ -84,17 +84,17 @@ low_of None = neg_ℤ (pos (6 * 10 ^ 37))
 low_of (Some low) = low
 
 -- how far the least sum over the box is below the high side, and the greatest above the low side
-pub record IsRoomOf (look : Look) (terms : List Term) (area : List Interval) (room : Room) :
+pub record IsSlackOf (row_sides : RowSides) (terms : List Term) (area : List Interval) (slack : Slack) :
     Type 0 where
   pub small : HaveSmallColumns terms area
-  pub high : room.high ≡ high_of look.high -ℤ least_sum terms area
-  pub low : room.low ≡ greatest_sum terms area -ℤ low_of look.low
-  pub high_size : unsigned_abs room.high ≤ 9 * 10 ^ 37
-  pub low_size : unsigned_abs room.low ≤ 9 * 10 ^ 37
+  pub high : slack.high ≡ high_of row_sides.high -ℤ least_sum terms area
+  pub low : slack.low ≡ greatest_sum terms area -ℤ low_of row_sides.low
+  pub high_size : unsigned_abs slack.high ≤ 9 * 10 ^ 37
+  pub low_size : unsigned_abs slack.low ≤ 9 * 10 ^ 37
 
--- the room of both sides
-abbrev pub room_over : Look → List Term → List Interval → Room
-room_over look terms area = record {
-  high = high_of look.high -ℤ least_sum terms area;
-  low = greatest_sum terms area -ℤ low_of look.low;
+-- the slack of both sides
+abbrev pub slack_over : RowSides → List Term → List Interval → Slack
+slack_over row_sides terms area = record {
+  high = high_of row_sides.high -ℤ least_sum terms area;
+  low = greatest_sum terms area -ℤ low_of row_sides.low;
 }

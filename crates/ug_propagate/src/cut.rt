@@ -95,38 +95,38 @@ pub fn cut_at_least(reason: Reason, term: Term, least: i128, area: &[Interval]) 
     }
 }
 
-/// What a room under the high side leaves of the term's column: its product goes at most that far
+/// What a slack under the high side leaves of the term's column: its product goes at most that far
 /// up from its least.
-pub fn cut_up(reason: Reason, term: Term, room: i128, area: &[Interval]) -> Cut
+pub fn cut_up(reason: Reason, term: Term, slack: i128, area: &[Interval]) -> Cut
     requires term { IsTermOf (length area.now) term }
-    requires room { unsigned_abs room ≤ 9 * 10 ^ 37 }
+    requires slack { unsigned_abs slack ≤ 9 * 10 ^ 37 }
     ensures value { cut_of reason term.column area.now result
         ≡ keep_at_most reason term.factor term.column
-        (room +ℤ end_product Least term area.now) area.now }
+        (slack +ℤ end_product Least term area.now) area.now }
     ensures inner { IsInnerCut (interval_at area.now term.column) result }
 {
     let side = area[term.column as usize];
-    if let Some(steps) = steps_within(room, term.factor.unsigned_abs(), side) {
+    if let Some(steps) = steps_within(slack, term.factor.unsigned_abs(), side) {
         return Cut::To(near(Extreme::Least, term.factor, side, steps));
     }
-    let most = plus(room, product(Extreme::Least, term, side));
+    let most = plus(slack, product(Extreme::Least, term, side));
     cut_at_most(reason, term, most, area)
 }
 
-/// What a room over the low side leaves of it: its product goes at most that far down from its
+/// What a slack over the low side leaves of it: its product goes at most that far down from its
 /// greatest.
-pub fn cut_down(reason: Reason, term: Term, room: i128, area: &[Interval]) -> Cut
+pub fn cut_down(reason: Reason, term: Term, slack: i128, area: &[Interval]) -> Cut
     requires term { IsTermOf (length area.now) term }
-    requires room { unsigned_abs room ≤ 9 * 10 ^ 37 }
+    requires slack { unsigned_abs slack ≤ 9 * 10 ^ 37 }
     ensures value { cut_of reason term.column area.now result
         ≡ keep_at_least reason term.factor term.column
-        (end_product Greatest term area.now -ℤ room) area.now }
+        (end_product Greatest term area.now -ℤ slack) area.now }
     ensures inner { IsInnerCut (interval_at area.now term.column) result }
 {
     let side = area[term.column as usize];
-    if let Some(steps) = steps_within(room, term.factor.unsigned_abs(), side) {
+    if let Some(steps) = steps_within(slack, term.factor.unsigned_abs(), side) {
         return Cut::To(near(Extreme::Greatest, term.factor, side, steps));
     }
-    let least = minus(product(Extreme::Greatest, term, side), room);
+    let least = minus(product(Extreme::Greatest, term, side), slack);
     cut_at_least(reason, term, least, area)
 }

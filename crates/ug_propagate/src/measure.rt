@@ -4,10 +4,10 @@ ghost use Rattle.ug_rows.specs.Rows.{IsLinear};
 ghost use Rattle.ug_rows.specs.Sums.{end_of};
 ghost use Rattle.ug_rows.specs.declared.sums.Extreme.TheVariants.{Least, Greatest};
 ghost use Rattle.ug_propagate.specs.Running.{AreMoves, IsSummed};
-ghost use Rattle.ug_propagate.specs.Shorts.{IsShort, IsShortRoom, IsShortSpan};
-ghost use Rattle.ug_propagate.specs.Steps.{IsMeasured, IsLookable, IsRoomOf, IsTermOf, high_of, low_of, span_of};
+ghost use Rattle.ug_propagate.specs.Shorts.{IsShort, IsShortSlack, IsShortSpan};
+ghost use Rattle.ug_propagate.specs.Steps.{IsMeasured, IsPropagable, IsSlackOf, IsTermOf, high_of, low_of, span_of};
 
-use crate::look::Look;
+use crate::row_sides::RowSides;
 use crate::sums::Extremes;
 use ug_rows::{Extreme, Interval, Term, add_end, end_at};
 
@@ -22,7 +22,7 @@ pub struct Ends {
 
 /// How far the least sum of a row is below its high side, and the greatest above its low side.
 #[derive(Clone, Copy)]
-pub struct Room {
+pub struct Slack {
     pub high: i128,
     pub low: i128,
 }
@@ -238,14 +238,14 @@ fn lesser(a: i64, b: i64) -> i64
     if a < b { a } else { b }
 }
 
-/// The smaller room of the two sides in 64 bits.
-pub fn short_room(room: Room) -> i64
-    requires high { unsigned_abs room.high ≤ 9 * 10 ^ 37 }
-    requires low { unsigned_abs room.low ≤ 9 * 10 ^ 37 }
-    ensures { IsShortRoom room result }
+/// The smaller slack of the two sides in 64 bits.
+pub fn short_slack(slack: Slack) -> i64
+    requires high { unsigned_abs slack.high ≤ 9 * 10 ^ 37 }
+    requires low { unsigned_abs slack.low ≤ 9 * 10 ^ 37 }
+    ensures { IsShortSlack slack result }
 {
-    let high = short(room.high);
-    let low = short(room.low);
+    let high = short(slack.high);
+    let low = short(slack.low);
     lesser(high, low)
 }
 
@@ -270,16 +270,21 @@ fn low_or_none(low: Option<i128>) -> i128
     }
 }
 
-/// The room that running sums leave within the sides of the row.
-pub fn room_between(look: Look, terms: &[Term], ends: Extremes, area: &[Interval]) -> Room
-    requires ready { IsLookable (length area.now) look terms.now }
+/// The slack that running sums leave within the sides of the row.
+pub fn slack_between(
+    row_sides: RowSides,
+    terms: &[Term],
+    ends: Extremes,
+    area: &[Interval],
+) -> Slack
+    requires ready { IsPropagable (length area.now) row_sides terms.now }
     requires summed { IsSummed terms.now area.now ends }
     requires least { unsigned_abs ends.least ≤ 3 * 10 ^ 37 }
     requires greatest { unsigned_abs ends.greatest ≤ 3 * 10 ^ 37 }
-    ensures { IsRoomOf look terms.now area.now result }
+    ensures { IsSlackOf row_sides terms.now area.now result }
 {
-    Room {
-        high: minus(high_or_none(look.high), ends.least),
-        low: minus(ends.greatest, low_or_none(look.low)),
+    Slack {
+        high: minus(high_or_none(row_sides.high), ends.least),
+        low: minus(ends.greatest, low_or_none(row_sides.low)),
     }
 }

@@ -2,7 +2,7 @@
 
 ghost use Rattle.std.specs.Prelude.{◌≡◌, true, ℕ, ◌+◌, ◌<◌, ◌≤◌, ◌*◌, ◌^◌, ◌+ℤ◌, ◌-ℤ◌, ◌*ℤ◌, ◌≤ℤ◌, length, map, slice_set, unsigned_abs, IfOk, OnOk};
 ghost use Rattle.ug_rows.specs.declared.sums.Extreme.TheVariants.{Least, Greatest};
-ghost use Rattle.ug_problem.specs.Standings.{AreStandings, terms_of};
+ghost use Rattle.ug_problem.specs.ColumnEntries.{AreColumnEntries, terms_of};
 ghost use Rattle.ug_propagate.specs.Shorts.{AreShort};
 ghost use Rattle.ug_propagate.specs.Running.{AreMoves, AreSums, HasMoved, are_in_64_bits, extremes_at, move_of, short_at, sums_in, widened};
 
@@ -10,7 +10,7 @@ use crate::measure::{Moves, add_move, moves_between};
 use crate::rows::{RowSums, ShortExtremes};
 use crate::short::add_short_move;
 use crate::sums::Extremes;
-use ug_problem::{Problem, Standing};
+use ug_problem::{ColumnEntry, Problem};
 use ug_rows::Interval;
 
 /// Brings the sums of a row to where the ends of one of its columns went. For a coefficient below 0
@@ -35,16 +35,16 @@ pub fn move_sums(sums: &mut Extremes, factor: i128, moves: Moves)
 }
 
 // The sums of one row after the ends of one of its columns went so far.
-fn shift_row(sums: &mut [Extremes], standing: Standing, moves: Moves)
-    requires there { standing.row < length sums.old }
-    requires least { unsigned_abs (extremes_at sums.old standing.row).least ≤ 3 * 10 ^ 37 }
-    requires greatest { unsigned_abs (extremes_at sums.old standing.row).greatest ≤ 3 * 10 ^ 37 }
-    requires factor { unsigned_abs standing.factor ≤ 10 ^ 24 }
+fn shift_row(sums: &mut [Extremes], entry: ColumnEntry, moves: Moves)
+    requires there { entry.row < length sums.old }
+    requires least { unsigned_abs (extremes_at sums.old entry.row).least ≤ 3 * 10 ^ 37 }
+    requires greatest { unsigned_abs (extremes_at sums.old entry.row).greatest ≤ 3 * 10 ^ 37 }
+    requires factor { unsigned_abs entry.factor ≤ 10 ^ 24 }
     requires low { unsigned_abs moves.low ≤ 2 ^ 32 }
     requires high { unsigned_abs moves.high ≤ 2 ^ 32 }
-    ensures { HasMoved standing.factor moves standing.row sums.old sums.new }
+    ensures { HasMoved entry.factor moves entry.row sums.old sums.new }
 {
-    move_sums(&mut sums[standing.row as usize], standing.factor, moves);
+    move_sums(&mut sums[entry.row as usize], entry.factor, moves);
 }
 
 // Brings the sums to the box in which a column has another interval.
@@ -59,10 +59,10 @@ fn shift_wide(
     requires sums { AreSums problem.now area.now sums.old }
     ensures { AreSums problem.now (slice_set area.now column side) sums.new }
 {
-    let standings = problem.standings(column);
+    let entries = problem.entries(column);
     let moves = moves_between(area[column], side);
-    for standing in standings {
-        shift_row(sums, *standing, moves);
+    for entry in entries {
+        shift_row(sums, *entry, moves);
     }
 }
 
@@ -87,21 +87,17 @@ fn move_short_sums(sums: &mut ShortExtremes, factor: i64, moves: Moves)
 }
 
 // The sums of one row after the ends of one of its columns went so far.
-fn shift_short_row(sums: &mut [ShortExtremes], standing: Standing, moves: Moves)
-    requires there { standing.row < length sums.old }
-    requires least { unsigned_abs (short_at sums.old standing.row).least ≤ 2 ^ 60 }
-    requires greatest { unsigned_abs (short_at sums.old standing.row).greatest ≤ 2 ^ 60 }
-    requires factor { unsigned_abs standing.factor ≤ 2 ^ 29 }
+fn shift_short_row(sums: &mut [ShortExtremes], entry: ColumnEntry, moves: Moves)
+    requires there { entry.row < length sums.old }
+    requires least { unsigned_abs (short_at sums.old entry.row).least ≤ 2 ^ 60 }
+    requires greatest { unsigned_abs (short_at sums.old entry.row).greatest ≤ 2 ^ 60 }
+    requires factor { unsigned_abs entry.factor ≤ 2 ^ 29 }
     requires low { unsigned_abs moves.low ≤ 2 ^ 32 }
     requires high { unsigned_abs moves.high ≤ 2 ^ 32 }
-    ensures { HasMoved standing.factor moves standing.row
+    ensures { HasMoved entry.factor moves entry.row
         (map widened sums.old) (map widened sums.new) }
 {
-    move_short_sums(
-        &mut sums[standing.row as usize],
-        standing.factor as i64,
-        moves,
-    );
+    move_short_sums(&mut sums[entry.row as usize], entry.factor as i64, moves);
 }
 
 // Brings the sums to the box in which a column has another interval, in 64 bits.
@@ -117,10 +113,10 @@ fn shift_short(
     requires sums { AreSums problem.now area.now (map widened sums.old) }
     ensures { AreSums problem.now (slice_set area.now column side) (map widened sums.new) }
 {
-    let standings = problem.standings(column);
+    let entries = problem.entries(column);
     let moves = moves_between(area[column], side);
-    for standing in standings {
-        shift_short_row(sums, *standing, moves);
+    for entry in entries {
+        shift_short_row(sums, *entry, moves);
     }
 }
 

@@ -29,7 +29,7 @@ pub enum RowSums {
 #[derive(Drop)]
 pub struct MeasuredRows {
     pub sums: RowSums,
-    pub reach: Vec<i128>,
+    pub max_span: Vec<i128>,
 }
 
 /// Sums that fit in 64 bits.
@@ -60,14 +60,14 @@ fn add_short(
     problem: &Problem,
     area: &[Interval],
     sums: &mut Vec<ShortExtremes>,
-    reach: &mut Vec<i128>,
+    max_span: &mut Vec<i128>,
     r: usize,
 ) -> Result<bool, AllocError>
     requires there { r ≤ length problem.now.rows }
     requires width { length area.now ≡ length problem.now.columns }
-    requires so_far { AreFirstShort problem.now area.now r sums.old.items reach.old.items }
+    requires so_far { AreFirstShort problem.now area.now r sums.old.items max_span.old.items }
     ensures { IfOk result (λ short. short ≡ true
-        → AreFirstShort problem.now area.now (r + 1) sums.new.items reach.new.items) }
+        → AreFirstShort problem.now area.now (r + 1) sums.new.items max_span.new.items) }
 {
     match measure_short(terms_at(problem, r), area) {
         None => Ok(false),
@@ -76,7 +76,7 @@ fn add_short(
                 least: ends.least,
                 greatest: ends.greatest,
             })?;
-            reach.push(i128::from(ends.widest))?;
+            max_span.push(i128::from(ends.widest))?;
             Ok(true)
         }
     }
@@ -95,15 +95,15 @@ fn all_short(
 {
     let count = problem.rows().len() + 1;
     let mut sums = Vec::with_capacity(alloc, count)?;
-    let mut reach = Vec::with_capacity(alloc, count)?;
+    let mut max_span = Vec::with_capacity(alloc, count)?;
     for r in 0..count {
-        if !add_short(problem, area, &mut sums, &mut reach, r)? {
+        if !add_short(problem, area, &mut sums, &mut max_span, r)? {
             return Ok(None);
         }
     }
     Ok(Some(MeasuredRows {
         sums: RowSums::Short(sums),
-        reach,
+        max_span,
     }))
 }
 
@@ -113,20 +113,21 @@ fn add_wide(
     problem: &Problem,
     area: &[Interval],
     sums: &mut Vec<Extremes>,
-    reach: &mut Vec<i128>,
+    max_span: &mut Vec<i128>,
     r: usize,
 ) -> Result<(), AllocError>
     requires there { r ≤ length problem.now.rows }
     requires width { length area.now ≡ length problem.now.columns }
-    requires so_far { AreFirstWide problem.now area.now r sums.old.items reach.old.items }
-    ensures { OnOk result (AreFirstWide problem.now area.now (r + 1) sums.new.items reach.new.items) }
+    requires so_far { AreFirstWide problem.now area.now r sums.old.items max_span.old.items }
+    ensures { OnOk result
+        (AreFirstWide problem.now area.now (r + 1) sums.new.items max_span.new.items) }
 {
     let ends = measured(problem, r, area);
     sums.push(Extremes {
         least: ends.least,
         greatest: ends.greatest,
     })?;
-    reach.push(ends.widest)?;
+    max_span.push(ends.widest)?;
     Ok(())
 }
 
@@ -138,13 +139,13 @@ fn all_wide(alloc: Global, problem: &Problem, area: &[Interval]) -> Result<Measu
 {
     let count = problem.rows().len() + 1;
     let mut sums = Vec::with_capacity(alloc, count)?;
-    let mut reach = Vec::with_capacity(alloc, count)?;
+    let mut max_span = Vec::with_capacity(alloc, count)?;
     for r in 0..count {
-        add_wide(problem, area, &mut sums, &mut reach, r)?;
+        add_wide(problem, area, &mut sums, &mut max_span, r)?;
     }
     Ok(MeasuredRows {
         sums: RowSums::Wide(sums),
-        reach,
+        max_span,
     })
 }
 

@@ -1,4 +1,4 @@
-//! Rounds over the rows of a working box that are awake.
+//! Rounds over the rows of a working box that are queued.
 
 ghost use Rattle.std.specs.Prelude.{◌≡◌, ◌≤◌, ◌<◌, ◌*◌, ◌^◌, ◌-ℤ◌, pos, length, slice_index_or, unsigned_abs, Some, None, IfOk, IsTrue};
 ghost use Rattle.std.specs.Option.{option_map};
@@ -6,18 +6,18 @@ ghost use Rattle.ug_rows.specs.Boxes.{IsFixed};
 ghost use Rattle.ug_problem.specs.Instances.{no_row};
 ghost use Rattle.ug_problem.specs.Better.{IsSmallCutoff};
 ghost use Rattle.ug_problem.specs.Limits.{IsProblem};
-ghost use Rattle.ug_problem.specs.Standings.{terms_of};
+ghost use Rattle.ug_problem.specs.ColumnEntries.{terms_of};
 ghost use Rattle.ug_propagate.specs.Rounds.{last_round, round, rounds_of};
-ghost use Rattle.ug_propagate.specs.Steps.{IsLookable, outcome_of};
-ghost use Rattle.ug_propagate.specs.Waiting.{HasLooked, IsRowFound, RestFrom, WentOn, look_to};
-ghost use Rattle.ug_propagate.specs.Working.{AllRest, HasBits, HasOneSide, IsBox, IsStep, IsWorking, look_for};
+ghost use Rattle.ug_propagate.specs.Steps.{IsPropagable, outcome_of};
+ghost use Rattle.ug_propagate.specs.Waiting.{HasPropagated, IsRowFound, NoneQueuedFrom, WentOn, propagated_to};
+ghost use Rattle.ug_propagate.specs.Working.{AllAtFixpoint, HasBits, HasOneSide, IsBox, IsStep, IsWorking, sides_for};
 ghost use Rattle.ug_propagate.specs.declared.tight.Tight.TheVariants.{Kept};
 
-use crate::look::{Look, Looked};
-use crate::looking::look_at;
-use crate::resting::Rest;
-use crate::short_look::short_look;
-use crate::short_looking::look_short;
+use crate::fixpoint::Fixpoint;
+use crate::row_sides::{Propagated, RowSides};
+use crate::row64::propagate_short;
+use crate::row128::propagate_row;
+use crate::short_sides::short_sides;
 use crate::sums::terms_at;
 use crate::tight::Reason;
 use crate::working::Working;
@@ -25,8 +25,8 @@ use std::alloc::AllocError;
 use ug_problem::{NamedRow, Problem};
 use ug_rows::{Objective, is_fixed};
 
-// The look at a row.
-fn look_for_row(rows: &[NamedRow], r: usize) -> Look
+// The sides of a row.
+fn sides_of_row(rows: &[NamedRow], r: usize) -> RowSides
     requires there { r < length rows.now }
     requires few { length rows.now ≤ 10 ^ 4 }
     ensures { result ≡ record {
@@ -36,15 +36,15 @@ fn look_for_row(rows: &[NamedRow], r: usize) -> Look
     } }
 {
     let row = &rows[r].row;
-    Look {
+    RowSides {
         row: Some(r as u32),
         low: row.low,
         high: row.high,
     }
 }
 
-// The look at the objective: its value is below the cutoff, if there is one.
-fn look_for_objective(objective: &Objective, cutoff: Option<i128>) -> Look
+// The sides of the objective: its value is below the cutoff, if there is one.
+fn sides_of_objective(objective: &Objective, cutoff: Option<i128>) -> RowSides
     requires constant { unsigned_abs objective.now.constant ≤ 10 ^ 37 }
     requires cutoff { IsSmallCutoff cutoff }
     ensures { result ≡ record {
@@ -57,32 +57,32 @@ fn look_for_objective(objective: &Objective, cutoff: Option<i128>) -> Look
         Some(cutoff) => Some(cutoff - 1 - objective.constant),
         None => None,
     };
-    Look {
+    RowSides {
         row: None,
         low: None,
         high,
     }
 }
 
-// The look at row r under a cutoff.
-fn look_under(problem: &Problem, cutoff: Option<i128>, r: usize) -> Look
+// The sides of row r under a cutoff.
+fn sides_under(problem: &Problem, cutoff: Option<i128>, r: usize) -> RowSides
     requires there { r ≤ length problem.now.rows }
     requires cutoff { IsSmallCutoff cutoff }
-    ensures value { result ≡ look_for problem.now cutoff r }
+    ensures value { result ≡ sides_for problem.now cutoff r }
     ensures problem { IsProblem problem.now }
 {
     let rows = problem.rows();
     if r < rows.len() {
-        look_for_row(rows, r)
+        sides_of_row(rows, r)
     } else {
-        look_for_objective(problem.objective(), cutoff)
+        sides_of_objective(problem.objective(), cutoff)
     }
 }
 
-// The first row from this one on that is awake, where there is one.
+// The first row from this one on that is queued, where there is one.
 fn next_row(work: &Working, problem: &Problem, from: usize) -> Option<usize>
-    requires { HasBits problem.now work.now.awake }
-    ensures found { IsRowFound problem.now work.now.awake from result }
+    requires { HasBits problem.now work.now.queued }
+    ensures found { IsRowFound problem.now work.now.queued from result }
     ensures problem { IsProblem problem.now }
 {
     let rows = problem.rows().len();
@@ -93,60 +93,60 @@ fn next_row(work: &Working, problem: &Problem, from: usize) -> Option<usize>
 }
 
 // Whether a row has one side alone, or none.
-fn has_one_side(look: Look) -> bool
-    ensures { IsTrue result → HasOneSide look }
+fn has_one_side(row_sides: RowSides) -> bool
+    ensures { IsTrue result → HasOneSide row_sides }
 {
-    look.low.is_none() || look.high.is_none()
+    row_sides.low.is_none() || row_sides.high.is_none()
 }
 
-// A look at a row in 128 bits. It is a function of its own so that a look in 64 bits keeps nothing
-// ready for it.
+// The propagation of a row in 128 bits. It is a function of its own so that one in 64 bits keeps
+// nothing ready for it.
 #[cold]
 #[inline(never)]
-fn look_wide(
+fn propagate_wide(
     work: &mut Working,
     problem: &Problem,
     cutoff: Option<i128>,
     r: usize,
-) -> Result<Looked, AllocError>
+) -> Result<Propagated, AllocError>
     requires there { r ≤ length problem.now.rows }
     requires cutoff { IsSmallCutoff cutoff }
     requires work { IsBox problem.now work.old }
-    ensures look { IfOk result (HasLooked problem.now cutoff r work.old work.new) }
+    ensures row_sides { IfOk result (HasPropagated problem.now cutoff r work.old work.new) }
     ensures step { IsStep problem.now work.old work.new }
 {
-    let look = look_under(problem, cutoff, r);
-    let looked = look_at(work, problem, r, look, terms_at(problem, r))?;
-    Ok(looked)
+    let row_sides = sides_under(problem, cutoff, r);
+    let propagated = propagate_row(work, problem, r, row_sides, terms_at(problem, r))?;
+    Ok(propagated)
 }
 
-// A look at row r, in 64 bits where the sums and the sides fit.
-fn look_row(
+// The propagation of row r, in 64 bits where the sums and the sides fit.
+fn propagate_fitting(
     work: &mut Working,
     problem: &Problem,
     cutoff: Option<i128>,
     r: usize,
-    look: Look,
-) -> Result<Looked, AllocError>
+    row_sides: RowSides,
+) -> Result<Propagated, AllocError>
     requires there { r ≤ length problem.now.rows }
     requires cutoff { IsSmallCutoff cutoff }
     requires problem { IsProblem problem.now }
-    requires look { look ≡ look_for problem.now cutoff r }
+    requires row_sides { row_sides ≡ sides_for problem.now cutoff r }
     requires work { IsBox problem.now work.old }
-    ensures look { IfOk result (HasLooked problem.now cutoff r work.old work.new) }
+    ensures row_sides { IfOk result (HasPropagated problem.now cutoff r work.old work.new) }
     ensures step { IsStep problem.now work.old work.new }
 {
     if work.is_short() {
-        if let Some(s) = short_look(problem, r, look) {
-            let looked = look_short(work, problem, s)?;
-            return Ok(looked);
+        if let Some(s) = short_sides(problem, r, row_sides) {
+            let propagated = propagate_short(work, problem, s)?;
+            return Ok(propagated);
         }
     }
-    let looked = look_wide(work, problem, cutoff, r)?;
-    Ok(looked)
+    let propagated = propagate_wide(work, problem, cutoff, r)?;
+    Ok(propagated)
 }
 
-// Looks at row r, which then rests where nothing was changed, or where it has one side alone: its
+// Propagates row r, which then rests where nothing was changed, or where it has one side alone: its
 // terms then fit.
 fn visit(
     work: &mut Working,
@@ -160,25 +160,25 @@ fn visit(
     ensures went { WentOn problem.now cutoff work.old work.new }
     ensures value { IfOk result
         (λ told. outcome_of told work.new.sums.area
-        ≡ look_to problem.now cutoff r work.old.sums.area) }
+        ≡ propagated_to problem.now cutoff r work.old.sums.area) }
 {
-    let look = look_under(problem, cutoff, r);
-    match look_row(work, problem, cutoff, r, look)? {
-        Looked::Emptied(reason) => Ok(Some(reason)),
-        Looked::Changed => {
-            if has_one_side(look) {
-                work.rest(r);
+    let row_sides = sides_under(problem, cutoff, r);
+    match propagate_fitting(work, problem, cutoff, r, row_sides)? {
+        Propagated::Emptied(reason) => Ok(Some(reason)),
+        Propagated::Changed => {
+            if has_one_side(row_sides) {
+                work.dequeue(r);
             }
             Ok(None)
         }
-        Looked::Same => {
-            work.rest(r);
+        Propagated::Same => {
+            work.dequeue(r);
             Ok(None)
         }
     }
 }
 
-// One round: the rows that are awake, in order.
+// One round: the rows that are queued, in order.
 fn run_round(
     work: &mut Working,
     problem: &Problem,
@@ -203,10 +203,10 @@ fn run_round(
     }
 }
 
-// Whether a row is awake.
+// Whether a row is queued.
 fn is_settled(work: &Working, problem: &Problem) -> bool
-    requires { HasBits problem.now work.now.awake }
-    ensures settled { IsTrue result → RestFrom problem.now work.now.awake 0 }
+    requires { HasBits problem.now work.now.queued }
+    ensures settled { IsTrue result → NoneQueuedFrom problem.now work.now.queued 0 }
     ensures problem { IsProblem problem.now }
 {
     next_row(work, problem, 0).is_none()
@@ -214,7 +214,7 @@ fn is_settled(work: &Working, problem: &Problem) -> bool
 
 const MOST_ROUNDS: u32 = 32;
 
-// At most 32 rounds, until no row is awake.
+// At most 32 rounds, until no row is queued.
 fn run_rounds(
     work: &mut Working,
     problem: &Problem,
@@ -247,7 +247,7 @@ fn is_point(work: &Working) -> bool
     is_fixed(work.sides())
 }
 
-// One more round, where all columns are fixed and a row is awake.
+// One more round, where all columns are fixed and a row is queued.
 fn run_last(
     work: &mut Working,
     problem: &Problem,
@@ -295,13 +295,13 @@ pub fn propagate(
 }
 
 /// How the rows of a box rest after its rounds.
-pub fn rest_after(work: &Working, problem: &Problem, cutoff: Option<i128>) -> Rest
+pub fn fixpoint_after(work: &Working, problem: &Problem, cutoff: Option<i128>) -> Fixpoint
     requires { IsWorking problem.now cutoff work.now }
-    ensures { AllRest problem.now result work.now.sums.area }
+    ensures { AllAtFixpoint problem.now result work.now.sums.area }
 {
     if is_settled(work, problem) {
-        Rest::Under(cutoff)
+        Fixpoint::Under(cutoff)
     } else {
-        Rest::Unknown
+        Fixpoint::Unknown
     }
 }

@@ -16,15 +16,15 @@ fn are_few(steps: u64, side: Interval) -> bool
     }
 }
 
-/// How many whole steps of a size lie within a room, if they are fewer than the interval is wide,
-/// and room and size are of 64 bits.
-pub fn steps_within(room: i128, size: u128, side: Interval) -> Option<u64>
+/// How many whole steps of a size lie within a slack, if they are fewer than the interval is wide,
+/// and slack and size are of 64 bits.
+pub fn steps_within(slack: i128, size: u128, side: Interval) -> Option<u64>
     requires { 0 < size }
-    ensures { IfSome result (AreSteps room size side) }
+    ensures { IfSome result (AreSteps slack size side) }
 {
-    match (u64::try_from(room), u64::try_from(size)) {
-        (Ok(room), Ok(size)) => {
-            let steps = room / size;
+    match (u64::try_from(slack), u64::try_from(size)) {
+        (Ok(slack), Ok(size)) => {
+            let steps = slack / size;
             if are_few(steps, side) {
                 Some(steps)
             } else {

@@ -5,16 +5,16 @@ ghost use Rattle.ug_rows.specs.Sums.{end_of, least_sum, greatest_sum};
 ghost use Rattle.ug_rows.specs.declared.sums.Extreme.TheVariants.{Least, Greatest};
 ghost use Rattle.ug_problem.specs.Instances.{no_row};
 ghost use Rattle.ug_problem.specs.Limits.{IsProblem};
-ghost use Rattle.ug_problem.specs.Standings.{AreStandings, terms_of};
+ghost use Rattle.ug_problem.specs.ColumnEntries.{AreColumnEntries, terms_of};
 ghost use Rattle.ug_propagate.specs.Steps.{IsMeasured};
-ghost use Rattle.ug_propagate.specs.Running.{HasMoved, IsLastOf, IsObjectiveStanding, IsNamedRow, IsRunning, IsSummed, are_in_64_bits, extremes_at, move_of, sums_in, terms_named};
+ghost use Rattle.ug_propagate.specs.Running.{HasMoved, IsLastOf, IsObjectiveEntry, IsNamedRow, IsRunning, IsSummed, are_in_64_bits, extremes_at, move_of, sums_in, terms_named};
 
 use crate::measure::{Ends, measure, moves_between};
 use crate::moving::{move_sums, shift};
 use crate::rows::{RowSums, all_rows, ends_in, is_short_in};
 use std::alloc::{AllocError, Global};
 use std::marker::Model;
-use ug_problem::{NamedRow, Problem, Standing};
+use ug_problem::{ColumnEntry, NamedRow, Problem};
 use ug_rows::{Interval, Term};
 
 /// The least and the greatest sum of a row over a box.
@@ -72,24 +72,24 @@ pub fn measured(problem: &Problem, r: usize, area: &[Interval]) -> Ends
 }
 
 // The last standing, if there is one.
-fn last_standing(standings: &[Standing]) -> Option<Standing>
-    ensures { MatchOption result (standings.now ≡ []) (IsLastOf standings.now) }
+fn last_entry(entries: &[ColumnEntry]) -> Option<ColumnEntry>
+    ensures { MatchOption result (entries.now ≡ []) (IsLastOf entries.now) }
 {
-    if standings.is_empty() {
+    if entries.is_empty() {
         None
     } else {
-        Some(standings[standings.len() - 1])
+        Some(entries[entries.len() - 1])
     }
 }
 
 // Returns the entry of a column in the objective, if it has one.
-fn objective_standing(problem: &Problem, column: usize) -> Option<Standing>
+fn objective_entry(problem: &Problem, column: usize) -> Option<ColumnEntry>
     requires { column < length problem.now.columns }
     ensures problem { IsProblem problem.now }
-    ensures standing { IsObjectiveStanding problem.now column result }
+    ensures entry { IsObjectiveEntry problem.now column result }
 {
     let rows = problem.rows().len();
-    match last_standing(problem.standings(column)) {
+    match last_entry(problem.entries(column)) {
         None => None,
         Some(last) => {
             if last.row as usize == rows {
@@ -102,20 +102,20 @@ fn objective_standing(problem: &Problem, column: usize) -> Option<Standing>
 }
 
 // The sums of a row after the interval of the standing's column was replaced.
-fn moved_by(ends: Extremes, standing: Standing, before: Interval, after: Interval) -> Extremes
+fn moved_by(ends: Extremes, entry: ColumnEntry, before: Interval, after: Interval) -> Extremes
     requires least { unsigned_abs ends.least ≤ 3 * 10 ^ 37 }
     requires greatest { unsigned_abs ends.greatest ≤ 3 * 10 ^ 37 }
-    requires factor { unsigned_abs standing.factor ≤ 10 ^ 24 }
+    requires factor { unsigned_abs entry.factor ≤ 10 ^ 24 }
     ensures least { result.least
-        ≡ ends.least +ℤ ((standing.factor *ℤ end_of Least standing.factor after) -ℤ
-        (standing.factor *ℤ end_of Least standing.factor before)) }
+        ≡ ends.least +ℤ ((entry.factor *ℤ end_of Least entry.factor after) -ℤ
+        (entry.factor *ℤ end_of Least entry.factor before)) }
     ensures greatest { result.greatest
-        ≡ ends.greatest +ℤ ((standing.factor *ℤ end_of Greatest standing.factor after) -ℤ
-        (standing.factor *ℤ end_of Greatest standing.factor before)) }
+        ≡ ends.greatest +ℤ ((entry.factor *ℤ end_of Greatest entry.factor after) -ℤ
+        (entry.factor *ℤ end_of Greatest entry.factor before)) }
     ensures after { HasSmallEnds after }
 {
     let mut ends = ends;
-    move_sums(&mut ends, standing.factor, moves_between(before, after));
+    move_sums(&mut ends, entry.factor, moves_between(before, after));
     ends
 }
 
@@ -140,8 +140,8 @@ fn objective_with(
     requires summed { IsSummed problem.now.objective.terms area.now ends }
     ensures { IsSummed problem.now.objective.terms (slice_set area.now column side) result }
 {
-    match objective_standing(problem, column) {
-        Some(standing) => moved_by(ends, standing, area[column], side),
+    match objective_entry(problem, column) {
+        Some(entry) => moved_by(ends, entry, area[column], side),
         None => ends,
     }
 }

@@ -1,19 +1,19 @@
 //! A working box.
 
 ghost use Rattle.std.specs.Prelude.{◌≡◌, ℕ, [], ◌∷◌, ◌++◌, ◌+◌, ◌*◌, ◌^◌, ◌<◌, ◌≤◌, length, slice_set, OnOk, OnErr, IfOk};
-ghost use Rattle.ug_problem.specs.Losing.{listed_at};
+ghost use Rattle.ug_problem.specs.Locks.{listed_at};
 ghost use Rattle.ug_rows.specs.Boxes.{IsClosedWithin, interval_at};
 ghost use Rattle.ug_rows.specs.Sums.{box_floor};
-ghost use Rattle.ug_propagate.specs.Awake.{HasBit, IsFound};
+ghost use Rattle.ug_propagate.specs.Queued.{HasBit, IsFound};
 ghost use Rattle.ug_propagate.specs.Cuts.{IsInnerCut, cut_of};
 ghost use Rattle.ug_propagate.specs.Steps.{outcome_of};
 ghost use Rattle.ug_propagate.specs.Running.{IsRunning, extremes_at};
-ghost use Rattle.ug_propagate.specs.Working.{AllRest, AreAwake, AreResting, WakesOthers, AreTrailed, AreFirstReached, AreOnes, AreReached, AreWoken, HasBits, HasChanged, HasUndone, WentBack, IsBox, IsOver, IsStep, WokeColumn, WokeEnd, reach_at};
+ghost use Rattle.ug_propagate.specs.Working.{AllAtFixpoint, AreQueued, AreAtFixpoint, EnqueuesOthers, AreTrailed, AreFirstMaxSpans, AreOnes, AreMaxSpans, AreEnqueued, HasBits, HasChanged, HasUndone, WentBack, IsBox, IsOver, IsStep, EnqueuedColumn, EnqueuedEnd, max_span_at};
 
-use crate::awake::{fill, next, rest, wake};
 use crate::cut::Cut;
+use crate::fixpoint::{Fixpoint, is_same};
 use crate::measure::plus;
-use crate::resting::{Rest, is_same};
+use crate::queued::{dequeue, enqueue, fill, next};
 use crate::rows::all_rows;
 use crate::sums::{Extremes, Sums, measured};
 use crate::tight::Reason;
@@ -29,13 +29,13 @@ pub struct Trailed {
     pub before: Interval,
 }
 
-/// A box that is tightened in place, with its running sums, the rows that are awake, and what was
+/// A box that is tightened in place, with its running sums, the rows that are queued, and what was
 /// changed.
 #[derive(Drop)]
 pub struct Working {
     sums: Sums,
-    reach: Vec<i128>,
-    awake: Vec<u64>,
+    max_span: Vec<i128>,
+    queued: Vec<u64>,
     trail: Vec<Trailed>,
 }
 
@@ -46,19 +46,19 @@ impl Model for Working {
 
     ghost view = { λ w. record {
       sums = w.sums;
-      reach = w.reach.items;
-      awake = w.awake.items;
+      max_span = w.max_span.items;
+      queued = w.queued.items;
       trail = w.trail.items;
     } };
 }
 
-// Wakes these rows.
-fn wake_rows(rows: &[u32], awake: &mut [u64])
-    requires { (k : ℕ) → k < length rows.now → listed_at rows.now k < 64 * length awake.old }
-    ensures { AreWoken rows.now awake.old awake.new }
+// Enqueues these rows.
+fn enqueue_rows(rows: &[u32], queued: &mut [u64])
+    requires { (k : ℕ) → k < length rows.now → listed_at rows.now k < 64 * length queued.old }
+    ensures { AreEnqueued rows.now queued.old queued.new }
 {
     for row in rows {
-        wake(awake, *row as usize);
+        enqueue(queued, *row as usize);
     }
 }
 
@@ -72,115 +72,119 @@ fn note(trail: &mut Vec<Trailed>, column: u32, before: Interval) -> Result<(), A
     Ok(())
 }
 
-// Wakes the rows that lose room where this end of a column goes inwards, if it moved.
-fn wake_end(problem: &Problem, column: usize, inward: Inward, moved: bool, awake: &mut Vec<u64>)
+// Enqueues the rows that lose slack where this end of a column goes inwards, if it moved.
+fn enqueue_end(problem: &Problem, column: usize, inward: Inward, moved: bool, queued: &mut Vec<u64>)
     requires there { column < length problem.now.columns }
-    requires bits { HasBits problem.now awake.old.items }
-    ensures { WokeEnd moved problem.now column inward awake.old.items awake.new.items }
+    requires bits { HasBits problem.now queued.old.items }
+    ensures { EnqueuedEnd moved problem.now column inward queued.old.items queued.new.items }
 {
-    let rows = problem.losing(inward, column);
+    let rows = problem.locks(inward, column);
     if moved {
-        wake_rows(rows, awake.as_mut_slice());
+        enqueue_rows(rows, queued.as_mut_slice());
     }
 }
 
-// Wakes the rows that lose room where a column goes from one interval to another.
-fn wake_column(
+// Enqueues the rows that lose slack where a column goes from one interval to another.
+fn enqueue_column(
     problem: &Problem,
     column: usize,
     before: Interval,
     after: Interval,
-    awake: &mut Vec<u64>,
+    queued: &mut Vec<u64>,
 )
     requires there { column < length problem.now.columns }
-    requires bits { HasBits problem.now awake.old.items }
-    ensures { WokeColumn problem.now column before after awake.old.items awake.new.items }
+    requires bits { HasBits problem.now queued.old.items }
+    ensures { EnqueuedColumn problem.now column before after queued.old.items queued.new.items }
 {
-    wake_end(problem, column, Inward::Up, before.low != after.low, awake);
-    wake_end(
+    enqueue_end(problem, column, Inward::Up, before.low != after.low, queued);
+    enqueue_end(
         problem,
         column,
         Inward::Down,
         before.high != after.high,
-        awake,
+        queued,
     );
 }
 
 // This many words in which each bit is 1.
 fn ones(alloc: Global, words: usize) -> Result<Vec<u64>, AllocError>
-    ensures { IfOk result (λ awake. AreOnes words awake.items) }
+    ensures { IfOk result (λ queued. AreOnes words queued.items) }
 {
-    let mut awake = Vec::with_capacity(alloc, words)?;
+    let mut queued = Vec::with_capacity(alloc, words)?;
     for _ in 0..words {
-        awake.push(u64::MAX)?;
+        queued.push(u64::MAX)?;
     }
-    Ok(awake)
+    Ok(queued)
 }
 
 // The widest spans of the first rows, and that of one row more.
-#[tactic(auto, using(crate::proofs::Fresh::reached_push))]
-fn add_reach(
+#[tactic(auto, using(crate::proofs::Fresh::max_spans_push))]
+fn add_max_span(
     problem: &Problem,
     area: &[Interval],
-    reach: &mut Vec<i128>,
+    max_span: &mut Vec<i128>,
     r: usize,
 ) -> Result<(), AllocError>
     requires there { r ≤ length problem.now.rows }
     requires width { length area.now ≡ length problem.now.columns }
-    requires so_far { AreFirstReached problem.now area.now r reach.old.items }
-    ensures { OnOk result (AreFirstReached problem.now area.now (r + 1) reach.new.items) }
+    requires so_far { AreFirstMaxSpans problem.now area.now r max_span.old.items }
+    ensures { OnOk result (AreFirstMaxSpans problem.now area.now (r + 1) max_span.new.items) }
 {
     let ends = measured(problem, r, area);
-    reach.push(ends.widest)?;
+    max_span.push(ends.widest)?;
     Ok(())
 }
 
 // The widest span of each row and of the objective over a box.
-#[tactic(auto, using(crate::proofs::Fresh::reached_whole))]
-fn all_reach(alloc: Global, problem: &Problem, area: &[Interval]) -> Result<Vec<i128>, AllocError>
+#[tactic(auto, using(crate::proofs::Fresh::max_spans_whole))]
+fn all_max_spans(
+    alloc: Global,
+    problem: &Problem,
+    area: &[Interval],
+) -> Result<Vec<i128>, AllocError>
     requires { length area.now ≡ length problem.now.columns }
-    ensures { IfOk result (λ reach. AreReached problem.now area.now reach.items) }
+    ensures { IfOk result (λ max_span. AreMaxSpans problem.now area.now max_span.items) }
 {
     let count = problem.rows().len() + 1;
-    let mut reach = Vec::with_capacity(alloc, count)?;
+    let mut max_span = Vec::with_capacity(alloc, count)?;
     for r in 0..count {
-        add_reach(problem, area, &mut reach, r)?;
+        add_max_span(problem, area, &mut max_span, r)?;
     }
-    Ok(reach)
+    Ok(max_span)
 }
 
 // A bit for each row and for the objective, all of them 1.
 #[tactic(auto, using(crate::proofs::Fresh::ones_enough))]
-fn all_awake(alloc: Global, problem: &Problem) -> Result<Vec<u64>, AllocError>
-    ensures bits { IfOk result (λ awake. HasBits problem.now awake.items) }
-    ensures awake { IfOk result (λ awake. AreAwake problem.now awake.items) }
+fn all_queued(alloc: Global, problem: &Problem) -> Result<Vec<u64>, AllocError>
+    ensures bits { IfOk result (λ queued. HasBits problem.now queued.items) }
+    ensures queued { IfOk result (λ queued. AreQueued problem.now queued.items) }
 {
     ones(alloc, problem.rows().len() / 64 + 1)
 }
 
-// Lets all rows rest that rest so, and wakes the others.
-fn wake_others(problem: &Problem, rest: Rest, cutoff: Option<i128>, awake: &mut [u64])
-    requires { HasBits problem.now awake.old }
-    ensures { WakesOthers problem.now rest cutoff awake.new }
+// Takes all rows that are at fixpoint out of the queue, and enqueues the others.
+fn enqueue_others(problem: &Problem, fixpoint: Fixpoint, cutoff: Option<i128>, queued: &mut [u64])
+    requires { HasBits problem.now queued.old }
+    ensures { EnqueuesOthers problem.now fixpoint cutoff queued.new }
 {
-    match rest {
-        Rest::Unknown => fill(awake, u64::MAX),
-        Rest::Under(under) => {
-            fill(awake, 0);
+    match fixpoint {
+        Fixpoint::Unknown => fill(queued, u64::MAX),
+        Fixpoint::Under(under) => {
+            fill(queued, 0);
             if !is_same(under, cutoff) {
-                wake(awake, problem.rows().len());
+                enqueue(queued, problem.rows().len());
             }
         }
     }
 }
 
 impl Working {
-    /// The working box of this box, with nothing changed and each row awake.
+    /// The working box of this box, with nothing changed and each row queued.
     pub fn new(alloc: Global, problem: &Problem, area: &IntBox) -> Result<Working, AllocError>
         requires { length area.now ≡ length problem.now.columns }
         ensures area { IfOk result (λ w. w.sums.area ≡ area.now) }
         ensures work { IfOk result (IsBox problem.now) }
-        ensures awake { IfOk result (λ w. AreAwake problem.now w.awake) }
+        ensures queued { IfOk result (λ w. AreQueued problem.now w.queued) }
         ensures trail { IfOk result (λ w. w.trail ≡ []) }
     {
         let sides = Vec::from_slice(alloc, area.as_slice())?;
@@ -191,11 +195,11 @@ impl Working {
                 return Err(error);
             }
         };
-        match all_awake(alloc, problem) {
-            Ok(awake) => Ok(Working {
+        match all_queued(alloc, problem) {
+            Ok(queued) => Ok(Working {
                 sums: Sums::of(sides, rows.sums),
-                reach: rows.reach,
-                awake,
+                max_span: rows.max_span,
+                queued,
                 trail: Vec::new(alloc),
             }),
             Err(error) => {
@@ -207,7 +211,7 @@ impl Working {
     }
 
     /// Goes over to the rows of another problem of the same columns: its sums are taken over the
-    /// box, how far its rows reach over the whole box, and each row is awake. After an error
+    /// box, how far its rows reach over the whole box, and each row is queued. After an error
     /// nothing was changed.
     pub fn over(
         &mut self,
@@ -220,44 +224,44 @@ impl Working {
         ensures ok { OnOk result (IsOver problem.now whole.now self.old self.new) }
         ensures err { OnErr result (self.new ≡ self.old) }
     {
-        let reach = all_reach(alloc, problem, whole.as_slice())?;
-        let awake = match all_awake(alloc, problem) {
-            Ok(awake) => awake,
+        let max_span = all_max_spans(alloc, problem, whole.as_slice())?;
+        let queued = match all_queued(alloc, problem) {
+            Ok(queued) => queued,
             Err(error) => {
-                drop(reach);
+                drop(max_span);
                 return Err(error);
             }
         };
         match self.sums.over(alloc, problem) {
             Ok(()) => {
-                self.reach = reach;
-                self.awake = awake;
+                self.max_span = max_span;
+                self.queued = queued;
                 Ok(())
             }
             Err(error) => {
-                drop(reach);
-                drop(awake);
+                drop(max_span);
+                drop(queued);
                 Err(error)
             }
         }
     }
 
-    /// The first row from this one on that is awake.
+    /// The first row from this one on that is queued.
     pub fn next(&self, from: usize) -> Option<usize>
-        requires { length self.now.awake ≤ 10 ^ 6 }
-        ensures { IsFound self.now.awake from result }
+        requires { length self.now.queued ≤ 10 ^ 6 }
+        ensures { IsFound self.now.queued from result }
     {
-        next(self.awake.as_slice(), from)
+        next(self.queued.as_slice(), from)
     }
 
-    /// Lets a row rest.
-    pub fn rest(&mut self, r: usize)
-        requires { r < 64 * length self.old.awake }
-        ensures bit { HasBit r 0 self.old.awake self.new.awake }
-        ensures others { self.new ≡ record self.old { awake = self.new.awake } }
-        ensures width { length self.new.awake ≡ length self.old.awake }
+    /// Takes a row out of the queue.
+    pub fn dequeue(&mut self, r: usize)
+        requires { r < 64 * length self.old.queued }
+        ensures bit { HasBit r 0 self.old.queued self.new.queued }
+        ensures others { self.new ≡ record self.old { queued = self.new.queued } }
+        ensures width { length self.new.queued ≡ length self.old.queued }
     {
-        rest(self.awake.as_mut_slice(), r);
+        dequeue(self.queued.as_mut_slice(), r);
     }
 
     /// The intervals of the box. It takes no memory.
@@ -290,14 +294,14 @@ impl Working {
     }
 
     /// The number that no span of a term of row r is above.
-    pub fn reach(&self, r: usize) -> i128
-        requires { r < length self.now.reach }
-        ensures { result ≡ reach_at self.now.reach r }
+    pub fn max_span(&self, r: usize) -> i128
+        requires { r < length self.now.max_span }
+        ensures { result ≡ max_span_at self.now.max_span r }
     {
-        self.reach[r]
+        self.max_span[r]
     }
 
-    /// Gives a column another interval, and wakes the rows that lose room by it. After an error
+    /// Gives a column another interval, and enqueues the rows that lose slack by it. After an error
     /// nothing was changed.
     pub fn change(
         &mut self,
@@ -307,7 +311,7 @@ impl Working {
     ) -> Result<(), AllocError>
         requires there { column < length problem.now.columns }
         requires sums { IsRunning problem.now self.old.sums }
-        requires bits { HasBits problem.now self.old.awake }
+        requires bits { HasBits problem.now self.old.queued }
         ensures ok { OnOk result (HasChanged problem.now column side self.old self.new) }
         ensures err { OnErr result (self.new ≡ self.old) }
     {
@@ -315,7 +319,7 @@ impl Working {
         let before = self.sums.side(at);
         note(&mut self.trail, column, before)?;
         self.sums.put(problem, at, side);
-        wake_column(problem, at, before, side, &mut self.awake);
+        enqueue_column(problem, at, before, side, &mut self.queued);
         Ok(())
     }
 
@@ -361,7 +365,7 @@ impl Working {
         }
     }
 
-    /// Undoes the changes behind the first `depth`. The rows stay as awake as they were.
+    /// Undoes the changes behind the first `depth`. The rows stay as queued as they were.
     pub fn go_back(&mut self, problem: &Problem, depth: usize)
         requires depth { depth ≤ length self.old.trail }
         requires trail { AreTrailed (length problem.now.columns) self.old.trail }
@@ -388,7 +392,7 @@ impl Working {
         self.trail.len()
     }
 
-    /// Narrows a column, and wakes the rows that lose room by it. After an error nothing was
+    /// Narrows a column, and enqueues the rows that lose slack by it. After an error nothing was
     /// changed.
     #[tactic(auto, using(crate::proofs::Changing::step_change, crate::proofs::Stepping::step_same))]
     pub fn cut(&mut self, problem: &Problem, column: u32, side: Interval) -> Result<(), AllocError>
@@ -402,16 +406,16 @@ impl Working {
         Ok(())
     }
 
-    /// Lets the rows wait that are at rest so, and wakes the others: the objective alone where the
-    /// cutoff is another.
-    pub fn wait(&mut self, problem: &Problem, rest: Rest, cutoff: Option<i128>)
-        requires bits { HasBits problem.now self.old.awake }
-        requires rest { AllRest problem.now rest self.old.sums.area }
-        ensures resting { AreResting problem.now cutoff self.new.sums.area self.new.awake }
-        ensures others { self.new ≡ record self.old { awake = self.new.awake } }
-        ensures width { length self.new.awake ≡ length self.old.awake }
+    /// Lets the rows wait that are at fixpoint so, and enqueues the others: the objective alone
+    /// where the cutoff is another.
+    pub fn wait(&mut self, problem: &Problem, fixpoint: Fixpoint, cutoff: Option<i128>)
+        requires bits { HasBits problem.now self.old.queued }
+        requires fixpoint { AllAtFixpoint problem.now fixpoint self.old.sums.area }
+        ensures at_fixpoint { AreAtFixpoint problem.now cutoff self.new.sums.area self.new.queued }
+        ensures others { self.new ≡ record self.old { queued = self.new.queued } }
+        ensures width { length self.new.queued ≡ length self.old.queued }
     {
-        wake_others(problem, rest, cutoff, self.awake.as_mut_slice());
+        enqueue_others(problem, fixpoint, cutoff, self.queued.as_mut_slice());
     }
 
     /// The floor of the box.

@@ -83,8 +83,8 @@ impl Outbox {
         self.bytes.get(self.sent..).unwrap_or(&[])
     }
 
-    // Removes the written bytes, but for the shared ones. It moves the rest only if at least as many
-    // bytes were written.
+    // Removes the written bytes, but for the shared ones. It moves the rest only if at least as
+    // many bytes were written.
     fn forget(&mut self)
         ensures waiting { own_waiting self.new ≡ own_waiting self.old }
         ensures ahead { self.new.ahead ≡ self.old.ahead }
@@ -145,8 +145,8 @@ impl Outbox {
         }
     }
 
-    /// Queues shared bytes behind the others. Copies them if bytes wait already. A closed outbox drops
-    /// them. If memory runs out nothing is queued.
+    /// Queues shared bytes behind the others. Copies them if bytes wait already. A closed outbox
+    /// drops them. If memory runs out nothing is queued.
     pub fn push_shared(&mut self, bytes: SharedBytes) -> Result<(), Unsent>
         ensures ok { OnOk result (self.old.is_closed ≡ false
             → waiting self.new ≡ waiting self.old ++ bytes) }

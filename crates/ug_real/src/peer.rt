@@ -325,8 +325,8 @@ impl<F: Drop> Peer<F> {
     }
 
     /// Sends it bytes, and queues those that it cannot take now. Fails only if memory runs out. If
-    /// its connection is closed or fails, the bytes are dropped: its end is reported later. Until it
-    /// connects it shares a long frame with the others that have not connected.
+    /// its connection is closed or fails, the bytes are dropped: its end is reported later. Until
+    /// it connects it shares a long frame with the others that have not connected.
     pub fn send(
         &mut self,
         registry: &Registry,

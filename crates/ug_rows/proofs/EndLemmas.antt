@@ -1,4 +1,5 @@
--- The least and the greatest sum of terms over a box: they bound the sum at each point of it, and are reached.
+-- The least and the greatest sum of terms over a box: they bound the sum at each point of it, and
+-- are reached.
 use Rattle.std.proofs.Common.{◌≡◌, ℕ, ◌+◌, ◌<◌, ◌+ℤ◌, List, [], ◌∷◌, ◌++◌, length, take, arith}
 use Rattle.std.proofs.lemmas.Int.{ints}
 use Rattle.std.proofs.lemmas.List.{take_more}

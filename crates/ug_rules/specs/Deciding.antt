@@ -132,8 +132,8 @@ params_with n = record {
   base = (if nat_lt (n % 16) 8 then Bound else Surrogate);
 }
 
--- the parameters of racer r: the racers alternate between the bases, and no two of 16 racers have the
--- same parameters
+-- the parameters of racer r: the racers alternate between the bases, and no two of 16 racers have
+-- the same parameters
 abbrev pub racer_params : ℕ → Params
 racer_params r = params_with (r % 2 * 8 + r / 2 % 8)
 

@@ -1,4 +1,5 @@
--- The first of a list is the first of one element more, or that one is, if to be ahead is a strict order.
+-- The first of a list is the first of one element more, or that one is, if to be ahead is a strict
+-- order.
 use Rattle.std.proofs.Common.{List, [], ◌∷◌, ◌++◌, All, Contains, refl, arith}
 use Rattle.std.proofs.lemmas.List.Elements.{All-push, All-weaker, All-contains, Contains-append_left, Contains-append_right}
 use Rattle.ug_rules.specs.Firsts.{IsNotAhead, IsFirstBy}

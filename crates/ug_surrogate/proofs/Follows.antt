@@ -34,11 +34,11 @@ pub rounded_in_place : (p : Instance) (area : List Interval) (r : ℕ) (sides : 
     → r < length p.rows → LosesNone (row_at p r) area (To sides) → IsNarrower (row_at p r) (To sides)
     → IsInPlaceOf p area r
     (record { terms = (row_at p r).terms; low = sides.low; high = sides.high })
-rounded_in_place p area r sides problem there loses narrower = record {
+rounded_in_place p area r sides problem there is_lock narrower = record {
   further = record {
     formed = (All-get_or (IsRow (length p.columns)) p.rows r no_row there problem.formed.rows).terms;
     kept = λ x inside good.
-        let k = loses x inside (good.feasible.rows r there) in record { low = k.low; high = k.high };
+        let k = is_lock x inside (good.feasible.rows r there) in record { low = k.low; high = k.high };
   };
   back = λ x keeps.
       let k = narrower (sum_at (row_at p r).terms x)
@@ -50,14 +50,14 @@ rounded_in_place p area r sides problem there loses narrower = record {
 pub none_in_place : (p : Instance) (area : List Interval) (r : ℕ) → r < length p.rows
     → LosesNone (row_at p r) area Empty
     → IsInPlaceOf p area r (record { terms = []; low = None; high = Some (negsuc 0) })
-none_in_place p area r there loses = record {
+none_in_place p area r there is_lock = record {
   further = record {
     formed = record {
       rising = λ i k a b. absurd (omega arith);
       within = λ k a. absurd (omega arith);
       nonzero = λ k a. absurd (omega arith);
     };
-    kept = λ x inside good. absurd (loses x inside (good.feasible.rows r there));
+    kept = λ x inside good. absurd (is_lock x inside (good.feasible.rows r there));
   };
   back = λ x keeps. absurd (none_keeps keeps.high);
 }

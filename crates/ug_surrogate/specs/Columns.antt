@@ -7,9 +7,9 @@ use Rattle.ug_rows.specs.declared.row.Term.{Term}
 use Rattle.ug_rows.specs.declared.sums.Extreme.TheVariants.{Least}
 use Rattle.ug_rows.specs.Boxes.{interval_at}
 use Rattle.ug_rows.specs.Sums.{end_of}
-use Rattle.ug_problem.specs.declared.standings.Standing.{Standing}
+use Rattle.ug_problem.specs.declared.entries.ColumnEntry.{ColumnEntry}
 use Rattle.ug_problem.specs.Instances.{Instance, row_at}
-use Rattle.ug_problem.specs.Standings.{standing_at}
+use Rattle.ug_problem.specs.ColumnEntries.{entry_at}
 use Rattle.ug_surrogate.specs.declared.multipliers.Side.{Side}
 use Rattle.ug_surrogate.specs.declared.multipliers.Side.TheVariants.{Low, High}
 use Rattle.ug_surrogate.specs.declared.multipliers.Multiplier.{Multiplier}
@@ -109,15 +109,15 @@ abbrev pub weight_in : ℕ → Multipliers → ℕ → ℤ
 weight_in rows m r = if nat_eq r rows then pos m.d else weight_on r m.list
 
 -- the coefficients of a column where it stands, each times the weight of its row
-abbrev pub weighed : ℕ → Multipliers → List Standing → ℤ
+abbrev pub weighed : ℕ → Multipliers → List ColumnEntry → ℤ
 weighed rows m [] = pos 0
 weighed rows m (s ∷ ss) = (weight_in rows m s.row *ℤ s.factor) +ℤ weighed rows m ss
 
 -- few standings with small coefficients
-pub record AreFew (standings : List Standing) : Type 0 where
-  pub count : length standings ≤ 10 ^ 4 + 1
-  pub small : (k : ℕ) → k < length standings
-      → unsigned_abs (standing_at standings k).factor ≤ 10 ^ 24
+pub record AreFew (entries : List ColumnEntry) : Type 0 where
+  pub count : length entries ≤ 10 ^ 4 + 1
+  pub small : (k : ℕ) → k < length entries
+      → unsigned_abs (entry_at entries k).factor ≤ 10 ^ 24
 
 -- the weighted sum is small over some box
 pub record IsSomewhereSmall (p : Instance) (m : Multipliers) : Type 0 where

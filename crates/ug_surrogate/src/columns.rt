@@ -8,7 +8,7 @@ ghost use Rattle.ug_surrogate.specs.Weights.{AreMultipliers, AreRising, HasSide,
 use crate::exact::{minus, plus, times};
 use crate::magnitude::side_under;
 use crate::multipliers::{Multiplier, Multipliers, Side};
-use ug_problem::{Problem, Standing};
+use ug_problem::{ColumnEntry, Problem};
 
 /// A weight with the sign that its side gives the row's sum.
 pub fn signed(multiplier: Multiplier) -> i64
@@ -77,21 +77,21 @@ fn add_weighted(total: i128, weight: i64, factor: i128) -> i128
 }
 
 // The coefficients of a column where it stands, each times the weight of its row.
-fn weigh(rows: usize, m: &Multipliers, standings: &[Standing]) -> i128
+fn weigh(rows: usize, m: &Multipliers, entries: &[ColumnEntry]) -> i128
     requires multipliers { AreRising m.now.list }
-    requires standings { AreFew standings.now }
-    ensures value { result ≡ weighed rows m.now standings.now }
+    requires entries { AreFew entries.now }
+    ensures value { result ≡ weighed rows m.now entries.now }
     ensures small { unsigned_abs result ≤ 10 ^ 38 }
 {
     let mut total = 0;
-    for standing in standings {
-        total = add_weighted(total, weight_at(rows, m, standing.row), standing.factor);
+    for entry in entries {
+        total = add_weighted(total, weight_at(rows, m, entry.row), entry.factor);
     }
     total
 }
 
 /// The coefficient of a column in the weighted sum. It takes no memory.
-#[tactic(auto, using(crate::proofs::Stands::weighed_is, crate::proofs::Stands::few_standings))]
+#[tactic(auto, using(crate::proofs::Stands::weighed_is, crate::proofs::Stands::few_entries))]
 pub fn factor(problem: &Problem, m: &Multipliers, column: usize) -> i128
     requires multipliers { AreMultipliers problem.now m.now }
     requires there { column < length problem.now.columns }
@@ -99,7 +99,7 @@ pub fn factor(problem: &Problem, m: &Multipliers, column: usize) -> i128
     ensures small { unsigned_abs result ≤ 10 ^ 38 }
     ensures problem { IsProblem problem.now }
 {
-    weigh(problem.rows().len(), m, problem.standings(column))
+    weigh(problem.rows().len(), m, problem.entries(column))
 }
 
 // A total less the weighted side of a row.

@@ -21,8 +21,8 @@ pub record HasEnded (given : BookState) (end : End) : Type 0 where
   pub limited : IfLimited end IsLimited
   pub stranded : IsStranded end → ⊥
 
--- If the run ended with a book, that was saved after all snapshots, and the outcome says what became
--- of this save. It counts each save for which memory ran out.
+-- If the run ended with a book, that was saved after all snapshots, and the outcome says what
+-- became of this save. It counts each save for which memory ran out.
 pub record IsSavedLast (before : Time) (outcome : Outcome) (after : Time) : Type 0 where
   pub then : Time
   pub opening : opening_of then.saves ≡ opening_of before.saves

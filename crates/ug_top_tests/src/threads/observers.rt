@@ -40,8 +40,8 @@ pub fn one_asks_again() -> [Hold; 3] {
     [first, second, third]
 }
 
-/// In a race of two, rank 0 asks first, and rank 1 has its task before rank 0 reports its first point,
-/// but begins after that report. The next report is rank 1's.
+/// In a race of two, rank 0 asks first, and rank 1 has its task before rank 0 reports its first
+/// point, but begins after that report. The next report is rank 1's.
 pub fn second_begins_late() -> [Hold; 3] {
     let turns = 1_000_000_000;
     let first = Hold {

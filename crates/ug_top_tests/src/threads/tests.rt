@@ -74,8 +74,8 @@ fn reports_of(outcome: &Outcome) -> Option<u64> {
     }
 }
 
-// Rank 1 reads the cutoff of rank 0's point before its first step, so it has no point to report. Two
-// reports answer the run: that point, and the end of rank 1's task.
+// Rank 1 reads the cutoff of rank 0's point before its first step, so it has no point to report.
+// Two reports answer the run: that point, and the end of rank 1's task.
 #[test]
 fn cutoff_is_read_before_the_first_step(rt: HostRuntime) {
     let observer = HoldingObserver::new(rt.alloc(), 2, &second_begins_late()).expect(&rt, "memory");

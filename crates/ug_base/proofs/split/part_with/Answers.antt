@@ -1,7 +1,7 @@
 use Rattle.std.proofs.Common.{◌∙◌, ap, sym, subst, set, ℕ, arith}
 use Rattle.std.proofs.lemmas.Int.{ints}
-use Rattle.ug_propagate.specs.declared.resting.Rest.{Rest}
-use Rattle.ug_propagate.specs.Working.{AllRest}
+use Rattle.ug_propagate.specs.declared.fixpoint.Fixpoint.{Fixpoint}
+use Rattle.ug_propagate.specs.Working.{AllAtFixpoint}
 use Rattle.ug_base.specs.declared.part.Part.{Part}
 use Rattle.ug_branch.specs.Choices.{AreClosed}
 use Rattle.ug_base.proofs.Closed.{closed_set}
@@ -16,7 +16,7 @@ returns-clause-part c =
     part_here p c.args.whole.now work c.part_of.result c.args.column c.args.side
     (ap (λ (q : Part). q.depth) is ∙ c.trail_len.ensures) (ap (λ (q : Part). q.cut) is) c.requires.there
     c.requires.below c.requires.inner c.requires.some
-    (subst (λ (r : Rest). AllRest p r work.sums.area) (sym (ap (λ (q : Part). q.rest) is)) c.requires.rest)
+    (subst (λ (r : Fixpoint). AllAtFixpoint p r work.sums.area) (sym (ap (λ (q : Part). q.fixpoint) is)) c.requires.fixpoint)
     (ap (λ (q : Part). q.floor) is ∙ omega (arith, ints, c.floor_with-floor.ensures))
     (subst (λ (n : ℕ). AreClosed n (set work.sums.area c.args.column c.args.side)) (sym (ap (λ (q : Part). q.closed) is))
     (closed_set c.args.known.closed work.sums.area c.args.column c.args.side c.requires.some

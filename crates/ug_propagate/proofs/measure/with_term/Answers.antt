@@ -3,21 +3,21 @@ use Rattle.std.proofs.lemmas.Int.{to_z-of_z}
 use mir.Syntax.{w128}
 use Rattle.ug_rows.specs.declared.sums.Extreme.TheVariants.{Greatest, Least}
 use Rattle.ug_rows.specs.Sums.{end_of}
-use Rattle.ug_propagate.proofs.Machine.{room_same}
+use Rattle.ug_propagate.proofs.Machine.{slack_same}
 use Rattle.ug_propagate.proofs.measure.with_term.Goals as goal
 
 pub plus-requires : goal.plus-requires
 plus-requires c =
     let least = c.product-least.result in
     let fits : FitsSigned w128 least = search rules in
-    rw (room_same c.args.ends.least (omega (arith, c.requires.least)), to_z-of_z w128 least fits)
+    rw (slack_same c.args.ends.least (omega (arith, c.requires.least)), to_z-of_z w128 least fits)
     (omega (arith, c.requires.least, c.product-least.ensures.small))
 
 pub plus-requires-2 : goal.plus-requires-2
 plus-requires-2 c =
     let greatest = c.product-greatest.result in
     let fits : FitsSigned w128 greatest = search rules in
-    rw (room_same c.args.ends.greatest (omega (arith, c.requires.greatest)), to_z-of_z w128 greatest fits)
+    rw (slack_same c.args.ends.greatest (omega (arith, c.requires.greatest)), to_z-of_z w128 greatest fits)
     (omega (arith, c.requires.greatest, c.product-greatest.ensures.small))
 
 pub minus-requires : goal.minus-requires
@@ -35,7 +35,7 @@ returns-clause-least c =
     let fits : FitsSigned w128 least = search rules in
     let fits_sum : FitsSigned w128 c.plus.result = search rules in
     to_z-of_z w128 c.plus.result fits_sum
-    ∙ rw (room_same c.args.ends.least (omega (arith, c.requires.least)), to_z-of_z w128 least fits) at c.plus.ensures.value
+    ∙ rw (slack_same c.args.ends.least (omega (arith, c.requires.least)), to_z-of_z w128 least fits) at c.plus.ensures.value
     ∙ ap (λ (v : ℤ). c.args.ends.least +ℤ v) c.product-least.ensures.value
 
 pub returns-clause-greatest : goal.returns-clause-greatest
@@ -44,7 +44,7 @@ returns-clause-greatest c =
     let fits : FitsSigned w128 greatest = search rules in
     let fits_sum : FitsSigned w128 c.plus-2.result = search rules in
     to_z-of_z w128 c.plus-2.result fits_sum
-    ∙ rw (room_same c.args.ends.greatest (omega (arith, c.requires.greatest)), to_z-of_z w128 greatest fits) at c.plus-2.ensures.value
+    ∙ rw (slack_same c.args.ends.greatest (omega (arith, c.requires.greatest)), to_z-of_z w128 greatest fits) at c.plus-2.ensures.value
     ∙ ap (λ (v : ℤ). c.args.ends.greatest +ℤ v) c.product-greatest.ensures.value
 
 pub returns-clause-span : goal.returns-clause-span
@@ -69,7 +69,7 @@ returns-clause-small_least c =
     let fits : FitsSigned w128 least = search rules in
     let fits_sum : FitsSigned w128 c.plus.result = search rules in
     let small =
-    rw (room_same c.args.ends.least (omega (arith, c.requires.least)), to_z-of_z w128 least fits) at c.plus.ensures.small in
+    rw (slack_same c.args.ends.least (omega (arith, c.requires.least)), to_z-of_z w128 least fits) at c.plus.ensures.small in
     rw (to_z-of_z w128 c.plus.result fits_sum) (omega (arith, small, c.product-least.ensures.small))
 
 pub returns-clause-small_greatest : goal.returns-clause-small_greatest
@@ -78,5 +78,5 @@ returns-clause-small_greatest c =
     let fits : FitsSigned w128 greatest = search rules in
     let fits_sum : FitsSigned w128 c.plus-2.result = search rules in
     let small =
-    rw (room_same c.args.ends.greatest (omega (arith, c.requires.greatest)), to_z-of_z w128 greatest fits) at c.plus-2.ensures.small in
+    rw (slack_same c.args.ends.greatest (omega (arith, c.requires.greatest)), to_z-of_z w128 greatest fits) at c.plus-2.ensures.small in
     rw (to_z-of_z w128 c.plus-2.result fits_sum) (omega (arith, small, c.product-greatest.ensures.small))

@@ -31,5 +31,5 @@ returns-in_ok-push-in-Some-2 c so =
       to_z-of_z w64 ends.greatest greatest,
       to_z-of_z w128 c.from.result wide ∙ c.from.ensures ∙ to_z-of_z w64 ends.widest widest,
     )
-    (short_push c.args.problem.now c.args.area.now c.args.r c.args.sums.now.items c.args.reach.now.items ends c.requires.so_far
+    (short_push c.args.problem.now c.args.area.now c.args.r c.args.sums.now.items c.args.max_span.now.items ends c.requires.so_far
     (subst P c.terms_at.ensures.value c.in-Some.ensures))

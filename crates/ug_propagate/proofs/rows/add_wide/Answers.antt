@@ -17,5 +17,5 @@ returns c =
       to_z-of_z w128 ends.greatest greatest,
       to_z-of_z w128 ends.widest widest,
     )
-    (wide_push c.args.problem.now c.args.area.now c.args.r c.args.sums.now.items c.args.reach.now.items ends c.requires.so_far
+    (wide_push c.args.problem.now c.args.area.now c.args.r c.args.sums.now.items c.args.max_span.now.items ends c.requires.so_far
     c.measured-ends.ensures)

@@ -1,12 +1,12 @@
 use Rattle.std.proofs.Common.{◌≡◌, ◌∙◌, sym, true, false}
 use Rattle.ug_propagate.proofs.Bodies.{last_fixed, last_open}
-use Rattle.ug_propagate.proofs.Waiting.{last_rests}
+use Rattle.ug_propagate.proofs.Waiting.{last_at_fixpoint}
 use Rattle.ug_propagate.proofs.settle.run_last.Goals as goal
 
 pub returns-then-is_settled-clause-value : goal.returns-then-is_settled-clause-value
 returns-then-is_settled-clause-value c =
-    last_rests c.args.problem.now c.args.cutoff c.args.work.now.sums.area c.args.work.now.awake
-    c.is_settled.ensures.problem c.requires.cutoff c.requires.work.resting (c.is_settled.ensures.settled c.if-is_settled.true)
+    last_at_fixpoint c.args.problem.now c.args.cutoff c.args.work.now.sums.area c.args.work.now.queued
+    c.is_settled.ensures.problem c.requires.cutoff c.requires.work.at_fixpoint (c.is_settled.ensures.settled c.if-is_settled.true)
 
 pub returns-then-is_point-clause-value : goal.returns-then-is_point-clause-value
 returns-then-is_point-clause-value c =

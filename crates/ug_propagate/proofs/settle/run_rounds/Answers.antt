@@ -9,8 +9,8 @@ use Rattle.ug_propagate.proofs.settle.run_rounds.Goals as goal
 
 pub returns-then-is_settled-clause-value : goal.returns-then-is_settled-clause-value
 returns-then-is_settled-clause-value c =
-    rounds_rest c.loop-i.i c.args.problem.now c.args.cutoff c.loop-i.work.sums.area c.loop-i.work.awake _
-    c.is_settled.ensures.problem c.requires.cutoff c.loop-i.invariant.went.working.resting
+    rounds_rest c.loop-i.i c.args.problem.now c.args.cutoff c.loop-i.work.sums.area c.loop-i.work.queued _
+    c.is_settled.ensures.problem c.requires.cutoff c.loop-i.invariant.went.working.at_fixpoint
     (c.is_settled.ensures.settled c.if-is_settled.true) c.loop-i.invariant.so_far
 
 pub returns-in_err-reason-clause-went : goal.returns-in_err-reason-clause-went

@@ -8,7 +8,7 @@ use Rattle.ug_rows.specs.declared.sums.Extreme.TheVariants.{Least, Greatest}
 use Rattle.ug_rows.specs.Rows.{term_at}
 use Rattle.ug_rows.specs.Sums.{end_product}
 use Rattle.ug_propagate.specs.declared.short_measure.ShortEnds.{ShortEnds}
-use Rattle.ug_propagate.proofs.Machine.{room_same}
+use Rattle.ug_propagate.proofs.Machine.{slack_same}
 use Rattle.ug_propagate.proofs.Measures.{small_next, sum_next, widest_next}
 use Rattle.ug_propagate.proofs.Sizes.{size_of_more}
 use Rattle.ug_propagate.proofs.short_measure.measure_short.Goals as goal
@@ -22,7 +22,7 @@ loop-term-preserved c =
     let next : ShortEnds = c.with_term-ends.result in
     let h = c.loop-term-test.true in
     let before = c.loop-term.invariant in
-    let same : to_z w128 (of_z w128 t.factor) ≡ t.factor = room_same t.factor (omega (arith, c.requires.small i h)) in
+    let same : to_z w128 (of_z w128 t.factor) ≡ t.factor = slack_same t.factor (omega (arith, c.requires.small i h)) in
     let size : c.unsigned_abs-size.result ≡ unsigned_abs t.factor = rw same at c.unsigned_abs-size.ensures.value in
     let within : unsigned_abs t.factor ≤ c.loop-term.left = omega (arith, size, c.if-size-left.false) in
     let least : next.least ≡ c.loop-term.ends.least +ℤ end_product Least t area = omega (arith, ints, c.with_term-ends.ensures.least) in

@@ -3,7 +3,7 @@ use Rattle.ug_propagate.proofs.Fresh.{all_ones}
 use Rattle.ug_propagate.proofs.working.ones.Goals as goal
 
 pub loop-preserved : goal.loop-preserved
-loop-preserved c = c.in_ok-push.ensures.items ∙ all_ones c.loop.counter c.loop.awake.items c.loop.invariant
+loop-preserved c = c.in_ok-push.ensures.items ∙ all_ones c.loop.counter c.loop.queued.items c.loop.invariant
 
 pub returns : goal.returns
 returns c =

@@ -2,8 +2,8 @@ use Rattle.std.proofs.Common.{◌≡◌, ◌≤◌, ◌*◌, ◌^◌, take, unsi
 use Rattle.ug_surrogate.specs.Columns.{weighed}
 use Rattle.ug_surrogate.proofs.columns.weigh.Given as goal
 
-abbrev pub invariant-loop-standing : goal.invariant-loop-standing
-invariant-loop-standing l = record {
-  value : l.total ≡ weighed l.rows l.m (take l.standing-index l.standings);
-  small : unsigned_abs l.total ≤ l.standing-index * (10 ^ 24 * 2 ^ 33);
+abbrev pub invariant-loop-entry : goal.invariant-loop-entry
+invariant-loop-entry l = record {
+  value : l.total ≡ weighed l.rows l.m (take l.entry-index l.entries);
+  small : unsigned_abs l.total ≤ l.entry-index * (10 ^ 24 * 2 ^ 33);
 }

@@ -1,6 +1,6 @@
 use Rattle.std.proofs.Common.{◌≡◌, ◌∷◌, [], None, refl, rules, subst}
 use Rattle.ug_rows.specs.Sums.{box_floor}
-use Rattle.ug_propagate.specs.declared.resting.Rest.TheVariants.{Unknown}
+use Rattle.ug_propagate.specs.declared.fixpoint.Fixpoint.TheVariants.{Unknown}
 use Rattle.ug_problem.specs.Instances.{Instance}
 use Rattle.ug_problem.specs.Limits.{IsProblem}
 use Rattle.ug_propagate.specs.Working.{IsBox}
@@ -20,7 +20,7 @@ invariant_of-result c =
             depth = 0;
             cut = None;
             floor = box_floor p.objective work.sums.area;
-            rest = Unknown;
+            fixpoint = Unknown;
             closed = 0;
           } ∷ []) c.problem-3.ensures.value c.in-Ok.ensures.parts)
           (subst (λ (p : Instance). IsBox p work) c.problem-3.ensures.value c.in-Ok.ensures.work) c.in-Ok.ensures.trail c.in-Ok.ensures.area;

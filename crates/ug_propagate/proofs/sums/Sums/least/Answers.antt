@@ -1,8 +1,8 @@
 use Rattle.std.proofs.Common.{◌≤◌, ◌*◌, ◌^◌, length, subst, sym, unsigned_abs}
 use Rattle.ug_propagate.specs.declared.sums.Extremes.{Extremes}
-use Rattle.ug_problem.specs.Standings.{terms_of}
+use Rattle.ug_problem.specs.ColumnEntries.{terms_of}
 use Rattle.ug_propagate.specs.Running.{extremes_at}
-use Rattle.ug_propagate.proofs.Rooms.{least_small}
+use Rattle.ug_propagate.proofs.Slacks.{least_small}
 use Rattle.ug_propagate.proofs.Running.{linear_terms}
 use Rattle.ug_propagate.proofs.sums.Sums.least.Goals as goal
 

@@ -5,7 +5,7 @@ use Rattle.ug_problem.specs.declared.column.NamedRow.{NamedRow}
 use Rattle.ug_problem.proofs.Linear.{linear_objective}
 use Rattle.ug_propagate.specs.declared.sums.Extremes.{Extremes}
 use Rattle.ug_propagate.specs.Running.{IsSummed, extremes_at}
-use Rattle.ug_propagate.proofs.Rooms.{least_small}
+use Rattle.ug_propagate.proofs.Slacks.{least_small}
 use Rattle.ug_propagate.proofs.Running.{named_last}
 use Rattle.ug_propagate.proofs.sums.Sums.least_with.Goals as goal
 
